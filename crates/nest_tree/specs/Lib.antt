@@ -1,0 +1,6 @@
+pub mod Values
+pub mod Form
+pub mod Tree
+pub mod View
+pub mod Layout
+pub mod WellFormed
