@@ -4,3 +4,5 @@ pub mod Tree
 pub mod View
 pub mod Layout
 pub mod WellFormed
+pub mod Straight
+pub mod LaidOut
