@@ -4,7 +4,7 @@ use Rattle.std.specs.Int.{int_wrap}
 use Rattle.std.specs.Fmt.{digits}
 use Rattle.nest_tree.specs.declared.tree.Access.{Access}
 use Rattle.nest_tree.specs.declared.tree.Spread.TheVariants.{Block}
-use Rattle.nest_tree.specs.Tree.{Tree, number, load, add, mul, value, text, assign, print, done, then}
+use Rattle.nest_tree.specs.Tree.{Tree, number, load, add, mul, value, text, assign, print, done, next}
 use Rattle.nest_model.specs.Instances.{instances}
 use Rattle.nest_model.specs.Memory.{last_memory, output_of}
 
@@ -14,7 +14,7 @@ k = record { variable = 1; subscripts = [] }
 
 abbrev pub first_run : Tree
 first_run = record {
-  items = then (assign k (number (pos 20)) 2) (then (assign k (add (mul (load k) (number (pos 2))) (number (pos 2))) 3) (then (print (text (75 ∷ []) ∷ value (load k) ∷ []) 4) done));
+  items = next (assign k (number (pos 20)) 2) (next (assign k (add (mul (load k) (number (pos 2))) (number (pos 2))) 3) (next (print (text (75 ∷ []) ∷ value (load k) ∷ []) 4) done));
   params = [];
   variables = record { name = 75 ∷ []; bounds = []; axis = 0; spread = Block } ∷ []
   }

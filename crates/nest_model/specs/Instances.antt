@@ -3,7 +3,7 @@ use Rattle.std.specs.Prelude.{ℕ, zero, suc, ◌+◌, ◌*◌, ◌-◌, ℤ, po
 use Rattle.std.specs.List.{flat_map, range_with_len}
 use Rattle.nest_tree.specs.Form.{Form, form_value}
 use Rattle.nest_tree.specs.Layout.{count_of}
-use Rattle.nest_tree.specs.Tree.{Statement, Statements, do_loop, assign, print, continue, done, then, Constant, Tree, Expression, number}
+use Rattle.nest_tree.specs.Tree.{Statement, Statements, do_loop, assign, print, continue, done, next, Constant, Tree, Expression, number}
 use Rattle.nest_tree.specs.WellFormed.{loops_of}
 
 -- one execution of an assignment or a PRINT: its number from 1 among those in the text, itself, and each loop's value by number, 0 for a loop that isn't round it
@@ -38,7 +38,7 @@ abbrev mutual
 
   pub works_of : Statements → ℕ
   works_of done = 0
-  works_of (then s rest) = works_in s + works_of rest
+  works_of (next s rest) = works_in s + works_of rest
 
 -- the instances of a statement, whose first assignment or PRINT has the number `first`, at these values of the named constants and of the loops
 abbrev mutual
@@ -51,7 +51,7 @@ abbrev mutual
 
   pub instances_in : List ℤ → Statements → ℕ → List ℤ → List Instance
   instances_in params done first loops = []
-  instances_in params (then s rest) first loops = instances_of params s first loops ++ instances_in params rest (first + works_in s) loops
+  instances_in params (next s rest) first loops = instances_of params s first loops ++ instances_in params rest (first + works_in s) loops
 
 -- no loop has a value yet
 abbrev pub no_values : Tree → List ℤ
@@ -61,15 +61,15 @@ no_values tree = replicate (loops_of tree.items) (pos 0)
 abbrev pub instances : Tree → List Instance
 instances tree = instances_in (param_values tree) tree.items 1 (no_values tree)
 
--- DO 20 I = 3, 1, -2 round DO 10 J = I, 1 with an assignment, and then another: at I = 3 the inner loop makes no trip
+-- DO 20 I = 3, 1, -2 round DO 10 J = I, 1 with an assignment, and next another: at I = 3 the inner loop makes no trip
 abbrev fixed : ℤ → Form
 fixed z = record { constant = z; loops = []; params = [] }
 
 abbrev inner : Statement
-inner = do_loop 2 (record { constant = pos 0; loops = (1, pos 1) ∷ []; params = [] }) (fixed (pos 1)) (pos 1) (then (print [] 3) done) 2
+inner = do_loop 2 (record { constant = pos 0; loops = (1, pos 1) ∷ []; params = [] }) (fixed (pos 1)) (pos 1) (next (print [] 3) done) 2
 
 abbrev outer : Tree
-outer = record { items = then (do_loop 1 (fixed (pos 3)) (fixed (pos 1)) (negsuc 1) (then inner (then (print [] 4) done)) 1) done; params = []; variables = [] }
+outer = record { items = next (do_loop 1 (fixed (pos 3)) (fixed (pos 1)) (negsuc 1) (next inner (next (print [] 4) done)) 1) done; params = []; variables = [] }
 
 pub instances-example : instances outer ≡ record { statement = 2; what = print [] 4; loops = pos 3 ∷ pos 0 ∷ [] } ∷ record { statement = 1; what = print [] 3; loops = pos 1 ∷ pos 1 ∷ [] } ∷ record { statement = 2; what = print [] 4; loops = pos 1 ∷ pos 0 ∷ [] } ∷ []
 instances-example = refl

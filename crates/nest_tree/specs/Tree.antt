@@ -40,7 +40,7 @@ mutual
 
   pub data Statements : Type 0 where
     done : Statements
-    then : (first : Statement) (rest : Statements) → Statements
+    next : (first : Statement) (rest : Statements) → Statements
 
 -- a named constant
 pub record Constant : Type 0 where

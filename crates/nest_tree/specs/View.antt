@@ -1,6 +1,6 @@
 -- From the declared types to the tree as plain data.
 use Rattle.std.specs.Prelude.{List, [], ◌∷◌, map}
-use Rattle.nest_tree.specs.Tree.{Expression, Expressions, number, loop_value, param, load, neg, add, sub, mul, div, least_of, greatest_of, no_more, one_more, Printed, value, whole, text, Statement, Statements, do_loop, assign, print, continue, done, then, Constant, Declaration, Tree}
+use Rattle.nest_tree.specs.Tree.{Expression, Expressions, number, loop_value, param, load, neg, add, sub, mul, div, least_of, greatest_of, no_more, one_more, Printed, value, whole, text, Statement, Statements, do_loop, assign, print, continue, done, next, Constant, Declaration, Tree}
 use Rattle.nest_tree.specs.declared.tree.Expr.{Expr, Number, LoopValue, Param, Load, Neg', Add', Sub', Mul', Div', Min', Max', Row_of-Expr, end_of-Expr, more_of-Expr}
 use Rattle.nest_tree.specs.declared.tree.PrintItem.{PrintItem}
 use Rattle.nest_tree.specs.declared.tree.PrintItem.TheVariants.{Value, Whole, Text}
@@ -41,12 +41,12 @@ abbrev mutual
 
   pub statements_of : {m : _} → Row_of-Item m → Statements
   statements_of end_of-Item = done
-  statements_of (more_of-Item s rest) = then (statement_of s) (statements_of rest)
+  statements_of (more_of-Item s rest) = next (statement_of s) (statements_of rest)
 
 -- statements in a list
 abbrev pub statements_from : List Item → Statements
 statements_from [] = done
-statements_from (s ∷ rest) = then (statement_of s) (statements_from rest)
+statements_from (s ∷ rest) = next (statement_of s) (statements_from rest)
 
 abbrev pub constant_of : Parameter → Constant
 constant_of p = record { name = p.name.items; value = p.value }

@@ -6,7 +6,7 @@ use Rattle.nest_tree.specs.declared.tree.Spread.{Spread}
 use Rattle.nest_tree.specs.declared.tree.Spread.TheVariants.{Block, Cyclic}
 use Rattle.nest_tree.specs.Form.{Form, is_form, is_small}
 use Rattle.nest_tree.specs.Layout.{bounds_of}
-use Rattle.nest_tree.specs.Tree.{Expression, Expressions, number, loop_value, param, load, neg, add, sub, mul, div, least_of, greatest_of, no_more, one_more, Printed, value, whole, text, Statement, Statements, do_loop, assign, print, continue, done, then, Declaration, Tree}
+use Rattle.nest_tree.specs.Tree.{Expression, Expressions, number, loop_value, param, load, neg, add, sub, mul, div, least_of, greatest_of, no_more, one_more, Printed, value, whole, text, Statement, Statements, do_loop, assign, print, continue, done, next, Declaration, Tree}
 
 -- a number of a list of so many things, counted from 1
 abbrev pub is_number_of : ℕ → ℕ → Bool
@@ -58,7 +58,7 @@ abbrev mutual
 
   pub loops_of : Statements → ℕ
   loops_of done = 0
-  loops_of (then s rest) = loops_in s + loops_of rest
+  loops_of (next s rest) = loops_in s + loops_of rest
 
 abbrev mutual
   pub statements_in : Statement → ℕ
@@ -69,7 +69,7 @@ abbrev mutual
 
   pub statement_count : Statements → ℕ
   statement_count done = 0
-  statement_count (then s rest) = statements_in s + statement_count rest
+  statement_count (next s rest) = statements_in s + statement_count rest
 
 -- loops bear the numbers from `first` on in text order, at most six lie in one another, no step is 0, and each part is good
 abbrev mutual
@@ -83,7 +83,7 @@ abbrev mutual
 
   pub are_good_statements : Tree → List ℕ → ℕ → Statements → Bool
   are_good_statements tree around first done = true
-  are_good_statements tree around first (then s rest) =
+  are_good_statements tree around first (next s rest) =
       is_good_statement tree around first s && are_good_statements tree around (first + loops_in s) rest
 
 -- a dimension's bounds are small, and the lower is at most the upper

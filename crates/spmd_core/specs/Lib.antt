@@ -1,0 +1,6 @@
+pub mod Timeline
+pub mod Owners
+pub mod Waits
+pub mod Acts
+pub mod Machine
+pub mod FirstRun

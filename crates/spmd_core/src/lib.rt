@@ -1,0 +1,7 @@
+//! Plans of a parallel run, who waits for whom under them, and the pure machine that runs a
+//! program by a plan, one act of one processor at a time.
+#![tactic(auto)]
+
+pub mod plan;
+
+pub use plan::{Anchor, Anchors, Cut, Dist, Kind, Kinds, Mark, Marks, Plan};
