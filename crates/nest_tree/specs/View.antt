@@ -27,6 +27,11 @@ abbrev mutual
   expressions_of end_of-Expr = no_more
   expressions_of (more_of-Expr e rest) = one_more (expression_of e) (expressions_of rest)
 
+-- arguments in a list
+abbrev pub expressions_from : List Expr → Expressions
+expressions_from [] = no_more
+expressions_from (e ∷ rest) = one_more (expression_of e) (expressions_from rest)
+
 abbrev pub printed_of : PrintItem → Printed
 printed_of (Value e) = value (expression_of e)
 printed_of (Whole variable) = whole variable
