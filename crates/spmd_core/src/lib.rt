@@ -2,6 +2,10 @@
 //! program by a plan, one act of one processor at a time.
 #![tactic(auto)]
 
+mod fit;
 pub mod plan;
+pub mod refusal;
 
+pub use fit::check_fit;
 pub use plan::{Anchor, Anchors, Cut, Dist, Kind, Kinds, Mark, Marks, Plan};
+pub use refusal::PlanRefusal;
