@@ -1,6 +1,6 @@
 -- A sink over memory, as its callers see it.
-use Rattle.std.specs.Prelude.{ℕ, ◌==◌, ◌-◌, ◌&&◌, nat_lt, if◌then◌else◌, List, [], ◌++◌, length, take, min}
-use Rattle.spmd_ports.specs.Counts.{raised}
+use Rattle.std.specs.Prelude.{ℕ, ◌-◌, List, [], ◌++◌, length, take, min}
+use Rattle.spmd_ports.specs.Counts.{raised, empties_after}
 
 pub record MemorySink : Type 0 where
   -- the bytes that were written
@@ -27,17 +27,13 @@ fresh room piece failing =
 abbrev pub taken : MemorySink → ℕ → ℕ
 taken s offered = min (min s.piece offered) (s.room - length s.written)
 
--- the count of empty answers behind a call that took n bytes of so many
-abbrev pub empties_after : ℕ → ℕ → ℕ → ℕ
-empties_after empties n offered = if n == 0 && nat_lt 0 offered then raised empties else empties
-
 -- the sink behind a call that took the first n of these bytes
 abbrev pub written_on : MemorySink → ℕ → List ℕ → MemorySink
 written_on s n bytes = record s {
-    written = s.written ++ take n bytes;
-    calls = raised s.calls;
-    empties = empties_after s.empties n (length bytes)
-  }
+  written = s.written ++ take n bytes;
+  calls = raised s.calls;
+  empties = empties_after s.empties n (length bytes);
+}
 
 -- the sink behind a call that failed
 abbrev pub failed : MemorySink → MemorySink

@@ -23,3 +23,6 @@ pub use memory_sources::MemSource;
 pub use sinks::Sink;
 pub use sources::Source;
 pub use standard::{StdSink, StdSource};
+
+#[cfg(test)]
+mod tests;

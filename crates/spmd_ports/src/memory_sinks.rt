@@ -24,13 +24,13 @@ impl Model for MemSink {
     ghost Value = { MemorySink };
 
     ghost view = { λ s. record {
-        written = s.bytes.items;
-        room = s.room;
-        piece = s.piece;
-        failing = s.failing.items;
-        calls = s.calls;
-        faults = s.faults;
-        empties = s.empties
+      written = s.bytes.items;
+      room = s.room;
+      piece = s.piece;
+      failing = s.failing.items;
+      calls = s.calls;
+      faults = s.faults;
+      empties = s.empties;
     } };
 
     ghost invariant = { λ s. (vec_len s.bytes ≤ s.room) × (s.room ≤ vec_capacity s.bytes) };
@@ -82,19 +82,6 @@ impl Sink for MemSink {
     ghost empties = { λ s. s.empties };
 
     fn write(&mut self, from: &[u8]) -> Result<usize, Failed>
-        ensures within { IfOk result (λ n. n ≤ length from.now) }
-        ensures fault_is_counted { OnErr result (Rose self.old.faults self.new.faults) }
-        ensures only_faults_are { OnOk result (self.new.faults ≡ self.old.faults) }
-        ensures never_falls { self.old.faults ≤ self.new.faults }
-        ensures empty_is_counted { IfOk result (λ n. n ≡ 0 → 0 < length from.now →
-            Rose self.old.empties self.new.empties) }
-        ensures bytes_are_no_empty { IfOk result (λ n. 0 < n → self.new.empties ≡ self.old.empties) }
-        ensures nothing_is_no_empty { length from.now ≡ 0 → self.new.empties ≡ self.old.empties }
-        ensures fault_is_no_empty { OnErr result (self.new.empties ≡ self.old.empties) }
-        ensures empties_never_fall { self.old.empties ≤ self.new.empties }
-        ensures appended { IfOk result (λ n. Appends (Some self.old.written) (Some self.new.written) (take n from.now)) }
-        ensures fault_writes_nothing { OnErr result (Keeps (Some self.old.written) (Some self.new.written)) }
-
         // It fails exactly at the calls that are listed.
         ensures fails { IsErr result ↔ Contains self.old.failing (raised self.old.calls) }
         ensures failed { OnErr result (self.new ≡ failed self.old) }

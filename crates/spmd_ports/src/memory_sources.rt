@@ -23,11 +23,11 @@ impl Model for MemSource {
     ghost Value = { MemorySource };
 
     ghost view = { λ s. record {
-        left = drop s.place s.bytes.items;
-        piece = s.piece;
-        failing = s.failing.items;
-        calls = s.calls;
-        faults = s.faults
+      left = drop s.place s.bytes.items;
+      piece = s.piece;
+      failing = s.failing.items;
+      calls = s.calls;
+      faults = s.faults;
     } };
 
     ghost invariant = { λ s. (s.place ≤ vec_len s.bytes) × (0 < s.piece) };
@@ -68,19 +68,12 @@ impl Source for MemSource {
     ghost faults = { λ s. s.faults };
 
     fn read(&mut self, into: &mut [u8]) -> Result<usize, Failed>
-        ensures within { IfOk result (λ n. n ≤ length into.new) }
-        ensures fault_is_counted { OnErr result (Rose self.old.faults self.new.faults) }
-        ensures only_faults_are { OnOk result (self.new.faults ≡ self.old.faults) }
-        ensures never_falls { self.old.faults ≤ self.new.faults }
-        ensures front { IfOk result (λ n. Consumes (Some self.old.left) (Some self.new.left) (take n into.new)) }
-        ensures end { IfOk result (λ n. n ≡ 0 → 0 < length into.new → IsAtEnd (Some self.new.left)) }
-        ensures fault_takes_nothing { OnErr result (Keeps (Some self.old.left) (Some self.new.left)) }
-
         // It fails exactly at the calls that are listed.
         ensures fails { IsErr result ↔ Contains self.old.failing (raised self.old.calls) }
         ensures failed { OnErr result (self.new ≡ failed self.old) }
         ensures count { IfOk result (λ n. n ≡ given self.old (length into.old)) }
         ensures given { IfOk result (λ n. self.new ≡ read_on self.old n) }
+        ensures end { IfOk result (λ n. n ≡ 0 → 0 < length into.new → IsAtEnd (Some self.new.left)) }
         ensures bytes { IfOk result (λ n. into.new ≡ take n self.old.left ++ drop n into.old) }
         ensures fault_keeps_slice { OnErr result (into.new ≡ into.old) }
     {

@@ -1,7 +1,7 @@
 ghost use Rattle.std.specs.Prelude.{◌≡◌, ℕ, ◌<◌, ◌≤◌, length, take, None, IfOk, OnOk, OnErr};
 ghost use Rattle.std.specs.Io.KnownBytes.{Appends, Consumes, IsAtEnd, Keeps};
 ghost use Rattle.spmd_ports.specs.Counts.{Rose, raised};
-ghost use Rattle.spmd_ports.specs.StandardSink.{StandardSink};
+ghost use Rattle.spmd_ports.specs.StandardSink.{StandardSink, answered};
 
 use crate::errors::Failed;
 use crate::sinks::Sink;
@@ -37,7 +37,11 @@ impl Source for StdSource {
 
     ghost faults = { λ count. count };
 
-    fn read(&mut self, into: &mut [u8]) -> Result<usize, Failed> {
+    fn read(&mut self, into: &mut [u8]) -> Result<usize, Failed>
+        ensures within { IfOk result (λ n. n ≤ length into.new) }
+        ensures fault { OnErr result (self.new ≡ raised self.old) }
+        ensures given { OnOk result (self.new ≡ self.old) }
+    {
         match self.input.read(into) {
             Ok(count) => Ok(count),
             Err(_) => {
@@ -82,7 +86,11 @@ impl Sink for StdSink {
 
     ghost empties = { λ s. s.empties };
 
-    fn write(&mut self, from: &[u8]) -> Result<usize, Failed> {
+    fn write(&mut self, from: &[u8]) -> Result<usize, Failed>
+        ensures within { IfOk result (λ n. n ≤ length from.now) }
+        ensures fault { OnErr result (self.new ≡ record self.old { faults = raised self.old.faults }) }
+        ensures taken { IfOk result (λ n. self.new ≡ answered self.old n (length from.now)) }
+    {
         match self.output.write(from) {
             Ok(count) => {
                 if count == 0 && !from.is_empty() {
