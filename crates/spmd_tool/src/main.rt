@@ -1,0 +1,8 @@
+//! Seagrynt's command.
+#![tactic(auto)]
+
+mod outside;
+mod status;
+mod text;
+
+fn main() {}
