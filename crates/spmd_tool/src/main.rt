@@ -4,5 +4,6 @@
 mod outside;
 mod status;
 mod text;
+mod words;
 
 fn main() {}
