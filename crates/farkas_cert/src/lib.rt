@@ -12,7 +12,10 @@
 #![tactic(auto)]
 
 pub mod certificate;
+pub mod check;
+pub mod law;
 pub mod system;
 
+pub use law::good_certificates_exclude_whole_solutions;
 pub use certificate::{CertRefusal, Certificate, Step, Steps, Terms};
 pub use system::{Coefs, Row, Rows, System};
