@@ -3,3 +3,4 @@ pub mod Sums
 
 pub mod Exclusion
 pub mod Products
+pub mod Quotients

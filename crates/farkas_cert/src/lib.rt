@@ -12,7 +12,8 @@
 #![tactic(auto)]
 
 pub mod certificate;
-pub mod check;
+mod check;
+mod division;
 pub mod law;
 pub mod system;
 
