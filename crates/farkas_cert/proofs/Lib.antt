@@ -4,3 +4,4 @@ pub mod Sums
 pub mod Exclusion
 pub mod Products
 pub mod Quotients
+pub mod Entries

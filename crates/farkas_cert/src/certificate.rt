@@ -1,7 +1,9 @@
 // Certificates, and why one is refused.
 
 ghost use Rattle.std.specs.Prelude.{◌≡◌};
+ghost use Rattle.farkas_cert.specs.declared.certificate.CertRefusal.TheVariants.{NoMemory};
 
+use std::alloc::{AllocError, AllocFailed};
 use std::marker::Model;
 use thiserror::Error;
 
@@ -121,4 +123,20 @@ pub enum CertRefusal {
     /// Memory ran out. It says nothing of the certificate.
     #[error("out of memory")]
     NoMemory,
+}
+
+impl From<AllocError> for CertRefusal {
+    ghost from_gives = { λ _ refusal. refusal ≡ NoMemory };
+
+    fn from(_error: AllocError) -> CertRefusal {
+        CertRefusal::NoMemory
+    }
+}
+
+impl<T: Drop> From<AllocFailed<T>> for CertRefusal {
+    ghost from_gives = { λ _ refusal. refusal ≡ NoMemory };
+
+    fn from(_failed: AllocFailed<T>) -> CertRefusal {
+        CertRefusal::NoMemory
+    }
 }

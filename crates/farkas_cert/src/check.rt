@@ -1,7 +1,9 @@
 // The check of a certificate.
 
-ghost use Rattle.std.specs.Prelude.{◌≡◌, ◌≢◌, ℕ, ◌+◌, ◌*◌, ◌≤◌, ◌<◌, ◌^◌, ℤ, pos, ◌+ℤ◌, ◌*ℤ◌, ◌≤ℤ◌, IsTrue, IsSome, IfSome, IfOk, IfErr, OnOk, IsOkUnless, MatchResult, ◌↔◌, ◌++◌, [], ◌∷◌, List, map, length, if◌then◌else◌, unsigned_abs, nat_le, false, ◌&&◌};
-ghost use Rattle.std.specs.List.{All, range_with_len};
+ghost use Rattle.std.specs.Prelude.{◌≡◌, ◌≢◌, ℕ, ◌+◌, ◌*◌, ◌≤◌, ◌<◌, ◌^◌, ℤ, pos, ◌+ℤ◌, ◌*ℤ◌, ◌≤ℤ◌, IsTrue, IsSome, IfSome, IfOk, IfErr, OnOk, IsOkUnless, MatchResult, ◌↔◌, ◌++◌, [], ◌∷◌, List, map, length, if◌then◌else◌, unsigned_abs, nat_le, false, ◌&&◌, true, ◌<ℤ◌, int_div, int_rem};
+ghost use Rattle.std.specs.Int.{int_div_euclid};
+ghost use Rattle.std.specs.Ordering.{int_eq};
+ghost use Rattle.std.specs.List.{All, list_all, range_with_len};
 ghost use Rattle.farkas_cert.specs.Inequalities.{AreFull, HasNoWholeSolution};
 ghost use Rattle.farkas_cert.specs.Combination.{is_narrow as narrow, stays_narrow, total, products_at, made_row};
 ghost use Rattle.farkas_cert.specs.Combination.{row_at as row_of, entry_at as entry_of, sum_at as sum_of};
@@ -125,4 +127,47 @@ fn sum_at(system: &System, made: &[Row], terms: &[(u64, i128)], k: usize) -> Opt
         sum = with_product(sum, term.1, entry_at(row, vars, k))?;
     }
     Some(sum)
+}
+
+// What the terms of step `number` sum at each entry, if no product and no running sum passes the limit.
+fn summed(
+    alloc: Global,
+    system: &System,
+    made: &[Row],
+    number: u64,
+    terms: &[(u64, i128)],
+) -> Result<Row, CertRefusal>
+    requires full { AreFull system.now.vars made.now }
+    requires named { names_bad_row (length system.now.rows + length made.now) terms.now ≡ false }
+
+    ensures narrow { OnOk result (first_wide system.now.vars (system.now.rows ++ made.now) terms.now (range_with_len 0 (system.now.vars + 1)) ≡ None) }
+    ensures coefs { IfOk result (λ row. row.coefs ≡ map (sum_of system.now.vars (system.now.rows ++ made.now) terms.now) (range_with_len 0 system.now.vars)) }
+    ensures bound { IfOk result (λ row. row.bound ≡ sum_of system.now.vars (system.now.rows ++ made.now) terms.now system.now.vars) }
+    ensures wide { IfErr result (λ e. e ≢ CertRefusal.NoMemory → (k : ℕ) × (first_wide system.now.vars (system.now.rows ++ made.now) terms.now (range_with_len 0 (system.now.vars + 1)) ≡ Some k) × (e ≡ CertRefusal.Wide number (k + 1))) }
+{
+    let vars = system.vars();
+    let mut coefs = Coefs::with_capacity(alloc, vars as usize)?;
+    for k in 0..vars {
+        match sum_at(system, made, terms, k as usize) {
+            Some(sum) => coefs.push(sum)?,
+            None => return Err(CertRefusal::Wide(number, u64::from(k) + 1)),
+        }
+    }
+    match sum_at(system, made, terms, vars as usize) {
+        Some(bound) => Ok(Row { coefs, bound }),
+        None => Err(CertRefusal::Wide(number, u64::from(vars) + 1)),
+    }
+}
+
+// The row divided, its bound rounded down, if the divisor is at least 1 and divides each coefficient.
+fn divided(mut row: Row, divisor: i128) -> Option<Row>
+    ensures coefs { IfSome result (λ made. made.coefs ≡ map (λ a. int_div a divisor) row.coefs) }
+    ensures bound { IfSome result (λ made. made.bound ≡ int_div_euclid row.bound divisor) }
+    ensures divides { IsSome result ↔ ((pos 0 <ℤ divisor) × (list_all (λ a. int_eq (int_rem a divisor) (pos 0)) row.coefs ≡ true)) }
+{
+    if divisor < 1 || !row.coefs.divide(divisor) {
+        return None;
+    }
+    row.bound = row.bound.div_euclid(divisor);
+    Some(row)
 }

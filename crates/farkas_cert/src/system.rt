@@ -1,7 +1,10 @@
 // Systems of linear inequalities.
 
-ghost use Rattle.std.specs.Prelude.{◌≡◌, ◌++◌, [], ◌∷◌, OnOk, OnErr, IfOk};
+ghost use Rattle.std.specs.Prelude.{◌≡◌, ◌++◌, [], ◌∷◌, OnOk, OnErr, IfOk, IsTrue, pos, ◌≤ℤ◌, int_div, int_rem, map};
+ghost use Rattle.std.specs.Ordering.{int_eq};
+ghost use Rattle.std.specs.List.{list_all};
 
+use crate::division::divide_all;
 use smallvec::SmallVec;
 use std::alloc::{AllocError, Global};
 use std::marker::Model;
@@ -56,6 +59,16 @@ impl Coefs {
     {
         self.items.push(coef)?;
         Ok(())
+    }
+
+    /// Divides each coefficient, if the divisor divides them all. Where it doesn't, some are
+    /// divided.
+    pub(crate) fn divide(&mut self, divisor: i128) -> bool
+        requires { pos 1 ≤ℤ divisor }
+        ensures all { result ≡ list_all (λ a. int_eq (int_rem a divisor) (pos 0)) self.old }
+        ensures quotients { IsTrue result → self.new ≡ map (λ a. int_div a divisor) self.old }
+    {
+        divide_all(self.items.as_mut_slice(), divisor)
     }
 }
 
