@@ -5,3 +5,4 @@ pub mod Exclusion
 pub mod Products
 pub mod Quotients
 pub mod Entries
+pub mod Faults

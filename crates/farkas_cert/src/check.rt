@@ -1,6 +1,6 @@
 // The check of a certificate.
 
-ghost use Rattle.std.specs.Prelude.{◌≡◌, ◌≢◌, ℕ, ◌+◌, ◌*◌, ◌≤◌, ◌<◌, ◌^◌, ℤ, pos, ◌+ℤ◌, ◌*ℤ◌, ◌≤ℤ◌, IsTrue, IsSome, IfSome, IfOk, IfErr, OnOk, IsOkUnless, MatchResult, ◌↔◌, ◌++◌, [], ◌∷◌, List, map, length, if◌then◌else◌, unsigned_abs, nat_le, false, ◌&&◌, true, ◌<ℤ◌, int_div, int_rem};
+ghost use Rattle.std.specs.Prelude.{◌≡◌, ◌≢◌, ℕ, ◌+◌, ◌*◌, ◌≤◌, ◌<◌, ◌^◌, ℤ, pos, ◌+ℤ◌, ◌*ℤ◌, ◌≤ℤ◌, IsTrue, IsSome, IfSome, IfOk, IfErr, OnOk, IsOkUnless, MatchResult, ◌↔◌, ◌++◌, [], ◌∷◌, List, map, length, if◌then◌else◌, unsigned_abs, nat_le, false, ◌&&◌, true, ◌<ℤ◌, int_div, int_rem, slice_get, ◌-◌};
 ghost use Rattle.std.specs.Int.{int_div_euclid};
 ghost use Rattle.std.specs.Ordering.{int_eq};
 ghost use Rattle.std.specs.List.{All, list_all, range_with_len};
@@ -8,7 +8,7 @@ ghost use Rattle.farkas_cert.specs.Inequalities.{AreFull, HasNoWholeSolution};
 ghost use Rattle.farkas_cert.specs.Combination.{is_narrow as narrow, stays_narrow, total, products_at, made_row};
 ghost use Rattle.farkas_cert.specs.Combination.{row_at as row_of, entry_at as entry_of, sum_at as sum_of};
 ghost use Rattle.farkas_cert.specs.Good.{IsGood};
-ghost use Rattle.farkas_cert.specs.Fault.{has_negative as negative, names_bad_row, first_wide, divides, step_fault, last_fault, first_fault};
+ghost use Rattle.farkas_cert.specs.Fault.{has_negative as negative, is_contradiction as contradiction, names_bad_row, first_wide, divides, step_fault, last_fault, first_fault};
 
 use crate::certificate::{CertRefusal, Certificate, Step};
 use crate::system::{Coefs, Row, System};
@@ -170,4 +170,59 @@ fn divided(mut row: Row, divisor: i128) -> Option<Row>
     }
     row.bound = row.bound.div_euclid(divisor);
     Some(row)
+}
+
+// The row that step `number` makes of the rows so far, if the step is good.
+fn check_step(
+    alloc: Global,
+    system: &System,
+    made: &[Row],
+    number: u64,
+    step: &Step,
+) -> Result<Row, CertRefusal>
+    requires { AreFull system.now.vars made.now }
+    ensures good { OnOk result (step_fault system.now.vars (system.now.rows ++ made.now) number step.now ≡ None) }
+    ensures made { IfOk result (λ row. row ≡ made_row system.now.vars (system.now.rows ++ made.now) step.now) }
+    ensures refused { IfErr result (λ e. e ≢ CertRefusal.NoMemory → step_fault system.now.vars (system.now.rows ++ made.now) number step.now ≡ Some e) }
+{
+    let terms = step.terms.as_slice();
+    if has_negative(terms) {
+        return Err(CertRefusal::NegativeMultiplier(number));
+    }
+    if has_bad_row(system, made, terms) {
+        return Err(CertRefusal::BadRow(number));
+    }
+    let sums = summed(alloc, system, made, number, terms)?;
+    match divided(sums, step.divisor) {
+        Some(row) => Ok(row),
+        None => Err(CertRefusal::BadDivisor(number)),
+    }
+}
+
+// Each coefficient is 0.
+fn are_zero(coefs: &[i128]) -> bool
+    ensures { result ≡ list_all (λ a. int_eq a (pos 0)) coefs.now }
+{
+    coefs.iter().all(|coef| *coef == 0)
+}
+
+// The row has only zero coefficients and a negative bound.
+fn is_contradiction(row: &Row) -> bool
+    ensures { result ≡ contradiction row.now }
+{
+    are_zero(row.coefs.as_slice()) && row.bound < 0
+}
+
+// The last row is a contradiction.
+fn check_last(system: &System, made: &[Row]) -> Result<(), CertRefusal>
+    requires { AreFull system.now.vars made.now }
+    ensures good { let rows = system.now.rows ++ made.now in OnOk result (last_fault (length rows) (slice_get rows (length rows - 1)) ≡ None) }
+    ensures refused { let rows = system.now.rows ++ made.now in IfErr result (λ e. last_fault (length rows) (slice_get rows (length rows - 1)) ≡ Some e) }
+{
+    let count = row_count(system, made) as u64;
+    if count != 0 && is_contradiction(row_at(system, made, count)) {
+        Ok(())
+    } else {
+        Err(CertRefusal::NoContradiction(count))
+    }
 }
