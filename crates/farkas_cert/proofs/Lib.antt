@@ -6,3 +6,4 @@ pub mod Products
 pub mod Quotients
 pub mod Entries
 pub mod Faults
+pub mod Verdict

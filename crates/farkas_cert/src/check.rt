@@ -226,3 +226,49 @@ fn check_last(system: &System, made: &[Row]) -> Result<(), CertRefusal>
         Err(CertRefusal::NoContradiction(count))
     }
 }
+
+// The rows that the steps make, if each is good.
+fn check_steps(
+    alloc: Global,
+    system: &System,
+    certificate: &Certificate,
+) -> Result<Vec<Row>, CertRefusal>
+    ensures full { IfOk result (λ made. AreFull system.now.vars made.items) }
+    ensures good { IfOk result (λ made. let rows = system.now.rows ++ made.items in first_fault system.now certificate.now ≡ last_fault (length rows) (slice_get rows (length rows - 1))) }
+    ensures refused { IfErr result (λ e. e ≢ CertRefusal.NoMemory → first_fault system.now certificate.now ≡ Some e) }
+{
+    let steps = certificate.steps.as_slice();
+    let mut made = Vec::with_capacity(alloc, steps.len())?;
+    for (index, step) in steps.iter().enumerate() {
+        let number = index as u64 + 1;
+        let row = check_step(alloc, system, made.as_slice(), number, step)?;
+        made.push(row)?;
+    }
+    Ok(made)
+}
+
+/// Checks a certificate for a system. Nothing is assumed of the numbers in either.
+///
+/// The steps are taken in order, and in a step its multipliers come first, then the rows that it
+/// names, then the size of its products and running sums (the least entry that passes 2 ^ 126 in
+/// size), then its divisor. The first fault is told. After the steps the last row of all has to
+/// be a contradiction.
+///
+/// It makes at most (terms + steps) * (variables + 1) multiplications, each with its addition,
+/// or divisions. It takes memory for one row a step, and gives it back.
+pub fn check_cert(
+    system: &System,
+    certificate: &Certificate,
+    alloc: Global,
+) -> Result<(), CertRefusal>
+    ensures good { OnOk result (IsGood system.now certificate.now) }
+    ensures no_solution { OnOk result (HasNoWholeSolution system.now) }
+
+    // A good certificate is refused for want of memory alone, and another one with its first fault.
+    ensures taken { IsGood system.now certificate.now → IsOkUnless result CertRefusal.NoMemory }
+    ensures no_fault { OnOk result (first_fault system.now certificate.now ≡ None) }
+    ensures refused { IfErr result (λ e. e ≢ CertRefusal.NoMemory → first_fault system.now certificate.now ≡ Some e) }
+{
+    let made = check_steps(alloc, system, certificate)?;
+    check_last(system, made.as_slice())
+}
