@@ -14,9 +14,10 @@
 pub mod certificate;
 mod check;
 mod division;
-pub mod law;
+mod law;
 pub mod system;
 
 pub use law::good_certificates_exclude_whole_solutions;
+pub use check::check_cert;
 pub use certificate::{CertRefusal, Certificate, Step, Steps, Terms};
 pub use system::{Coefs, Row, Rows, System};
