@@ -1,6 +1,5 @@
 pub mod Integers
 pub mod Sums
-
 pub mod Exclusion
 pub mod Products
 pub mod Quotients

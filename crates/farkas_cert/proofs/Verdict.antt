@@ -1,7 +1,7 @@
 -- A certificate is good exactly where it has no fault.
-use Rattle.std.proofs.Common.{◌≡◌, ◌≢◌, ℕ, zero, suc, ◌+◌, ◌-◌, ◌≤◌, ◌<◌, ℤ, pos, ◌≤ℤ◌, ◌<ℤ◌, int_lt, int_div, int_rem, Bool, true, false, ◌&&◌, not, nat_le, if◌then◌else◌, IsTrue, IsSomeAnd, OnOk, IfErr, IsOkUnless, Result, Ok, Err, Option, Some, None, List, [], ◌∷◌, ◌++◌, length, get_or, slice_get, slice_index_or, refl, ap, sym, ◌∙◌, add-one, append_assoc, drop, arith}
+use Rattle.std.proofs.Common.{◌≡◌, ◌≢◌, ℕ, zero, suc, ◌+◌, ◌-◌, ◌≤◌, ◌<◌, ℤ, pos, ◌≤ℤ◌, int_lt, int_div, int_rem, Bool, true, false, ◌&&◌, not, nat_le, if◌then◌else◌, IsSomeAnd, OnOk, IfErr, IsOkUnless, Result, Ok, Err, Option, Some, None, List, [], ◌∷◌, ◌++◌, length, get_or, slice_get, refl, ◌∙◌, add-one, append_assoc, drop, arith}
 use Rattle.std.specs.Ordering.{int_eq}
-use Rattle.std.specs.List.{All, list_any, list_all, range_with_len}
+use Rattle.std.specs.List.{All, list_all, range_with_len}
 use Rattle.std.proofs.lemmas.Int.{ints}
 use Rattle.std.proofs.lemmas.Bool.Decides.{nat_tests, Decides-int_eq}
 use Rattle.std.proofs.lemmas.List.Folds.{list_any_none}
@@ -39,8 +39,8 @@ module _ (vars : ℕ) (rows : List Row) (terms : List (ℕ × ℤ)) where
   narrow_from_none a zero none k low high = absurd (omega arith)
   narrow_from_none a (suc n) none k low high =
       elim (stays_narrow (pos 0) (products_at vars rows terms a)) as (λ b. stays_narrow (pos 0) (products_at vars rows terms a) ≡ b → stays_narrow (pos 0) (products_at vars rows terms k) ≡ true) [
-        true ↦ λ here. elim (nat_le (a + 1) k) as (λ b. nat_le (a + 1) k ≡ b → stays_narrow (pos 0) (products_at vars rows terms k) ≡ true) [
-          true ↦ λ later. narrow_from_none (a + 1) n (rw here at none) k (grind (arith, nat_tests)) (omega arith)
+        | true ↦ λ here. elim (nat_le (a + 1) k) as (λ b. nat_le (a + 1) k ≡ b → stays_narrow (pos 0) (products_at vars rows terms k) ≡ true) [
+          | true ↦ λ later. narrow_from_none (a + 1) n (rw here at none) k (grind (arith, nat_tests)) (omega arith)
           | false ↦ λ now. let same : k ≡ a = grind (arith, nat_tests) in rw same here
         ] refl
         | false ↦ λ wide. absurd (let stop = rw wide at none in cc)
@@ -64,23 +64,24 @@ divides_from_test : (vars : ℕ) (rows : List Row) (step : Step) → divides var
 divides_from_test vars rows step h =
     let parts = both (int_lt (pos 0) step.divisor) (list_all (λ k. int_eq (int_rem (sum_at vars rows step.terms k) step.divisor) (pos 0)) (range_with_len 0 vars)) h in
     let above = parts.0 in
-    let each = AllPass-from_list_all (λ k. int_eq (int_rem (sum_at vars rows step.terms k) step.divisor) (pos 0)) (range_with_len 0 vars) parts.1 in
-    (grind (arith, ints),
+    let each = AllPass-from_list_all (λ k. int_eq (int_rem (sum_at vars rows step.terms k) step.divisor) (pos 0)) (range_with_len 0 vars) parts.1 in (
+      grind (arith, ints),
       λ k lt.
-        let within : k < length (range_with_len 0 vars) = omega (arith, length-range_with_len 0 vars) in
-        let here = each k 0 within in
-        let index : get_or (range_with_len 0 vars) k 0 ≡ k = get_or-range_with_len 0 vars k 0 lt ∙ omega arith in
-        (Decides-int_eq (int_rem (sum_at vars rows step.terms k) step.divisor) (pos 0)).0 (rw index at here))
+          let within : k < length (range_with_len 0 vars) = omega (arith, length-range_with_len 0 vars) in
+          let here = each k 0 within in
+          let index : get_or (range_with_len 0 vars) k 0 ≡ k = get_or-range_with_len 0 vars k 0 lt ∙ omega arith in
+          (Decides-int_eq (int_rem (sum_at vars rows step.terms k) step.divisor) (pos 0)).0 (rw index at here),
+    )
 
 test_from_divides : (vars : ℕ) (rows : List Row) (step : Step) → pos 1 ≤ℤ step.divisor → ((k : ℕ) → k < vars → int_rem (sum_at vars rows step.terms k) step.divisor ≡ pos 0) → divides vars rows step ≡ true
 test_from_divides vars rows step above each =
     let positive : int_lt (pos 0) step.divisor ≡ true = grind (arith, ints) in
     let all : list_all (λ k. int_eq (int_rem (sum_at vars rows step.terms k) step.divisor) (pos 0)) (range_with_len 0 vars) ≡ true =
-        list_all-from_AllPass (λ k. int_eq (int_rem (sum_at vars rows step.terms k) step.divisor) (pos 0)) (range_with_len 0 vars)
-          (λ k d within.
-            let lt : k < vars = omega (arith, length-range_with_len 0 vars, within) in
-            let index : get_or (range_with_len 0 vars) k d ≡ k = get_or-range_with_len 0 vars k d lt ∙ omega arith in
-            rw index ((Decides-int_eq (int_rem (sum_at vars rows step.terms k) step.divisor) (pos 0)).1 (each k lt))) in
+    list_all-from_AllPass (λ k. int_eq (int_rem (sum_at vars rows step.terms k) step.divisor) (pos 0)) (range_with_len 0 vars)
+    (λ k d within.
+    let lt : k < vars = omega (arith, length-range_with_len 0 vars, within) in
+    let index : get_or (range_with_len 0 vars) k d ≡ k = get_or-range_with_len 0 vars k d lt ∙ omega arith in
+    rw index ((Decides-int_eq (int_rem (sum_at vars rows step.terms k) step.divisor) (pos 0)).1 (each k lt))) in
     rw (positive, all) refl
 
 good_from_none : (vars : ℕ) (rows : List Row) (n : ℕ) (step : Step) → step_fault vars rows n step ≡ None → IsGoodStep vars rows step
@@ -95,11 +96,11 @@ good_from_none vars rows n step none =
       named = λ k d lt. named-at (length rows) step.terms k d named.0 lt;
       narrow = λ k within. narrow_from_none vars rows step.terms 0 (vars + 1) narrow.0 k (omega arith) (omega arith);
       divisor = division.0;
-      divides = division.1
+      divides = division.1;
     } where
-  narrow_numbers : (wide : Option ℕ) → number_fault vars rows n step wide ≡ None → (wide ≡ None) × (divides vars rows step ≡ true)
-  narrow_numbers None h = (refl, true_from_if (divides vars rows step) (BadDivisor n) h)
-  narrow_numbers (Some k) h = absurd cc
+      narrow_numbers : (wide : Option ℕ) → number_fault vars rows n step wide ≡ None → (wide ≡ None) × (divides vars rows step ≡ true)
+      narrow_numbers None h = (refl, true_from_if (divides vars rows step) (BadDivisor n) h)
+      narrow_numbers (Some k) h = absurd cc
 
 none_from_good : (vars : ℕ) (rows : List Row) (n : ℕ) (step : Step) → IsGoodStep vars rows step → step_fault vars rows n step ≡ None
 none_from_good vars rows n step good =

@@ -17,7 +17,10 @@ mod division;
 mod law;
 pub mod system;
 
-pub use law::good_certificates_exclude_whole_solutions;
-pub use check::check_cert;
 pub use certificate::{CertRefusal, Certificate, Step, Steps, Terms};
+pub use check::check_cert;
+pub use law::good_certificates_exclude_whole_solutions;
 pub use system::{Coefs, Row, Rows, System};
+
+#[cfg(test)]
+mod tests;

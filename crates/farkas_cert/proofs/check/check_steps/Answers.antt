@@ -1,4 +1,4 @@
-use Rattle.std.proofs.Common.{◌≡◌, ◌+◌, ◌<◌, ◌++◌, None, length, get_or, ap, sym, ◌∙◌}
+use Rattle.std.proofs.Common.{◌≡◌, ◌+◌, ◌<◌, ◌++◌, None, length, get_or, ◌∙◌}
 use Rattle.farkas_cert.specs.Combination.{made_row}
 use Rattle.farkas_cert.specs.Fault.{step_fault}
 use Rattle.farkas_cert.proofs.Verdict.{fault_from-step, AreFull-step}
@@ -18,5 +18,5 @@ loop-index-preserved c =
     let is_made : row ≡ made_row vars (rows ++ made) step = rw (← c.as_slice.ensures.value) c.in_ok-row.ensures.made in
     rw c.in_ok-push.ensures.items (record {
       full = AreFull-step vars rows made step row c.loop-index.invariant.full is_made;
-      fault = c.loop-index.invariant.fault ∙ fault_from-step vars rows made (c.loop-index.index + 1) c.loop-index.index steps step row within at good is_made
+      fault = c.loop-index.invariant.fault ∙ fault_from-step vars rows made (c.loop-index.index + 1) c.loop-index.index steps step row within at good is_made;
     })

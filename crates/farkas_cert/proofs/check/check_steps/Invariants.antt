@@ -7,5 +7,5 @@ use Rattle.farkas_cert.proofs.check.check_steps.Given as goal
 abbrev pub invariant-loop-index : goal.invariant-loop-index
 invariant-loop-index l = record {
   full : AreFull l.system.vars l.made.items;
-  fault : first_fault l.system l.certificate ≡ fault_from l.system.vars (l.system.rows ++ l.made.items) (l.index + 1) (drop l.index l.certificate.steps)
+  fault : first_fault l.system l.certificate ≡ fault_from l.system.vars (l.system.rows ++ l.made.items) (l.index + 1) (drop l.index l.certificate.steps);
 }
