@@ -27,7 +27,8 @@ impl Model for Coefs {
 }
 
 impl Coefs {
-    /// No coefficient yet, with room for so many.
+    /// No coefficient yet, with room for so many. The room is a matter of cost alone: no clause
+    /// tells it.
     pub fn with_capacity(alloc: Global, capacity: usize) -> Result<Self, AllocError>
         ensures { IfOk result (λ coefs. coefs ≡ []) }
     {
