@@ -1,9 +1,9 @@
 // The check of a certificate.
 
-ghost use Rattle.std.specs.Prelude.{◌≡◌, ◌≢◌, ℕ, ◌+◌, ◌*◌, ◌≤◌, ◌<◌, ◌^◌, ℤ, pos, ◌+ℤ◌, ◌*ℤ◌, ◌≤ℤ◌, IsTrue, IsSome, IfSome, IfOk, IfErr, OnOk, IsOkUnless, MatchResult, ◌↔◌, ◌++◌, [], ◌∷◌, List, map, length, if◌then◌else◌, unsigned_abs, nat_le, false, ◌&&◌, true, ◌<ℤ◌, int_div, int_rem, slice_get, ◌-◌};
+ghost use Rattle.std.specs.Prelude.{◌≡◌, ◌≢◌, ℕ, ◌+◌, ◌*◌, ◌≤◌, ◌^◌, ℤ, pos, ◌+ℤ◌, ◌*ℤ◌, IsSome, IfSome, IfOk, IfErr, OnOk, IsOkUnless, ◌↔◌, ◌++◌, map, length, if◌then◌else◌, nat_le, false, ◌&&◌, true, ◌<ℤ◌, int_div, int_rem, slice_get, ◌-◌};
 ghost use Rattle.std.specs.Int.{int_div_euclid};
 ghost use Rattle.std.specs.Ordering.{int_eq};
-ghost use Rattle.std.specs.List.{All, list_all, range_with_len};
+ghost use Rattle.std.specs.List.{list_all, range_with_len};
 ghost use Rattle.farkas_cert.specs.Inequalities.{AreFull, HasNoWholeSolution};
 ghost use Rattle.farkas_cert.specs.Combination.{is_narrow as narrow, stays_narrow, total, products_at, made_row};
 ghost use Rattle.farkas_cert.specs.Combination.{row_at as row_of, entry_at as entry_of, sum_at as sum_of};
