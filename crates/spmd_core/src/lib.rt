@@ -3,5 +3,7 @@
 #![tactic(auto)]
 
 pub mod plan;
+mod value;
 
 pub use plan::{Anchor, Anchors, Cut, Dist, Kind, Kinds, Mark, Marks, Plan};
+pub use value::eval;
