@@ -1,1 +1,2 @@
+mod ValueLaws
 mod Values

@@ -4,3 +4,4 @@ pub mod Waits
 pub mod Acts
 pub mod Machine
 pub mod FirstRun
+pub mod ValueLaws

@@ -2,6 +2,7 @@
 //! program by a plan, one act of one processor at a time.
 #![tactic(auto)]
 
+pub mod laws;
 pub mod plan;
 mod value;
 
