@@ -143,3 +143,82 @@ fn truncated_quotient(a: i64, divisor: i64) -> i64
         a / divisor
     }
 }
+
+#[cfg(test)]
+mod tests {
+    use super::eval;
+    use nest_tree::{Access, Expr, Subscripts};
+    use std::test::Fail;
+
+    const LEAST: i64 = i64::MIN;
+    const GREATEST: i64 = i64::MAX;
+
+    #[test]
+    fn sums_differences_and_products_wrap(rt: HostRuntime) -> Result<(), Fail> {
+        let alloc = rt.alloc();
+        let sum = Expr::Add(
+            Box::new(alloc, Expr::LoopValue(1))?,
+            Box::new(alloc, Expr::LoopValue(2))?,
+        );
+        let difference = Expr::Sub(
+            Box::new(alloc, Expr::Load(Access { variable: 1, subscripts: Subscripts::new(alloc) }))?,
+            Box::new(alloc, Expr::Load(Access { variable: 1, subscripts: Subscripts::new(alloc) }))?,
+        );
+        let product = Expr::Mul(
+            Box::new(alloc, Expr::Param(1))?,
+            Box::new(alloc, Expr::Param(2))?,
+        );
+        for (a, b, added, subtracted, multiplied) in [
+            (7, -5, 2, 12, -35),
+            (GREATEST, 1, LEAST, GREATEST - 1, GREATEST),
+            (LEAST, -1, GREATEST, LEAST + 1, LEAST),
+            (4294967296, 2147483648, 6442450944, 2147483648, LEAST),
+        ] {
+            assert_eq!(rt; eval(&sum, &[a, b], &[], &[]), added, "{a} + {b}");
+            assert_eq!(rt; eval(&difference, &[], &[], &[a, b]), subtracted, "{a} - {b}");
+            assert_eq!(rt; eval(&product, &[], &[a, b], &[]), multiplied, "{a} * {b}");
+        }
+        Ok(())
+    }
+
+    #[test]
+    fn quotients_are_truncated_toward_zero(rt: HostRuntime) -> Result<(), Fail> {
+        let alloc = rt.alloc();
+        let half = Expr::Div(Box::new(alloc, Expr::LoopValue(1))?, 2);
+        let minus_half = Expr::Div(Box::new(alloc, Expr::LoopValue(1))?, -2);
+        let by_minus_one = Expr::Div(Box::new(alloc, Expr::LoopValue(1))?, -1);
+        let negative = Expr::Neg(Box::new(alloc, Expr::LoopValue(1))?);
+        for (a, by_two, by_minus_two, negated) in [
+            (7, 3, -3, -7),
+            (-7, -3, 3, 7),
+            (-1, 0, 0, 1),
+            (GREATEST, 4611686018427387903, -4611686018427387903, LEAST + 1),
+            (LEAST, -4611686018427387904, 4611686018427387904, LEAST),
+        ] {
+            let loops = [a];
+            assert_eq!(rt; eval(&half, &loops, &[], &[]), by_two, "{a} / 2");
+            assert_eq!(rt; eval(&minus_half, &loops, &[], &[]), by_minus_two, "{a} / -2");
+            assert_eq!(rt; eval(&by_minus_one, &loops, &[], &[]), negated, "{a} / -1");
+            assert_eq!(rt; eval(&negative, &loops, &[], &[]), negated, "-({a})");
+        }
+        Ok(())
+    }
+
+    #[test]
+    fn extremes_are_taken_of_all_arguments(rt: HostRuntime) -> Result<(), Fail> {
+        let alloc = rt.alloc();
+        let least = Expr::Min(vec![in alloc; Expr::LoopValue(1), Expr::LoopValue(2), Expr::LoopValue(3)]?);
+        let greatest = Expr::Max(vec![in alloc; Expr::LoopValue(1), Expr::LoopValue(2), Expr::LoopValue(3)]?);
+        for (a, b, c, low, high) in [
+            (3, 5, 4, 3, 5),
+            (2, -1, 2, -1, 2),
+            (0, LEAST, GREATEST, LEAST, GREATEST),
+            (-3, -3, -4, -4, -3),
+        ] {
+            let loops = [a, b, c];
+            assert_eq!(rt; eval(&least, &loops, &[], &[]), low, "the least of {a}, {b}, {c}");
+            assert_eq!(rt; eval(&greatest, &loops, &[], &[]), high, "the greatest of {a}, {b}, {c}");
+        }
+        Ok(())
+    }
+}
