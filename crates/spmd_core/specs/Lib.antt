@@ -5,3 +5,4 @@ pub mod Fit
 pub mod Acts
 pub mod Machine
 pub mod FirstRun
+pub mod ValueLaws
