@@ -2,8 +2,8 @@
 use Rattle.std.proofs.Common.{◌≡◌, ℕ, zero, suc, ◌+◌, ◌-◌, ◌*◌, ◌/◌, ◌%◌, ◌^◌, ◌<◌, ◌≤◌, ℤ, pos, negsuc, ◌+ℤ◌, ◌-ℤ◌, ◌*ℤ◌, neg_ℤ, unsigned_abs, FitsSigned, w64, List, [], ◌∷◌, All, Contains, ap, inl, inr, refl, sym, ◌∙◌, arith, to_z, le_trans, le_refl, mul-le-mul, ⊎_elim}
 use Rattle.std.proofs.lemmas.Bool.{cases_lt}
 use Rattle.std.proofs.Math.Facts.{to_z-neg}
-use Rattle.std.specs.Prelude.{int_div, int_rem, ◌≤ℤ◌, fold}
-use Rattle.std.specs.Int.{int_wrap, int_min, int_max}
+use Rattle.std.specs.Prelude.{int_div, int_rem, ◌≤ℤ◌}
+use Rattle.std.specs.Int.{int_wrap}
 use Rattle.std.proofs.lemmas.Int.{ints, int_wrap_fits, SFits-int_wrap, int_wrap-add_left, int_wrap-add_right, int_wrap-sub_right, int_wrap-mul_left, int_wrap-mul_right, quot-rem, rem_below, unsigned_abs-mul, fits_signed_from_abs, to_z_pos, fold-int_min_bounds, fold-int_min_reached, fold-int_max_bounds, fold-int_max_reached}
 use Rattle.std.proofs.lemmas.List.Elements.{All-cons, Contains-append_right}
 use Rattle.std.proofs.Math.IntN.{*ℤ-zero, pred_ℤ, pred_ℤ-*ℤ}
