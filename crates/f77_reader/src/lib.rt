@@ -12,4 +12,8 @@ mod names;
 mod refusals;
 mod statements;
 
+pub use lines::read_straight;
 pub use refusals::Refusal;
+
+#[cfg(test)]
+mod tests;
