@@ -1,2 +1,3 @@
+pub mod Fits
 mod ValueLaws
 mod Values

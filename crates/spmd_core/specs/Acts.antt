@@ -1,5 +1,5 @@
 -- The acts of a processor.
-use Rattle.std.specs.Prelude.{ℕ, ◌+◌, ◌-◌, ℤ, Bool, true, false, ◌==◌, List, [], ◌∷◌, ◌++◌, Option, Some, None, map, if◌then◌else◌}
+use Rattle.std.specs.Prelude.{ℕ, ◌+◌, ◌-◌, ◌==◌, List, [], ◌∷◌, ◌++◌, Option, Some, None, map, if◌then◌else◌}
 use Rattle.nest_tree.specs.Tree.{Tree}
 use Rattle.nest_model.specs.Instances.{Instance}
 use Rattle.nest_model.specs.Accesses.{loads_of, store_of}

@@ -1,14 +1,13 @@
 -- The first run on two workers, with a barrier in front of each statement: the acts of its processors, and a schedule.
-use Rattle.std.specs.Prelude.{ℕ, ℤ, pos, ◌≡◌, List, [], ◌∷◌, ◌++◌, codes, refl}
+use Rattle.std.specs.Prelude.{pos, ◌≡◌, [], ◌∷◌, refl}
 use Rattle.std.specs.Int.{int_wrap}
-use Rattle.std.specs.Fmt.{digits}
 use Rattle.nest_model.specs.FirstRun.{first_run}
 use Rattle.spmd_core.specs.declared.plan.Dist.TheVariants.{Cyclic}
 use Rattle.spmd_core.specs.declared.plan.Anchor.{Anchor}
 use Rattle.spmd_core.specs.declared.plan.Kind.TheVariants.{Barrier}
 use Rattle.spmd_core.specs.declared.plan.Plan.{Plan}
 use Rattle.spmd_core.specs.Acts.{post, await, acts_of}
-use Rattle.spmd_core.specs.Machine.{run_of, State}
+use Rattle.spmd_core.specs.Machine.{run_of}
 
 abbrev at_zero : Anchor
 at_zero = record { form = record { constant = pos 0; loops = []; params = [] }; dist = Cyclic }

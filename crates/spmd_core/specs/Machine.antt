@@ -1,5 +1,5 @@
 -- The machine: its states, one step of one processor, and the run of a schedule.
-use Rattle.std.specs.Prelude.{ℕ, ◌+◌, ◌≡◌, ◌<◌, ℤ, pos, Bool, true, false, nat_le, List, [], ◌∷◌, ◌++◌, Option, Some, None, length, fold, map, replicate, slice_get, slice_index, slice_index_or, slice_set, if◌then◌else◌}
+use Rattle.std.specs.Prelude.{ℕ, ◌+◌, ◌≡◌, ◌<◌, ℤ, Bool, true, nat_le, List, [], ◌∷◌, ◌++◌, Option, Some, None, length, fold, replicate, slice_get, slice_index, slice_index_or, slice_set, if◌then◌else◌}
 use Rattle.nest_tree.specs.Tree.{Tree}
 use Rattle.nest_model.specs.Memory.{cell_value, assigned_value, line_of, first_memory}
 use Rattle.spmd_core.specs.declared.plan.Plan.{Plan}

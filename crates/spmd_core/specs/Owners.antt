@@ -1,7 +1,7 @@
 -- Who owns an instance, and whom an anchor names.
 use Rattle.std.specs.Prelude.{ℕ, ◌-◌, ℤ, pos, List, Option, Some, None, slice_get}
 use Rattle.std.specs.Int.{int_div_euclid, int_rem_euclid}
-use Rattle.nest_tree.specs.Form.{Form, form_value}
+use Rattle.nest_tree.specs.Form.{form_value}
 use Rattle.nest_tree.specs.Layout.{count_of}
 use Rattle.nest_tree.specs.Tree.{Tree}
 use Rattle.nest_model.specs.Instances.{Instance, param_values}

@@ -2,9 +2,13 @@
 //! program by a plan, one act of one processor at a time.
 #![tactic(auto)]
 
+mod fit;
 pub mod laws;
 pub mod plan;
+pub mod refusal;
 mod value;
 
+pub use fit::check_fit;
 pub use plan::{Anchor, Anchors, Cut, Dist, Kind, Kinds, Mark, Marks, Plan};
+pub use refusal::PlanRefusal;
 pub use value::eval;
