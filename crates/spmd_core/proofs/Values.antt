@@ -1,6 +1,7 @@
 -- What the proofs on the values of expressions share.
-use Rattle.std.proofs.Common.{◌≡◌, ℕ, ◌+◌, ◌≤◌, ◌<◌, ◌-◌, take, get_or, drop-drop, drop-cons, add-one, ℤ, Bool, true, false, ◌&&◌, List, [], ◌∷◌, length, drop, length-drop, length-take, get_or-take, get_or-drop, zero, suc, IsTrue, ap, refl, sym, ◌∙◌, Vec, Global, arith}
+use Rattle.std.proofs.Common.{◌≡◌, ℕ, ◌+◌, ◌≤◌, ◌<◌, ◌-◌, take, get_or, drop-drop, drop-cons, add-one, ℤ, Bool, true, false, ◌&&◌, List, [], ◌∷◌, length, drop, length-drop, length-take, get_or-take, get_or-drop, zero, suc, IsTrue, ap, refl, sym, ◌∙◌, w64, to_z, of_z, FitsSigned, Vec, Global, arith}
 use Rattle.std.specs.Prelude.{fold}
+use Rattle.std.proofs.lemmas.Int.{to_z-of_z}
 use Rattle.nest_tree.specs.Tree.{one_more, least_of, greatest_of}
 use Rattle.nest_tree.specs.View.{expression_of, expressions_of, expressions_from}
 use Rattle.nest_tree.specs.declared.tree.Expr.{Expr, Min, Max, Min', Row_of-Expr, end_of-Expr, more_of-Expr, items-the_row-Expr, items_hidden-the_row-Expr-0}
@@ -55,13 +56,22 @@ Remains-next pick best e left loops params rest value behind r = record {
 }
 
 -- the next argument's value is taken in
-pub Remains-step : (pick : ℤ → ℤ → ℤ) (best x next : ℤ) (items : List Expr) (i : ℕ) (e : Expr) (loops params rest after : List ℤ) (value : ℤ) (behind : List ℤ) →
+Remains-step : (pick : ℤ → ℤ → ℤ) (best x next : ℤ) (items : List Expr) (i : ℕ) (e : Expr) (loops params rest after : List ℤ) (value : ℤ) (behind : List ℤ) →
     i < length items → e ≡ get_or items i e → next ≡ pick best x → x ≡ value_of (expression_of e) loops params rest →
     after ≡ drop (load_count (expression_of e)) rest →
     Remains pick best (drop i items) loops params rest value behind → Remains pick next (drop (i + 1) items) loops params after value behind
 Remains-step pick best x next items i e loops params rest after value behind lt is p q f r =
     let h = rw (drop-cons items i e, ← is, ← add-one) at r in
     rw (p, q, f) (Remains-next pick best e (drop (i + 1) items) loops params rest value behind h)
+
+-- the same, where the code casts the two values to their bits and back
+pub Remains-cast : (pick : ℤ → ℤ → ℤ) (best x next : ℤ) (items : List Expr) (i : ℕ) (e : Expr) (loops params rest after : List ℤ) (value : ℤ) (behind : List ℤ) →
+    i < length items → e ≡ get_or items i e → FitsSigned w64 x → x ≡ value_of (expression_of e) loops params rest →
+    after ≡ drop (load_count (expression_of e)) rest → Remains pick best (drop i items) loops params rest value behind →
+    FitsSigned w64 next → next ≡ pick best (to_z w64 (of_z w64 x)) →
+    Remains pick (to_z w64 (of_z w64 next)) (drop (i + 1) items) loops params after value behind
+Remains-cast pick best x next items i e loops params rest after value behind lt is g q f r h p =
+    rw (to_z-of_z w64 next h) (Remains-step pick best x next items i e loops params rest after value behind lt is (rw (to_z-of_z w64 x g) at p) q f r)
 
 -- the next argument has a value, and enough was loaded for it
 pub Remains-head : (pick : ℤ → ℤ → ℤ) (best : ℤ) (items : List Expr) (i : ℕ) (e : Expr) (loops params rest : List ℤ) (value : ℤ) (behind : List ℤ) →

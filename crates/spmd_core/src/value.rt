@@ -7,8 +7,12 @@ ghost use Rattle.nest_model.specs.Meaning.{has_value, have_values, load_count, l
 
 use nest_tree::Expr;
 
-/// The value of an expression by value arithmetic, where loops and named constants have these
-/// values by number, and its loads gave `loaded`, in text order.
+/// The value of an expression, in whole numbers of 64 bits: sums, differences, negatives and
+/// products wrap (modulo 2^64), and a quotient is truncated toward zero (ANSI X3.9-1978, 6.1.5),
+/// where -2^63 divided by -1 is itself.
+///
+/// Loops and named constants have these values by number, from 1; the expression's loads gave
+/// what `loaded` begins with, in text order.
 pub fn eval(e: &Expr, loops: &[i64], params: &[i64], loaded: &[i64]) -> i64
     requires valued { IsTrue (has_value (length loops.now) (length params.now) (expression_of e.now)) }
     requires loads { load_count (expression_of e.now) ≤ length loaded.now }
@@ -137,11 +141,7 @@ fn truncated_quotient(a: i64, divisor: i64) -> i64
     requires { 0 < unsigned_abs divisor }
     ensures { result ≡ quotient a divisor }
 {
-    if divisor == -1 {
-        a.wrapping_neg()
-    } else {
-        a / divisor
-    }
+    a.wrapping_div(divisor)
 }
 
 #[cfg(test)]

@@ -1,10 +1,11 @@
-use Rattle.std.proofs.Common.{arith, rules, ap, sym, ◌∙◌, ℤ, length-drop, w64, FitsSigned, drop, length, subst, ◌≤◌, IsTrue, nat_lt, unsigned_abs}
+use Rattle.std.proofs.Common.{arith, rules, ap, sym, ◌∙◌, ℤ, length-drop, w64, ◌≡◌, to_z, of_z, FitsSigned, drop, length, subst, ◌≤◌, IsTrue, nat_lt, unsigned_abs}
+use Rattle.std.specs.Int.{int_min, int_max}
 use Rattle.std.proofs.lemmas.Int.{to_z-of_z}
 use Rattle.nest_tree.specs.View.{expression_of}
 use Rattle.nest_tree.specs.declared.tree.Expr.{the_lemmas}
 use Rattle.nest_tree.proofs.tree.Expr.TheLaws.{the_size}
 use Rattle.nest_model.specs.Meaning.{has_value, load_count, value_of}
-use Rattle.spmd_core.proofs.Values.{right_true, arguments_valued-Min, arguments_valued-Max, expression_of-Min, expression_of-Max, Remains-step, Remains-head, most_behind_first}
+use Rattle.spmd_core.proofs.Values.{right_true, arguments_valued-Min, arguments_valued-Max, expression_of-Min, expression_of-Max, Remains-cast, Remains-head, most_behind_first}
 use Rattle.spmd_core.proofs.value.+value.Goals as goal
 
 pub value_and_rest-value_and_rest-y-requires : goal.value_and_rest-value_and_rest-y-requires
@@ -99,14 +100,14 @@ greatest_and_rest-value_and_rest-x-requires t c =
 
 pub least_and_rest-loop-e-preserved : goal.least_and_rest-loop-e-preserved
 least_and_rest-loop-e-preserved t c =
-    let f : FitsSigned w64 c.min-best.result = search rules in
-    let g : FitsSigned w64 c.value_and_rest-x.result.0 = search rules in
-    let p = rw (to_z-of_z w64 _ g) at c.min-best.ensures.value in
-    rw (to_z-of_z w64 _ f) (Remains-step _ _ _ _ _ c.loop-e.e-index _ _ _ _ _ _ _ c.loop-e-test.true c.e-item.is p c.value_and_rest-x.ensures.value c.value_and_rest-x.ensures.rest c.loop-e.invariant)
+    let fits : FitsSigned w64 c.value_and_rest-x.result.0 = search rules in
+    let step = λ (next : ℤ) (h : FitsSigned w64 next) (p : next ≡ int_min (to_z w64 c.loop-e.best-bits) (to_z w64 (of_z w64 c.value_and_rest-x.result.0))).
+    Remains-cast int_min _ _ next _ c.loop-e.e-index _ _ _ _ _ _ _ c.loop-e-test.true c.e-item.is fits c.value_and_rest-x.ensures.value c.value_and_rest-x.ensures.rest c.loop-e.invariant h p in
+    search (rules, step)
 
 pub greatest_and_rest-loop-e-preserved : goal.greatest_and_rest-loop-e-preserved
 greatest_and_rest-loop-e-preserved t c =
-    let f : FitsSigned w64 c.max-best.result = search rules in
-    let g : FitsSigned w64 c.value_and_rest-x.result.0 = search rules in
-    let p = rw (to_z-of_z w64 _ g) at c.max-best.ensures.value in
-    rw (to_z-of_z w64 _ f) (Remains-step _ _ _ _ _ c.loop-e.e-index _ _ _ _ _ _ _ c.loop-e-test.true c.e-item.is p c.value_and_rest-x.ensures.value c.value_and_rest-x.ensures.rest c.loop-e.invariant)
+    let fits : FitsSigned w64 c.value_and_rest-x.result.0 = search rules in
+    let step = λ (next : ℤ) (h : FitsSigned w64 next) (p : next ≡ int_max (to_z w64 c.loop-e.best-bits) (to_z w64 (of_z w64 c.value_and_rest-x.result.0))).
+    Remains-cast int_max _ _ next _ c.loop-e.e-index _ _ _ _ _ _ _ c.loop-e-test.true c.e-item.is fits c.value_and_rest-x.ensures.value c.value_and_rest-x.ensures.rest c.loop-e.invariant h p in
+    search (rules, step)
