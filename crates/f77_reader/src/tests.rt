@@ -41,7 +41,7 @@ fn refuses_the_first_line(rt: HostRuntime) {
         ("      K=9223372036854775808\n      END\n", 1),
         ("      K=1\n      PROGRAM ONE\n      END\n", 2),
         (
-            "      K =                                                              1\n      END\n",
+            "      K =                                                               1\n      END\n",
             1,
         ),
     ];

@@ -1,5 +1,5 @@
 -- The cells that an instance loads and stores, and when two instances conflict.
-use Rattle.std.specs.Prelude.{ℕ, ℤ, ◌≡◌, ◌⊎◌, Option, Some, None, List, [], ◌∷◌, ◌++◌, map, Contains}
+use Rattle.std.specs.Prelude.{ℕ, ℤ, ◌≡◌, ◌⊎◌, Option, Some, None, List, [], ◌++◌, map, Contains}
 use Rattle.std.specs.Option.{option_to_list}
 use Rattle.std.specs.List.{flat_map, range_with_len}
 use Rattle.nest_tree.specs.declared.tree.Access.{Access}

@@ -1,9 +1,9 @@
 -- The instances of a program: its assignments and PRINTs at the values of the loops round them, in sequential order.
-use Rattle.std.specs.Prelude.{ℕ, zero, suc, ◌+◌, ◌*◌, ◌-◌, ℤ, pos, negsuc, ◌+ℤ◌, ◌-ℤ◌, ◌*ℤ◌, int_div, List, [], ◌∷◌, ◌++◌, map, slice_set, replicate, ◌≡◌, refl}
+use Rattle.std.specs.Prelude.{ℕ, ◌+◌, ◌-◌, ℤ, pos, negsuc, ◌+ℤ◌, ◌-ℤ◌, ◌*ℤ◌, int_div, List, [], ◌∷◌, ◌++◌, map, slice_set, replicate, ◌≡◌, refl}
 use Rattle.std.specs.List.{flat_map, range_with_len}
 use Rattle.nest_tree.specs.Form.{Form, form_value}
 use Rattle.nest_tree.specs.Layout.{count_of}
-use Rattle.nest_tree.specs.Tree.{Statement, Statements, do_loop, assign, print, continue, done, next, Constant, Tree, Expression, number}
+use Rattle.nest_tree.specs.Tree.{Statement, Statements, do_loop, assign, print, continue, done, next, Constant, Tree}
 use Rattle.nest_tree.specs.WellFormed.{loops_of}
 
 -- one execution of an assignment or a PRINT: its number from 1 among those in the text, itself, and each loop's value by number, 0 for a loop that isn't round it

@@ -1,5 +1,5 @@
 -- The value of an expression, from the values of its loads in text order.
-use Rattle.std.specs.Prelude.{ℕ, ◌+◌, ℤ, pos, ◌+ℤ◌, ◌-ℤ◌, ◌*ℤ◌, neg_ℤ, List, [], ◌∷◌, ◌++◌, length, drop, fold, slice_index_or, Bool, true, false, ◌&&◌, nat_lt, unsigned_abs}
+use Rattle.std.specs.Prelude.{ℕ, ◌+◌, ℤ, pos, ◌+ℤ◌, ◌-ℤ◌, ◌*ℤ◌, neg_ℤ, List, [], ◌∷◌, ◌++◌, drop, fold, slice_index_or, Bool, true, false, ◌&&◌, nat_lt, unsigned_abs}
 use Rattle.std.specs.Int.{int_min, int_max}
 use Rattle.nest_tree.specs.declared.tree.Access.{Access}
 use Rattle.nest_tree.specs.Form.{numbered}

@@ -1,5 +1,5 @@
 -- Memory in front of each instance and behind the last, and the output.
-use Rattle.std.specs.Prelude.{ℕ, ◌+◌, ℤ, pos, Option, Some, None, List, [], ◌∷◌, ◌++◌, map, take, drop, fold, replicate, slice_set, slice_index_or, length}
+use Rattle.std.specs.Prelude.{ℕ, ℤ, pos, Option, Some, None, List, [], ◌∷◌, ◌++◌, map, take, drop, fold, replicate, slice_set, slice_index_or}
 use Rattle.std.specs.List.{flat_map}
 use Rattle.std.specs.Fmt.{signed_decimal}
 use Rattle.nest_tree.specs.Layout.{cell_count, element_count, bounds_of}
