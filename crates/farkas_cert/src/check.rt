@@ -257,9 +257,9 @@ fn check_steps(
 /// It makes at most (terms + steps) * (variables + 1) multiplications, each with its addition,
 /// or divisions. It takes memory for one row a step, and gives it back.
 pub fn check_cert(
+    alloc: Global,
     system: &System,
     certificate: &Certificate,
-    alloc: Global,
 ) -> Result<(), CertRefusal>
     ensures good { OnOk result (IsGood system.now certificate.now) }
     ensures no_solution { OnOk result (HasNoWholeSolution system.now) }

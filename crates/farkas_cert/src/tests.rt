@@ -38,7 +38,7 @@ fn certificate_of(alloc: Global, steps: Told<'_>) -> Result<Certificate, AllocEr
 fn answer(alloc: Global, rows: Given<'_>, steps: Told<'_>) -> Result<(), CertRefusal> {
     let system = system_of(alloc, rows)?;
     let certificate = certificate_of(alloc, steps)?;
-    check_cert(&system, &certificate, alloc)
+    check_cert(alloc, &system, &certificate)
 }
 
 #[test]
