@@ -3,5 +3,6 @@ pub mod Lines
 pub mod Written
 pub mod Meaning
 pub mod Straight
-pub mod Scalars
-pub mod ScalarVariables
+pub mod Reading
+pub mod Variables
+pub mod Saying

@@ -1,6 +1,6 @@
-// Characters, words and numbers.
+// Characters and names.
 
-ghost use Rattle.std.specs.Prelude.{◌≡◌, ◌++◌, None, []};
+ghost use Rattle.std.specs.Prelude.{◌≡◌};
 ghost use Rattle.std.specs.List.{list_all};
 ghost use Rattle.f77_reader.specs.Characters as spec;
 
@@ -8,20 +8,20 @@ ghost use Rattle.f77_reader.specs.Characters as spec;
 pub fn is_printable(c: u8) -> bool
     ensures { result ≡ spec.is_printable c }
 {
-    32 <= c && c <= 126
+    b' ' <= c && c <= b'~'
 }
 
 /// 0 to 9.
 pub fn is_digit(c: u8) -> bool
     ensures { result ≡ spec.is_digit c }
 {
-    48 <= c && c <= 57
+    b'0' <= c && c <= b'9'
 }
 
 fn is_capital(c: u8) -> bool
     ensures { result ≡ spec.is_capital c }
 {
-    65 <= c && c <= 90
+    b'A' <= c && c <= b'Z'
 }
 
 fn is_capital_or_digit(c: u8) -> bool
@@ -34,7 +34,7 @@ fn is_capital_or_digit(c: u8) -> bool
 fn is_integer_letter(c: u8) -> bool
     ensures { result ≡ spec.is_integer_letter c }
 {
-    73 <= c && c <= 78
+    b'I' <= c && c <= b'N'
 }
 
 /// 1 to 6 capital letters and digits that begin with a letter, as the name of a program.
@@ -65,27 +65,4 @@ fn are_capitals_or_digits(word: &[u8]) -> bool
     ensures { result ≡ list_all spec.is_capital_or_digit word.now }
 {
     word.iter().all(|c| is_capital_or_digit(*c))
-}
-
-/// The capital letters and digits at the front of a text, and the rest.
-pub fn split_word(text: &[u8]) -> (&[u8], &[u8])
-    ensures whole { result.0.now ++ result.1.now ≡ text.now }
-{
-    let end = text.iter().position(|c| !is_capital_or_digit(*c));
-    text.split_at(end.unwrap_or(text.len()))
-}
-
-/// The value of digits, which is at most 9223372036854775807 with any leading zeros; none where
-/// the word is no such number.
-pub fn number_of(word: &[u8]) -> Option<i64>
-    ensures none { word.now ≡ [] → result ≡ None }
-{
-    let mut value: i64 = 0;
-    for c in word {
-        if !is_digit(*c) {
-            return None;
-        }
-        value = value.checked_mul(10)?.checked_add(i64::from(*c - b'0'))?;
-    }
-    if word.is_empty() { None } else { Some(value) }
 }

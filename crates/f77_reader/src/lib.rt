@@ -1,19 +1,22 @@
-//! Reads the text of a program.
+//! From the bytes of a source to the tree of its program.
 //!
-//! Today it reads the straight form of FORTRAN 77: a PROGRAM line, if any, assignments to
-//! INTEGER scalars and PRINTs, and END, one line each. `read_straight` gives the program's tree,
-//! or the first line that no source of the straight form has behind the lines above it.
+//! `read_straight` reads the straight form: a PROGRAM line, if any, assignments and PRINTs of
+//! expressions over `+`, `-` and `*`, and END, each on a line of its own. `specs/Straight.antt`
+//! says what that form is and which program a source stands for; what is refused, is refused
+//! with the first line that no source of the form has behind the lines above it.
 #![tactic(auto)]
 
 mod characters;
-mod expressions;
-mod lines;
+mod expression;
+mod fault;
+mod line;
 mod names;
-mod refusals;
-mod statements;
+mod reader;
+mod split;
+mod statement;
 
-pub use lines::read_straight;
-pub use refusals::Refusal;
+pub use fault::Refusal;
+pub use reader::read_straight;
 
 #[cfg(test)]
 mod tests;

@@ -1,81 +1,91 @@
-// The variables of a program, by their names.
+// The names of a source, numbered as they first appear.
 
-ghost use Rattle.std.specs.Prelude.{◌≡◌, ◌≤◌, IfOk, OnErr};
+ghost use Rattle.std.specs.Prelude.{◌≡◌, ◌+◌, IfOk, map};
+ghost use Rattle.f77_reader.specs.Meaning.{number_of, with_name, scalar_named};
+ghost use Rattle.f77_reader.specs.Reading.{FailsForMemory};
 
-use crate::refusals::Fault;
+use crate::fault::Fault;
 use nest_tree::{Spread, Variable};
 use std::alloc::Global;
 use std::marker::Model;
 
-/// The scalars met so far, numbered from 1 as their names first appear. Contracts see how many.
+/// Scalars, numbered from 1 in the order in which their names first appeared. Contracts see the
+/// list of names.
 #[derive(Drop)]
 pub struct Names {
     variables: Vec<Variable>,
 }
 
 impl Model for Names {
-    ghost use Rattle.std.specs.Prelude.{ℕ, length, map, IsTrue};
-    ghost use Rattle.std.specs.List.{list_all};
-    ghost use Rattle.f77_reader.specs.ScalarVariables.{are_scalars};
+    ghost use Rattle.std.specs.Prelude.{ℕ, List};
+    ghost use Rattle.f77_reader.specs.Variables.{names_of, AreScalars};
 
-    ghost Value = { ℕ };
+    ghost Value = { List (List ℕ) };
 
-    ghost view = { λ n. length n.variables.items };
+    ghost view = { λ n. names_of n.variables.items };
 
-    ghost invariant = { λ n. IsTrue (are_scalars n.variables.items) };
+    ghost invariant = { λ n. AreScalars n.variables.items };
 }
 
 impl Names {
-    ghost use Rattle.std.specs.Prelude.{length, IsTrue};
-    ghost use Rattle.f77_reader.specs.ScalarVariables.{are_scalars};
+    ghost use Rattle.std.specs.Prelude.{[]};
+    ghost use Rattle.nest_tree.specs.View.{declaration_of};
 
-    /// No name.
+    /// No name yet.
     pub fn new(alloc: Global) -> Self
-        ensures { result ≡ 0 }
+        ensures { result ≡ [] }
     {
         Names {
             variables: Vec::new(alloc),
         }
     }
 
-    /// The number of the scalar with this name, which is a new one where no other has the name.
-    pub fn number_of(&mut self, alloc: Global, name: &[u8]) -> Result<u32, Fault>
-        ensures low { IfOk result (λ n. 1 ≤ n) }
-        ensures high { IfOk result (λ n. n ≤ self.new) }
-        ensures grows { self.old ≤ self.new }
+    /// The number of the scalar of this name, which is a new one where no other has the name.
+    /// Fails only where memory runs out.
+    pub fn number(&mut self, alloc: Global, name: &[u8]) -> Result<u32, Fault>
+        ensures number { IfOk result (λ n. n ≡ number_of self.old name.now) }
+        ensures names { IfOk result (λ n. self.new ≡ with_name self.old name.now) }
+        ensures err { FailsForMemory result }
     {
-        let known = position_of(&self.variables, name);
-        let place = known.unwrap_or(self.variables.len());
+        let place = place_of(&self.variables, name);
         let Ok(number) = u32::try_from(place + 1) else {
-            return Err(Fault::NoMemory);
+            return Err(Fault::Memory);
         };
-        if known.is_none() {
+        if place == self.variables.len() {
             self.variables.push(scalar_named(alloc, name)?)?;
         }
         Ok(number)
     }
 
-    /// The variables, in the order of their numbers.
+    /// The scalars, in the order of their numbers.
     pub fn into_variables(self) -> Vec<Variable>
-        ensures count { length result.items ≡ self }
-        ensures scalars { IsTrue (are_scalars result.items) }
+        ensures { map declaration_of result.items ≡ map scalar_named self }
     {
         let Names { variables } = self;
         variables
     }
 }
 
-ghost use Rattle.std.specs.Prelude.{◌<◌, length, IfSome, IsTrue};
-ghost use Rattle.f77_reader.specs.ScalarVariables.{is_scalar_variable};
+ghost use Rattle.f77_reader.specs.Variables.{names_of};
 
-fn position_of(variables: &[Variable], name: &[u8]) -> Option<usize>
-    ensures { IfSome result (λ i. i < length variables.now) }
+// The place of the scalar of this name, or how many there are where none has it.
+fn place_of(variables: &[Variable], name: &[u8]) -> usize
+    ensures { result + 1 ≡ number_of (names_of variables.now) name.now }
 {
-    variables.iter().position(|v| v.name.as_slice() == name)
+    for (place, variable) in variables.iter().enumerate() {
+        if variable.name.as_slice() == name {
+            return place;
+        }
+    }
+    variables.len()
 }
 
+ghost use Rattle.nest_tree.specs.View.{declaration_of};
+
 fn scalar_named(alloc: Global, name: &[u8]) -> Result<Variable, Fault>
-    ensures { IfOk result (λ v. IsTrue (is_scalar_variable v)) }
+    ensures name { IfOk result (λ v. v.name.items ≡ name.now) }
+    ensures scalar { IfOk result (λ v. declaration_of v ≡ scalar_named name.now) }
+    ensures err { FailsForMemory result }
 {
     Ok(Variable {
         name: name.to_vec(alloc)?,
