@@ -1,1 +1,4 @@
 pub mod Cuts
+pub mod Turns
+pub mod Numbered
+pub mod Rows

@@ -7,18 +7,22 @@ use Rattle.nest_tree.specs.Tree.{Expression, Printed, Statement}
 use Rattle.f77_reader.specs.declared.fault.Fault.{Fault}
 use Rattle.f77_reader.specs.declared.fault.Fault.TheVariants.{Memory, NoForm}
 use Rattle.f77_reader.specs.Characters.{is_digit, is_name, is_variable_name}
-use Rattle.f77_reader.specs.Lines.{quoted_after, text_of, line_with, is_body}
+use Rattle.f77_reader.specs.Lines.{quoted_after, text_of, margin, is_body}
 use Rattle.f77_reader.specs.Meaning.{number_of, with_name, scalar}
 
 infixl 10 ◌>>=◌
 abbrev pub ◌>>=◌ : {A B : Type 0} → Option A → (A → Option B) → Option B
 o >>= f = option_and_then f o
 
+-- a fault comes where reading gives nothing, or memory ran out
+abbrev pub Fails : {Y : Type 0} → Fault → Option Y → Type 0
+Fails Memory read = Unit {0}
+Fails NoForm read = read ≡ None
+
 -- What a function returned, seen by view, is what reading gives, unless memory ran out.
 abbrev pub Gives : {X Y : Type 0} → (X → Y) → Result X Fault → Option Y → Type 0
 Gives view (Ok x) read = read ≡ Some (view x)
-Gives view (Err Memory) read = Unit {0}
-Gives view (Err NoForm) read = read ≡ None
+Gives view (Err e) read = Fails e read
 
 -- what failed did so for want of memory
 abbrev pub FailsForMemory : {X : Type 0} → Result X Fault → Type 0
@@ -186,11 +190,13 @@ unfoldable pub after_first : List ℕ → List ℕ
 after_first [] = []
 after_first (b ∷ bytes) = if b == 10 then bytes else after_first bytes
 
--- columns 7 to 72 of a line
+-- what stands in front of a line end, where that is columns 7 to 72 or the first of them
+unfoldable pub columns_at : List ℕ → Option (List ℕ)
+columns_at text =
+    if bytes_eq (drop (length text - 1) text) (10 ∷ []) then (if is_body (take (length text - 1) text) then Some (take (length text - 1) text) else None) else None
+
 unfoldable pub body_at : List ℕ → Option (List ℕ)
-body_at line =
-    let body : List ℕ = take (length line - 7) (drop 6 line) in
-    if bytes_eq line (line_with body) && is_body body then Some body else None
+body_at line = if bytes_eq (take 6 line) margin then columns_at (drop 6 line) else None
 
 -- the text of a line
 unfoldable pub text_at : List ℕ → Option (List ℕ)
@@ -199,18 +205,30 @@ text_at line = body_at line >>= λ body. Some (text_of body)
 unfoldable pub line_at : Names → ℕ → List ℕ → Option (Said × Names)
 line_at known number line = text_at line >>= λ text. said_at known number text
 
+-- whether a line is END, and the names and the statements behind it
+abbrev pub Turn : Type 0
+Turn = Bool × Names × List Statement
+
+-- a PROGRAM line is the first, and line 400 is END
+abbrev pub turned : ℕ → List Statement → Names → Said → Option Turn
+turned line front known headed = if line == 1 then Some (false, known, front) else None
+turned line front known (stated s) = if nat_lt line 400 then Some (false, known, front ++ s ∷ []) else None
+turned line front known ended = Some (true, known, front)
+
+unfoldable pub turn_at : ℕ → Names → List Statement → List ℕ → Option Turn
+turn_at number known front line = line_at known number line >>= λ w. turned number front w.1 w.0
+
 abbrev pub Found : Type 0
 Found = Result (List Statement × Names) ℕ
 
--- behind a line that says this, with this number and these lines behind it; go reads on
-abbrev pub followed : ℕ → List Statement → List (List ℕ) → Option (Said × Names) → (Names → List Statement → Found) → Found
-followed line front lines None go = Err line
-followed line front lines (Some (headed, known)) go = if line == 1 then go known front else Err line
-followed line front lines (Some (stated s, known)) go = if nat_lt line 400 then go known (front ++ s ∷ []) else Err line
-followed line front [] (Some (ended, known)) go = Ok (front, known)
-followed line front (l ∷ lines) (Some (ended, known)) go = Err (suc line)
+-- what is found behind the line with this number, with these lines behind it; go reads on
+abbrev pub followed : ℕ → List (List ℕ) → Option Turn → (Names → List Statement → Found) → Found
+followed line lines None go = Err line
+followed line lines (Some (false, known, front)) go = go known front
+followed line [] (Some (true, known, front)) go = Ok (front, known)
+followed line (l ∷ lines) (Some (true, known, front)) go = Err (suc line)
 
 -- the statements behind those in front, from the line with this number on, or the line that is refused
 unfoldable pub lines_at : ℕ → Names → List Statement → List (List ℕ) → Found
 lines_at line known front [] = Err line
-lines_at line known front (l ∷ lines) = followed line front lines (line_at known line l) (λ names statements. lines_at (suc line) names statements lines)
+lines_at line known front (l ∷ lines) = followed line lines (turn_at line known front l) (λ names statements. lines_at (suc line) names statements lines)

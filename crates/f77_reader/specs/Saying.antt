@@ -8,7 +8,7 @@ use Rattle.f77_reader.specs.declared.fault.Refusal.TheVariants.{NotInProfile, No
 use Rattle.f77_reader.specs.declared.statement.Line.{Line}
 use Rattle.f77_reader.specs.declared.statement.Line.TheVariants as line
 use Rattle.f77_reader.specs.Meaning.{scalar_named}
-use Rattle.f77_reader.specs.Reading.{Said, headed, stated, ended, Found}
+use Rattle.f77_reader.specs.Reading.{Names, Said, headed, stated, ended, Found}
 
 abbrev pub said_of : Line → Said
 said_of line.Heading = headed
@@ -20,9 +20,13 @@ abbrev pub in_order : List Statement → Statements
 in_order [] = done
 in_order (s ∷ rest) = next s (in_order rest)
 
+-- the tree of these statements over these names
+abbrev pub tree_from : List Statement → Names → Tree
+tree_from statements known = record { items = in_order statements; params = []; variables = map scalar_named known }
+
 -- the tree of what was found
 abbrev pub found_tree : Found → Result Tree ℕ
-found_tree (Ok r) = Ok (record { items = in_order r.0; params = []; variables = map scalar_named r.1 })
+found_tree (Ok r) = Ok (tree_from r.0 r.1)
 found_tree (Err n) = Err n
 
 -- the answer is what was found, unless memory ran out

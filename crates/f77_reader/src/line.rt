@@ -5,7 +5,7 @@ ghost use Rattle.std.specs.List.{list_all};
 ghost use Rattle.std.specs.Option.{option_copied};
 ghost use Rattle.f77_reader.specs.Characters as characters;
 ghost use Rattle.f77_reader.specs.Lines as spec;
-ghost use Rattle.f77_reader.specs.Reading.{Gives, FailsForMemory, first_of, after_first, body_at, text_at};
+ghost use Rattle.f77_reader.specs.Reading.{Gives, FailsForMemory, first_of, after_first, body_at, columns_at, text_at};
 
 use crate::characters::is_printable;
 use crate::fault::Fault;
@@ -46,10 +46,16 @@ fn are_printable(text: &[u8]) -> bool
 fn body(line: &[u8]) -> Option<&[u8]>
     ensures { option_copied result ≡ body_at line.now }
 {
-    match line {
-        [b' ', b' ', b' ', b' ', b' ', b' ', body @ .., b'\n'] if is_body(body) => Some(body),
-        _ => None,
-    }
+    columns(line.strip_prefix(b"      ")?)
+}
+
+/// What stands in front of a line end, where that is columns 7 to 72 or the first of them.
+#[tactic(auto, unfolding(crate::specs::Reading::columns_at))]
+fn columns(text: &[u8]) -> Option<&[u8]>
+    ensures { option_copied result ≡ columns_at text.now }
+{
+    let body = text.strip_suffix(b"\n")?;
+    is_body(body).then_some(body)
 }
 
 /// The characters without the blanks outside character constants.

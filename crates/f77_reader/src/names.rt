@@ -1,6 +1,6 @@
 // The names of a source, numbered as they first appear.
 
-ghost use Rattle.std.specs.Prelude.{◌≡◌, ◌+◌, IfOk, map};
+ghost use Rattle.std.specs.Prelude.{◌≡◌, ◌+◌, ◌≤◌, IfOk, map, length};
 ghost use Rattle.f77_reader.specs.Meaning.{number_of, with_name, scalar_named};
 ghost use Rattle.f77_reader.specs.Reading.{FailsForMemory};
 
@@ -70,7 +70,8 @@ ghost use Rattle.f77_reader.specs.Variables.{names_of};
 
 // The place of the scalar of this name, or how many there are where none has it.
 fn place_of(variables: &[Variable], name: &[u8]) -> usize
-    ensures { result + 1 ≡ number_of (names_of variables.now) name.now }
+    ensures number { result + 1 ≡ number_of (names_of variables.now) name.now }
+    ensures within { result ≤ length variables.now }
 {
     for (place, variable) in variables.iter().enumerate() {
         if variable.name.as_slice() == name {

@@ -1,14 +1,14 @@
 // Sources, line by line.
 
-ghost use Rattle.std.specs.Prelude.{ℕ, ◌≡◌, Err, [], IfOk};
+ghost use Rattle.std.specs.Prelude.{ℕ, ◌≡◌, ◌<◌, Ok, Err, false, [], IfOk, map};
 ghost use Rattle.nest_tree.specs.Tree.{Tree};
 ghost use Rattle.nest_tree.specs.Straight.{IsStraight};
-ghost use Rattle.nest_tree.specs.View.{tree_of};
+ghost use Rattle.nest_tree.specs.View.{statement_of, tree_of};
 ghost use Rattle.nest_tree.specs.WellFormed.{IsWellFormed};
 ghost use Rattle.f77_reader.specs.Lines.{lines_of};
 ghost use Rattle.f77_reader.specs.Straight.{Reads, FirstFault};
-ghost use Rattle.f77_reader.specs.Reading.{Gives, line_at, lines_at};
-ghost use Rattle.f77_reader.specs.Saying.{said_of, Answers, found_tree, IsReadAs, IsRefusedAt};
+ghost use Rattle.f77_reader.specs.Reading.{Gives, line_at, turn_at, lines_at};
+ghost use Rattle.f77_reader.specs.Saying.{said_of, Answers, tree_from, found_tree, IsReadAs, IsRefusedAt};
 
 use crate::fault::{Fault, Refusal};
 use crate::line::{first_line, text_of};
@@ -29,6 +29,30 @@ fn said_line(alloc: Global, names: &mut Names, number: u32, line: &[u8]) -> Resu
     said(alloc, names, number, text.as_slice())
 }
 
+// Takes the line with this number, and answers whether it is END. A statement is appended to
+// the items. A PROGRAM line is the first, and the last that there may be is END.
+#[tactic(auto, unfolding(crate::specs::Reading::turn_at))]
+fn take_line(
+    alloc: Global,
+    names: &mut Names,
+    items: &mut Vec<Item>,
+    number: u32,
+    line: &[u8],
+) -> Result<bool, Fault>
+    ensures turn { Gives (λ end. (end, names.new, map statement_of items.new.items)) result (turn_at number names.old (map statement_of items.old.items) line.now) }
+    ensures within { result ≡ Ok false → number < 400 }
+{
+    match said_line(alloc, names, number, line)? {
+        Line::Heading if number == 1 => Ok(false),
+        Line::Statement(item) if number < MOST_LINES => {
+            items.push(item)?;
+            Ok(false)
+        }
+        Line::End => Ok(true),
+        _ => Err(Fault::NoForm),
+    }
+}
+
 // The program of a source, or the line that is refused.
 fn read(alloc: Global, bytes: &[u8]) -> Result<Program, Refusal>
     ensures { Answers result (found_tree (lines_at 1 [] [] (lines_of bytes.now))) }
@@ -42,29 +66,31 @@ fn read(alloc: Global, bytes: &[u8]) -> Result<Program, Refusal>
             return Err(Refusal::NotInProfile(line));
         }
         let (front, after) = first_line(rest);
-        match said_line(alloc, &mut names, line, front) {
-            Ok(Line::Heading) if line == 1 => {}
-            Ok(Line::Statement(item)) if line < MOST_LINES => {
-                if items.push(item).is_err() {
-                    return Err(Refusal::NoMemory);
-                }
-            }
-            Ok(Line::End) => {
+        match take_line(alloc, &mut names, &mut items, line, front) {
+            Ok(false) => {}
+            Ok(true) => {
                 return if after.is_empty() {
-                    Ok(Program {
-                        items,
-                        params: Vec::new(alloc),
-                        variables: names.into_variables(),
-                    })
+                    Ok(program_of(alloc, items, names))
                 } else {
                     Err(Refusal::NotInProfile(line + 1))
                 };
             }
+            Err(Fault::NoForm) => return Err(Refusal::NotInProfile(line)),
             Err(Fault::Memory) => return Err(Refusal::NoMemory),
-            _ => return Err(Refusal::NotInProfile(line)),
         }
         rest = after;
         line += 1;
+    }
+}
+
+// The program of these statements over these names.
+fn program_of(alloc: Global, items: Vec<Item>, names: Names) -> Program
+    ensures { tree_of result ≡ tree_from (map statement_of items.items) names }
+{
+    Program {
+        items,
+        params: Vec::new(alloc),
+        variables: names.into_variables(),
     }
 }
 

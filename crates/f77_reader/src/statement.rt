@@ -84,7 +84,8 @@ fn printing(alloc: Global, names: &mut Names, line: u32, text: &[u8]) -> Result<
     ensures { Gives (λ l. (said_of l, names.new)) result (printing_at names.old line text.now) }
 {
     match text {
-        [] | [b',', ..] => Ok(Line::Statement(Item::Print(
+        [] => Ok(Line::Statement(Item::Print(Vec::new(alloc), line))),
+        [b',', ..] => Ok(Line::Statement(Item::Print(
             items(alloc, names, text)?,
             line,
         ))),

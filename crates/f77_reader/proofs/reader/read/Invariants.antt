@@ -5,11 +5,11 @@ use Rattle.f77_reader.specs.Reading.{lines_at}
 use Rattle.f77_reader.proofs.reader.read.Given as goal
 
 -- the statements so far, and those of the lines to come
-abbrev pub invariant-loop : goal.invariant-loop
-invariant-loop l = record {
+abbrev pub invariant-loop-rest : goal.invariant-loop-rest
+invariant-loop-rest l = record {
   same : lines_at l.line l.names (map statement_of l.items.items) (lines_of l.rest) ≡ lines_at 1 [] [] (lines_of l.bytes);
   within : l.line ≤ 400;
 }
 
-abbrev pub decreases-loop : goal.decreases-loop
-decreases-loop l = 401 - l.line
+abbrev pub decreases-loop-rest : goal.decreases-loop-rest
+decreases-loop-rest l = 401 - l.line

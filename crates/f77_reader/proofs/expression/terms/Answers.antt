@@ -1,0 +1,18 @@
+use Rattle.std.proofs.Common.{◌≡◌, ◌∙◌, ap, subst, sym, arith}
+use Rattle.std.proofs.lemmas.Result.{err_from_is_err_and}
+use Rattle.nest_tree.specs.View.{expression_of}
+use Rattle.f77_reader.proofs.Turns.{total-goes, total-stops, total-ends}
+use Rattle.f77_reader.proofs.expression.terms.Goals as goal
+
+pub returns-in_err-right : goal.returns-in_err-right
+returns-in_err-right c =
+    let p = err_from_is_err_and c.from_residual-in_err-right.result c.from_residual-in_err-right.ensures.1 in
+    rw (p.1, p.2) (total-stops c.in_err-right.field-0.0 c.loop-rest.names (expression_of c.loop-rest.sum) c.loop-rest.rest.now _ _ c.in-len1-up.len_at_least c.split-in-len1-up.ensures.front c.in_err-right.ensures c.loop-rest.invariant)
+
+pub loop-rest-preserved : goal.loop-rest-preserved
+loop-rest-preserved c =
+    let goes = total-goes c.loop-rest.names (expression_of c.loop-rest.sum) c.loop-rest.rest.now _ _ (expression_of c.in_ok-right.right) c.term-in-len1-up.new.names _ c.in-len1-up.len_at_least c.split-in-len1-up.ensures.front c.split-in-len1-up.ensures.back c.in_ok-right.ensures c.loop-rest.invariant in
+    rw c.in_ok-sum-2.ensures.joined goes
+
+pub returns : goal.returns
+returns c = total-ends _ _ c.loop-rest.rest.now _ (omega arith) c.loop-rest.invariant
