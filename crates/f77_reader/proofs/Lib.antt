@@ -2,3 +2,8 @@ pub mod Cuts
 pub mod Turns
 pub mod Numbered
 pub mod Rows
+pub mod Joined
+pub mod Later
+pub mod Spelled
+pub mod Lined
+pub mod Sourced
