@@ -7,3 +7,5 @@ pub mod Later
 pub mod Spelled
 pub mod Lined
 pub mod Sourced
+pub mod Found
+pub mod Told
