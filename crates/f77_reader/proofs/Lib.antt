@@ -9,3 +9,4 @@ pub mod Lined
 pub mod Sourced
 pub mod Found
 pub mod Told
+pub mod Refused
