@@ -10,3 +10,4 @@ pub mod Sourced
 pub mod Found
 pub mod Told
 pub mod Refused
+pub mod Answered
