@@ -11,3 +11,4 @@ pub mod Found
 pub mod Told
 pub mod Refused
 pub mod Answered
+pub mod Formed

@@ -1,6 +1,7 @@
 use Rattle.std.proofs.Common.{sym, subst}
 use Rattle.f77_reader.specs.Saying.{Answers, found_tree}
 use Rattle.f77_reader.proofs.Answered.{found_in, answer-found, answer-only, answer-refused, answer-refuses}
+use Rattle.f77_reader.proofs.Formed.{answer-formed, answer-straight}
 use Rattle.f77_reader.proofs.reader.read_straight.Goals as goal
 
 pub returns-clause-found : goal.returns-clause-found
@@ -14,3 +15,9 @@ returns-clause-refused c = λ n e. answer-refused c.args.bytes.now n (subst (λ 
 
 pub returns-clause-refuses : goal.returns-clause-refuses
 returns-clause-refuses c = answer-refuses c.args.bytes.now c.read.result c.read.ensures
+
+pub returns-clause-formed : goal.returns-clause-formed
+returns-clause-formed c = answer-formed c.args.bytes.now c.read.result (answer-found c.args.bytes.now c.read.result c.read.ensures)
+
+pub returns-clause-straight : goal.returns-clause-straight
+returns-clause-straight c = answer-straight c.args.bytes.now c.read.result (answer-found c.args.bytes.now c.read.result c.read.ensures)
