@@ -7,3 +7,4 @@ pub mod Acts
 pub mod Machine
 pub mod FirstRun
 pub mod ValueLaws
+pub mod Rounds

@@ -1,6 +1,6 @@
 // The plan with a barrier in front of each statement.
 
-ghost use Rattle.std.specs.Prelude.{◌≡◌, ◌≤◌, IfOk, replicate};
+ghost use Rattle.std.specs.Prelude.{◌≡◌, ◌<◌, ◌≤◌, IfOk, length, replicate};
 ghost use Rattle.nest_tree.specs.Straight.{IsStraight};
 ghost use Rattle.nest_tree.specs.View.{tree_of};
 ghost use Rattle.nest_tree.specs.WellFormed.{IsWellFormed};
@@ -21,6 +21,7 @@ pub fn all_barriers(alloc: Global, program: &Program, workers: u32) -> Result<Pl
     requires few { workers ≤ 64 }
     ensures plan { IfOk result (λ plan. plan ≡ barrier_plan workers (tree_of program.now)) }
     ensures fits { IfOk result (λ plan. IsFit (tree_of program.now) plan) }
+    ensures few_phases { IfOk result (λ plan. length plan.anchors < 400) }
 {
     let phases = program.items.len();
     Ok(Plan {
