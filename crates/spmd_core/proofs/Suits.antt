@@ -9,6 +9,7 @@ use Rattle.nest_model.specs.Instances.{works_of, no_values}
 use Rattle.spmd_core.specs.Fit.{wrong_form, wrong_field, wrong_field_for, shape_refusal, or_else, misplaced, misplaced_print, first_misfit, unplaced_anchor, unplaced_kind, is_placed, is_placed_kind, kind_value, is_good_anchor, is_good_kind, is_print, is_origin}
 use Rattle.spmd_core.specs.Numbered.{statement_at}
 use Rattle.spmd_core.specs.Suited.{is_suited}
+use Rattle.spmd_core.proofs.Fits.{works_of-straight, statement_count-straight}
 use Rattle.spmd_core.specs.declared.refusal.PlanRefusal.{PlanRefusal}
 use Rattle.spmd_core.specs.declared.refusal.PlanRefusal.TheVariants.{Placement, PrintPlace}
 use Rattle.spmd_core.specs.declared.plan.Anchor.{Anchor}
@@ -136,3 +137,33 @@ suits tree plan h =
       few = ltb-true (statement_count tree.items) 400 declared.1;
       good = formed.1;
     }
+
+pub suited_from : (tree : Tree) (plan : Plan) → is_well_formed tree ≡ true → is_straight tree ≡ true → first_misfit tree plan ≡ None → is_suited tree plan ≡ true
+suited_from tree plan formed straight fits =
+    ap (λ b. b && is_straight tree && is_none (first_misfit tree plan)) formed ∙ ap (λ b. b && is_none (first_misfit tree plan)) straight ∙ ap is_none fits
+
+pub suits_from : (tree : Tree) (plan : Plan) → is_well_formed tree ≡ true → is_straight tree ≡ true → first_misfit tree plan ≡ None → Suits tree plan
+suits_from tree plan formed straight fits = suits tree plan (suited_from tree plan formed straight fits)
+
+none_is : {X : Type 0} (o : Option X) → is_none o ≡ true → o ≡ None
+none_is None h = refl
+none_is (Some x) h = absurd (cc)
+
+-- the three premises of a suited program and plan
+pub formed_of : (tree : Tree) (plan : Plan) → is_suited tree plan ≡ true → is_well_formed tree ≡ true
+formed_of tree plan h = (and_parts (is_well_formed tree) (is_straight tree) (and_parts (is_well_formed tree && is_straight tree) (is_none (first_misfit tree plan)) h).0).0
+
+pub straight_of : (tree : Tree) (plan : Plan) → is_suited tree plan ≡ true → is_straight tree ≡ true
+straight_of tree plan h = (and_parts (is_well_formed tree) (is_straight tree) (and_parts (is_well_formed tree && is_straight tree) (is_none (first_misfit tree plan)) h).0).1
+
+pub fits_of : (tree : Tree) (plan : Plan) → is_suited tree plan ≡ true → first_misfit tree plan ≡ None
+fits_of tree plan h = none_is (first_misfit tree plan) (and_parts (is_well_formed tree && is_straight tree) (is_none (first_misfit tree plan)) h).1
+
+-- an element of a list whose elements all pass
+pub passes_at : {X : Type 0} (test : X → Bool) (xs : List X) (n : ℕ) (d : X) → list_all test xs ≡ true → n < length xs → test (get_or xs n d) ≡ true
+passes_at test [] n d h lt = absurd (omega arith)
+passes_at test (x ∷ xs) zero d h lt = (and_parts (test x) (list_all test xs) h).0
+passes_at test (x ∷ xs) (suc n) d h lt = passes_at test xs n d (and_parts (test x) (list_all test xs) h).1 (omega arith)
+
+pub few_works : (ss : Statements) → are_works ss ≡ true → statement_count ss < 400 → works_of ss < 400
+few_works ss works few = omega (arith, works_of-straight ss works, statement_count-straight ss works)

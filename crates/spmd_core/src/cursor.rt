@@ -5,7 +5,7 @@ ghost use Rattle.std.specs.List.{list_all, flat_map};
 ghost use Rattle.nest_tree.specs.View.{tree_of};
 ghost use Rattle.spmd_core.specs.Acts.{Act, post, await};
 ghost use Rattle.spmd_core.specs.Words.{members};
-ghost use Rattle.spmd_core.specs.Turns.{turns_of, is_busy, turn_acts};
+ghost use Rattle.spmd_core.specs.Turns.{turns_of, planned, is_busy, turn_acts};
 ghost use Rattle.spmd_core.specs.Cursors.{planned_of, planned_turns, rest_of, cursor_left, IsAtStage, IsBegunAt, IsTailAt};
 ghost use Rattle.spmd_core.specs.Suited.{IsSuited};
 
@@ -26,6 +26,15 @@ pub(crate) struct Turn {
     pub(crate) awaits: u64,
     /// Whether it owns the phase's statement.
     pub(crate) works: bool,
+}
+
+impl Turn {
+    // Whether there is an act in it.
+    fn is_busy(&self) -> bool
+        ensures { result ≡ is_busy (planned_of self.now) }
+    {
+        self.posts || self.awaits != 0 || self.works
+    }
 }
 
 /// A processor's turns, those without an act left out, and how far it has come in them.
@@ -85,8 +94,9 @@ impl Cursor {
     {
         self.at = at;
         if at < self.turns.len() {
-            self.posted = !self.turns[at].posts;
-            self.awaits = self.turns[at].awaits;
+            let turn = self.turns[at];
+            self.posted = !turn.posts;
+            self.awaits = turn.awaits;
         }
     }
 
@@ -129,7 +139,8 @@ impl Cursor {
         ensures acts { (own : ℕ → List Act) → cursor_left own self.old 0 ≡ await on wanted ∷ cursor_left own self.new 0 }
         ensures begun { IsBegunAt self.new 0 }
     {
-        self.awaits &= !(1 << on);
+        let awaits = self.awaits;
+        self.awaits = awaits & !(1 << on);
         self.leave_boundary();
     }
 
@@ -168,18 +179,27 @@ fn turns(alloc: Global, program: &Program, plan: &Plan, p: u32) -> Result<Vec<Tu
     ensures { IfOk result (λ v. map planned_of v.items ≡ turns_of (tree_of program.now) plan.now p) }
 {
     let mut turns = Vec::new(alloc);
-    let mut passed = 0;
-    for anchor in plan.anchors.as_slice() {
-        let turn = Turn {
-            passed,
-            posts: posts(program, plan, p, passed + 1),
-            awaits: waits(program, plan, p, passed + 1),
-            works: owner(anchor, plan.workers) == p,
-        };
-        if turn.posts || turn.awaits != 0 || turn.works {
+    for passed in 0..plan.anchors.as_slice().len() as u32 {
+        let turn = turn_behind(program, plan, p, passed);
+        if turn.is_busy() {
             turns.push(turn)?;
         }
-        passed += 1;
     }
     Ok(turns)
+}
+
+// The turn of processor `p` behind so many phases.
+fn turn_behind(program: &Program, plan: &Plan, p: u32, passed: u32) -> Turn
+    requires suited { IsSuited (tree_of program.now) plan.now }
+    requires worker { p < plan.now.workers }
+    requires passed { passed < length plan.now.anchors }
+    ensures { planned_of result ≡ planned (tree_of program.now) plan.now p passed }
+{
+    let anchor = &plan.anchors.as_slice()[passed as usize];
+    Turn {
+        passed,
+        posts: posts(program, plan, p, passed + 1),
+        awaits: waits(program, plan, p, passed + 1),
+        works: owner(anchor, plan.workers) == p,
+    }
 }
