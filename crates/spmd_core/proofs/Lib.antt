@@ -4,3 +4,5 @@ pub mod Suits
 pub mod Awaited
 pub mod Words
 pub mod TurnActs
+mod ValueLaws
+mod Values

@@ -13,3 +13,4 @@ pub mod Cursors
 pub mod PlainLines
 pub mod Shown
 pub mod Shows
+pub mod ValueLaws

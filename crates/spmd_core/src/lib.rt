@@ -8,6 +8,7 @@ mod fit;
 mod line;
 mod loads;
 mod machine;
+pub mod laws;
 pub mod plan;
 mod processor;
 pub mod refusal;

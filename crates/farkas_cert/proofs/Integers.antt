@@ -1,0 +1,40 @@
+-- Products and quotients of whole numbers.
+use Rattle.std.proofs.Common.{◌≡◌, ◌+◌, ◌*◌, ◌/◌, ◌≤◌, ◌<◌, ℤ, pos, negsuc, ◌+ℤ◌, ◌*ℤ◌, ◌≤ℤ◌, int_div, int_rem, ap, arith}
+use Rattle.std.specs.Int.{int_div_euclid}
+use Rattle.std.proofs.Math.Nat.{mul-le-mul_left, le-div_iff_mul-le, div-lt_iff_lt-mul}
+use Rattle.std.proofs.Math.IntN.{*ℤ_comm}
+use Rattle.std.proofs.lemmas.Int.{ints, quot-rem}
+use borrow.Author.Differences.{up, down, product_is, sum_is_lem, le_out}
+
+pub add-mul : (a b c : ℤ) → (a +ℤ b) *ℤ c ≡ a *ℤ c +ℤ b *ℤ c
+add-mul a b c =
+    let e : up (a +ℤ b) * up c + down a * up c + down b * up c ≡ down (a +ℤ b) * up c + up a * up c + up b * up c = omega (arith, ap (λ n. n * up c) (sum_is_lem a b)) in
+    let f : up (a +ℤ b) * down c + down a * down c + down b * down c ≡ down (a +ℤ b) * down c + up a * down c + up b * down c = omega (arith, ap (λ n. n * down c) (sum_is_lem a b)) in
+    omega (arith, ints)
+
+pub mul_assoc_ℤ : (a b c : ℤ) → a *ℤ b *ℤ c ≡ a *ℤ (b *ℤ c)
+mul_assoc_ℤ a b c =
+    omega (arith, ints, ap (λ n. n * up c) (product_is a b).0, ap (λ n. n * up c) (product_is a b).1, ap (λ n. n * down c) (product_is a b).0, ap (λ n. n * down c) (product_is a b).1, ap (λ n. up a * n) (product_is b c).0, ap (λ n. up a * n) (product_is b c).1, ap (λ n. down a * n) (product_is b c).0, ap (λ n. down a * n) (product_is b c).1)
+
+-- a multiplier of at least 0 keeps an order
+pub mul_le_ℤ : (m a b : ℤ) → pos 0 ≤ℤ m → a ≤ℤ b → (m *ℤ a) ≤ℤ (m *ℤ b)
+mul_le_ℤ (pos n) a b h k = omega (arith, ints, mul-le-mul_left n (le_out a b k))
+mul_le_ℤ (negsuc n) a b h k = absurd (omega (arith, ints))
+
+-- a divisor that leaves nothing gives the number back
+pub div_exact : (a d : ℤ) → int_rem a d ≡ pos 0 → d *ℤ int_div a d ≡ a
+div_exact a d h = omega (arith, ints, quot-rem a d, *ℤ_comm d (int_div a d), h)
+
+-- what is at most a bound when multiplied by the divisor, is at most the rounded quotient
+pub le_div_euclid : (d z b : ℤ) → pos 1 ≤ℤ d → (d *ℤ z) ≤ℤ b → z ≤ℤ int_div_euclid b d
+le_div_euclid (negsuc n) z b h k = absurd (omega (arith, ints))
+le_div_euclid (pos n) (pos q) (pos m) h k =
+    let positive : 0 < n = omega (arith, ints) in
+    let fits : q * n ≤ m = omega (arith, ints) in
+    let quotient : q ≤ m / n = (le-div_iff_mul-le positive).1 fits in omega (arith, ints)
+le_div_euclid (pos n) (negsuc q) (pos m) h k = omega (arith, ints)
+le_div_euclid (pos n) (pos q) (negsuc m) h k = absurd (omega (arith, ints))
+le_div_euclid (pos n) (negsuc q) (negsuc m) h k =
+    let positive : 0 < n = omega (arith, ints) in
+    let fits : m < (q + 1) * n = omega (arith, ints) in
+    let quotient : m / n < q + 1 = (div-lt_iff_lt-mul positive).1 fits in omega (arith, ints)

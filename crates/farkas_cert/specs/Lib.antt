@@ -1,0 +1,4 @@
+pub mod Inequalities
+pub mod Combination
+pub mod Good
+pub mod Fault
