@@ -4,5 +4,6 @@ pub mod Suits
 pub mod Awaited
 pub mod Words
 pub mod TurnActs
+pub mod LoadLists
 mod ValueLaws
 mod Values

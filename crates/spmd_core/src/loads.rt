@@ -27,7 +27,8 @@ fn push_loads(layout: &Layout, e: &Expr, cells: &mut Vec<u32>) -> Result<(), All
             push_loads(layout, a, cells)?;
             push_loads(layout, b, cells)
         }
-        Expr::Min(arguments) | Expr::Max(arguments) => push_all_loads(layout, arguments, cells),
+        Expr::Min(arguments) => push_all_loads(layout, arguments, cells),
+        Expr::Max(arguments) => push_all_loads(layout, arguments, cells),
     }
 }
 

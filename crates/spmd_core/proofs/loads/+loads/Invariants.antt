@@ -11,5 +11,5 @@ invariant-push_all_loads-loop-argument l =
     let left = expressions_from (drop l.argument-index l.arguments) in
     record {
       good : IsTrue (are_good_expressions (laid_out l.layout) [] left);
-      cells : l.cells.items ++ map (access_cell (laid_out l.layout) []) (loads_among left) ≡ l.fn.cells.now.items ++ map (access_cell (laid_out l.layout) []) (loads_among (expressions_from l.arguments));
+      cells : l.cells.items ++ map (access_cell (laid_out l.layout) []) (loads_among left) ≡ l.initial.cells.items ++ map (access_cell (laid_out l.layout) []) (loads_among (expressions_from l.arguments));
     }
