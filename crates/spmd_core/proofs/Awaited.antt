@@ -27,9 +27,9 @@ awaited-nothing tree workers outer q = any_none _ 0 workers (λ p low high. and_
 
 pub awaited-left : (tree : Tree) (workers : ℕ) (outer : List ℤ) (q : ℕ) → is_awaited tree workers outer Left q ≡ nat_lt (q + 1) workers
 awaited-left tree workers outer q = elim (cases_lt (q + 1) workers) [
-    inl lt ↦ any_from _ 0 workers (q + 1) (omega arith) (omega arith) (passes (q + 1) q (q + 1 == q + 1) (λ (e : q + 1 ≡ q). omega arith) (eq-eqb (q + 1) (q + 1) refl)) ∙ sym (lt-ltb (q + 1) workers lt)
+  | inl lt ↦ any_from _ 0 workers (q + 1) (omega arith) (omega arith) (passes (q + 1) q (q + 1 == q + 1) (λ (e : q + 1 ≡ q). omega arith) (eq-eqb (q + 1) (q + 1) refl)) ∙ sym (lt-ltb (q + 1) workers lt)
   | inr ge ↦ any_none _ 0 workers (λ p low high. and_right (not (p == q)) (q + 1 == p) (ne_eqb (q + 1) p (λ (e : q + 1 ≡ p). omega arith))) ∙ sym (le-ltb (q + 1) workers ge)
-  ]
+]
 
 pub awaited-right : (tree : Tree) (workers : ℕ) (outer : List ℤ) (q : ℕ) → q < workers → is_awaited tree workers outer Right q ≡ nat_lt 0 q
 awaited-right tree workers outer zero lt = any_none _ 0 workers (λ p low high. and_right (not (p == 0)) (p + 1 == 0) (ne_eqb (p + 1) 0 (λ (e : p + 1 ≡ 0). omega arith))) ∙ sym (le-ltb 0 0 (omega arith))
@@ -40,9 +40,9 @@ awaited-right tree workers outer (suc q) lt =
 one_other : (f : ℕ → ℕ → Bool) (workers q : ℕ) → q < workers → ((p : ℕ) → p ≡ q + 1 → f p q ≡ true) → ((p : ℕ) → q ≡ p + 1 → f p q ≡ true) →
     list_any (λ p. not (p == q) && f p q) (range_with_len 0 workers) ≡ nat_lt 1 workers
 one_other f workers zero lt above below = elim (cases_lt 1 workers) [
-    inl more ↦ any_from _ 0 workers 1 (omega arith) (omega arith) (passes 1 0 (f 1 0) (λ (e : 1 ≡ 0). omega arith) (above 1 (omega arith))) ∙ sym (lt-ltb 1 workers more)
+  | inl more ↦ any_from _ 0 workers 1 (omega arith) (omega arith) (passes 1 0 (f 1 0) (λ (e : 1 ≡ 0). omega arith) (above 1 (omega arith))) ∙ sym (lt-ltb 1 workers more)
   | inr one ↦ any_none _ 0 workers (λ p low high. ap (λ x. not x && f p 0) (eq-eqb p 0 (omega arith))) ∙ sym (le-ltb 1 workers one)
-  ]
+]
 one_other f workers (suc q) lt above below =
     any_from _ 0 workers q (omega arith) (omega arith) (passes q (suc q) (f q (suc q)) (λ (e : q ≡ suc q). omega arith) (below q (omega arith))) ∙ sym (lt-ltb 1 workers (omega arith))
 

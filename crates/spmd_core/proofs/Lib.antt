@@ -5,5 +5,7 @@ pub mod Awaited
 pub mod Words
 pub mod TurnActs
 pub mod LoadLists
+pub mod Places
+pub mod StatementPlaces
 mod ValueLaws
 mod Values

@@ -167,3 +167,10 @@ passes_at test (x ∷ xs) (suc n) d h lt = passes_at test xs n d (and_parts (tes
 
 pub few_works : (ss : Statements) → are_works ss ≡ true → statement_count ss < 400 → works_of ss < 400
 few_works ss works few = omega (arith, works_of-straight ss works, statement_count-straight ss works)
+
+pub good_program : (tree : Tree) → is_well_formed tree ≡ true → are_good_statements tree [] 1 tree.items ≡ true
+good_program tree h = (and_parts (list_all is_good_declaration tree.variables && nat_lt (statement_count tree.items) 400) (are_good_statements tree [] 1 tree.items) h).1
+
+pub scalar_program : (tree : Tree) → is_straight tree ≡ true → list_all is_scalar tree.variables ≡ true
+scalar_program tree h =
+    (and_parts (list_all is_scalar tree.variables) (length tree.params == 0) (and_parts (list_all is_scalar tree.variables && length tree.params == 0) (are_works tree.items) h).0).0

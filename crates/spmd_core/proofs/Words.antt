@@ -36,8 +36,8 @@ pub any_from : (f : ℕ → Bool) (a n k : ℕ) → a ≤ k → k < a + n → f 
 any_from f a zero k low high h = absurd (omega arith)
 any_from f a (suc n) k low high h =
     elim (cases_eq a k) [
-      inl e ↦ ap (λ b. b || list_any f (range_with_len (a + 1) n)) (ap f e ∙ h)
-    | inr ne ↦ or_true (f a) (list_any f (range_with_len (a + 1) n)) (any_from f (a + 1) n k (omega arith) (omega arith) h)
+      | inl e ↦ ap (λ b. b || list_any f (range_with_len (a + 1) n)) (ap f e ∙ h)
+      | inr ne ↦ or_true (f a) (list_any f (range_with_len (a + 1) n)) (any_from f (a + 1) n k (omega arith) (omega arith) h)
     ]
   where
     or_true : (x y : Bool) → y ≡ true → (x || y) ≡ true
@@ -67,9 +67,9 @@ members_by word n f le inside outside =
 
 eqb_sym : (a b : ℕ) → (a == b) ≡ (b == a)
 eqb_sym a b = elim (cases_eq a b) [
-    inl e ↦ eq-eqb a b e ∙ sym (eq-eqb b a (sym e))
+  | inl e ↦ eq-eqb a b e ∙ sym (eq-eqb b a (sym e))
   | inr ne ↦ ne_eqb a b ne ∙ sym (ne_eqb b a (λ (e : b ≡ a). ne (sym e)))
-  ]
+]
 
 -- a bit as a number
 unfoldable pub digit : Bool → ℕ
@@ -79,8 +79,8 @@ pub bit_of_power : (k q : ℕ) → bit_at (2 ^ k) q ≡ digit (k == q)
 unfolding digit
 bit_of_power k q =
     elim (cases_eq k q) [
-      inl e ↦ ap (λ n. bit_at (2 ^ k) n) (sym e) ∙ bit_at-pow_same k ∙ ap (λ b. cond b 1 0) (sym (eq-eqb k q e))
-    | inr ne ↦ bit_at-pow_other k q (λ e. ne (sym e)) ∙ ap (λ b. cond b 1 0) (sym (ne_eqb k q ne))
+      | inl e ↦ ap (λ n. bit_at (2 ^ k) n) (sym e) ∙ bit_at-pow_same k ∙ ap (λ b. cond b 1 0) (sym (eq-eqb k q e))
+      | inr ne ↦ bit_at-pow_other k q (λ e. ne (sym e)) ∙ ap (λ b. cond b 1 0) (sym (ne_eqb k q ne))
     ]
 
 -- the low 64 bits of a number
@@ -95,9 +95,9 @@ unfolding digit
 bit_of_one k q within =
     let one : 1 * 2 ^ k ≡ 2 ^ k = omega arith in
     elim (cases_lt q 64) [
-      inl lt ↦ bit_of_low (1 * 2 ^ k) q lt ∙ ap (λ x. bit_at x q) one ∙ bit_of_power k q
-    | inr ge ↦ let small : 1 * 2 ^ k % 2 ^ 64 < 2 ^ 64 = omega arith in let ne : k ≡ q → ⊥ = λ (e : k ≡ q). omega arith in
-        bit_at_above (1 * 2 ^ k % 2 ^ 64) 64 q small ge ∙ ap (λ b. cond b 1 0) (sym (ne_eqb k q ne))
+      | inl lt ↦ bit_of_low (1 * 2 ^ k) q lt ∙ ap (λ x. bit_at x q) one ∙ bit_of_power k q
+      | inr ge ↦ let small : 1 * 2 ^ k % 2 ^ 64 < 2 ^ 64 = omega arith in let ne : k ≡ q → ⊥ = λ (e : k ≡ q). omega arith in
+          bit_at_above (1 * 2 ^ k % 2 ^ 64) 64 q small ge ∙ ap (λ b. cond b 1 0) (sym (ne_eqb k q ne))
     ]
 
 pub bit_of_lower : (k q : ℕ) → k < 64 → bit_at (1 * 2 ^ k % 2 ^ 64 / 2) q ≡ digit (q + 1 == k)
@@ -122,9 +122,9 @@ bit_of_higher k (suc q) lt within =
   where
     same : (q : ℕ) → (k == q) ≡ (k + 1 == suc q)
     same q = elim (cases_eq k q) [
-        inl e ↦ eq-eqb k q e ∙ sym (eq-eqb (k + 1) (suc q) (omega arith))
+      | inl e ↦ eq-eqb k q e ∙ sym (eq-eqb (k + 1) (suc q) (omega arith))
       | inr ne ↦ ne_eqb k q ne ∙ sym (ne_eqb (k + 1) (suc q) (λ (e : k + 1 ≡ suc q). ne (omega arith)))
-      ]
+    ]
 
 -- bits of truth values, together
 pub max_digits : (a b : Bool) → max (digit a) (digit b) ≡ digit (a || b)
@@ -156,16 +156,16 @@ members_masked awaited n p f le lt bits =
     let word = bit_and (bit_and awaited (18446744073709551615 / 2 ^ (64 - n))) (18446744073709551615 - 1 * 2 ^ p % 18446744073709551616) in
     let small : 1 * 2 ^ p % 2 ^ 64 < 2 ^ 64 = omega arith in
     let bit = λ (q : ℕ) (below : q < 64).
-        bit_at_and (bit_and awaited (18446744073709551615 / 2 ^ (64 - n))) (18446744073709551615 - 1 * 2 ^ p % 18446744073709551616) q
-        ∙ ap (λ b. min b (bit_at (18446744073709551615 - 1 * 2 ^ p % 18446744073709551616) q)) (bit_at_and awaited (18446744073709551615 / 2 ^ (64 - n)) q)
-        ∙ ap (λ b. min (min (bit_at awaited q) (bit_at (18446744073709551615 / 2 ^ (64 - n)) q)) b) (bit_at_not w64 (1 * 2 ^ p % 2 ^ 64) q small below ∙ ap (λ b. 1 - b) (bit_of_one p q (omega arith)))
-        ∙ ap (λ m. min (min (bit_at awaited q) (bit_at m q)) (1 - digit (p == q))) ones in
+    bit_at_and (bit_and awaited (18446744073709551615 / 2 ^ (64 - n))) (18446744073709551615 - 1 * 2 ^ p % 18446744073709551616) q
+    ∙ ap (λ b. min b (bit_at (18446744073709551615 - 1 * 2 ^ p % 18446744073709551616) q)) (bit_at_and awaited (18446744073709551615 / 2 ^ (64 - n)) q)
+    ∙ ap (λ b. min (min (bit_at awaited q) (bit_at (18446744073709551615 / 2 ^ (64 - n)) q)) b) (bit_at_not w64 (1 * 2 ^ p % 2 ^ 64) q small below ∙ ap (λ b. 1 - b) (bit_of_one p q (omega arith)))
+    ∙ ap (λ m. min (min (bit_at awaited q) (bit_at m q)) (1 - digit (p == q))) ones in
     members_by word n (λ q. not (p == q) && f q) le
     (λ q below. ap (λ b. b == 1) (bit q (omega arith)
-        ∙ ap (λ b. min (min b (bit_at (2 ^ n - 1) q)) (1 - digit (p == q))) (bits q below)
-        ∙ ap (λ b. min (min (digit (f q)) b) (1 - digit (p == q))) (bit_at_ones n q below)) ∙ masked (f q) (p == q))
+    ∙ ap (λ b. min (min b (bit_at (2 ^ n - 1) q)) (1 - digit (p == q))) (bits q below)
+    ∙ ap (λ b. min (min (digit (f q)) b) (1 - digit (p == q))) (bit_at_ones n q below)) ∙ masked (f q) (p == q))
     (λ q above below. ap (λ b. b == 1) (bit q below
-        ∙ ap (λ b. min (min (bit_at awaited q) b) (1 - digit (p == q))) (bit_at_ones_above n q above)) ∙ outside (bit_at awaited q) (p == q))
+    ∙ ap (λ b. min (min (bit_at awaited q) b) (1 - digit (p == q))) (bit_at_ones_above n q above)) ∙ outside (bit_at awaited q) (p == q))
 
 pub members-zero : members 0 ≡ []
 unfolding members
@@ -185,7 +185,7 @@ members_first word some small =
     let zero_first : 0 + first ≡ first = omega arith in
     let one_more : 1 + upper ≡ suc upper = omega arith in
     let split : range_with_len 0 64 ≡ range_with_len 0 first ++ (first ∷ range_with_len (first + 1) upper) =
-        ap (range_with_len 0) all ∙ range_split 0 first (1 + upper) ∙ ap (λ k. range_with_len 0 first ++ range_with_len k (1 + upper)) zero_first ∙ ap (λ k. range_with_len 0 first ++ range_with_len first k) one_more in
+    ap (range_with_len 0) all ∙ range_split 0 first (1 + upper) ∙ ap (λ k. range_with_len 0 first ++ range_with_len k (1 + upper)) zero_first ∙ ap (λ k. range_with_len 0 first ++ range_with_len first k) one_more in
     let below = filter_none (is_member word) 0 first (λ q low high. ap (λ b. b == 1) (facts.2 q (omega arith))) in
     let kept = λ (q : ℕ) (within : q < 64) (ne : q ≢ first). ap (λ b. b == 1) (bit_at_clear_other w64 word first lt q within ne) in
     let below_rest = filter_none (is_member rest) 0 first (λ q low high. kept q (omega arith) (λ (e : q ≡ first). omega arith) ∙ ap (λ b. b == 1) (facts.2 q (omega arith))) in
@@ -193,13 +193,13 @@ members_first word some small =
     let here : is_member word first ≡ true = ap (λ b. b == 1) facts.1 in
     let gone : is_member rest first ≡ false = ap (λ b. b == 1) (bit_at_clear_same w64 word first lt) in
     let left : filter (is_member word) (range_with_len 0 64) ≡ first ∷ filter (is_member word) (range_with_len (first + 1) upper) =
-        ap (filter (is_member word)) split ∙ filter-append (is_member word) (range_with_len 0 first) (first ∷ range_with_len (first + 1) upper)
-        ∙ ap (λ xs. xs ++ filter (is_member word) (first ∷ range_with_len (first + 1) upper)) below
-        ∙ ap (λ b. cond b (first ∷ filter (is_member word) (range_with_len (first + 1) upper)) (filter (is_member word) (range_with_len (first + 1) upper))) here in
+    ap (filter (is_member word)) split ∙ filter-append (is_member word) (range_with_len 0 first) (first ∷ range_with_len (first + 1) upper)
+    ∙ ap (λ xs. xs ++ filter (is_member word) (first ∷ range_with_len (first + 1) upper)) below
+    ∙ ap (λ b. cond b (first ∷ filter (is_member word) (range_with_len (first + 1) upper)) (filter (is_member word) (range_with_len (first + 1) upper))) here in
     let right : filter (is_member rest) (range_with_len 0 64) ≡ filter (is_member rest) (range_with_len (first + 1) upper) =
-        ap (filter (is_member rest)) split ∙ filter-append (is_member rest) (range_with_len 0 first) (first ∷ range_with_len (first + 1) upper)
-        ∙ ap (λ xs. xs ++ filter (is_member rest) (first ∷ range_with_len (first + 1) upper)) below_rest
-        ∙ ap (λ b. cond b (first ∷ filter (is_member rest) (range_with_len (first + 1) upper)) (filter (is_member rest) (range_with_len (first + 1) upper))) gone in
+    ap (filter (is_member rest)) split ∙ filter-append (is_member rest) (range_with_len 0 first) (first ∷ range_with_len (first + 1) upper)
+    ∙ ap (λ xs. xs ++ filter (is_member rest) (first ∷ range_with_len (first + 1) upper)) below_rest
+    ∙ ap (λ b. cond b (first ∷ filter (is_member rest) (range_with_len (first + 1) upper)) (filter (is_member rest) (range_with_len (first + 1) upper))) gone in
     left ∙ ap (λ xs. first ∷ xs) (above ∙ sym right)
 
 -- a word with a first member: it is not 0, and this is its lowest bit
@@ -212,9 +212,9 @@ pub record First (word first : ℕ) (later : List ℕ) : Type 0 where
 pub first_of_members : (word first : ℕ) (later : List ℕ) → word < 2 ^ 64 → members word ≡ first ∷ later → First word first later
 first_of_members word first later small is =
     let some : 0 < word = elim (cases_eq word 0) [
-        inl e ↦ let no : [] ≡ first ∷ later = sym members-zero ∙ sym (ap members e) ∙ is in absurd (cc)
+      | inl e ↦ let no : [] ≡ first ∷ later = sym members-zero ∙ sym (ap members e) ∙ is in absurd (cc)
       | inr ne ↦ omega arith
-      ] in
+    ] in
     let whole = sym (members_first word some small) ∙ is in
     let lowest : trailing_zeros w64 word ≡ first = cc in
     let behind : members (bit_and word (18446744073709551615 - 1 * 2 ^ trailing_zeros w64 word % 18446744073709551616)) ≡ later = cc in
@@ -235,6 +235,6 @@ some_members word ne small empty =
 
 pub empty_members : (word : ℕ) → word < 2 ^ 64 → (length (members word) == 0) ≡ (word == 0)
 empty_members word small = elim (cases_eq word 0) [
-    inl e ↦ ap (λ w. length (members w) == 0) e ∙ ap (λ (xs : List ℕ). length xs == 0) members-zero ∙ sym (eq-eqb word 0 e)
+  | inl e ↦ ap (λ w. length (members w) == 0) e ∙ ap (λ (xs : List ℕ). length xs == 0) members-zero ∙ sym (eq-eqb word 0 e)
   | inr ne ↦ ne_eqb (length (members word)) 0 (some_members word ne small) ∙ sym (ne_eqb word 0 ne)
-  ]
+]

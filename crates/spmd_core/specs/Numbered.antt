@@ -47,3 +47,8 @@ longest_line (do_loop n m1 m2 step body line) = 0
 longest_line (assign target e line) = 0
 longest_line (print items line) = longest_items items
 longest_line (continue line) = 0
+
+-- the same of all its lines together
+abbrev pub longest_lines : Statements → ℕ
+longest_lines done = 0
+longest_lines (next s rest) = longest_line s + longest_lines rest

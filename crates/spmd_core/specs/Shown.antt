@@ -1,5 +1,5 @@
 -- What a machine's parts show, and what they keep.
-use Rattle.std.specs.Prelude.{ℕ, ◌-◌, ◌≡◌, ◌≤◌, ◌<◌, ℤ, Bool, List, [], ◌∷◌, map, length, sum_by, slice_index_or, vec_capacity, refl}
+use Rattle.std.specs.Prelude.{ℕ, [], ◌-◌, ◌≡◌, ◌≤◌, ◌<◌, ℤ, Bool, List, ◌∷◌, map, length, sum_by, slice_index_or, vec_capacity, refl}
 use Rattle.std.specs.List.{flat_map}
 use Rattle.std.specs.Coded.{Coded, Coded-set, code_by, coded_ℕ, coded_bool, coded_list, coded×}
 use Rattle.std.proofs.Props.{props}
@@ -54,6 +54,18 @@ pub record IsKept (tree : Tree) (plan : Plan) (p : ℕ) (x : Processor) : Type 0
 
 abbrev pub AreKept : Tree → Plan → List Processor → Type 0
 AreKept tree plan processors = (p : ℕ) (d : Processor) → p < length processors → IsKept tree plan p (slice_index_or processors p d)
+
+-- a processor at its first act, with room for so many registers
+pub record IsFresh (tree : Tree) (plan : Plan) (size p : ℕ) (x : Processor) : Type 0 where
+  pub turns : planned_turns x.cursor ≡ turns_of tree plan p
+  pub begun : IsBegunAt x.cursor 0
+  pub whole : (own : ℕ → List Act) → cursor_left own x.cursor 0 ≡ flat_map (turn_acts own) (planned_turns x.cursor)
+  pub registers : x.registers.items ≡ []
+  pub counter : x.counter ≡ 0
+  pub room : size ≤ vec_capacity x.registers
+
+abbrev pub AreFresh : Tree → Plan → ℕ → List Processor → Type 0
+AreFresh tree plan size processors = (p : ℕ) (d : Processor) → p < length processors → IsFresh tree plan size p (slice_index_or processors p d)
 
 planned_code : Coded Planned
 planned_code =

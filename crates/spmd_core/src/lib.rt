@@ -5,13 +5,14 @@
 mod answer;
 mod cursor;
 mod fit;
+pub mod laws;
 mod line;
 mod loads;
 mod machine;
-pub mod laws;
 pub mod plan;
 mod processor;
 pub mod refusal;
+mod tables;
 mod value;
 mod waiting;
 

@@ -5,9 +5,9 @@ ghost use Rattle.std.specs.List.{list_all};
 ghost use Rattle.nest_tree.specs.LaidOut.{laid_out};
 ghost use Rattle.nest_tree.specs.Straight.{is_scalar};
 ghost use Rattle.nest_tree.specs.View.{expression_of, expressions_from, printed_of, statement_of};
-ghost use Rattle.nest_tree.specs.WellFormed.{is_good_expression, are_good_expressions, is_good_statement};
+ghost use Rattle.nest_tree.specs.WellFormed.{is_good_expression, are_good_expressions, is_good_item, is_good_statement};
 ghost use Rattle.nest_model.specs.Meaning.{loads_in, loads_among};
-ghost use Rattle.nest_model.specs.Accesses.{access_cell, statement_loads};
+ghost use Rattle.nest_model.specs.Accesses.{access_cell, item_loads, statement_loads};
 
 use nest_tree::{Expr, Item, Layout, PrintItem};
 use std::alloc::AllocError;
@@ -49,6 +49,23 @@ fn push_all_loads(
     Ok(())
 }
 
+// The cells that an item of a PRINT loads.
+fn push_item_loads(
+    layout: &Layout,
+    item: &PrintItem,
+    cells: &mut Vec<u32>,
+) -> Result<(), AllocError>
+    requires scalars { IsTrue (list_all is_scalar (laid_out layout.now).variables) }
+    requires good { IsTrue (is_good_item (laid_out layout.now) [] (printed_of item.now)) }
+    ensures { OnOk result (cells.new.items ≡ cells.old.items ++ item_loads (laid_out layout.now) [] (printed_of item.now)) }
+{
+    match item {
+        PrintItem::Value(e) => push_loads(layout, e, cells),
+        PrintItem::Text(_) => Ok(()),
+        PrintItem::Whole(_) => unreachable!(),
+    }
+}
+
 /// The cells that a statement loads, in text order, behind those in the list.
 pub(crate) fn push_statement_loads(
     layout: &Layout,
@@ -63,9 +80,7 @@ pub(crate) fn push_statement_loads(
         Item::Assign(_, e, _) => push_loads(layout, e, cells),
         Item::Print(items, _) => {
             for item in items {
-                if let PrintItem::Value(e) = item {
-                    push_loads(layout, e, cells)?;
-                }
+                push_item_loads(layout, item, cells)?;
             }
             Ok(())
         }

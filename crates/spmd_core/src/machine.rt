@@ -9,14 +9,14 @@ ghost use Rattle.spmd_core.specs.Shown.{AreKept, AreKept-prop, room_of};
 ghost use Rattle.spmd_core.specs.Suited.{IsSuited};
 
 use crate::answer::{NoMemory, StepAnswer};
-use crate::cursor::{Cursor, Stage};
-use crate::line::{Output, longest_line};
-use crate::loads::push_statement_loads;
+use crate::cursor::Stage;
+use crate::line::Output;
 use crate::plan::Plan;
 use crate::processor::Processor;
+use crate::tables::{loads_of, longest_output, most_loads, processors_of};
 use crate::value::eval;
 use nest_tree::{Item, Program};
-use std::alloc::{AllocError, Global};
+use std::alloc::Global;
 
 /// The pure machine for a program without loops under a plan that fits it.
 #[derive(Drop)]
@@ -164,56 +164,6 @@ impl<'a> Machine<'a> {
     {
         &self.output
     }
-}
-
-// The cells that each statement loads, in text order.
-fn loads_of(alloc: Global, program: &Program) -> Result<Vec<Vec<u32>>, AllocError> {
-    let layout = program.layout();
-    let mut loads = Vec::new(alloc);
-    for item in &program.items {
-        let mut cells = Vec::new(alloc);
-        push_statement_loads(&layout, item, &mut cells)?;
-        loads.push(cells)?;
-    }
-    Ok(loads)
-}
-
-// How many loads a statement has at most.
-fn most_loads(loads: &[Vec<u32>]) -> usize {
-    let mut most = 0;
-    for cells in loads {
-        most = most.max(cells.len());
-    }
-    most
-}
-
-// The processors, each at its first act, with room for so many registers.
-fn processors_of(
-    alloc: Global,
-    program: &Program,
-    plan: &Plan,
-    room: usize,
-) -> Result<Vec<Processor>, AllocError> {
-    let mut processors = Vec::new(alloc);
-    for p in 0..plan.workers {
-        processors.push(Processor {
-            cursor: Cursor::new(alloc, program, plan, p)?,
-            registers: Vec::with_capacity(alloc, room)?,
-            counter: 0,
-        })?;
-    }
-    Ok(processors)
-}
-
-// The greatest number of bytes that the output can have, if it can be counted.
-fn longest_output(program: &Program) -> Option<usize> {
-    let mut room: usize = 0;
-    for item in &program.items {
-        if let Item::Print(items, _) = item {
-            room = room.checked_add(longest_line(items)?)?;
-        }
-    }
-    Some(room)
 }
 
 #[cfg(test)]

@@ -151,6 +151,7 @@ mod tests {
     use std::test::Fail;
 
     const LEAST: i64 = i64::MIN;
+
     const GREATEST: i64 = i64::MAX;
 
     #[test]
@@ -161,8 +162,20 @@ mod tests {
             Box::new(alloc, Expr::LoopValue(2))?,
         );
         let difference = Expr::Sub(
-            Box::new(alloc, Expr::Load(Access { variable: 1, subscripts: Subscripts::new(alloc) }))?,
-            Box::new(alloc, Expr::Load(Access { variable: 1, subscripts: Subscripts::new(alloc) }))?,
+            Box::new(
+                alloc,
+                Expr::Load(Access {
+                    variable: 1,
+                    subscripts: Subscripts::new(alloc),
+                }),
+            )?,
+            Box::new(
+                alloc,
+                Expr::Load(Access {
+                    variable: 1,
+                    subscripts: Subscripts::new(alloc),
+                }),
+            )?,
         );
         let product = Expr::Mul(
             Box::new(alloc, Expr::Param(1))?,
@@ -175,7 +188,11 @@ mod tests {
             (4294967296, 2147483648, 6442450944, 2147483648, LEAST),
         ] {
             assert_eq!(rt; eval(&sum, &[a, b], &[], &[]), added, "{a} + {b}");
-            assert_eq!(rt; eval(&difference, &[], &[], &[a, b]), subtracted, "{a} - {b}");
+            assert_eq!(rt;
+                eval(&difference, &[], &[], &[a, b]),
+                subtracted,
+                "{a} - {b}"
+            );
             assert_eq!(rt; eval(&product, &[], &[a, b], &[]), multiplied, "{a} * {b}");
         }
         Ok(())
@@ -192,12 +209,21 @@ mod tests {
             (7, 3, -3, -7),
             (-7, -3, 3, 7),
             (-1, 0, 0, 1),
-            (GREATEST, 4611686018427387903, -4611686018427387903, LEAST + 1),
+            (
+                GREATEST,
+                4611686018427387903,
+                -4611686018427387903,
+                LEAST + 1,
+            ),
             (LEAST, -4611686018427387904, 4611686018427387904, LEAST),
         ] {
             let loops = [a];
             assert_eq!(rt; eval(&half, &loops, &[], &[]), by_two, "{a} / 2");
-            assert_eq!(rt; eval(&minus_half, &loops, &[], &[]), by_minus_two, "{a} / -2");
+            assert_eq!(rt;
+                eval(&minus_half, &loops, &[], &[]),
+                by_minus_two,
+                "{a} / -2"
+            );
             assert_eq!(rt; eval(&by_minus_one, &loops, &[], &[]), negated, "{a} / -1");
             assert_eq!(rt; eval(&negative, &loops, &[], &[]), negated, "-({a})");
         }
@@ -207,8 +233,16 @@ mod tests {
     #[test]
     fn extremes_are_taken_of_all_arguments(rt: HostRuntime) -> Result<(), Fail> {
         let alloc = rt.alloc();
-        let least = Expr::Min(vec![in alloc; Expr::LoopValue(1), Expr::LoopValue(2), Expr::LoopValue(3)]?);
-        let greatest = Expr::Max(vec![in alloc; Expr::LoopValue(1), Expr::LoopValue(2), Expr::LoopValue(3)]?);
+        let least = Expr::Min(vec![in alloc;
+            Expr::LoopValue(1),
+            Expr::LoopValue(2),
+            Expr::LoopValue(3),
+        ]?);
+        let greatest = Expr::Max(vec![in alloc;
+            Expr::LoopValue(1),
+            Expr::LoopValue(2),
+            Expr::LoopValue(3),
+        ]?);
         for (a, b, c, low, high) in [
             (3, 5, 4, 3, 5),
             (2, -1, 2, -1, 2),
@@ -216,8 +250,16 @@ mod tests {
             (-3, -3, -4, -4, -3),
         ] {
             let loops = [a, b, c];
-            assert_eq!(rt; eval(&least, &loops, &[], &[]), low, "the least of {a}, {b}, {c}");
-            assert_eq!(rt; eval(&greatest, &loops, &[], &[]), high, "the greatest of {a}, {b}, {c}");
+            assert_eq!(rt;
+                eval(&least, &loops, &[], &[]),
+                low,
+                "the least of {a}, {b}, {c}"
+            );
+            assert_eq!(rt;
+                eval(&greatest, &loops, &[], &[]),
+                high,
+                "the greatest of {a}, {b}, {c}"
+            );
         }
         Ok(())
     }

@@ -57,11 +57,11 @@ returns c =
     let n = c.args.passed in
     let less : n + 1 - 1 ≡ n = omega arith in
     let is : c.index-as_slice-passed.result ≡ get_or plan.anchors n c.index-as_slice-passed.result =
-        c.index-as_slice-passed.is ∙ ap (λ as'. get_or as' n c.index-as_slice-passed.result) c.as_slice.ensures in
+    c.index-as_slice-passed.is ∙ ap (λ as'. get_or as' n c.index-as_slice-passed.result) c.as_slice.ensures in
     let owned : owner_of tree plan (n + 1) (instance_at tree n) ≡ c.owner.result =
-        ap (λ k. owner_by tree plan.workers (no_values tree) (slice_get plan.anchors k)) less
-        ∙ ap (owner_by tree plan.workers (no_values tree)) (slice_get-get_or plan.anchors n c.index-as_slice-passed.result c.requires.passed ∙ ap Some (sym is))
-        ∙ c.owner.ensures.owner tree (no_values tree) in
+    ap (λ k. owner_by tree plan.workers (no_values tree) (slice_get plan.anchors k)) less
+    ∙ ap (owner_by tree plan.workers (no_values tree)) (slice_get-get_or plan.anchors n c.index-as_slice-passed.result c.requires.passed ∙ ap Some (sym is))
+    ∙ c.owner.ensures.owner tree (no_values tree) in
     planned_is n c.posts.ensures c.waits.ensures (ap (λ o. o == c.args.p) (sym owned))
 
 pub overflow_add-passed : goal.overflow_add-passed

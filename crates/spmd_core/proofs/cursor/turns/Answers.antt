@@ -21,13 +21,13 @@ loop-passed-preserved c =
     let n = c.loop-passed.passed in
     let turn = c.turn_behind-turn in
     elim c.if-is_busy.branch [
-      then-is_busy+in_ok-push w ↦
-        ap (λ v. map planned_of v.items) w.turns-is ∙ ap (map planned_of) w.in_ok-push.ensures.items ∙ map_push planned_of c.loop-passed.turns.items turn.result
-        ∙ ap (λ ts. ts ++ planned_of turn.result ∷ []) c.loop-passed.invariant ∙ ap (λ t. filter is_busy (map f (range_with_len 0 n)) ++ t ∷ []) turn.ensures
-        ∙ sym (turns_next f n true (sym (ap is_busy turn.ensures) ∙ sym c.is_busy.ensures ∙ w.if-is_busy.true))
-    | else-is_busy w ↦
-        ap (λ v. map planned_of v.items) w.turns-is ∙ c.loop-passed.invariant ∙ sym (append-nil (filter is_busy (map f (range_with_len 0 n))))
-        ∙ sym (turns_next f n false (sym (ap is_busy turn.ensures) ∙ sym c.is_busy.ensures ∙ w.if-is_busy.false))
+      | then-is_busy+in_ok-push w ↦
+          ap (λ v. map planned_of v.items) w.turns-is ∙ ap (map planned_of) w.in_ok-push.ensures.items ∙ map_push planned_of c.loop-passed.turns.items turn.result
+          ∙ ap (λ ts. ts ++ planned_of turn.result ∷ []) c.loop-passed.invariant ∙ ap (λ t. filter is_busy (map f (range_with_len 0 n)) ++ t ∷ []) turn.ensures
+          ∙ sym (turns_next f n true (sym (ap is_busy turn.ensures) ∙ sym c.is_busy.ensures ∙ w.if-is_busy.true))
+      | else-is_busy w ↦
+          ap (λ v. map planned_of v.items) w.turns-is ∙ c.loop-passed.invariant ∙ sym (append-nil (filter is_busy (map f (range_with_len 0 n))))
+          ∙ sym (turns_next f n false (sym (ap is_busy turn.ensures) ∙ sym c.is_busy.ensures ∙ w.if-is_busy.false))
     ]
 
 pub returns : goal.returns

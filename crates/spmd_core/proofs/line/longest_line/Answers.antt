@@ -12,11 +12,11 @@ loop-item-preserved c =
     let at = c.loop-item.item-index in
     let lt : at < length items = omega arith in
     let more : longest_items (drop at (map printed_of items)) ≡ longest_item (printed_of c.item-item.result) + longest_items (drop (at + 1) (map printed_of items)) =
-        ap longest_items (items_more items at c.item-item.result lt c.item-item.is) in
+    ap longest_items (items_more items at c.item-item.result lt c.item-item.is) in
     let one = c.in_ok-checked_add.ensures in
     let two = c.in_ok-room.ensures in
     elim c.match-item.branch [
-      in-Value w ↦ let k = ap (λ (i : PrintItem). longest_item (printed_of i)) w.in-Value.is in omega (arith, more, k, one, two)
-    | in-Text w ↦ let k = ap (λ (i : PrintItem). longest_item (printed_of i)) w.in-Text.is in omega (arith, more, k, one, two)
-    | in-Whole w ↦ let k = ap (λ (i : PrintItem). longest_item (printed_of i)) w.in-Whole.is in omega (arith, more, k, one, two)
+      | in-Value w ↦ let k = ap (λ (i : PrintItem). longest_item (printed_of i)) w.in-Value.is in omega (arith, more, k, one, two)
+      | in-Text w ↦ let k = ap (λ (i : PrintItem). longest_item (printed_of i)) w.in-Text.is in omega (arith, more, k, one, two)
+      | in-Whole w ↦ let k = ap (λ (i : PrintItem). longest_item (printed_of i)) w.in-Whole.is in omega (arith, more, k, one, two)
     ]

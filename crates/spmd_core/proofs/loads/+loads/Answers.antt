@@ -52,11 +52,11 @@ push_loads-returns-in-Min t c =
     let e = ap expression_of c.in-Min.is ∙ expression_of-Min c.in-Min.arguments in
     let same = ap loads_in e ∙ ap (λ xs. loads_among (expressions_from xs)) (sym c.deref.ensures.value) in
     subst (λ (accesses : List Access). OnOk c.push_all_loads.result (c.push_all_loads.new.cells.items ≡ c.args.cells.now.items ++ map (access_cell (laid_out c.args.layout.now) []) accesses))
-        (sym same) c.push_all_loads.ensures
+    (sym same) c.push_all_loads.ensures
 
 pub push_loads-returns-in-Max : goal.push_loads-returns-in-Max
 push_loads-returns-in-Max t c =
     let e = ap expression_of c.in-Max.is ∙ expression_of-Max c.in-Max.arguments in
     let same = ap loads_in e ∙ ap (λ xs. loads_among (expressions_from xs)) (sym c.deref-in-Max.ensures.value) in
     subst (λ (accesses : List Access). OnOk c.push_all_loads-in-Max.result (c.push_all_loads-in-Max.new.cells.items ≡ c.args.cells.now.items ++ map (access_cell (laid_out c.args.layout.now) []) accesses))
-        (sym same) c.push_all_loads-in-Max.ensures
+    (sym same) c.push_all_loads-in-Max.ensures

@@ -56,10 +56,10 @@ returns-in-Both c =
     let fit = suits_from tree plan c.requires.formed c.requires.straight c.requires.fits in
     let lt : c.args.phase - 1 < length plan.kinds = omega (arith, fit.kinds, c.requires.low, c.requires.high) in
     elim c.in-Both.is [
-      inl e ↦ posts_by tree plan c.args.q c.args.phase Both _ lt (kind_is plan (c.args.phase - 1) _ _ _ c.as_slice.ensures c.index-as_slice-phase.is e) (awaited-both tree plan.workers [] c.args.q c.requires.worker)
-    | inr others ↦ elim others [
-        inl e ↦ posts_by tree plan c.args.q c.args.phase Barrier _ lt (kind_is plan (c.args.phase - 1) _ _ _ c.as_slice.ensures c.index-as_slice-phase.is e) (awaited-barrier tree plan.workers [] c.args.q c.requires.worker)
-      | inr e ↦ posts_by tree plan c.args.q c.args.phase Join _ lt (kind_is plan (c.args.phase - 1) _ _ _ c.as_slice.ensures c.index-as_slice-phase.is e) (awaited-join tree plan.workers [] c.args.q c.requires.worker)
+      | inl e ↦ posts_by tree plan c.args.q c.args.phase Both _ lt (kind_is plan (c.args.phase - 1) _ _ _ c.as_slice.ensures c.index-as_slice-phase.is e) (awaited-both tree plan.workers [] c.args.q c.requires.worker)
+      | inr others ↦ elim others [
+        | inl e ↦ posts_by tree plan c.args.q c.args.phase Barrier _ lt (kind_is plan (c.args.phase - 1) _ _ _ c.as_slice.ensures c.index-as_slice-phase.is e) (awaited-barrier tree plan.workers [] c.args.q c.requires.worker)
+        | inr e ↦ posts_by tree plan c.args.q c.args.phase Join _ lt (kind_is plan (c.args.phase - 1) _ _ _ c.as_slice.ensures c.index-as_slice-phase.is e) (awaited-join tree plan.workers [] c.args.q c.requires.worker)
       ]
     ]
 
@@ -71,7 +71,7 @@ returns-then-owner-q c =
     let lt : c.args.phase - 1 < length plan.kinds = omega (arith, fit.kinds, c.requires.low, c.requires.high) in
     let is = kind_is plan (c.args.phase - 1) _ _ _ c.as_slice.ensures c.index-as_slice-phase.is c.in-Producer.is in
     posts_by tree plan c.args.q c.args.phase (Producer c.in-Producer.anchor) _ lt is
-        (awaited-owner tree plan.workers [] c.in-Producer.anchor c.args.q c.requires.worker (c.owner.ensures.owner tree [] ∙ c.if-owner-q.true))
+    (awaited-owner tree plan.workers [] c.in-Producer.anchor c.args.q c.requires.worker (c.owner.ensures.owner tree [] ∙ c.if-owner-q.true))
 
 pub returns-else-owner-q : goal.returns-else-owner-q
 returns-else-owner-q c =
@@ -81,4 +81,4 @@ returns-else-owner-q c =
     let lt : c.args.phase - 1 < length plan.kinds = omega (arith, fit.kinds, c.requires.low, c.requires.high) in
     let is = kind_is plan (c.args.phase - 1) _ _ _ c.as_slice.ensures c.index-as_slice-phase.is c.in-Producer.is in
     posts_by tree plan c.args.q c.args.phase (Producer c.in-Producer.anchor) _ lt is
-        (awaited-other tree plan.workers [] c.in-Producer.anchor c.args.q (λ e. c.if-owner-q.false (sym (c.owner.ensures.owner tree []) ∙ e)) ∙ sym (ne_eqb _ _ c.if-owner-q.false))
+    (awaited-other tree plan.workers [] c.in-Producer.anchor c.args.q (λ e. c.if-owner-q.false (sym (c.owner.ensures.owner tree []) ∙ e)) ∙ sym (ne_eqb _ _ c.if-owner-q.false))

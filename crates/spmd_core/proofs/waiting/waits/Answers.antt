@@ -33,26 +33,26 @@ returns c =
     let le : plan.workers ≤ 64 = fit.high in
     let small : p < 64 = omega (arith, c.requires.worker, le) in
     elim c.match-as_slice-phase.branch [
-      in-Nothing w ↦ waits_by tree plan p c.args.phase _ Nothing lt (kind_is plan (c.args.phase - 1) _ Nothing _ c.as_slice.ensures c.index-as_slice-phase.is w.in-Nothing.is) le c.requires.worker
-        (λ q below. ap (λ n. bit_at n q) w.awaited-is ∙ bits-nothing tree plan.workers p q)
-    | in-Producer w ↦ waits_by tree plan p c.args.phase _ (Producer w.in-Producer.anchor) lt (kind_is plan (c.args.phase - 1) _ (Producer w.in-Producer.anchor) _ c.as_slice.ensures c.index-as_slice-phase.is w.in-Producer.is) le c.requires.worker
-        (λ q below. ap (λ n. bit_at n q) w.awaited-is ∙ bit_of_one w.owner.result q (omega (arith, w.owner.ensures.within)) ∙ ap (λ o. digit (o == q)) (sym (w.owner.ensures.owner tree [])))
-    | in-Left w ↦ waits_by tree plan p c.args.phase _ Left lt (kind_is plan (c.args.phase - 1) _ Left _ c.as_slice.ensures c.index-as_slice-phase.is w.in-Left.is) le c.requires.worker
-        (λ q below. ap (λ n. bit_at n q) w.awaited-is ∙ bit_of_lower p q small)
-    | in-Right w ↦ waits_by tree plan p c.args.phase _ Right lt (kind_is plan (c.args.phase - 1) _ Right _ c.as_slice.ensures c.index-as_slice-phase.is w.in-Right.is) le c.requires.worker
-        (λ q below. ap (λ n. bit_at n q) w.awaited-is ∙ bit_of_higher p q (omega arith) small)
-    | in-Both w ↦ waits_by tree plan p c.args.phase _ Both lt (kind_is plan (c.args.phase - 1) _ Both _ c.as_slice.ensures c.index-as_slice-phase.is w.in-Both.is) le c.requires.worker
-        (λ q below. ap (λ n. bit_at n q) w.awaited-is ∙ bits-both p q small (omega arith))
-    | in-Barrier w ↦ elim w.in-Barrier.is [
-        inl e ↦ waits_by tree plan p c.args.phase _ Barrier lt (kind_is plan (c.args.phase - 1) _ Barrier _ c.as_slice.ensures c.index-as_slice-phase.is e) le c.requires.worker
-          (λ q below. ap (λ n. bit_at n q) w.awaited-is ∙ bits-all q (omega arith))
-      | inr e ↦ waits_by tree plan p c.args.phase _ Join lt (kind_is plan (c.args.phase - 1) _ Join _ c.as_slice.ensures c.index-as_slice-phase.is e) le c.requires.worker
-          (λ q below. ap (λ n. bit_at n q) w.awaited-is ∙ bits-all q (omega arith))
+      | in-Nothing w ↦ waits_by tree plan p c.args.phase _ Nothing lt (kind_is plan (c.args.phase - 1) _ Nothing _ c.as_slice.ensures c.index-as_slice-phase.is w.in-Nothing.is) le c.requires.worker
+          (λ q below. ap (λ n. bit_at n q) w.awaited-is ∙ bits-nothing tree plan.workers p q)
+      | in-Producer w ↦ waits_by tree plan p c.args.phase _ (Producer w.in-Producer.anchor) lt (kind_is plan (c.args.phase - 1) _ (Producer w.in-Producer.anchor) _ c.as_slice.ensures c.index-as_slice-phase.is w.in-Producer.is) le c.requires.worker
+          (λ q below. ap (λ n. bit_at n q) w.awaited-is ∙ bit_of_one w.owner.result q (omega (arith, w.owner.ensures.within)) ∙ ap (λ o. digit (o == q)) (sym (w.owner.ensures.owner tree [])))
+      | in-Left w ↦ waits_by tree plan p c.args.phase _ Left lt (kind_is plan (c.args.phase - 1) _ Left _ c.as_slice.ensures c.index-as_slice-phase.is w.in-Left.is) le c.requires.worker
+          (λ q below. ap (λ n. bit_at n q) w.awaited-is ∙ bit_of_lower p q small)
+      | in-Right w ↦ waits_by tree plan p c.args.phase _ Right lt (kind_is plan (c.args.phase - 1) _ Right _ c.as_slice.ensures c.index-as_slice-phase.is w.in-Right.is) le c.requires.worker
+          (λ q below. ap (λ n. bit_at n q) w.awaited-is ∙ bit_of_higher p q (omega arith) small)
+      | in-Both w ↦ waits_by tree plan p c.args.phase _ Both lt (kind_is plan (c.args.phase - 1) _ Both _ c.as_slice.ensures c.index-as_slice-phase.is w.in-Both.is) le c.requires.worker
+          (λ q below. ap (λ n. bit_at n q) w.awaited-is ∙ bits-both p q small (omega arith))
+      | in-Barrier w ↦ elim w.in-Barrier.is [
+        | inl e ↦ waits_by tree plan p c.args.phase _ Barrier lt (kind_is plan (c.args.phase - 1) _ Barrier _ c.as_slice.ensures c.index-as_slice-phase.is e) le c.requires.worker
+            (λ q below. ap (λ n. bit_at n q) w.awaited-is ∙ bits-all q (omega arith))
+        | inr e ↦ waits_by tree plan p c.args.phase _ Join lt (kind_is plan (c.args.phase - 1) _ Join _ c.as_slice.ensures c.index-as_slice-phase.is e) le c.requires.worker
+            (λ q below. ap (λ n. bit_at n q) w.awaited-is ∙ bits-all q (omega arith))
       ]
-    | in-Barrier-2 w ↦ elim w.in-Barrier.is [
-        inl e ↦ waits_by tree plan p c.args.phase _ Barrier lt (kind_is plan (c.args.phase - 1) _ Barrier _ c.as_slice.ensures c.index-as_slice-phase.is e) le c.requires.worker
-          (λ q below. ap (λ n. bit_at n q) w.awaited-is ∙ bits-all q (omega arith))
-      | inr e ↦ waits_by tree plan p c.args.phase _ Join lt (kind_is plan (c.args.phase - 1) _ Join _ c.as_slice.ensures c.index-as_slice-phase.is e) le c.requires.worker
-          (λ q below. ap (λ n. bit_at n q) w.awaited-is ∙ bits-all q (omega arith))
+      | in-Barrier-2 w ↦ elim w.in-Barrier.is [
+        | inl e ↦ waits_by tree plan p c.args.phase _ Barrier lt (kind_is plan (c.args.phase - 1) _ Barrier _ c.as_slice.ensures c.index-as_slice-phase.is e) le c.requires.worker
+            (λ q below. ap (λ n. bit_at n q) w.awaited-is ∙ bits-all q (omega arith))
+        | inr e ↦ waits_by tree plan p c.args.phase _ Join lt (kind_is plan (c.args.phase - 1) _ Join _ c.as_slice.ensures c.index-as_slice-phase.is e) le c.requires.worker
+            (λ q below. ap (λ n. bit_at n q) w.awaited-is ∙ bits-all q (omega arith))
       ]
     ]

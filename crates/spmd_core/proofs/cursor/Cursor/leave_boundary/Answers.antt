@@ -23,6 +23,6 @@ returns-else-self-eq0-clause-begun c t rest is =
     let small : cursor.awaits < 2 ^ 64 = omega arith in
     begun_part t cursor.posted (members cursor.awaits) c.requires.posted (c.requires.tail t rest is)
     (elim c.else-self-eq0.branch [
-      else-self-eq0-via-then-self-eq0+else-not-index w ↦ λ _. works_here _ _ _ (planned_of w.index.result.now) t (turns_more turns cursor.at w.index.result.now lt w.index.ensures) is w.if-not-index.false
-    | else-self-eq0-via-else-self-eq0 w ↦ λ empty. absurd (some_members cursor.awaits w.if-self-eq0.false small empty)
+      | else-self-eq0-via-then-self-eq0+else-not-index w ↦ λ _. works_here _ _ _ (planned_of w.index.result.now) t (turns_more turns cursor.at w.index.result.now lt w.index.ensures) is w.if-not-index.false
+      | else-self-eq0-via-else-self-eq0 w ↦ λ empty. absurd (some_members cursor.awaits w.if-self-eq0.false small empty)
     ])
