@@ -5,6 +5,7 @@ pub mod Awaited
 pub mod Words
 pub mod TurnActs
 pub mod LoadLists
+pub mod MachineActs
 pub mod Places
 pub mod StatementPlaces
 mod ValueLaws
