@@ -5,6 +5,9 @@ pub mod Awaited
 pub mod Words
 pub mod TurnActs
 pub mod LoadLists
+pub mod KeptParts
+pub mod Steps
+pub mod Suffixes
 pub mod MachineActs
 pub mod Places
 pub mod StatementPlaces

@@ -15,7 +15,7 @@ use crate::plan::Plan;
 use crate::processor::Processor;
 use crate::tables::{loads_of, longest_output, most_loads, processors_of};
 use crate::value::eval;
-use nest_tree::{Item, Program};
+use nest_tree::{Access, Expr, Item, PrintItem, Program};
 use std::alloc::Global;
 
 /// The pure machine for a program without loops under a plan that fits it.
@@ -37,10 +37,15 @@ pub struct Machine<'a> {
 }
 
 impl<'a> Machine<'a> {
-    ghost use Rattle.std.specs.Prelude.{◌<◌, IfOk};
+    ghost use Rattle.std.specs.Prelude.{ℕ, ◌<◌, IfOk, slice_index_or};
     ghost use Rattle.nest_tree.specs.Straight.{IsStraight};
     ghost use Rattle.nest_tree.specs.WellFormed.{IsWellFormed};
+    ghost use Rattle.nest_tree.specs.Tree.{assign, print};
+    ghost use Rattle.nest_tree.specs.View.{expression_of, printed_of};
     ghost use Rattle.spmd_core.specs.Cursors.{IsAtStage};
+    ghost use Rattle.spmd_core.specs.Numbered.{statement_at};
+    ghost use Rattle.spmd_core.specs.Shown.{load_count_at};
+    ghost use Rattle.spmd_core.specs.declared.processor.Processor.{Processor};
     ghost use Rattle.spmd_core.specs.Fit.{IsFit};
     ghost use Rattle.spmd_core.specs.Machine.{first_state, stepped};
     ghost use Rattle.spmd_core.specs.Shows.{shown, tree_in, plan_in, step_answer, bytes_of};
@@ -86,14 +91,28 @@ impl<'a> Machine<'a> {
     }
 
     // A post.
-    fn post(&mut self, p: usize, number: u32) {
+    fn post(&mut self, p: usize, number: u32)
+        requires worker { p < length self.old.processors.items }
+        requires stage { (d : Processor) → IsAtStage (slice_index_or self.old.processors.items p d).cursor (Stage.Post number) }
+        ensures step { shown self.new ≡ stepped (tree_in self.old) (plan_in self.old) (shown self.old) p }
+        ensures answer { step_answer (tree_in self.old) (plan_in self.old) (shown self.old) p ≡ StepAnswer.Stepped }
+        ensures program { tree_in self.new ≡ tree_in self.old }
+        ensures plan { plan_in self.new ≡ plan_in self.old }
+    {
         let processor = &mut self.processors[p];
         processor.counter = u64::from(number);
         processor.cursor.pass_post(number);
     }
 
     // An await, where it is possible.
-    fn await_counter(&mut self, p: usize, on: u32, number: u32) -> StepAnswer {
+    fn await_counter(&mut self, p: usize, on: u32, number: u32) -> StepAnswer
+        requires worker { p < length self.old.processors.items }
+        requires stage { (d : Processor) → IsAtStage (slice_index_or self.old.processors.items p d).cursor (Stage.Await on number) }
+        ensures step { shown self.new ≡ stepped (tree_in self.old) (plan_in self.old) (shown self.old) p }
+        ensures answer { step_answer (tree_in self.old) (plan_in self.old) (shown self.old) p ≡ result }
+        ensures program { tree_in self.new ≡ tree_in self.old }
+        ensures plan { plan_in self.new ≡ plan_in self.old }
+    {
         let wanted = u64::from(number);
         let seen = self.processors[on as usize].counter;
         if seen < wanted {
@@ -104,33 +123,73 @@ impl<'a> Machine<'a> {
     }
 
     // A load, a store or a PRINT of the statement at this place.
-    fn work(&mut self, p: usize, place: u32) {
+    fn work(&mut self, p: usize, place: u32)
+        requires worker { p < length self.old.processors.items }
+        requires stage { (d : Processor) → IsAtStage (slice_index_or self.old.processors.items p d).cursor (Stage.Work place) }
+        ensures step { shown self.new ≡ stepped (tree_in self.old) (plan_in self.old) (shown self.old) p }
+        ensures answer { step_answer (tree_in self.old) (plan_in self.old) (shown self.old) p ≡ StepAnswer.Stepped }
+        ensures program { tree_in self.new ≡ tree_in self.old }
+        ensures plan { plan_in self.new ≡ plan_in self.old }
+    {
         let done = self.processors[p].registers.len();
         if done < self.loads[place as usize].len() {
             self.load(p, place);
-        } else {
-            self.finish(p, place);
+            return;
+        }
+        match &self.program.items[place as usize] {
+            Item::Assign(target, e, _) => self.store(p, place, target, e),
+            Item::Print(items, _) => self.print(p, place, items),
+            Item::Loop(_) | Item::Continue(_) => unreachable!(),
         }
     }
 
-    fn load(&mut self, p: usize, place: u32) {
+    // A load.
+    fn load(&mut self, p: usize, place: u32)
+        requires worker { p < length self.old.processors.items }
+        requires stage { (d : Processor) → IsAtStage (slice_index_or self.old.processors.items p d).cursor (Stage.Work place) }
+        requires left { (d : Processor) → length (slice_index_or self.old.processors.items p d).registers.items < load_count_at (tree_in self.old) place }
+        ensures step { shown self.new ≡ stepped (tree_in self.old) (plan_in self.old) (shown self.old) p }
+        ensures answer { step_answer (tree_in self.old) (plan_in self.old) (shown self.old) p ≡ StepAnswer.Stepped }
+        ensures program { tree_in self.new ≡ tree_in self.old }
+        ensures plan { plan_in self.new ≡ plan_in self.old }
+    {
         let done = self.processors[p].registers.len();
         let cell = self.loads[place as usize][done];
         let value = self.memory[cell as usize];
         self.processors[p].registers.push(value).unwrap();
     }
 
-    fn finish(&mut self, p: usize, place: u32) {
+    // The store of an assignment whose loads are done.
+    fn store(&mut self, p: usize, place: u32, target: &Access, e: &Expr)
+        requires worker { p < length self.old.processors.items }
+        requires stage { (d : Processor) → IsAtStage (slice_index_or self.old.processors.items p d).cursor (Stage.Work place) }
+        requires loaded { (d : Processor) → length (slice_index_or self.old.processors.items p d).registers.items ≡ load_count_at (tree_in self.old) place }
+        requires statement { (line : ℕ) × (statement_at (tree_in self.old).items place ≡ assign target.now (expression_of e.now) line) }
+        ensures step { shown self.new ≡ stepped (tree_in self.old) (plan_in self.old) (shown self.old) p }
+        ensures answer { step_answer (tree_in self.old) (plan_in self.old) (shown self.old) p ≡ StepAnswer.Stepped }
+        ensures program { tree_in self.new ≡ tree_in self.old }
+        ensures plan { plan_in self.new ≡ plan_in self.old }
+    {
         let processor = &mut self.processors[p];
-        let loaded = processor.registers.as_slice();
-        match &self.program.items[place as usize] {
-            Item::Assign(target, e, _) => {
-                let cell = self.program.layout().cell_of(target.variable);
-                self.memory[cell as usize] = eval(e, &[], &[], loaded);
-            }
-            Item::Print(items, _) => self.output.push_line(items, loaded),
-            Item::Loop(_) | Item::Continue(_) => unreachable!(),
-        }
+        let cell = self.program.layout().cell_of(target.variable);
+        self.memory[cell as usize] = eval(e, &[], &[], processor.registers.as_slice());
+        processor.registers.clear();
+        processor.cursor.pass_work(place);
+    }
+
+    // The line of a PRINT whose loads are done.
+    fn print(&mut self, p: usize, place: u32, items: &[PrintItem])
+        requires worker { p < length self.old.processors.items }
+        requires stage { (d : Processor) → IsAtStage (slice_index_or self.old.processors.items p d).cursor (Stage.Work place) }
+        requires loaded { (d : Processor) → length (slice_index_or self.old.processors.items p d).registers.items ≡ load_count_at (tree_in self.old) place }
+        requires statement { (line : ℕ) × (statement_at (tree_in self.old).items place ≡ print (map printed_of items.now) line) }
+        ensures step { shown self.new ≡ stepped (tree_in self.old) (plan_in self.old) (shown self.old) p }
+        ensures answer { step_answer (tree_in self.old) (plan_in self.old) (shown self.old) p ≡ StepAnswer.Stepped }
+        ensures program { tree_in self.new ≡ tree_in self.old }
+        ensures plan { plan_in self.new ≡ plan_in self.old }
+    {
+        let processor = &mut self.processors[p];
+        self.output.push_line(items, processor.registers.as_slice());
         processor.registers.clear();
         processor.cursor.pass_work(place);
     }

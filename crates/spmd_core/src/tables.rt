@@ -9,14 +9,13 @@ ghost use Rattle.spmd_core.specs.Numbered.{loads_by_place, longest_lines};
 ghost use Rattle.spmd_core.specs.Shown.{AreFresh};
 ghost use Rattle.spmd_core.specs.Suited.{IsSuited};
 
-use nest_tree::{Item, Program};
-use std::alloc::{AllocError, Global};
-
 use crate::cursor::Cursor;
 use crate::line::longest_line;
 use crate::loads::push_statement_loads;
 use crate::plan::Plan;
 use crate::processor::Processor;
+use nest_tree::{Item, Program};
+use std::alloc::{AllocError, Global};
 
 /// The cells that each statement loads, in text order.
 pub(crate) fn loads_of(alloc: Global, program: &Program) -> Result<Vec<Vec<u32>>, AllocError>

@@ -31,11 +31,11 @@ loop-item-preserved c =
     let lt : n < length items = omega (arith, ap length c.deref-item-items.ensures.value) in
     let is : c.item-item.result ≡ get_or items n c.item-item.result = c.item-item.is ∙ ap (λ xs. get_or xs n c.item-item.result) c.deref-item-items.ensures.value in
     let here : statement_loads (laid_out c.layout-layout.result) [] (statement_of c.item-item.result) ≡ loads_of tree (instance_at tree n) =
-        ap (λ t. statement_loads t [] (statement_of c.item-item.result)) c.layout-layout.ensures
-        ∙ ap (λ s. statement_loads tree [] s) (sym (statement_at-list items n c.item-item.result lt is))
-        ∙ ap (λ loops. statement_loads tree loops (statement_at tree.items n)) (sym (no_values-straight tree (works_in_straight tree c.requires.straight))) in
+    ap (λ t. statement_loads t [] (statement_of c.item-item.result)) c.layout-layout.ensures
+    ∙ ap (λ s. statement_loads tree [] s) (sym (statement_at-list items n c.item-item.result lt is))
+    ∙ ap (λ loops. statement_loads tree loops (statement_at tree.items n)) (sym (no_values-straight tree (works_in_straight tree c.requires.straight))) in
     let cells : c.push_statement_loads.new.cells.items ≡ loads_of tree (instance_at tree n) =
-        c.in_ok-push_statement_loads.ensures ∙ ap (λ old. old ++ statement_loads (laid_out c.layout-layout.result) [] (statement_of c.item-item.result)) c.new-cells.ensures.items ∙ here in
+    c.in_ok-push_statement_loads.ensures ∙ ap (λ old. old ++ statement_loads (laid_out c.layout-layout.result) [] (statement_of c.item-item.result)) c.new-cells.ensures.items ∙ here in
     ap (map (λ (v : Vec ℕ Global). v.items)) c.in_ok-push.ensures.items ∙ map_push (λ (v : Vec ℕ Global). v.items) c.loop-item.loads.items c.push_statement_loads.new.cells
     ∙ ap (λ rest. rest ++ c.push_statement_loads.new.cells.items ∷ []) c.loop-item.invariant
     ∙ ap (λ x. map (λ k. loads_of tree (instance_at tree k)) (range_with_len 0 n) ++ x ∷ []) cells

@@ -13,9 +13,9 @@ loop-cells-preserved c =
     let i = c.loop-cells.cells-index in
     let lt : i < length xs = omega arith in
     let here : length (get_or (map items_of xs) i []) ≡ length c.cells-item.result.items =
-        ap length (get_or-map items_of xs i c.cells-item.result [] lt ∙ ap items_of (sym c.cells-item.is)) in
+    ap length (get_or-map items_of xs i c.cells-item.result [] lt ∙ ap items_of (sym c.cells-item.is)) in
     let count : length c.cells-item.result.items ≡ c.len.result = omega (arith, c.cells-item.result.ok.0) in
     elim c.if-most-len.branch [
-      then-most-len w ↦ below_more _ _ (λ k below. omega (arith, c.loop-cells.invariant k below)) (omega (arith, here, count))
-    | else-most-len w ↦ below_more _ _ (λ k below. omega (arith, c.loop-cells.invariant k below)) (omega (arith, here, count))
+      | then-most-len w ↦ below_more _ _ (λ k below. omega (arith, c.loop-cells.invariant k below)) (omega (arith, here, count))
+      | else-most-len w ↦ below_more _ _ (λ k below. omega (arith, c.loop-cells.invariant k below)) (omega (arith, here, count))
     ]
