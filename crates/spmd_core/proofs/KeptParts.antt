@@ -10,9 +10,11 @@ use Rattle.spmd_core.specs.Acts.{Act, post, await}
 use Rattle.spmd_core.specs.Cursors.{planned_of, planned_turns, rest_of, cursor_left, IsBegunAt, IsAtStage, IsAtTurn}
 use Rattle.spmd_core.specs.Numbered.{own_acts}
 use Rattle.spmd_core.specs.Shown.{IsKept, left_of, load_count_at}
-use Rattle.spmd_core.specs.Turns.{Planned, is_busy}
+use Rattle.spmd_core.specs.Turns.{Planned, is_busy, acts_left}
+use Rattle.spmd_core.specs.Words.{members}
+use Rattle.spmd_core.proofs.PlannedTurns.{turn_planned, awaited_below}
 use Rattle.spmd_core.proofs.Steps.{Passes}
-use Rattle.spmd_core.proofs.TurnActs.{busy_turns}
+use Rattle.spmd_core.proofs.TurnActs.{busy_turns, await_first}
 
 pub kept_busy : (tree : Tree) (plan : Plan) (p : ℕ) (x : Processor) → IsKept tree plan p x → list_all is_busy (planned_turns x.cursor) ≡ true
 kept_busy tree plan p x k = busy_turns tree plan p (planned_turns x.cursor) k.turns
@@ -42,3 +44,17 @@ kept_boundary tree plan p x y k turns none begun room = record {
   within = λ t rest is. omega (arith, none);
   room = λ place. omega (arith, k.room place);
 }
+
+-- whom a processor awaits is one of the processors
+pub awaits_worker : (tree : Tree) (plan : Plan) (p on wanted : ℕ) (x : Processor) → IsKept tree plan p x → IsAtStage x.cursor (Await on wanted) → on < plan.workers
+awaits_worker tree plan p on wanted x k s =
+    let turn = s.0.turn in
+    awaited_below tree plan p (length turn.awaits - length (members x.cursor.awaits)) turn s.2.0 on
+    (turn_planned tree plan p x.cursor.at (planned_turns x.cursor) s.0.rest turn k.turns s.0.is) ((k.begun turn s.0.rest s.0.is).tail ∙ s.2.1)
+
+-- the await that is next
+pub next_await : (tree : Tree) (plan : Plan) (p on wanted : ℕ) (x : Processor) → IsKept tree plan p x → (s : IsAtStage x.cursor (Await on wanted)) →
+    left_of tree x ≡ await on wanted ∷ acts_left (own_acts tree) (rest_of x.cursor) x.cursor.posted s.2.0 0
+next_await tree plan p on wanted x k s =
+    ap (cursor_left (own_acts tree) x.cursor) (none_awaiting tree plan p on wanted x k s)
+    ∙ await_first (own_acts tree) (rest_of x.cursor) s.0.rest s.0.turn x.cursor.posted (members x.cursor.awaits) s.2.0 on wanted s.0.is s.1 s.2.1 s.0.number

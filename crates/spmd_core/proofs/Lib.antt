@@ -5,6 +5,7 @@ pub mod Awaited
 pub mod Words
 pub mod TurnActs
 pub mod LoadLists
+pub mod PlannedTurns
 pub mod KeptParts
 pub mod Steps
 pub mod Suffixes

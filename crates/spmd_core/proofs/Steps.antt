@@ -143,3 +143,23 @@ unfolding room_of
 room_next tree ps p d y act lt s =
     let whole : room_of tree (get_or ps p d) ≡ act_room act + room_of tree y = ap (sum_by act_room) s.acts ∙ sum_by-cons act_room act (left_of tree y) in
     omega (arith, sum_by-set (room_of tree) ps p y d lt, whole)
+
+-- an await that isn't possible changes nothing
+pub blocked_step : (tree : Tree) (plan : Plan) (s : State) (p on wanted : ℕ) → next_act tree plan s p ≡ Some (await on wanted) → nat_le wanted (slice_index s.counters on) ≡ false → s ≡ stepped tree plan s p
+blocked_step tree plan s p on wanted next less =
+    sym (ap (stepped_by tree s p) next ∙ ap (λ b. cond b (moved (acted tree s p (await on wanted)) p) s) less)
+
+pub blocked_answer : (tree : Tree) (plan : Plan) (s : State) (p on wanted seen : ℕ) → next_act tree plan s p ≡ Some (await on wanted) → slice_index s.counters on ≡ seen → nat_le wanted seen ≡ false → step_answer tree plan s p ≡ Blocked on wanted seen
+blocked_answer tree plan s p on wanted seen next counter less =
+    ap (answer_at s) next ∙ ap (λ n. cond (nat_le wanted n) Stepped (Blocked on wanted n)) counter ∙ ap (λ b. cond b Stepped (Blocked on wanted seen)) less
+
+pub possible_answer : (tree : Tree) (plan : Plan) (s : State) (p on wanted : ℕ) → next_act tree plan s p ≡ Some (await on wanted) → nat_le wanted (slice_index s.counters on) ≡ true → step_answer tree plan s p ≡ Stepped
+possible_answer tree plan s p on wanted next enough = ap (answer_at s) next ∙ ap (λ b. cond b Stepped (Blocked on wanted (slice_index s.counters on))) enough
+
+pub next_from : (tree : Tree) (plan : Plan) (ps : List Processor) (memory : List ℤ) (output : List ℕ) (p : ℕ) (d : Processor) (act : Act) (rest : List Act) → are_works tree.items ≡ true → p < length ps → IsKept tree plan p (get_or ps p d) → left_of tree (get_or ps p d) ≡ act ∷ rest →
+    next_act tree plan (state_of tree ps memory output) p ≡ Some act
+next_from tree plan ps memory output p d act rest works lt k e = next_is tree plan ps memory output p d works lt k ∙ head-cons (left_of tree (get_or ps p d)) rest act e
+
+-- a counter that is read
+pub counter_read : (ps : List Processor) (on : ℕ) (z : Processor) → on < length ps → z ≡ get_or ps on z → slice_index (map (λ (x : Processor). x.counter) ps) on ≡ z.counter
+counter_read ps on z lt is = get_or-map (λ (x : Processor). x.counter) ps on z 0 lt ∙ ap (λ (x : Processor). x.counter) (sym is)
