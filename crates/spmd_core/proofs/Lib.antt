@@ -14,3 +14,4 @@ pub mod Places
 pub mod StatementPlaces
 mod ValueLaws
 mod Values
+pub mod RoundRuns

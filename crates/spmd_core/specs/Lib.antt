@@ -14,3 +14,4 @@ pub mod PlainLines
 pub mod Shown
 pub mod Shows
 pub mod ValueLaws
+pub mod Rounds

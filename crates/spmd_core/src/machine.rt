@@ -48,6 +48,7 @@ impl<'a> Machine<'a> {
     ghost use Rattle.spmd_core.specs.declared.processor.Processor.{Processor};
     ghost use Rattle.spmd_core.specs.Fit.{IsFit};
     ghost use Rattle.spmd_core.specs.Machine.{first_state, stepped};
+    ghost use Rattle.spmd_core.specs.Rounds.{after_round, after_rounds};
     ghost use Rattle.spmd_core.specs.Shows.{shown, tree_in, plan_in, step_answer, bytes_of};
 
     /// The first state: nothing is done, and all is 0 or empty. What a run can need is reserved.
@@ -194,13 +195,25 @@ impl<'a> Machine<'a> {
         processor.cursor.pass_work(place);
     }
 
-    /// Rounds of one step per processor until all have ended.
-    pub fn round_robin(&mut self) {
-        while self.round() {}
+    /// Rounds of one step per processor until all have ended, at most 2^64 - 1 of them.
+    pub fn round_robin(&mut self)
+        ensures program { tree_in self.new ≡ tree_in self.old }
+        ensures plan { plan_in self.new ≡ plan_in self.old }
+        ensures run { (rounds : ℕ) × (shown self.new ≡ after_rounds (tree_in self.old) (plan_in self.old) rounds (shown self.old)) }
+    {
+        for _ in 0..u64::MAX {
+            if !self.round() {
+                break;
+            }
+        }
     }
 
     // One step of each processor; whether one of them hadn't ended.
-    fn round(&mut self) -> bool {
+    fn round(&mut self) -> bool
+        ensures program { tree_in self.new ≡ tree_in self.old }
+        ensures plan { plan_in self.new ≡ plan_in self.old }
+        ensures round { shown self.new ≡ after_round (tree_in self.old) (plan_in self.old) (shown self.old) }
+    {
         let mut going = false;
         for p in 0..self.plan.workers {
             if self.step(p) != StepAnswer::Ended {
