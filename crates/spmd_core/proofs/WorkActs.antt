@@ -104,3 +104,13 @@ passes_last tree plan p place x y k s turns all acts none =
 pub loads_length : (tree : Tree) → length (loads_by_place tree) ≡ works_of tree.items
 unfolding loads_by_place
 loads_length tree = length-map-range_with_len (λ n. loads_of tree (instance_at tree n)) 0 (works_of tree.items)
+
+-- the store or the PRINT is what is left of a statement whose loads are done
+pub last_left : (tree : Tree) (plan : Plan) (p place : ℕ) (x : Processor) → IsKept tree plan p x → (s : IsAtStage x.cursor (Work place)) → length x.registers.items ≡ length (loads_of tree (instance_at tree place)) →
+    left_of tree x ≡ last_act (instance_at tree place) (store_of tree (instance_at tree place)) ∷ flat_map (turn_acts (own_acts tree)) s.0.rest
+unfolding own_acts
+last_left tree plan p place x k s all =
+    let i = instance_at tree place in
+    let count : length (map (load i) (loads_of tree i)) ≡ length x.registers.items = length-map (loads_of tree i) (load i) ∙ sym all in
+    work_left tree plan p place x k s (length x.registers.items)
+    ∙ ap (λ l. l ++ flat_map (turn_acts (own_acts tree)) s.0.rest) (drop_at (map (load i) (loads_of tree i)) (last_act i (store_of tree i) ∷ []) (length x.registers.items) count)
