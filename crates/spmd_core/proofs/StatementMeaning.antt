@@ -1,5 +1,5 @@
 -- What the statements of a straight-line program load, store and print.
-use Rattle.std.proofs.Common.{◌≡◌, ℕ, zero, suc, ◌+◌, ◌-◌, ◌<◌, ◌≤◌, ℤ, Bool, true, false, ◌&&◌, nat_lt, List, [], ◌∷◌, ◌++◌, length, map, drop, Option, Some, None, refl, sym, ◌∙◌, ap, subst, length-append, arith}
+use Rattle.std.proofs.Common.{◌≡◌, ℕ, zero, suc, ◌+◌, ◌-◌, ◌<◌, ◌≤◌, ℤ, Bool, true, false, ◌&&◌, nat_lt, List, [], ◌∷◌, ◌++◌, length, map, drop, Option, Some, None, refl, sym, ◌∙◌, ap, subst, length-append, zero-add, arith}
 use Rattle.std.specs.Prelude.{unsigned_abs}
 use Rattle.std.specs.List.{list_all, list_any, flat_map}
 use Rattle.std.proofs.lemmas.Bool.{and_parts, and_from}
@@ -114,7 +114,7 @@ loads_all tree (value e ∷ items) loops h =
     let rest = loads_all tree items loops (and_parts (has_value 0 0 e) (list_all is_plain items) h).1 in
     omega (arith, length-append (map (access_cell tree loops) (loads_in e)) (flat_map (item_loads tree loops) items), length-map (loads_in e) (access_cell tree loops), loads_number e, rest)
 loads_all tree (whole variable ∷ items) loops h = absurd (cc)
-loads_all tree (text characters ∷ items) loops h = loads_all tree items loops h
+loads_all tree (text characters ∷ items) loops h = loads_all tree items loops h ∙ sym (zero-add (items_load_count items))
 
 text_all : (tree : Tree) (loops : List ℤ) (items : List Printed) (loaded : List ℤ) → loops ≡ [] → param_values tree ≡ [] → list_all is_plain items ≡ true → items_text tree loops items loaded ≡ plain_items items loaded
 text_all tree loops [] loaded l p h = refl

@@ -2,6 +2,8 @@ use Rattle.std.proofs.Common.{◌≡◌, ℕ, ◌+◌, ◌<◌, ◌≤◌, [], �
 use Rattle.nest_model.specs.Accesses.{loads_of}
 use Rattle.nest_model.specs.Memory.{line_of}
 use Rattle.spmd_core.specs.PlainLines.{plain_items}
+use Rattle.std.specs.List.{flat_map}
+use Rattle.spmd_core.specs.Turns.{turn_acts}
 use Rattle.nest_tree.specs.View.{tree_of, expression_of, printed_of}
 use Rattle.spmd_core.specs.Acts.{print, last_act}
 use Rattle.spmd_core.specs.Cursors.{IsAtStage, planned_of}
@@ -74,7 +76,7 @@ push_line-requires-clause-room c =
     let below = place_below tree plan p place x kept stage in
     let loaded : length x.registers.items ≡ load_count_at tree place = subst (λ (z : Processor). length z.registers.items ≡ load_count_at tree place) (sym read) (c.requires.loaded x) in
     let all : length x.registers.items ≡ length (loads_of tree (instance_at tree place)) = loaded ∙ ap length (loads_at tree place below) in
-    let left = last_left tree plan p place x kept stage all ∙ ap (λ o. last_act (instance_at tree place) o ∷ _) what.store in
+    let left = last_left tree plan p place x kept stage all ∙ ap (λ o. last_act (instance_at tree place) o ∷ flat_map (turn_acts (own_acts tree)) stage.0.rest) what.store in
     let here = room_here tree ps p x (print (instance_at tree place)) _ c.requires.worker (sym (ap (left_of tree) read) ∙ left) in
     omega (arith, here, m.room, what.room)
 
