@@ -5,6 +5,7 @@ use Rattle.nest_model.specs.Accesses.{loads_of}
 use Rattle.nest_model.specs.Instances.{works_of}
 use Rattle.nest_tree.specs.Tree.{Tree}
 use Rattle.spmd_core.specs.Numbered.{instance_at, loads_by_place}
+use Rattle.spmd_core.specs.Shown.{load_count_at}
 use Rattle.spmd_core.proofs.WorkActs.{loads_at, loads_length}
 
 -- two reads of one place
@@ -24,3 +25,15 @@ table_cell tree table place at count cells cell listed below is read same lt =
     let inside : place < length table = omega (arith, ap length listed, length-map table items_of, loads_length tree) in
     let row : cells.items ≡ loads = ap items_of is ∙ sym (get_or-map items_of table place cells [] inside) ∙ ap (λ t. get_or t place []) listed ∙ loads_at tree place below in
     read ∙ ap (λ l. get_or l at cell) row ∙ ap (λ k. get_or loads k cell) same ∙ get_or_default loads count cell 0 lt
+
+-- how many loads a statement has, by its row
+pub row_length : (tree : Tree) (table : List (Vec ℕ Global)) (place : ℕ) (cells : Vec ℕ Global) → map (λ (v : Vec ℕ Global). v.items) table ≡ loads_by_place tree → place < works_of tree.items →
+    cells ≡ get_or table place cells → length cells.items ≡ load_count_at tree place
+unfolding items_of
+row_length tree table place cells listed below is =
+    let inside : place < length table = omega (arith, ap length listed, length-map table items_of, loads_length tree) in
+    ap length (ap items_of is ∙ sym (get_or-map items_of table place cells [] inside) ∙ ap (λ t. get_or t place []) listed)
+
+pub table_length : (tree : Tree) (table : List (Vec ℕ Global)) → map (λ (v : Vec ℕ Global). v.items) table ≡ loads_by_place tree → length table ≡ works_of tree.items
+unfolding items_of
+table_length tree table listed = omega (arith, ap length listed, length-map table items_of, loads_length tree)
