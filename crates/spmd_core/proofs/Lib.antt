@@ -5,6 +5,10 @@ pub mod Awaited
 pub mod Words
 pub mod TurnActs
 pub mod LoadLists
+pub mod StatementMeaning
+pub mod TableReads
+pub mod CellBounds
+pub mod WorkActs
 pub mod PlannedTurns
 pub mod KeptParts
 pub mod Steps

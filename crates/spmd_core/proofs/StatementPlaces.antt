@@ -55,3 +55,19 @@ pub item_loads_more : (tree : Tree) (before after : List ℕ) (left rest : List 
 item_loads_more tree before after left rest item e a =
     ap (λ cells. cells ++ flat_map (item_loads tree []) rest) a ∙ append_assoc before (item_loads tree [] item) (flat_map (item_loads tree []) rest)
     ∙ ap (λ items. before ++ flat_map (item_loads tree []) items) (sym e)
+
+-- a statement of a straight-line program is an assignment or a PRINT
+abbrev pub is_work : Statement → Bool
+is_work (do_loop n m1 m2 step body line) = false
+is_work (assign target e line) = true
+is_work (print items line) = true
+is_work (continue line) = false
+
+pub works_at : (ss : Statements) (n : ℕ) → are_works ss ≡ true → n < works_of ss → is_work (statement_at ss n) ≡ true
+works_at done n h lt = absurd (omega arith)
+works_at (next (do_loop m m1 m2 step body line) rest) n h lt = absurd (cc)
+works_at (next (assign target e line) rest) zero h lt = refl
+works_at (next (assign target e line) rest) (suc n) h lt = works_at rest n h (omega arith)
+works_at (next (print items line) rest) zero h lt = refl
+works_at (next (print items line) rest) (suc n) h lt = works_at rest n h (omega arith)
+works_at (next (continue line) rest) n h lt = absurd (cc)

@@ -3,7 +3,7 @@ use Rattle.std.proofs.Common.{◌≡◌, ℕ, ◌+◌, ◌-◌, ◌<◌, ◌≤�
 use Rattle.std.specs.Prelude.{slice_get, slice_index, sum_by}
 use Rattle.std.specs.List.{flat_map}
 use Rattle.std.proofs.lemmas.List.{get_or-map, map-set, set-get_or}
-use Rattle.std.proofs.lemmas.List.Sums.{sum_by-set, sum_by-cons}
+use Rattle.std.proofs.lemmas.List.Sums.{sum_by-set, sum_by-cons, get_or-le-sum_by}
 use Rattle.nest_tree.specs.Straight.{are_works}
 use Rattle.nest_tree.specs.Tree.{Tree}
 use Rattle.nest_model.specs.Instances.{Instance}
@@ -163,3 +163,10 @@ next_from tree plan ps memory output p d act rest works lt k e = next_is tree pl
 -- a counter that is read
 pub counter_read : (ps : List Processor) (on : ℕ) (z : Processor) → on < length ps → z ≡ get_or ps on z → slice_index (map (λ (x : Processor). x.counter) ps) on ≡ z.counter
 counter_read ps on z lt is = get_or-map (λ (x : Processor). x.counter) ps on z 0 lt ∙ ap (λ (x : Processor). x.counter) (sym is)
+
+-- the room of the act that is next
+pub room_here : (tree : Tree) (ps : List Processor) (p : ℕ) (d : Processor) (act : Act) (rest : List Act) → p < length ps → left_of tree (get_or ps p d) ≡ act ∷ rest → act_room act ≤ sum_by (room_of tree) ps
+unfolding room_of
+room_here tree ps p d act rest lt e =
+    let one : room_of tree (get_or ps p d) ≡ act_room act + sum_by act_room rest = ap (sum_by act_room) e ∙ sum_by-cons act_room act rest in
+    omega (arith, get_or-le-sum_by (room_of tree) ps p d lt, one)

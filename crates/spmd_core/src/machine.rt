@@ -140,7 +140,8 @@ impl<'a> Machine<'a> {
         match &self.program.items[place as usize] {
             Item::Assign(target, e, _) => self.store(p, place, target, e),
             Item::Print(items, _) => self.print(p, place, items),
-            Item::Loop(_) | Item::Continue(_) => unreachable!(),
+            Item::Loop(_) => unreachable!(),
+            Item::Continue(_) => unreachable!(),
         }
     }
 
