@@ -37,7 +37,7 @@ pub struct Machine<'a> {
 }
 
 impl<'a> Machine<'a> {
-    ghost use Rattle.std.specs.Prelude.{ℕ, ◌<◌, IfOk, slice_index_or};
+    ghost use Rattle.std.specs.Prelude.{ℕ, ◌<◌, IfOk, slice_index_or, false};
     ghost use Rattle.nest_tree.specs.Straight.{IsStraight};
     ghost use Rattle.nest_tree.specs.WellFormed.{IsWellFormed};
     ghost use Rattle.nest_tree.specs.Tree.{assign, print};
@@ -48,7 +48,7 @@ impl<'a> Machine<'a> {
     ghost use Rattle.spmd_core.specs.declared.processor.Processor.{Processor};
     ghost use Rattle.spmd_core.specs.Fit.{IsFit};
     ghost use Rattle.spmd_core.specs.Machine.{first_state, stepped};
-    ghost use Rattle.spmd_core.specs.Rounds.{after_round, after_rounds};
+    ghost use Rattle.spmd_core.specs.Rounds.{after_round, IsOver, IsBehindRounds};
     ghost use Rattle.spmd_core.specs.Shows.{shown, tree_in, plan_in, step_answer, bytes_of};
 
     /// The first state: nothing is done, and all is 0 or empty. What a run can need is reserved.
@@ -200,11 +200,11 @@ impl<'a> Machine<'a> {
     pub fn round_robin(&mut self)
         ensures program { tree_in self.new ≡ tree_in self.old }
         ensures plan { plan_in self.new ≡ plan_in self.old }
-        ensures run { (rounds : ℕ) × (shown self.new ≡ after_rounds (tree_in self.old) (plan_in self.old) rounds (shown self.old)) }
+        ensures run { IsBehindRounds (tree_in self.old) (plan_in self.old) (shown self.old) (shown self.new) }
     {
-        for _ in 0..u64::MAX {
+        for rounds in 0..u64::MAX {
             if !self.round() {
-                break;
+                return;
             }
         }
     }
@@ -214,11 +214,13 @@ impl<'a> Machine<'a> {
         ensures program { tree_in self.new ≡ tree_in self.old }
         ensures plan { plan_in self.new ≡ plan_in self.old }
         ensures round { shown self.new ≡ after_round (tree_in self.old) (plan_in self.old) (shown self.old) }
+        ensures over { result ≡ false → IsOver (tree_in self.old) (plan_in self.old) (shown self.new) }
     {
         let mut going = false;
         for p in 0..self.plan.workers {
-            if self.step(p) != StepAnswer::Ended {
-                going = true;
+            match self.step(p) {
+                StepAnswer::Ended => {}
+                StepAnswer::Stepped | StepAnswer::Blocked { .. } => going = true,
             }
         }
         going
