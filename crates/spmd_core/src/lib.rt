@@ -3,14 +3,26 @@
 #![tactic(auto)]
 
 mod barriers;
+mod answer;
+mod cursor;
 mod fit;
 pub mod laws;
+mod line;
+mod loads;
+mod machine;
 pub mod plan;
+mod processor;
 pub mod refusal;
+mod tables;
 mod value;
+mod waiting;
 
 pub use barriers::all_barriers;
+pub use answer::{NoMemory, StepAnswer};
 pub use fit::check_fit;
+pub use line::Output;
+pub use machine::Machine;
 pub use plan::{Anchor, Anchors, Cut, Dist, Kind, Kinds, Mark, Marks, Plan};
 pub use refusal::PlanRefusal;
 pub use value::eval;
+pub use waiting::{posts, waits};

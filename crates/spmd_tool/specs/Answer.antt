@@ -5,8 +5,8 @@ use Rattle.nest_tree.specs.Straight.{IsStraight}
 use Rattle.nest_tree.specs.Tree.{Tree}
 use Rattle.nest_tree.specs.WellFormed.{IsWellFormed}
 use Rattle.spmd_core.specs.Barriers.{barrier_plan}
-use Rattle.spmd_core.specs.Machine.{first_state}
-use Rattle.spmd_core.specs.Rounds.{after_rounds}
+use Rattle.spmd_core.specs.Machine.{State, first_state}
+use Rattle.spmd_core.specs.Rounds.{IsBehindRounds}
 use Rattle.spmd_core.specs.declared.plan.Plan.{Plan}
 use Rattle.spmd_tool.specs.declared.status.Status.{Status}
 use Rattle.spmd_tool.specs.declared.status.Status.TheVariants.{Done, SourceRefused, BadWords, ReadFault, WriteFault, NoMemory, TooLong}
@@ -17,9 +17,11 @@ use Rattle.spmd_tool.specs.Words.{AreRunWords}
 abbrev pub AreOthers : List (List ℕ) → Type 0
 AreOthers words = (workers : ℕ) → AreRunWords words workers → ⊥
 
--- the output of the machine under a plan after some rounds of one step per processor
-abbrev pub IsRoundsOutput : Tree → Plan → List ℕ → Type 0
-IsRoundsOutput tree plan output = (rounds : ℕ) × (output ≡ (after_rounds tree plan rounds (first_state tree plan)).output)
+-- the output of the machine under a plan in the end: behind as many rounds of one step per processor as it takes until none has a next act, or behind 2 ^ 64 - 1
+pub record IsRoundsOutput (tree : Tree) (plan : Plan) (output : List ℕ) : Type 0 where
+  pub last : State
+  pub behind : IsBehindRounds tree plan (first_state tree plan) last
+  pub printed : output ≡ last.output
 
 -- the line of a source that is refused at this line
 abbrev pub refused_text : ℕ → List ℕ

@@ -11,7 +11,7 @@ use crate::status::Status;
 use crate::text::plan_text;
 use f77_reader::{Refusal, read_straight};
 use nest_tree::Program;
-use spmd_core::{Plan, all_barriers};
+use spmd_core::{Machine, Plan, all_barriers};
 use std::alloc::{AllocError, Global};
 use std::fmt::Write;
 
@@ -89,13 +89,15 @@ fn text_of_refusal(alloc: Global, line: u32) -> Result<Vec<u8>, AllocError>
 }
 
 // The output of a program that runs by a plan, in rounds of one step per processor.
-fn output_of_run(_alloc: Global, program: &Program, plan: &Plan) -> Result<Vec<u8>, AllocError>
+fn output_of_run(alloc: Global, program: &Program, plan: &Plan) -> Result<Vec<u8>, AllocError>
     requires formed { IsWellFormed (tree_of program.now) }
     requires straight { IsStraight (tree_of program.now) }
     requires fits { IsFit (tree_of program.now) plan.now }
     ensures { IfOk result (λ output. IsRoundsOutput (tree_of program.now) plan.now output.items) }
 {
-    let _ = program;
-    let _ = plan;
-    Err(AllocError)
+    let Ok(mut machine) = Machine::new(alloc, program, plan) else {
+        return Err(AllocError);
+    };
+    machine.round_robin();
+    machine.output().as_slice().to_vec(alloc)
 }
