@@ -1,0 +1,4 @@
+pub mod Reduction
+pub mod Pairs
+pub mod Levels
+pub mod Answers
