@@ -1,6 +1,7 @@
 // What elimination answers.
 
 use farkas_cert::{Certificate, Row};
+use std::alloc::AllocError;
 use thiserror::Error;
 
 /// What elimination says of a system.
@@ -21,3 +22,9 @@ pub enum Answer {
 #[derive(Clone, Copy, Debug, PartialEq, Eq, Error)]
 #[error("out of memory")]
 pub struct NoMemory;
+
+impl From<AllocError> for NoMemory {
+    fn from(_error: AllocError) -> NoMemory {
+        NoMemory
+    }
+}

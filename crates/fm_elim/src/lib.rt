@@ -2,5 +2,14 @@
 #![tactic(auto)]
 
 pub mod answer;
+mod combination;
+mod derivation;
+pub mod elimination;
+mod level;
+mod reduction;
 
 pub use answer::{Answer, NoMemory};
+pub use elimination::decide;
+
+#[cfg(test)]
+mod tests;

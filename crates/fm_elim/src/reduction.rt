@@ -1,0 +1,53 @@
+// Rows in their lowest terms.
+
+use farkas_cert::{Coefs, Row};
+use std::alloc::{AllocError, Global};
+
+// Euclid's algorithm. The greatest common divisor of 0 and a number is that number.
+pub(crate) fn greatest_common_divisor(a: u128, b: u128) -> u128
+{
+    let mut x = a;
+    let mut y = b;
+    while y != 0 {
+        let rest = x % y;
+        x = y;
+        y = rest;
+    }
+    x
+}
+
+// The greatest common divisor of the coefficients, 0 where all are 0.
+fn common_divisor(coefs: &[i128]) -> u128
+{
+    let mut divisor = 0;
+    for coef in coefs {
+        divisor = greatest_common_divisor(coef.unsigned_abs(), divisor);
+        if divisor == 1 {
+            return 1;
+        }
+    }
+    divisor
+}
+
+// The coefficients, each divided, with the remainder dropped.
+fn quotients(alloc: Global, coefs: &[i128], divisor: i128) -> Result<Coefs, AllocError>
+{
+    let mut divided = Coefs::with_capacity(alloc, coefs.len())?;
+    for coef in coefs {
+        divided.push(*coef / divisor)?;
+    }
+    Ok(divided)
+}
+
+// The row reduced by the greatest common divisor of its coefficients, and that divisor, or 1 where there is none.
+pub(crate) fn reduced(alloc: Global, row: Row) -> Result<(Row, i128), AllocError>
+{
+    let divisor = common_divisor(row.coefs.as_slice());
+    if divisor <= 1 {
+        return Ok((row, 1));
+    }
+    let divisor = divisor as i128;
+    let coefs = quotients(alloc, row.coefs.as_slice(), divisor)?;
+    let bound = row.bound.div_euclid(divisor);
+    Ok((Row { coefs, bound }, divisor))
+}
