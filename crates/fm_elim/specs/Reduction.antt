@@ -16,9 +16,13 @@ IsCommonDivisor coefs g = DividesEach g coefs × ((d : ℕ) → DividesEach d co
 abbrev pub divided : ℕ → Row → Row
 divided d row = record { coefs = map (λ a. int_div a (pos d)) row.coefs; bound = int_div_euclid row.bound (pos d) }
 
--- the row is the raw one, reduced by the greatest common divisor of its coefficients
+-- the row is the raw one, reduced by g, the greatest common divisor of its coefficients (by 1 where all are 0)
+abbrev pub IsReducedBy : ℕ → Row → Row → Type 0
+IsReducedBy g raw row = IsCommonDivisor raw.coefs g × (row ≡ divided (max g 1) raw)
+
+-- the row is the raw one, reduced
 abbrev pub IsReduced : Row → Row → Type 0
-IsReduced raw row = (g : ℕ) × IsCommonDivisor raw.coefs g × (row ≡ divided (max g 1) raw)
+IsReduced raw row = (g : ℕ) × IsReducedBy g raw row
 
 -- 4 * i - 6 * j <= 3, halved, is 2 * i - 3 * j <= 1
 pub divided-example : divided 2 (record { coefs = pos 4 ∷ negsuc 5 ∷ []; bound = pos 3 }) ≡ record { coefs = pos 2 ∷ negsuc 2 ∷ []; bound = pos 1 }

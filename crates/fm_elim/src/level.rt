@@ -132,13 +132,13 @@ pub(crate) fn first_level(
 
 /// The rows of a level by the sign of a variable's coefficient.
 #[derive(Drop)]
-struct Split {
+struct BySign {
     apart: Vec<Held>,
     uppers: Vec<Held>,
     lowers: Vec<Held>,
 }
 
-fn split(alloc: Global, level: Vec<Held>, variable: u32) -> Result<Split, AllocError> {
+fn split_by_sign(alloc: Global, level: Vec<Held>, variable: u32) -> Result<BySign, AllocError> {
     let mut apart = Vec::new(alloc);
     let mut uppers = Vec::new(alloc);
     let mut lowers = Vec::new(alloc);
@@ -152,7 +152,7 @@ fn split(alloc: Global, level: Vec<Held>, variable: u32) -> Result<Split, AllocE
             lowers.push(held)?;
         }
     }
-    Ok(Split {
+    Ok(BySign {
         apart,
         uppers,
         lowers,
@@ -224,11 +224,11 @@ pub(crate) fn next_level(
     variable: u32,
     log: &mut Log,
 ) -> Result<Formed, AllocError> {
-    let Split {
+    let BySign {
         apart,
         uppers,
         lowers,
-    } = split(alloc, level, variable)?;
+    } = split_by_sign(alloc, level, variable)?;
     let mut candidates = carried(alloc, apart)?;
     for upper in &uppers {
         if let Some(index) =

@@ -1,10 +1,18 @@
 // Rows in their lowest terms.
 
+ghost use Rattle.std.specs.Prelude.{◌≡◌, ℕ, ◌≤◌, ◌^◌, max, ℤ, pos, ◌≤ℤ◌, int_div, map, IsTrue, IfOk};
+ghost use Rattle.std.specs.Int.{IsGcd};
+ghost use Rattle.std.specs.List.{All};
+ghost use Rattle.farkas_cert.specs.Combination.{is_narrow as narrow};
+ghost use Rattle.fm_elim.specs.Reduction.{IsCommonDivisor, IsReducedBy};
+
 use farkas_cert::{Coefs, Row};
 use std::alloc::{AllocError, Global};
 
 // Euclid's algorithm. The greatest common divisor of 0 and a number is that number.
 pub(crate) fn greatest_common_divisor(a: u128, b: u128) -> u128
+    ensures common { IsGcd a b result }
+    ensures size { result ≤ max a b }
 {
     let mut x = a;
     let mut y = b;
@@ -18,6 +26,9 @@ pub(crate) fn greatest_common_divisor(a: u128, b: u128) -> u128
 
 // The greatest common divisor of the coefficients, 0 where all are 0.
 fn common_divisor(coefs: &[i128]) -> u128
+    requires { All (λ a. IsTrue (narrow a)) coefs.now }
+    ensures common { IsCommonDivisor coefs.now result }
+    ensures size { result ≤ 2 ^ 126 }
 {
     let mut divisor = 0;
     for coef in coefs {
@@ -31,6 +42,8 @@ fn common_divisor(coefs: &[i128]) -> u128
 
 // The coefficients, each divided, with the remainder dropped.
 fn quotients(alloc: Global, coefs: &[i128], divisor: i128) -> Result<Coefs, AllocError>
+    requires { pos 1 ≤ℤ divisor }
+    ensures { IfOk result (λ divided. divided ≡ map (λ a. int_div a divisor) coefs.now) }
 {
     let mut divided = Coefs::with_capacity(alloc, coefs.len())?;
     for coef in coefs {
@@ -41,6 +54,8 @@ fn quotients(alloc: Global, coefs: &[i128], divisor: i128) -> Result<Coefs, Allo
 
 // The row reduced by the greatest common divisor of its coefficients, and that divisor, or 1 where there is none.
 pub(crate) fn reduced(alloc: Global, row: Row) -> Result<(Row, i128), AllocError>
+    requires { All (λ a. IsTrue (narrow a)) row.coefs }
+    ensures { IfOk result (λ p. (g : ℕ) × (p.1 ≡ pos (max g 1)) × IsReducedBy g row p.0) }
 {
     let divisor = common_divisor(row.coefs.as_slice());
     if divisor <= 1 {
