@@ -1,3 +1,5 @@
 pub mod Integers
 pub mod Divisors
 pub mod Combined
+pub mod Values
+pub mod Removal
