@@ -3,3 +3,4 @@ pub mod Divisors
 pub mod Combined
 pub mod Values
 pub mod Removal
+pub mod Exactness

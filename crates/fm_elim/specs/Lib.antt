@@ -1,4 +1,5 @@
 pub mod Reduction
 pub mod Pairs
 pub mod Levels
+pub mod Forming
 pub mod Answers
