@@ -4,3 +4,4 @@ pub mod Combined
 pub mod Values
 pub mod Removal
 pub mod Exactness
+pub mod Back
