@@ -5,3 +5,4 @@ pub mod Values
 pub mod Removal
 pub mod Exactness
 pub mod Back
+pub mod Columns
