@@ -28,7 +28,7 @@ pub IsRid-start : (order : List ℕ) (rows : List Row) → IsRid order 0 rows
 IsRid-start order rows = λ i d h j lt. absurd (omega arith)
 
 -- the coefficients of a combination
-combined-at : (m n : ℤ) (us ls : List ℤ) (k : ℕ) → length ls ≡ length us → get_or (combined m us n ls) k (pos 0) ≡ m *ℤ get_or us k (pos 0) +ℤ n *ℤ get_or ls k (pos 0)
+pub combined-at : (m n : ℤ) (us ls : List ℤ) (k : ℕ) → length ls ≡ length us → get_or (combined m us n ls) k (pos 0) ≡ m *ℤ get_or us k (pos 0) +ℤ n *ℤ get_or ls k (pos 0)
 combined-at m n [] [] k same = omega (arith, ints, *ℤ-zero m, *ℤ-zero n)
 combined-at m n [] (l ∷ ls) k same = absurd (omega arith)
 combined-at m n (u ∷ us) [] k same = absurd (omega arith)

@@ -6,3 +6,4 @@ pub mod Removal
 pub mod Exactness
 pub mod Back
 pub mod Columns
+pub mod Steps

@@ -2,4 +2,5 @@ pub mod Reduction
 pub mod Pairs
 pub mod Levels
 pub mod Forming
+pub mod Logs
 pub mod Answers

@@ -1,6 +1,6 @@
 // How the rows were made, and the certificate of one of them.
 
-use farkas_cert::{Certificate, Step, Steps, Terms};
+use farkas_cert::{Certificate, Step, Steps, System, Terms};
 use std::alloc::{AllocError, Global};
 
 /// How a row was made: of one row or two, by their numbers, with multipliers, and then divided.
@@ -11,27 +11,14 @@ pub(crate) struct Derivation {
     pub second: Option<(u64, i128)>,
 }
 
-/// The derivations in the order in which they were made. The system's rows are numbered from 1,
-/// and the rows that the derivations make behind them.
-#[derive(Drop)]
-pub(crate) struct Log {
-    pub given: usize,
-    pub made: Vec<Derivation>,
-}
-
-impl Log {
-    pub fn new(alloc: Global, given: usize) -> Self {
-        Log {
-            given,
-            made: Vec::new(alloc),
-        }
-    }
-
-    // Adds a derivation, and gives the number of its row.
-    pub fn push(&mut self, derivation: Derivation) -> Result<u64, AllocError> {
-        self.made.push(derivation)?;
-        Ok((self.given + self.made.len()) as u64)
-    }
+// Adds a derivation, and gives the number of its row: the system's rows come first.
+pub(crate) fn derive(
+    system: &System,
+    log: &mut Vec<Derivation>,
+    derivation: Derivation,
+) -> Result<u64, AllocError> {
+    log.push(derivation)?;
+    Ok((system.rows().len() + log.len()) as u64)
 }
 
 // Marks the row's derivation, if it is none of the given rows.
@@ -42,15 +29,15 @@ fn mark(needed: &mut [bool], given: usize, number: u64) {
 }
 
 // Which derivations the row of this number needs, from it back to the given rows.
-fn needed_for(alloc: Global, log: &Log, number: u64) -> Result<Vec<bool>, AllocError> {
-    let mut needed = vec![in alloc; false; log.made.len()]?;
-    mark(needed.as_mut_slice(), log.given, number);
-    for place in (0..log.made.len()).rev() {
+fn needed_for(alloc: Global, given: usize, log: &[Derivation], number: u64) -> Result<Vec<bool>, AllocError> {
+    let mut needed = vec![in alloc; false; log.len()]?;
+    mark(needed.as_mut_slice(), given, number);
+    for place in (0..log.len()).rev() {
         if needed[place] {
-            let derivation = log.made[place];
-            mark(needed.as_mut_slice(), log.given, derivation.first.0);
+            let derivation = log[place];
+            mark(needed.as_mut_slice(), given, derivation.first.0);
             if let Some(second) = derivation.second {
-                mark(needed.as_mut_slice(), log.given, second.0);
+                mark(needed.as_mut_slice(), given, second.0);
             }
         }
     }
@@ -88,26 +75,28 @@ fn step_of(
 // The certificate that ends with the row of this number: one step for each derivation that it needs.
 pub(crate) fn certificate_of(
     alloc: Global,
-    log: &Log,
+    system: &System,
+    log: &[Derivation],
     number: u64,
 ) -> Result<Certificate, AllocError> {
-    let needed = needed_for(alloc, log, number)?;
-    let mut numbers = Vec::with_capacity(alloc, log.made.len())?;
+    let given = system.rows().len();
+    let needed = needed_for(alloc, given, log, number)?;
+    let mut numbers = Vec::with_capacity(alloc, log.len())?;
     let mut steps = Vec::new(alloc);
-    for (place, derivation) in log.made.iter().enumerate() {
+    for (place, derivation) in log.iter().enumerate() {
         if needed[place] {
-            let step = step_of(alloc, log.given, numbers.as_slice(), *derivation)?;
+            let step = step_of(alloc, given, numbers.as_slice(), *derivation)?;
             steps.push(step)?;
         }
-        numbers.push((log.given + steps.len()) as u64)?;
+        numbers.push((given + steps.len()) as u64)?;
     }
-    if number as usize <= log.given && number as usize != log.given {
+    if number as usize <= given && number as usize != given {
         let copy = Derivation {
             divisor: 1,
             first: (number, 1),
             second: None,
         };
-        let step = step_of(alloc, log.given, numbers.as_slice(), copy)?;
+        let step = step_of(alloc, given, numbers.as_slice(), copy)?;
         steps.push(step)?;
     }
     Ok(Certificate {

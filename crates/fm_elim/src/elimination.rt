@@ -2,7 +2,7 @@
 
 use crate::answer::{Answer, NoMemory};
 use crate::combination::narrow_sum;
-use crate::derivation::{Derivation, Log, certificate_of};
+use crate::derivation::{Derivation, certificate_of, derive};
 use crate::level::{Formed, Held, MOST_ROWS, first_level, is_empty, next_level};
 use farkas_cert::System;
 use std::alloc::{AllocError, Global};
@@ -60,33 +60,38 @@ fn clash(level: &[Held]) -> Option<(u64, u64)> {
 // The certificate of a contradiction that the level holds or two of its rows make.
 fn refutation(
     alloc: Global,
+    system: &System,
     level: &[Held],
-    log: &mut Log,
+    log: &mut Vec<Derivation>,
 ) -> Result<Option<Answer>, AllocError> {
     if let Some(number) = contradiction(level) {
-        return Ok(Some(Answer::Infeasible(certificate_of(alloc, log, number)?)));
+        return Ok(Some(Answer::Infeasible(certificate_of(alloc, system, log.as_slice(), number)?)));
     }
     if let Some((first, second)) = clash(level) {
-        let number = log.push(Derivation {
-            divisor: 1,
-            first: (first, 1),
-            second: Some((second, 1)),
-        })?;
-        return Ok(Some(Answer::Infeasible(certificate_of(alloc, log, number)?)));
+        let number = derive(
+            system,
+            log,
+            Derivation {
+                divisor: 1,
+                first: (first, 1),
+                second: Some((second, 1)),
+            },
+        )?;
+        return Ok(Some(Answer::Infeasible(certificate_of(alloc, system, log.as_slice(), number)?)));
     }
     Ok(None)
 }
 
 /// Decides.
 pub fn decide(alloc: Global, system: &System, order: &[u32]) -> Result<Answer, NoMemory> {
-    let mut log = Log::new(alloc, system.rows().len());
-    let mut rows = first_level(alloc, system.rows(), &mut log)?;
+    let mut log = Vec::new(alloc);
+    let mut rows = first_level(alloc, system, &mut log)?;
     for (index, variable) in order.iter().enumerate() {
-        if let Some(answer) = refutation(alloc, rows.as_slice(), &mut log)? {
+        if let Some(answer) = refutation(alloc, system, rows.as_slice(), &mut log)? {
             return Ok(answer);
         }
         let level = index as u32 + 1;
-        match next_level(alloc, rows, *variable, &mut log)? {
+        match next_level(alloc, system, rows, *variable, &mut log)? {
             Formed::Level(next) => rows = next,
             Formed::Wide(upper, lower) => {
                 return Ok(Answer::Wide {
@@ -103,7 +108,7 @@ pub fn decide(alloc: Global, system: &System, order: &[u32]) -> Result<Answer, N
             }
         }
     }
-    if let Some(answer) = refutation(alloc, rows.as_slice(), &mut log)? {
+    if let Some(answer) = refutation(alloc, system, rows.as_slice(), &mut log)? {
         return Ok(answer);
     }
     Ok(Answer::Open)

@@ -1,9 +1,9 @@
 // The rows of a level, and how the next one is formed.
 
 use crate::combination::{combine, multipliers};
-use crate::derivation::{Derivation, Log};
+use crate::derivation::{Derivation, derive};
 use crate::reduction::reduced;
-use farkas_cert::{Coefs, Row};
+use farkas_cert::{Coefs, Row, System};
 use std::alloc::{AllocError, Global};
 use std::cmp::Ordering;
 
@@ -76,15 +76,16 @@ fn tightest(alloc: Global, mut candidates: Vec<Candidate>) -> Result<Vec<Candida
 // Numbers the candidates, deriving those that have no number yet.
 fn numbered(
     alloc: Global,
+    system: &System,
     candidates: Vec<Candidate>,
-    log: &mut Log,
+    log: &mut Vec<Derivation>,
 ) -> Result<Vec<Held>, AllocError> {
     let mut level = Vec::with_capacity(alloc, candidates.len())?;
     for candidate in candidates {
         let Candidate { row, origin } = candidate;
         let number = match origin {
             Origin::Numbered(number) => number,
-            Origin::Made(derivation) => log.push(derivation)?,
+            Origin::Made(derivation) => derive(system, log, derivation)?,
         };
         level.push(Held { row, number })?;
     }
@@ -117,17 +118,17 @@ fn add(candidates: &mut Vec<Candidate>, candidate: Candidate) -> Result<(), Allo
 // Level 0: the given rows, reduced.
 pub(crate) fn first_level(
     alloc: Global,
-    rows: &[Row],
-    log: &mut Log,
+    system: &System,
+    log: &mut Vec<Derivation>,
 ) -> Result<Vec<Held>, AllocError> {
-    let mut candidates = Vec::with_capacity(alloc, rows.len())?;
-    for (index, row) in rows.iter().enumerate() {
+    let mut candidates = Vec::new(alloc);
+    for (index, row) in system.rows().iter().enumerate() {
         add(
             &mut candidates,
             given_candidate(alloc, row, index as u64 + 1)?,
         )?;
     }
-    numbered(alloc, tightest(alloc, candidates)?, log)
+    numbered(alloc, system, tightest(alloc, candidates)?, log)
 }
 
 /// The rows of a level by the sign of a variable's coefficient.
@@ -220,9 +221,10 @@ pub(crate) enum Formed {
 // The level that removes the variable from the rows of the level before it.
 pub(crate) fn next_level(
     alloc: Global,
+    system: &System,
     level: Vec<Held>,
     variable: u32,
-    log: &mut Log,
+    log: &mut Vec<Derivation>,
 ) -> Result<Formed, AllocError> {
     let BySign {
         apart,
@@ -242,5 +244,5 @@ pub(crate) fn next_level(
     if kept.len() > MOST_ROWS {
         return Ok(Formed::Many);
     }
-    Ok(Formed::Level(numbered(alloc, kept, log)?))
+    Ok(Formed::Level(numbered(alloc, system, kept, log)?))
 }
