@@ -22,7 +22,7 @@ combined-drop m n xs ys k d h same =
     rw (e, f, add-one) refl
 
 -- two products, then their sum
-both_narrow : (p q : ℤ) → stays_narrow (pos 0) (p ∷ q ∷ []) ≡ (is_narrow p && is_narrow q && is_narrow (p +ℤ q))
+pub both_narrow : (p q : ℤ) → stays_narrow (pos 0) (p ∷ q ∷ []) ≡ (is_narrow p && is_narrow q && is_narrow (p +ℤ q))
 both_narrow p q = rw (+ℤ_idl p) (cases (is_narrow p) (is_narrow q) (is_narrow (p +ℤ q)))
   where
     cases : (a b c : Bool) → (a && a && (b && c && true)) ≡ (a && b && c)

@@ -7,3 +7,4 @@ pub mod Exactness
 pub mod Back
 pub mod Columns
 pub mod Steps
+pub mod Lowest

@@ -104,9 +104,6 @@ once z = omega (arith, ints)
 
 -- a reduction
 module _ (vars : ℕ) (rows : List Row) (number g : ℕ) (row : Row) (suited : IsSuited vars row) (numbered : IsNumber rows number row) (positive : 0 < g) (each : DividesEach g row.coefs) where
-  reduction : Step
-  reduction = record { divisor = pos g; terms = (number, pos 1) ∷ [] }
-
   reduction-sums : (k : ℕ) → k ≤ vars → sum_at vars rows ((number, pos 1) ∷ []) k ≡ entry_at vars row k
   reduction-sums k h = +ℤ_idr (pos 1 *ℤ entry_at vars (row_at rows number) k) ∙ once (entry_at vars (row_at rows number) k) ∙ ap (λ r. entry_at vars r k) numbered.2
 
@@ -132,7 +129,7 @@ module _ (vars : ℕ) (rows : List Row) (number g : ℕ) (row : Row) (suited : I
   pub reduction_makes : made_row vars rows (record { divisor = pos g; terms = (number, pos 1) ∷ [] }) ≡ divided g row
   reduction_makes = made_from_sums vars rows (record { divisor = pos g; terms = (number, pos 1) ∷ [] }) row g suited.full refl reduction-sums
 
-length-combined : (m n : ℤ) (us ls : List ℤ) → length ls ≡ length us → length (combined m us n ls) ≡ length us
+pub length-combined : (m n : ℤ) (us ls : List ℤ) → length ls ≡ length us → length (combined m us n ls) ≡ length us
 length-combined m n [] [] same = refl
 length-combined m n [] (l ∷ ls) same = refl
 length-combined m n (u ∷ us) [] same = absurd (omega arith)
