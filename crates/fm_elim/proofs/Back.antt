@@ -38,7 +38,7 @@ pair_exists v upper lower above below =
     })
 
 -- the divisor of a reduction divides each coefficient and is above 0
-divides_max : (g : ℕ) (coefs : List ℤ) → DividesEach g coefs → DividesEach (max g 1) coefs
+pub divides_max : (g : ℕ) (coefs : List ℤ) → DividesEach g coefs → DividesEach (max g 1) coefs
 divides_max zero coefs each = λ k d h. one-dvd (unsigned_abs (get_or coefs k d))
 divides_max (suc g) coefs each = let e : max (suc g) 1 ≡ suc g = omega arith in subst (λ n. DividesEach n coefs) (sym e) each
 

@@ -8,3 +8,4 @@ pub mod Back
 pub mod Columns
 pub mod Steps
 pub mod Lowest
+pub mod Origins

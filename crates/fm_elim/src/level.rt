@@ -1,5 +1,17 @@
 // The rows of a level, and how the next one is formed.
 
+ghost use Rattle.std.specs.Prelude.{◌≡◌, ℕ, ◌≤◌, ◌<◌, ◌^◌, ℤ, pos, ◌≤ℤ◌, ◌<ℤ◌, IsTrue, IfOk, OnOk, ◌↔◌, List, length, filter, int_lt};
+ghost use Rattle.std.specs.List.{All, Contains};
+ghost use Rattle.std.specs.Ordering.{int_eq};
+ghost use Rattle.farkas_cert.specs.Inequalities.{Inequalities};
+ghost use Rattle.farkas_cert.specs.Combination.{is_narrow as narrow};
+ghost use Rattle.fm_elim.specs.declared.derivation.Derivation.{Derivation as Steps};
+ghost use Rattle.fm_elim.specs.Reduction.{IsReduced};
+ghost use Rattle.fm_elim.specs.Pairs.{coef_of as coef, combination as combination_of, IsPair, IsWide};
+ghost use Rattle.fm_elim.specs.Levels.{IsEmpty, IsRaw};
+ghost use Rattle.fm_elim.specs.Forming.{candidate_cmp, IsAdded, IsTightened, IsFormed, Covers};
+ghost use Rattle.fm_elim.specs.Logs.{all_rows, IsLog, IsNumber, IsSuited, IsFounded, IsHeld, rows_of, rows_among};
+
 use crate::combination::{combine, multipliers};
 use crate::derivation::{Derivation, derive};
 use crate::reduction::reduced;
@@ -32,16 +44,23 @@ pub(crate) struct Candidate {
 }
 
 // The coefficient of the variable, numbered from 1.
-pub(crate) fn coef_of(row: &Row, variable: u32) -> i128 {
+pub(crate) fn coef_of(row: &Row, variable: u32) -> i128
+    requires { (1 ≤ variable) × (variable ≤ length row.now.coefs) }
+    ensures { result ≡ coef variable row.now }
+{
     row.coefs.as_slice()[variable as usize - 1]
 }
 
 // The row has only zero coefficients.
-pub(crate) fn is_empty(row: &Row) -> bool {
+pub(crate) fn is_empty(row: &Row) -> bool
+    ensures { IsTrue result ↔ IsEmpty row.now }
+{
     row.coefs.as_slice().iter().all(|coef| *coef == 0)
 }
 
-fn copy_of(alloc: Global, row: &Row) -> Result<Row, AllocError> {
+fn copy_of(alloc: Global, row: &Row) -> Result<Row, AllocError>
+    ensures { IfOk result (λ copy. copy ≡ row.now) }
+{
     Ok(Row {
         coefs: Coefs::from_slice(alloc, row.coefs.as_slice())?,
         bound: row.bound,
@@ -49,7 +68,9 @@ fn copy_of(alloc: Global, row: &Row) -> Result<Row, AllocError> {
 }
 
 // By the coefficients, then by the bound.
-fn compare(a: &Candidate, b: &Candidate) -> Ordering {
+fn compare(a: &Candidate, b: &Candidate) -> Ordering
+    ensures { result ≡ candidate_cmp a.now b.now }
+{
     a.row
         .coefs
         .as_slice()
@@ -58,7 +79,9 @@ fn compare(a: &Candidate, b: &Candidate) -> Ordering {
 }
 
 // Of candidates with equal coefficients the one with the least bound.
-fn tightest(alloc: Global, mut candidates: Vec<Candidate>) -> Result<Vec<Candidate>, AllocError> {
+fn tightest(alloc: Global, mut candidates: Vec<Candidate>) -> Result<Vec<Candidate>, AllocError>
+    ensures { IfOk result (λ kept. IsTightened candidates.items kept.items) }
+{
     candidates.sort_unstable_by(|a, b| compare(a, b));
     let mut kept: Vec<Candidate> = Vec::new(alloc);
     for candidate in candidates {
@@ -93,7 +116,11 @@ fn numbered(
 }
 
 // A given row, reduced.
-fn given_candidate(alloc: Global, row: &Row, number: u64) -> Result<Candidate, AllocError> {
+fn given_candidate(alloc: Global, row: &Row, number: u64) -> Result<Candidate, AllocError>
+    requires { All (λ a. IsTrue (narrow a)) row.now.coefs }
+    ensures reduced { IfOk result (λ candidate. IsReduced row.now candidate.row) }
+    ensures founded { IfOk result (λ candidate. (system : Inequalities) (log : List Steps) → IsSuited system.vars row.now → IsNumber (all_rows system log) number row.now → IsFounded system log candidate) }
+{
     let (row, divisor) = reduced(alloc, copy_of(alloc, row)?)?;
     let origin = if divisor == 1 {
         Origin::Numbered(number)
@@ -108,7 +135,9 @@ fn given_candidate(alloc: Global, row: &Row, number: u64) -> Result<Candidate, A
 }
 
 // Adds a candidate, unless it is a row `0 <= bound` that holds.
-fn add(candidates: &mut Vec<Candidate>, candidate: Candidate) -> Result<(), AllocError> {
+fn add(candidates: &mut Vec<Candidate>, candidate: Candidate) -> Result<(), AllocError>
+    ensures { OnOk result (IsAdded candidates.old.items candidate candidates.new.items) }
+{
     if candidate.row.bound < 0 || !is_empty(&candidate.row) {
         candidates.push(candidate)?;
     }

@@ -1,4 +1,3 @@
-use Rattle.fm_elim.proofs.Lowest.{IsSuited-combination}
 use Rattle.std.proofs.Common.{arith}
 use Rattle.std.proofs.lemmas.Nat.Gcd.{IsGcd-from_zero, IsGcd-from_mod}
 use Rattle.fm_elim.proofs.reduction.greatest_common_divisor.Goals as goal
