@@ -32,10 +32,18 @@ gcd_exists a b = gcd_within b a b (omega arith)
 -- a pair of opposite sign has least multipliers
 pub pair_exists : (v : ℕ) (upper lower : Row) → pos 0 <ℤ coef_of v upper → coef_of v lower <ℤ pos 0 → (m : ℤ) × (n : ℤ) × IsPair v upper lower m n
 pair_exists v upper lower above below =
-    let found = gcd_exists (unsigned_abs (coef_of v upper)) (unsigned_abs (coef_of v lower)) in
-    (pos (unsigned_abs (coef_of v lower) / found.0), pos (unsigned_abs (coef_of v upper) / found.0), record {
-      above = above; below = below; divisor = found.0; common = found.1; upper_times = refl; lower_times = refl
-    })
+    let found = gcd_exists (unsigned_abs (coef_of v upper)) (unsigned_abs (coef_of v lower)) in (
+      pos (unsigned_abs (coef_of v lower) / found.0),
+      pos (unsigned_abs (coef_of v upper) / found.0),
+      record {
+        above = above;
+        below = below;
+        divisor = found.0;
+        common = found.1;
+        upper_times = refl;
+        lower_times = refl;
+      },
+    )
 
 -- the divisor of a reduction divides each coefficient and is above 0
 pub divides_max : (g : ℕ) (coefs : List ℤ) → DividesEach g coefs → DividesEach (max g 1) coefs
@@ -60,12 +68,12 @@ raw_from_reduced raw row x d hd reduced h =
 covered_holds : (rows : List Row) (row : Row) (x : List ℤ) (d : ℤ) → pos 1 ≤ℤ d → AllHold x d rows → Covers rows row → dot row.coefs x ≤ℤ (row.bound *ℤ d)
 covered_holds rows row x d hd all covers =
     ⊎_elim (λ none.
-        let zero' : (d *ℤ pos 0) ≤ℤ (d *ℤ row.bound) = mul_le_ℤ d _ _ (omega (arith, ints, hd)) none.1 in
-        omega (arith, ints, dot-zero row.coefs x none.0, zero', *ℤ-zero d, *ℤ_comm d row.bound))
-      (λ some.
-        let holds : dot some.0.coefs x ≤ℤ (some.0.bound *ℤ d) = All-contains (λ r. dot r.coefs x ≤ℤ (r.bound *ℤ d)) rows some.0 all some.1 in
-        let more : (d *ℤ some.0.bound) ≤ℤ (d *ℤ row.bound) = mul_le_ℤ d _ _ (omega (arith, ints, hd)) some.3 in
-        omega (arith, ints, holds, more, ap (λ cs. dot cs x) some.2, *ℤ_comm d some.0.bound, *ℤ_comm d row.bound)) covers
+    let zero' : (d *ℤ pos 0) ≤ℤ (d *ℤ row.bound) = mul_le_ℤ d _ _ (omega (arith, ints, hd)) none.1 in
+    omega (arith, ints, dot-zero row.coefs x none.0, zero', *ℤ-zero d, *ℤ_comm d row.bound))
+    (λ some.
+    let holds : dot some.0.coefs x ≤ℤ (some.0.bound *ℤ d) = All-contains (λ r. dot r.coefs x ≤ℤ (r.bound *ℤ d)) rows some.0 all some.1 in
+    let more : (d *ℤ some.0.bound) ≤ℤ (d *ℤ row.bound) = mul_le_ℤ d _ _ (omega (arith, ints, hd)) some.3 in
+    omega (arith, ints, holds, more, ap (λ cs. dot cs x) some.2, *ℤ_comm d some.0.bound, *ℤ_comm d row.bound)) covers
 
 -- where the formed list holds, every raw row does
 pub raw_holds : (raws : Row → Type 0) (rows : List Row) (x : List ℤ) (d : ℤ) → pos 1 ≤ℤ d → IsFormed raws rows → AllHold x d rows → (raw : Row) → raws raw → dot raw.coefs x ≤ℤ (raw.bound *ℤ d)
@@ -86,7 +94,7 @@ room_between v upper lower m n x d same pair holds =
     let upper_split = mul-add m (upper.bound *ℤ d) (neg_ℤ (dot upper.coefs x)) in
     let lower_split = mul-add n (lower.bound *ℤ d) (neg_ℤ (dot lower.coefs x)) in
     let together : pos 0 ≤ℤ (m *ℤ su +ℤ n *ℤ sl) =
-        omega (arith, ints, holds, sum, bound, upper_split, lower_split, mul-neg m (dot upper.coefs x), mul-neg n (dot lower.coefs x), mul_assoc_ℤ m upper.bound d, mul_assoc_ℤ n lower.bound d) in
+    omega (arith, ints, holds, sum, bound, upper_split, lower_split, mul-neg m (dot upper.coefs x), mul-neg n (dot lower.coefs x), mul_assoc_ℤ m upper.bound d, mul_assoc_ℤ n lower.bound d) in
     let scaled : (g *ℤ pos 0) ≤ℤ (g *ℤ (m *ℤ su +ℤ n *ℤ sl)) = mul_le_ℤ g _ _ (omega (arith, ints)) together in
     let lower_size : g *ℤ m ≡ neg_ℤ al = ap (λ z. g *ℤ z) pair.upper_times ∙ pos-*ℤ-pos pair.divisor (unsigned_abs al / pair.divisor) ∙ ap pos (mul-div_cancel' pair.divisor pair.common.1) ∙ size_below al pair.below in
     let upper_size : g *ℤ n ≡ au = ap (λ z. g *ℤ z) pair.lower_times ∙ pos-*ℤ-pos pair.divisor (unsigned_abs au / pair.divisor) ∙ ap pos (mul-div_cancel' pair.divisor pair.common.0) ∙ size_above au pair.above in
@@ -108,17 +116,20 @@ solvable_before v vars rows next low high full formed s =
     let holds : (raw : Row) → IsRaw v (Contains rows) raw → dot raw.coefs s.x ≤ℤ (raw.bound *ℤ s.d) = raw_holds (IsRaw v (Contains rows)) next s.x s.d s.divisor formed s.holds in
     let full' : All (λ r. length r.coefs ≡ length s.x) rows = λ k e h. full k e h ∙ sym s.values in
     let found = solvable v s.x s.d rows s.divisor full' (omega (arith, s.values))
-          (λ k e h none. let at = holds (get_or rows k e) (inl (Contains-get_or rows k e h, none)) in omega (arith, ints, at))
-          (λ upper lower has_upper has_lower above below.
-            let pair = pair_exists v upper lower above below in
-            let same : length lower.coefs ≡ length upper.coefs = All-contains (λ r. length r.coefs ≡ vars) rows lower full has_lower ∙ sym (All-contains (λ r. length r.coefs ≡ vars) rows upper full has_upper) in
-            room_between v upper lower pair.0 pair.1 s.x s.d same pair.2
-              (holds (combination pair.0 upper pair.1 lower) (inr (record { upper = upper; lower = lower; m = pair.0; n = pair.1; has_upper = has_upper; has_lower = has_lower; pair = pair.2; made = refl })))) in
+    (λ k e h none. let at = holds (get_or rows k e) (inl (Contains-get_or rows k e h, none)) in omega (arith, ints, at))
+    (λ upper lower has_upper has_lower above below.
+    let pair = pair_exists v upper lower above below in
+    let same : length lower.coefs ≡ length upper.coefs = All-contains (λ r. length r.coefs ≡ vars) rows lower full has_lower ∙ sym (All-contains (λ r. length r.coefs ≡ vars) rows upper full has_upper) in
+    room_between v upper lower pair.0 pair.1 s.x s.d same pair.2
+    (holds (combination pair.0 upper pair.1 lower) (inr (record { upper = upper; lower = lower; m = pair.0; n = pair.1; has_upper = has_upper; has_lower = has_lower; pair = pair.2; made = refl })))) in
     subst (λ n. IsSolvable n rows) s.values found
 
 -- level 0 back to the system
 pub solvable_system : (vars : ℕ) (rows next : List Row) → IsFormed (Contains rows) next → IsSolvable vars next → IsSolvable vars rows
 solvable_system vars rows next formed s = record {
-  x = s.x; d = s.d; values = s.values; divisor = s.divisor;
-  holds = λ k e h. raw_holds (Contains rows) next s.x s.d s.divisor formed s.holds (get_or rows k e) (Contains-get_or rows k e h)
+  x = s.x;
+  d = s.d;
+  values = s.values;
+  divisor = s.divisor;
+  holds = λ k e h. raw_holds (Contains rows) next s.x s.d s.divisor formed s.holds (get_or rows k e) (Contains-get_or rows k e h);
 }

@@ -87,8 +87,8 @@ IsRid-next order k vars rows next full rid formed i d h j lt =
         let same : length b.lower.coefs ≡ length b.upper.coefs = len b.lower b.has_lower ∙ sym (len b.upper b.has_upper) in
         by_lt {P = coef_of (slice_index order j) raw ≡ pos 0} j k
         (λ below. ap (λ r. coef_of (slice_index order j) r) b.made ∙ combined-zero b.m b.n b.upper.coefs b.lower.coefs (slice_index order j - 1) same
-            (All-contains (λ r. (j : ℕ) → j < k → coef_of (slice_index order j) r ≡ pos 0) rows b.upper rid b.has_upper j below)
-            (All-contains (λ r. (j : ℕ) → j < k → coef_of (slice_index order j) r ≡ pos 0) rows b.lower rid b.has_lower j below))
+        (All-contains (λ r. (j : ℕ) → j < k → coef_of (slice_index order j) r ≡ pos 0) rows b.upper rid b.has_upper j below)
+        (All-contains (λ r. (j : ℕ) → j < k → coef_of (slice_index order j) r ≡ pos 0) rows b.lower rid b.has_lower j below))
         (λ above. let e : k ≡ j = omega arith in subst (λ n. coef_of (slice_index order n) raw ≡ pos 0) e (ap (λ r. coef_of (slice_index order k) r) b.made ∙ pair-cancels (slice_index order k) b.upper b.lower b.m b.n same b.pair))
 
 -- where the order names each variable, no coefficient is left
@@ -104,6 +104,9 @@ empty_from_rid order vars row named full rid k d h =
 -- no row at all is satisfied by zeros
 pub solvable_nothing : (vars : ℕ) (rows : List Row) → ((r : Row) → Contains rows r → ⊥) → IsSolvable vars rows
 solvable_nothing vars rows none = record {
-  x = replicate vars (pos 0); d = pos 1; values = length-replicate vars (pos 0); divisor = omega (arith, ints);
-  holds = λ k e h. absurd (none (get_or rows k e) (Contains-get_or rows k e h))
+  x = replicate vars (pos 0);
+  d = pos 1;
+  values = length-replicate vars (pos 0);
+  divisor = omega (arith, ints);
+  holds = λ k e h. absurd (none (get_or rows k e) (Contains-get_or rows k e h));
 }

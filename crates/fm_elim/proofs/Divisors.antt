@@ -26,9 +26,10 @@ IsCommonDivisor-nil = (λ k d h. absurd (omega arith), λ d h. dvd-zero d)
 
 -- one number more
 pub IsCommonDivisor-more : (coefs : List ℤ) (i : ℕ) (d : ℤ) (g h : ℕ) → i < length coefs → IsCommonDivisor (take i coefs) g → IsGcd (unsigned_abs (get_or coefs i d)) g h → IsCommonDivisor (take (i + 1) coefs) h
-IsCommonDivisor-more coefs i d g h within common gcd =
-    (All-more (λ a. h ∣ unsigned_abs a) coefs i d within (All-weaker (λ a. g ∣ unsigned_abs a) (λ a. h ∣ unsigned_abs a) (λ a e. dvd_trans h gcd.1 e) (take i coefs) common.0) gcd.0,
-      λ e each. gcd.2 e (All-last (λ a. e ∣ unsigned_abs a) coefs i d within each) (common.1 e (All-first (λ a. e ∣ unsigned_abs a) coefs i each)))
+IsCommonDivisor-more coefs i d g h within common gcd = (
+  All-more (λ a. h ∣ unsigned_abs a) coefs i d within (All-weaker (λ a. g ∣ unsigned_abs a) (λ a. h ∣ unsigned_abs a) (λ a e. dvd_trans h gcd.1 e) (take i coefs) common.0) gcd.0,
+  λ e each. gcd.2 e (All-last (λ a. e ∣ unsigned_abs a) coefs i d within each) (common.1 e (All-first (λ a. e ∣ unsigned_abs a) coefs i each)),
+)
 
 -- where the first numbers have no common divisor but 1, all have none
 pub IsCommonDivisor-one : (coefs : List ℤ) (n : ℕ) → IsCommonDivisor (take n coefs) 1 → IsCommonDivisor coefs 1

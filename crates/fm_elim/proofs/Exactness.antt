@@ -33,10 +33,10 @@ distinct_same : (rows : List Row) → AllPairs (λ r s. r.coefs ≡ s.coefs → 
 distinct_same rows apart r s a b e =
     let here : get_or rows b.0 r ≡ s = get_or_default rows b.0 r s b.1 ∙ b.2 in
     by_lt {P = r ≡ s} a.0 b.0
-      (λ lt. absurd (apart a.0 b.0 r lt b.1 (ap (λ x. x.coefs) a.2 ∙ e ∙ sym (ap (λ x. x.coefs) here))))
-      (λ ge. by_lt {P = r ≡ s} b.0 a.0
-        (λ lt. absurd (apart b.0 a.0 r lt a.1 (ap (λ x. x.coefs) here ∙ sym e ∙ sym (ap (λ x. x.coefs) a.2))))
-        (λ le. let same : a.0 ≡ b.0 = omega arith in sym a.2 ∙ ap (λ k. get_or rows k r) same ∙ here))
+    (λ lt. absurd (apart a.0 b.0 r lt b.1 (ap (λ x. x.coefs) a.2 ∙ e ∙ sym (ap (λ x. x.coefs) here))))
+    (λ ge. by_lt {P = r ≡ s} b.0 a.0
+    (λ lt. absurd (apart b.0 a.0 r lt a.1 (ap (λ x. x.coefs) here ∙ sym e ∙ sym (ap (λ x. x.coefs) a.2))))
+    (λ le. let same : a.0 ≡ b.0 = omega arith in sym a.2 ∙ ap (λ k. get_or rows k r) same ∙ here))
 
 module _ (raws : Row → Type 0) (rows : List Row) (formed : IsFormed raws rows) where
   -- what the list has, the level keeps
@@ -44,15 +44,15 @@ module _ (raws : Row → Type 0) (rows : List Row) (formed : IsFormed raws rows)
   kept_from_formed r there = record {
     reduced = All-contains (λ s. (raw : Row) × raws raw × IsReduced raw s) rows r formed.sound there;
     least = λ raw other has reduced same.
-      let found = formed.complete raw has in
-      let one : found.0 ≡ other = IsReduced-unique raw found.0 other found.1 reduced in
-      let covered : Covers rows other = subst (Covers rows) one found.2 in
-      ⊎_elim (λ none. let empty : IsEmpty r = subst (λ xs. All (λ a. a ≡ pos 0) xs) same none.0 in
-          let low = All-contains (λ s. IsEmpty s → s.bound <ℤ pos 0) rows r formed.useful there empty in
-          omega (arith, ints, low, none.1))
+        let found = formed.complete raw has in
+        let one : found.0 ≡ other = IsReduced-unique raw found.0 other found.1 reduced in
+        let covered : Covers rows other = subst (Covers rows) one found.2 in
+        ⊎_elim (λ none. let empty : IsEmpty r = subst (λ xs. All (λ a. a ≡ pos 0) xs) same none.0 in
+        let low = All-contains (λ s. IsEmpty s → s.bound <ℤ pos 0) rows r formed.useful there empty in
+        omega (arith, ints, low, none.1))
         (λ some. let twin : r ≡ some.0 = distinct_same rows formed.distinct r some.0 there some.1 (sym same ∙ sym some.2) in
-          omega (arith, ints, ap (λ s. s.bound) twin, some.3)) covered;
-    useful = All-contains (λ s. IsEmpty s → s.bound <ℤ pos 0) rows r formed.useful there
+        omega (arith, ints, ap (λ s. s.bound) twin, some.3)) covered;
+    useful = All-contains (λ s. IsEmpty s → s.bound <ℤ pos 0) rows r formed.useful there;
   }
 
   -- what the level keeps, the list has
@@ -63,11 +63,11 @@ module _ (raws : Row → Type 0) (rows : List Row) (formed : IsFormed raws rows)
       let one : found.0 ≡ r = IsReduced-unique raw found.0 r found.1 kept.reduced.2 in
       let covered : Covers rows r = subst (Covers rows) one found.2 in
       ⊎_elim (λ none. absurd (let low = kept.useful none.0 in omega (arith, ints, low, none.1)))
-        (λ some.
-          let made = All-contains (λ s. (raw' : Row) × raws raw' × IsReduced raw' s) rows some.0 formed.sound some.1 in
-          let least = kept.least made.0 some.0 made.1 made.2 some.2 in
-          let bound : some.0.bound ≡ r.bound = omega (arith, ints, least, some.3) in
-          subst (Contains rows) (row_same some.0 r some.2 bound) some.1) covered
+      (λ some.
+      let made = All-contains (λ s. (raw' : Row) × raws raw' × IsReduced raw' s) rows some.0 formed.sound some.1 in
+      let least = kept.least made.0 some.0 made.1 made.2 some.2 in
+      let bound : some.0.bound ≡ r.bound = omega (arith, ints, least, some.3) in
+      subst (Contains rows) (row_same some.0 r some.2 bound) some.1) covered
 
 -- the list has exactly the rows of the set
 pub record IsExact (set : Row → Type 0) (rows : List Row) : Type 0 where
@@ -79,13 +79,13 @@ module _ (v : ℕ) (set other : Row → Type 0) (forth : (r : Row) → set r →
   pub raw_of_other : (raw : Row) → IsRaw v set raw → IsRaw v other raw
   raw_of_other raw h =
       ⊎_elim (λ alone. inl (forth raw alone.0, alone.1))
-        (λ both. inr (record { upper = both.upper; lower = both.lower; m = both.m; n = both.n; has_upper = forth both.upper both.has_upper; has_lower = forth both.lower both.has_lower; pair = both.pair; made = both.made })) h
+      (λ both. inr (record { upper = both.upper; lower = both.lower; m = both.m; n = both.n; has_upper = forth both.upper both.has_upper; has_lower = forth both.lower both.has_lower; pair = both.pair; made = both.made })) h
 
 kept_of_other : (raws other : Row → Type 0) → ((r : Row) → raws r → other r) → ((r : Row) → other r → raws r) → (r : Row) → IsKept raws r → IsKept other r
 kept_of_other raws other forth back r kept = record {
   reduced = (kept.reduced.0, forth kept.reduced.0 kept.reduced.1, kept.reduced.2);
   least = λ raw o has reduced same. kept.least raw o (back raw has) reduced same;
-  useful = kept.useful
+  useful = kept.useful;
 }
 
 -- level 0
@@ -102,5 +102,5 @@ IsExact-next system order k rows next exact formed =
     let back : (r : Row) → there r → here r = raw_of_other v (λ r. IsDerived system order k r) (Contains rows) exact.has in
     record {
       has = λ r h. formed_has_kept here next formed r (kept_of_other there here back forth r h);
-      only = λ r h. kept_of_other here there forth back r (kept_from_formed here next formed r h)
+      only = λ r h. kept_of_other here there forth back r (kept_from_formed here next formed r h);
     }

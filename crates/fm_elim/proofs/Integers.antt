@@ -34,9 +34,9 @@ mul_swap a b c = sym (mul_assoc_ℤ a b c) ∙ ap (λ z. z *ℤ c) (*ℤ_comm a 
 pub mul_le_cancel : (m a b : ℤ) → pos 0 <ℤ m → (m *ℤ a) ≤ℤ (m *ℤ b) → a ≤ℤ b
 mul_le_cancel m a b h k =
     by_lt_z {P = a ≤ℤ b} b a (λ lt.
-      let more : (b +ℤ pos 1) ≤ℤ a = omega (arith, ints) in
-      let scaled : (m *ℤ (b +ℤ pos 1)) ≤ℤ (m *ℤ a) = mul_le_ℤ m (b +ℤ pos 1) a (omega (arith, ints)) more in
-      absurd (omega (arith, ints, scaled, mul-add m b (pos 1), *ℤ-one' m, k, h))) (λ le. le)
+    let more : (b +ℤ pos 1) ≤ℤ a = omega (arith, ints) in
+    let scaled : (m *ℤ (b +ℤ pos 1)) ≤ℤ (m *ℤ a) = mul_le_ℤ m (b +ℤ pos 1) a (omega (arith, ints)) more in
+    absurd (omega (arith, ints, scaled, mul-add m b (pos 1), *ℤ-one' m, k, h))) (λ le. le)
 
 pub mul-neg : (a b : ℤ) → a *ℤ neg_ℤ b ≡ neg_ℤ (a *ℤ b)
 mul-neg a b =

@@ -9,3 +9,4 @@ pub mod Columns
 pub mod Steps
 pub mod Lowest
 pub mod Origins
+pub mod Tightening

@@ -33,14 +33,15 @@ divides_back d g (a ∷ coefs) each parts =
     let whole : g * (unsigned_abs a / g) ≡ unsigned_abs a = mul-div_cancel' g (All-head (λ b. g ∣ unsigned_abs b) a coefs each) in
     let same : unsigned_abs a / g * g ≡ unsigned_abs a = omega (arith, whole) in
     All-cons (λ b. d * g ∣ unsigned_abs b) a coefs (subst (λ n. d * g ∣ n) same (mul-dvd-mul_right d here g))
-      (divides_back d g coefs (All-tail (λ b. g ∣ unsigned_abs b) a coefs each) (All-tail (λ b. d ∣ unsigned_abs b) (int_div a (pos g)) (map (λ b. int_div b (pos g)) coefs) parts))
+    (divides_back d g coefs (All-tail (λ b. g ∣ unsigned_abs b) a coefs each) (All-tail (λ b. d ∣ unsigned_abs b) (int_div a (pos g)) (map (λ b. int_div b (pos g)) coefs) parts))
 
 -- division by a greatest common divisor leaves none but 1
 common_after : (g : ℕ) (coefs : List ℤ) → 0 < g → IsCommonDivisor coefs g → IsCommonDivisor (map (λ a. int_div a (pos g)) coefs) 1
-common_after g coefs positive common =
-    (λ k d h. one-dvd (unsigned_abs (get_or (map (λ a. int_div a (pos g)) coefs) k d)),
-      λ d each. let more : d * g ∣ 1 * g = subst (λ n. d * g ∣ n) (omega arith) (common.1 (d * g) (divides_back d g coefs common.0 each)) in
-      dvd_of_mul-dvd-mul_right d positive more)
+common_after g coefs positive common = (
+  λ k d h. one-dvd (unsigned_abs (get_or (map (λ a. int_div a (pos g)) coefs) k d)),
+  λ d each. let more : d * g ∣ 1 * g = subst (λ n. d * g ∣ n) (omega arith) (common.1 (d * g) (divides_back d g coefs common.0 each)) in
+      dvd_of_mul-dvd-mul_right d positive more,
+)
 
 -- where the greatest common divisor is 0, the quotients by 1 have it too
 common_zero : (coefs : List ℤ) → IsCommonDivisor coefs 0 → IsCommonDivisor (divided 1 (record { coefs = coefs; bound = pos 0 })).coefs 0
@@ -71,7 +72,7 @@ pub IsSuited-divided : (vars g : ℕ) (row : Row) → IsSuited vars row → IsSu
 IsSuited-divided vars g row suited = record {
   full = length-map row.coefs (λ a. int_div a (pos g)) ∙ suited.full;
   coefs = All-map (λ a. IsTrue (is_narrow a)) (λ a. int_div a (pos g)) row.coefs (λ k d h. quotient_narrow (get_or row.coefs k d) g (suited.coefs k d h));
-  bound = floor_narrow row.bound g suited.bound
+  bound = floor_narrow row.bound g suited.bound;
 }
 
 -- a combination that is nowhere wide is suited
@@ -87,11 +88,11 @@ pub IsSuited-combination : (vars : ℕ) (m n : ℤ) (upper lower : Row) → leng
 IsSuited-combination vars m n upper lower hu hl narrow =
     let long : length (combined m upper.coefs n lower.coefs) ≡ vars = length-combined m n upper.coefs lower.coefs (hl ∙ sym hu) ∙ hu in
     let at : (k : ℕ) → k ≤ vars → IsTrue (is_narrow (entry_at vars (combination m upper n lower) k)) =
-        λ k h. subst (λ z. IsTrue (is_narrow z)) (sym (entry-combination vars m n upper lower k hu hl h)) (sum_narrow (m *ℤ entry_at vars upper k) (n *ℤ entry_at vars lower k) (narrow k h)) in
+    λ k h. subst (λ z. IsTrue (is_narrow z)) (sym (entry-combination vars m n upper lower k hu hl h)) (sum_narrow (m *ℤ entry_at vars upper k) (n *ℤ entry_at vars lower k) (narrow k h)) in
     record {
       full = long;
       coefs = λ k d h.
-        let within : k < vars = omega (arith, h, long) in
-        subst (λ z. IsTrue (is_narrow z)) (entry_at-coef vars (combination m upper n lower) k within ∙ get_or_default (combined m upper.coefs n lower.coefs) k (pos 0) d h) (at k (omega arith));
-      bound = subst (λ z. IsTrue (is_narrow z)) (entry_at-bound vars (combination m upper n lower)) (at vars (omega arith))
+          let within : k < vars = omega (arith, h, long) in
+          subst (λ z. IsTrue (is_narrow z)) (entry_at-coef vars (combination m upper n lower) k within ∙ get_or_default (combined m upper.coefs n lower.coefs) k (pos 0) d h) (at k (omega arith));
+      bound = subst (λ z. IsTrue (is_narrow z)) (entry_at-bound vars (combination m upper n lower)) (at vars (omega arith));
     }

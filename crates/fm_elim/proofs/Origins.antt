@@ -36,7 +36,7 @@ module _ (system : Inequalities) (log : List Derivation) (raw row : Row) (number
       let good = good_reduction system.vars (all_rows system log) number (max g 1) raw suited numbered (omega arith) each in
       let makes = reduction_makes system.vars (all_rows system log) number (max g 1) raw suited numbered (omega arith) each in
       subst (λ z. IsFounded system log (record { row = row; origin = Made (record { divisor = z; first = (number, pos 1); second = None }) })) (sym e)
-        (record { suited = suited_here; origin = (good, makes ∙ sym reduced.1) })
+      (record { suited = suited_here; origin = (good, makes ∙ sym reduced.1) })
 
 -- the combination of a pair, reduced
 pub combination_founded : (system : Inequalities) (log : List Derivation) (upper lower row : Row) (m n d : ℤ) (a b g : ℕ) → IsSuited system.vars upper → IsSuited system.vars lower → IsNumber (all_rows system log) a upper → IsNumber (all_rows system log) b lower → pos 0 ≤ℤ m → pos 0 ≤ℤ n → IsNarrow system.vars m upper n lower → IsReducedBy g (combination m upper n lower) row → d ≡ pos (max g 1) → IsFounded system log (record { row = row; origin = Made (record { divisor = d; first = (a, m); second = Some (b, n) }) })
@@ -47,4 +47,4 @@ combination_founded system log upper lower row m n d a b g su sl na nb hm hn nar
     let makes = combination_makes system.vars (all_rows system log) a b (max g 1) m n upper lower su.full sl.full na nb hm hn narrow (omega arith) each in
     let suited : IsSuited system.vars row = subst (IsSuited system.vars) (sym reduced.1) (IsSuited-divided system.vars (max g 1) raw (IsSuited-combination system.vars m n upper lower su.full sl.full narrow)) in
     subst (λ z. IsFounded system log (record { row = row; origin = Made (record { divisor = z; first = (a, m); second = Some (b, n) }) })) (sym e)
-      (record { suited = suited; origin = (good, makes ∙ sym reduced.1) })
+    (record { suited = suited; origin = (good, makes ∙ sym reduced.1) })

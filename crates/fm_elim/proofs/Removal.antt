@@ -45,7 +45,7 @@ module _ (v : ℕ) (x : List ℤ) (d : ℤ) (row : Row) (rows : List Row) where
   first_alone above none = record {
     there = (0, omega arith, refl);
     above = above;
-    tighter = All-cons (IsTighter v x d row) row rows (λ h. ≤ℤ_refl (slack x d row *ℤ coef_of v row)) (All-weaker (λ r. coef_of v r ≤ℤ pos 0) (IsTighter v x d row) (λ r below above'. absurd (omega (arith, ints, below, above'))) rows none)
+    tighter = All-cons (IsTighter v x d row) row rows (λ h. ≤ℤ_refl (slack x d row *ℤ coef_of v row)) (All-weaker (λ r. coef_of v r ≤ℤ pos 0) (IsTighter v x d row) (λ r below above'. absurd (omega (arith, ints, below, above'))) rows none);
   }
 
   -- the first row is no tighter
@@ -53,7 +53,7 @@ module _ (v : ℕ) (x : List ℤ) (d : ℤ) (row : Row) (rows : List Row) where
   first_looser top best here = record {
     there = Contains-tail top row rows best.there;
     above = best.above;
-    tighter = All-cons (IsTighter v x d top) row rows here best.tighter
+    tighter = All-cons (IsTighter v x d top) row rows here best.tighter;
   }
 
   -- the first row is tighter
@@ -62,7 +62,7 @@ module _ (v : ℕ) (x : List ℤ) (d : ℤ) (row : Row) (rows : List Row) where
     there = (0, omega arith, refl);
     above = above;
     tighter = All-cons (IsTighter v x d row) row rows (λ h. ≤ℤ_refl (slack x d row *ℤ coef_of v row))
-      (All-weaker (IsTighter v x d top) (IsTighter v x d row) (λ r upto h. ratio_trans (slack x d row) (coef_of v row) (slack x d top) (coef_of v top) (slack x d r) (coef_of v r) above best.above h less (upto h)) rows best.tighter)
+        (All-weaker (IsTighter v x d top) (IsTighter v x d row) (λ r upto h. ratio_trans (slack x d row) (coef_of v row) (slack x d top) (coef_of v top) (slack x d r) (coef_of v r) above best.above h less (upto h)) rows best.tighter);
   }
 
   Next : Type 0
@@ -73,8 +73,8 @@ module _ (v : ℕ) (x : List ℤ) (d : ℤ) (row : Row) (rows : List Row) where
   with_best top best =
       by_lt_z {P = Next} (pos 0) (coef_of v row)
       (λ above. by_lt_z {P = Next} (slack x d row *ℤ coef_of v top) (slack x d top *ℤ coef_of v row)
-        (λ less. inl (row, first_tighter top best above (omega (arith, ints, less))))
-        (λ more. inl (top, first_looser top best (λ h. more))))
+      (λ less. inl (row, first_tighter top best above (omega (arith, ints, less))))
+      (λ more. inl (top, first_looser top best (λ h. more))))
       (λ not_above. inl (top, first_looser top best (λ h. absurd (omega (arith, ints, h, not_above)))))
 
   with_none : All (λ r. coef_of v r ≤ℤ pos 0) rows → Next
@@ -140,8 +140,8 @@ pub record IsSolvable (vars : ℕ) (rows : List Row) : Type 0 where
 
 -- the rows without the variable hold, and each pair of opposite sign leaves room between
 module _ (v : ℕ) (x : List ℤ) (d : ℤ) (rows : List Row) (divisor : pos 1 ≤ℤ d) (full : All (λ r. length r.coefs ≡ length x) rows) (within : v - 1 < length x)
-  (apart : All (λ r. coef_of v r ≡ pos 0 → pos 0 ≤ℤ slack x d r) rows)
-  (room : (upper lower : Row) → Contains rows upper → Contains rows lower → pos 0 <ℤ coef_of v upper → coef_of v lower <ℤ pos 0 → (coef_of v lower *ℤ slack x d upper) ≤ℤ (coef_of v upper *ℤ slack x d lower)) where
+    (apart : All (λ r. coef_of v r ≡ pos 0 → pos 0 ≤ℤ slack x d r) rows)
+    (room : (upper lower : Row) → Contains rows upper → Contains rows lower → pos 0 <ℤ coef_of v upper → coef_of v lower <ℤ pos 0 → (coef_of v lower *ℤ slack x d upper) ≤ℤ (coef_of v upper *ℤ slack x d lower)) where
   -- at the tightest bound from above
   at_top : (top : Row) → IsTightest v x d rows top → IsSolvable (length x) rows
   at_top top best = record {
@@ -150,9 +150,9 @@ module _ (v : ℕ) (x : List ℤ) (d : ℤ) (rows : List Row) (divisor : pos 1 �
     values = length-moved (coef_of v top) (slack x d top) (v - 1) x;
     divisor = product_above (coef_of v top) d best.above divisor;
     holds = λ k e h.
-      let row = get_or rows k e in
-      let there = Contains-get_or rows k e h in
-      holds_moved v x d top row (full k e h) within (fits row there (best.tighter k e h) (apart k e h))
+        let row = get_or rows k e in
+        let there = Contains-get_or rows k e h in
+        holds_moved v x d top row (full k e h) within (fits row there (best.tighter k e h) (apart k e h));
   }
     where
       product_above : (a b : ℤ) → pos 0 <ℤ a → pos 1 ≤ℤ b → pos 1 ≤ℤ (a *ℤ b)
@@ -163,12 +163,12 @@ module _ (v : ℕ) (x : List ℤ) (d : ℤ) (rows : List Row) (divisor : pos 1 �
           by_lt_z {P = (coef_of v row *ℤ slack x d top) ≤ℤ (coef_of v top *ℤ slack x d row)} (pos 0) (coef_of v row)
           (λ above. omega (arith, ints, tighter above, *ℤ_comm (coef_of v row) (slack x d top), *ℤ_comm (coef_of v top) (slack x d row)))
           (λ not_above. by_lt_z {P = (coef_of v row *ℤ slack x d top) ≤ℤ (coef_of v top *ℤ slack x d row)} (coef_of v row) (pos 0)
-            (λ below. room top row best.there there best.above below)
-            (λ not_below.
-              let none : coef_of v row ≡ pos 0 = omega (arith, ints, not_above, not_below) in
-              let left = ap (λ z. z *ℤ slack x d top) none ∙ zero-*ℤ (slack x d top) in
-              let right : (coef_of v top *ℤ pos 0) ≤ℤ (coef_of v top *ℤ slack x d row) = mul_le_ℤ (coef_of v top) (pos 0) (slack x d row) (omega (arith, ints, best.above)) (alone none) in
-              omega (arith, ints, left, right)))
+          (λ below. room top row best.there there best.above below)
+          (λ not_below.
+          let none : coef_of v row ≡ pos 0 = omega (arith, ints, not_above, not_below) in
+          let left = ap (λ z. z *ℤ slack x d top) none ∙ zero-*ℤ (slack x d top) in
+          let right : (coef_of v top *ℤ pos 0) ≤ℤ (coef_of v top *ℤ slack x d row) = mul_le_ℤ (coef_of v top) (pos 0) (slack x d row) (omega (arith, ints, best.above)) (alone none) in
+          omega (arith, ints, left, right)))
 
   -- far enough up, where no row bounds it from above
   far_up : All (λ r. coef_of v r ≤ℤ pos 0) rows → IsSolvable (length x) rows
@@ -178,9 +178,9 @@ module _ (v : ℕ) (x : List ℤ) (d : ℤ) (rows : List Row) (divisor : pos 1 �
     values = length-moved (pos 1) (pos (reach x d rows)) (v - 1) x;
     divisor = divisor;
     holds = λ k e h.
-      let row = get_or rows k e in
-      let sum = dot-moved (pos 1) (pos (reach x d rows)) (v - 1) row.coefs x (omega (arith, full k e h, within)) (omega (arith, full k e h)) in
-      omega (arith, ints, sum, fits row (none k e h) (apart k e h) (within_reach x d rows k e h))
+        let row = get_or rows k e in
+        let sum = dot-moved (pos 1) (pos (reach x d rows)) (v - 1) row.coefs x (omega (arith, full k e h, within)) (omega (arith, full k e h)) in
+        omega (arith, ints, sum, fits row (none k e h) (apart k e h) (within_reach x d rows k e h));
   }
     where
       fits : (row : Row) → coef_of v row ≤ℤ pos 0 → (coef_of v row ≡ pos 0 → pos 0 ≤ℤ slack x d row) → unsigned_abs (slack x d row) ≤ reach x d rows → (coef_of v row *ℤ pos (reach x d rows)) ≤ℤ slack x d row
@@ -188,8 +188,8 @@ module _ (v : ℕ) (x : List ℤ) (d : ℤ) (rows : List Row) (divisor : pos 1 �
           by_lt_z {P = (coef_of v row *ℤ pos (reach x d rows)) ≤ℤ slack x d row} (coef_of v row) (pos 0)
           (λ below. far_below (coef_of v row) (slack x d row) (reach x d rows) below size)
           (λ not_below.
-            let zero' : coef_of v row ≡ pos 0 = omega (arith, ints, not_above, not_below) in
-            omega (arith, ints, ap (λ z. z *ℤ pos (reach x d rows)) zero' ∙ zero-*ℤ (pos (reach x d rows)), alone zero'))
+          let zero' : coef_of v row ≡ pos 0 = omega (arith, ints, not_above, not_below) in
+          omega (arith, ints, ap (λ z. z *ℤ pos (reach x d rows)) zero' ∙ zero-*ℤ (pos (reach x d rows)), alone zero'))
 
   pub solvable : IsSolvable (length x) rows
   solvable = ⊎_elim (λ best. at_top best.0 best.1) far_up (tightest v x d rows)

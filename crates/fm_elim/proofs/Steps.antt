@@ -62,7 +62,7 @@ IsGoodStep-append vars rows more step good = record {
   named = λ k d h. let at = good.named k d h in (at.0, omega (arith, at.1, length-append rows more));
   narrow = λ k h. subst (λ ps. IsTrue (stays_narrow (pos 0) ps)) (sym (products-append vars rows more step.terms k good.named)) (good.narrow k h);
   divisor = good.divisor;
-  divides = λ k h. ap (λ ps. int_rem (total ps) step.divisor) (products-append vars rows more step.terms k good.named) ∙ good.divides k h
+  divides = λ k h. ap (λ ps. int_rem (total ps) step.divisor) (products-append vars rows more step.terms k good.named) ∙ good.divides k h;
 }
 
 pub made_row-append : (vars : ℕ) (rows more : List Row) (step : Step) → IsGoodStep vars rows step → made_row vars (rows ++ more) step ≡ made_row vars rows step
@@ -74,7 +74,7 @@ module _ (vars : ℕ) (rows : List Row) (step : Step) (raw : Row) (g : ℕ) (ful
   made_from_sums =
       let f : ℕ → ℤ = λ k. int_div (sum_at vars rows step.terms k) step.divisor in
       let at : (k : ℕ) → k < vars → get_or (map (λ a. int_div a (pos g)) raw.coefs) k (pos 0) ≡ f k =
-          λ k h. quotient-at k raw.coefs (omega arith) ∙ ap (λ z. int_div z (pos g)) (sym (sums k (omega arith) ∙ entry_at-coef vars raw k h)) ∙ ap (λ z. int_div (sum_at vars rows step.terms k) z) (sym divisor) in
+      λ k h. quotient-at k raw.coefs (omega arith) ∙ ap (λ z. int_div z (pos g)) (sym (sums k (omega arith) ∙ entry_at-coef vars raw k h)) ∙ ap (λ z. int_div (sum_at vars rows step.terms k) z) (sym divisor) in
       let coefs = fill_by_all f (map (λ a. int_div a (pos g)) raw.coefs) vars (pos 0) (length-map raw.coefs (λ a. int_div a (pos g)) ∙ full) at in
       let bound : int_div_euclid (sum_at vars rows step.terms vars) step.divisor ≡ int_div_euclid raw.bound (pos g) = ap (λ z. int_div_euclid z step.divisor) (sums vars (omega arith) ∙ entry_at-bound vars raw) ∙ ap (int_div_euclid raw.bound) divisor in
       ap (λ xs. record { coefs = xs; bound = int_div_euclid (sum_at vars rows step.terms vars) step.divisor }) (sym coefs) ∙ ap (λ b. record { coefs = map (λ a. int_div a (pos g)) raw.coefs; bound = b }) bound
@@ -112,11 +112,11 @@ module _ (vars : ℕ) (rows : List Row) (number g : ℕ) (row : Row) (suited : I
     multipliers = All-cons (λ t. pos 0 ≤ℤ t.1) (number, pos 1) [] (omega (arith, ints)) (All-nil (λ t. pos 0 ≤ℤ t.1));
     named = All-cons (λ t. (1 ≤ t.0) × (t.0 ≤ length rows)) (number, pos 1) [] (numbered.0, numbered.1) (All-nil (λ t. (1 ≤ t.0) × (t.0 ≤ length rows)));
     narrow = λ k h.
-      let e = entry_at vars (row_at rows number) k in
-      let small : IsTrue (is_narrow e) = subst (λ r. IsTrue (is_narrow (entry_at vars r k))) (sym numbered.2) (narrow-entry vars row k suited h) in
-      alone e small;
+        let e = entry_at vars (row_at rows number) k in
+        let small : IsTrue (is_narrow e) = subst (λ r. IsTrue (is_narrow (entry_at vars r k))) (sym numbered.2) (narrow-entry vars row k suited h) in
+        alone e small;
     divisor = omega (arith, ints);
-    divides = divides_from_sums vars rows (record { divisor = pos g; terms = (number, pos 1) ∷ [] }) row g suited.full refl reduction-sums each
+    divides = divides_from_sums vars rows (record { divisor = pos g; terms = (number, pos 1) ∷ [] }) row g suited.full refl reduction-sums each;
   }
     where
       alone : (z : ℤ) → IsTrue (is_narrow z) → IsTrue (stays_narrow (pos 0) ((pos 1 *ℤ z) ∷ []))
@@ -141,7 +141,7 @@ entry-combination vars m n upper lower k hu hl h =
     by_lt {P = entry_at vars (combination m upper n lower) k ≡ m *ℤ entry_at vars upper k +ℤ n *ℤ entry_at vars lower k} k vars
     (λ lt. entry_at-coef vars (combination m upper n lower) k lt ∙ combined-at m n upper.coefs lower.coefs k (hl ∙ sym hu) ∙ ap (λ z. m *ℤ z +ℤ n *ℤ get_or lower.coefs k (pos 0)) (sym (entry_at-coef vars upper k lt)) ∙ ap (λ z. m *ℤ entry_at vars upper k +ℤ n *ℤ z) (sym (entry_at-coef vars lower k lt)))
     (λ ge. let e : vars ≡ k = omega arith in subst (λ i. entry_at vars (combination m upper n lower) i ≡ m *ℤ entry_at vars upper i +ℤ n *ℤ entry_at vars lower i) e
-      (entry_at-bound vars (combination m upper n lower) ∙ ap (λ z. m *ℤ z +ℤ n *ℤ lower.bound) (sym (entry_at-bound vars upper)) ∙ ap (λ z. m *ℤ entry_at vars upper vars +ℤ n *ℤ z) (sym (entry_at-bound vars lower))))
+    (entry_at-bound vars (combination m upper n lower) ∙ ap (λ z. m *ℤ z +ℤ n *ℤ lower.bound) (sym (entry_at-bound vars upper)) ∙ ap (λ z. m *ℤ entry_at vars upper vars +ℤ n *ℤ z) (sym (entry_at-bound vars lower))))
 
 -- a combination
 module _ (vars : ℕ) (rows : List Row) (a b g : ℕ) (m n : ℤ) (upper lower : Row) (hu : length upper.coefs ≡ vars) (hl : length lower.coefs ≡ vars) (na : IsNumber rows a upper) (nb : IsNumber rows b lower) (hm : pos 0 ≤ℤ m) (hn : pos 0 ≤ℤ n) (narrow : IsNarrow vars m upper n lower) (positive : 0 < g) (each : DividesEach g (combination m upper n lower).coefs) where
@@ -155,7 +155,7 @@ module _ (vars : ℕ) (rows : List Row) (a b g : ℕ) (m n : ℤ) (upper lower :
     named = All-cons (λ t. (1 ≤ t.0) × (t.0 ≤ length rows)) (a, m) ((b, n) ∷ []) (na.0, na.1) (All-cons (λ t. (1 ≤ t.0) × (t.0 ≤ length rows)) (b, n) [] (nb.0, nb.1) (All-nil (λ t. (1 ≤ t.0) × (t.0 ≤ length rows))));
     narrow = λ k h. subst (λ r. IsTrue (stays_narrow (pos 0) ((m *ℤ entry_at vars r k) ∷ (n *ℤ entry_at vars (row_at rows b) k) ∷ []))) (sym na.2) (subst (λ r. IsTrue (stays_narrow (pos 0) ((m *ℤ entry_at vars upper k) ∷ (n *ℤ entry_at vars r k) ∷ []))) (sym nb.2) (narrow k h));
     divisor = omega (arith, ints);
-    divides = divides_from_sums vars rows (record { divisor = pos g; terms = (a, m) ∷ (b, n) ∷ [] }) (combination m upper n lower) g (length-combined m n upper.coefs lower.coefs (hl ∙ sym hu) ∙ hu) refl combination-sums each
+    divides = divides_from_sums vars rows (record { divisor = pos g; terms = (a, m) ∷ (b, n) ∷ [] }) (combination m upper n lower) g (length-combined m n upper.coefs lower.coefs (hl ∙ sym hu) ∙ hu) refl combination-sums each;
   }
 
   pub combination_makes : made_row vars rows (record { divisor = pos g; terms = (a, m) ∷ (b, n) ∷ [] }) ≡ divided g (combination m upper n lower)

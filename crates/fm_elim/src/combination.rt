@@ -82,7 +82,7 @@ pub(crate) fn combine(
     requires { length lower.now.coefs ≡ length upper.now.coefs }
     ensures { let vars = length upper.now.coefs in
         IfOk result (λ o. MatchOption o (IsWide vars m upper.now n lower.now)
-            (λ row. (row ≡ combination_of m upper.now n lower.now) × IsNarrow vars m upper.now n lower.now)) }
+        (λ row. (row ≡ combination_of m upper.now n lower.now) × IsNarrow vars m upper.now n lower.now)) }
 {
     let Some(bound) = weighted_sum(m, upper.bound, n, lower.bound) else {
         return Ok(None);

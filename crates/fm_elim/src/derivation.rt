@@ -29,7 +29,12 @@ fn mark(needed: &mut [bool], given: usize, number: u64) {
 }
 
 // Which derivations the row of this number needs, from it back to the given rows.
-fn needed_for(alloc: Global, given: usize, log: &[Derivation], number: u64) -> Result<Vec<bool>, AllocError> {
+fn needed_for(
+    alloc: Global,
+    given: usize,
+    log: &[Derivation],
+    number: u64,
+) -> Result<Vec<bool>, AllocError> {
     let mut needed = vec![in alloc; false; log.len()]?;
     mark(needed.as_mut_slice(), given, number);
     for place in (0..log.len()).rev() {

@@ -1,7 +1,8 @@
 // The rows of a level, and how the next one is formed.
 
-ghost use Rattle.std.specs.Prelude.{◌≡◌, ℕ, ◌≤◌, ◌<◌, ◌^◌, ℤ, pos, ◌≤ℤ◌, ◌<ℤ◌, IsTrue, IfOk, OnOk, ◌↔◌, List, length, filter, int_lt};
+ghost use Rattle.std.specs.Prelude.{◌≡◌, ℕ, ◌≤◌, ◌<◌, ◌^◌, ℤ, pos, ◌≤ℤ◌, ◌<ℤ◌, IsTrue, IfOk, OnOk, ◌↔◌, List, length, filter, int_lt, slice_index_or, ◌-◌};
 ghost use Rattle.std.specs.List.{All, Contains};
+ghost use Rattle.std.specs.List.Sorted.{IsSorted};
 ghost use Rattle.std.specs.Ordering.{int_eq};
 ghost use Rattle.farkas_cert.specs.Inequalities.{Inequalities};
 ghost use Rattle.farkas_cert.specs.Combination.{is_narrow as narrow};
@@ -78,22 +79,42 @@ fn compare(a: &Candidate, b: &Candidate) -> Ordering
         .then(a.row.bound.cmp(&b.row.bound))
 }
 
+fn are_same(coefs: &[i128], others: &[i128]) -> bool
+    ensures { IsTrue result ↔ (coefs.now ≡ others.now) }
+{
+    coefs == others
+}
+
+// The candidate has the coefficients of the last one kept.
+fn repeats(kept: &[Candidate], candidate: &Candidate) -> bool
+    ensures { IsTrue result ↔ ((0 < length kept.now) × ((d : Candidate) → (slice_index_or kept.now (length kept.now - 1) d).row.coefs ≡ candidate.now.row.coefs)) }
+{
+    match kept.last() {
+        Some(last) => are_same(last.row.coefs.as_slice(), candidate.row.coefs.as_slice()),
+        None => false,
+    }
+}
+
+// The first of each run of candidates with equal coefficients.
+fn first_of_each(alloc: Global, candidates: Vec<Candidate>) -> Result<Vec<Candidate>, AllocError>
+    requires { IsSorted candidate_cmp candidates.items }
+    ensures { IfOk result (λ kept. IsTightened candidates.items kept.items) }
+{
+    let mut kept = Vec::new(alloc);
+    for candidate in candidates {
+        if !repeats(kept.as_slice(), &candidate) {
+            kept.push(candidate)?;
+        }
+    }
+    Ok(kept)
+}
+
 // Of candidates with equal coefficients the one with the least bound.
 fn tightest(alloc: Global, mut candidates: Vec<Candidate>) -> Result<Vec<Candidate>, AllocError>
     ensures { IfOk result (λ kept. IsTightened candidates.items kept.items) }
 {
     candidates.sort_unstable_by(|a, b| compare(a, b));
-    let mut kept: Vec<Candidate> = Vec::new(alloc);
-    for candidate in candidates {
-        let same = match kept.last() {
-            Some(last) => last.row.coefs.as_slice() == candidate.row.coefs.as_slice(),
-            None => false,
-        };
-        if !same {
-            kept.push(candidate)?;
-        }
-    }
-    Ok(kept)
+    first_of_each(alloc, candidates)
 }
 
 // Numbers the candidates, deriving those that have no number yet.
@@ -262,10 +283,17 @@ pub(crate) fn next_level(
     } = split_by_sign(alloc, level, variable)?;
     let mut candidates = carried(alloc, apart)?;
     for upper in &uppers {
-        if let Some(index) =
-            add_pairs(alloc, &mut candidates, upper, lowers.as_slice(), variable)?
-        {
-            let wide = Formed::Wide(copy_of(alloc, &upper.row)?, copy_of(alloc, &lowers[index].row)?);
+        if let Some(index) = add_pairs(
+            alloc,
+            &mut candidates,
+            upper,
+            lowers.as_slice(),
+            variable,
+        )? {
+            let wide = Formed::Wide(
+                copy_of(alloc, &upper.row)?,
+                copy_of(alloc, &lowers[index].row)?,
+            );
             return Ok(wide);
         }
     }

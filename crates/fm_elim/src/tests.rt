@@ -16,7 +16,11 @@ enum Short {
     Refused,
 }
 
-fn system_of(alloc: Global, vars: u32, rows: &[(&[i128], i128)]) -> Result<Option<System>, AllocError> {
+fn system_of(
+    alloc: Global,
+    vars: u32,
+    rows: &[(&[i128], i128)],
+) -> Result<Option<System>, AllocError> {
     let mut made = Vec::new(alloc);
     for (coefs, bound) in rows {
         if coefs.len() != vars as usize {
@@ -32,16 +36,19 @@ fn system_of(alloc: Global, vars: u32, rows: &[(&[i128], i128)]) -> Result<Optio
 
 fn shortened(alloc: Global, system: &System, order: &[u32]) -> Result<Short, Fail> {
     Ok(match decide(alloc, system, order)? {
-        Answer::Infeasible(certificate) => {
-            Short::Infeasible(certificate.steps.as_slice().len())
-        }
+        Answer::Infeasible(certificate) => { Short::Infeasible(certificate.steps.as_slice().len()) }
         Answer::Open => Short::Open,
         Answer::Wide { level, .. } => Short::Wide(level),
         Answer::Many { level, count } => Short::Many(level, count),
     })
 }
 
-fn answer(alloc: Global, vars: u32, order: &[u32], rows: &[(&[i128], i128)]) -> Result<Short, Fail> {
+fn answer(
+    alloc: Global,
+    vars: u32,
+    order: &[u32],
+    rows: &[(&[i128], i128)],
+) -> Result<Short, Fail> {
     match system_of(alloc, vars, rows)? {
         Some(system) => shortened(alloc, &system, order),
         None => Ok(Short::Refused),

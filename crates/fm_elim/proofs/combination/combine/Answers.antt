@@ -83,6 +83,7 @@ returns c =
     let so_far = simp to_z-of_z at c.loop-k.invariant.narrow in
     let back : to_z w128 (of_z w128 c.in-Some.bound) ≡ c.in-Some.bound = to_z-of_z w128 c.in-Some.bound fits_s in
     let coefs : c.loop-k.coefs ≡ combined c.args.m u.coefs c.args.n l.coefs = sym (append-nil c.loop-k.coefs) ∙ ap (λ xs. c.loop-k.coefs ++ xs) (sym (combined-done c.args.m c.args.n u.coefs l.coefs k whole)) ∙ entries in
-    let last : IsTrue (stays_narrow (pos 0) (products_of vars c.args.m u c.args.n l vars)) = rw (entry_at-bound vars u, entry_at-bound vars l) bound.0 in
-    (ap (λ xs. record { coefs = xs; bound = to_z w128 (of_z w128 c.in-Some.bound) }) coefs ∙ ap (λ b. record { coefs = combined c.args.m u.coefs c.args.n l.coefs; bound = b }) (back ∙ sym bound.1),
-      λ j h. by_lt j vars (λ lt. so_far j (omega arith)) (λ ge. let e : vars ≡ j = omega arith in subst (λ i. IsTrue (stays_narrow (pos 0) (products_of vars c.args.m u c.args.n l i))) e last))
+    let last : IsTrue (stays_narrow (pos 0) (products_of vars c.args.m u c.args.n l vars)) = rw (entry_at-bound vars u, entry_at-bound vars l) bound.0 in (
+      ap (λ xs. record { coefs = xs; bound = to_z w128 (of_z w128 c.in-Some.bound) }) coefs ∙ ap (λ b. record { coefs = combined c.args.m u.coefs c.args.n l.coefs; bound = b }) (back ∙ sym bound.1),
+      λ j h. by_lt j vars (λ lt. so_far j (omega arith)) (λ ge. let e : vars ≡ j = omega arith in subst (λ i. IsTrue (stays_narrow (pos 0) (products_of vars c.args.m u c.args.n l i))) e last),
+    )

@@ -7,5 +7,5 @@ use Rattle.fm_elim.proofs.combination.combine.Given as goal
 abbrev pub invariant-loop-k : goal.invariant-loop-k
 invariant-loop-k l = record {
   entries : l.coefs ++ combined l.m (drop l.k l.upper.coefs) l.n (drop l.k l.lower.coefs) ≡ combined l.m l.upper.coefs l.n l.lower.coefs;
-  narrow : (k : ℕ) → k < l.k → IsTrue (stays_narrow (pos 0) (products_of (length l.upper.coefs) l.m l.upper l.n l.lower k))
+  narrow : (k : ℕ) → k < l.k → IsTrue (stays_narrow (pos 0) (products_of (length l.upper.coefs) l.m l.upper l.n l.lower k));
 }

@@ -25,7 +25,9 @@ returns c =
     let size_above : unsigned_abs c.args.upper ≤ 2 ^ 126 = le_from_narrow c.args.upper c.requires.upper_narrow in
     let size_below : unsigned_abs c.args.lower ≤ 2 ^ 126 = le_from_narrow c.args.lower c.requires.lower_narrow in
     let fits_below : unsigned_abs c.args.lower / g < 2 ^ 127 = omega (arith, quotient_le (unsigned_abs c.args.lower) g, size_below) in
-    let fits_above : unsigned_abs c.args.upper / g < 2 ^ 127 = omega (arith, quotient_le (unsigned_abs c.args.upper) g, size_above) in
-    (g, subst (λ b. IsGcd (unsigned_abs c.args.upper) b g) below (subst (λ a. IsGcd a c.unsigned_abs-below.result g) above c.greatest_common_divisor-divisor.ensures.common),
+    let fits_above : unsigned_abs c.args.upper / g < 2 ^ 127 = omega (arith, quotient_le (unsigned_abs c.args.upper) g, size_above) in (
+      g,
+      subst (λ b. IsGcd (unsigned_abs c.args.upper) b g) below (subst (λ a. IsGcd a c.unsigned_abs-below.result g) above c.greatest_common_divisor-divisor.ensures.common),
       ap (λ n. to_z w128 (n / g)) below ∙ to_z_pos w128 (unsigned_abs c.args.lower / g) fits_below,
-      ap (λ n. to_z w128 (n / g)) above ∙ to_z_pos w128 (unsigned_abs c.args.upper / g) fits_above)
+      ap (λ n. to_z w128 (n / g)) above ∙ to_z_pos w128 (unsigned_abs c.args.upper / g) fits_above,
+    )

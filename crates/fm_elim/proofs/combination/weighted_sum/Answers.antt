@@ -14,4 +14,4 @@ returns c =
     let fits_x : FitsSigned w128 c.in_ok-narrow_product.field-0 = search rules in
     let fits_y : FitsSigned w128 c.in_ok-narrow_product-2.field-0 = search rules in
     weighted_sum_is (c.args.m *ℤ c.args.a) (c.args.n *ℤ c.args.b) c.in_ok-narrow_product.field-0 c.in_ok-narrow_product-2.field-0 c.narrow_sum.result
-      (simp to_z-of_z at c.in_ok-narrow_product.ensures) (simp to_z-of_z at c.in_ok-narrow_product-2.ensures) (simp to_z-of_z at c.narrow_sum.ensures)
+    (simp to_z-of_z at c.in_ok-narrow_product.ensures) (simp to_z-of_z at c.in_ok-narrow_product-2.ensures) (simp to_z-of_z at c.narrow_sum.ensures)

@@ -21,8 +21,8 @@ returns-clause-founded c = λ system log suited numbered.
     let fits : FitsSigned w128 c.in_ok-row.divisor = search rules in
     let back : to_z w128 (of_z w128 c.in_ok-row.divisor) ≡ c.in_ok-row.divisor = to_z-of_z w128 c.in_ok-row.divisor fits in
     elim c.if-divisor-eq1.branch [
-      then-divisor-eq1 w ↦ subst (λ o. IsFounded system log (record { row = c.in_ok-row.row; origin = o })) (sym w.origin-is)
-        (founded_by_one system log c.args.row.now c.in_ok-row.row c.args.number g reduced suited numbered (sym found.1 ∙ sym back ∙ ap (to_z w128) w.if-divisor-eq1.true))
-    | else-divisor-eq1 w ↦ subst (λ o. IsFounded system log (record { row = c.in_ok-row.row; origin = o })) (sym w.origin-is)
-        (founded_by_more system log c.args.row.now c.in_ok-row.row c.args.number g reduced suited numbered (to_z w128 (of_z w128 c.in_ok-row.divisor)) (back ∙ found.1))
+      | then-divisor-eq1 w ↦ subst (λ o. IsFounded system log (record { row = c.in_ok-row.row; origin = o })) (sym w.origin-is)
+          (founded_by_one system log c.args.row.now c.in_ok-row.row c.args.number g reduced suited numbered (sym found.1 ∙ sym back ∙ ap (to_z w128) w.if-divisor-eq1.true))
+      | else-divisor-eq1 w ↦ subst (λ o. IsFounded system log (record { row = c.in_ok-row.row; origin = o })) (sym w.origin-is)
+          (founded_by_more system log c.args.row.now c.in_ok-row.row c.args.number g reduced suited numbered (to_z w128 (of_z w128 c.in_ok-row.divisor)) (back ∙ found.1))
     ]

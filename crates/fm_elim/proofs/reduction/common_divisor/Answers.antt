@@ -18,7 +18,7 @@ loop-coef-preserved c =
     let narrow : c.unsigned_abs.result ≤ 2 ^ 126 = subst (λ n. n ≤ 2 ^ 126) (sym size) (le_from_narrow (get_or xs i (pos 0)) (c.requires i (pos 0) c.loop-coef-test.true)) in
     record {
       common = IsCommonDivisor-more xs i (pos 0) c.loop-coef.divisor _ c.loop-coef-test.true c.loop-coef.invariant.common gcd;
-      size = omega arith
+      size = omega arith;
     }
 
 pub returns-then-divisor-eq1-clause-common : goal.returns-then-divisor-eq1-clause-common

@@ -5,7 +5,7 @@ use Rattle.fm_elim.proofs.reduction.greatest_common_divisor.Given as goal
 abbrev pub invariant-loop-y : goal.invariant-loop-y
 invariant-loop-y l = record {
   common : (g : ℕ) → IsGcd l.x l.y g → IsGcd l.fn.a l.fn.b g;
-  size : max l.x l.y ≤ max l.fn.a l.fn.b
+  size : max l.x l.y ≤ max l.fn.a l.fn.b;
 }
 
 abbrev pub decreases-loop-y : goal.decreases-loop-y

@@ -23,5 +23,5 @@ returns c =
     let fits : FitsSigned w128 c.args.row.bound = search rules in
     let fits_quotient : FitsSigned w128 c.div_euclid-bound.result = search rules in
     let bound : to_z w128 (of_z w128 c.div_euclid-bound.result) ≡ int_div_euclid c.args.row.bound (pos (max g 1)) =
-        to_z-of_z w128 c.div_euclid-bound.result fits_quotient ∙ c.div_euclid-bound.ensures ∙ ap (λ z. int_div_euclid z (to_z w128 g)) (to_z-of_z w128 c.args.row.bound fits) ∙ ap (int_div_euclid c.args.row.bound) (positive ∙ ap pos same) in
+    to_z-of_z w128 c.div_euclid-bound.result fits_quotient ∙ c.div_euclid-bound.ensures ∙ ap (λ z. int_div_euclid z (to_z w128 g)) (to_z-of_z w128 c.args.row.bound fits) ∙ ap (int_div_euclid c.args.row.bound) (positive ∙ ap pos same) in
     (g, positive ∙ ap pos same, (common, ap (λ xs. record { coefs = xs; bound = to_z w128 (of_z w128 c.div_euclid-bound.result) }) coefs ∙ ap (λ b. record { coefs = map (λ a. int_div a (pos (max g 1))) c.args.row.coefs; bound = b }) bound))
