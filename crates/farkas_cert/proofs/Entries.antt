@@ -1,8 +1,7 @@
 -- The sums of a step, entry by entry.
-use Rattle.std.proofs.Common.{◌≡◌, ℕ, zero, suc, ◌+◌, ◌-◌, ◌<◌, ℤ, pos, Bool, true, false, if◌then◌else◌, Option, Some, None, List, [], ◌∷◌, ◌++◌, map, add-one, refl, ap, sym, ◌∙◌, arith}
+use Rattle.std.proofs.Common.{◌≡◌, ℕ, ◌+◌, ℤ, pos, Bool, true, false, if◌then◌else◌, Some, None, List, add-one, refl, sym}
 use Rattle.std.specs.List.{range_with_len}
 use Rattle.std.proofs.lemmas.Option.{cond_some}
-use Rattle.std.proofs.lemmas.List.FromFn.{map-range_with_len_more}
 use Rattle.farkas_cert.specs.declared.system.Row.{Row}
 use Rattle.farkas_cert.specs.Combination.{products_at, sum_at, stays_narrow}
 use Rattle.farkas_cert.specs.Fault.{first_wide}
@@ -15,10 +14,10 @@ fails_where_none false x h = refl
 module _ (vars : ℕ) (rows : List Row) (terms : List (ℕ × ℤ)) (k n m : ℕ) (left : n ≡ m + 1) where
   -- the entry passes the limit
   pub first_wide_where_none : None ≡ (if stays_narrow (pos 0) (products_at vars rows terms k) then Some (sum_at vars rows terms k) else None) → first_wide vars rows terms (range_with_len k n) ≡ Some k
-  first_wide_where_none h = rw (left, add-one, fails_where_none (stays_narrow (pos 0) (products_at vars rows terms k)) (sum_at vars rows terms k) h) refl
+  first_wide_where_none h = rw (left, add-one m, fails_where_none (stays_narrow (pos 0) (products_at vars rows terms k)) (sum_at vars rows terms k) h) refl
 
   -- it doesn't
   pub first_wide_where_some : (sum : ℤ) → Some sum ≡ (if stays_narrow (pos 0) (products_at vars rows terms k) then Some (sum_at vars rows terms k) else None) → (first_wide vars rows terms (range_with_len k n) ≡ first_wide vars rows terms (range_with_len (k + 1) m)) × (sum_at vars rows terms k ≡ sum)
   first_wide_where_some sum h =
       let parts = cond_some (stays_narrow (pos 0) (products_at vars rows terms k)) (sum_at vars rows terms k) sum (sym h) in
-      (rw (left, add-one, parts.0) refl, parts.1)
+      (rw (left, add-one m, parts.0) refl, parts.1)

@@ -1,10 +1,10 @@
 -- A good certificate excludes every whole solution.
-use Rattle.std.proofs.Common.{◌≡◌, ℕ, zero, suc, ◌+◌, ◌-◌, ◌≤◌, ◌<◌, ℤ, pos, negsuc, ◌+ℤ◌, ◌*ℤ◌, ◌≤ℤ◌, ◌<ℤ◌, int_div, int_rem, IsSomeAnd, List, [], ◌∷◌, ◌++◌, map, length, slice_get, get_or, refl, ap, sym, ◌∙◌, subst, arith}
+use Rattle.std.proofs.Common.{◌≡◌, ℕ, zero, suc, ◌-◌, ℤ, pos, ◌*ℤ◌, ◌≤ℤ◌, int_div, IsSomeAnd, List, [], ◌∷◌, ◌++◌, length, slice_get, refl, ap, sym, ◌∙◌, subst, arith}
 use Rattle.std.specs.Int.{int_div_euclid}
-use Rattle.std.specs.List.{All, range_with_len}
+use Rattle.std.specs.List.{All}
 use Rattle.std.proofs.lemmas.Int.{ints}
 use Rattle.std.proofs.lemmas.List.Elements.{All-push}
-use Rattle.std.proofs.Math.IntN.{*ℤ_comm, zero-*ℤ}
+use Rattle.std.proofs.Math.IntN.{zero-*ℤ}
 use Rattle.farkas_cert.specs.declared.system.Row.{Row}
 use Rattle.farkas_cert.specs.declared.certificate.Step.{Step}
 use Rattle.farkas_cert.specs.declared.certificate.Certificate.{Certificate}
@@ -29,7 +29,7 @@ pub rows_after-hold : (rows : List Row) (steps : List Step) (xs : List ℤ) → 
 rows_after-hold rows [] xs holds good = holds
 rows_after-hold rows (step ∷ steps) xs holds good =
     rows_after-hold (rows ++ made_row (length xs) rows step ∷ []) steps xs
-      (All-push (λ r. Holds r xs) rows (made_row (length xs) rows step) holds (made_row-holds rows step xs holds good.0)) good.1
+    (All-push (λ r. Holds r xs) rows (made_row (length xs) rows step) holds (made_row-holds rows step xs holds good.0)) good.1
 
 -- zero coefficients give 0
 dot-zero : (coefs xs : List ℤ) → All (λ a. a ≡ pos 0) coefs → dot coefs xs ≡ pos 0

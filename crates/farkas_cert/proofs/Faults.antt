@@ -1,5 +1,5 @@
 -- The faults of a step whose terms are good.
-use Rattle.std.proofs.Common.{◌≡◌, ℕ, ◌+◌, ℤ, pos, ◌<ℤ◌, int_lt, int_div, int_rem, Bool, true, false, ◌&&◌, if◌then◌else◌, Some, None, List, [], ◌∷◌, map, length, refl, ap, sym, ◌∙◌, arith}
+use Rattle.std.proofs.Common.{◌≡◌, ℕ, ◌+◌, ℤ, pos, ◌<ℤ◌, int_lt, int_div, int_rem, Bool, true, false, ◌&&◌, if◌then◌else◌, Some, None, List, [], ◌∷◌, map, length, refl, ap, ◌∙◌, arith}
 use Rattle.std.specs.Int.{int_div_euclid}
 use Rattle.std.specs.Ordering.{int_eq}
 use Rattle.std.specs.List.{list_all, range_with_len}
@@ -37,6 +37,6 @@ made_row-sums vars rows step sums row coefs bound quotients rounded =
     let last : row.bound ≡ int_div_euclid (sum_at vars rows step.terms vars) step.divisor = rounded ∙ ap (λ z. int_div_euclid z step.divisor) bound in
     let of : List ℤ → ℤ → Row = λ cs b. record { coefs = cs; bound = b } in
     ap (λ cs. of cs row.bound) same ∙ ap (of (map (λ k. int_div (sum_at vars rows step.terms k) step.divisor) (range_with_len 0 vars))) last where
-  map-map : {X Y Z : Type 0} (g : Y → Z) (f : X → Y) (xs : List X) → map g (map f xs) ≡ map (λ x. g (f x)) xs
-  map-map g f [] = refl
-  map-map g f (x ∷ xs) = ap (λ zs. g (f x) ∷ zs) (map-map g f xs)
+      map-map : {X Y Z : Type 0} (g : Y → Z) (f : X → Y) (xs : List X) → map g (map f xs) ≡ map (λ x. g (f x)) xs
+      map-map g f [] = refl
+      map-map g f (x ∷ xs) = ap (λ zs. g (f x) ∷ zs) (map-map g f xs)

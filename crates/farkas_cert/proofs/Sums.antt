@@ -1,13 +1,13 @@
 -- Weighted sums of values, and the sum of terms over rows that hold.
-use Rattle.std.proofs.Common.{◌≡◌, ℕ, zero, suc, ◌+◌, ◌-◌, ◌≤◌, ◌<◌, ℤ, pos, negsuc, ◌+ℤ◌, ◌*ℤ◌, ◌≤ℤ◌, int_div, int_rem, nat_lt, List, [], ◌∷◌, map, length, get_or, slice_index_or, refl, ap, sym, ◌∙◌, arith}
+use Rattle.std.proofs.Common.{◌≡◌, ℕ, suc, ◌+◌, ◌-◌, ◌≤◌, ◌<◌, ℤ, pos, ◌+ℤ◌, ◌*ℤ◌, ◌≤ℤ◌, List, [], ◌∷◌, map, length, slice_index_or, refl, ap, sym, ◌∙◌, arith}
 use Rattle.std.specs.List.{All, range_with_len}
 use Rattle.std.proofs.lemmas.Int.{ints}
 use Rattle.std.proofs.Math.IntN.{*ℤ_comm, *ℤ-zero}
 use Rattle.std.proofs.lemmas.Bool.Decides.{nat_tests}
 use Rattle.farkas_cert.specs.declared.system.Row.{Row}
 use Rattle.farkas_cert.specs.Inequalities.{dot, Holds}
-use Rattle.farkas_cert.specs.Combination.{row_at, no_row, entry_at, products_at, sum_at, total}
-use Rattle.farkas_cert.proofs.Integers.{add-mul, mul_assoc_ℤ, mul_le_ℤ, div_exact}
+use Rattle.farkas_cert.specs.Combination.{row_at, no_row, entry_at, sum_at}
+use Rattle.farkas_cert.proofs.Integers.{add-mul, mul_assoc_ℤ, mul_le_ℤ}
 
 -- f a * x + f (a + 1) * x' + ..
 abbrev pub weighted : (ℕ → ℤ) → ℕ → List ℤ → ℤ
@@ -54,7 +54,7 @@ dot-weighted (a ∷ coefs) [] = refl
 dot-weighted (a ∷ coefs) (x ∷ xs) =
     ap (λ z. a *ℤ x +ℤ z)
     (weighted-shift (λ k. slice_index_or (a ∷ coefs) k (pos 0)) (λ k. slice_index_or coefs k (pos 0)) 0 xs
-      (λ k. let one : k + 1 ≡ suc k = omega arith in ap (λ n. slice_index_or (a ∷ coefs) n (pos 0)) one) ∙ dot-weighted coefs xs)
+    (λ k. let one : k + 1 ≡ suc k = omega arith in ap (λ n. slice_index_or (a ∷ coefs) n (pos 0)) one) ∙ dot-weighted coefs xs)
 
 -- the coefficient of a row at an entry below the number of variables
 entry_at-below : (vars : ℕ) (row : Row) (k : ℕ) → k < vars → entry_at vars row k ≡ slice_index_or row.coefs k (pos 0)
@@ -67,7 +67,7 @@ entry_at-last vars row = grind (arith, nat_tests)
 pub weighted-entries : (row : Row) (xs : List ℤ) → weighted (entry_at (length xs) row) 0 xs ≡ dot row.coefs xs
 weighted-entries row xs =
     weighted-same (entry_at (length xs) row) (λ k. slice_index_or row.coefs k (pos 0)) 0 xs
-      (λ k h. entry_at-below (length xs) row k (omega arith)) ∙ dot-weighted row.coefs xs
+    (λ k h. entry_at-below (length xs) row k (omega arith)) ∙ dot-weighted row.coefs xs
 
 -- a sum of rows that hold, with multipliers of at least 0, holds
 pub sum-holds : (rows : List Row) (terms : List (ℕ × ℤ)) (xs : List ℤ) → All (λ r. Holds r xs) rows → All (λ t. pos 0 ≤ℤ t.1) terms → All (λ t. (1 ≤ t.0) × (t.0 ≤ length rows)) terms → weighted (sum_at (length xs) rows terms) 0 xs ≤ℤ sum_at (length xs) rows terms (length xs)
@@ -79,7 +79,7 @@ sum-holds rows (t ∷ terms) xs holds signs named =
     let holds_here : dot row.coefs xs ≤ℤ row.bound = holds (t.0 - 1) no_row (omega arith) in
     let here : (t.1 *ℤ dot row.coefs xs) ≤ℤ (t.1 *ℤ row.bound) = mul_le_ℤ t.1 (dot row.coefs xs) row.bound (signs 0 t (omega arith)) holds_here in
     let rest : weighted (sum_at (length xs) rows terms) 0 xs ≤ℤ sum_at (length xs) rows terms (length xs) =
-        sum-holds rows terms xs holds (λ k d h. signs (suc k) d (omega arith)) (λ k d h. named (suc k) d (omega arith)) in
+    sum-holds rows terms xs holds (λ k d h. signs (suc k) d (omega arith)) (λ k d h. named (suc k) d (omega arith)) in
     let split = weighted-add (λ k. t.1 *ℤ at k) (sum_at (length xs) rows terms) 0 xs in
     let scaled = weighted-mul t.1 at 0 xs ∙ ap (λ z. t.1 *ℤ z) (weighted-entries row xs) in
     let bound = ap (λ z. t.1 *ℤ z) (entry_at-last (length xs) row) in

@@ -1,5 +1,5 @@
 -- The first fault of a certificate.
-use Rattle.std.specs.Prelude.{ℕ, ◌+◌, ◌-◌, ℤ, pos, int_lt, int_rem, Bool, ◌&&◌, not, nat_le, if◌then◌else◌, List, [], ◌∷◌, ◌++◌, length, Option, Some, None, slice_get}
+use Rattle.std.specs.Prelude.{ℕ, ◌+◌, ◌-◌, ℤ, pos, negsuc, int_lt, int_rem, Bool, ◌&&◌, not, nat_le, if◌then◌else◌, List, [], ◌∷◌, ◌++◌, length, Option, Some, None, slice_get, ◌≡◌, refl}
 use Rattle.std.specs.Ordering.{int_eq}
 use Rattle.std.specs.List.{list_any, list_all, range_with_len}
 use Rattle.farkas_cert.specs.declared.system.Row.{Row}
@@ -61,3 +61,18 @@ fault_from vars rows n (step ∷ steps) = fault_or (step_fault vars rows n step)
 -- the first fault of a certificate, if it has one
 abbrev pub first_fault : Inequalities → Certificate → Option CertRefusal
 first_fault system certificate = fault_from system.vars system.rows 1 certificate.steps
+
+-- 2 * x <= 1 and - 2 * x <= - 1: each halved, then both added, is 0 <= - 1
+pub first_fault-rounding : first_fault (record { vars = 1; rows = record { coefs = pos 2 ∷ []; bound = pos 1 } ∷ record { coefs = negsuc 1 ∷ []; bound = negsuc 0 } ∷ [] }) (record { steps = record { divisor = pos 2; terms = (1, pos 1) ∷ [] } ∷ record { divisor = pos 2; terms = (2, pos 1) ∷ [] } ∷ record { divisor = pos 1; terms = (3, pos 1) ∷ (4, pos 1) ∷ [] } ∷ [] }) ≡ None
+first_fault-rounding = refl
+
+-- with the divisor 3 the first step is refused
+pub first_fault-divisor : first_fault (record { vars = 1; rows = record { coefs = pos 2 ∷ []; bound = pos 1 } ∷ [] }) (record { steps = record { divisor = pos 3; terms = (1, pos 1) ∷ [] } ∷ [] }) ≡ Some (BadDivisor 1)
+first_fault-divisor = refl
+
+-- 2 ^ 126 itself is taken, and one more, at the bound, is not
+pub first_fault-at_limit : first_fault (record { vars = 1; rows = record { coefs = pos 0 ∷ []; bound = negsuc 85070591730234615865843651857942052863 } ∷ [] }) (record { steps = record { divisor = pos 1; terms = (1, pos 1) ∷ [] } ∷ [] }) ≡ None
+first_fault-at_limit = refl
+
+pub first_fault-past_limit : first_fault (record { vars = 1; rows = record { coefs = pos 0 ∷ []; bound = negsuc 85070591730234615865843651857942052864 } ∷ [] }) (record { steps = record { divisor = pos 1; terms = (1, pos 1) ∷ [] } ∷ [] }) ≡ Some (Wide 1 2)
+first_fault-past_limit = refl

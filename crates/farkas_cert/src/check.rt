@@ -1,9 +1,9 @@
 // The check of a certificate.
 
-ghost use Rattle.std.specs.Prelude.{◌≡◌, ◌≢◌, ℕ, ◌+◌, ◌*◌, ◌≤◌, ◌<◌, ◌^◌, ℤ, pos, ◌+ℤ◌, ◌*ℤ◌, ◌≤ℤ◌, IsTrue, IsSome, IfSome, IfOk, IfErr, OnOk, IsOkUnless, MatchResult, ◌↔◌, ◌++◌, [], ◌∷◌, List, map, length, if◌then◌else◌, unsigned_abs, nat_le, false, ◌&&◌, true, ◌<ℤ◌, int_div, int_rem, slice_get, ◌-◌};
+ghost use Rattle.std.specs.Prelude.{◌≡◌, ◌≢◌, ℕ, ◌+◌, ◌*◌, ◌≤◌, ◌^◌, ℤ, pos, ◌+ℤ◌, ◌*ℤ◌, IsSome, IfSome, IfOk, IfErr, OnOk, IsOkUnless, ◌↔◌, ◌++◌, map, length, if◌then◌else◌, nat_le, false, ◌&&◌, true, ◌<ℤ◌, int_div, int_rem, slice_get, ◌-◌};
 ghost use Rattle.std.specs.Int.{int_div_euclid};
 ghost use Rattle.std.specs.Ordering.{int_eq};
-ghost use Rattle.std.specs.List.{All, list_all, range_with_len};
+ghost use Rattle.std.specs.List.{list_all, range_with_len};
 ghost use Rattle.farkas_cert.specs.Inequalities.{AreFull, HasNoWholeSolution};
 ghost use Rattle.farkas_cert.specs.Combination.{is_narrow as narrow, stays_narrow, total, products_at, made_row};
 ghost use Rattle.farkas_cert.specs.Combination.{row_at as row_of, entry_at as entry_of, sum_at as sum_of};
@@ -225,4 +225,50 @@ fn check_last(system: &System, made: &[Row]) -> Result<(), CertRefusal>
     } else {
         Err(CertRefusal::NoContradiction(count))
     }
+}
+
+// The rows that the steps make, if each is good.
+fn check_steps(
+    alloc: Global,
+    system: &System,
+    certificate: &Certificate,
+) -> Result<Vec<Row>, CertRefusal>
+    ensures full { IfOk result (λ made. AreFull system.now.vars made.items) }
+    ensures good { IfOk result (λ made. let rows = system.now.rows ++ made.items in first_fault system.now certificate.now ≡ last_fault (length rows) (slice_get rows (length rows - 1))) }
+    ensures refused { IfErr result (λ e. e ≢ CertRefusal.NoMemory → first_fault system.now certificate.now ≡ Some e) }
+{
+    let steps = certificate.steps.as_slice();
+    let mut made = Vec::with_capacity(alloc, steps.len())?;
+    for (index, step) in steps.iter().enumerate() {
+        let number = index as u64 + 1;
+        let row = check_step(alloc, system, made.as_slice(), number, step)?;
+        made.push(row)?;
+    }
+    Ok(made)
+}
+
+/// Checks a certificate for a system. Nothing is assumed of the numbers in either.
+///
+/// The steps are taken in order, and in a step its multipliers come first, then the rows that it
+/// names, then the size of its products and running sums (the least entry that passes 2 ^ 126 in
+/// size), then its divisor. The first fault is told. After the steps the last row of all has to
+/// be a contradiction.
+///
+/// It makes at most (terms + steps) * (variables + 1) multiplications, each with its addition,
+/// or divisions. It takes memory for one row a step, and gives it back.
+pub fn check_cert(
+    alloc: Global,
+    system: &System,
+    certificate: &Certificate,
+) -> Result<(), CertRefusal>
+    ensures good { OnOk result (IsGood system.now certificate.now) }
+    ensures no_solution { OnOk result (HasNoWholeSolution system.now) }
+
+    // A good certificate is refused for want of memory alone, and another one with its first fault.
+    ensures taken { IsGood system.now certificate.now → IsOkUnless result CertRefusal.NoMemory }
+    ensures no_fault { OnOk result (first_fault system.now certificate.now ≡ None) }
+    ensures refused { IfErr result (λ e. e ≢ CertRefusal.NoMemory → first_fault system.now certificate.now ≡ Some e) }
+{
+    let made = check_steps(alloc, system, certificate)?;
+    check_last(system, made.as_slice())
 }

@@ -14,9 +14,13 @@
 pub mod certificate;
 mod check;
 mod division;
-pub mod law;
+mod law;
 pub mod system;
 
-pub use law::good_certificates_exclude_whole_solutions;
 pub use certificate::{CertRefusal, Certificate, Step, Steps, Terms};
+pub use check::check_cert;
+pub use law::good_certificates_exclude_whole_solutions;
 pub use system::{Coefs, Row, Rows, System};
+
+#[cfg(test)]
+mod tests;

@@ -1,6 +1,6 @@
 // Systems of linear inequalities.
 
-ghost use Rattle.std.specs.Prelude.{◌≡◌, ◌++◌, [], ◌∷◌, OnOk, OnErr, IfOk, IsTrue, pos, ◌≤ℤ◌, int_div, int_rem, map};
+ghost use Rattle.std.specs.Prelude.{◌≡◌, ◌++◌, [], ◌∷◌, OnOk, OnErr, IfOk, IsTrue, pos, ◌≤ℤ◌, int_div, int_rem, map, length};
 ghost use Rattle.std.specs.Ordering.{int_eq};
 ghost use Rattle.std.specs.List.{list_all};
 
@@ -27,7 +27,8 @@ impl Model for Coefs {
 }
 
 impl Coefs {
-    /// No coefficient yet, with room for so many.
+    /// No coefficient yet, with room for so many. The room is a matter of cost alone: no clause
+    /// tells it.
     pub fn with_capacity(alloc: Global, capacity: usize) -> Result<Self, AllocError>
         ensures { IfOk result (λ coefs. coefs ≡ []) }
     {
@@ -43,6 +44,21 @@ impl Coefs {
         Ok(Coefs {
             items: SmallVec::from_slice(alloc, coefs)?,
         })
+    }
+
+    /// The coefficients of a vector. It takes no memory.
+    pub fn from_items(items: SmallVec<i128, INLINE, Global>) -> Self
+        ensures { result ≡ items.items }
+    {
+        Coefs { items }
+    }
+
+    /// The vector of the coefficients. It takes no memory.
+    pub fn into_items(self) -> SmallVec<i128, INLINE, Global>
+        ensures { result.items ≡ self }
+    {
+        let Coefs { items } = self;
+        items
     }
 
     /// The coefficients, in order.
@@ -95,6 +111,24 @@ impl Model for Rows {
 }
 
 impl Rows {
+    /// No row.
+    pub fn new(alloc: Global) -> Self
+        ensures { result ≡ [] }
+    {
+        Rows {
+            items: Vec::new(alloc),
+        }
+    }
+
+    /// One more row at the end. Where memory runs out nothing has changed.
+    pub fn push(&mut self, row: Row) -> Result<(), AllocError>
+        ensures ok { OnOk result (self.new ≡ self.old ++ row ∷ []) }
+        ensures err { OnErr result (self.new ≡ self.old) }
+    {
+        self.items.push(row)?;
+        Ok(())
+    }
+
     /// The rows of a vector. It takes no memory.
     pub fn from_vec(items: Vec<Row>) -> Self
         ensures { result ≡ items.items }
@@ -145,6 +179,25 @@ impl System {
         ensures { result ≡ record { vars = vars; rows = rows } }
     {
         System { vars, rows }
+    }
+
+    /// The system over so many variables with no row.
+    pub fn empty(alloc: Global, vars: u32) -> Self
+        ensures { result ≡ record { vars = vars; rows = [] } }
+    {
+        System {
+            vars,
+            rows: Rows::new(alloc),
+        }
+    }
+
+    /// One more row at the end. Where memory runs out nothing has changed.
+    pub fn push(&mut self, row: Row) -> Result<(), AllocError>
+        requires { length row.coefs ≡ self.old.vars }
+        ensures ok { OnOk result (self.new ≡ record { vars = self.old.vars; rows = self.old.rows ++ row ∷ [] }) }
+        ensures err { OnErr result (self.new ≡ self.old) }
+    {
+        self.rows.push(row)
     }
 
     /// How many variables there are.

@@ -1,11 +1,10 @@
-use Rattle.std.proofs.Common.{rules, FitsSigned, to_z, of_z, refl, ◌≡◌, ℤ, pos, ◌<ℤ◌, int_rem, true, false, Some, None, ◌++◌, ◌+◌, length, length-append, map, if◌then◌else◌, ap, sym, ◌∙◌}
+use Rattle.std.proofs.Common.{rules, FitsSigned, to_z, of_z, refl, ◌≡◌, pos, ◌<ℤ◌, int_rem, true, false, None, ◌++◌, ◌+◌, length, length-append, map, ◌∙◌}
 use Rattle.std.specs.Int.{w128}
 use Rattle.std.proofs.lemmas.Int.{to_z-of_z}
 use Rattle.std.specs.Ordering.{int_eq}
 use Rattle.std.specs.List.{list_all, range_with_len}
-use Rattle.farkas_cert.specs.declared.certificate.CertRefusal.TheVariants.{BadDivisor}
 use Rattle.farkas_cert.specs.Combination.{sum_at}
-use Rattle.farkas_cert.specs.Fault.{has_negative, names_bad_row, divides, first_wide}
+use Rattle.farkas_cert.specs.Fault.{has_negative, names_bad_row, first_wide}
 use Rattle.farkas_cert.proofs.Faults.{step_fault-divisor, divides-true, divides-false, made_row-sums}
 use Rattle.farkas_cert.proofs.check.check_step.Goals as goal
 

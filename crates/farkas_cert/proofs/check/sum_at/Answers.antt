@@ -1,7 +1,7 @@
-use Rattle.std.proofs.Common.{rules, ◌≡◌, ℤ, pos, ◌+ℤ◌, ◌*ℤ◌, ◌++◌, FitsSigned, false, slice_index_or, to_z, of_z, ap, sym, ◌∙◌, arith}
+use Rattle.std.proofs.Common.{rules, ◌≡◌, pos, ◌*ℤ◌, ◌++◌, FitsSigned, false, slice_index_or, to_z, of_z, sym, ◌∙◌}
 use Rattle.std.specs.Int.{w128}
-use Rattle.std.proofs.lemmas.Int.{ints, to_z-of_z}
-use Rattle.farkas_cert.specs.Combination.{entry_at, row_at, products_at, stays_narrow, total}
+use Rattle.std.proofs.lemmas.Int.{to_z-of_z}
+use Rattle.farkas_cert.specs.Combination.{entry_at, row_at, products_at, stays_narrow}
 use Rattle.farkas_cert.proofs.Products.{named-at, wide_where_none, narrow_where_some}
 use Rattle.farkas_cert.proofs.check.sum_at.Goals as goal
 

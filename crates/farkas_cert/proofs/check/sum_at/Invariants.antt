@@ -1,4 +1,4 @@
-use Rattle.std.proofs.Common.{◌≡◌, ℤ, pos, ◌+ℤ◌, ◌++◌, List, drop}
+use Rattle.std.proofs.Common.{◌≡◌, pos, ◌+ℤ◌, ◌++◌, drop}
 use Rattle.farkas_cert.specs.Combination.{stays_narrow, total, products_at}
 use Rattle.farkas_cert.proofs.check.sum_at.Given as goal
 
@@ -9,5 +9,5 @@ invariant-loop-term l =
     let left = products_at l.system.vars (l.system.rows ++ l.made) (drop l.term-index l.terms) l.k in
     record {
       narrow : stays_narrow (pos 0) products ≡ stays_narrow l.sum left;
-      sum : total products ≡ l.sum +ℤ total left
+      sum : total products ≡ l.sum +ℤ total left;
     }

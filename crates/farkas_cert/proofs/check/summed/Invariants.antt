@@ -1,4 +1,4 @@
-use Rattle.std.proofs.Common.{◌≡◌, ℕ, ◌+◌, ◌-◌, ◌++◌, map}
+use Rattle.std.proofs.Common.{◌≡◌, ◌+◌, ◌-◌, ◌++◌, map}
 use Rattle.std.specs.List.{range_with_len}
 use Rattle.farkas_cert.specs.Combination.{sum_at}
 use Rattle.farkas_cert.specs.Fault.{first_wide}
@@ -10,5 +10,5 @@ invariant-loop-k l =
     let rows = l.system.rows ++ l.made in
     record {
       sums : l.coefs ≡ map (sum_at l.system.vars rows l.terms) (range_with_len 0 l.k);
-      narrow : first_wide l.system.vars rows l.terms (range_with_len 0 (l.system.vars + 1)) ≡ first_wide l.system.vars rows l.terms (range_with_len l.k (l.system.vars + 1 - l.k))
+      narrow : first_wide l.system.vars rows l.terms (range_with_len 0 (l.system.vars + 1)) ≡ first_wide l.system.vars rows l.terms (range_with_len l.k (l.system.vars + 1 - l.k));
     }

@@ -1,4 +1,4 @@
-use Rattle.std.proofs.Common.{rules, ◌≡◌, ℤ, pos, Some, None, if◌then◌else◌, FitsSigned, int_div, int_rem, get_or, to_z, of_z, refl, sym}
+use Rattle.std.proofs.Common.{rules, ◌≡◌, ℤ, pos, FitsSigned, int_div, int_rem, get_or, to_z, of_z, refl, sym}
 use Rattle.std.specs.Int.{w128}
 use Rattle.std.specs.Ordering.{int_eq}
 use Rattle.std.proofs.lemmas.Int.{to_z-of_z}

@@ -1,0 +1,148 @@
+// The tree of a program.
+
+ghost use Rattle.std.specs.Prelude.{◌≡◌, ◌++◌, [], ◌∷◌, OnOk, OnErr};
+
+use crate::form::Affine;
+use std::alloc::{AllocError, Global};
+use std::marker::Model;
+
+/// The subscripts of an array element, from the first dimension; none for a scalar. Contracts see the list of forms.
+#[derive(Drop)]
+pub struct Subscripts {
+    forms: Vec<Affine>,
+}
+
+impl Model for Subscripts {
+    ghost use Rattle.std.specs.Prelude.{List};
+    ghost use Rattle.nest_tree.specs.Form.{Form};
+
+    ghost Value = { List Form };
+
+    ghost view = { λ s. s.forms.items };
+}
+
+impl Subscripts {
+    /// No subscript, as a scalar has.
+    pub fn new(alloc: Global) -> Self
+        ensures { result ≡ [] }
+    {
+        Subscripts {
+            forms: Vec::new(alloc),
+        }
+    }
+
+    /// The forms, in order.
+    pub fn as_slice(&self) -> &[Affine]
+        ensures { result.now ≡ self.now }
+    {
+        self.forms.as_slice()
+    }
+
+    /// One more subscript. Where memory runs out nothing has changed.
+    pub fn push(&mut self, form: Affine) -> Result<(), AllocError>
+        ensures ok { OnOk result (self.new ≡ self.old ++ form ∷ []) }
+        ensures err { OnErr result (self.new ≡ self.old) }
+    {
+        self.forms.push(form)?;
+        Ok(())
+    }
+}
+
+/// An access to a variable (a number from 1): to a scalar, or to an array's element.
+#[derive(Drop)]
+pub struct Access {
+    pub variable: u32,
+    pub subscripts: Subscripts,
+}
+
+/// An expression of whole numbers of 64 bits.
+#[derive(Drop)]
+pub enum Expr {
+    /// A number as written or computed.
+    Number(i64),
+    /// The value of the DO variable of a loop round the place, by the loop's number.
+    LoopValue(u32),
+    /// The value of a named constant, by its number.
+    Param(u32),
+    /// What a scalar or an element holds.
+    Load(Access),
+    Neg(Box<Expr>),
+    Add(Box<Expr>, Box<Expr>),
+    Sub(Box<Expr>, Box<Expr>),
+    Mul(Box<Expr>, Box<Expr>),
+    /// A quotient by a number other than 0.
+    Div(Box<Expr>, i64),
+    /// The least of the arguments, of which there is one at least.
+    Min(Vec<Expr>),
+    /// The greatest of the arguments, of which there is one at least.
+    Max(Vec<Expr>),
+}
+
+/// An item of a PRINT.
+#[derive(Drop)]
+pub enum PrintItem {
+    Value(Expr),
+    /// A whole array, by its variable: each element in storage order.
+    Whole(u32),
+    /// The characters of a character constant.
+    Text(Vec<u8>),
+}
+
+/// A DO loop: `DO .. variable = m1, m2, step`.
+#[derive(Drop)]
+#[cycle(nest)]
+pub struct Nest {
+    /// The loop's number, from 1 in text order.
+    pub number: u32,
+    pub m1: Affine,
+    pub m2: Affine,
+    /// Not 0.
+    pub step: i64,
+    pub items: Vec<Item>,
+    /// The line of its DO statement, from 1.
+    pub line: u32,
+}
+
+/// A statement that is executed, or a loop with its body. The last number is the line, from 1.
+#[derive(Drop)]
+#[cycle(nest)]
+pub enum Item {
+    Loop(Nest),
+    Assign(Access, Expr, u32),
+    Print(Vec<PrintItem>, u32),
+    Continue(u32),
+}
+
+/// A named constant (of a PARAMETER statement), with its value.
+#[derive(Drop)]
+pub struct Parameter {
+    pub name: Vec<u8>,
+    pub value: i64,
+}
+
+/// How an array's elements along its distributed dimension are dealt to the processors.
+#[derive(Clone, Copy, Debug, PartialEq, Eq)]
+pub enum Spread {
+    Block,
+    Cyclic,
+}
+
+/// A scalar or an array.
+#[derive(Drop)]
+pub struct Variable {
+    pub name: Vec<u8>,
+    /// The lower and the upper bound of each dimension; none for a scalar.
+    pub bounds: Vec<(i64, i64)>,
+    /// The distributed dimension, from 1; 0 for a scalar.
+    pub axis: u32,
+    /// `Block` for a scalar.
+    pub spread: Spread,
+}
+
+/// A program: its statements, its named constants and its variables, the latter two numbered from 1 as they stand here. Variables stand in the order of their cells.
+#[derive(Drop)]
+pub struct Program {
+    pub items: Vec<Item>,
+    pub params: Vec<Parameter>,
+    pub variables: Vec<Variable>,
+}

@@ -1,0 +1,4 @@
+pub mod BarrierPlans
+pub mod Fits
+mod ValueLaws
+mod Values

@@ -1,0 +1,20 @@
+use Rattle.std.proofs.Common.{◌≡◌, length, arith, ◌∙◌}
+use Rattle.nest_tree.specs.View.{tree_of}
+use Rattle.spmd_core.proofs.BarrierPlans.{fits}
+use Rattle.spmd_core.proofs.Fits.{works_of-list, works_in_straight}
+use Rattle.spmd_core.proofs.barriers.all_barriers.Goals as goal
+
+pub returns-clause-plan : goal.returns-clause-plan
+returns-clause-plan c =
+    let tree = tree_of c.args.program.now in
+    let works = works_of-list c.args.program.now.items.items (works_in_straight tree c.requires.straight) in
+    let len : length c.args.program.now.items.items ≡ c.len-phases.result = omega (arith, c.len-phases.ensures) in
+    rw (works ∙ len, c.new-2.ensures, c.new.ensures.items, c.new-3.ensures, c.in_ok-origins.ensures, c.new-4.ensures, c.in_ok-barrier_kinds.ensures)
+
+pub returns-clause-fits : goal.returns-clause-fits
+returns-clause-fits c =
+    let tree = tree_of c.args.program.now in
+    let works = works_of-list c.args.program.now.items.items (works_in_straight tree c.requires.straight) in
+    let len : length c.args.program.now.items.items ≡ c.len-phases.result = omega (arith, c.len-phases.ensures) in
+    rw (c.new-2.ensures, c.new.ensures.items, c.new-3.ensures, c.in_ok-origins.ensures, c.new-4.ensures, c.in_ok-barrier_kinds.ensures)
+    (fits tree c.args.workers c.len-phases.result (works ∙ len) c.requires.some c.requires.few)

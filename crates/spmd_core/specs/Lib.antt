@@ -1,0 +1,9 @@
+pub mod Timeline
+pub mod Owners
+pub mod Waits
+pub mod Barriers
+pub mod Fit
+pub mod Acts
+pub mod Machine
+pub mod FirstRun
+pub mod ValueLaws

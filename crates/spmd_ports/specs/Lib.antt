@@ -1,0 +1,4 @@
+pub mod Counts
+pub mod MemorySource
+pub mod MemorySink
+pub mod StandardSink

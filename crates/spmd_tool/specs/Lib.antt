@@ -1,0 +1,3 @@
+pub mod PlanText
+pub mod Outside
+pub mod Words

@@ -1,0 +1,17 @@
+-- What is known of the bytes of a source and a sink.
+use Rattle.std.specs.Prelude.{◌≡◌, ℕ, List, ◌++◌, Option, Some, None, ⊤, ◌⊎◌}
+use Rattle.std.specs.Io.KnownBytes.{Appends}
+use Rattle.spmd_ports.specs.Counts.{Rose}
+
+-- a fact of the bytes, where they are told
+abbrev pub WhereTold : Option (List ℕ) → (List ℕ → Type 0) → Type 0
+WhereTold None P = ⊤
+WhereTold (Some bytes) P = P bytes
+
+-- a part from the front of a text was written
+abbrev pub WritesPart : Option (List ℕ) → Option (List ℕ) → List ℕ → Type 0
+WritesPart old new text = (front : List ℕ) × (rest : List ℕ) × (text ≡ front ++ rest) × Appends old new front
+
+-- one of two counts rose
+abbrev pub RoseOneOf : ℕ → ℕ → ℕ → ℕ → Type 0
+RoseOneOf faults faults' empties empties' = Rose faults faults' ⊎ Rose empties empties'

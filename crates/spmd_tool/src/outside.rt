@@ -1,0 +1,76 @@
+// Reading the whole of a source, and writing a whole text.
+
+ghost use Rattle.std.specs.Prelude.{◌≡◌, ◌++◌, ◌≤◌, ◌<◌, ℕ, List, [], length, IfOk, OnOk, OnErr, IsErrOf, IsOk, take};
+ghost use Rattle.std.specs.Io.KnownBytes.{Appends, Consumes, IsAtEnd, Keeps};
+ghost use Rattle.spmd_ports.specs.Counts.{Rose};
+ghost use Rattle.spmd_tool.specs.Outside.{WhereTold, WritesPart, RoseOneOf};
+
+use spmd_ports::{Failed, Sink, Source};
+use std::alloc::Global;
+
+/// The most bytes of a source.
+pub const MOST_BYTES: usize = 4_194_304;
+
+// The most bytes that are taken by one read.
+const CHUNK: usize = 4096;
+
+/// Why a source was not read to its end.
+#[derive(Clone, Copy, Debug, PartialEq, Eq)]
+pub enum ReadTrouble {
+    /// A read failed.
+    Fault,
+    /// It gave more than 4,194,304 bytes.
+    TooLong,
+    /// Memory ran out.
+    NoMemory,
+}
+
+/// All bytes of a source, up to its end.
+pub fn read_all<S: Source>(alloc: Global, source: &mut S) -> Result<Vec<u8>, ReadTrouble>
+    ensures read { IfOk result (λ bytes. Consumes (S.left source.old) (S.left source.new) bytes.items) }
+    ensures end { OnOk result (IsAtEnd (S.left source.new)) }
+    ensures short { IfOk result (λ bytes. length bytes.items ≤ MOST_BYTES) }
+    ensures fault { result ≡ Err ReadTrouble.Fault → Rose (S.faults source.old) (S.faults source.new) }
+    ensures no_fault { S.faults source.old < S.faults source.new → result ≡ Err ReadTrouble.Fault }
+    ensures long { result ≡ Err ReadTrouble.TooLong → WhereTold (S.left source.old) (λ bytes. MOST_BYTES < length bytes) }
+{
+    let mut bytes: Vec<u8> = Vec::new(alloc);
+    while bytes.len() <= MOST_BYTES {
+        let mut chunk = [0u8; CHUNK];
+        let room = CHUNK.min(MOST_BYTES + 1 - bytes.len());
+        let Ok(count) = source.read(&mut chunk[..room]) else {
+            return Err(ReadTrouble::Fault);
+        };
+        if count == 0 {
+            return Ok(bytes);
+        }
+        if bytes.extend_from_slice(&chunk[..count]).is_err() {
+            return Err(ReadTrouble::NoMemory);
+        }
+    }
+    Err(ReadTrouble::TooLong)
+}
+
+/// Writes the whole of a text.
+///
+/// Where a write fails, or takes none of the bytes that are left, a part from the front of the
+/// text was written.
+pub fn write_all<K: Sink>(sink: &mut K, text: &[u8]) -> Result<(), Failed>
+    ensures written { OnOk result (Appends (K.written sink.old) (K.written sink.new) text.now) }
+    ensures part { OnErr result (WritesPart (K.written sink.old) (K.written sink.new) text.now) }
+    ensures fault { OnErr result (RoseOneOf (K.faults sink.old) (K.faults sink.new) (K.empties sink.old) (K.empties sink.new)) }
+    ensures no_fault { OnOk result (K.faults sink.new ≡ K.faults sink.old) }
+    ensures no_empty { OnOk result (K.empties sink.new ≡ K.empties sink.old) }
+{
+    let mut written = 0;
+    while written < text.len() {
+        let Ok(count) = sink.write(&text[written..]) else {
+            return Err(Failed);
+        };
+        if count == 0 {
+            return Err(Failed);
+        }
+        written += count;
+    }
+    Ok(())
+}
