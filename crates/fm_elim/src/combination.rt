@@ -15,8 +15,8 @@ const LIMIT: u128 = 1 << 126;
 /// Two factors below this size have a product below 2 ^ 126.
 const SMALL: u128 = 1 << 63;
 
-// The number is at most 2 ^ 126 in size.
-pub(crate) fn is_narrow(number: i128) -> bool
+/// Whether the number is at most 2 ^ 126 in size.
+pub fn is_narrow(number: i128) -> bool
     ensures { result ≡ narrow number }
 {
     number.unsigned_abs() <= LIMIT
@@ -44,7 +44,7 @@ fn narrow_product(a: i128, b: i128) -> Option<i128>
 }
 
 // The sum, if it is at most 2 ^ 126 in size.
-pub(crate) fn narrow_sum(a: i128, b: i128) -> Option<i128>
+fn narrow_sum(a: i128, b: i128) -> Option<i128>
     ensures { result ≡ (if narrow (a +ℤ b) then Some (a +ℤ b) else None) }
 {
     a.checked_add(b).filter(|sum| is_narrow(*sum))
@@ -57,8 +57,8 @@ fn weighted_sum(m: i128, a: i128, n: i128, b: i128) -> Option<i128>
     narrow_sum(narrow_product(m, a)?, narrow_product(n, b)?)
 }
 
-// The least multipliers by which a variable with these coefficients cancels.
-pub(crate) fn multipliers(upper: i128, lower: i128) -> (i128, i128)
+/// The least multipliers by which a variable with these coefficients, one above 0 and one below, cancels.
+pub fn multipliers(upper: i128, lower: i128) -> (i128, i128)
     requires above { pos 0 <ℤ upper }
     requires below { lower <ℤ pos 0 }
     requires upper_narrow { IsTrue (narrow upper) }
@@ -71,8 +71,9 @@ pub(crate) fn multipliers(upper: i128, lower: i128) -> (i128, i128)
     ((below / divisor) as i128, (above / divisor) as i128)
 }
 
-// m times the first row and n times the other, if no product and no sum is wide.
-pub(crate) fn combine(
+/// m times the first row and n times the other, or None where a product or a sum passes 2 ^ 126 in size.
+/// An error says that memory ran out.
+pub fn combine(
     alloc: Global,
     m: i128,
     upper: &Row,

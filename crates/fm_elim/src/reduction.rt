@@ -9,8 +9,8 @@ ghost use Rattle.fm_elim.specs.Reduction.{IsCommonDivisor, IsReducedBy};
 use farkas_cert::{Coefs, Row};
 use std::alloc::{AllocError, Global};
 
-// Euclid's algorithm. The greatest common divisor of 0 and a number is that number.
-pub(crate) fn greatest_common_divisor(a: u128, b: u128) -> u128
+/// The greatest common divisor, by Euclid's algorithm. That of 0 and a number is the number.
+pub fn greatest_common_divisor(a: u128, b: u128) -> u128
     ensures common { IsGcd a b result }
     ensures size { result ≤ max a b }
 {
@@ -52,8 +52,10 @@ fn quotients(alloc: Global, coefs: &[i128], divisor: i128) -> Result<Coefs, Allo
     Ok(divided)
 }
 
-// The row reduced by the greatest common divisor of its coefficients, and that divisor, or 1 where there is none.
-pub(crate) fn reduced(alloc: Global, row: Row) -> Result<(Row, i128), AllocError>
+/// The row divided by the greatest common divisor of its coefficients, the bound rounded down, and that
+/// divisor: 1 where all are 0. The coefficients are at most 2 ^ 126 in size. An error says that memory
+/// ran out.
+pub fn reduced(alloc: Global, row: Row) -> Result<(Row, i128), AllocError>
     requires { All (λ a. IsTrue (narrow a)) row.coefs }
     ensures { IfOk result (λ p. (g : ℕ) × (p.1 ≡ pos (max g 1)) × IsReducedBy g row p.0) }
 {
