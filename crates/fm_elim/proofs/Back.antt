@@ -1,21 +1,20 @@
 -- Back substitution: what satisfies a level can be moved to satisfy the level before it, and level 0 the system.
-use Rattle.std.proofs.Common.{◌≡◌, ℕ, zero, suc, ◌+◌, ◌-◌, ◌*◌, ◌/◌, ◌%◌, ◌≤◌, ◌<◌, max, ℤ, pos, negsuc, neg_ℤ, ◌+ℤ◌, ◌*ℤ◌, ◌≤ℤ◌, ◌<ℤ◌, int_div, unsigned_abs, slice_index, ◌⊎◌, ⊎_elim, inl, inr, List, [], ◌∷◌, map, length, get_or, refl, ap, sym, ◌∙◌, subst, arith}
-use Rattle.std.specs.Int.{IsGcd, int_div_euclid, ◌∣◌}
-use Rattle.std.specs.List.{All, AllPairs, Contains}
-use Rattle.std.proofs.Math.Nat.{one-dvd, mod-lt, mul-div_cancel'}
-use Rattle.std.proofs.lemmas.Int.{ints, by_lt_z}
+use Rattle.std.proofs.Common.{◌≡◌, ℕ, zero, suc, ◌/◌, ◌%◌, ◌≤◌, ◌<◌, max, ℤ, pos, negsuc, neg_ℤ, ◌+ℤ◌, ◌*ℤ◌, ◌≤ℤ◌, ◌<ℤ◌, int_div, unsigned_abs, ⊎_elim, inl, inr, List, map, length, get_or, refl, ap, sym, ◌∙◌, subst, arith}
+use Rattle.std.specs.Int.{IsGcd, int_div_euclid}
+use Rattle.std.specs.List.{All, Contains}
+use Rattle.std.proofs.Math.Nat.{one-dvd, mul-div_cancel'}
+use Rattle.std.proofs.lemmas.Int.{ints}
 use Rattle.std.proofs.lemmas.Nat.Gcd.{IsGcd-from_zero, IsGcd-from_mod}
 use Rattle.std.proofs.lemmas.List.Elements.{All-contains, Contains-get_or}
-use Rattle.std.proofs.Math.IntN.{*ℤ_comm, *ℤ-zero, zero-*ℤ, pos-*ℤ-pos}
+use Rattle.std.proofs.Math.IntN.{*ℤ_comm, *ℤ-zero, pos-*ℤ-pos}
 use Rattle.farkas_cert.specs.declared.system.Row.{Row}
-use Rattle.farkas_cert.specs.Inequalities.{Inequalities, dot, AreFull}
-use Rattle.fm_elim.specs.Reduction.{IsCommonDivisor, DividesEach, IsReduced, IsReducedBy, divided}
+use Rattle.farkas_cert.specs.Inequalities.{dot, AreFull}
+use Rattle.fm_elim.specs.Reduction.{DividesEach, IsReduced}
 use Rattle.fm_elim.specs.Pairs.{coef_of, IsPair, combination}
-use Rattle.fm_elim.specs.Levels.{IsEmpty, IsKept, IsRaw, IsCombined, IsDerived}
+use Rattle.fm_elim.specs.Levels.{IsRaw}
 use Rattle.fm_elim.specs.Forming.{Covers, IsFormed}
-use Rattle.fm_elim.proofs.Integers.{add-mul, mul-add, mul-neg, mul_assoc_ℤ, mul_swap, mul_le_ℤ, mul_le_cancel}
-use Rattle.fm_elim.proofs.Values.{dot-zero, dot-quotients, floor_le, dot-combined, exact}
-use Rattle.fm_elim.proofs.Combined.{by_lt, divisor_above_zero, size_above_zero}
+use Rattle.fm_elim.proofs.Integers.{add-mul, mul-add, mul-neg, mul_assoc_ℤ, mul_swap, mul_le_ℤ}
+use Rattle.fm_elim.proofs.Values.{dot-zero, dot-quotients, floor_le, dot-combined}
 use Rattle.fm_elim.proofs.Removal.{slack, AllHold, IsSolvable, solvable}
 
 -- any two numbers have a greatest common divisor

@@ -1,6 +1,5 @@
 -- Removed variables: after the last level no row has a coefficient.
-use Rattle.std.proofs.Common.{◌≡◌, ℕ, zero, suc, ◌+◌, ◌-◌, ◌*◌, ◌/◌, ◌≤◌, ◌<◌, max, ℤ, pos, negsuc, neg_ℤ, ◌+ℤ◌, ◌*ℤ◌, ◌≤ℤ◌, ◌<ℤ◌, int_div, unsigned_abs, slice_index, ◌⊎◌, ⊎_elim, inl, inr, List, [], ◌∷◌, map, replicate, length, get_or, refl, ap, sym, ◌∙◌, subst, arith}
-use Rattle.std.specs.Int.{IsGcd, ◌∣◌}
+use Rattle.std.proofs.Common.{◌≡◌, ℕ, zero, suc, ◌+◌, ◌-◌, ◌/◌, ◌<◌, max, ℤ, pos, negsuc, neg_ℤ, ◌+ℤ◌, ◌*ℤ◌, ◌<ℤ◌, int_div, unsigned_abs, slice_index, ⊎_elim, List, [], ◌∷◌, map, replicate, length, get_or, refl, ap, sym, ◌∙◌, subst, arith}
 use Rattle.std.specs.List.{All, Contains, range_with_len}
 use Rattle.std.specs.List.Sorted.{IsPermutation}
 use Rattle.std.proofs.Math.Nat.{mul-div_cancel'}
@@ -9,16 +8,15 @@ use Rattle.std.proofs.lemmas.List.{get_or_default, length-replicate}
 use Rattle.std.proofs.lemmas.List.FromFn.{length-range_with_len, get_or-range_with_len}
 use Rattle.std.proofs.lemmas.List.Elements.{All-contains, Contains-get_or}
 use Rattle.std.proofs.lemmas.List.Sorted.{Contains-permutation}
-use Rattle.std.proofs.Math.IntN.{*ℤ_comm, *ℤ-zero, zero-*ℤ, pos-*ℤ-pos}
+use Rattle.std.proofs.Math.IntN.{*ℤ_comm, *ℤ-zero, pos-*ℤ-pos}
 use Rattle.farkas_cert.specs.declared.system.Row.{Row}
-use Rattle.farkas_cert.specs.Inequalities.{dot, AreFull}
-use Rattle.fm_elim.specs.Reduction.{IsReduced, divided}
+use Rattle.farkas_cert.specs.Inequalities.{AreFull}
 use Rattle.fm_elim.specs.Pairs.{coef_of, combined, combination, IsPair}
 use Rattle.fm_elim.specs.Levels.{IsEmpty, IsRaw, IsCombined}
 use Rattle.fm_elim.specs.Forming.{IsFormed}
 use Rattle.fm_elim.proofs.Integers.{mul_assoc_ℤ, mul_swap, mul-neg}
 use Rattle.fm_elim.proofs.Combined.{by_lt}
-use Rattle.fm_elim.proofs.Removal.{IsSolvable, AllHold}
+use Rattle.fm_elim.proofs.Removal.{IsSolvable}
 
 -- no row has a coefficient of the first k variables of the order
 abbrev pub IsRid : List ℕ → ℕ → List Row → Type 0

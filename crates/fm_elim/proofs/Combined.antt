@@ -1,6 +1,6 @@
 -- The combination of two rows, entry by entry.
-use Rattle.std.proofs.Common.{◌≡◌, ℕ, zero, suc, ◌+◌, ◌-◌, ◌≤◌, ◌<◌, ℤ, pos, negsuc, ◌+ℤ◌, ◌*ℤ◌, Bool, true, false, ◌&&◌, if◌then◌else◌, ◌⊎◌, ⊎_elim, ◌<ℤ◌, ◌/◌, unsigned_abs, Option, Some, None, nat_lt, IsTrue, List, [], ◌∷◌, ◌++◌, length, get_or, drop, add-one, append_assoc, refl, ap, sym, ◌∙◌, subst, arith}
-use Rattle.std.specs.Int.{IsGcd, ◌∣◌}
+use Rattle.std.proofs.Common.{◌≡◌, ℕ, zero, suc, ◌+◌, ◌≤◌, ◌<◌, ℤ, pos, negsuc, ◌+ℤ◌, ◌*ℤ◌, Bool, true, false, ◌&&◌, if◌then◌else◌, ◌⊎◌, ⊎_elim, ◌<ℤ◌, ◌/◌, unsigned_abs, Option, Some, None, IsTrue, List, [], ◌∷◌, length, get_or, drop, add-one, refl, sym, ◌∙◌, arith}
+use Rattle.std.specs.Int.{IsGcd}
 use Rattle.std.proofs.Math.Nat.{eq-zero_of_zero-dvd, div-le_self}
 use Rattle.std.proofs.Math.Seq.{drop-cons}
 use Rattle.std.proofs.Math.IntN.{+ℤ_idl}
@@ -11,7 +11,7 @@ use Rattle.std.proofs.lemmas.Bool.{cases_lt}
 use Rattle.std.proofs.lemmas.Bool.Decides.{nat_tests}
 use Rattle.farkas_cert.specs.declared.system.Row.{Row}
 use Rattle.farkas_cert.specs.Combination.{entry_at, is_narrow, stays_narrow}
-use Rattle.fm_elim.specs.Pairs.{combined, products_of}
+use Rattle.fm_elim.specs.Pairs.{combined}
 
 -- the entries from k on
 pub combined-drop : (m n : ℤ) (xs ys : List ℤ) (k : ℕ) (d : ℤ) → k < length xs → length ys ≡ length xs → combined m (drop k xs) n (drop k ys) ≡ (m *ℤ get_or xs k d +ℤ n *ℤ get_or ys k d) ∷ combined m (drop (k + 1) xs) n (drop (k + 1) ys)

@@ -1,15 +1,15 @@
 -- Greatest common divisors, of two numbers and of a list.
-use Rattle.std.proofs.Common.{◌≡◌, ℕ, zero, suc, ◌+◌, ◌-◌, ◌*◌, ◌/◌, ◌%◌, ◌^◌, ◌≤◌, ◌<◌, max, ℤ, pos, negsuc, neg_ℤ, unsigned_abs, nat_le, IsTrue, int_div, map, List, [], ◌∷◌, ◌++◌, length, get_or, take, refl, ap, sym, ◌∙◌, subst, arith}
+use Rattle.std.proofs.Common.{◌≡◌, ℕ, suc, ◌+◌, ◌/◌, ◌^◌, ◌≤◌, ◌<◌, ℤ, pos, negsuc, neg_ℤ, unsigned_abs, IsTrue, int_div, map, List, [], ◌∷◌, length, get_or, take, refl, ap, sym, ◌∙◌, subst, arith}
 use Rattle.std.specs.Int.{IsGcd, int_div_euclid, ◌∣◌}
 use Rattle.std.specs.List.{All}
 use Rattle.std.proofs.Math.Nat.{one-dvd}
 use Rattle.std.proofs.lemmas.Bool.Decides.{nat_tests}
-use Rattle.std.proofs.lemmas.Nat.Gcd.{dvd-zero, dvd_trans, dvd_refl, le_of_dvd}
-use Rattle.std.proofs.lemmas.List.{get_or-take, length-take, take_all, map-id}
+use Rattle.std.proofs.lemmas.Nat.Gcd.{dvd-zero, dvd_trans}
+use Rattle.std.proofs.lemmas.List.{get_or-take, length-take, take_all}
 use Rattle.std.proofs.lemmas.List.Elements.{All-more, All-weaker, All-take}
 use Rattle.farkas_cert.specs.declared.system.Row.{Row}
 use Rattle.farkas_cert.specs.Combination.{is_narrow}
-use Rattle.fm_elim.specs.Reduction.{DividesEach, IsCommonDivisor, divided}
+use Rattle.fm_elim.specs.Reduction.{IsCommonDivisor, divided}
 
 -- what holds of each of the first i + 1 elements
 All-first : {X : Type 0} (P : X → Type 0) (xs : List X) (i : ℕ) → All P (take (i + 1) xs) → All P (take i xs)

@@ -1,15 +1,15 @@
 -- A list that is formed from a level's raw rows has exactly the rows of the next level.
-use Rattle.std.proofs.Common.{◌≡◌, ℕ, zero, suc, ◌+◌, ◌-◌, ◌/◌, ◌≤◌, ◌<◌, max, ℤ, pos, negsuc, ◌+ℤ◌, ◌*ℤ◌, ◌≤ℤ◌, ◌<ℤ◌, unsigned_abs, slice_index, ◌⊎◌, ⊎_elim, inl, inr, List, [], ◌∷◌, map, length, get_or, refl, ap, sym, ◌∙◌, subst, arith}
+use Rattle.std.proofs.Common.{◌≡◌, ℕ, suc, ◌/◌, max, ℤ, pos, ◌<ℤ◌, unsigned_abs, slice_index, ⊎_elim, inl, inr, List, get_or, ap, sym, ◌∙◌, subst, arith}
 use Rattle.std.specs.List.{All, AllPairs, Contains}
-use Rattle.std.proofs.lemmas.Int.{ints, by_lt_z}
+use Rattle.std.proofs.lemmas.Int.{ints}
 use Rattle.std.proofs.lemmas.Nat.Gcd.{dvd_antisymm, same_from_IsGcd}
 use Rattle.std.proofs.lemmas.List.{get_or_default}
 use Rattle.std.proofs.lemmas.List.Elements.{All-contains}
 use Rattle.farkas_cert.specs.declared.system.Row.{Row}
 use Rattle.farkas_cert.specs.Inequalities.{Inequalities}
-use Rattle.fm_elim.specs.Reduction.{IsCommonDivisor, IsReduced, IsReducedBy, divided}
-use Rattle.fm_elim.specs.Pairs.{coef_of, IsPair, combination}
-use Rattle.fm_elim.specs.Levels.{IsEmpty, IsKept, IsRaw, IsCombined, IsDerived}
+use Rattle.fm_elim.specs.Reduction.{IsReduced, divided}
+use Rattle.fm_elim.specs.Pairs.{coef_of, IsPair}
+use Rattle.fm_elim.specs.Levels.{IsEmpty, IsKept, IsRaw, IsDerived}
 use Rattle.fm_elim.specs.Forming.{Covers, IsFormed}
 use Rattle.fm_elim.proofs.Combined.{by_lt}
 

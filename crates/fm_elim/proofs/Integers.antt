@@ -1,9 +1,8 @@
 -- Products and quotients of whole numbers.
-use Rattle.std.proofs.Common.{◌≡◌, ℕ, suc, ◌+◌, ◌*◌, ◌/◌, ◌≤◌, ◌<◌, ℤ, pos, negsuc, ◌+ℤ◌, ◌*ℤ◌, ◌≤ℤ◌, ◌<ℤ◌, neg_ℤ, int_div, int_rem, ap, sym, ◌∙◌, subst, refl, arith}
-use Rattle.std.specs.Int.{int_div_euclid}
+use Rattle.std.proofs.Common.{◌≡◌, ◌+◌, ◌*◌, ℤ, pos, negsuc, ◌+ℤ◌, ◌*ℤ◌, ◌≤ℤ◌, ◌<ℤ◌, neg_ℤ, ap, sym, ◌∙◌, arith}
 use Rattle.std.proofs.Math.Nat.{mul-le-mul_left}
 use Rattle.std.proofs.Math.IntN.{*ℤ_comm, *ℤ-zero, +ℤ_invr}
-use Rattle.std.proofs.lemmas.Int.{ints, quot-rem, by_lt_z}
+use Rattle.std.proofs.lemmas.Int.{ints, by_lt_z}
 use borrow.Author.Differences.{up, down, product_is, sum_is_lem, le_out}
 
 pub add-mul : (a b c : ℤ) → (a +ℤ b) *ℤ c ≡ a *ℤ c +ℤ b *ℤ c

@@ -1,19 +1,16 @@
 -- Reduced rows are in their lowest terms, and stay narrow.
-use Rattle.std.proofs.Common.{◌≡◌, ℕ, zero, suc, ◌+◌, ◌-◌, ◌*◌, ◌/◌, ◌≤◌, ◌<◌, ◌^◌, max, ℤ, pos, negsuc, neg_ℤ, ◌+ℤ◌, ◌*ℤ◌, int_div, unsigned_abs, Bool, true, false, ◌&&◌, IsTrue, List, [], ◌∷◌, map, length, get_or, refl, ap, sym, ◌∙◌, subst, arith}
+use Rattle.std.proofs.Common.{◌≡◌, ℕ, zero, suc, ◌*◌, ◌/◌, ◌≤◌, ◌<◌, max, ℤ, pos, negsuc, neg_ℤ, ◌+ℤ◌, ◌*ℤ◌, int_div, unsigned_abs, Bool, true, false, ◌&&◌, IsTrue, List, [], ◌∷◌, map, length, get_or, refl, ap, sym, ◌∙◌, subst, arith}
 use Rattle.std.specs.Int.{int_div_euclid, ◌∣◌}
-use Rattle.std.specs.List.{All}
-use Rattle.std.proofs.Math.Nat.{dvd_of_mul-dvd-mul_right, dvd-mul_left, mul-dvd-mul_right, eq-one_of_dvd-one, one-dvd, div-le_self, eq-zero_of_zero-dvd, mul-div_cancel'}
-use Rattle.std.proofs.lemmas.Int.{ints, unsigned_abs-mul}
+use Rattle.std.proofs.Math.Nat.{dvd_of_mul-dvd-mul_right, mul-dvd-mul_right, one-dvd, div-le_self, mul-div_cancel'}
 use Rattle.std.proofs.lemmas.List.{length-map, get_or_default}
 use Rattle.std.proofs.lemmas.List.Elements.{All-head, All-tail, All-cons, All-nil, All-map}
 use Rattle.farkas_cert.specs.declared.system.Row.{Row}
 use Rattle.farkas_cert.specs.Combination.{entry_at, is_narrow, stays_narrow}
 use Rattle.fm_elim.specs.Reduction.{DividesEach, IsCommonDivisor, IsReduced, divided}
-use Rattle.fm_elim.specs.Pairs.{combined, combination, products_of, IsNarrow}
+use Rattle.fm_elim.specs.Pairs.{combined, combination, IsNarrow}
 use Rattle.fm_elim.specs.Logs.{IsSuited}
 use Rattle.fm_elim.proofs.Divisors.{divided-one, le_from_narrow, narrow_from_le}
 use Rattle.fm_elim.proofs.Combined.{both_narrow, entry_at-coef, entry_at-bound}
-use Rattle.fm_elim.proofs.Columns.{combined-at}
 use Rattle.fm_elim.proofs.Steps.{length-combined, entry-combination}
 
 -- the size of a quotient that is exact

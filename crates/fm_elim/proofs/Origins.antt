@@ -1,20 +1,13 @@
 -- Candidates are founded: their rows have numbers, or are what their derivations make.
-use Rattle.std.proofs.Common.{◌≡◌, ℕ, zero, suc, ◌≤◌, ◌<◌, max, ℤ, pos, negsuc, ◌≤ℤ◌, ◌<ℤ◌, unsigned_abs, ◌/◌, IsTrue, List, [], ◌∷◌, map, length, get_or, Some, None, refl, ap, sym, ◌∙◌, subst, arith}
-use Rattle.std.specs.Int.{◌∣◌}
-use Rattle.std.specs.List.{All}
-use Rattle.std.proofs.Math.Nat.{one-dvd}
+use Rattle.std.proofs.Common.{◌≡◌, ℕ, max, ℤ, pos, ◌≤ℤ◌, List, Some, None, ap, sym, ◌∙◌, subst, arith}
 use Rattle.std.proofs.lemmas.Int.{ints}
 use Rattle.farkas_cert.specs.declared.system.Row.{Row}
-use Rattle.farkas_cert.specs.declared.certificate.Step.{Step}
 use Rattle.farkas_cert.specs.Inequalities.{Inequalities}
-use Rattle.farkas_cert.specs.Combination.{made_row}
-use Rattle.farkas_cert.specs.Good.{IsGoodStep}
 use Rattle.fm_elim.specs.declared.derivation.Derivation.{Derivation}
-use Rattle.fm_elim.specs.declared.level.Candidate.{Candidate}
 use Rattle.fm_elim.specs.declared.level.Origin.TheVariants.{Numbered, Made}
-use Rattle.fm_elim.specs.Reduction.{DividesEach, IsReduced, IsReducedBy, divided}
-use Rattle.fm_elim.specs.Pairs.{coef_of, combination, IsPair, IsNarrow}
-use Rattle.fm_elim.specs.Logs.{step_of, all_rows, IsLog, IsNumber, IsSuited, IsFounded, IsOrigin}
+use Rattle.fm_elim.specs.Reduction.{IsReducedBy, divided}
+use Rattle.fm_elim.specs.Pairs.{combination, IsNarrow}
+use Rattle.fm_elim.specs.Logs.{all_rows, IsNumber, IsSuited, IsFounded}
 use Rattle.fm_elim.proofs.Divisors.{divided-one}
 use Rattle.fm_elim.proofs.Steps.{good_reduction, reduction_makes, good_combination, combination_makes}
 use Rattle.fm_elim.proofs.Lowest.{IsSuited-divided, IsSuited-combination}

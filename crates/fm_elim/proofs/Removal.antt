@@ -1,16 +1,15 @@
 -- A variable is removed: values that satisfy the combinations can be moved so that they satisfy the rows.
-use Rattle.std.proofs.Common.{◌≡◌, ℕ, zero, suc, ◌+◌, ◌-◌, ◌*◌, ◌/◌, ◌≤◌, ◌<◌, max, ℤ, pos, negsuc, ◌+ℤ◌, ◌*ℤ◌, ◌≤ℤ◌, ◌<ℤ◌, neg_ℤ, int_div, unsigned_abs, ◌⊎◌, ⊎_elim, inl, inr, List, [], ◌∷◌, map, length, get_or, refl, ap, sym, ◌∙◌, subst, arith}
-use Rattle.std.specs.Int.{IsGcd, int_div_euclid, ◌∣◌}
+use Rattle.std.proofs.Common.{◌≡◌, ℕ, suc, ◌+◌, ◌-◌, ◌≤◌, ◌<◌, ℤ, pos, negsuc, ◌+ℤ◌, ◌*ℤ◌, ◌≤ℤ◌, ◌<ℤ◌, neg_ℤ, unsigned_abs, ◌⊎◌, ⊎_elim, inl, inr, List, [], ◌∷◌, length, get_or, refl, ap, ◌∙◌, arith}
 use Rattle.std.specs.List.{All, Contains}
 use Rattle.std.proofs.lemmas.Int.{ints, by_lt_z}
-use Rattle.std.proofs.lemmas.List.Elements.{All-head, All-tail, All-cons, All-contains, All-nil, All-weaker, Contains-get_or}
-use Rattle.std.proofs.Math.IntN.{*ℤ_comm, *ℤ-zero, zero-*ℤ}
+use Rattle.std.proofs.lemmas.List.Elements.{All-cons, All-nil, All-weaker, Contains-get_or}
+use Rattle.std.proofs.Math.IntN.{*ℤ_comm, zero-*ℤ}
 use lib.Signed.{≤ℤ_refl}
 use Rattle.farkas_cert.specs.declared.system.Row.{Row}
 use Rattle.farkas_cert.specs.Inequalities.{dot}
-use Rattle.fm_elim.specs.Pairs.{coef_of, combined, combination, IsPair}
-use Rattle.fm_elim.proofs.Integers.{add-mul, mul-add, mul-neg, mul_assoc_ℤ, mul_swap, mul_le_ℤ, mul_le_cancel}
-use Rattle.fm_elim.proofs.Values.{moved, dot-moved, length-moved, dot-combined}
+use Rattle.fm_elim.specs.Pairs.{coef_of}
+use Rattle.fm_elim.proofs.Integers.{mul-add, mul-neg, mul_assoc_ℤ, mul_swap, mul_le_ℤ, mul_le_cancel}
+use Rattle.fm_elim.proofs.Values.{moved, dot-moved, length-moved}
 
 -- how far the row is from its bound at x / d, times d
 abbrev pub slack : List ℤ → ℤ → Row → ℤ

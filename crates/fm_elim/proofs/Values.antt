@@ -1,5 +1,5 @@
 -- What rows sum to at given values.
-use Rattle.std.proofs.Common.{◌≡◌, ℕ, zero, suc, ◌+◌, ◌-◌, ◌*◌, ◌/◌, ◌%◌, ◌≤◌, ◌<◌, max, ℤ, pos, negsuc, ◌+ℤ◌, ◌*ℤ◌, ◌≤ℤ◌, ◌<ℤ◌, neg_ℤ, int_div, int_rem, unsigned_abs, List, [], ◌∷◌, map, length, get_or, refl, ap, sym, ◌∙◌, subst, arith}
+use Rattle.std.proofs.Common.{◌≡◌, ℕ, zero, suc, ◌%◌, ◌<◌, ℤ, pos, negsuc, ◌+ℤ◌, ◌*ℤ◌, ◌≤ℤ◌, neg_ℤ, int_div, int_rem, unsigned_abs, List, [], ◌∷◌, map, length, get_or, refl, ap, sym, ◌∙◌, arith}
 use Rattle.std.specs.Int.{int_div_euclid, ◌∣◌}
 use Rattle.std.specs.List.{All}
 use Rattle.std.proofs.lemmas.Int.{ints, quot-rem}
@@ -7,11 +7,10 @@ use Rattle.std.proofs.lemmas.List.{length-map}
 use Rattle.std.proofs.lemmas.Nat.Gcd.{mod-eq-zero_of_dvd}
 use Rattle.std.proofs.lemmas.List.Elements.{All-head, All-tail}
 use Rattle.std.proofs.Math.IntN.{*ℤ_comm, *ℤ-zero, zero-*ℤ}
-use Rattle.farkas_cert.specs.declared.system.Row.{Row}
 use Rattle.farkas_cert.specs.Inequalities.{dot}
-use Rattle.fm_elim.specs.Reduction.{DividesEach, divided}
-use Rattle.fm_elim.specs.Pairs.{combined, combination}
-use Rattle.fm_elim.proofs.Integers.{add-mul, mul-add, mul_assoc_ℤ, mul_swap, mul_le_ℤ}
+use Rattle.fm_elim.specs.Reduction.{DividesEach}
+use Rattle.fm_elim.specs.Pairs.{combined}
+use Rattle.fm_elim.proofs.Integers.{add-mul, mul-add, mul_assoc_ℤ, mul_swap}
 
 -- all values times q, and t added to the one at place k
 abbrev pub moved : ℤ → ℤ → ℕ → List ℤ → List ℤ

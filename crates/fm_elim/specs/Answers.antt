@@ -1,15 +1,12 @@
 -- What each answer of elimination rests on.
-use Rattle.std.specs.Prelude.{ℕ, suc, ◌+◌, ◌<◌, ◌≤◌, ℤ, IsTrue, List, length, slice_index, ◌≡◌}
+use Rattle.std.specs.Prelude.{ℕ, ℤ, IsTrue, List, slice_index}
 use Rattle.std.specs.List.{All, range_with_len}
 use Rattle.std.specs.List.Sorted.{IsPermutation}
 use Rattle.farkas_cert.specs.declared.system.Row.{Row}
 use Rattle.farkas_cert.specs.Inequalities.{Inequalities, IsRationalSolution}
 use Rattle.farkas_cert.specs.Combination.{is_narrow}
-use Rattle.farkas_cert.specs.Good.{IsGood}
-use Rattle.fm_elim.specs.declared.answer.Answer.{Answer}
-use Rattle.fm_elim.specs.declared.answer.Answer.TheVariants.{Infeasible, Open, Wide, Many}
 use Rattle.fm_elim.specs.Pairs.{IsPair, IsWide}
-use Rattle.fm_elim.specs.Levels.{IsDerived, IsClearTo, HasMoreThan}
+use Rattle.fm_elim.specs.Levels.{IsDerived}
 
 -- the order names each variable, from 1, once
 abbrev pub NamesEachOnce : ℕ → List ℕ → Type 0

@@ -1,5 +1,5 @@
 -- Lists of rows that hold a level.
-use Rattle.std.specs.Prelude.{ℕ, ℤ, pos, ◌≤ℤ◌, ◌<ℤ◌, List, [], ◌∷◌, ◌++◌, ◌⊎◌, ◌≡◌}
+use Rattle.std.specs.Prelude.{pos, ◌≤ℤ◌, ◌<ℤ◌, List, [], ◌∷◌, ◌++◌, ◌⊎◌, ◌≡◌}
 use Rattle.std.specs.List.{All, AllPairs, Contains}
 use Rattle.std.specs.Cmp.Lexicographic.{slice_cmp}
 use Rattle.std.specs.Ordering.{int_cmp, ordering_then}

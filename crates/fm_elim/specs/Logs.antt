@@ -1,5 +1,5 @@
 -- Derivations: how the rows of the levels are made, as steps of a certificate.
-use Rattle.std.specs.Prelude.{ℕ, ◌≤◌, IsTrue, List, [], ◌∷◌, map, length, option_to_list, ◌≡◌}
+use Rattle.std.specs.Prelude.{ℕ, ◌≤◌, IsTrue, List, ◌∷◌, map, length, option_to_list, ◌≡◌}
 use Rattle.std.specs.List.{All}
 use Rattle.farkas_cert.specs.declared.system.Row.{Row}
 use Rattle.farkas_cert.specs.declared.certificate.Step.{Step}

@@ -1,5 +1,5 @@
 -- Rows in their lowest terms.
-use Rattle.std.specs.Prelude.{ℕ, ◌+◌, ℤ, pos, negsuc, int_div, unsigned_abs, max, List, [], ◌∷◌, map, ◌≡◌, refl}
+use Rattle.std.specs.Prelude.{ℕ, ℤ, pos, negsuc, int_div, unsigned_abs, max, List, [], ◌∷◌, map, ◌≡◌, refl}
 use Rattle.std.specs.Int.{int_div_euclid, ◌∣◌}
 use Rattle.std.specs.List.{All}
 use Rattle.farkas_cert.specs.declared.system.Row.{Row}

@@ -1,7 +1,8 @@
 // The least combination of a pair of rows of opposite sign.
 
-ghost use Rattle.std.specs.Prelude.{◌≡◌, ℕ, ◌+◌, ◌*◌, ◌/◌, ◌≤◌, ◌^◌, ℤ, pos, ◌+ℤ◌, ◌*ℤ◌, ◌<ℤ◌, unsigned_abs, nat_le, IsTrue, IfOk, MatchOption, ◌&&◌, if◌then◌else◌, Some, None, length};
+ghost use Rattle.std.specs.Prelude.{◌≡◌, ◌↔◌, ℕ, ◌+◌, ◌*◌, ◌/◌, ◌≤◌, ◌^◌, ℤ, pos, ◌+ℤ◌, ◌*ℤ◌, ◌<ℤ◌, unsigned_abs, nat_le, IsTrue, IfOk, MatchOption, ◌&&◌, if◌then◌else◌, Some, None, length};
 ghost use Rattle.std.specs.Int.{IsGcd};
+ghost use Rattle.std.specs.List.{All};
 ghost use Rattle.farkas_cert.specs.Combination.{is_narrow as narrow};
 ghost use Rattle.fm_elim.specs.Pairs.{combination as combination_of, IsWide, IsNarrow};
 
@@ -20,6 +21,13 @@ pub fn is_narrow(number: i128) -> bool
     ensures { result ≡ narrow number }
 {
     number.unsigned_abs() <= LIMIT
+}
+
+/// Whether these numbers are all at most 2 ^ 126 in size.
+pub fn are_narrow(numbers: &[i128]) -> bool
+    ensures { IsTrue result ↔ All (λ a. IsTrue (narrow a)) numbers.now }
+{
+    numbers.iter().all(|number| is_narrow(*number))
 }
 
 // Whether the product of two sizes is at most 2 ^ 126: with no division where both are small.

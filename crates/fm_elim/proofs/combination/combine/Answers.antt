@@ -1,8 +1,8 @@
-use Rattle.std.proofs.Common.{rules, ◌≡◌, ℕ, ◌+◌, ◌≤◌, ◌<◌, ℤ, pos, ◌*ℤ◌, ◌+ℤ◌, FitsSigned, Some, None, IsTrue, length, get_or, drop, ◌++◌, ◌∷◌, [], append_assoc, to_z, of_z, sym, ◌∙◌, ap, subst, refl, arith}
+use Rattle.std.proofs.Common.{rules, ◌≡◌, ◌+◌, ◌≤◌, ◌<◌, pos, ◌*ℤ◌, FitsSigned, IsTrue, length, get_or, drop, ◌++◌, ◌∷◌, [], append_assoc, to_z, of_z, sym, ◌∙◌, ap, subst, refl, arith}
 use Rattle.std.specs.Int.{w128}
 use Rattle.std.proofs.lemmas.Int.{to_z-of_z}
-use Rattle.farkas_cert.specs.Combination.{entry_at, stays_narrow}
-use Rattle.fm_elim.specs.Pairs.{combined, combination, products_of, IsNarrow}
+use Rattle.farkas_cert.specs.Combination.{stays_narrow}
+use Rattle.fm_elim.specs.Pairs.{combined, products_of}
 use Rattle.fm_elim.proofs.Combined.{sum_where_none, sum_where_some, entry_at-coef, entry_at-bound, combined-drop, combined-done, by_lt}
 use Rattle.std.proofs.lemmas.List.{append-nil}
 use borrow.Author.Count.{below_more}

@@ -1,6 +1,6 @@
-use Rattle.std.proofs.Common.{rules, ◌≡◌, ℕ, ◌+◌, ◌/◌, ◌<◌, ◌≤◌, ◌^◌, ℤ, pos, negsuc, ◌<ℤ◌, unsigned_abs, IsTrue, inl, FitsSigned, to_z, of_z, sym, ◌∙◌, ap, subst, arith}
+use Rattle.std.proofs.Common.{◌≡◌, ◌/◌, ◌<◌, ◌≤◌, ◌^◌, unsigned_abs, inl, to_z, ◌∙◌, ap, subst, arith}
 use Rattle.std.specs.Int.{w128, IsGcd}
-use Rattle.std.proofs.lemmas.Int.{to_z-of_z, to_z_pos, ints}
+use Rattle.std.proofs.lemmas.Int.{to_z-of_z, to_z_pos}
 use Rattle.fm_elim.proofs.Divisors.{le_from_narrow}
 use Rattle.fm_elim.proofs.Combined.{divisor_above_zero, quotient_le, size_above_zero}
 use Rattle.fm_elim.proofs.combination.multipliers.Goals as goal

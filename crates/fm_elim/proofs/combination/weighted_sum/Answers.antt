@@ -1,7 +1,6 @@
-use Rattle.std.proofs.Common.{rules, ◌≡◌, ℤ, pos, ◌+ℤ◌, ◌*ℤ◌, ◌&&◌, true, if◌then◌else◌, Some, None, FitsSigned, to_z, of_z, sym, ◌∙◌, ap}
+use Rattle.std.proofs.Common.{rules, ◌*ℤ◌, FitsSigned}
 use Rattle.std.specs.Int.{w128}
 use Rattle.std.proofs.lemmas.Int.{to_z-of_z}
-use Rattle.farkas_cert.specs.Combination.{is_narrow}
 use Rattle.fm_elim.proofs.Combined.{weighted_sum_is}
 use Rattle.fm_elim.proofs.combination.weighted_sum.Goals as goal
 

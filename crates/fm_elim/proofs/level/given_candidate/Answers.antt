@@ -1,7 +1,6 @@
-use Rattle.std.proofs.Common.{rules, ◌≡◌, ℕ, ℤ, pos, max, FitsSigned, to_z, of_z, refl, ap, sym, ◌∙◌, subst, arith}
+use Rattle.std.proofs.Common.{rules, ◌≡◌, FitsSigned, to_z, of_z, ap, sym, ◌∙◌, subst}
 use Rattle.std.specs.Int.{w128}
-use Rattle.std.proofs.lemmas.Int.{to_z-of_z, ints}
-use Rattle.fm_elim.specs.declared.level.Origin.TheVariants.{Numbered, Made}
+use Rattle.std.proofs.lemmas.Int.{to_z-of_z}
 use Rattle.fm_elim.specs.Reduction.{IsReducedBy}
 use Rattle.fm_elim.specs.Logs.{IsFounded}
 use Rattle.fm_elim.proofs.Origins.{founded_by_one, founded_by_more}

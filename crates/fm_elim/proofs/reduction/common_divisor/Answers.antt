@@ -1,4 +1,4 @@
-use Rattle.std.proofs.Common.{rules, arith, ◌≡◌, ℤ, pos, ◌+◌, ◌^◌, ◌≤◌, ◌<◌, get_or, take, length, nat_le, IsTrue, unsigned_abs, FitsSigned, to_z, of_z, ap, sym, ◌∙◌, subst}
+use Rattle.std.proofs.Common.{rules, arith, pos, ◌+◌, ◌^◌, ◌≤◌, get_or, take, unsigned_abs, FitsSigned, ap, sym, ◌∙◌, subst}
 use Rattle.std.specs.Int.{w128, IsGcd}
 use Rattle.std.proofs.lemmas.Int.{to_z-of_z}
 use Rattle.fm_elim.specs.Reduction.{IsCommonDivisor}

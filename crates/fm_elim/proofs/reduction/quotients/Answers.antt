@@ -1,4 +1,4 @@
-use Rattle.std.proofs.Common.{rules, arith, ◌≡◌, ℤ, pos, ◌+◌, ◌<◌, ◌++◌, ◌∷◌, [], get_or, take, length, map, int_div, FitsSigned, to_z, of_z, ◌<ℤ◌, ap, ◌∙◌, subst}
+use Rattle.std.proofs.Common.{rules, arith, ◌≡◌, ℤ, pos, get_or, FitsSigned, to_z, of_z, ◌<ℤ◌}
 use Rattle.std.specs.Int.{w128}
 use Rattle.std.proofs.lemmas.Int.{ints, to_z-of_z, quot_is, quot_fits}
 use Rattle.std.proofs.lemmas.List.{take_more, map-append}

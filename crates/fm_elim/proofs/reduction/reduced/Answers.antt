@@ -1,7 +1,6 @@
-use Rattle.std.proofs.Common.{rules, arith, ◌≡◌, ℕ, ℤ, pos, ◌+◌, ◌^◌, ◌≤◌, ◌<◌, max, get_or, take, length, map, int_div, FitsSigned, to_z, of_z, ap, sym, ◌∙◌, subst}
+use Rattle.std.proofs.Common.{rules, arith, ◌≡◌, pos, max, map, int_div, FitsSigned, to_z, of_z, ap, sym, ◌∙◌, subst}
 use Rattle.std.specs.Int.{w128, int_div_euclid}
 use Rattle.std.proofs.lemmas.Int.{to_z-of_z, to_z_pos}
-use Rattle.farkas_cert.specs.declared.system.Row.{Row}
 use Rattle.fm_elim.specs.Reduction.{IsCommonDivisor, divided}
 use Rattle.fm_elim.proofs.Divisors.{divided-one}
 use Rattle.fm_elim.proofs.reduction.reduced.Goals as goal
