@@ -1,17 +1,15 @@
 // The rows of a level, and the candidates of the next one.
 
-ghost use Rattle.std.specs.Prelude.{◌≡◌, ℕ, ◌≤◌, ◌<◌, ◌^◌, ℤ, pos, ◌≤ℤ◌, ◌<ℤ◌, IsTrue, IfOk, OnOk, ◌↔◌, List, length, filter, int_lt, slice_index_or, ◌-◌};
-ghost use Rattle.std.specs.List.{All, Contains};
-ghost use Rattle.std.specs.List.Sorted.{IsSorted};
-ghost use Rattle.std.specs.Ordering.{int_eq};
+ghost use Rattle.std.specs.Prelude.{◌≡◌, ◌-◌, ◌≤◌, ◌<◌, IsTrue, IfOk, OnOk, ◌↔◌, List, length, slice_index_or};
+ghost use Rattle.std.specs.List.{All};
 ghost use Rattle.farkas_cert.specs.Inequalities.{Inequalities};
 ghost use Rattle.farkas_cert.specs.Combination.{is_narrow as narrow};
 ghost use Rattle.fm_elim.specs.declared.derivation.Derivation.{Derivation as Steps};
 ghost use Rattle.fm_elim.specs.Reduction.{IsReduced};
-ghost use Rattle.fm_elim.specs.Pairs.{coef_of as coef, combination as combination_of, IsPair, IsWide};
-ghost use Rattle.fm_elim.specs.Levels.{IsEmpty, IsRaw};
-ghost use Rattle.fm_elim.specs.Forming.{candidate_cmp, IsAdded, IsTightened, IsFormed, Covers};
-ghost use Rattle.fm_elim.specs.Logs.{all_rows, IsLog, IsNumber, IsSuited, IsFounded, IsHeld, rows_of, rows_among};
+ghost use Rattle.fm_elim.specs.Pairs.{coef_of as coef};
+ghost use Rattle.fm_elim.specs.Levels.{IsEmpty};
+ghost use Rattle.fm_elim.specs.Forming.{candidate_cmp, IsAdded};
+ghost use Rattle.fm_elim.specs.Logs.{all_rows, IsNumber, IsSuited, IsFounded};
 
 use crate::derivation::Derivation;
 use crate::reduction::reduced;
