@@ -6,6 +6,7 @@ pub mod Awaited
 pub mod Words
 pub mod TurnActs
 pub mod LoadLists
+pub mod FreshRoom
 pub mod StatementMeaning
 pub mod TableReads
 pub mod CellBounds
