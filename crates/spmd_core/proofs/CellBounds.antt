@@ -77,4 +77,4 @@ pub load_below : (tree : Tree) (place k : ℕ) → list_all is_scalar tree.varia
 load_below tree place k scalars works good lt =
     All-get_or (Below tree) (loads_of tree (instance_at tree place)) k 0 lt
     (subst (λ (loops : List ℤ). All (Below tree) (statement_loads tree loops (statement_at tree.items place))) (sym (no_values-straight tree works))
-      (statement_cells tree scalars (statement_at tree.items place) (good_statement_at tree 1 tree.items place works good)))
+    (statement_cells tree scalars (statement_at tree.items place) (good_statement_at tree 1 tree.items place works good)))

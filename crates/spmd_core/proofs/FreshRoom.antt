@@ -77,9 +77,9 @@ origin_owner tree workers loops a some origin placed =
     let forms = and_parts (length a.form.loops == 0) (length a.form.params == 0) both.0 in
     let constant : a.form.constant ≡ pos 0 = (Decides-int_eq a.form.constant (pos 0)).0 both.1 in
     let value : form_value a.form loops (param_values tree) ≡ pos 0 =
-        ap (λ ls. a.form.constant +ℤ dot ls loops +ℤ dot a.form.params (param_values tree)) (nil_from_length a.form.loops (eqb-true (length a.form.loops) 0 forms.0))
-        ∙ ap (λ ps. a.form.constant +ℤ pos 0 +ℤ dot ps (param_values tree)) (nil_from_length a.form.params (eqb-true (length a.form.params) 0 forms.1))
-        ∙ ap (λ k. k +ℤ pos 0 +ℤ pos 0) constant in
+    ap (λ ls. a.form.constant +ℤ dot ls loops +ℤ dot a.form.params (param_values tree)) (nil_from_length a.form.loops (eqb-true (length a.form.loops) 0 forms.0))
+    ∙ ap (λ ps. a.form.constant +ℤ pos 0 +ℤ dot ps (param_values tree)) (nil_from_length a.form.params (eqb-true (length a.form.params) 0 forms.1))
+    ∙ ap (λ k. k +ℤ pos 0 +ℤ pos 0) constant in
     ap (λ v. count_of (dealt a.dist workers v)) value ∙ zero_dealt a.dist placed
   where
     zero_dealt : (d : Dist) → has_places d ≡ true → count_of (dealt d workers (pos 0)) ≡ 0
@@ -110,9 +110,9 @@ other_room tree plan p n fit some lt =
     let owner = owner_of tree plan (n + 1) (instance_at tree n) in
     let line = longest_line (statement_at tree.items n) in
     let nothing : cond (owner == p) line 0 ≡ 0 = elim (cases_Bool (is_print (statement_at tree.items n))) [
-        inl pr ↦ let other : owner ≡ p → ⊥ = λ (e : owner ≡ p). omega (arith, print_owner tree plan n (pick plan.anchors n inside) fit lt pr) in ap (λ b. cond b line 0) (ne_eqb owner p other)
+      | inl pr ↦ let other : owner ≡ p → ⊥ = λ (e : owner ≡ p). omega (arith, print_owner tree plan n (pick plan.anchors n inside) fit lt pr) in ap (λ b. cond b line 0) (ne_eqb owner p other)
       | inr quiet ↦ ap (λ k. cond (owner == p) k 0) (silent (statement_at tree.items n) quiet) ∙ same_either (owner == p)
-      ] in
+    ] in
     omega (arith, turn_room tree (planned tree plan p n), nothing)
   where
     same_either : (b : Bool) → cond {A = ℕ} b 0 0 ≡ 0
@@ -133,8 +133,13 @@ any_room tree plan p n =
 rooms_below : (own : ℕ → List Act) (f : ℕ → Planned) (g : ℕ → ℕ) (a n : ℕ) → ((k : ℕ) → a ≤ k → k < a + n → sum_by act_room (turn_acts own (f k)) ≤ g k) → sum_by act_room (flat_map (turn_acts own) (map f (range_with_len a n))) ≤ sum_by g (range_with_len a n)
 rooms_below own f g a zero h = omega arith
 rooms_below own f g a (suc n) h =
-    omega (arith, sum_by-append act_room (turn_acts own (f a)) (flat_map (turn_acts own) (map f (range_with_len (a + 1) n))), sum_by-cons g a (range_with_len (a + 1) n),
-      h a (omega arith) (omega arith), rooms_below own f g (a + 1) n (λ k low high. h k (omega arith) (omega arith)))
+    omega (
+      arith,
+      sum_by-append act_room (turn_acts own (f a)) (flat_map (turn_acts own) (map f (range_with_len (a + 1) n))),
+      sum_by-cons g a (range_with_len (a + 1) n),
+      h a (omega arith) (omega arith),
+      rooms_below own f g (a + 1) n (λ k low high. h k (omega arith) (omega arith)),
+    )
 
 zeros : (a n : ℕ) → sum_by (λ (k : ℕ). 0) (range_with_len a n) ≡ 0
 zeros a zero = refl
@@ -169,11 +174,19 @@ pub fresh_rooms : (tree : Tree) (plan : Plan) (size : ℕ) (ps : List Processor)
 fresh_rooms tree plan size [] fit fresh = omega arith
 fresh_rooms tree plan size (x ∷ ps) fit fresh =
     let line = λ (k : ℕ). longest_line (statement_at tree.items k) in
-    let first : room_of tree x ≤ longest_lines tree.items = omega (arith, fresh_room tree plan size 0 x (fresh 0 x (omega arith)),
-        rooms_below (own_acts tree) (planned tree plan 0) line 0 (works_of tree.items) (λ k low high. any_room tree plan 0 k), lines_from tree 0 tree.items fit.works (λ k. ap (statement_at tree.items) (sym (zero-add k)))) in
+    let first : room_of tree x ≤ longest_lines tree.items = omega (
+      arith,
+      fresh_room tree plan size 0 x (fresh 0 x (omega arith)),
+      rooms_below (own_acts tree) (planned tree plan 0) line 0 (works_of tree.items) (λ k low high. any_room tree plan 0 k),
+      lines_from tree 0 tree.items fit.works (λ k. ap (statement_at tree.items) (sym (zero-add k))),
+    ) in
     let others : All (λ y. room_of tree y ≤ 0) ps = All-from_get_or (λ y. room_of tree y ≤ 0) ps x (λ i lt.
-        omega (arith, fresh_room tree plan size (suc i) (get_or ps i x) (fresh (suc i) x (omega arith)),
-          rooms_below (own_acts tree) (planned tree plan (suc i)) (λ k. 0) 0 (works_of tree.items) (λ k low high. other_room tree plan (suc i) k fit (omega arith) (omega arith)), zeros 0 (works_of tree.items))) in
+    omega (
+      arith,
+      fresh_room tree plan size (suc i) (get_or ps i x) (fresh (suc i) x (omega arith)),
+      rooms_below (own_acts tree) (planned tree plan (suc i)) (λ k. 0) 0 (works_of tree.items) (λ k low high. other_room tree plan (suc i) k fit (omega arith) (omega arith)),
+      zeros 0 (works_of tree.items),
+    )) in
     omega (arith, sum_by-cons (room_of tree) x ps, first, sum_by-le (room_of tree) 0 ps others)
 
 -- parts of fresh processors

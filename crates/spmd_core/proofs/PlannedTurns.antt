@@ -25,10 +25,10 @@ unfolding turns_of
 all_planned tree plan p =
     All-filter is_busy (IsPlanned tree plan p) (map (planned tree plan p) (places tree))
     (All-map (IsPlanned tree plan p) (planned tree plan p) (places tree)
-      (All-from_get_or (λ n. IsPlanned tree plan p (planned tree plan p n)) (places tree) 0
-        (λ i lt. let below : i < works_of tree.items = omega (arith, length-range_with_len 0 (works_of tree.items)) in
-          let at : get_or (places tree) i 0 ≡ i = get_or-range_with_len 0 (works_of tree.items) i 0 below ∙ zero-add i in
-          record { below = omega (arith, at); is = refl })))
+    (All-from_get_or (λ n. IsPlanned tree plan p (planned tree plan p n)) (places tree) 0
+    (λ i lt. let below : i < works_of tree.items = omega (arith, length-range_with_len 0 (works_of tree.items)) in
+    let at : get_or (places tree) i 0 ≡ i = get_or-range_with_len 0 (works_of tree.items) i 0 below ∙ zero-add i in
+    record { below = omega (arith, at); is = refl })))
 
 pub turn_planned : (tree : Tree) (plan : Plan) (p at : ℕ) (turns rest : List Planned) (t : Planned) → turns ≡ turns_of tree plan p → drop at turns ≡ t ∷ rest → IsPlanned tree plan p t
 turn_planned tree plan p at turns rest t e is =
@@ -40,8 +40,8 @@ pub awaited_below : (tree : Tree) (plan : Plan) (p k : ℕ) (t : Planned) (later
 awaited_below tree plan p k t later on h is =
     let below : ℕ → Type 0 = λ q. q < plan.workers in
     let all : All below (waits_for tree plan p (phase_at t.passed)) =
-        All-filter (does_wait tree plan (phase_at t.passed) p) below (processors plan)
-        (All-from_get_or below (processors plan) 0
-          (λ i lt. let inside : i < plan.workers = omega (arith, length-range_with_len 0 plan.workers) in
-            let at : get_or (processors plan) i 0 ≡ i = get_or-range_with_len 0 plan.workers i 0 inside ∙ zero-add i in omega (arith, at))) in
+    All-filter (does_wait tree plan (phase_at t.passed) p) below (processors plan)
+    (All-from_get_or below (processors plan) 0
+    (λ i lt. let inside : i < plan.workers = omega (arith, length-range_with_len 0 plan.workers) in
+    let at : get_or (processors plan) i 0 ≡ i = get_or-range_with_len 0 plan.workers i 0 inside ∙ zero-add i in omega (arith, at))) in
     All-head below on later (subst (All below) (ap (drop k) (sym (ap (λ (x : Planned). x.awaits) h.is)) ∙ is) (All-drop below k (waits_for tree plan p (phase_at t.passed)) all))

@@ -59,7 +59,7 @@ stands_more tree tree' plan plan' p first here later answer t q stands step told
     let here_none = none_of_ended here (next_act tree' plan' here p) (sym told ∙ ended) in
     let still : later ≡ here = step ∙ ap (stepped_by tree' here p) here_none in
     let none : next_act tree plan first p ≡ None =
-        sym (ap (λ (x : Tree). next_act x plan' here p) t ∙ ap (λ (x : Plan). next_act tree x here p) q ∙ ap (λ (s : State). next_act tree plan s p) stands.same) ∙ here_none in
+    sym (ap (λ (x : Tree). next_act x plan' here p) t ∙ ap (λ (x : Plan). next_act tree x here p) q ∙ ap (λ (s : State). next_act tree plan s p) stands.same) ∙ here_none in
     record { same = still ∙ stands.same; none = below_more (λ k. next_act tree plan first k ≡ None) p stands.none none }
 
 -- a state that stands is over

@@ -56,11 +56,11 @@ passes_load tree plan p place x y k s still more lt =
     record {
       turns = ap planned_turns still;
       acts =
-        work_left tree plan p place x k s count
-        ∙ ap (λ acts. acts ++ rest) (drop_load (load i) (loads_of tree i) (last_act i (store_of tree i)) count lt)
-        ∙ ap (λ n. load i (get_or (loads_of tree i) count 0) ∷ (drop n (own_acts tree place) ++ rest)) (sym more)
-        ∙ ap (λ acts. load i (get_or (loads_of tree i) count 0) ∷ acts) (sym (work_left tree plan p place x k s (length y.registers.items)))
-        ∙ ap (λ c. load i (get_or (loads_of tree i) count 0) ∷ cursor_left (own_acts tree) c (length y.registers.items)) (sym still);
+          work_left tree plan p place x k s count
+          ∙ ap (λ acts. acts ++ rest) (drop_load (load i) (loads_of tree i) (last_act i (store_of tree i)) count lt)
+          ∙ ap (λ n. load i (get_or (loads_of tree i) count 0) ∷ (drop n (own_acts tree place) ++ rest)) (sym more)
+          ∙ ap (λ acts. load i (get_or (loads_of tree i) count 0) ∷ acts) (sym (work_left tree plan p place x k s (length y.registers.items)))
+          ∙ ap (λ c. load i (get_or (loads_of tree i) count 0) ∷ cursor_left (own_acts tree) c (length y.registers.items)) (sym still);
     }
 
 begun_more : (t : Planned) (posted : Bool) (awaits : List ℕ) (count next : ℕ) → posted ≡ true → awaits ≡ [] → IsBegun t posted awaits count → IsBegun t posted awaits next
@@ -78,10 +78,10 @@ kept_load tree plan p place x y k s still within room = record {
   turns = ap planned_turns still ∙ k.turns;
   begun = subst (λ c. IsBegunAt c (length y.registers.items)) (sym still) (λ t rest is. begun_more t x.cursor.posted (members x.cursor.awaits) (length x.registers.items) (length y.registers.items) s.1 s.2 (k.begun t rest is));
   within = λ t rest is.
-    let both : s.0.turn ∷ s.0.rest ≡ t ∷ rest = sym s.0.is ∙ ap rest_of (sym still) ∙ is in
-    let same : s.0.turn ≡ t = cc in
-    let number : place ≡ t.passed = sym s.0.number ∙ ap (λ (u : Planned). u.passed) same in
-    subst (λ n. length y.registers.items ≤ load_count_at tree n) number within;
+      let both : s.0.turn ∷ s.0.rest ≡ t ∷ rest = sym s.0.is ∙ ap rest_of (sym still) ∙ is in
+      let same : s.0.turn ≡ t = cc in
+      let number : place ≡ t.passed = sym s.0.number ∙ ap (λ (u : Planned). u.passed) same in
+      subst (λ n. length y.registers.items ≤ load_count_at tree n) number within;
   room = λ n. omega (arith, k.room n);
 }
 
@@ -98,7 +98,7 @@ passes_last tree plan p place x y k s turns all acts none =
     record {
       turns = turns;
       acts = acts ∙ ap (λ l. l ++ cursor_left (own_acts tree) y.cursor 0) (drop_at (map (load i) (loads_of tree i)) (last ∷ []) (length x.registers.items) count)
-        ∙ ap (λ n. last ∷ cursor_left (own_acts tree) y.cursor n) (sym none);
+          ∙ ap (λ n. last ∷ cursor_left (own_acts tree) y.cursor n) (sym none);
     }
 
 pub loads_length : (tree : Tree) → length (loads_by_place tree) ≡ works_of tree.items

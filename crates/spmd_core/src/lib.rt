@@ -2,8 +2,8 @@
 //! program by a plan, one act of one processor at a time.
 #![tactic(auto)]
 
-mod barriers;
 mod answer;
+mod barriers;
 mod cursor;
 mod fit;
 pub mod laws;
@@ -17,8 +17,8 @@ mod tables;
 mod value;
 mod waiting;
 
-pub use barriers::all_barriers;
 pub use answer::{NoMemory, StepAnswer};
+pub use barriers::all_barriers;
 pub use fit::check_fit;
 pub use line::Output;
 pub use machine::Machine;

@@ -139,7 +139,7 @@ returns-clause-step c =
     let enough : c.args.number ≤ slice_index (map (λ (z : Processor). z.counter) ps) c.args.on = omega (arith, counter, c.from-wanted.ensures) in
     let possible = le-leb c.args.number (slice_index (map (λ (z : Processor). z.counter) ps) c.args.on) enough in
     steps_await tree plan ps m.memory.items m.output.bytes.items p x y c.args.on c.args.number (suits tree plan m.suited).works c.requires.worker (m.kept p x c.requires.worker) passed
-        (ap (λ (z : Processor). z.registers.items) read) (ap (λ (z : Processor). z.counter) read) possible
+    (ap (λ (z : Processor). z.registers.items) read) (ap (λ (z : Processor). z.counter) read) possible
 
 pub returns-clause-answer : goal.returns-clause-answer
 unfolding shown
@@ -163,4 +163,4 @@ returns-clause-answer c =
     let enough : c.args.number ≤ slice_index (map (λ (z : Processor). z.counter) ps) c.args.on = omega (arith, counter, c.from-wanted.ensures) in
     let possible = le-leb c.args.number (slice_index (map (λ (z : Processor). z.counter) ps) c.args.on) enough in
     possible_answer tree plan (shown m) p c.args.on c.args.number
-        (next_act_is tree plan ps m.memory.items m.output.bytes.items p x y (await c.args.on c.args.number) (suits tree plan m.suited).works c.requires.worker (m.kept p x c.requires.worker) passed) possible
+    (next_act_is tree plan ps m.memory.items m.output.bytes.items p x y (await c.args.on c.args.number) (suits tree plan m.suited).works c.requires.worker (m.kept p x c.requires.worker) passed) possible

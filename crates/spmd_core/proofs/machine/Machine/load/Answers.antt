@@ -67,8 +67,8 @@ invariant_of-self c =
     let value = to_z-of_z w64 c.index-value.result.now fits in
     let room_left : vec_len x.registers < vec_capacity x.registers = omega (arith, left, kept.room c.args.place, x.registers.ok.0) in
     let pushed : y.registers.items ≡ x.registers.items ++ c.index-value.result.now ∷ [] =
-        c.push.ensures.items ∙ ap (λ b. if b then x.registers.items ++ to_z w64 (of_z w64 c.index-value.result.now) ∷ [] else x.registers.items) (c.push.ensures.succeeds room_left)
-        ∙ ap (λ v. x.registers.items ++ v ∷ []) value in
+    c.push.ensures.items ∙ ap (λ b. if b then x.registers.items ++ to_z w64 (of_z w64 c.index-value.result.now) ∷ [] else x.registers.items) (c.push.ensures.succeeds room_left)
+    ∙ ap (λ v. x.registers.items ++ v ∷ []) value in
     let more : length y.registers.items ≡ length x.registers.items + 1 = ap length pushed ∙ length_push x.registers.items c.index-value.result.now in
     let passes = passes_load tree plan p c.args.place x y kept stage refl more lt in
     let act = load (instance_at tree c.args.place) (get_or loads (length x.registers.items) 0) in
@@ -110,17 +110,17 @@ returns-clause-step c =
     let value = to_z-of_z w64 c.index-value.result.now fits in
     let room_left : vec_len x.registers < vec_capacity x.registers = omega (arith, left, kept.room c.args.place, x.registers.ok.0) in
     let pushed : y.registers.items ≡ x.registers.items ++ c.index-value.result.now ∷ [] =
-        c.push.ensures.items ∙ ap (λ b. if b then x.registers.items ++ to_z w64 (of_z w64 c.index-value.result.now) ∷ [] else x.registers.items) (c.push.ensures.succeeds room_left)
-        ∙ ap (λ v. x.registers.items ++ v ∷ []) value in
+    c.push.ensures.items ∙ ap (λ b. if b then x.registers.items ++ to_z w64 (of_z w64 c.index-value.result.now) ∷ [] else x.registers.items) (c.push.ensures.succeeds room_left)
+    ∙ ap (λ v. x.registers.items ++ v ∷ []) value in
     let more : length y.registers.items ≡ length x.registers.items + 1 = ap length pushed ∙ length_push x.registers.items c.index-value.result.now in
     let passes = passes_load tree plan p c.args.place x y kept stage refl more lt in
     let act = load (instance_at tree c.args.place) (get_or loads (length x.registers.items) 0) in
     let passed = subst (λ z. Passes tree z y act) read passes in
     let value_read : cell_value m.memory.items (get_or loads (length x.registers.items) 0) ≡ c.index-value.result.now =
-        ap (cell_value m.memory.items) (sym cell) ∙ sym (get_or_read m.memory.items c.index-cell.result.now c.index-value.result.now (omega (arith, cell, small, m.cells)) c.index-value.ensures (pos 0)) in
+    ap (cell_value m.memory.items) (sym cell) ∙ sym (get_or_read m.memory.items c.index-cell.result.now c.index-value.result.now (omega (arith, cell, small, m.cells)) c.index-value.ensures (pos 0)) in
     steps_load tree plan ps m.memory.items m.output.bytes.items p x y (instance_at tree c.args.place) (get_or loads (length x.registers.items) 0) fit.works c.requires.worker (m.kept p x c.requires.worker) passed
-        (pushed ∙ ap (λ v. x.registers.items ++ v ∷ []) (sym value_read) ∙ ap (λ (z : Processor). z.registers.items ++ cell_value m.memory.items (get_or loads (length x.registers.items) 0) ∷ []) read)
-        (ap (λ (z : Processor). z.counter) read)
+    (pushed ∙ ap (λ v. x.registers.items ++ v ∷ []) (sym value_read) ∙ ap (λ (z : Processor). z.registers.items ++ cell_value m.memory.items (get_or loads (length x.registers.items) 0) ∷ []) read)
+    (ap (λ (z : Processor). z.counter) read)
 
 pub returns-clause-answer : goal.returns-clause-answer
 unfolding shown
@@ -149,8 +149,8 @@ returns-clause-answer c =
     let value = to_z-of_z w64 c.index-value.result.now fits in
     let room_left : vec_len x.registers < vec_capacity x.registers = omega (arith, left, kept.room c.args.place, x.registers.ok.0) in
     let pushed : y.registers.items ≡ x.registers.items ++ c.index-value.result.now ∷ [] =
-        c.push.ensures.items ∙ ap (λ b. if b then x.registers.items ++ to_z w64 (of_z w64 c.index-value.result.now) ∷ [] else x.registers.items) (c.push.ensures.succeeds room_left)
-        ∙ ap (λ v. x.registers.items ++ v ∷ []) value in
+    c.push.ensures.items ∙ ap (λ b. if b then x.registers.items ++ to_z w64 (of_z w64 c.index-value.result.now) ∷ [] else x.registers.items) (c.push.ensures.succeeds room_left)
+    ∙ ap (λ v. x.registers.items ++ v ∷ []) value in
     let more : length y.registers.items ≡ length x.registers.items + 1 = ap length pushed ∙ length_push x.registers.items c.index-value.result.now in
     let passes = passes_load tree plan p c.args.place x y kept stage refl more lt in
     let act = load (instance_at tree c.args.place) (get_or loads (length x.registers.items) 0) in

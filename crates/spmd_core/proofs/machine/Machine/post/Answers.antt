@@ -84,7 +84,7 @@ returns-clause-step c =
     let passes = passes_boundary tree x y (post c.args.number) turns none none (c.pass_post.ensures.acts (own_acts tree)) in
     let passed = subst (λ z. Passes tree z y (post c.args.number)) read passes in
     steps_post tree plan ps m.memory.items m.output.bytes.items p x y c.args.number (suits tree plan m.suited).works c.requires.worker (m.kept p x c.requires.worker) passed
-        (ap (λ (z : Processor). z.registers.items) read) c.from-processor.ensures
+    (ap (λ (z : Processor). z.registers.items) read) c.from-processor.ensures
 
 pub returns-clause-answer : goal.returns-clause-answer
 unfolding shown

@@ -130,7 +130,7 @@ invariant_of-self c =
     let none : length y.registers.items ≡ 0 = ap length c.clear.ensures.items in
     let act = print (instance_at tree place) in
     let passes = subst (Passes tree x y) (ap (last_act (instance_at tree place)) what.store)
-        (passes_last tree plan p place x y kept stage turns all (c.pass_work.ensures.acts (own_acts tree) (length x.registers.items)) none) in
+    (passes_last tree plan p place x y kept stage turns all (c.pass_work.ensures.acts (own_acts tree) (length x.registers.items)) none) in
     let passed = subst (λ z. Passes tree z y act) read passes in
     let room = room_next tree ps p x y act c.requires.worker passed in
     record {
@@ -165,12 +165,12 @@ returns-clause-step c =
     let none : length y.registers.items ≡ 0 = ap length c.clear.ensures.items in
     let act = print (instance_at tree place) in
     let passes = subst (Passes tree x y) (ap (last_act (instance_at tree place)) what.store)
-        (passes_last tree plan p place x y kept stage turns all (c.pass_work.ensures.acts (own_acts tree) (length x.registers.items)) none) in
+    (passes_last tree plan p place x y kept stage turns all (c.pass_work.ensures.acts (own_acts tree) (length x.registers.items)) none) in
     let passed = subst (λ z. Passes tree z y act) read passes in
     steps_print tree plan ps m.memory.items m.output.bytes.items _ p x y (instance_at tree place) fit.works c.requires.worker (m.kept p x c.requires.worker) passed
-        c.clear.ensures.items (ap (λ (z : Processor). z.counter) read)
-        (c.push_line.ensures.bytes ∙ ap (λ r. m.output.bytes.items ++ (plain_items (map printed_of c.args.items.now) r ++ 10 ∷ [])) c.as_slice.ensures.value
-          ∙ ap (λ l. m.output.bytes.items ++ l) (sym (what.line x.registers.items)) ∙ ap (λ (z : Processor). m.output.bytes.items ++ line_of tree (instance_at tree place) z.registers.items) read)
+    c.clear.ensures.items (ap (λ (z : Processor). z.counter) read)
+    (c.push_line.ensures.bytes ∙ ap (λ r. m.output.bytes.items ++ (plain_items (map printed_of c.args.items.now) r ++ 10 ∷ [])) c.as_slice.ensures.value
+    ∙ ap (λ l. m.output.bytes.items ++ l) (sym (what.line x.registers.items)) ∙ ap (λ (z : Processor). m.output.bytes.items ++ line_of tree (instance_at tree place) z.registers.items) read)
 
 pub returns-clause-answer : goal.returns-clause-answer
 unfolding shown
@@ -195,6 +195,6 @@ returns-clause-answer c =
     let none : length y.registers.items ≡ 0 = ap length c.clear.ensures.items in
     let act = print (instance_at tree place) in
     let passes = subst (Passes tree x y) (ap (last_act (instance_at tree place)) what.store)
-        (passes_last tree plan p place x y kept stage turns all (c.pass_work.ensures.acts (own_acts tree) (length x.registers.items)) none) in
+    (passes_last tree plan p place x y kept stage turns all (c.pass_work.ensures.acts (own_acts tree) (length x.registers.items)) none) in
     let passed = subst (λ z. Passes tree z y act) read passes in
     ap (answer_at (shown m)) (next_act_is tree plan ps m.memory.items m.output.bytes.items p x y act fit.works c.requires.worker (m.kept p x c.requires.worker) passed)

@@ -12,5 +12,5 @@ invariant-loop-p l = record {
   program : tree_in l.self ≡ tree_in l.initial.self;
   plan : plan_in l.self ≡ plan_in l.initial.self;
   steps : shown l.self ≡ fold (stepped (tree_in l.initial.self) (plan_in l.initial.self)) (shown l.initial.self) (range_with_len 0 l.p);
-  stands : l.going ≡ false → Stands (tree_in l.initial.self) (plan_in l.initial.self) (shown l.initial.self) (shown l.self) l.p
-  }
+  stands : l.going ≡ false → Stands (tree_in l.initial.self) (plan_in l.initial.self) (shown l.initial.self) (shown l.self) l.p;
+}

@@ -14,5 +14,5 @@ returns-then-not-round-clause-run c =
     record {
       rounds = suc c.loop-rounds.rounds;
       state = one_more _ _ _ _ c.loop-rounds.rounds _ _ _ i.program i.plan i.run c.round.ensures.round;
-      over = inl (subst (λ (q : Plan). IsOver (tree_in c.args.self.now) q (shown c.round.new.self)) i.plan over')
+      over = inl (subst (λ (q : Plan). IsOver (tree_in c.args.self.now) q (shown c.round.new.self)) i.plan over');
     }

@@ -8,5 +8,5 @@ abbrev pub invariant-loop-rounds : goal.invariant-loop-rounds
 invariant-loop-rounds l = record {
   program : tree_in l.self ≡ tree_in l.initial.self;
   plan : plan_in l.self ≡ plan_in l.initial.self;
-  run : shown l.self ≡ after_rounds (tree_in l.initial.self) (plan_in l.initial.self) l.rounds (shown l.initial.self)
-  }
+  run : shown l.self ≡ after_rounds (tree_in l.initial.self) (plan_in l.initial.self) l.rounds (shown l.initial.self);
+}

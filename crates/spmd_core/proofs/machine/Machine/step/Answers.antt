@@ -1,6 +1,5 @@
 use Rattle.std.proofs.Common.{◌≡◌, ◌<◌, [], length, ap, sym, ◌∙◌, subst, arith}
 use Rattle.nest_tree.specs.View.{tree_of}
-
 use Rattle.spmd_core.specs.Machine.{stepped_by}
 use Rattle.spmd_core.specs.Numbered.{own_acts}
 use Rattle.spmd_core.specs.Shown.{left_of}
@@ -25,7 +24,7 @@ returns-in-End-clause-step c =
     let lt : p < length ps = omega (arith, m.counted, c.requires) in
     let left = ap (λ l. acts_left (own_acts tree) l x.cursor.posted (members x.cursor.awaits) (length x.registers.items)) c.in-End.ensures in
     let next = next_is tree plan ps m.memory.items m.output.bytes.items p x (suits tree plan m.suited).works lt (m.kept p x lt)
-        ∙ ap (λ (z : Processor). head (left_of tree z)) (sym c.index.ensures) ∙ head-nil (left_of tree x) left in
+    ∙ ap (λ (z : Processor). head (left_of tree z)) (sym c.index.ensures) ∙ head-nil (left_of tree x) left in
     sym (ap (stepped_by tree (shown m) p) next)
 
 pub returns-in-End-clause-answer : goal.returns-in-End-clause-answer
@@ -40,5 +39,5 @@ returns-in-End-clause-answer c =
     let lt : p < length ps = omega (arith, m.counted, c.requires) in
     let left = ap (λ l. acts_left (own_acts tree) l x.cursor.posted (members x.cursor.awaits) (length x.registers.items)) c.in-End.ensures in
     let next = next_is tree plan ps m.memory.items m.output.bytes.items p x (suits tree plan m.suited).works lt (m.kept p x lt)
-        ∙ ap (λ (z : Processor). head (left_of tree z)) (sym c.index.ensures) ∙ head-nil (left_of tree x) left in
+    ∙ ap (λ (z : Processor). head (left_of tree z)) (sym c.index.ensures) ∙ head-nil (left_of tree x) left in
     sym (ap (answer_at (shown m)) next)

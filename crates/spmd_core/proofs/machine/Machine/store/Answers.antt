@@ -167,7 +167,7 @@ invariant_of-self c =
     let none : length y.registers.items ≡ 0 = ap length c.clear.ensures.items in
     let act = store (instance_at tree place) (cell_of tree c.args.target.now.variable []) in
     let passes = subst (Passes tree x y) (ap (last_act (instance_at tree place)) what.store)
-        (passes_last tree plan p place x y kept stage turns all (c.pass_work.ensures.acts (own_acts tree) (length x.registers.items)) none) in
+    (passes_last tree plan p place x y kept stage turns all (c.pass_work.ensures.acts (own_acts tree) (length x.registers.items)) none) in
     let passed = subst (λ z. Passes tree z y act) read passes in
     let room = room_next tree ps p x y act c.requires.worker passed in
     record {
@@ -202,15 +202,15 @@ returns-clause-step c =
     let none : length y.registers.items ≡ 0 = ap length c.clear.ensures.items in
     let act = store (instance_at tree place) (cell_of tree c.args.target.now.variable []) in
     let passes = subst (Passes tree x y) (ap (last_act (instance_at tree place)) what.store)
-        (passes_last tree plan p place x y kept stage turns all (c.pass_work.ensures.acts (own_acts tree) (length x.registers.items)) none) in
+    (passes_last tree plan p place x y kept stage turns all (c.pass_work.ensures.acts (own_acts tree) (length x.registers.items)) none) in
     let passed = subst (λ z. Passes tree z y act) read passes in
     let cell = c.cell_of-cell.ensures ∙ ap (λ t. cell_of t c.args.target.now.variable []) c.layout.ensures in
     let fits : FitsSigned w64 c.eval.result = search rules in
     let stored : c.eval.result ≡ assigned_value tree (instance_at tree place) x.registers.items =
-        c.eval.ensures ∙ ap (value_of (expression_of c.args.e.now) [] []) c.as_slice.ensures.value ∙ sym (what.value x.registers.items) in
+    c.eval.ensures ∙ ap (value_of (expression_of c.args.e.now) [] []) c.as_slice.ensures.value ∙ sym (what.value x.registers.items) in
     steps_store tree plan ps m.memory.items _ m.output.bytes.items p x y (instance_at tree place) (cell_of tree c.args.target.now.variable []) fit.works c.requires.worker (m.kept p x c.requires.worker) passed
-        c.clear.ensures.items (ap (λ (z : Processor). z.counter) read)
-        (ap (λ k. set m.memory.items k (to_z w64 (of_z w64 c.eval.result))) cell ∙ ap (set m.memory.items (cell_of tree c.args.target.now.variable [])) (to_z-of_z w64 c.eval.result fits ∙ stored ∙ ap (λ (z : Processor). assigned_value tree (instance_at tree place) z.registers.items) read))
+    c.clear.ensures.items (ap (λ (z : Processor). z.counter) read)
+    (ap (λ k. set m.memory.items k (to_z w64 (of_z w64 c.eval.result))) cell ∙ ap (set m.memory.items (cell_of tree c.args.target.now.variable [])) (to_z-of_z w64 c.eval.result fits ∙ stored ∙ ap (λ (z : Processor). assigned_value tree (instance_at tree place) z.registers.items) read))
 
 pub returns-clause-answer : goal.returns-clause-answer
 unfolding shown
@@ -235,6 +235,6 @@ returns-clause-answer c =
     let none : length y.registers.items ≡ 0 = ap length c.clear.ensures.items in
     let act = store (instance_at tree place) (cell_of tree c.args.target.now.variable []) in
     let passes = subst (Passes tree x y) (ap (last_act (instance_at tree place)) what.store)
-        (passes_last tree plan p place x y kept stage turns all (c.pass_work.ensures.acts (own_acts tree) (length x.registers.items)) none) in
+    (passes_last tree plan p place x y kept stage turns all (c.pass_work.ensures.acts (own_acts tree) (length x.registers.items)) none) in
     let passed = subst (λ z. Passes tree z y act) read passes in
     ap (answer_at (shown m)) (next_act_is tree plan ps m.memory.items m.output.bytes.items p x y act fit.works c.requires.worker (m.kept p x c.requires.worker) passed)
