@@ -240,6 +240,3 @@ impl<'a> Machine<'a> {
         &self.output
     }
 }
-
-#[cfg(test)]
-mod tests;

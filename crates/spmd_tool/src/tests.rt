@@ -1,7 +1,11 @@
 // The tool over the memory forms.
 
+ghost use Rattle.std.specs.Prelude.{◌<◌};
+
 use crate::status::Status;
 use crate::tool::tool;
+use f77_reader::read_straight;
+use spmd_core::{Machine, StepAnswer, all_barriers};
 use spmd_ports::{MemSink, MemSource};
 use std::alloc::Global;
 use std::test::Fail;
@@ -38,6 +42,32 @@ fn runs_the_first_program(rt: HostRuntime) -> Result<(), Fail> {
         assert_eq!(rt; status, Status::Done);
         assert_eq!(rt; sink.written(), FIRST_RUN);
     }
+    Ok(())
+}
+
+#[test]
+fn processor_1_waits_for_the_first_statement(rt: HostRuntime) -> Result<(), Fail> {
+    let Ok(program) = read_straight(rt.alloc(), FIRST) else {
+        return Err(Fail::from("refused"));
+    };
+    let plan = all_barriers(rt.alloc(), &program, 2)?;
+    let Ok(mut machine) = Machine::new(rt.alloc(), &program, &plan) else {
+        return Err(Fail::from("no memory"));
+    };
+    assert_eq!(rt; machine.step(1), StepAnswer::Stepped);
+    assert_eq!(rt; machine.step(1), StepAnswer::Stepped);
+    assert_eq!(rt; machine.step(1), StepAnswer::Stepped);
+    let blocked = StepAnswer::Blocked {
+        on: 0,
+        wanted: 1,
+        seen: 0,
+    };
+    assert_eq!(rt; machine.step(1), blocked);
+    machine.round_robin();
+    assert_eq!(rt; machine.step(0), StepAnswer::Ended);
+    assert_eq!(rt; machine.step(1), StepAnswer::Ended);
+    assert_eq!(rt; machine.memory(), [42].as_slice());
+    assert_eq!(rt; machine.output().as_slice(), b" K 42\n".as_slice());
     Ok(())
 }
 
