@@ -5,6 +5,8 @@ pub mod Awaited
 pub mod Words
 pub mod TurnActs
 pub mod LoadLists
+pub mod Lawful
+pub mod Unstuck
 pub mod FreshRoom
 pub mod StatementMeaning
 pub mod TableReads
