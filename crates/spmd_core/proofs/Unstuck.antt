@@ -135,3 +135,165 @@ slice_get-behind (x ∷ xs) ys k = let more : length (x ∷ xs) + k ≡ suc (len
 take-behind : {X : Type 0} (xs ys : List X) (k : ℕ) → take (length xs + k) (xs ++ ys) ≡ xs ++ take k ys
 take-behind [] ys k = ap (λ n. take n ys) (zero-add k)
 take-behind (x ∷ xs) ys k = let more : length (x ∷ xs) + k ≡ suc (length xs + k) = omega arith in ap (λ n. take n (x ∷ (xs ++ ys))) more ∙ ap (λ l. x ∷ l) (take-behind xs ys k)
+
+-- an await in a turn has that turn's number
+await_number : (tree : Tree) (plan : Plan) (a k on m : ℕ) (acts : List Act) → All (GoodIn tree plan a) acts → k < length acts → slice_get acts k ≡ Some (await on m) → m ≡ a
+await_number tree plan a k on m acts all lt e =
+    let here : Some (get_or acts k (await on m)) ≡ Some (await on m) = sym (slice_get-get_or acts k (await on m) lt) ∙ e in
+    let is : get_or acts k (await on m) ≡ await on m = cc in
+    let good : GoodIn tree plan a (await on m) = subst (GoodIn tree plan a) is (All-get_or (GoodIn tree plan a) acts k (await on m) lt all) in
+    good.0
+
+-- a processor that has stopped for n in a turn has posted the turn's number, where it posts there
+posted_here : (tree : Tree) (plan : Plan) (p a k v n on m : ℕ) → p < plan.workers → k < length (turn_acts (own_acts tree) (planned tree plan p a)) → slice_get (turn_acts (own_acts tree) (planned tree plan p a)) k ≡ Some (await on m) →
+    a ≤ n → n ≤ m → posts_at tree plan p (phase_at n) ≡ true → n ≤ last_post v (take k (turn_acts (own_acts tree) (planned tree plan p a)))
+posted_here tree plan p a k v n on m lt inside e low high posts =
+    let number = await_number tree plan a k on m (turn_acts (own_acts tree) (planned tree plan p a)) (good_turn tree plan p a lt) inside e in
+    let same : n ≡ a = omega arith in
+    let here : (planned tree plan p a).posts ≡ true = ap (λ j. posts_at tree plan p (phase_at j)) (sym same) ∙ posts in
+    let turn : turn_acts (own_acts tree) (planned tree plan p a) ≡ post a ∷ behind_post tree plan p a = ap (λ b. (if b then post a ∷ [] else []) ++ behind_post tree plan p a) here in
+    let done = past k (ap (λ acts. slice_get acts k) (sym turn) ∙ e) in
+    subst (λ j. j ≤ last_post v (take k (turn_acts (own_acts tree) (planned tree plan p a)))) (sym same) (subst (λ acts. a ≤ last_post v (take k acts)) (sym turn) done)
+  where
+    past : (k : ℕ) → slice_get (post a ∷ behind_post tree plan p a) k ≡ Some (await on m) → a ≤ last_post v (take k (post a ∷ behind_post tree plan p a))
+    past zero h = let clash : Some (post a) ≡ Some (await on m) = h in absurd (cc)
+    past (suc k) h = last_post-ge a a (take k (behind_post tree plan p a)) (omega arith)
+        (All-take (PostsFrom a) k (behind_post tree plan p a) (All-weaker (GoodIn tree plan a) (PostsFrom a) (posts_from tree plan a a (omega arith)) (behind_post tree plan p a) (good_behind tree plan p a lt)))
+
+-- a turn that is done has posted its number, where there is a post
+turn_posted : (tree : Tree) (plan : Plan) (p a v : ℕ) → p < plan.workers → posts_at tree plan p (phase_at a) ≡ true → a ≤ last_post v (turn_acts (own_acts tree) (planned tree plan p a))
+turn_posted tree plan p a v lt posts =
+    let turn : turn_acts (own_acts tree) (planned tree plan p a) ≡ post a ∷ behind_post tree plan p a = ap (λ b. (if b then post a ∷ [] else []) ++ behind_post tree plan p a) posts in
+    subst (λ acts. a ≤ last_post v acts) (sym turn) (last_post-ge a a (behind_post tree plan p a) (omega arith)
+      (All-weaker (GoodIn tree plan a) (PostsFrom a) (posts_from tree plan a a (omega arith)) (behind_post tree plan p a) (good_behind tree plan p a lt)))
+
+posted_by : (tree : Tree) (plan : Plan) (p a count k v n : ℕ) → p < plan.workers → StopsFor n (slice_get (phase_acts tree plan p a count) k) → a ≤ n → n < a + count → posts_at tree plan p (phase_at n) ≡ true →
+    n ≤ last_post v (take k (phase_acts tree plan p a count))
+posted_by tree plan p a zero k v n lt stops low high posts = absurd (omega arith)
+posted_by tree plan p a (suc count) k v n lt stops low high posts =
+    let turn = turn_acts (own_acts tree) (planned tree plan p a) in
+    let rest = phase_acts tree plan p (a + 1) count in
+    elim (cases_lt k (length turn)) [
+      inl inside ↦ elim stops [
+        inl none ↦ let clash : Some (get_or turn k (post 0)) ≡ None = sym (slice_get-front turn rest k (post 0) inside) ∙ none in absurd (cc)
+      | inr h ↦
+          let here : slice_get turn k ≡ Some (await h.0 h.1) = slice_get-get_or turn k (post 0) inside ∙ sym (slice_get-front turn rest k (post 0) inside) ∙ h.2 in
+          let all : take k (turn ++ rest) ≡ take k turn = take-append-le k turn rest (omega arith) in
+          subst (λ acts. n ≤ last_post v acts) (sym all) (posted_here tree plan p a k v n h.0 h.1 lt inside here low h.3 posts)
+      ]
+    | inr past ↦
+        let more : length turn + (k - length turn) ≡ k = omega arith in
+        let taken : take k (turn ++ rest) ≡ turn ++ take (k - length turn) rest = ap (λ j. take j (turn ++ rest)) (sym more) ∙ take-behind turn rest (k - length turn) in
+        let at : slice_get (turn ++ rest) k ≡ slice_get rest (k - length turn) = ap (slice_get (turn ++ rest)) (sym more) ∙ slice_get-behind turn rest (k - length turn) in
+        let split : last_post v (take k (turn ++ rest)) ≡ last_post (last_post v turn) (take (k - length turn) rest) = ap (last_post v) taken ∙ last_post-append v turn (take (k - length turn) rest) in
+        subst (λ j. n ≤ j) (sym split) (elim (cases_eq n a) [
+          inl same ↦ let posted = turn_posted tree plan p a v lt (ap (λ j. posts_at tree plan p (phase_at j)) (sym same) ∙ posts) in
+            let later = last_post-ge a (last_post v turn) (take (k - length turn) rest) posted (All-take (PostsFrom a) (k - length turn) rest (later_posts tree plan p a (a + 1) count lt (omega arith))) in
+            omega (arith, later, same)
+        | inr other ↦ posted_by tree plan p (a + 1) count (k - length turn) (last_post v turn) n lt (subst (StopsFor n) at stops) (omega arith) (omega arith) posts
+        ])
+    ]
+
+-- all acts, phase by phase
+acts_phases : (tree : Tree) (plan : Plan) (p : ℕ) → are_works tree.items ≡ true → acts_of tree plan p ≡ phase_acts tree plan p 0 (works_of tree.items)
+unfolding turns_of
+acts_phases tree plan p works = sym (turns_acts tree plan p works) ∙ busy_acts (own_acts tree) (map (planned tree plan p) (places tree))
+
+-- an await: of a phase, and of a processor that posts in front of it
+abbrev Sound : Tree → Plan → Act → Type 0
+Sound tree plan (post m) = Unit {0}
+Sound tree plan (await on m) = (m < works_of tree.items) × (on < plan.workers) × (posts_at tree plan on (phase_at m) ≡ true)
+Sound tree plan (load i cell) = Unit {0}
+Sound tree plan (store i cell) = Unit {0}
+Sound tree plan (print i) = Unit {0}
+
+sound_act : (tree : Tree) (plan : Plan) (a : ℕ) → a < works_of tree.items → (act : Act) → GoodIn tree plan a act → Sound tree plan act
+sound_act tree plan a lt (post m) h = tt
+sound_act tree plan a lt (await on m) h = (omega (arith, h.0), h.1, ap (λ j. posts_at tree plan on (phase_at j)) h.0 ∙ h.2)
+sound_act tree plan a lt (load i cell) h = tt
+sound_act tree plan a lt (store i cell) h = tt
+sound_act tree plan a lt (print i) h = tt
+
+sound_phases : (tree : Tree) (plan : Plan) (p a n : ℕ) → p < plan.workers → a + n ≤ works_of tree.items → All (Sound tree plan) (phase_acts tree plan p a n)
+sound_phases tree plan p a zero lt le = All-nil (Sound tree plan)
+sound_phases tree plan p a (suc n) lt le =
+    All-append (Sound tree plan) (turn_acts (own_acts tree) (planned tree plan p a)) (phase_acts tree plan p (a + 1) n)
+    (All-weaker (GoodIn tree plan a) (Sound tree plan) (sound_act tree plan a (omega arith)) (turn_acts (own_acts tree) (planned tree plan p a)) (good_turn tree plan p a lt))
+    (sound_phases tree plan p (a + 1) n lt (omega arith))
+
+sound_next : (tree : Tree) (plan : Plan) (s : State) (p : ℕ) (act : Act) → are_works tree.items ≡ true → p < plan.workers → next_act tree plan s p ≡ Some act → Sound tree plan act
+sound_next tree plan s p act works lt next =
+    let n = next_inside tree plan s p act next in
+    let all : All (Sound tree plan) (acts_of tree plan p) = subst (All (Sound tree plan)) (sym (acts_phases tree plan p works)) (sound_phases tree plan p 0 (works_of tree.items) lt (omega arith)) in
+    subst (Sound tree plan) n.at (All-get_or (Sound tree plan) (acts_of tree plan p) (slice_index s.positions p) act n.inside all)
+
+-- a processor that has stopped for n has posted n
+counter_enough : (tree : Tree) (plan : Plan) (s : State) (q n : ℕ) → are_works tree.items ≡ true → IsLawful tree plan s → q < plan.workers → n < works_of tree.items → posts_at tree plan q (phase_at n) ≡ true →
+    StopsFor n (next_act tree plan s q) → n ≤ slice_index s.counters q
+counter_enough tree plan s q n works law lt below posts stops =
+    let k = slice_index s.positions q in
+    let acts = acts_phases tree plan q works in
+    let enough = posted_by tree plan q 0 (works_of tree.items) k 0 n lt (subst (λ l. StopsFor n (slice_get l k)) acts stops) (omega arith) (omega arith) posts in
+    let counter : slice_index s.counters q ≡ last_post 0 (take k (phase_acts tree plan q 0 (works_of tree.items))) = law.posted q lt ∙ ap (λ l. last_post 0 (take k l)) acts in
+    omega (arith, enough, counter)
+
+-- some processor's step is possible
+pub record CanGo (tree : Tree) (plan : Plan) (s : State) : Type 0 where
+  pub processor : ℕ
+  pub below : processor < plan.workers
+  pub can : can_step tree plan s processor ≡ true
+
+can_go : (tree : Tree) (plan : Plan) (s : State) (p : ℕ) (act : Act) → p < plan.workers → next_act tree plan s p ≡ Some act → is_possible s act ≡ true → CanGo tree plan s
+can_go tree plan s p act lt next possible = record { processor = p; below = lt; can = ap (can_do s) next ∙ possible }
+
+-- the processor that awaits the least number isn't awaited in vain
+unstuck : (tree : Tree) (plan : Plan) (s : State) → are_works tree.items ≡ true → IsLawful tree plan s → (fuel p on m : ℕ) → m < fuel → p < plan.workers → next_act tree plan s p ≡ Some (await on m) → CanGo tree plan s
+unstuck tree plan s works law zero p on m less lt next = absurd (omega arith)
+unstuck tree plan s works law (suc fuel) p on m less lt next =
+    let sound = sound_next tree plan s p (await on m) works lt next in
+    elim (cases_Bool (nat_le m (slice_index s.counters on))) [
+      inl possible ↦ can_go tree plan s p (await on m) lt next possible
+    | inr waiting ↦ let behind : slice_index s.counters on < m = leb-false m (slice_index s.counters on) waiting in
+        awaited tree plan s on m (next_act tree plan s on) sound.1 refl
+          (λ stops. let enough = counter_enough tree plan s on m works law sound.1 sound.0 sound.2 stops in absurd (omega arith))
+          (λ on' m' next' less'. unstuck tree plan s works law fuel on on' m' (omega arith) sound.1 next')
+    ]
+  where
+    awaited : (tree : Tree) (plan : Plan) (s : State) (q m : ℕ) (o : Option Act) → q < plan.workers → next_act tree plan s q ≡ o → (StopsFor m (next_act tree plan s q) → CanGo tree plan s) →
+        ((on' m' : ℕ) → next_act tree plan s q ≡ Some (await on' m') → m' < m → CanGo tree plan s) → CanGo tree plan s
+    awaited tree plan s q m None lt e stopped further = stopped (inl e)
+    awaited tree plan s q m (Some (post n)) lt e stopped further = can_go tree plan s q (post n) lt e refl
+    awaited tree plan s q m (Some (await on' m')) lt e stopped further = elim (cases_lt m' m) [
+        inl less ↦ further on' m' e less
+      | inr more ↦ stopped (inr (on', m', e, more))
+      ]
+    awaited tree plan s q m (Some (load i cell)) lt e stopped further = can_go tree plan s q (load i cell) lt e refl
+    awaited tree plan s q m (Some (store i cell)) lt e stopped further = can_go tree plan s q (store i cell) lt e refl
+    awaited tree plan s q m (Some (print i)) lt e stopped further = can_go tree plan s q (print i) lt e refl
+
+-- a processor with a next act lets some processor go on
+goes_on : (tree : Tree) (plan : Plan) (s : State) → are_works tree.items ≡ true → IsLawful tree plan s → (p : ℕ) (act : Act) → p < plan.workers → next_act tree plan s p ≡ Some act → CanGo tree plan s
+goes_on tree plan s works law p (post n) lt next = can_go tree plan s p (post n) lt next refl
+goes_on tree plan s works law p (await on m) lt next = unstuck tree plan s works law (suc m) p on m (omega arith) lt next
+goes_on tree plan s works law p (load i cell) lt next = can_go tree plan s p (load i cell) lt next refl
+goes_on tree plan s works law p (store i cell) lt next = can_go tree plan s p (store i cell) lt next refl
+goes_on tree plan s works law p (print i) lt next = can_go tree plan s p (print i) lt next refl
+
+-- the processors below n have ended, or one of all can go on
+ended_below : (tree : Tree) (plan : Plan) (s : State) → are_works tree.items ≡ true → IsLawful tree plan s → (n : ℕ) → n ≤ plan.workers →
+    ((p : ℕ) → p < n → slice_index s.positions p ≡ length (acts_of tree plan p)) ⊎ CanGo tree plan s
+ended_below tree plan s works law zero le = inl (λ p lt. absurd (omega arith))
+ended_below tree plan s works law (suc n) le = elim (ended_below tree plan s works law n (omega arith)) [
+    inl ended ↦ elim (cases_eq (slice_index s.positions n) (length (acts_of tree plan n))) [
+      inl here ↦ inl (λ p lt. elim (cases_eq p n) [
+          inl e ↦ subst (λ (k : ℕ). slice_index s.positions k ≡ length (acts_of tree plan k)) (sym e) here
+        | inr ne ↦ ended p (omega arith)
+        ])
+    | inr ne ↦ let inside : slice_index s.positions n < length (acts_of tree plan n) = omega (arith, law.within n (omega arith)) in
+        inr (goes_on tree plan s works law n (get_or (acts_of tree plan n) (slice_index s.positions n) (post 0)) (omega arith) (slice_get-get_or (acts_of tree plan n) (slice_index s.positions n) (post 0) inside))
+    ]
+  | inr go ↦ inr go
+  ]
+
+pub ended_or_goes : (tree : Tree) (plan : Plan) (s : State) → are_works tree.items ≡ true → IsLawful tree plan s → IsEnded tree plan s ⊎ CanGo tree plan s
+ended_or_goes tree plan s works law = ended_below tree plan s works law plan.workers (omega arith)
