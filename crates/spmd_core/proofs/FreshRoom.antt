@@ -71,7 +71,7 @@ turn_room tree t =
     ∙ zero-add (sum_by act_room own) ∙ work_room t.works (own_acts tree t.passed) ∙ ap (λ k. cond t.works k 0) (own_room tree t.passed)
 
 -- a PRINT belongs to processor 0
-origin_owner : (tree : Tree) (workers : ℕ) (loops : List ℤ) (a : Anchor) → 1 ≤ workers → is_origin a ≡ true → has_places a.dist ≡ true → owner_by tree workers loops (Some a) ≡ 0
+pub origin_owner : (tree : Tree) (workers : ℕ) (loops : List ℤ) (a : Anchor) → 1 ≤ workers → is_origin a ≡ true → has_places a.dist ≡ true → owner_by tree workers loops (Some a) ≡ 0
 origin_owner tree workers loops a some origin placed =
     let both = and_parts (is_constant a.form) (int_eq a.form.constant (pos 0)) origin in
     let forms = and_parts (length a.form.loops == 0) (length a.form.params == 0) both.0 in

@@ -195,7 +195,7 @@ posted_by tree plan p a (suc count) k v n lt stops low high posts =
     ]
 
 -- all acts, phase by phase
-acts_phases : (tree : Tree) (plan : Plan) (p : ℕ) → are_works tree.items ≡ true → acts_of tree plan p ≡ phase_acts tree plan p 0 (works_of tree.items)
+pub acts_phases : (tree : Tree) (plan : Plan) (p : ℕ) → are_works tree.items ≡ true → acts_of tree plan p ≡ phase_acts tree plan p 0 (works_of tree.items)
 unfolding turns_of
 acts_phases tree plan p works = sym (turns_acts tree plan p works) ∙ busy_acts (own_acts tree) (map (planned tree plan p) (places tree))
 

@@ -1,5 +1,5 @@
 use Rattle.spmd_core.specs.Shows.{shown}
-use Rattle.spmd_core.proofs.Unstuck.{ended_or_goes}
+use Rattle.spmd_core.proofs.InOrder.{ended_sequential}
 use Rattle.spmd_core.proofs.machine.Machine.memory.Goals as goal
 
 pub returns : goal.returns
