@@ -21,11 +21,13 @@ use Rattle.spmd_core.specs.Cursors.{cursor_left, planned_turns, IsBegunAt}
 use Rattle.spmd_core.specs.Fit.{is_print, is_origin}
 use Rattle.spmd_core.specs.Numbered.{own_acts, instance_at, places, statement_at, longest_line, longest_lines}
 use Rattle.spmd_core.specs.Owners.{owner_of, owner_by}
-use Rattle.spmd_core.specs.Shown.{act_room, room_of, IsFresh, AreFresh, IsKept, left_of, position_of, load_count_at}
+use Rattle.spmd_core.specs.Shown.{act_room, room_of, IsFresh, AreFresh, IsKept, left_of, position_of, load_count_at, state_of}
 use Rattle.spmd_core.specs.Turns.{Planned, planned, turns_of, turn_acts, part_acts, is_busy}
 use Rattle.nest_model.specs.Instances.{param_values}
 use Rattle.nest_tree.specs.Form.{form_value, dot}
-use Rattle.nest_tree.specs.Layout.{count_of}
+use Rattle.nest_tree.specs.Layout.{count_of, cell_count}
+use Rattle.spmd_core.specs.Machine.{first_state}
+use Rattle.spmd_core.proofs.Steps.{same_state}
 use Rattle.std.proofs.lemmas.List.{nil_from_length}
 use Rattle.spmd_core.specs.declared.plan.Dist.{Dist}
 use Rattle.spmd_core.specs.declared.plan.Dist.TheVariants.{Block, Cyclic}
@@ -193,3 +195,13 @@ kept_fresh tree plan size p x most f = record {
   within = λ t rest is. omega (arith, ap length f.registers);
   room = λ place. omega (arith, most place, f.room);
 }
+
+-- the state of fresh parts is the first one
+pub first_is : (tree : Tree) (plan : Plan) (size : ℕ) (ps : List Processor) (memory : List ℤ) (output : List ℕ) → length ps ≡ plan.workers → AreFresh tree plan size ps → memory ≡ replicate (cell_count tree) (pos 0) → output ≡ [] →
+    state_of tree ps memory output ≡ first_state tree plan
+first_is tree plan size ps memory output count fresh m o =
+    same_state
+    (map_same (position_of tree) ps 0 (λ p d lt. fresh_position tree plan size p (get_or ps p d) (fresh p d lt)) ∙ ap (λ n. replicate n 0) count)
+    (map_same (λ (x : Processor). x.registers.items) ps [] (λ p d lt. (fresh p d lt).registers) ∙ ap (λ n. replicate n []) count)
+    (map_same (λ (x : Processor). x.counter) ps 0 (λ p d lt. (fresh p d lt).counter) ∙ ap (λ n. replicate n 0) count)
+    m o

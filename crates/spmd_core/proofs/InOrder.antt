@@ -276,3 +276,6 @@ ended_sequential tree plan s fit one r ended =
       memory = order.memory ∙ ap (λ (a : Alone). a.memory) (all ∙ phases) ∙ ap (fold (memory_after tree) (first_memory tree)) (sym same);
       output = order.output ∙ ap (λ (a : Alone). a.output) (all ∙ phases) ∙ ap (output_from tree (first_memory tree)) (sym same);
     }
+
+pub reached_by : (tree : Tree) (plan : Plan) (s after : State) (p : ℕ) → Suits tree plan → p < plan.workers → IsReached tree plan s → after ≡ stepped tree plan s p → IsReached tree plan after
+reached_by tree plan s after p fit lt r e = subst (IsReached tree plan) (sym e) (reached_stepped tree plan s p fit lt r)

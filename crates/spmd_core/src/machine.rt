@@ -5,7 +5,8 @@ ghost use Rattle.std.specs.Coded.{Coded-set, coded_list, coded_ℕ};
 ghost use Rattle.nest_tree.specs.Layout.{cell_count};
 ghost use Rattle.nest_tree.specs.View.{tree_of};
 ghost use Rattle.spmd_core.specs.Numbered.{loads_by_place};
-ghost use Rattle.spmd_core.specs.Shown.{AreKept, AreKept-prop, room_of};
+ghost use Rattle.spmd_core.specs.Progress.{IsReached, IsReached-prop};
+ghost use Rattle.spmd_core.specs.Shown.{AreKept, AreKept-prop, room_of, state_of};
 ghost use Rattle.spmd_core.specs.Suited.{IsSuited};
 
 use crate::answer::{NoMemory, StepAnswer};
@@ -34,6 +35,7 @@ pub struct Machine<'a> {
     ghost kept: { AreKept (tree_of program.now) plan.now processors.items } by { AreKept-prop _ _ _ },
     ghost cells: { length memory.items ≡ cell_count (tree_of program.now) },
     ghost room: { length output.bytes.items + sum_by (room_of (tree_of program.now)) processors.items ≤ vec_capacity output.bytes },
+    ghost reached: { IsReached (tree_of program.now) plan.now (state_of (tree_of program.now) processors.items memory.items output.bytes.items) } by { IsReached-prop _ _ _ },
 }
 
 impl<'a> Machine<'a> {
