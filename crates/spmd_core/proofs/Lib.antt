@@ -7,6 +7,7 @@ pub mod TurnActs
 pub mod LoadLists
 pub mod Lawful
 pub mod Unstuck
+pub mod Rounds
 pub mod InOrder
 pub mod FreshRoom
 pub mod StatementMeaning

@@ -39,7 +39,10 @@ pub struct Machine<'a> {
 }
 
 impl<'a> Machine<'a> {
-    ghost use Rattle.std.specs.Prelude.{ℕ, ◌<◌, IfOk, slice_index_or};
+    ghost use Rattle.std.specs.Prelude.{ℕ, ◌<◌, false, IsTrue, IfOk, fold, slice_index_or};
+    ghost use Rattle.nest_model.specs.Memory.{last_memory, output_of};
+    ghost use Rattle.spmd_core.specs.Progress.{acts_to_go, can_step, has_one_owner, rounds};
+    ghost use Rattle.spmd_core.specs.Waits.{processors};
     ghost use Rattle.nest_tree.specs.Straight.{IsStraight};
     ghost use Rattle.nest_tree.specs.WellFormed.{IsWellFormed};
     ghost use Rattle.nest_tree.specs.Tree.{assign, print};
@@ -49,7 +52,7 @@ impl<'a> Machine<'a> {
     ghost use Rattle.spmd_core.specs.Shown.{load_count_at};
     ghost use Rattle.spmd_core.specs.declared.processor.Processor.{Processor};
     ghost use Rattle.spmd_core.specs.Fit.{IsFit};
-    ghost use Rattle.spmd_core.specs.Machine.{first_state, stepped};
+    ghost use Rattle.spmd_core.specs.Machine.{IsEnded, first_state, stepped};
     ghost use Rattle.spmd_core.specs.Shows.{shown, tree_in, plan_in, step_answer, bytes_of};
 
     /// The first state: nothing is done, and all is 0 or empty. What a run can need is reserved.
@@ -198,19 +201,32 @@ impl<'a> Machine<'a> {
     }
 
     /// Rounds of one step per processor until all have ended.
-    pub fn round_robin(&mut self) {
+    pub fn round_robin(&mut self)
+        ensures rounds { (count : ℕ) × (shown self.new ≡ fold (stepped (tree_in self.old) (plan_in self.old)) (shown self.old) (rounds (plan_in self.old) count)) }
+        ensures ended { IsEnded (tree_in self.old) (plan_in self.old) (shown self.new) }
+        ensures memory { IsTrue (has_one_owner (plan_in self.old)) → (shown self.new).memory ≡ last_memory (tree_in self.old) }
+        ensures output { IsTrue (has_one_owner (plan_in self.old)) → (shown self.new).output ≡ output_of (tree_in self.old) }
+        ensures program { tree_in self.new ≡ tree_in self.old }
+        ensures plan { plan_in self.new ≡ plan_in self.old }
+    {
         while self.round() {}
     }
 
-    // One step of each processor; whether one of them hadn't ended.
-    fn round(&mut self) -> bool {
-        let mut going = false;
+    // One step of each processor; whether one of them did its next act.
+    fn round(&mut self) -> bool
+        ensures run { shown self.new ≡ fold (stepped (tree_in self.old) (plan_in self.old)) (shown self.old) (processors (plan_in self.old)) }
+        ensures nearer { IsTrue result → acts_to_go (tree_in self.old) (plan_in self.old) (shown self.new) < acts_to_go (tree_in self.old) (plan_in self.old) (shown self.old) }
+        ensures still { result ≡ false → (p : ℕ) → p < (plan_in self.old).workers → can_step (tree_in self.old) (plan_in self.old) (shown self.new) p ≡ false }
+        ensures program { tree_in self.new ≡ tree_in self.old }
+        ensures plan { plan_in self.new ≡ plan_in self.old }
+    {
+        let mut has_stepped = false;
         for p in 0..self.plan.workers {
-            if self.step(p) != StepAnswer::Ended {
-                going = true;
+            if let StepAnswer::Stepped = self.step(p) {
+                has_stepped = true;
             }
         }
-        going
+        has_stepped
     }
 
     /// The memory, cell by cell.
