@@ -11,12 +11,14 @@ use Rattle.spmd_core.specs.declared.answer.StepAnswer.{StepAnswer}
 use Rattle.spmd_core.specs.declared.answer.StepAnswer.TheVariants.{Stepped, Blocked, Ended}
 use Rattle.spmd_core.specs.declared.plan.Plan.{Plan}
 use Rattle.spmd_core.specs.Acts.{Act, post, await, load, store, print, acts_of}
-use Rattle.spmd_core.specs.Machine.{State, next_act, is_possible, moved, acted, stepped, stepped_by}
+use Rattle.spmd_core.specs.Machine.{State, next_act, is_possible, moved, acted, stepped, stepped_by, IsEnded}
 use Rattle.spmd_core.specs.Progress.{IsLawful, acts_to_go, can_do, can_step, rounds}
 use Rattle.spmd_core.specs.Shows.{answer_at, step_answer}
 use Rattle.spmd_core.specs.Waits.{processors}
 use Rattle.spmd_core.proofs.Lawful.{next_inside}
+use Rattle.spmd_core.proofs.Unstuck.{ended_or_goes}
 use Rattle.spmd_core.proofs.Words.{range_split}
+use Rattle.nest_tree.specs.Straight.{are_works}
 
 -- a sum over a range in which one term is one less
 same_sums : (f g : ℕ → ℕ) (a n : ℕ) → ((q : ℕ) → a ≤ q → q < a + n → g q ≡ f q) → sum_by g (range_with_len a n) ≡ sum_by f (range_with_len a n)
@@ -168,3 +170,9 @@ rounds_more tree plan from now after count h e =
     e ∙ ap (λ s. fold (stepped tree plan) s (processors plan)) h ∙ sym (fold-append (stepped tree plan) from (rounds plan count) (processors plan))
     ∙ ap (fold (stepped tree plan) from) (ap (λ l. rounds plan count ++ l) (sym (append-nil (processors plan)))
       ∙ sym (ap (flat_map (λ n. processors plan)) (range_split 0 count 1) ∙ flat_map-append (λ n. processors plan) (range_with_len 0 count) (range_with_len (0 + count) 1)))
+
+pub ended_still : (tree : Tree) (plan : Plan) (s : State) → are_works tree.items ≡ true → IsLawful tree plan s → ((p : ℕ) → p < plan.workers → can_step tree plan s p ≡ false) → IsEnded tree plan s
+ended_still tree plan s works law still = elim (ended_or_goes tree plan s works law) [
+    inl ended ↦ ended
+  | inr go ↦ let clash : true ≡ false = sym go.can ∙ still go.processor go.below in absurd (cc)
+  ]
