@@ -3,7 +3,7 @@ use Rattle.std.proofs.Common.{◌≡◌, ◌≢◌, ℕ, zero, suc, ◌+◌, ◌
 use Rattle.std.specs.Prelude.{slice_index, slice_index_or, slice_get, All}
 use Rattle.std.specs.List.{flat_map, list_all, range_with_len}
 use Rattle.std.proofs.lemmas.Bool.{cases_eq, ne_eqb, and_parts}
-use Rattle.std.proofs.lemmas.List.Elements.{All-nil, All-cons, All-append, All-get_or}
+use Rattle.std.proofs.lemmas.List.Elements.{All-nil, All-cons, All-append, All-get_or, All-head, All-tail}
 use Rattle.std.proofs.lemmas.Option.{slice_get-get_or}
 use Rattle.std.proofs.lemmas.List.{take_more, take_all, get_or-set_same, get_or-set_other, get_or-replicate, length-replicate}
 use Rattle.std.proofs.lemmas.List.Sums.{fold-append, fold_push}
@@ -16,7 +16,7 @@ use Rattle.spmd_core.specs.declared.plan.Plan.{Plan}
 use Rattle.spmd_core.specs.Acts as act
 use Rattle.spmd_core.specs.Acts.{Act, acts_of, last_act, instance_acts}
 use Rattle.spmd_core.specs.Fit.{is_origin, is_constant, has_places, is_good_anchor}
-use Rattle.spmd_core.specs.Machine.{State, first_state, next_act, is_possible, moved, acted, stepped, stepped_by, IsEnded}
+use Rattle.spmd_core.specs.Machine.{State, first_state, next_act, is_possible, moved, acted, stepped, stepped_by, run_of, IsEnded}
 use Rattle.spmd_core.specs.Numbered.{own_acts, places, phase_at, instance_at, statement_at}
 use Rattle.spmd_core.specs.Owners.{owner_of, owner_by}
 use Rattle.spmd_core.specs.Progress.{IsLawful, IsInOrder, IsReached, Alone, alone, done_alone, has_one_owner}
@@ -279,3 +279,12 @@ ended_sequential tree plan s fit one r ended =
 
 pub reached_by : (tree : Tree) (plan : Plan) (s after : State) (p : ℕ) → Suits tree plan → p < plan.workers → IsReached tree plan s → after ≡ stepped tree plan s p → IsReached tree plan after
 reached_by tree plan s after p fit lt r e = subst (IsReached tree plan) (sym e) (reached_stepped tree plan s p fit lt r)
+
+-- each state of a run is reached
+reached_from : (tree : Tree) (plan : Plan) (s : State) (schedule : List ℕ) → Suits tree plan → All (λ p. p < plan.workers) schedule → IsReached tree plan s → IsReached tree plan (fold (stepped tree plan) s schedule)
+reached_from tree plan s [] fit below r = r
+reached_from tree plan s (p ∷ schedule) fit below r =
+    reached_from tree plan (stepped tree plan s p) schedule fit (All-tail (λ q. q < plan.workers) p schedule below) (reached_stepped tree plan s p fit (All-head (λ q. q < plan.workers) p schedule below) r)
+
+pub reached_run : (tree : Tree) (plan : Plan) (schedule : List ℕ) → Suits tree plan → All (λ p. p < plan.workers) schedule → IsReached tree plan (run_of tree plan schedule)
+reached_run tree plan schedule fit below = reached_from tree plan (first_state tree plan) schedule fit below (reached_first tree plan fit)

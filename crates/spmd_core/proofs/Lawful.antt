@@ -1,9 +1,8 @@
 -- Every state of a run is lawful.
 use Rattle.std.proofs.Common.{◌≡◌, ◌≢◌, ℕ, zero, suc, ◌+◌, ◌-◌, ◌<◌, ◌≤◌, Bool, true, false, nat_le, cond, List, [], ◌∷◌, ◌++◌, length, take, map, set, get_or, replicate, fold, Option, Some, None, refl, sym, ◌∙◌, ap, subst, inl, inr, length-set, arith}
-use Rattle.std.specs.Prelude.{slice_get, slice_index, All}
+use Rattle.std.specs.Prelude.{slice_get, slice_index}
 use Rattle.std.proofs.lemmas.Bool.{cases_eq, cases_lt, cases_Bool}
 use Rattle.std.proofs.lemmas.List.{take_more, get_or-set_same, get_or-set_other, get_or-replicate, length-replicate}
-use Rattle.std.proofs.lemmas.List.Elements.{All-head, All-tail}
 use Rattle.std.proofs.lemmas.Option.{slice_get_cases}
 use Rattle.nest_tree.specs.Tree.{Tree}
 use Rattle.spmd_core.specs.declared.plan.Plan.{Plan}
@@ -91,9 +90,3 @@ lawful_by tree plan s p (Some act) lt law next = either (is_possible s act) (mov
 
 pub lawful_stepped : (tree : Tree) (plan : Plan) (s : State) (p : ℕ) → p < plan.workers → IsLawful tree plan s → IsLawful tree plan (stepped tree plan s p)
 lawful_stepped tree plan s p lt law = lawful_by tree plan s p (next_act tree plan s p) lt law refl
-
--- every state of a run
-pub lawful_run : (tree : Tree) (plan : Plan) (s : State) (schedule : List ℕ) → All (λ p. p < plan.workers) schedule → IsLawful tree plan s → IsLawful tree plan (fold (stepped tree plan) s schedule)
-lawful_run tree plan s [] below law = law
-lawful_run tree plan s (p ∷ schedule) below law =
-    lawful_run tree plan (stepped tree plan s p) schedule (All-tail (λ q. q < plan.workers) p schedule below) (lawful_stepped tree plan s p (All-head (λ q. q < plan.workers) p schedule below) law)

@@ -16,7 +16,7 @@ use Rattle.spmd_core.specs.declared.plan.Plan.{Plan}
 use Rattle.spmd_core.specs.Acts.{Act, post, await, load, store, print, acts_of, last_act, instance_acts}
 use Rattle.spmd_core.specs.Machine.{State, next_act, is_possible, IsEnded}
 use Rattle.spmd_core.specs.Numbered.{own_acts, places, phase_at, instance_at}
-use Rattle.spmd_core.specs.Progress.{IsLawful, last_post, can_step, can_do}
+use Rattle.spmd_core.specs.Progress.{IsLawful, last_post, can_do, CanGo}
 use Rattle.spmd_core.specs.Turns.{Planned, planned, turn_acts, part_acts, turns_of}
 use Rattle.spmd_core.specs.Waits.{posts_at, waits_for, does_wait, processors}
 use Rattle.spmd_core.proofs.Lawful.{last_post-append, next_inside}
@@ -236,12 +236,6 @@ counter_enough tree plan s q n works law lt below posts stops =
     let enough = posted_by tree plan q 0 (works_of tree.items) k 0 n lt (subst (λ l. StopsFor n (slice_get l k)) acts stops) (omega arith) (omega arith) posts in
     let counter : slice_index s.counters q ≡ last_post 0 (take k (phase_acts tree plan q 0 (works_of tree.items))) = law.posted q lt ∙ ap (λ l. last_post 0 (take k l)) acts in
     omega (arith, enough, counter)
-
--- some processor's step is possible
-pub record CanGo (tree : Tree) (plan : Plan) (s : State) : Type 0 where
-  pub processor : ℕ
-  pub below : processor < plan.workers
-  pub can : can_step tree plan s processor ≡ true
 
 can_go : (tree : Tree) (plan : Plan) (s : State) (p : ℕ) (act : Act) → p < plan.workers → next_act tree plan s p ≡ Some act → is_possible s act ≡ true → CanGo tree plan s
 can_go tree plan s p act lt next possible = record { processor = p; below = lt; can = ap (can_do s) next ∙ possible }

@@ -83,3 +83,9 @@ IsInOrder-prop tree plan s = hlevel props
 
 pub IsReached-prop : (tree : Tree) (plan : Plan) (s : State) → IsProp (IsReached tree plan s)
 IsReached-prop tree plan s = hlevel (props, IsLawful-prop, IsInOrder-prop)
+
+-- some processor's next act is possible
+pub record CanGo (tree : Tree) (plan : Plan) (s : State) : Type 0 where
+  pub processor : ℕ
+  pub below : processor < plan.workers
+  pub can : IsTrue (can_step tree plan s processor)
