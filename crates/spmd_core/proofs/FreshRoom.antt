@@ -21,11 +21,13 @@ use Rattle.spmd_core.specs.Cursors.{cursor_left, planned_turns, IsBegunAt}
 use Rattle.spmd_core.specs.Fit.{is_print, is_origin}
 use Rattle.spmd_core.specs.Numbered.{own_acts, instance_at, places, statement_at, longest_line, longest_lines}
 use Rattle.spmd_core.specs.Owners.{owner_of, owner_by}
-use Rattle.spmd_core.specs.Shown.{act_room, room_of, IsFresh, AreFresh, IsKept, left_of, position_of, load_count_at}
+use Rattle.spmd_core.specs.Shown.{act_room, room_of, IsFresh, AreFresh, IsKept, left_of, position_of, load_count_at, state_of}
 use Rattle.spmd_core.specs.Turns.{Planned, planned, turns_of, turn_acts, part_acts, is_busy}
 use Rattle.nest_model.specs.Instances.{param_values}
 use Rattle.nest_tree.specs.Form.{form_value, dot}
-use Rattle.nest_tree.specs.Layout.{count_of}
+use Rattle.nest_tree.specs.Layout.{count_of, cell_count}
+use Rattle.spmd_core.specs.Machine.{first_state}
+use Rattle.spmd_core.proofs.Steps.{same_state}
 use Rattle.std.proofs.lemmas.List.{nil_from_length}
 use Rattle.spmd_core.specs.declared.plan.Dist.{Dist}
 use Rattle.spmd_core.specs.declared.plan.Dist.TheVariants.{Block, Cyclic}
@@ -71,7 +73,7 @@ turn_room tree t =
     ∙ zero-add (sum_by act_room own) ∙ work_room t.works (own_acts tree t.passed) ∙ ap (λ k. cond t.works k 0) (own_room tree t.passed)
 
 -- a PRINT belongs to processor 0
-origin_owner : (tree : Tree) (workers : ℕ) (loops : List ℤ) (a : Anchor) → 1 ≤ workers → is_origin a ≡ true → has_places a.dist ≡ true → owner_by tree workers loops (Some a) ≡ 0
+pub origin_owner : (tree : Tree) (workers : ℕ) (loops : List ℤ) (a : Anchor) → 1 ≤ workers → is_origin a ≡ true → has_places a.dist ≡ true → owner_by tree workers loops (Some a) ≡ 0
 origin_owner tree workers loops a some origin placed =
     let both = and_parts (is_constant a.form) (int_eq a.form.constant (pos 0)) origin in
     let forms = and_parts (length a.form.loops == 0) (length a.form.params == 0) both.0 in
@@ -206,3 +208,13 @@ kept_fresh tree plan size p x most f = record {
   within = λ t rest is. omega (arith, ap length f.registers);
   room = λ place. omega (arith, most place, f.room);
 }
+
+-- the state of fresh parts is the first one
+pub first_is : (tree : Tree) (plan : Plan) (size : ℕ) (ps : List Processor) (memory : List ℤ) (output : List ℕ) → length ps ≡ plan.workers → AreFresh tree plan size ps → memory ≡ replicate (cell_count tree) (pos 0) → output ≡ [] →
+    state_of tree ps memory output ≡ first_state tree plan
+first_is tree plan size ps memory output count fresh m o =
+    same_state
+    (map_same (position_of tree) ps 0 (λ p d lt. fresh_position tree plan size p (get_or ps p d) (fresh p d lt)) ∙ ap (λ n. replicate n 0) count)
+    (map_same (λ (x : Processor). x.registers.items) ps [] (λ p d lt. (fresh p d lt).registers) ∙ ap (λ n. replicate n []) count)
+    (map_same (λ (x : Processor). x.counter) ps 0 (λ p d lt. (fresh p d lt).counter) ∙ ap (λ n. replicate n 0) count)
+    m o

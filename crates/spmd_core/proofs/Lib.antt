@@ -6,6 +6,10 @@ pub mod Awaited
 pub mod Words
 pub mod TurnActs
 pub mod LoadLists
+pub mod Lawful
+pub mod Unstuck
+pub mod Rounds
+pub mod InOrder
 pub mod FreshRoom
 pub mod StatementMeaning
 pub mod TableReads
@@ -20,4 +24,3 @@ pub mod Places
 pub mod StatementPlaces
 mod ValueLaws
 mod Values
-pub mod RoundRuns

@@ -12,7 +12,7 @@ pub mod Suited
 pub mod Turns
 pub mod Cursors
 pub mod PlainLines
+pub mod Progress
 pub mod Shown
 pub mod Shows
 pub mod ValueLaws
-pub mod Rounds

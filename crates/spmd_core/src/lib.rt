@@ -13,6 +13,7 @@ mod machine;
 pub mod plan;
 mod processor;
 pub mod refusal;
+pub mod run_laws;
 mod tables;
 mod value;
 mod waiting;

@@ -5,7 +5,8 @@ ghost use Rattle.std.specs.Coded.{Coded-set, coded_list, coded_ℕ};
 ghost use Rattle.nest_tree.specs.Layout.{cell_count};
 ghost use Rattle.nest_tree.specs.View.{tree_of};
 ghost use Rattle.spmd_core.specs.Numbered.{loads_by_place};
-ghost use Rattle.spmd_core.specs.Shown.{AreKept, AreKept-prop, room_of};
+ghost use Rattle.spmd_core.specs.Progress.{IsReached, IsReached-prop};
+ghost use Rattle.spmd_core.specs.Shown.{AreKept, AreKept-prop, room_of, state_of};
 ghost use Rattle.spmd_core.specs.Suited.{IsSuited};
 
 use crate::answer::{NoMemory, StepAnswer};
@@ -34,10 +35,14 @@ pub struct Machine<'a> {
     ghost kept: { AreKept (tree_of program.now) plan.now processors.items } by { AreKept-prop _ _ _ },
     ghost cells: { length memory.items ≡ cell_count (tree_of program.now) },
     ghost room: { length output.bytes.items + sum_by (room_of (tree_of program.now)) processors.items ≤ vec_capacity output.bytes },
+    ghost reached: { IsReached (tree_of program.now) plan.now (state_of (tree_of program.now) processors.items memory.items output.bytes.items) } by { IsReached-prop _ _ _ },
 }
 
 impl<'a> Machine<'a> {
-    ghost use Rattle.std.specs.Prelude.{ℕ, ◌<◌, IfOk, slice_index_or, false};
+    ghost use Rattle.std.specs.Prelude.{ℕ, ◌<◌, false, IsTrue, IfOk, fold, slice_index_or};
+    ghost use Rattle.nest_model.specs.Memory.{last_memory, output_of};
+    ghost use Rattle.spmd_core.specs.Progress.{acts_to_go, can_step, has_one_owner, rounds};
+    ghost use Rattle.spmd_core.specs.Waits.{processors};
     ghost use Rattle.nest_tree.specs.Straight.{IsStraight};
     ghost use Rattle.nest_tree.specs.WellFormed.{IsWellFormed};
     ghost use Rattle.nest_tree.specs.Tree.{assign, print};
@@ -47,8 +52,7 @@ impl<'a> Machine<'a> {
     ghost use Rattle.spmd_core.specs.Shown.{load_count_at};
     ghost use Rattle.spmd_core.specs.declared.processor.Processor.{Processor};
     ghost use Rattle.spmd_core.specs.Fit.{IsFit};
-    ghost use Rattle.spmd_core.specs.Machine.{first_state, stepped};
-    ghost use Rattle.spmd_core.specs.Rounds.{after_round, IsOver, IsBehindRounds};
+    ghost use Rattle.spmd_core.specs.Machine.{IsEnded, first_state, stepped};
     ghost use Rattle.spmd_core.specs.Shows.{shown, tree_in, plan_in, step_answer, bytes_of};
 
     /// The first state: nothing is done, and all is 0 or empty. What a run can need is reserved.
@@ -196,34 +200,33 @@ impl<'a> Machine<'a> {
         processor.cursor.pass_work(place);
     }
 
-    /// Rounds of one step per processor until all have ended, at most 2^64 - 1 of them.
+    /// Rounds of one step per processor until all have ended.
     pub fn round_robin(&mut self)
+        ensures rounds { (count : ℕ) × (shown self.new ≡ fold (stepped (tree_in self.old) (plan_in self.old)) (shown self.old) (rounds (plan_in self.old) count)) }
+        ensures ended { IsEnded (tree_in self.old) (plan_in self.old) (shown self.new) }
+        ensures memory { IsTrue (has_one_owner (plan_in self.old)) → (shown self.new).memory ≡ last_memory (tree_in self.old) }
+        ensures output { IsTrue (has_one_owner (plan_in self.old)) → (shown self.new).output ≡ output_of (tree_in self.old) }
         ensures program { tree_in self.new ≡ tree_in self.old }
         ensures plan { plan_in self.new ≡ plan_in self.old }
-        ensures run { IsBehindRounds (tree_in self.old) (plan_in self.old) (shown self.old) (shown self.new) }
     {
-        for rounds in 0..u64::MAX {
-            if !self.round() {
-                return;
-            }
-        }
+        while self.round() {}
     }
 
-    // One step of each processor; whether one of them hadn't ended.
+    // One step of each processor; whether one of them did its next act.
     fn round(&mut self) -> bool
+        ensures run { shown self.new ≡ fold (stepped (tree_in self.old) (plan_in self.old)) (shown self.old) (processors (plan_in self.old)) }
+        ensures nearer { IsTrue result → acts_to_go (tree_in self.old) (plan_in self.old) (shown self.new) < acts_to_go (tree_in self.old) (plan_in self.old) (shown self.old) }
+        ensures still { result ≡ false → (p : ℕ) → p < (plan_in self.old).workers → can_step (tree_in self.old) (plan_in self.old) (shown self.new) p ≡ false }
         ensures program { tree_in self.new ≡ tree_in self.old }
         ensures plan { plan_in self.new ≡ plan_in self.old }
-        ensures round { shown self.new ≡ after_round (tree_in self.old) (plan_in self.old) (shown self.old) }
-        ensures over { result ≡ false → IsOver (tree_in self.old) (plan_in self.old) (shown self.new) }
     {
-        let mut going = false;
+        let mut has_stepped = false;
         for p in 0..self.plan.workers {
-            match self.step(p) {
-                StepAnswer::Ended => {}
-                StepAnswer::Stepped | StepAnswer::Blocked { .. } => going = true,
+            if let StepAnswer::Stepped = self.step(p) {
+                has_stepped = true;
             }
         }
-        going
+        has_stepped
     }
 
     /// The memory, cell by cell.

@@ -5,12 +5,13 @@ use Rattle.nest_tree.specs.View.{tree_of}
 use Rattle.spmd_core.specs.Acts.{await}
 use Rattle.spmd_core.specs.Cursors.{IsAtStage, planned_of}
 use Rattle.spmd_core.specs.Numbered.{own_acts}
-use Rattle.spmd_core.specs.Shown.{IsKept}
+use Rattle.spmd_core.specs.Shown.{IsKept, state_of}
 use Rattle.spmd_core.specs.Shows.{shown, step_answer}
 use Rattle.spmd_core.specs.declared.answer.StepAnswer.TheVariants.{Blocked}
 use Rattle.spmd_core.specs.declared.cursor.Stage.TheVariants.{Await}
 use Rattle.spmd_core.specs.declared.cursor.Turn.{Turn}
 use Rattle.spmd_core.specs.declared.processor.Processor.{Processor}
+use Rattle.spmd_core.proofs.InOrder.{reached_by}
 use Rattle.spmd_core.proofs.KeptParts.{kept_busy, none_awaiting, begun_none, passes_boundary, kept_boundary, awaits_worker, next_await}
 use Rattle.spmd_core.proofs.Places.{written_all}
 use Rattle.spmd_core.proofs.PlannedTurns.{pick}
@@ -107,6 +108,11 @@ invariant_of-self c =
     let turns = ap (λ (v : Vec Turn Global). map planned_of v.items) c.pass_await.ensures.turns in
     let passes = passes_boundary tree x y (await c.args.on c.args.number) turns none none (c.pass_await.ensures.acts (own_acts tree)) in
     let passed = subst (λ z. Passes tree z y (await c.args.on c.args.number)) read passes in
+    let below : c.args.on < length ps = omega (arith, m.counted, awaits_worker tree plan p c.args.on c.args.number x kept stage) in
+    let counter = counter_read ps c.args.on c.index.result.now below c.index.ensures in
+    let enough : c.args.number ≤ slice_index (map (λ (z : Processor). z.counter) ps) c.args.on = omega (arith, counter, c.from-wanted.ensures) in
+    let possible = le-leb c.args.number (slice_index (map (λ (z : Processor). z.counter) ps) c.args.on) enough in
+    let fit = suits tree plan m.suited in
     let room = room_next tree ps p x y (await c.args.on c.args.number) c.requires.worker passed in
     record {
       suited = m.suited;
@@ -115,6 +121,9 @@ invariant_of-self c =
       kept = written_all (IsKept tree plan) ps p y m.kept (kept_boundary tree plan p x y kept turns none c.pass_await.ensures.begun (omega arith));
       cells = m.cells;
       room = omega (arith, room, m.room);
+      reached = reached_by tree plan (state_of tree ps m.memory.items m.output.bytes.items) _ p fit (omega (arith, m.counted, c.requires.worker)) m.reached
+        (steps_await tree plan ps m.memory.items m.output.bytes.items p x y c.args.on c.args.number fit.works c.requires.worker (m.kept p x c.requires.worker) passed
+        (ap (λ (z : Processor). z.registers.items) read) (ap (λ (z : Processor). z.counter) read) possible);
     }
 
 pub returns-clause-step : goal.returns-clause-step

@@ -7,11 +7,12 @@ use Rattle.nest_tree.specs.View.{tree_of}
 use Rattle.spmd_core.specs.Acts.{load}
 use Rattle.spmd_core.specs.Cursors.{IsAtStage}
 use Rattle.spmd_core.specs.Numbered.{instance_at}
-use Rattle.spmd_core.specs.Shown.{IsKept, load_count_at}
+use Rattle.spmd_core.specs.Shown.{IsKept, load_count_at, state_of}
 use Rattle.spmd_core.specs.Shows.{shown, answer_at}
 use Rattle.spmd_core.specs.declared.cursor.Stage.TheVariants.{Work}
 use Rattle.spmd_core.specs.declared.processor.Processor.{Processor}
 use Rattle.spmd_core.proofs.CellBounds.{load_below}
+use Rattle.spmd_core.proofs.InOrder.{reached_by}
 use Rattle.spmd_core.proofs.Places.{written_all}
 use Rattle.spmd_core.proofs.Steps.{Passes, steps_load, next_act_is, room_next}
 use Rattle.spmd_core.proofs.Suits.{suits}
@@ -73,6 +74,8 @@ invariant_of-self c =
     let passes = passes_load tree plan p c.args.place x y kept stage refl more lt in
     let act = load (instance_at tree c.args.place) (get_or loads (length x.registers.items) 0) in
     let passed = subst (λ z. Passes tree z y act) read passes in
+    let value_read : cell_value m.memory.items (get_or loads (length x.registers.items) 0) ≡ c.index-value.result.now =
+        ap (cell_value m.memory.items) (sym cell) ∙ sym (get_or_read m.memory.items c.index-cell.result.now c.index-value.result.now (omega (arith, cell, small, m.cells)) c.index-value.ensures (pos 0)) in
     let room = room_next tree ps p x y act c.requires.worker passed in
     record {
       suited = m.suited;
@@ -81,6 +84,10 @@ invariant_of-self c =
       kept = written_all (IsKept tree plan) ps p y m.kept (kept_load tree plan p c.args.place x y kept stage refl (omega (arith, more, left)) c.push.ensures.capacity);
       cells = m.cells;
       room = omega (arith, room, m.room);
+      reached = reached_by tree plan (state_of tree ps m.memory.items m.output.bytes.items) _ p fit (omega (arith, m.counted, c.requires.worker)) m.reached
+        (steps_load tree plan ps m.memory.items m.output.bytes.items p x y (instance_at tree c.args.place) (get_or loads (length x.registers.items) 0) fit.works c.requires.worker (m.kept p x c.requires.worker) passed
+        (pushed ∙ ap (λ v. x.registers.items ++ v ∷ []) (sym value_read) ∙ ap (λ (z : Processor). z.registers.items ++ cell_value m.memory.items (get_or loads (length x.registers.items) 0) ∷ []) read)
+        (ap (λ (z : Processor). z.counter) read));
     }
 
 pub returns-clause-step : goal.returns-clause-step

@@ -1,5 +1,4 @@
 use Rattle.spmd_core.specs.Shows.{shown}
-use Rattle.spmd_core.proofs.MachineActs.{turns_acts}
 use Rattle.spmd_core.proofs.machine.Machine.memory.Goals as goal
 
 pub returns : goal.returns

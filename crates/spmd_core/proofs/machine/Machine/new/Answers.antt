@@ -3,12 +3,12 @@ use Rattle.std.proofs.lemmas.List.{length-map, length-replicate}
 use Rattle.nest_tree.specs.Layout.{cell_count}
 use Rattle.nest_tree.specs.View.{tree_of, declaration_of}
 use Rattle.spmd_core.specs.Numbered.{longest_lines, loads_by_place}
-use Rattle.spmd_core.specs.Shown.{load_count_at, position_of}
+use Rattle.spmd_core.specs.Shown.{load_count_at}
+use Rattle.spmd_core.specs.Progress.{IsReached}
 use Rattle.spmd_core.specs.Shows.{shown}
-use Rattle.spmd_core.specs.declared.processor.Processor.{Processor}
 use Rattle.spmd_core.proofs.CellBounds.{cell_count-scalars}
-use Rattle.spmd_core.proofs.FreshRoom.{fresh_rooms, map_same, fresh_position, kept_fresh}
-use Rattle.spmd_core.proofs.Steps.{same_state}
+use Rattle.spmd_core.proofs.FreshRoom.{fresh_rooms, first_is, kept_fresh}
+use Rattle.spmd_core.proofs.InOrder.{reached_first}
 use Rattle.spmd_core.proofs.Suits.{suited_from, suits}
 use Rattle.spmd_core.proofs.machine.Machine.new.Goals as goal
 
@@ -20,7 +20,7 @@ invariant_of-result c =
     let fit = suits tree plan suited in
     let table = ap (map (λ (v : Vec ℕ Global). v.items)) c.deref.ensures.value ∙ c.in_ok-loads.ensures in
     let most : (place : ℕ) → load_count_at tree place ≤ c.most_loads.result =
-    λ place. subst (λ (t : List (List ℕ)). length (get_or t place []) ≤ c.most_loads.result) table (c.most_loads.ensures place) in
+        λ place. subst (λ (t : List (List ℕ)). length (get_or t place []) ≤ c.most_loads.result) table (c.most_loads.ensures place) in
     let ps = c.in_ok-processors.processors.items in
     let fresh = c.in_ok-processors.ensures.fresh in
     let lines : longest_lines tree.items ≡ c.in_ok-room.room = subst (λ (o : Option ℕ). IfSome o (λ n. longest_lines tree.items ≡ n)) c.in_ok-room.ensures.ok_part c.longest_output.ensures in
@@ -34,6 +34,7 @@ invariant_of-result c =
       kept = λ p d lt. kept_fresh tree plan c.most_loads.result p _ most (fresh p d lt);
       cells = ap length memory ∙ length-replicate c.len.result (pos 0) ∙ size;
       room = omega (arith, ap length c.in_ok-with_room.ensures.bytes, rooms, lines, c.in_ok-with_room.ensures.room);
+      reached = subst (IsReached tree plan) (sym (first_is tree plan c.most_loads.result ps c.in_ok-vec.field-0.items c.in_ok-with_room.field-0.bytes.items c.in_ok-processors.ensures.count fresh (memory ∙ ap (λ n. replicate n (pos 0)) size) c.in_ok-with_room.ensures.bytes)) (reached_first tree plan fit);
     }
 
 pub returns-clause-first : goal.returns-clause-first
@@ -46,9 +47,5 @@ returns-clause-first c =
     let count = c.in_ok-processors.ensures.count in
     let fit = suits tree plan (suited_from tree plan c.requires.formed c.requires.straight c.requires.fits) in
     let size : c.len.result ≡ cell_count tree = omega (arith, c.len.ensures, c.args.program.now.variables.ok.0, cell_count-scalars tree fit.scalars, length-map c.args.program.now.variables.items declaration_of) in
-    same_state
-    (map_same (position_of tree) ps 0 (λ p d lt. fresh_position tree plan _ p _ (fresh p d lt)) ∙ ap (λ n. replicate n 0) count)
-    (map_same (λ (x : Processor). x.registers.items) ps [] (λ p d lt. (fresh p d lt).registers) ∙ ap (λ n. replicate n []) count)
-    (map_same (λ (x : Processor). x.counter) ps 0 (λ p d lt. (fresh p d lt).counter) ∙ ap (λ n. replicate n 0) count)
-    (c.in_ok-vec.ensures.items_if_clones_equal (λ y e. e) ∙ ap (λ n. replicate n (pos 0)) size)
-    c.in_ok-with_room.ensures.bytes
+    first_is tree plan c.most_loads.result ps c.in_ok-vec.field-0.items c.in_ok-with_room.field-0.bytes.items count fresh
+      (c.in_ok-vec.ensures.items_if_clones_equal (λ y e. e) ∙ ap (λ n. replicate n (pos 0)) size) c.in_ok-with_room.ensures.bytes

@@ -1,6 +1,5 @@
 use Rattle.std.proofs.Common.{refl}
 use Rattle.spmd_core.specs.Shows.{shown}
-use Rattle.spmd_core.proofs.Steps.{room_next}
 use Rattle.spmd_core.proofs.machine.Machine.output.Goals as goal
 
 pub returns : goal.returns

@@ -3,11 +3,12 @@ use Rattle.nest_tree.specs.View.{tree_of}
 use Rattle.spmd_core.specs.Acts.{post}
 use Rattle.spmd_core.specs.Cursors.{IsAtStage, planned_of}
 use Rattle.spmd_core.specs.Numbered.{own_acts}
-use Rattle.spmd_core.specs.Shown.{IsKept}
+use Rattle.spmd_core.specs.Shown.{IsKept, state_of}
 use Rattle.spmd_core.specs.Shows.{shown, answer_at}
 use Rattle.spmd_core.specs.declared.cursor.Stage.TheVariants.{Post}
 use Rattle.spmd_core.specs.declared.cursor.Turn.{Turn}
 use Rattle.spmd_core.specs.declared.processor.Processor.{Processor}
+use Rattle.spmd_core.proofs.InOrder.{reached_by}
 use Rattle.spmd_core.proofs.KeptParts.{kept_busy, none_posting, begun_none, passes_boundary, kept_boundary}
 use Rattle.spmd_core.proofs.Places.{written_all}
 use Rattle.spmd_core.proofs.Steps.{Passes, steps_post, next_act_is, room_next}
@@ -57,6 +58,7 @@ invariant_of-self c =
     let passes = passes_boundary tree x y (post c.args.number) turns none none (c.pass_post.ensures.acts (own_acts tree)) in
     let passed = subst (λ z. Passes tree z y (post c.args.number)) read passes in
     let room = room_next tree ps p x y (post c.args.number) c.requires.worker passed in
+    let fit = suits tree plan m.suited in
     record {
       suited = m.suited;
       listed = m.listed;
@@ -64,6 +66,9 @@ invariant_of-self c =
       kept = written_all (IsKept tree plan) ps p y m.kept (kept_boundary tree plan p x y kept turns none c.pass_post.ensures.begun (omega arith));
       cells = m.cells;
       room = omega (arith, room, m.room);
+      reached = reached_by tree plan (state_of tree ps m.memory.items m.output.bytes.items) _ p fit (omega (arith, m.counted, c.requires.worker)) m.reached
+        (steps_post tree plan ps m.memory.items m.output.bytes.items p x y c.args.number fit.works c.requires.worker (m.kept p x c.requires.worker) passed
+        (ap (λ (z : Processor). z.registers.items) read) c.from-processor.ensures);
     }
 
 pub returns-clause-step : goal.returns-clause-step

@@ -8,11 +8,12 @@ use Rattle.nest_tree.specs.View.{tree_of, expression_of, printed_of}
 use Rattle.spmd_core.specs.Acts.{print, last_act}
 use Rattle.spmd_core.specs.Cursors.{IsAtStage, planned_of}
 use Rattle.spmd_core.specs.Numbered.{instance_at, own_acts}
-use Rattle.spmd_core.specs.Shown.{IsKept, load_count_at, left_of}
+use Rattle.spmd_core.specs.Shown.{IsKept, load_count_at, left_of, state_of}
 use Rattle.spmd_core.specs.Shows.{shown, answer_at}
 use Rattle.spmd_core.specs.declared.cursor.Stage.TheVariants.{Work}
 use Rattle.spmd_core.specs.declared.cursor.Turn.{Turn}
 use Rattle.spmd_core.specs.declared.processor.Processor.{Processor}
+use Rattle.spmd_core.proofs.InOrder.{reached_by}
 use Rattle.spmd_core.proofs.KeptParts.{kept_busy, kept_boundary}
 use Rattle.spmd_core.proofs.Places.{written_all}
 use Rattle.spmd_core.proofs.StatementMeaning.{printing}
@@ -140,6 +141,11 @@ invariant_of-self c =
       kept = written_all (IsKept tree plan) ps p y m.kept (kept_boundary tree plan p x y kept turns none c.pass_work.ensures.begun (omega (arith, c.clear.ensures.capacity)));
       cells = m.cells;
       room = omega (arith, room, m.room, what.room, c.push_line.ensures.length, c.push_line.ensures.room);
+      reached = reached_by tree plan (state_of tree ps m.memory.items m.output.bytes.items) _ p fit (omega (arith, m.counted, c.requires.worker)) m.reached
+        (steps_print tree plan ps m.memory.items m.output.bytes.items _ p x y (instance_at tree place) fit.works c.requires.worker (m.kept p x c.requires.worker) passed
+        c.clear.ensures.items (ap (λ (z : Processor). z.counter) read)
+        (c.push_line.ensures.bytes ∙ ap (λ r. m.output.bytes.items ++ (plain_items (map printed_of c.args.items.now) r ++ 10 ∷ [])) c.as_slice.ensures.value
+          ∙ ap (λ l. m.output.bytes.items ++ l) (sym (what.line x.registers.items)) ∙ ap (λ (z : Processor). m.output.bytes.items ++ line_of tree (instance_at tree place) z.registers.items) read));
     }
 
 pub returns-clause-step : goal.returns-clause-step

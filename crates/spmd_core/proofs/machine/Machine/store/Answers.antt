@@ -8,11 +8,12 @@ use Rattle.nest_tree.specs.View.{tree_of, expression_of, printed_of}
 use Rattle.spmd_core.specs.Acts.{store, last_act}
 use Rattle.spmd_core.specs.Cursors.{IsAtStage, planned_of}
 use Rattle.spmd_core.specs.Numbered.{instance_at, own_acts}
-use Rattle.spmd_core.specs.Shown.{IsKept, load_count_at, room_of}
+use Rattle.spmd_core.specs.Shown.{IsKept, load_count_at, room_of, state_of}
 use Rattle.spmd_core.specs.Shows.{shown, answer_at}
 use Rattle.spmd_core.specs.declared.cursor.Stage.TheVariants.{Work}
 use Rattle.spmd_core.specs.declared.cursor.Turn.{Turn}
 use Rattle.spmd_core.specs.declared.processor.Processor.{Processor}
+use Rattle.spmd_core.proofs.InOrder.{reached_by}
 use Rattle.spmd_core.proofs.KeptParts.{kept_busy, kept_boundary}
 use Rattle.spmd_core.proofs.Places.{written_all}
 use Rattle.spmd_core.proofs.StatementMeaning.{storing}
@@ -169,6 +170,10 @@ invariant_of-self c =
     let passes = subst (Passes tree x y) (ap (last_act (instance_at tree place)) what.store)
     (passes_last tree plan p place x y kept stage turns all (c.pass_work.ensures.acts (own_acts tree) (length x.registers.items)) none) in
     let passed = subst (λ z. Passes tree z y act) read passes in
+    let cell = c.cell_of-cell.ensures ∙ ap (λ t. cell_of t c.args.target.now.variable []) c.layout.ensures in
+    let fits : FitsSigned w64 c.eval.result = search rules in
+    let stored : c.eval.result ≡ assigned_value tree (instance_at tree place) x.registers.items =
+        c.eval.ensures ∙ ap (value_of (expression_of c.args.e.now) [] []) c.as_slice.ensures.value ∙ sym (what.value x.registers.items) in
     let room = room_next tree ps p x y act c.requires.worker passed in
     record {
       suited = m.suited;
@@ -177,6 +182,10 @@ invariant_of-self c =
       kept = written_all (IsKept tree plan) ps p y m.kept (kept_boundary tree plan p x y kept turns none c.pass_work.ensures.begun (omega (arith, c.clear.ensures.capacity)));
       cells = length-set m.memory.items c.cell_of-cell.result _ ∙ m.cells;
       room = omega (arith, room, m.room);
+      reached = reached_by tree plan (state_of tree ps m.memory.items m.output.bytes.items) _ p fit (omega (arith, m.counted, c.requires.worker)) m.reached
+        (steps_store tree plan ps m.memory.items _ m.output.bytes.items p x y (instance_at tree place) (cell_of tree c.args.target.now.variable []) fit.works c.requires.worker (m.kept p x c.requires.worker) passed
+        c.clear.ensures.items (ap (λ (z : Processor). z.counter) read)
+        (ap (λ k. set m.memory.items k (to_z w64 (of_z w64 c.eval.result))) cell ∙ ap (set m.memory.items (cell_of tree c.args.target.now.variable [])) (to_z-of_z w64 c.eval.result fits ∙ stored ∙ ap (λ (z : Processor). assigned_value tree (instance_at tree place) z.registers.items) read)));
     }
 
 pub returns-clause-step : goal.returns-clause-step
