@@ -36,7 +36,7 @@ pub in_order_first : (tree : Tree) (plan : Plan) → 1 ≤ plan.workers → IsIn
 in_order_first tree plan some =
     let at : slice_index (replicate plan.workers 0) 0 ≡ 0 = get_or-replicate plan.workers 0 0 0 some in
     let none : fold (alone tree) (from_nothing tree) (take (slice_index (replicate plan.workers 0) 0) (acts_of tree plan 0)) ≡ from_nothing tree =
-        ap (λ k. fold (alone tree) (from_nothing tree) (take k (acts_of tree plan 0))) at in
+    ap (λ k. fold (alone tree) (from_nothing tree) (take k (acts_of tree plan 0))) at in
     record {
       registers = get_or-replicate plan.workers 0 [] [] some ∙ sym (ap (λ (a : Alone). a.registers) none);
       count = length-replicate plan.workers [];
@@ -80,19 +80,19 @@ in_order_zero tree plan s (act.await on m) some law order due = in_order_own tre
 in_order_zero tree plan s (act.load i cell) some law order due =
     let inside : 0 < length s.registers = omega (arith, order.count, some) in
     in_order_own tree plan s (moved (acted tree s 0 (act.load i cell)) 0) (act.load i cell) some law order due refl
-      (length-set s.registers 0 (slice_index_or s.registers 0 [] ++ cell_value s.memory cell ∷ []) ∙ order.count)
-      (get_or-set_same s.registers 0 (slice_index_or s.registers 0 [] ++ cell_value s.memory cell ∷ []) [] inside ∙ ap (λ r. r ++ cell_value s.memory cell ∷ []) order.registers ∙ ap (λ m. (done_alone tree plan s).registers ++ cell_value m cell ∷ []) order.memory)
-      order.memory order.output
+    (length-set s.registers 0 (slice_index_or s.registers 0 [] ++ cell_value s.memory cell ∷ []) ∙ order.count)
+    (get_or-set_same s.registers 0 (slice_index_or s.registers 0 [] ++ cell_value s.memory cell ∷ []) [] inside ∙ ap (λ r. r ++ cell_value s.memory cell ∷ []) order.registers ∙ ap (λ m. (done_alone tree plan s).registers ++ cell_value m cell ∷ []) order.memory)
+    order.memory order.output
 in_order_zero tree plan s (act.store i cell) some law order due =
     let inside : 0 < length s.registers = omega (arith, order.count, some) in
     in_order_own tree plan s (moved (acted tree s 0 (act.store i cell)) 0) (act.store i cell) some law order due refl
-      (length-set s.registers 0 [] ∙ order.count) (get_or-set_same s.registers 0 [] [] inside)
-      (ap (λ m. set m cell (assigned_value tree i (slice_index_or s.registers 0 []))) order.memory ∙ ap (λ r. set (done_alone tree plan s).memory cell (assigned_value tree i r)) order.registers) order.output
+    (length-set s.registers 0 [] ∙ order.count) (get_or-set_same s.registers 0 [] [] inside)
+    (ap (λ m. set m cell (assigned_value tree i (slice_index_or s.registers 0 []))) order.memory ∙ ap (λ r. set (done_alone tree plan s).memory cell (assigned_value tree i r)) order.registers) order.output
 in_order_zero tree plan s (act.print i) some law order due =
     let inside : 0 < length s.registers = omega (arith, order.count, some) in
     in_order_own tree plan s (moved (acted tree s 0 (act.print i)) 0) (act.print i) some law order due refl
-      (length-set s.registers 0 [] ∙ order.count) (get_or-set_same s.registers 0 [] [] inside) order.memory
-      (ap (λ o. o ++ line_of tree i (slice_index_or s.registers 0 [])) order.output ∙ ap (λ r. (done_alone tree plan s).output ++ line_of tree i r) order.registers)
+    (length-set s.registers 0 [] ∙ order.count) (get_or-set_same s.registers 0 [] [] inside) order.memory
+    (ap (λ o. o ++ line_of tree i (slice_index_or s.registers 0 [])) order.output ∙ ap (λ r. (done_alone tree plan s).output ++ line_of tree i r) order.registers)
 
 -- an act that isn't of a statement
 abbrev OfBoundary : Act → Type 0
@@ -128,7 +128,7 @@ one_owner tree plan n fit one lt =
     ap (λ k. owner_by tree plan.workers (no_values tree) (slice_get plan.anchors k)) less
     ∙ ap (owner_by tree plan.workers (no_values tree)) (slice_get-get_or plan.anchors n d inside)
     ∙ origin_owner tree plan.workers (no_values tree) (get_or plan.anchors n d) fit.low (passes_at is_origin plan.anchors n d one inside)
-        (and_parts (is_constant (get_or plan.anchors n d).form) (has_places (get_or plan.anchors n d).dist) (passes_at is_good_anchor plan.anchors n d fit.good_anchors inside)).1
+    (and_parts (is_constant (get_or plan.anchors n d).form) (has_places (get_or plan.anchors n d).dist) (passes_at is_good_anchor plan.anchors n d fit.good_anchors inside)).1
 
 awaits_boundary : (n : ℕ) (qs : List ℕ) → All OfBoundary (map (λ q. act.await q n) qs)
 awaits_boundary n [] = All-nil OfBoundary
@@ -138,7 +138,7 @@ idle_turn : (own : ℕ → List Act) (t : Planned) → t.works ≡ false → All
 idle_turn own t idle =
     subst (λ (works : Bool). All OfBoundary (part_acts own t.passed t.posts t.awaits works 0)) (sym idle)
     (All-append OfBoundary (if t.posts then act.post t.passed ∷ [] else []) (map (λ q. act.await q t.passed) t.awaits ++ []) (front t.posts)
-      (All-append OfBoundary (map (λ q. act.await q t.passed) t.awaits) [] (awaits_boundary t.passed t.awaits) (All-nil OfBoundary)))
+    (All-append OfBoundary (map (λ q. act.await q t.passed) t.awaits) [] (awaits_boundary t.passed t.awaits) (All-nil OfBoundary)))
   where
     front : (posts : Bool) → All OfBoundary (if posts then act.post t.passed ∷ [] else [])
     front true = All-cons OfBoundary (act.post t.passed) [] tt (All-nil OfBoundary)
@@ -188,8 +188,8 @@ loads_alone tree i registers memory output (c ∷ cells) =
 -- what an instance does alone
 last_alone : (tree : Tree) (n : ℕ) (loops : List ℤ) (what : Statement) (registers memory : List ℤ) (output : List ℕ) →
     (let i : Instance = record { statement = n; what = what; loops = loops } in
-     alone tree (record { registers = registers; memory = memory; output = output }) (last_act i (statement_store tree loops what))
-     ≡ record { registers = []; memory = with_store memory (statement_store tree loops what) (assigned_value tree i registers); output = output ++ line_of tree i registers })
+    alone tree (record { registers = registers; memory = memory; output = output }) (last_act i (statement_store tree loops what))
+    ≡ record { registers = []; memory = with_store memory (statement_store tree loops what) (assigned_value tree i registers); output = output ++ line_of tree i registers })
 last_alone tree n loops (do_loop m m1 m2 step body line) registers memory output = refl
 last_alone tree n loops (assign target e line) registers memory output = ap (λ (o : List ℕ). let x : Alone = record { registers = []; memory = with_store memory (statement_store tree loops (assign target e line)) (assigned_value tree (record { statement = n; what = assign target e line; loops = loops }) registers); output = o } in x) (sym (append-nil output))
 last_alone tree n loops (print items line) registers memory output = refl
@@ -234,7 +234,7 @@ phases_alone tree plan a (suc n) memory output fit one le =
     ∙ ap (λ (x : Alone). fold (alone tree) x rest) (turn_alone tree plan a from works ∙ own_alone tree a memory output)
     ∙ phases_alone tree plan (a + 1) n (memory_after tree memory i) (output ++ line_of tree i (loaded_in tree memory i)) fit one (omega arith)
     ∙ ap (λ (o : List ℕ). let x : Alone = record { registers = []; memory = fold (memory_after tree) (memory_after tree memory i) (map (instance_at tree) (range_with_len (a + 1) n)); output = o } in x)
-        (append_assoc output (line_of tree i (loaded_in tree memory i)) (output_from tree (memory_after tree memory i) (map (instance_at tree) (range_with_len (a + 1) n))))
+    (append_assoc output (line_of tree i (loaded_in tree memory i)) (output_from tree (memory_after tree memory i) (map (instance_at tree) (range_with_len (a + 1) n))))
 
 number : (n k : ℕ) → n + suc k ≡ n + 1 + k
 number n k = omega arith
@@ -269,7 +269,7 @@ ended_sequential tree plan s fit one r ended =
     let order = r.in_order one in
     let at : slice_index s.positions 0 ≡ length (acts_of tree plan 0) = ended 0 fit.low in
     let all : done_alone tree plan s ≡ fold (alone tree) (from_nothing tree) (acts_of tree plan 0) =
-        ap (fold (alone tree) (from_nothing tree)) (take_all (slice_index s.positions 0) (acts_of tree plan 0) (omega (arith, at))) in
+    ap (fold (alone tree) (from_nothing tree)) (take_all (slice_index s.positions 0) (acts_of tree plan 0) (omega (arith, at))) in
     let phases = ap (fold (alone tree) (from_nothing tree)) (acts_phases tree plan 0 fit.works) ∙ phases_alone tree plan 0 (works_of tree.items) (first_memory tree) [] fit one (omega arith) in
     let same = instances-straight tree fit.works in
     record {

@@ -25,7 +25,7 @@ lawful_first tree plan = record {
   counters = length-replicate plan.workers 0;
   within = λ p lt. let at : slice_index (replicate plan.workers 0) p ≡ 0 = get_or-replicate plan.workers p 0 0 lt in omega (arith, at);
   posted = λ p lt. let at : slice_index (replicate plan.workers 0) p ≡ 0 = get_or-replicate plan.workers p 0 0 lt in
-    at ∙ sym (ap (λ k. last_post 0 (take k (acts_of tree plan p))) at);
+      at ∙ sym (ap (λ k. last_post 0 (take k (acts_of tree plan p))) at);
 }
 
 -- what a done act makes of the counter
@@ -39,10 +39,10 @@ pub record Next (tree : Tree) (plan : Plan) (s : State) (p : ℕ) (act : Act) : 
 
 pub next_inside : (tree : Tree) (plan : Plan) (s : State) (p : ℕ) (act : Act) → next_act tree plan s p ≡ Some act → Next tree plan s p act
 next_inside tree plan s p act next = elim ((slice_get_cases (acts_of tree plan p) (slice_index s.positions p)).1) [
-    inl h ↦ let same : Some h.0 ≡ Some act = sym h.2 ∙ next in let is : h.0 ≡ act = cc in
+  | inl h ↦ let same : Some h.0 ≡ Some act = sym h.2 ∙ next in let is : h.0 ≡ act = cc in
       record { inside = h.1; at = subst (λ (x : Act). get_or (acts_of tree plan p) (slice_index s.positions p) x ≡ x) is h.3 }
   | inr h ↦ let clash : None ≡ Some act = sym h.1 ∙ next in absurd (cc)
-  ]
+]
 
 -- a state in which p has done one act more
 pub lawful_moved : (tree : Tree) (plan : Plan) (s : State) (p : ℕ) (act : Act) (after : State) → p < plan.workers → IsLawful tree plan s → next_act tree plan s p ≡ Some act →
@@ -54,20 +54,20 @@ lawful_moved tree plan s p act after lt law next moves count here others =
     let mine : slice_index after.positions p ≡ slice_index s.positions p + 1 = ap (λ l. slice_index l p) moves ∙ get_or-set_same s.positions p (slice_index s.positions p + 1) 0 at in
     let theirs : (q : ℕ) → q ≢ p → slice_index after.positions q ≡ slice_index s.positions q = λ q ne. ap (λ l. slice_index l q) moves ∙ get_or-set_other s.positions p q (slice_index s.positions p + 1) 0 ne in
     let one : last_post 0 (take (slice_index s.positions p + 1) (acts_of tree plan p)) ≡ counter_after (slice_index s.counters p) act =
-        ap (last_post 0) (take_more (acts_of tree plan p) (slice_index s.positions p) act n.inside ∙ ap (λ a. take (slice_index s.positions p) (acts_of tree plan p) ++ a ∷ []) n.at)
-        ∙ last_post-append 0 (take (slice_index s.positions p) (acts_of tree plan p)) (act ∷ []) ∙ ap (λ k. counter_after k act) (sym (law.posted p lt)) in
+    ap (last_post 0) (take_more (acts_of tree plan p) (slice_index s.positions p) act n.inside ∙ ap (λ a. take (slice_index s.positions p) (acts_of tree plan p) ++ a ∷ []) n.at)
+    ∙ last_post-append 0 (take (slice_index s.positions p) (acts_of tree plan p)) (act ∷ []) ∙ ap (λ k. counter_after k act) (sym (law.posted p lt)) in
     record {
       positions = ap length moves ∙ length-set s.positions p (slice_index s.positions p + 1) ∙ law.positions;
       counters = count;
       within = λ q below. elim (cases_eq q p) [
-          inl e ↦ omega (arith, mine, n.inside, ap (λ k. length (acts_of tree plan k)) e, ap (slice_index after.positions) e)
+        | inl e ↦ omega (arith, mine, n.inside, ap (λ k. length (acts_of tree plan k)) e, ap (slice_index after.positions) e)
         | inr ne ↦ omega (arith, theirs q ne, law.within q below)
-        ];
+      ];
       posted = λ q below. elim (cases_eq q p) [
-          inl e ↦ let P : ℕ → Type 0 = λ k. slice_index after.counters k ≡ last_post 0 (take (slice_index after.positions k) (acts_of tree plan k)) in
+        | inl e ↦ let P : ℕ → Type 0 = λ k. slice_index after.counters k ≡ last_post 0 (take (slice_index after.positions k) (acts_of tree plan k)) in
             subst P (sym e) (here ∙ sym one ∙ ap (λ k. last_post 0 (take k (acts_of tree plan p))) (sym mine))
         | inr ne ↦ others q ne ∙ law.posted q below ∙ ap (λ k. last_post 0 (take k (acts_of tree plan q))) (sym (theirs q ne))
-        ];
+      ];
     }
 
 -- a done act

@@ -32,9 +32,9 @@ one_less f g a (suc n) p low high here others =
     let left = sum_by-cons f a (range_with_len (a + 1) n) in
     let right = sum_by-cons g a (range_with_len (a + 1) n) in
     elim (cases_eq a p) [
-      inl e ↦ let rest = same_sums f g (a + 1) n (λ q low' high'. others q (λ (x : q ≡ p). omega arith)) in
-        let mine : g a + 1 ≡ f a = subst (λ k. g k + 1 ≡ f k) (sym e) here in omega (arith, left, right, rest, mine)
-    | inr ne ↦ let rest = one_less f g (a + 1) n p (omega arith) (omega arith) here others in omega (arith, left, right, rest, others a ne)
+      | inl e ↦ let rest = same_sums f g (a + 1) n (λ q low' high'. others q (λ (x : q ≡ p). omega arith)) in
+          let mine : g a + 1 ≡ f a = subst (λ k. g k + 1 ≡ f k) (sym e) here in omega (arith, left, right, rest, mine)
+      | inr ne ↦ let rest = one_less f g (a + 1) n p (omega arith) (omega arith) here others in omega (arith, left, right, rest, others a ne)
     ]
 
 -- the acts that a processor's step makes possible
@@ -169,10 +169,10 @@ pub rounds_more : (tree : Tree) (plan : Plan) (from now after : State) (count : 
 rounds_more tree plan from now after count h e =
     e ∙ ap (λ s. fold (stepped tree plan) s (processors plan)) h ∙ sym (fold-append (stepped tree plan) from (rounds plan count) (processors plan))
     ∙ ap (fold (stepped tree plan) from) (ap (λ l. rounds plan count ++ l) (sym (append-nil (processors plan)))
-      ∙ sym (ap (flat_map (λ n. processors plan)) (range_split 0 count 1) ∙ flat_map-append (λ n. processors plan) (range_with_len 0 count) (range_with_len (0 + count) 1)))
+    ∙ sym (ap (flat_map (λ n. processors plan)) (range_split 0 count 1) ∙ flat_map-append (λ n. processors plan) (range_with_len 0 count) (range_with_len (0 + count) 1)))
 
 pub ended_still : (tree : Tree) (plan : Plan) (s : State) → are_works tree.items ≡ true → IsLawful tree plan s → ((p : ℕ) → p < plan.workers → can_step tree plan s p ≡ false) → IsEnded tree plan s
 ended_still tree plan s works law still = elim (ended_or_goes tree plan s works law) [
-    inl ended ↦ ended
+  | inl ended ↦ ended
   | inr go ↦ let clash : true ≡ false = sym go.can ∙ still go.processor go.below in absurd (cc)
-  ]
+]

@@ -75,10 +75,10 @@ good_awaits : (tree : Tree) (plan : Plan) (p a : ℕ) → p < plan.workers → A
 good_awaits tree plan p a lt =
     let below : ℕ → Type 0 = λ q. q < plan.workers in
     let inside : All below (processors plan) = All-from_get_or below (processors plan) 0 (λ i within.
-        let less : i < plan.workers = omega (arith, length-range_with_len 0 plan.workers) in let at : get_or (processors plan) i 0 ≡ i = get_or-range_with_len 0 plan.workers i 0 less ∙ zero-add i in omega (arith, at)) in
+    let less : i < plan.workers = omega (arith, length-range_with_len 0 plan.workers) in let at : get_or (processors plan) i 0 ≡ i = get_or-range_with_len 0 plan.workers i 0 less ∙ zero-add i in omega (arith, at)) in
     All-map (GoodIn tree plan a) (λ q. await q a) (waits_for tree plan p (phase_at a))
     (All-weaker (λ q. below q × (does_wait tree plan (phase_at a) p q ≡ true)) (λ q. GoodIn tree plan a (await q a)) (λ q h. (refl, h.0, awaited_posts tree plan p a q lt h.1)) (waits_for tree plan p (phase_at a))
-      (filtered_both (does_wait tree plan (phase_at a) p) below (processors plan) inside))
+    (filtered_both (does_wait tree plan (phase_at a) p) below (processors plan) inside))
 
 -- what stands behind a turn's post
 abbrev behind_post : Tree → Plan → ℕ → ℕ → List Act
@@ -165,7 +165,7 @@ turn_posted : (tree : Tree) (plan : Plan) (p a v : ℕ) → p < plan.workers →
 turn_posted tree plan p a v lt posts =
     let turn : turn_acts (own_acts tree) (planned tree plan p a) ≡ post a ∷ behind_post tree plan p a = ap (λ b. (if b then post a ∷ [] else []) ++ behind_post tree plan p a) posts in
     subst (λ acts. a ≤ last_post v acts) (sym turn) (last_post-ge a a (behind_post tree plan p a) (omega arith)
-      (All-weaker (GoodIn tree plan a) (PostsFrom a) (posts_from tree plan a a (omega arith)) (behind_post tree plan p a) (good_behind tree plan p a lt)))
+    (All-weaker (GoodIn tree plan a) (PostsFrom a) (posts_from tree plan a a (omega arith)) (behind_post tree plan p a) (good_behind tree plan p a lt)))
 
 posted_by : (tree : Tree) (plan : Plan) (p a count k v n : ℕ) → p < plan.workers → StopsFor n (slice_get (phase_acts tree plan p a count) k) → a ≤ n → n < a + count → posts_at tree plan p (phase_at n) ≡ true →
     n ≤ last_post v (take k (phase_acts tree plan p a count))
@@ -174,24 +174,24 @@ posted_by tree plan p a (suc count) k v n lt stops low high posts =
     let turn = turn_acts (own_acts tree) (planned tree plan p a) in
     let rest = phase_acts tree plan p (a + 1) count in
     elim (cases_lt k (length turn)) [
-      inl inside ↦ elim stops [
-        inl none ↦ let clash : Some (get_or turn k (post 0)) ≡ None = sym (slice_get-front turn rest k (post 0) inside) ∙ none in absurd (cc)
-      | inr h ↦
-          let here : slice_get turn k ≡ Some (await h.0 h.1) = slice_get-get_or turn k (post 0) inside ∙ sym (slice_get-front turn rest k (post 0) inside) ∙ h.2 in
-          let all : take k (turn ++ rest) ≡ take k turn = take-append-le k turn rest (omega arith) in
-          subst (λ acts. n ≤ last_post v acts) (sym all) (posted_here tree plan p a k v n h.0 h.1 lt inside here low h.3 posts)
+      | inl inside ↦ elim stops [
+        | inl none ↦ let clash : Some (get_or turn k (post 0)) ≡ None = sym (slice_get-front turn rest k (post 0) inside) ∙ none in absurd (cc)
+        | inr h ↦
+            let here : slice_get turn k ≡ Some (await h.0 h.1) = slice_get-get_or turn k (post 0) inside ∙ sym (slice_get-front turn rest k (post 0) inside) ∙ h.2 in
+            let all : take k (turn ++ rest) ≡ take k turn = take-append-le k turn rest (omega arith) in
+            subst (λ acts. n ≤ last_post v acts) (sym all) (posted_here tree plan p a k v n h.0 h.1 lt inside here low h.3 posts)
       ]
-    | inr past ↦
-        let more : length turn + (k - length turn) ≡ k = omega arith in
-        let taken : take k (turn ++ rest) ≡ turn ++ take (k - length turn) rest = ap (λ j. take j (turn ++ rest)) (sym more) ∙ take-behind turn rest (k - length turn) in
-        let at : slice_get (turn ++ rest) k ≡ slice_get rest (k - length turn) = ap (slice_get (turn ++ rest)) (sym more) ∙ slice_get-behind turn rest (k - length turn) in
-        let split : last_post v (take k (turn ++ rest)) ≡ last_post (last_post v turn) (take (k - length turn) rest) = ap (last_post v) taken ∙ last_post-append v turn (take (k - length turn) rest) in
-        subst (λ j. n ≤ j) (sym split) (elim (cases_eq n a) [
-          inl same ↦ let posted = turn_posted tree plan p a v lt (ap (λ j. posts_at tree plan p (phase_at j)) (sym same) ∙ posts) in
-            let later = last_post-ge a (last_post v turn) (take (k - length turn) rest) posted (All-take (PostsFrom a) (k - length turn) rest (later_posts tree plan p a (a + 1) count lt (omega arith))) in
-            omega (arith, later, same)
-        | inr other ↦ posted_by tree plan p (a + 1) count (k - length turn) (last_post v turn) n lt (subst (StopsFor n) at stops) (omega arith) (omega arith) posts
-        ])
+      | inr past ↦
+          let more : length turn + (k - length turn) ≡ k = omega arith in
+          let taken : take k (turn ++ rest) ≡ turn ++ take (k - length turn) rest = ap (λ j. take j (turn ++ rest)) (sym more) ∙ take-behind turn rest (k - length turn) in
+          let at : slice_get (turn ++ rest) k ≡ slice_get rest (k - length turn) = ap (slice_get (turn ++ rest)) (sym more) ∙ slice_get-behind turn rest (k - length turn) in
+          let split : last_post v (take k (turn ++ rest)) ≡ last_post (last_post v turn) (take (k - length turn) rest) = ap (last_post v) taken ∙ last_post-append v turn (take (k - length turn) rest) in
+          subst (λ j. n ≤ j) (sym split) (elim (cases_eq n a) [
+            | inl same ↦ let posted = turn_posted tree plan p a v lt (ap (λ j. posts_at tree plan p (phase_at j)) (sym same) ∙ posts) in
+                let later = last_post-ge a (last_post v turn) (take (k - length turn) rest) posted (All-take (PostsFrom a) (k - length turn) rest (later_posts tree plan p a (a + 1) count lt (omega arith))) in
+                omega (arith, later, same)
+            | inr other ↦ posted_by tree plan p (a + 1) count (k - length turn) (last_post v turn) n lt (subst (StopsFor n) at stops) (omega arith) (omega arith) posts
+          ])
     ]
 
 -- all acts, phase by phase
@@ -246,9 +246,9 @@ unstuck tree plan s works law zero p on m less lt next = absurd (omega arith)
 unstuck tree plan s works law (suc fuel) p on m less lt next =
     let sound = sound_next tree plan s p (await on m) works lt next in
     elim (cases_Bool (nat_le m (slice_index s.counters on))) [
-      inl possible ↦ can_go tree plan s p (await on m) lt next possible
-    | inr waiting ↦ let behind : slice_index s.counters on < m = leb-false m (slice_index s.counters on) waiting in
-        awaited tree plan s on m (next_act tree plan s on) sound.1 refl
+      | inl possible ↦ can_go tree plan s p (await on m) lt next possible
+      | inr waiting ↦ let behind : slice_index s.counters on < m = leb-false m (slice_index s.counters on) waiting in
+          awaited tree plan s on m (next_act tree plan s on) sound.1 refl
           (λ stops. let enough = counter_enough tree plan s on m works law sound.1 sound.0 sound.2 stops in absurd (omega arith))
           (λ on' m' next' less'. unstuck tree plan s works law fuel on on' m' (omega arith) sound.1 next')
     ]
@@ -258,9 +258,9 @@ unstuck tree plan s works law (suc fuel) p on m less lt next =
     awaited tree plan s q m None lt e stopped further = stopped (inl e)
     awaited tree plan s q m (Some (post n)) lt e stopped further = can_go tree plan s q (post n) lt e refl
     awaited tree plan s q m (Some (await on' m')) lt e stopped further = elim (cases_lt m' m) [
-        inl less ↦ further on' m' e less
+      | inl less ↦ further on' m' e less
       | inr more ↦ stopped (inr (on', m', e, more))
-      ]
+    ]
     awaited tree plan s q m (Some (load i cell)) lt e stopped further = can_go tree plan s q (load i cell) lt e refl
     awaited tree plan s q m (Some (store i cell)) lt e stopped further = can_go tree plan s q (store i cell) lt e refl
     awaited tree plan s q m (Some (print i)) lt e stopped further = can_go tree plan s q (print i) lt e refl
@@ -278,16 +278,16 @@ ended_below : (tree : Tree) (plan : Plan) (s : State) → are_works tree.items �
     ((p : ℕ) → p < n → slice_index s.positions p ≡ length (acts_of tree plan p)) ⊎ CanGo tree plan s
 ended_below tree plan s works law zero le = inl (λ p lt. absurd (omega arith))
 ended_below tree plan s works law (suc n) le = elim (ended_below tree plan s works law n (omega arith)) [
-    inl ended ↦ elim (cases_eq (slice_index s.positions n) (length (acts_of tree plan n))) [
-      inl here ↦ inl (λ p lt. elim (cases_eq p n) [
-          inl e ↦ subst (λ (k : ℕ). slice_index s.positions k ≡ length (acts_of tree plan k)) (sym e) here
-        | inr ne ↦ ended p (omega arith)
-        ])
+  | inl ended ↦ elim (cases_eq (slice_index s.positions n) (length (acts_of tree plan n))) [
+    | inl here ↦ inl (λ p lt. elim (cases_eq p n) [
+      | inl e ↦ subst (λ (k : ℕ). slice_index s.positions k ≡ length (acts_of tree plan k)) (sym e) here
+      | inr ne ↦ ended p (omega arith)
+    ])
     | inr ne ↦ let inside : slice_index s.positions n < length (acts_of tree plan n) = omega (arith, law.within n (omega arith)) in
         inr (goes_on tree plan s works law n (get_or (acts_of tree plan n) (slice_index s.positions n) (post 0)) (omega arith) (slice_get-get_or (acts_of tree plan n) (slice_index s.positions n) (post 0) inside))
-    ]
-  | inr go ↦ inr go
   ]
+  | inr go ↦ inr go
+]
 
 pub ended_or_goes : (tree : Tree) (plan : Plan) (s : State) → are_works tree.items ≡ true → IsLawful tree plan s → IsEnded tree plan s ⊎ CanGo tree plan s
 ended_or_goes tree plan s works law = ended_below tree plan s works law plan.workers (omega arith)

@@ -13,21 +13,15 @@ ghost use Rattle.spmd_core.specs.declared.plan.Plan.{Plan};
 /// A state of a run is never stuck before its end: it is ended, or the next act of some
 /// processor is possible.
 pub fn no_state_is_stuck()
-    ensures {
-        (tree : Tree) (plan : Plan) (schedule : List ℕ) → IsWellFormed tree → IsStraight tree → IsFit tree plan → All (λ p. p < plan.workers) schedule
-        → IsEnded tree plan (run_of tree plan schedule) ⊎ CanGo tree plan (run_of tree plan schedule)
-    }
+    ensures { (tree : Tree) (plan : Plan) (schedule : List ℕ) → IsWellFormed tree → IsStraight tree → IsFit tree plan → All (λ p. p < plan.workers) schedule
+        → IsEnded tree plan (run_of tree plan schedule) ⊎ CanGo tree plan (run_of tree plan schedule) }
 {}
 
 /// Where processor 0 owns every statement, a run that has ended, in whatever order its
 /// processors went, has the memory and the output of the sequential program.
 pub fn ended_runs_are_sequential()
-    ensures memory {
-        (tree : Tree) (plan : Plan) (schedule : List ℕ) → IsWellFormed tree → IsStraight tree → IsFit tree plan → All (λ p. p < plan.workers) schedule
-        → IsTrue (has_one_owner plan) → IsEnded tree plan (run_of tree plan schedule) → (run_of tree plan schedule).memory ≡ last_memory tree
-    }
-    ensures output {
-        (tree : Tree) (plan : Plan) (schedule : List ℕ) → IsWellFormed tree → IsStraight tree → IsFit tree plan → All (λ p. p < plan.workers) schedule
-        → IsTrue (has_one_owner plan) → IsEnded tree plan (run_of tree plan schedule) → (run_of tree plan schedule).output ≡ output_of tree
-    }
+    ensures memory { (tree : Tree) (plan : Plan) (schedule : List ℕ) → IsWellFormed tree → IsStraight tree → IsFit tree plan → All (λ p. p < plan.workers) schedule
+        → IsTrue (has_one_owner plan) → IsEnded tree plan (run_of tree plan schedule) → (run_of tree plan schedule).memory ≡ last_memory tree }
+    ensures output { (tree : Tree) (plan : Plan) (schedule : List ℕ) → IsWellFormed tree → IsStraight tree → IsFit tree plan → All (λ p. p < plan.workers) schedule
+        → IsTrue (has_one_owner plan) → IsEnded tree plan (run_of tree plan schedule) → (run_of tree plan schedule).output ≡ output_of tree }
 {}

@@ -4,10 +4,8 @@ use Rattle.std.specs.Fmt.{decimal}
 use Rattle.nest_tree.specs.Straight.{IsStraight}
 use Rattle.nest_tree.specs.Tree.{Tree}
 use Rattle.nest_tree.specs.WellFormed.{IsWellFormed}
+use Rattle.nest_model.specs.Memory.{output_of}
 use Rattle.spmd_core.specs.Barriers.{barrier_plan}
-use Rattle.spmd_core.specs.Machine.{State, first_state}
-use Rattle.spmd_core.specs.Rounds.{IsBehindRounds}
-use Rattle.spmd_core.specs.declared.plan.Plan.{Plan}
 use Rattle.spmd_tool.specs.declared.status.Status.{Status}
 use Rattle.spmd_tool.specs.declared.status.Status.TheVariants.{Done, SourceRefused, BadWords, ReadFault, WriteFault, NoMemory, TooLong}
 use Rattle.spmd_tool.specs.PlanText.{line, plan_text}
@@ -17,20 +15,13 @@ use Rattle.spmd_tool.specs.Words.{AreRunWords}
 abbrev pub AreOthers : List (List ℕ) → Type 0
 AreOthers words = (workers : ℕ) → AreRunWords words workers → ⊥
 
--- the output of the machine under a plan in the end: behind as many rounds of one step per processor as it takes until none has a next act, or behind 2 ^ 64 - 1
-pub record IsRoundsOutput (tree : Tree) (plan : Plan) (output : List ℕ) : Type 0 where
-  pub last : State
-  pub behind : IsBehindRounds tree plan (first_state tree plan) last
-  pub printed : output ≡ last.output
-
 -- the line of a source that is refused at this line
 abbrev pub refused_text : ℕ → List ℕ
 refused_text n = line (codes "REFUSED F2 LINE " ++ decimal n)
 
--- with a status this text, where so many workers are asked for: the plan and the output of some straight-line program, or one line
+-- with a status this text, where so many workers are asked for: the plan and the sequential output of some straight-line program, or one line
 pub data IsAnswerFor (workers : ℕ) : Status → List ℕ → Type 0 where
-  run : (tree : Tree) (formed : IsWellFormed tree) (straight : IsStraight tree) (output : List ℕ) (printed : IsRoundsOutput tree (barrier_plan workers tree) output)
-      → IsAnswerFor workers Done (plan_text (barrier_plan workers tree) ++ output)
+  run : (tree : Tree) (formed : IsWellFormed tree) (straight : IsStraight tree) → IsAnswerFor workers Done (plan_text (barrier_plan workers tree) ++ output_of tree)
   refused : (n : ℕ) → IsAnswerFor workers SourceRefused (refused_text n)
   too_long : IsAnswerFor workers TooLong (line (codes "TOO LONG"))
 

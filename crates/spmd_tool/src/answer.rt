@@ -4,8 +4,10 @@ ghost use Rattle.std.specs.Prelude.{◌≡◌, ◌≢◌, ◌≤◌, IfOk, IsTru
 ghost use Rattle.nest_tree.specs.Straight.{IsStraight};
 ghost use Rattle.nest_tree.specs.View.{tree_of};
 ghost use Rattle.nest_tree.specs.WellFormed.{IsWellFormed};
+ghost use Rattle.nest_model.specs.Memory.{output_of};
 ghost use Rattle.spmd_core.specs.Fit.{IsFit};
-ghost use Rattle.spmd_tool.specs.Answer.{IsAnswerFor, is_said, IsRoundsOutput, refused_text};
+ghost use Rattle.spmd_core.specs.Progress.{has_one_owner};
+ghost use Rattle.spmd_tool.specs.Answer.{IsAnswerFor, is_said, refused_text};
 
 use crate::status::Status;
 use crate::text::plan_text;
@@ -88,12 +90,14 @@ fn text_of_refusal(alloc: Global, line: u32) -> Result<Vec<u8>, AllocError>
     Ok(text.into_bytes())
 }
 
-// The output of a program that runs by a plan, in rounds of one step per processor.
+// The output of a program that runs by a plan under which processor 0 owns every statement, in
+// rounds of one step per processor.
 fn output_of_run(alloc: Global, program: &Program, plan: &Plan) -> Result<Vec<u8>, AllocError>
     requires formed { IsWellFormed (tree_of program.now) }
     requires straight { IsStraight (tree_of program.now) }
     requires fits { IsFit (tree_of program.now) plan.now }
-    ensures { IfOk result (λ output. IsRoundsOutput (tree_of program.now) plan.now output.items) }
+    requires one_owner { IsTrue (has_one_owner plan.now) }
+    ensures { IfOk result (λ output. output.items ≡ output_of (tree_of program.now)) }
 {
     let Ok(mut machine) = Machine::new(alloc, program, plan) else {
         return Err(AllocError);

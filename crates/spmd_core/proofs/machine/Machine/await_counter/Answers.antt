@@ -122,8 +122,8 @@ invariant_of-self c =
       cells = m.cells;
       room = omega (arith, room, m.room);
       reached = reached_by tree plan (state_of tree ps m.memory.items m.output.bytes.items) _ p fit (omega (arith, m.counted, c.requires.worker)) m.reached
-        (steps_await tree plan ps m.memory.items m.output.bytes.items p x y c.args.on c.args.number fit.works c.requires.worker (m.kept p x c.requires.worker) passed
-        (ap (λ (z : Processor). z.registers.items) read) (ap (λ (z : Processor). z.counter) read) possible);
+          (steps_await tree plan ps m.memory.items m.output.bytes.items p x y c.args.on c.args.number fit.works c.requires.worker (m.kept p x c.requires.worker) passed
+          (ap (λ (z : Processor). z.registers.items) read) (ap (λ (z : Processor). z.counter) read) possible);
     }
 
 pub returns-clause-step : goal.returns-clause-step

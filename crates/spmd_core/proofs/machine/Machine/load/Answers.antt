@@ -75,7 +75,7 @@ invariant_of-self c =
     let act = load (instance_at tree c.args.place) (get_or loads (length x.registers.items) 0) in
     let passed = subst (λ z. Passes tree z y act) read passes in
     let value_read : cell_value m.memory.items (get_or loads (length x.registers.items) 0) ≡ c.index-value.result.now =
-        ap (cell_value m.memory.items) (sym cell) ∙ sym (get_or_read m.memory.items c.index-cell.result.now c.index-value.result.now (omega (arith, cell, small, m.cells)) c.index-value.ensures (pos 0)) in
+    ap (cell_value m.memory.items) (sym cell) ∙ sym (get_or_read m.memory.items c.index-cell.result.now c.index-value.result.now (omega (arith, cell, small, m.cells)) c.index-value.ensures (pos 0)) in
     let room = room_next tree ps p x y act c.requires.worker passed in
     record {
       suited = m.suited;
@@ -85,9 +85,9 @@ invariant_of-self c =
       cells = m.cells;
       room = omega (arith, room, m.room);
       reached = reached_by tree plan (state_of tree ps m.memory.items m.output.bytes.items) _ p fit (omega (arith, m.counted, c.requires.worker)) m.reached
-        (steps_load tree plan ps m.memory.items m.output.bytes.items p x y (instance_at tree c.args.place) (get_or loads (length x.registers.items) 0) fit.works c.requires.worker (m.kept p x c.requires.worker) passed
-        (pushed ∙ ap (λ v. x.registers.items ++ v ∷ []) (sym value_read) ∙ ap (λ (z : Processor). z.registers.items ++ cell_value m.memory.items (get_or loads (length x.registers.items) 0) ∷ []) read)
-        (ap (λ (z : Processor). z.counter) read));
+          (steps_load tree plan ps m.memory.items m.output.bytes.items p x y (instance_at tree c.args.place) (get_or loads (length x.registers.items) 0) fit.works c.requires.worker (m.kept p x c.requires.worker) passed
+          (pushed ∙ ap (λ v. x.registers.items ++ v ∷ []) (sym value_read) ∙ ap (λ (z : Processor). z.registers.items ++ cell_value m.memory.items (get_or loads (length x.registers.items) 0) ∷ []) read)
+          (ap (λ (z : Processor). z.counter) read));
     }
 
 pub returns-clause-step : goal.returns-clause-step

@@ -20,7 +20,7 @@ invariant_of-result c =
     let fit = suits tree plan suited in
     let table = ap (map (λ (v : Vec ℕ Global). v.items)) c.deref.ensures.value ∙ c.in_ok-loads.ensures in
     let most : (place : ℕ) → load_count_at tree place ≤ c.most_loads.result =
-        λ place. subst (λ (t : List (List ℕ)). length (get_or t place []) ≤ c.most_loads.result) table (c.most_loads.ensures place) in
+    λ place. subst (λ (t : List (List ℕ)). length (get_or t place []) ≤ c.most_loads.result) table (c.most_loads.ensures place) in
     let ps = c.in_ok-processors.processors.items in
     let fresh = c.in_ok-processors.ensures.fresh in
     let lines : longest_lines tree.items ≡ c.in_ok-room.room = subst (λ (o : Option ℕ). IfSome o (λ n. longest_lines tree.items ≡ n)) c.in_ok-room.ensures.ok_part c.longest_output.ensures in
@@ -48,4 +48,4 @@ returns-clause-first c =
     let fit = suits tree plan (suited_from tree plan c.requires.formed c.requires.straight c.requires.fits) in
     let size : c.len.result ≡ cell_count tree = omega (arith, c.len.ensures, c.args.program.now.variables.ok.0, cell_count-scalars tree fit.scalars, length-map c.args.program.now.variables.items declaration_of) in
     first_is tree plan c.most_loads.result ps c.in_ok-vec.field-0.items c.in_ok-with_room.field-0.bytes.items count fresh
-      (c.in_ok-vec.ensures.items_if_clones_equal (λ y e. e) ∙ ap (λ n. replicate n (pos 0)) size) c.in_ok-with_room.ensures.bytes
+    (c.in_ok-vec.ensures.items_if_clones_equal (λ y e. e) ∙ ap (λ n. replicate n (pos 0)) size) c.in_ok-with_room.ensures.bytes

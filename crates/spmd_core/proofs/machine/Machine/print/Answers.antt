@@ -142,9 +142,9 @@ invariant_of-self c =
       cells = m.cells;
       room = omega (arith, room, m.room, what.room, c.push_line.ensures.length, c.push_line.ensures.room);
       reached = reached_by tree plan (state_of tree ps m.memory.items m.output.bytes.items) _ p fit (omega (arith, m.counted, c.requires.worker)) m.reached
-        (steps_print tree plan ps m.memory.items m.output.bytes.items _ p x y (instance_at tree place) fit.works c.requires.worker (m.kept p x c.requires.worker) passed
-        c.clear.ensures.items (ap (λ (z : Processor). z.counter) read)
-        (c.push_line.ensures.bytes ∙ ap (λ r. m.output.bytes.items ++ (plain_items (map printed_of c.args.items.now) r ++ 10 ∷ [])) c.as_slice.ensures.value
+          (steps_print tree plan ps m.memory.items m.output.bytes.items _ p x y (instance_at tree place) fit.works c.requires.worker (m.kept p x c.requires.worker) passed
+          c.clear.ensures.items (ap (λ (z : Processor). z.counter) read)
+          (c.push_line.ensures.bytes ∙ ap (λ r. m.output.bytes.items ++ (plain_items (map printed_of c.args.items.now) r ++ 10 ∷ [])) c.as_slice.ensures.value
           ∙ ap (λ l. m.output.bytes.items ++ l) (sym (what.line x.registers.items)) ∙ ap (λ (z : Processor). m.output.bytes.items ++ line_of tree (instance_at tree place) z.registers.items) read));
     }
 

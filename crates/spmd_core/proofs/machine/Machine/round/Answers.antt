@@ -30,12 +30,12 @@ loop-p-preserved c =
       program = c.step.ensures.program ∙ inv.program;
       plan = c.step.ensures.plan ∙ inv.plan;
       round = elim c.match-step.branch [
-        in-Stepped w ↦
-          let can = answered_stepped tree plan (shown m) n (sym w.in-Stepped.is ∙ answer) in
-          round_as tree plan (shown c.args.self.now) _ _ (n + 1) _ _ (sym after) (sym w.has_stepped-is) (round_more tree plan (shown c.args.self.now) (shown m) n c.loop-p.has_stepped inv.round lt law can)
-      | in_default w ↦
-          let can = answered_other tree plan (shown m) n c.step.result answer w.in_default.not-Stepped in
-          round_as tree plan (shown c.args.self.now) _ _ (n + 1) _ _ (sym after) (sym w.has_stepped-is) (round_still tree plan (shown c.args.self.now) (shown m) n c.loop-p.has_stepped inv.round lt can)
+        | in-Stepped w ↦
+            let can = answered_stepped tree plan (shown m) n (sym w.in-Stepped.is ∙ answer) in
+            round_as tree plan (shown c.args.self.now) _ _ (n + 1) _ _ (sym after) (sym w.has_stepped-is) (round_more tree plan (shown c.args.self.now) (shown m) n c.loop-p.has_stepped inv.round lt law can)
+        | in_default w ↦
+            let can = answered_other tree plan (shown m) n c.step.result answer w.in_default.not-Stepped in
+            round_as tree plan (shown c.args.self.now) _ _ (n + 1) _ _ (sym after) (sym w.has_stepped-is) (round_still tree plan (shown c.args.self.now) (shown m) n c.loop-p.has_stepped inv.round lt can)
       ];
     }
 

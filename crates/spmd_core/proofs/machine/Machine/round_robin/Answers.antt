@@ -45,7 +45,7 @@ ended_machine : (m before after : Machine) → tree_in after ≡ tree_in m → p
     ((p : ℕ) → p < (plan_in before).workers → can_step (tree_in before) (plan_in before) (shown after) p ≡ false) → IsEnded (tree_in m) (plan_in m) (shown after)
 ended_machine m before after at ap' bt bp still =
     let here = subst (λ (q : Plan). (p : ℕ) → p < q.workers → can_step (tree_in m) q (shown after) p ≡ false) bp
-        (subst (λ (t : Tree). (p : ℕ) → p < (plan_in before).workers → can_step t (plan_in before) (shown after) p ≡ false) bt still) in
+    (subst (λ (t : Tree). (p : ℕ) → p < (plan_in before).workers → can_step t (plan_in before) (shown after) p ≡ false) bt still) in
     ended_still (tree_in m) (plan_in m) (shown after) (suits_machine m).works (reached_machine after (tree_in m) (plan_in m) at ap').lawful here
 
 pub returns-clause-ended : goal.returns-clause-ended
@@ -60,7 +60,7 @@ returns-clause-memory c one =
     let at = c.round.ensures.program ∙ inv.program in
     let pl = c.round.ensures.plan ∙ inv.plan in
     (ended_sequential (tree_in m) (plan_in m) (shown c.round.new.self) (suits_machine m) one (reached_machine c.round.new.self (tree_in m) (plan_in m) at pl)
-      (ended_machine m c.loop.self c.round.new.self at pl inv.program inv.plan (c.round.ensures.still c.loop-test.false))).memory
+    (ended_machine m c.loop.self c.round.new.self at pl inv.program inv.plan (c.round.ensures.still c.loop-test.false))).memory
 
 pub returns-clause-output : goal.returns-clause-output
 returns-clause-output c one =
@@ -69,4 +69,4 @@ returns-clause-output c one =
     let at = c.round.ensures.program ∙ inv.program in
     let pl = c.round.ensures.plan ∙ inv.plan in
     (ended_sequential (tree_in m) (plan_in m) (shown c.round.new.self) (suits_machine m) one (reached_machine c.round.new.self (tree_in m) (plan_in m) at pl)
-      (ended_machine m c.loop.self c.round.new.self at pl inv.program inv.plan (c.round.ensures.still c.loop-test.false))).output
+    (ended_machine m c.loop.self c.round.new.self at pl inv.program inv.plan (c.round.ensures.still c.loop-test.false))).output

@@ -173,7 +173,7 @@ invariant_of-self c =
     let cell = c.cell_of-cell.ensures ∙ ap (λ t. cell_of t c.args.target.now.variable []) c.layout.ensures in
     let fits : FitsSigned w64 c.eval.result = search rules in
     let stored : c.eval.result ≡ assigned_value tree (instance_at tree place) x.registers.items =
-        c.eval.ensures ∙ ap (value_of (expression_of c.args.e.now) [] []) c.as_slice.ensures.value ∙ sym (what.value x.registers.items) in
+    c.eval.ensures ∙ ap (value_of (expression_of c.args.e.now) [] []) c.as_slice.ensures.value ∙ sym (what.value x.registers.items) in
     let room = room_next tree ps p x y act c.requires.worker passed in
     record {
       suited = m.suited;
@@ -183,9 +183,9 @@ invariant_of-self c =
       cells = length-set m.memory.items c.cell_of-cell.result _ ∙ m.cells;
       room = omega (arith, room, m.room);
       reached = reached_by tree plan (state_of tree ps m.memory.items m.output.bytes.items) _ p fit (omega (arith, m.counted, c.requires.worker)) m.reached
-        (steps_store tree plan ps m.memory.items _ m.output.bytes.items p x y (instance_at tree place) (cell_of tree c.args.target.now.variable []) fit.works c.requires.worker (m.kept p x c.requires.worker) passed
-        c.clear.ensures.items (ap (λ (z : Processor). z.counter) read)
-        (ap (λ k. set m.memory.items k (to_z w64 (of_z w64 c.eval.result))) cell ∙ ap (set m.memory.items (cell_of tree c.args.target.now.variable [])) (to_z-of_z w64 c.eval.result fits ∙ stored ∙ ap (λ (z : Processor). assigned_value tree (instance_at tree place) z.registers.items) read)));
+          (steps_store tree plan ps m.memory.items _ m.output.bytes.items p x y (instance_at tree place) (cell_of tree c.args.target.now.variable []) fit.works c.requires.worker (m.kept p x c.requires.worker) passed
+          c.clear.ensures.items (ap (λ (z : Processor). z.counter) read)
+          (ap (λ k. set m.memory.items k (to_z w64 (of_z w64 c.eval.result))) cell ∙ ap (set m.memory.items (cell_of tree c.args.target.now.variable [])) (to_z-of_z w64 c.eval.result fits ∙ stored ∙ ap (λ (z : Processor). assigned_value tree (instance_at tree place) z.registers.items) read)));
     }
 
 pub returns-clause-step : goal.returns-clause-step
