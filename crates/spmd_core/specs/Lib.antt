@@ -6,4 +6,13 @@ pub mod Fit
 pub mod Acts
 pub mod Machine
 pub mod FirstRun
+pub mod Words
+pub mod Numbered
+pub mod Suited
+pub mod Turns
+pub mod Cursors
+pub mod PlainLines
+pub mod Progress
+pub mod Shown
+pub mod Shows
 pub mod ValueLaws

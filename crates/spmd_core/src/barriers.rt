@@ -1,11 +1,12 @@
 // The plan with a barrier in front of each statement.
 
-ghost use Rattle.std.specs.Prelude.{◌≡◌, ◌≤◌, IfOk, replicate};
+ghost use Rattle.std.specs.Prelude.{◌≡◌, ◌<◌, ◌≤◌, IfOk, IsTrue, length, replicate};
 ghost use Rattle.nest_tree.specs.Straight.{IsStraight};
 ghost use Rattle.nest_tree.specs.View.{tree_of};
 ghost use Rattle.nest_tree.specs.WellFormed.{IsWellFormed};
 ghost use Rattle.spmd_core.specs.Barriers.{barrier_plan, origin};
 ghost use Rattle.spmd_core.specs.Fit.{IsFit};
+ghost use Rattle.spmd_core.specs.Progress.{has_one_owner};
 ghost use Rattle.spmd_core.specs.declared.plan.Kind.TheVariants.{Barrier};
 
 use crate::plan::{Anchor, Anchors, Cut, Dist, Kind, Kinds, Marks, Plan};
@@ -21,6 +22,8 @@ pub fn all_barriers(alloc: Global, program: &Program, workers: u32) -> Result<Pl
     requires few { workers ≤ 64 }
     ensures plan { IfOk result (λ plan. plan ≡ barrier_plan workers (tree_of program.now)) }
     ensures fits { IfOk result (λ plan. IsFit (tree_of program.now) plan) }
+    ensures one_owner { IfOk result (λ plan. IsTrue (has_one_owner plan)) }
+    ensures few_phases { IfOk result (λ plan. length plan.anchors < 400) }
 {
     let phases = program.items.len();
     Ok(Plan {

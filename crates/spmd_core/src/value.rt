@@ -23,7 +23,7 @@ pub fn eval(e: &Expr, loops: &[i64], params: &[i64], loaded: &[i64]) -> i64
 
 // The value, and what was loaded for what stands behind the expression.
 #[cycle(value)]
-fn value_and_rest<'a>(
+pub(crate) fn value_and_rest<'a>(
     e: &Expr,
     loops: &[i64],
     params: &[i64],

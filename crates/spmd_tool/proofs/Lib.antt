@@ -1,3 +1,4 @@
 pub mod Commands
 pub mod Decimals
+pub mod Told
 pub mod Writing

@@ -1,3 +1,4 @@
 pub mod PlanText
 pub mod Outside
 pub mod Words
+pub mod Answer

@@ -1,9 +1,55 @@
-//! Seagrynt's command.
+//! Seagrynt's command: it reads a source program on standard input, makes a plan for a parallel
+//! run of it, runs it by the plan, and writes the plan and what the program prints.
+//!
+//! `tool` is the top call, over any source and any sink; `main` makes the standard ones, calls it
+//! and ends with its status.
 #![tactic(auto)]
 
+mod answer;
 mod outside;
 mod status;
 mod text;
+mod tool;
 mod words;
 
-fn main() {}
+use crate::status::Status;
+use crate::tool::tool;
+use spmd_ports::{StdSink, StdSource};
+use std::io::ErrorKind;
+use std::process::ExitCode;
+use std::{env, io};
+
+fn main(rt: HostRuntime) -> ExitCode {
+    let status = match words_of(&rt) {
+        Ok(words) => run(&rt, &words),
+        Err(e) if e.kind() == ErrorKind::OutOfMemory => Status::NoMemory,
+        // words that aren't text are none that the tool takes
+        Err(_) => run(&rt, &[]),
+    };
+    ExitCode::from(status.code())
+}
+
+// The words behind the program's name.
+fn words_of(rt: &HostRuntime) -> io::Result<Vec<String>> {
+    let mut words = Vec::new(rt.alloc());
+    for word in env::args(rt)?.skip(1) {
+        words.push(word)?;
+    }
+    Ok(words)
+}
+
+// The tool over standard input and output.
+fn run(rt: &HostRuntime, words: &[String]) -> Status {
+    let mut texts = Vec::new(rt.alloc());
+    for word in words {
+        if texts.push(word.as_str()).is_err() {
+            return Status::NoMemory;
+        }
+    }
+    let mut source = StdSource::new(rt.stdin());
+    let mut sink = StdSink::new(rt.stdout());
+    tool(rt.alloc(), &texts, &mut source, &mut sink)
+}
+
+#[cfg(test)]
+mod tests;

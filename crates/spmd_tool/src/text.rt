@@ -1,17 +1,28 @@
 // The text of a plan.
 
-ghost use Rattle.std.specs.Prelude.{◌≡◌, ◌++◌, ◌∷◌, ◌+◌, ◌<◌, ◌^◌, ◌-◌, ℕ, length, OnOk, string_bytes, codes};
+ghost use Rattle.std.specs.Prelude.{◌≡◌, ◌++◌, ◌∷◌, ◌+◌, ◌<◌, ◌^◌, ◌-◌, ℕ, length, IfOk, OnOk, string_bytes, codes};
 ghost use Rattle.std.specs.Fmt.{decimal, signed_decimal};
 ghost use Rattle.spmd_tool.specs.PlanText as spec;
 
 use nest_tree::Affine;
 use spmd_core::{Anchor, Dist, Kind, Mark, Plan};
-use std::alloc::AllocError;
+use std::alloc::{AllocError, Global};
 use std::fmt::Write;
 
-/// Appends the text of a plan without certificates. Where memory runs out a part of it may be
-/// appended.
-pub fn write_plan(out: &mut String, plan: &Plan) -> Result<(), AllocError>
+/// The text of a plan without certificates.
+pub fn plan_text(alloc: Global, plan: &Plan) -> Result<Vec<u8>, AllocError>
+    requires anchors { length plan.now.anchors < 2 ^ 32 - 1 }
+    requires marks { length plan.now.cut.marks < 2 ^ 32 - 1 }
+    ensures { IfOk result (λ text. text.items ≡ spec.plan_text plan.now) }
+{
+    let mut text = String::new(alloc);
+    write_plan(&mut text, plan)?;
+    Ok(text.into_bytes())
+}
+
+// Appends the text of a plan without certificates. Where memory runs out a part of it may be
+// appended.
+fn write_plan(out: &mut String, plan: &Plan) -> Result<(), AllocError>
     requires anchors { length plan.now.anchors < 2 ^ 32 - 1 }
     requires marks { length plan.now.cut.marks < 2 ^ 32 - 1 }
     ensures { OnOk result (string_bytes out.new ≡ string_bytes out.old ++ spec.plan_text plan.now) }

@@ -1,0 +1,76 @@
+-- The combination of two rows, entry by entry.
+use Rattle.std.proofs.Common.{◌≡◌, ℕ, zero, suc, ◌+◌, ◌≤◌, ◌<◌, ℤ, pos, negsuc, ◌+ℤ◌, ◌*ℤ◌, Bool, true, false, ◌&&◌, if◌then◌else◌, ◌⊎◌, ⊎_elim, ◌<ℤ◌, ◌/◌, unsigned_abs, Option, Some, None, IsTrue, List, [], ◌∷◌, length, get_or, drop, add-one, refl, sym, ◌∙◌, arith}
+use Rattle.std.specs.Int.{IsGcd}
+use Rattle.std.proofs.Math.Nat.{eq-zero_of_zero-dvd, div-le_self}
+use Rattle.std.proofs.Math.Seq.{drop-cons}
+use Rattle.std.proofs.Math.IntN.{+ℤ_idl}
+use Rattle.std.proofs.lemmas.Int.{ints}
+use Rattle.std.proofs.lemmas.List.{drop_all}
+use Rattle.std.proofs.lemmas.Option.{cond_some}
+use Rattle.std.proofs.lemmas.Bool.{cases_lt}
+use Rattle.std.proofs.lemmas.Bool.Decides.{nat_tests}
+use Rattle.farkas_cert.specs.declared.system.Row.{Row}
+use Rattle.farkas_cert.specs.Combination.{entry_at, is_narrow, stays_narrow}
+use Rattle.fm_elim.specs.Pairs.{combined}
+
+-- the entries from k on
+pub combined-drop : (m n : ℤ) (xs ys : List ℤ) (k : ℕ) (d : ℤ) → k < length xs → length ys ≡ length xs → combined m (drop k xs) n (drop k ys) ≡ (m *ℤ get_or xs k d +ℤ n *ℤ get_or ys k d) ∷ combined m (drop (k + 1) xs) n (drop (k + 1) ys)
+combined-drop m n xs ys k d h same =
+    let e = drop-cons xs k d h in
+    let there : k < length ys = omega arith in
+    let f = drop-cons ys k d there in
+    rw (e, f, add-one) refl
+
+-- two products, then their sum
+pub both_narrow : (p q : ℤ) → stays_narrow (pos 0) (p ∷ q ∷ []) ≡ (is_narrow p && is_narrow q && is_narrow (p +ℤ q))
+both_narrow p q = rw (+ℤ_idl p) (cases (is_narrow p) (is_narrow q) (is_narrow (p +ℤ q)))
+  where
+    cases : (a b c : Bool) → (a && a && (b && c && true)) ≡ (a && b && c)
+    cases true true true = refl
+    cases true true false = refl
+    cases true false c = refl
+    cases false b c = refl
+
+-- what a weighted sum answers
+pub sum_where_none : (p q : ℤ) → (if is_narrow p && is_narrow q && is_narrow (p +ℤ q) then Some (p +ℤ q) else None) ≡ None → stays_narrow (pos 0) (p ∷ q ∷ []) ≡ false
+sum_where_none p q h = both_narrow p q ∙ grind arith
+
+pub sum_where_some : (p q s : ℤ) → (if is_narrow p && is_narrow q && is_narrow (p +ℤ q) then Some (p +ℤ q) else None) ≡ Some s → IsTrue (stays_narrow (pos 0) (p ∷ q ∷ [])) × (p +ℤ q ≡ s)
+sum_where_some p q s h =
+    let parts = cond_some (is_narrow p && is_narrow q && is_narrow (p +ℤ q)) (p +ℤ q) s h in
+    (rw (both_narrow p q) (grind (arith, parts.0)), parts.1)
+
+-- the entries of a row
+pub entry_at-coef : (vars : ℕ) (row : Row) (k : ℕ) → k < vars → entry_at vars row k ≡ get_or row.coefs k (pos 0)
+entry_at-coef vars row k h = grind (arith, nat_tests)
+
+pub entry_at-bound : (vars : ℕ) (row : Row) → entry_at vars row vars ≡ row.bound
+entry_at-bound vars row = grind (arith, nat_tests)
+
+-- two narrow products, and their sum if it is narrow
+pub weighted_sum_is : (p q x y : ℤ) (r : Option ℤ) → Some x ≡ (if is_narrow p then Some p else None) → Some y ≡ (if is_narrow q then Some q else None) → r ≡ (if is_narrow (x +ℤ y) then Some (x +ℤ y) else None) → r ≡ (if is_narrow p && is_narrow q && is_narrow (p +ℤ q) then Some (p +ℤ q) else None)
+weighted_sum_is p q x y r first second sum =
+    let a = cond_some (is_narrow p) p x (sym first) in
+    let b = cond_some (is_narrow q) q y (sym second) in
+    rw (a.0, b.0, a.1, b.1) sum
+
+-- the greatest common divisor of a number that isn't 0 isn't 0
+pub divisor_above_zero : (a b g : ℕ) → 0 < a → IsGcd a b g → 0 < g
+divisor_above_zero a b zero h gcd = absurd (omega (arith, eq-zero_of_zero-dvd gcd.0))
+divisor_above_zero a b (suc g) h gcd = omega arith
+
+pub quotient_le : (a g : ℕ) → a / g ≤ a
+quotient_le a g = div-le_self a g
+
+-- a number apart from 0 has a size above 0
+pub size_above_zero : (z : ℤ) → (pos 0 <ℤ z) ⊎ (z <ℤ pos 0) → 0 < unsigned_abs z
+size_above_zero (pos n) h = ⊎_elim (λ a. omega (arith, ints, a)) (λ a. absurd (omega (arith, ints, a))) h
+size_above_zero (negsuc n) h = omega arith
+
+-- no entry is left
+pub combined-done : (m n : ℤ) (xs ys : List ℤ) (k : ℕ) → length xs ≤ k → combined m (drop k xs) n (drop k ys) ≡ []
+combined-done m n xs ys k h = let e = drop_all k xs h in rw e refl
+
+-- two cases
+pub by_lt : {P : Type 0} (a b : ℕ) → (a < b → P) → (b ≤ a → P) → P
+by_lt {P} a b f g = ⊎_elim f g (cases_lt a b)

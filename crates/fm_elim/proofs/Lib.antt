@@ -1,0 +1,12 @@
+pub mod Integers
+pub mod Divisors
+pub mod Combined
+pub mod Values
+pub mod Removal
+pub mod Exactness
+pub mod Back
+pub mod Columns
+pub mod Steps
+pub mod Lowest
+pub mod Origins
+pub mod Tightening

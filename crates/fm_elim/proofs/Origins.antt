@@ -1,0 +1,43 @@
+-- Candidates are founded: their rows have numbers, or are what their derivations make.
+use Rattle.std.proofs.Common.{◌≡◌, ℕ, max, ℤ, pos, ◌≤ℤ◌, List, Some, None, ap, sym, ◌∙◌, subst, arith}
+use Rattle.std.proofs.lemmas.Int.{ints}
+use Rattle.farkas_cert.specs.declared.system.Row.{Row}
+use Rattle.farkas_cert.specs.Inequalities.{Inequalities}
+use Rattle.fm_elim.specs.declared.derivation.Derivation.{Derivation}
+use Rattle.fm_elim.specs.declared.level.Origin.TheVariants.{Numbered, Made}
+use Rattle.fm_elim.specs.Reduction.{IsReducedBy, divided}
+use Rattle.fm_elim.specs.Pairs.{combination, IsNarrow}
+use Rattle.fm_elim.specs.Logs.{all_rows, IsNumber, IsSuited, IsFounded}
+use Rattle.fm_elim.proofs.Divisors.{divided-one}
+use Rattle.fm_elim.proofs.Steps.{good_reduction, reduction_makes, good_combination, combination_makes}
+use Rattle.fm_elim.proofs.Lowest.{IsSuited-divided, IsSuited-combination}
+use Rattle.fm_elim.proofs.Back.{divides_max}
+
+-- a given row, reduced by 1 or by more
+module _ (system : Inequalities) (log : List Derivation) (raw row : Row) (number g : ℕ) (reduced : IsReducedBy g raw row) (suited : IsSuited system.vars raw) (numbered : IsNumber (all_rows system log) number raw) where
+  suited_here : IsSuited system.vars row
+  suited_here = subst (IsSuited system.vars) (sym reduced.1) (IsSuited-divided system.vars (max g 1) raw suited)
+
+  pub founded_by_one : pos (max g 1) ≡ pos 1 → IsFounded system log (record { row = row; origin = Numbered number })
+  founded_by_one one =
+      let same : raw ≡ row = sym (reduced.1 ∙ ap (λ n. divided n raw) (omega (arith, ints, one)) ∙ divided-one raw) in
+      record { suited = suited_here; origin = subst (IsNumber (all_rows system log) number) same numbered }
+
+  pub founded_by_more : (d : ℤ) → d ≡ pos (max g 1) → IsFounded system log (record { row = row; origin = Made (record { divisor = d; first = (number, pos 1); second = None }) })
+  founded_by_more d e =
+      let each = divides_max g raw.coefs reduced.0.0 in
+      let good = good_reduction system.vars (all_rows system log) number (max g 1) raw suited numbered (omega arith) each in
+      let makes = reduction_makes system.vars (all_rows system log) number (max g 1) raw suited numbered (omega arith) each in
+      subst (λ z. IsFounded system log (record { row = row; origin = Made (record { divisor = z; first = (number, pos 1); second = None }) })) (sym e)
+      (record { suited = suited_here; origin = (good, makes ∙ sym reduced.1) })
+
+-- the combination of a pair, reduced
+pub combination_founded : (system : Inequalities) (log : List Derivation) (upper lower row : Row) (m n d : ℤ) (a b g : ℕ) → IsSuited system.vars upper → IsSuited system.vars lower → IsNumber (all_rows system log) a upper → IsNumber (all_rows system log) b lower → pos 0 ≤ℤ m → pos 0 ≤ℤ n → IsNarrow system.vars m upper n lower → IsReducedBy g (combination m upper n lower) row → d ≡ pos (max g 1) → IsFounded system log (record { row = row; origin = Made (record { divisor = d; first = (a, m); second = Some (b, n) }) })
+combination_founded system log upper lower row m n d a b g su sl na nb hm hn narrow reduced e =
+    let raw = combination m upper n lower in
+    let each = divides_max g raw.coefs reduced.0.0 in
+    let good = good_combination system.vars (all_rows system log) a b (max g 1) m n upper lower su.full sl.full na nb hm hn narrow (omega arith) each in
+    let makes = combination_makes system.vars (all_rows system log) a b (max g 1) m n upper lower su.full sl.full na nb hm hn narrow (omega arith) each in
+    let suited : IsSuited system.vars row = subst (IsSuited system.vars) (sym reduced.1) (IsSuited-divided system.vars (max g 1) raw (IsSuited-combination system.vars m n upper lower su.full sl.full narrow)) in
+    subst (λ z. IsFounded system log (record { row = row; origin = Made (record { divisor = z; first = (a, m); second = Some (b, n) }) })) (sym e)
+    (record { suited = suited; origin = (good, makes ∙ sym reduced.1) })

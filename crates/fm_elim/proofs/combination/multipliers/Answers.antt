@@ -1,0 +1,33 @@
+use Rattle.std.proofs.Common.{◌≡◌, ◌/◌, ◌<◌, ◌≤◌, ◌^◌, unsigned_abs, inl, to_z, ◌∙◌, ap, subst, arith}
+use Rattle.std.specs.Int.{w128, IsGcd}
+use Rattle.std.proofs.lemmas.Int.{to_z-of_z, to_z_pos}
+use Rattle.fm_elim.proofs.Divisors.{le_from_narrow}
+use Rattle.fm_elim.proofs.Combined.{divisor_above_zero, quotient_le, size_above_zero}
+use Rattle.fm_elim.proofs.combination.multipliers.Goals as goal
+
+pub nonzero_div-result : goal.nonzero_div-result
+nonzero_div-result c =
+    let above = c.unsigned_abs-above.ensures.value ∙ ap unsigned_abs (to_z-of_z w128 c.args.upper c.ranges.upper) in
+    let size = size_above_zero c.args.upper (inl c.requires.above) in
+    divisor_above_zero c.unsigned_abs-above.result _ _ (omega (arith, above, size)) c.greatest_common_divisor-divisor.ensures.common
+
+pub nonzero_div-result-2 : goal.nonzero_div-result-2
+nonzero_div-result-2 c =
+    let above = c.unsigned_abs-above.ensures.value ∙ ap unsigned_abs (to_z-of_z w128 c.args.upper c.ranges.upper) in
+    let size = size_above_zero c.args.upper (inl c.requires.above) in
+    divisor_above_zero c.unsigned_abs-above.result _ _ (omega (arith, above, size)) c.greatest_common_divisor-divisor.ensures.common
+
+pub returns : goal.returns
+returns c =
+    let above : c.unsigned_abs-above.result ≡ unsigned_abs c.args.upper = c.unsigned_abs-above.ensures.value ∙ ap unsigned_abs (to_z-of_z w128 c.args.upper c.ranges.upper) in
+    let below : c.unsigned_abs-below.result ≡ unsigned_abs c.args.lower = c.unsigned_abs-below.ensures.value ∙ ap unsigned_abs (to_z-of_z w128 c.args.lower c.ranges.lower) in
+    let g = c.greatest_common_divisor-divisor.result in
+    let size_above : unsigned_abs c.args.upper ≤ 2 ^ 126 = le_from_narrow c.args.upper c.requires.upper_narrow in
+    let size_below : unsigned_abs c.args.lower ≤ 2 ^ 126 = le_from_narrow c.args.lower c.requires.lower_narrow in
+    let fits_below : unsigned_abs c.args.lower / g < 2 ^ 127 = omega (arith, quotient_le (unsigned_abs c.args.lower) g, size_below) in
+    let fits_above : unsigned_abs c.args.upper / g < 2 ^ 127 = omega (arith, quotient_le (unsigned_abs c.args.upper) g, size_above) in (
+      g,
+      subst (λ b. IsGcd (unsigned_abs c.args.upper) b g) below (subst (λ a. IsGcd a c.unsigned_abs-below.result g) above c.greatest_common_divisor-divisor.ensures.common),
+      ap (λ n. to_z w128 (n / g)) below ∙ to_z_pos w128 (unsigned_abs c.args.lower / g) fits_below,
+      ap (λ n. to_z w128 (n / g)) above ∙ to_z_pos w128 (unsigned_abs c.args.upper / g) fits_above,
+    )

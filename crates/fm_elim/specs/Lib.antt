@@ -1,0 +1,6 @@
+pub mod Reduction
+pub mod Pairs
+pub mod Levels
+pub mod Forming
+pub mod Logs
+pub mod Answers

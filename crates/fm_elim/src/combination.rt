@@ -1,0 +1,108 @@
+// The least combination of a pair of rows of opposite sign.
+
+ghost use Rattle.std.specs.Prelude.{◌≡◌, ◌↔◌, ℕ, ◌+◌, ◌*◌, ◌/◌, ◌≤◌, ◌^◌, ℤ, pos, ◌+ℤ◌, ◌*ℤ◌, ◌<ℤ◌, unsigned_abs, nat_le, IsTrue, IfOk, MatchOption, ◌&&◌, if◌then◌else◌, Some, None, length};
+ghost use Rattle.std.specs.Int.{IsGcd};
+ghost use Rattle.std.specs.List.{All};
+ghost use Rattle.farkas_cert.specs.Combination.{is_narrow as narrow};
+ghost use Rattle.fm_elim.specs.Pairs.{combination as combination_of, IsWide, IsNarrow};
+
+use crate::reduction::greatest_common_divisor;
+use farkas_cert::{Coefs, Row};
+use std::alloc::{AllocError, Global};
+
+/// The largest size of a product or a sum, 2 ^ 126.
+const LIMIT: u128 = 1 << 126;
+
+/// Two factors below this size have a product below 2 ^ 126.
+const SMALL: u128 = 1 << 63;
+
+/// Whether the number is at most 2 ^ 126 in size.
+pub fn is_narrow(number: i128) -> bool
+    ensures { result ≡ narrow number }
+{
+    number.unsigned_abs() <= LIMIT
+}
+
+/// Whether these numbers are all at most 2 ^ 126 in size.
+pub fn are_narrow(numbers: &[i128]) -> bool
+    ensures { IsTrue result ↔ All (λ a. IsTrue (narrow a)) numbers.now }
+{
+    numbers.iter().all(|number| is_narrow(*number))
+}
+
+// Whether the product of two sizes is at most 2 ^ 126: with no division where both are small.
+fn has_narrow_product(size: u128, other: u128) -> bool
+    ensures { result ≡ nat_le (size * other) (2 ^ 126) }
+{
+    if size < SMALL && other < SMALL {
+        return true;
+    }
+    size == 0 || other <= LIMIT / size
+}
+
+// The product, if it is at most 2 ^ 126 in size. That is tested before it is made.
+fn narrow_product(a: i128, b: i128) -> Option<i128>
+    ensures { result ≡ (if narrow (a *ℤ b) then Some (a *ℤ b) else None) }
+{
+    if has_narrow_product(a.unsigned_abs(), b.unsigned_abs()) {
+        Some(a * b)
+    } else {
+        None
+    }
+}
+
+// The sum, if it is at most 2 ^ 126 in size.
+fn narrow_sum(a: i128, b: i128) -> Option<i128>
+    ensures { result ≡ (if narrow (a +ℤ b) then Some (a +ℤ b) else None) }
+{
+    a.checked_add(b).filter(|sum| is_narrow(*sum))
+}
+
+// m * a + n * b, if both products and their sum are at most 2 ^ 126 in size.
+fn weighted_sum(m: i128, a: i128, n: i128, b: i128) -> Option<i128>
+    ensures { let p = m *ℤ a in let q = n *ℤ b in result ≡ (if narrow p && narrow q && narrow (p +ℤ q) then Some (p +ℤ q) else None) }
+{
+    narrow_sum(narrow_product(m, a)?, narrow_product(n, b)?)
+}
+
+/// The least multipliers by which a variable with these coefficients, one above 0 and one below, cancels.
+pub fn multipliers(upper: i128, lower: i128) -> (i128, i128)
+    requires above { pos 0 <ℤ upper }
+    requires below { lower <ℤ pos 0 }
+    requires upper_narrow { IsTrue (narrow upper) }
+    requires lower_narrow { IsTrue (narrow lower) }
+    ensures { (g : ℕ) × IsGcd (unsigned_abs upper) (unsigned_abs lower) g × (result.0 ≡ pos (unsigned_abs lower / g)) × (result.1 ≡ pos (unsigned_abs upper / g)) }
+{
+    let above = upper.unsigned_abs();
+    let below = lower.unsigned_abs();
+    let divisor = greatest_common_divisor(above, below);
+    ((below / divisor) as i128, (above / divisor) as i128)
+}
+
+/// m times the first row and n times the other, or None where a product or a sum passes 2 ^ 126 in size.
+/// An error says that memory ran out.
+pub fn combine(
+    alloc: Global,
+    m: i128,
+    upper: &Row,
+    n: i128,
+    lower: &Row,
+) -> Result<Option<Row>, AllocError>
+    requires { length lower.now.coefs ≡ length upper.now.coefs }
+    ensures { let vars = length upper.now.coefs in
+        IfOk result (λ o. MatchOption o (IsWide vars m upper.now n lower.now)
+        (λ row. (row ≡ combination_of m upper.now n lower.now) × IsNarrow vars m upper.now n lower.now)) }
+{
+    let Some(bound) = weighted_sum(m, upper.bound, n, lower.bound) else {
+        return Ok(None);
+    };
+    let others = lower.coefs.as_slice();
+    let mut coefs = Coefs::with_capacity(alloc, others.len())?;
+    for (k, coef) in upper.coefs.as_slice().iter().enumerate() {
+        match weighted_sum(m, *coef, n, others[k]) {
+            Some(sum) => coefs.push(sum)?,
+            None => return Ok(None),
+        }
+    }
+    Ok(Some(Row { coefs, bound }))
+}

@@ -1,0 +1,89 @@
+// Which cells a statement loads.
+
+ghost use Rattle.std.specs.Prelude.{◌≡◌, [], ◌++◌, map, IsTrue, OnOk, true};
+ghost use Rattle.std.specs.List.{list_all};
+ghost use Rattle.nest_tree.specs.LaidOut.{laid_out};
+ghost use Rattle.nest_tree.specs.Straight.{is_scalar};
+ghost use Rattle.nest_tree.specs.View.{expression_of, expressions_from, printed_of, statement_of};
+ghost use Rattle.nest_tree.specs.WellFormed.{is_good_expression, are_good_expressions, is_good_item, is_good_statement};
+ghost use Rattle.nest_model.specs.Meaning.{loads_in, loads_among};
+ghost use Rattle.nest_model.specs.Accesses.{access_cell, item_loads, statement_loads};
+
+use nest_tree::{Expr, Item, Layout, PrintItem};
+use std::alloc::AllocError;
+
+// The cells that an expression loads, in text order, behind those in the list.
+#[cycle(loads)]
+fn push_loads(layout: &Layout, e: &Expr, cells: &mut Vec<u32>) -> Result<(), AllocError>
+    requires scalars { IsTrue (list_all is_scalar (laid_out layout.now).variables) }
+    requires good { IsTrue (is_good_expression (laid_out layout.now) [] (expression_of e.now)) }
+    ensures { OnOk result (cells.new.items ≡ cells.old.items ++ map (access_cell (laid_out layout.now) []) (loads_in (expression_of e.now))) }
+{
+    match e {
+        Expr::Number(_) | Expr::LoopValue(_) | Expr::Param(_) => Ok(()),
+        Expr::Load(access) => Ok(cells.push(layout.cell_of(access.variable))?),
+        Expr::Neg(a) | Expr::Div(a, _) => push_loads(layout, a, cells),
+        Expr::Add(a, b) | Expr::Sub(a, b) | Expr::Mul(a, b) => {
+            push_loads(layout, a, cells)?;
+            push_loads(layout, b, cells)
+        }
+        Expr::Min(arguments) => push_all_loads(layout, arguments, cells),
+        Expr::Max(arguments) => push_all_loads(layout, arguments, cells),
+    }
+}
+
+// The cells that arguments load.
+#[cycle(loads)]
+fn push_all_loads(
+    layout: &Layout,
+    arguments: &[Expr],
+    cells: &mut Vec<u32>,
+) -> Result<(), AllocError>
+    requires scalars { IsTrue (list_all is_scalar (laid_out layout.now).variables) }
+    requires good { IsTrue (are_good_expressions (laid_out layout.now) [] (expressions_from arguments.now)) }
+    ensures { OnOk result (cells.new.items ≡ cells.old.items ++ map (access_cell (laid_out layout.now) []) (loads_among (expressions_from arguments.now))) }
+{
+    for argument in arguments {
+        push_loads(layout, argument, cells)?;
+    }
+    Ok(())
+}
+
+// The cells that an item of a PRINT loads.
+fn push_item_loads(
+    layout: &Layout,
+    item: &PrintItem,
+    cells: &mut Vec<u32>,
+) -> Result<(), AllocError>
+    requires scalars { IsTrue (list_all is_scalar (laid_out layout.now).variables) }
+    requires good { IsTrue (is_good_item (laid_out layout.now) [] (printed_of item.now)) }
+    ensures { OnOk result (cells.new.items ≡ cells.old.items ++ item_loads (laid_out layout.now) [] (printed_of item.now)) }
+{
+    match item {
+        PrintItem::Value(e) => push_loads(layout, e, cells),
+        PrintItem::Text(_) => Ok(()),
+        PrintItem::Whole(_) => unreachable!(),
+    }
+}
+
+/// The cells that a statement loads, in text order, behind those in the list.
+pub(crate) fn push_statement_loads(
+    layout: &Layout,
+    item: &Item,
+    cells: &mut Vec<u32>,
+) -> Result<(), AllocError>
+    requires scalars { IsTrue (list_all is_scalar (laid_out layout.now).variables) }
+    requires good { IsTrue (is_good_statement (laid_out layout.now) [] 1 (statement_of item.now)) }
+    ensures { OnOk result (cells.new.items ≡ cells.old.items ++ statement_loads (laid_out layout.now) [] (statement_of item.now)) }
+{
+    match item {
+        Item::Assign(_, e, _) => push_loads(layout, e, cells),
+        Item::Print(items, _) => {
+            for item in items {
+                push_item_loads(layout, item, cells)?;
+            }
+            Ok(())
+        }
+        Item::Loop(_) | Item::Continue(_) => Ok(()),
+    }
+}

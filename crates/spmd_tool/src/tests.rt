@@ -1,0 +1,154 @@
+// The tool over the memory forms.
+
+ghost use Rattle.std.specs.Prelude.{◌<◌};
+
+use crate::status::Status;
+use crate::tool::tool;
+use f77_reader::read_straight;
+use spmd_core::{Machine, StepAnswer, all_barriers};
+use spmd_ports::{MemSink, MemSource};
+use std::alloc::Global;
+use std::test::Fail;
+
+const FIRST: &[u8] =
+    b"      PROGRAM ONE\n      K = 20\n      K = K*2 + 2\n      PRINT *, 'K', K\n      END\n";
+
+const FIRST_RUN: &[u8] =
+    b"SPMD PLAN 1\nWORKERS 2\nLOOPS 0\nPHASES 3\n1 BARRIER AT 0 CYCLIC\n2 BARRIER AT 0 CYCLIC\n3 BARRIER AT 0 CYCLIC\nCERTIFICATES 0\nEND PLAN\n K 42\n";
+
+const WORDS: [&str; 7] = ["run", "--workers", "2", "--plan", "barrier", "--by", "core"];
+
+// What a run with the usual words writes, and its status.
+fn run_of(
+    alloc: Global,
+    bytes: &[u8],
+    pieces: (usize, usize),
+    failing: (&[u64], &[u64]),
+) -> Result<(Status, MemSink), Fail>
+    requires source { 0 < pieces.0 }
+    requires sink { 0 < pieces.1 }
+{
+    let mut source = MemSource::new(alloc, bytes, pieces.0, failing.0)?;
+    let mut sink = MemSink::new(alloc, 1000, pieces.1, failing.1)?;
+    let status = tool(alloc, &WORDS, &mut source, &mut sink);
+    Ok((status, sink))
+}
+
+#[test]
+fn runs_the_first_program(rt: HostRuntime) -> Result<(), Fail> {
+    for pieces in [(1000, 1000), (1, 1), (7, 3)] {
+        prove!(pieces.0 > 0 && pieces.1 > 0);
+        let (status, sink) = run_of(rt.alloc(), FIRST, pieces, (&[], &[]))?;
+        assert_eq!(rt; status, Status::Done);
+        assert_eq!(rt; sink.written(), FIRST_RUN);
+    }
+    Ok(())
+}
+
+#[test]
+fn processor_1_waits_for_the_first_statement(rt: HostRuntime) -> Result<(), Fail> {
+    let Ok(program) = read_straight(rt.alloc(), FIRST) else {
+        return Err(Fail::from("refused"));
+    };
+    let plan = all_barriers(rt.alloc(), &program, 2)?;
+    let Ok(mut machine) = Machine::new(rt.alloc(), &program, &plan) else {
+        return Err(Fail::from("no memory"));
+    };
+    assert_eq!(rt; machine.step(1), StepAnswer::Stepped);
+    assert_eq!(rt; machine.step(1), StepAnswer::Stepped);
+    assert_eq!(rt; machine.step(1), StepAnswer::Stepped);
+    let blocked = StepAnswer::Blocked {
+        on: 0,
+        wanted: 1,
+        seen: 0,
+    };
+    assert_eq!(rt; machine.step(1), blocked);
+    machine.round_robin();
+    assert_eq!(rt; machine.step(0), StepAnswer::Ended);
+    assert_eq!(rt; machine.step(1), StepAnswer::Ended);
+    assert_eq!(rt; machine.memory(), [42].as_slice());
+    assert_eq!(rt; machine.output().as_slice(), b" K 42\n".as_slice());
+    Ok(())
+}
+
+#[test]
+fn a_failed_read_writes_nothing(rt: HostRuntime) -> Result<(), Fail> {
+    let (status, sink) = run_of(rt.alloc(), FIRST, (20, 1000), (&[2], &[]))?;
+    assert_eq!(rt; status, Status::ReadFault);
+    assert!(rt; sink.written().is_empty());
+    Ok(())
+}
+
+#[test]
+fn a_failed_write_leaves_a_front(rt: HostRuntime) -> Result<(), Fail> {
+    let (status, sink) = run_of(rt.alloc(), FIRST, (1000, 5), (&[], &[2]))?;
+    assert_eq!(rt; status, Status::WriteFault);
+    assert_eq!(rt; sink.written(), b"SPMD ".as_slice());
+    Ok(())
+}
+
+#[test]
+fn refuses_a_line(rt: HostRuntime) -> Result<(), Fail> {
+    let source = b"      K = 1\n      K = K/2\n      END\n";
+    let (status, sink) = run_of(rt.alloc(), source, (1000, 1000), (&[], &[]))?;
+    assert_eq!(rt; status, Status::SourceRefused);
+    assert_eq!(rt; sink.written(), b"REFUSED F2 LINE 2\n".as_slice());
+    Ok(())
+}
+
+#[test]
+fn refuses_a_source_that_is_too_long(rt: HostRuntime) -> Result<(), Fail> {
+    for (length, status) in [
+        (4_194_304, Status::SourceRefused),
+        (4_194_305, Status::TooLong),
+    ] {
+        let long = vec![in rt.alloc(); b' '; length]?;
+        let (ended, sink) = run_of(rt.alloc(), &long, (100_000, 1000), (&[], &[]))?;
+        assert_eq!(rt; ended, status);
+        let line = sink.written() == b"TOO LONG\n".as_slice();
+        assert_eq!(rt; line, status == Status::TooLong);
+    }
+    Ok(())
+}
+
+// The status with the workers and the words at these two places turned round.
+fn status_with(alloc: Global, workers: &str, turned: (usize, usize)) -> Result<Status, Fail>
+    requires first { turned.0 < 7 }
+    requires second { turned.1 < 7 }
+{
+    let mut words = WORDS;
+    words[2] = workers;
+    words.swap(turned.0, turned.1);
+    let mut source = MemSource::new(alloc, FIRST, 1000, &[])?;
+    let mut sink = MemSink::new(alloc, 1000, 1000, &[])?;
+    Ok(tool(alloc, &words, &mut source, &mut sink))
+}
+
+#[test]
+fn takes_1_to_64_workers(rt: HostRuntime) -> Result<(), Fail> {
+    for workers in ["1", "9", "10", "63", "64"] {
+        let status = status_with(rt.alloc(), workers, (0, 0))?;
+        assert_eq!(rt; status, Status::Done, "{workers}");
+    }
+    for workers in ["", "0", "02", "65", "100", "+1", "-1", "1 ", "a"] {
+        let status = status_with(rt.alloc(), workers, (0, 0))?;
+        assert_eq!(rt; status, Status::BadWords, "{workers}");
+    }
+    Ok(())
+}
+
+#[test]
+fn takes_words_in_their_order_alone(rt: HostRuntime) -> Result<(), Fail> {
+    for second in 1..7usize {
+        for first in 0..second {
+            let status = status_with(rt.alloc(), "2", (first, second))?;
+            assert_eq!(rt; status, Status::BadWords, "{first} {second}");
+        }
+    }
+    let mut source = MemSource::new(rt.alloc(), FIRST, 1000, &[])?;
+    let mut sink = MemSink::new(rt.alloc(), 1000, 1000, &[])?;
+    let status = tool(rt.alloc(), &["run"], &mut source, &mut sink);
+    assert_eq!(rt; status, Status::BadWords);
+    assert_eq!(rt; sink.written(), b"WORDS 0\n".as_slice());
+    Ok(())
+}
