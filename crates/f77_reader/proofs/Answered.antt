@@ -1,5 +1,5 @@
 -- What an answer of the reader says of the bytes.
-use Rattle.std.proofs.Common.{◌≡◌, ◌≢◌, ℕ, zero, suc, ◌+◌, ◌-◌, ◌<◌, ◌≤◌, Bool, true, false, List, [], ◌∷◌, ◌++◌, length, take, Option, Some, None, Result, Ok, Err, refl, sym, ap, subst, ◌∙◌, arith, ◌⊎◌, inl, inr, IfOk}
+use Rattle.std.proofs.Common.{◌≡◌, ℕ, zero, suc, ◌+◌, ◌<◌, ◌≤◌, List, [], ◌∷◌, take, Result, Ok, Err, refl, sym, ap, subst, ◌∙◌, arith, ◌⊎◌, inl, inr, IfOk}
 use Rattle.nest_tree.specs.Tree.{Statement, Tree}
 use Rattle.nest_tree.specs.View.{tree_of}
 use Rattle.nest_tree.specs.declared.tree.Program.{Program}
@@ -8,11 +8,11 @@ use Rattle.f77_reader.specs.declared.fault.Refusal.TheVariants.{NotInProfile, No
 use Rattle.f77_reader.specs.Lines.{lines_of}
 use Rattle.f77_reader.specs.Written.{Written}
 use Rattle.f77_reader.specs.Meaning.{program_of}
-use Rattle.f77_reader.specs.Straight.{AllSay, IsOrdered, IsStraight, Reads, Begins, FirstFault}
+use Rattle.f77_reader.specs.Straight.{AllSay, IsStraight, Reads, Begins, FirstFault}
 use Rattle.f77_reader.specs.Reading.{Names, Found, lines_at}
 use Rattle.f77_reader.specs.Saying.{tree_from, found_tree, Answers, IsReadAs, IsRefusedAt}
 use Rattle.f77_reader.proofs.Sourced.{straight-read, straight-found}
-use Rattle.f77_reader.proofs.Refused.{joined_lines, joined_lines-of, Completed, completed-first, Whole, whole-first, refused-alike}
+use Rattle.f77_reader.proofs.Refused.{joined_lines, joined_lines-of, completed-first, whole-first, refused-alike}
 
 -- what reading finds in the bytes
 abbrev pub found_in : List ℕ → Found
@@ -76,8 +76,10 @@ fewer (suc a) (suc b) (x ∷ xs) (y ∷ ys) le h = join (head_is x y (take b xs)
   where
     head_is : (a b : List ℕ) (x y : List (List ℕ)) → (a ∷ x) ≡ (b ∷ y) → a ≡ b
     head_is a b x y h = cc
+
     tail_is : (a b : List ℕ) (x y : List (List ℕ)) → (a ∷ x) ≡ (b ∷ y) → x ≡ y
     tail_is a b x y h = cc
+
     join : x ≡ y → take a xs ≡ take a ys → (x ∷ take a xs) ≡ (y ∷ take a ys)
     join p q = cc
 

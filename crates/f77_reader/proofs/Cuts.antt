@@ -1,5 +1,5 @@
 -- Pieces between separators.
-use Rattle.std.proofs.Common.{◌≡◌, ℕ, Bool, true, false, cond, List, [], ◌∷◌, ◌++◌, refl, sym, ap, ◌∙◌}
+use Rattle.std.proofs.Common.{◌≡◌, ℕ, Bool, true, false, List, [], ◌∷◌, refl, ap}
 use Rattle.f77_reader.specs.Lines.{quoted_after}
 use Rattle.f77_reader.specs.Reading.{splits, before, behind, pieces, Pieces, rest_pieces}
 

@@ -1,22 +1,22 @@
 -- The program of a source is well formed and a straight line.
-use Rattle.std.proofs.Common.{◌≡◌, ℕ, zero, suc, ◌+◌, ◌-◌, ◌<◌, ◌≤◌, Bool, true, false, ◌&&◌, ◌||◌, ◌==◌, nat_lt, leb, cond, List, [], ◌∷◌, ◌++◌, length, map, Result, Ok, Err, refl, sym, ap, subst, ◌∙◌, arith, IfOk}
-use Rattle.std.specs.List.{list_all, list_any}
+use Rattle.std.proofs.Common.{◌≡◌, ℕ, zero, suc, ◌+◌, ◌-◌, ◌<◌, Bool, true, false, ◌&&◌, ◌||◌, ◌==◌, nat_lt, leb, cond, List, [], ◌∷◌, ◌++◌, length, map, Result, Ok, Err, refl, sym, ap, ◌∙◌, arith, IfOk}
+use Rattle.std.specs.List.{list_all}
 use Rattle.std.specs.Str.{bytes_eq}
 use Rattle.std.proofs.lemmas.Bool.{and_from, and_parts, lt-ltb, le-leb}
 use Rattle.std.proofs.lemmas.List.{length-map}
 use Rattle.std.proofs.lemmas.Slice.Eq.{bytes_eq-Decides}
 use Rattle.nest_tree.specs.Layout.{bounds_at}
 use Rattle.nest_tree.specs.Straight.{is_scalar, are_works, is_straight}
-use Rattle.nest_tree.specs.Tree.{Expression, add, sub, mul, neg, Statements, Declaration, Tree}
+use Rattle.nest_tree.specs.Tree.{Expression, mul, Statements, Tree}
 use Rattle.nest_tree.specs.View.{tree_of}
 use Rattle.nest_tree.specs.declared.tree.Program.{Program}
 use Rattle.f77_reader.specs.declared.fault.Refusal.{Refusal}
 use Rattle.nest_tree.specs.WellFormed.{is_number_of, is_good_access, is_good_expression, is_good_item, are_good_statements, is_good_declaration, statement_count, is_well_formed}
 use Rattle.f77_reader.specs.Written.{Factor, named, digits, Term, Sign, plus, minus, Signed, Sum, unsigned, signed, Item, sum, constant, Written, heading, assignment, printing, ending}
-use Rattle.f77_reader.specs.Meaning.{names_in_factor, names_in_factors, names_in_term, names_in_signed, names_in_sum, names_in_items, names_in_line, names_in, number_of, is_known, with_name, with_names, scalar, factor_tree, product_tree, term_tree, joined, lead, total_tree, sum_tree, item_tree, statements_tree, scalar_named, program_of}
+use Rattle.f77_reader.specs.Meaning.{names_in_factor, names_in_factors, names_in_term, names_in_signed, names_in_sum, names_in_items, names_in, number_of, is_known, with_name, with_names, scalar, factor_tree, product_tree, term_tree, joined, lead, total_tree, sum_tree, item_tree, statements_tree, scalar_named, program_of}
 use Rattle.f77_reader.specs.Straight.{EndsOnce, IsOrdered, IsStraight, Reads}
 use Rattle.f77_reader.specs.Reading.{Names}
-use Rattle.f77_reader.proofs.Later.{IsLater, later-names}
+use Rattle.f77_reader.proofs.Later.{later-names}
 use Rattle.f77_reader.proofs.Numbered.{known-number, number_of-positive}
 
 -- ---- known names

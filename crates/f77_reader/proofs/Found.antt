@@ -1,15 +1,15 @@
 -- What is read is written so: expressions.
-use Rattle.std.proofs.Common.{◌≡◌, ◌≢◌, ℕ, suc, ◌+◌, ◌-◌, ◌*◌, ◌<◌, ◌≤◌, ℤ, Bool, true, false, not, ◌&&◌, ◌||◌, eqb, leb, ltb, cond, pos, List, [], ◌∷◌, ◌++◌, length, map, Option, Some, None, refl, sym, ap, subst, ◌∙◌, append_assoc, arith}
-use Rattle.std.specs.List.{list_any, list_all}
+use Rattle.std.proofs.Common.{◌≡◌, ℕ, ◌+◌, ◌-◌, ◌*◌, ◌≤◌, ℤ, Bool, true, false, ◌&&◌, ◌||◌, eqb, leb, cond, List, [], ◌∷◌, ◌++◌, Option, Some, None, refl, sym, ap, subst, ◌∙◌, arith}
+use Rattle.std.specs.List.{list_all}
 use Rattle.std.proofs.lemmas.Bool.{and_from, and_parts, leb-true, le-leb, eqb-true}
 use Rattle.std.proofs.lemmas.Bool.Decides.{nat_tests}
 use Rattle.nest_tree.specs.Tree as tree
 use Rattle.nest_tree.specs.Tree.{Expression}
-use Rattle.f77_reader.specs.Characters.{is_digit, is_variable_name, is_number, decimal_from, decimal}
+use Rattle.f77_reader.specs.Characters.{is_digit, is_variable_name, decimal_from, decimal}
 use Rattle.f77_reader.specs.Lines.{quoted_after}
 use Rattle.f77_reader.specs.Written.{Factor, named, digits, Term, Sign, plus, minus, Signed, Sum, unsigned, signed, factor_text, factors_text, term_text, sign_code, signed_text, sum_text, is_factor, is_term, is_signed, is_sum}
 use Rattle.f77_reader.specs.Meaning.{with_name, scalar}
-use Rattle.f77_reader.specs.Reading.{◌>>=◌, Names, splits, before, behind, pieces, Pieces, rest_pieces, star, signs, number_from, factor_at, product_at, term_at, joined_by, total_at, led_by, terms_at, sum_at}
+use Rattle.f77_reader.specs.Reading.{◌>>=◌, Names, splits, before, behind, pieces, rest_pieces, star, signs, number_from, factor_at, product_at, term_at, joined_by, total_at, led_by, terms_at, sum_at}
 use Rattle.f77_reader.proofs.Joined.{is_separator, begins_apart}
 
 -- ---- steps that gave something
@@ -234,6 +234,7 @@ sum-found known (c ∷ cs) r e = by_plus (eqb c 43) refl
     by_minus false h k =
         let t = terms-found known false (c ∷ cs) r (sym (ap (λ b. cond b (terms_at known true cs) (terms_at known false (c ∷ cs))) h) ∙ k) in
         record { sum = unsigned t.first t.others; good = and_from (is_term t.first) (list_all is_signed t.others) t.first_good t.others_good; spelled = t.spelled }
+
     by_plus : (b : Bool) → eqb c 43 ≡ b → IsSumText (c ∷ cs)
     by_plus true h =
         let t = terms-found known false cs r (sym (ap (λ b. cond b (terms_at known false cs) (cond (eqb c 45) (terms_at known true cs) (terms_at known false (c ∷ cs)))) h) ∙ e) in

@@ -1,9 +1,9 @@
 -- Texts that are joined by separators are cut there again.
-use Rattle.std.proofs.Common.{◌≡◌, ◌≢◌, ℕ, suc, ◌+◌, ◌-◌, ◌<◌, ◌≤◌, Bool, true, false, not, ◌&&◌, ◌||◌, eqb, leb, cond, List, [], ◌∷◌, ◌++◌, length, refl, sym, ap, ◌∙◌, arith}
+use Rattle.std.proofs.Common.{◌≡◌, ◌≢◌, ℕ, ◌≤◌, Bool, true, false, not, ◌&&◌, ◌||◌, eqb, leb, cond, List, [], ◌∷◌, ◌++◌, length, refl, sym, ap, ◌∙◌, arith}
 use Rattle.std.specs.List.{list_any, list_all}
 use Rattle.std.proofs.lemmas.Bool.{and_from, and_parts}
 use Rattle.std.proofs.lemmas.Bool.Decides.{nat_tests}
-use Rattle.f77_reader.specs.Characters.{is_digit, is_capital, is_capital_or_digit, is_integer_letter, is_name_with, is_variable_name, is_number, decimal}
+use Rattle.f77_reader.specs.Characters.{is_digit, is_capital, is_capital_or_digit, is_integer_letter, is_variable_name, is_number, decimal}
 use Rattle.f77_reader.specs.Lines.{quoted_after}
 use Rattle.f77_reader.specs.Written.{Factor, named, digits, factor_text, is_factor}
 use Rattle.f77_reader.specs.Reading.{splits, before, behind, star, signs, comma, equals}

@@ -1,11 +1,10 @@
 -- Names that are known stay known, under their numbers.
-use Rattle.std.proofs.Common.{◌≡◌, ℕ, suc, ◌+◌, ◌≤◌, Bool, true, false, ◌||◌, cond, List, [], ◌∷◌, ◌++◌, length, refl, sym, ap, ◌∙◌, append_assoc, arith}
+use Rattle.std.proofs.Common.{◌≡◌, ℕ, suc, Bool, true, false, ◌||◌, cond, List, [], ◌∷◌, ◌++◌, refl, sym, ap, ◌∙◌, append_assoc}
 use Rattle.std.proofs.lemmas.List.{append-nil}
 use Rattle.std.proofs.lemmas.Slice.Eq.{bytes_eq-Decides}
 use Rattle.std.specs.Str.{bytes_eq}
 use Rattle.f77_reader.specs.Meaning.{number_of, is_known, with_name, with_names}
 use Rattle.f77_reader.specs.Reading.{Names}
-use Rattle.f77_reader.proofs.Numbered.{unknown-number}
 
 -- the names, and perhaps more behind them
 pub record IsLater (known later : Names) : Type 0 where

@@ -1,24 +1,20 @@
 -- What is written is read as its tree: items, statements and lines.
-use Rattle.std.proofs.Common.{◌≡◌, ◌≢◌, ℕ, suc, zero, ◌+◌, ◌-◌, ◌*◌, ◌<◌, ◌≤◌, Bool, true, false, not, ◌&&◌, ◌||◌, eqb, leb, ltb, cond, pos, List, [], ◌∷◌, ◌++◌, length, take, drop, map, Option, Some, None, Result, Ok, Err, refl, sym, ap, subst, ◌∙◌, append_assoc, arith}
-use Rattle.std.specs.Prelude.{codes}
-use Rattle.std.specs.List.{list_any, list_all}
-use Rattle.std.specs.Str.{bytes_eq}
-use Rattle.std.proofs.lemmas.Bool.{and_from, and_parts, leb-true, le-leb, lt-ltb, ltb-true}
+use Rattle.std.proofs.Common.{◌≡◌, ℕ, ◌-◌, ◌<◌, Bool, true, false, ◌&&◌, eqb, leb, ltb, cond, List, [], ◌∷◌, ◌++◌, length, take, drop, map, Option, Some, None, refl, sym, ap, subst, ◌∙◌, append_assoc, arith}
+use Rattle.std.specs.List.{list_all}
+use Rattle.std.proofs.lemmas.Bool.{and_parts, lt-ltb, ltb-true}
 use Rattle.std.proofs.lemmas.Bool.Decides.{nat_tests}
 use Rattle.std.proofs.lemmas.List.{append-nil, length-append, take_at, drop_at}
-use Rattle.std.proofs.lemmas.Slice.Eq.{bytes_eq-Decides}
 use Rattle.nest_tree.specs.Tree as tree
 use Rattle.nest_tree.specs.Tree.{Expression, Printed, Statement, Statements, done, next}
-use Rattle.f77_reader.specs.Characters.{is_capital_or_digit, is_integer_letter, is_variable_name, is_name}
-use Rattle.f77_reader.specs.Lines.{quoted_after, text_of, line_with, margin, is_body, lines_of}
+use Rattle.f77_reader.specs.Characters.{is_capital_or_digit, is_integer_letter, is_variable_name}
+use Rattle.f77_reader.specs.Lines.{text_of, line_with, is_body}
 use Rattle.f77_reader.specs.Written.{Sum, sum_text, is_sum, Item, sum, constant, doubled, item_text, items_text, is_item, Written, heading, assignment, printing, ending, written_text, is_written}
-use Rattle.f77_reader.specs.Meaning.{names_in_sum, names_in_items, names_in_line, names_in, number_of, with_name, with_names, scalar, sum_tree, item_tree, statements_tree, scalar_named, program_of}
-use Rattle.f77_reader.specs.Straight.{Says, AllSay, EndsOnce, IsOrdered, IsStraight}
-use Rattle.f77_reader.specs.Reading.{◌>>=◌, Names, before, behind, rest_pieces, comma, equals, sum_at, characters_at, item_at, items_at, Said, headed, stated, ended, printing_at, assignment_at, heading_at, print_word, program_word, end_word, begins_with, said_at, columns_at, body_at, text_at, line_at, Turn, turned, turn_at, Found, followed, lines_at}
-use Rattle.f77_reader.specs.Saying.{in_order}
+use Rattle.f77_reader.specs.Meaning.{names_in_sum, names_in_items, names_in_line, number_of, with_name, with_names, scalar, sum_tree, item_tree}
+use Rattle.f77_reader.specs.Straight.{Says}
+use Rattle.f77_reader.specs.Reading.{◌>>=◌, Names, before, behind, rest_pieces, comma, equals, sum_at, characters_at, item_at, items_at, Said, headed, stated, ended, printing_at, assignment_at, heading_at, said_at, columns_at, body_at, text_at, line_at}
 use Rattle.f77_reader.proofs.Cuts.{rest_pieces-step}
-use Rattle.f77_reader.proofs.Joined.{passes, passes-append, begins_apart, before-joined, behind-joined, AreSymbols, equals_symbols, IsWord, name_word, word-passes}
-use Rattle.f77_reader.proofs.Later.{IsLater, later-self, later-name, later-names, later-then, later-first, later-second, number-stays, with_names-append}
+use Rattle.f77_reader.proofs.Joined.{passes, begins_apart, before-joined, behind-joined, equals_symbols, name_word, word-passes}
+use Rattle.f77_reader.proofs.Later.{IsLater, later-names, later-then, later-first, later-second, number-stays, with_names-append}
 use Rattle.f77_reader.proofs.Spelled.{sum-read, sum-passes, sum-begins}
 
 -- ---- character constants

@@ -1,12 +1,10 @@
 -- Names and their numbers.
-use Rattle.std.proofs.Common.{◌≡◌, ◌≢◌, ℕ, suc, ◌+◌, ◌<◌, ◌≤◌, Bool, true, false, ◌||◌, not, eqb, cond, List, [], ◌∷◌, ◌++◌, length, map, refl, sym, ap, ◌∙◌, arith}
+use Rattle.std.proofs.Common.{◌≡◌, ◌≢◌, ℕ, ◌+◌, ◌≤◌, Bool, true, false, ◌||◌, List, [], ◌∷◌, ◌++◌, length, refl, sym, ap, ◌∙◌, arith}
 use Rattle.std.proofs.lemmas.List.{map_push, length-map}
-use Rattle.std.specs.List.{list_any}
 use Rattle.std.specs.Str.{bytes_eq}
 use Rattle.nest_tree.specs.declared.tree.Variable.{Variable}
-use Rattle.nest_tree.specs.View.{declaration_of}
-use Rattle.f77_reader.specs.Meaning.{number_of, is_known, with_name, scalar_named}
-use Rattle.f77_reader.specs.Variables.{names_of, AreScalars}
+use Rattle.f77_reader.specs.Meaning.{number_of, is_known, with_name}
+use Rattle.f77_reader.specs.Variables.{names_of}
 
 -- a known name has a number of those that are there
 pub known-number : (known : List (List ℕ)) (name : List ℕ) → is_known known name ≡ true → number_of known name ≤ length known

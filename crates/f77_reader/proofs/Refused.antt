@@ -1,17 +1,16 @@
 -- Which line is refused.
-use Rattle.std.proofs.Common.{◌≡◌, ◌≢◌, ℕ, zero, suc, ◌+◌, ◌-◌, ◌<◌, ◌≤◌, Bool, true, false, not, ◌&&◌, eqb, leb, cond, List, [], ◌∷◌, ◌++◌, length, take, Option, Some, None, Result, Ok, Err, refl, sym, ap, subst, ◌∙◌, append_assoc, arith, ◌⊎◌, inl, inr}
+use Rattle.std.proofs.Common.{◌≡◌, ℕ, zero, suc, ◌+◌, ◌≤◌, true, false, ◌&&◌, eqb, leb, cond, List, [], ◌∷◌, ◌++◌, length, take, Option, Some, None, Ok, Err, refl, sym, ap, subst, ◌∙◌, append_assoc, arith}
 use Rattle.std.specs.List.{list_all}
-use Rattle.std.proofs.lemmas.Bool.{and_parts, leb-true}
+use Rattle.std.proofs.lemmas.Bool.{and_parts}
 use Rattle.std.proofs.lemmas.Bool.Decides.{nat_tests}
-use Rattle.nest_tree.specs.Tree.{Statement, Tree}
+use Rattle.nest_tree.specs.Tree.{Statement}
 use Rattle.f77_reader.specs.Characters.{is_printable}
-use Rattle.f77_reader.specs.Lines.{with_byte, lines_of, margin, line_with, is_body, text_of}
+use Rattle.f77_reader.specs.Lines.{with_byte, lines_of, margin, line_with}
 use Rattle.f77_reader.specs.Written.{Written, heading, assignment, printing, ending}
-use Rattle.f77_reader.specs.Meaning.{program_of}
-use Rattle.f77_reader.specs.Straight.{Says, AllSay, EndsOnce, IsOrdered, IsStraight, Reads, Begins, FirstFault}
+use Rattle.f77_reader.specs.Straight.{Says, AllSay, EndsOnce, IsOrdered}
 use Rattle.f77_reader.specs.Reading.{Names, Turn, turn_at, Found, followed, lines_at}
-use Rattle.f77_reader.proofs.Sourced.{lines-turn, straight-read}
-use Rattle.f77_reader.proofs.Told.{Told, TurnOf, TurnTold, turn-found}
+use Rattle.f77_reader.proofs.Sourced.{lines-turn}
+use Rattle.f77_reader.proofs.Told.{TurnOf, turn-found}
 
 -- ---- lines put together
 
@@ -109,19 +108,23 @@ completed number known front (line ∷ lines) m low le e = by_turn (turn_at numb
   where
     go : Names → List Statement → Found
     go names statements = lines_at (suc number) names statements lines
+
     by_place : (w : Written) → Says line w → (k : Names) (f : List Statement) → TurnOf number w false → go k f ≡ Err m → ((k : Names) (f : List Statement) → suc number ≤ 400 → go k f ≡ Err m → Completed (suc number) m lines EndsOnce) → Completed number m (line ∷ lines) EndsOnce
     by_place (heading name) say k f place r on = absurd (omega (arith, place.0))
     by_place (assignment name x) say k f place r on = with_line number m line lines (assignment name x) EndsOnce say (λ ws h. h) (on k f place.0 r)
     by_place (printing items) say k f place r on = with_line number m line lines (printing items) EndsOnce say (λ ws h. h) (on k f place.0 r)
     by_place ending say k f place r on = absurd cc
+
     by_last : (w : Written) → Says line w → TurnOf number w true → Completed number (suc number) (line ∷ lines) EndsOnce
     by_last (heading name) say place = absurd (cc (place.1))
     by_last (assignment name x) say place = absurd (cc (place.1))
     by_last (printing items) say place = absurd (cc (place.1))
     by_last ending say place = at_end number line lines ending EndsOnce le say tt
+
     more : (rest : List (List ℕ)) (k : Names) (f : List Statement) → (h : Names → List Statement → Found) → followed number rest (Some (true, k, f)) h ≡ Err m → refused_at (suc number) ≡ refused_at m
     more [] k f h r = absurd cc
     more (l ∷ rest) k f h r = r
+
     by_turn : (t : Option Turn) → turn_at number known front line ≡ t → ((k : Names) (f : List Statement) → suc number ≤ 400 → go k f ≡ Err m → Completed (suc number) m lines EndsOnce) → Completed number m (line ∷ lines) EndsOnce
     by_turn None h on = subst (λ k. Completed number k (line ∷ lines) EndsOnce) (err_is number m (sym (lines-turn number known front line lines None h) ∙ e)) (at_once number (line ∷ lines) EndsOnce le tt)
     by_turn (Some (false, k, f)) h on =
@@ -140,19 +143,23 @@ completed-first (line ∷ lines) m e = by_turn (turn_at 1 [] [] line) refl
   where
     go : Names → List Statement → Found
     go names statements = lines_at 2 names statements lines
+
     by_place : (w : Written) → Says line w → (k : Names) (f : List Statement) → TurnOf 1 w false → go k f ≡ Err m → Completed 1 m (line ∷ lines) IsOrdered
     by_place (heading name) say k f place r = with_line 1 m line lines (heading name) IsOrdered say (λ ws h. h) (completed 2 k f lines m (omega arith) (omega arith) r)
     by_place (assignment name x) say k f place r = with_line 1 m line lines (assignment name x) IsOrdered say (λ ws h. h) (completed 2 k f lines m (omega arith) (omega arith) r)
     by_place (printing items) say k f place r = with_line 1 m line lines (printing items) IsOrdered say (λ ws h. h) (completed 2 k f lines m (omega arith) (omega arith) r)
     by_place ending say k f place r = absurd cc
+
     by_last : (w : Written) → Says line w → TurnOf 1 w true → Completed 1 2 (line ∷ lines) IsOrdered
     by_last (heading name) say place = absurd (cc (place.1))
     by_last (assignment name x) say place = absurd (cc (place.1))
     by_last (printing items) say place = absurd (cc (place.1))
     by_last ending say place = at_end 1 line lines ending IsOrdered (omega arith) say tt
+
     more : (rest : List (List ℕ)) (k : Names) (f : List Statement) → (h : Names → List Statement → Found) → followed 1 rest (Some (true, k, f)) h ≡ Err m → refused_at 2 ≡ refused_at m
     more [] k f h r = absurd cc
     more (l ∷ rest) k f h r = r
+
     by_turn : (t : Option Turn) → turn_at 1 [] [] line ≡ t → Completed 1 m (line ∷ lines) IsOrdered
     by_turn None h = subst (λ k. Completed 1 k (line ∷ lines) IsOrdered) (err_is 1 m (sym (lines-turn 1 [] [] line lines None h) ∙ e)) (at_once 1 (line ∷ lines) IsOrdered (omega arith) tt)
     by_turn (Some (false, k, f)) h =
@@ -182,17 +189,20 @@ whole number known front (line ∷ lines) r low le e = by_turn (turn_at number k
   where
     go : Names → List Statement → Found
     go names statements = lines_at (suc number) names statements lines
+
     by_place : (w : Written) → Says line w → (k : Names) (f : List Statement) → TurnOf number w false → go k f ≡ Ok r → ((k : Names) (f : List Statement) → suc number ≤ 400 → go k f ≡ Ok r → Whole (suc number) lines EndsOnce) → Whole number (line ∷ lines) EndsOnce
     by_place (heading name) say k f place h on = absurd (omega (arith, place.0))
     by_place (assignment name x) say k f place h on = whole_with number line lines (assignment name x) EndsOnce say (λ ws q. q) (on k f place.0 h)
     by_place (printing items) say k f place h on = whole_with number line lines (printing items) EndsOnce say (λ ws q. q) (on k f place.0 h)
     by_place ending say k f place h on = absurd cc
+
     last : (rest : List (List ℕ)) (w : Written) → Says line w → TurnOf number w true → (k : Names) (f : List Statement) → (g : Names → List Statement → Found) → followed number rest (Some (true, k, f)) g ≡ Ok r → Whole number (line ∷ rest) EndsOnce
     last (l ∷ rest) w say place k f g h = absurd cc
     last [] (heading name) say place k f g h = absurd (cc (place.1))
     last [] (assignment name x) say place k f g h = absurd (cc (place.1))
     last [] (printing items) say place k f g h = absurd (cc (place.1))
     last [] ending say place k f g h = record { ws = ending ∷ []; say = (say, tt); order = tt; few = omega arith }
+
     by_turn : (t : Option Turn) → turn_at number known front line ≡ t → ((k : Names) (f : List Statement) → suc number ≤ 400 → go k f ≡ Ok r → Whole (suc number) lines EndsOnce) → Whole number (line ∷ lines) EndsOnce
     by_turn None h on = let none : followed number lines None go ≡ Ok r = sym (lines-turn number known front line lines None h) ∙ e in absurd cc
     by_turn (Some (false, k, f)) h on =
@@ -209,17 +219,20 @@ whole-first (line ∷ lines) r e = by_turn (turn_at 1 [] [] line) refl
   where
     go : Names → List Statement → Found
     go names statements = lines_at 2 names statements lines
+
     by_place : (w : Written) → Says line w → (k : Names) (f : List Statement) → TurnOf 1 w false → go k f ≡ Ok r → Whole 1 (line ∷ lines) IsOrdered
     by_place (heading name) say k f place h = whole_with 1 line lines (heading name) IsOrdered say (λ ws q. q) (whole 2 k f lines r (omega arith) (omega arith) h)
     by_place (assignment name x) say k f place h = whole_with 1 line lines (assignment name x) IsOrdered say (λ ws q. q) (whole 2 k f lines r (omega arith) (omega arith) h)
     by_place (printing items) say k f place h = whole_with 1 line lines (printing items) IsOrdered say (λ ws q. q) (whole 2 k f lines r (omega arith) (omega arith) h)
     by_place ending say k f place h = absurd cc
+
     last : (rest : List (List ℕ)) (w : Written) → Says line w → TurnOf 1 w true → (k : Names) (f : List Statement) → (g : Names → List Statement → Found) → followed 1 rest (Some (true, k, f)) g ≡ Ok r → Whole 1 (line ∷ rest) IsOrdered
     last (l ∷ rest) w say place k f g h = absurd cc
     last [] (heading name) say place k f g h = absurd (cc (place.1))
     last [] (assignment name x) say place k f g h = absurd (cc (place.1))
     last [] (printing items) say place k f g h = absurd (cc (place.1))
     last [] ending say place k f g h = record { ws = ending ∷ []; say = (say, tt); order = tt; few = omega arith }
+
     by_turn : (t : Option Turn) → turn_at 1 [] [] line ≡ t → Whole 1 (line ∷ lines) IsOrdered
     by_turn None h = let none : followed 1 lines None go ≡ Ok r = sym (lines-turn 1 [] [] line lines None h) ∙ e in absurd cc
     by_turn (Some (false, k, f)) h =
@@ -239,9 +252,11 @@ at_least number known front (line ∷ lines) m e = by_turn (turn_at number known
   where
     go : Names → List Statement → Found
     go names statements = lines_at (suc number) names statements lines
+
     ended_at : (rest : List (List ℕ)) (k : Names) (f : List Statement) → (h : Names → List Statement → Found) → followed number rest (Some (true, k, f)) h ≡ Err m → number ≤ m
     ended_at [] k f h r = absurd cc
     ended_at (l ∷ rest) k f h r = let same = err_is (suc number) m r in omega arith
+
     by_turn : (t : Option Turn) → turn_at number known front line ≡ t → ((k : Names) (f : List Statement) → go k f ≡ Err m → suc number ≤ m) → number ≤ m
     by_turn None h on = let same = err_is number m (sym (lines-turn number known front line lines None h) ∙ e) in omega arith
     by_turn (Some (false, k, f)) h on = let low = on k f (sym (lines-turn number known front line lines (Some (false, k, f)) h) ∙ e) in omega arith
@@ -262,22 +277,28 @@ refused-alike number above known front (line ∷ lines) (l ∷ others) e s = by_
   where
     same_line : line ≡ l
     same_line = head_is line l (take above lines) (take above others) s
+
     same_rest : take above lines ≡ take above others
     same_rest = tail_is line l (take above lines) (take above others) s
+
     go : List (List ℕ) → Names → List Statement → Found
     go rest names statements = lines_at (suc number) names statements rest
+
     turn_there : (t : Option Turn) → turn_at number known front line ≡ t → turn_at number known front l ≡ t
     turn_there t h = ap (turn_at number known front) (sym same_line) ∙ h
+
     on_by : (a : ℕ) (k : Names) (f : List Statement) → above ≡ a → go lines k f ≡ Err (number + above) → ((a : ℕ) → lines_at (suc number) k f lines ≡ Err (suc number + a) → take (suc a) lines ≡ take (suc a) others → lines_at (suc number) k f others ≡ Err (suc number + a)) → go others k f ≡ Err (number + above)
     on_by zero k f z r on = absurd (let low = at_least (suc number) k f lines (number + above) r in omega arith)
     on_by (suc a) k f z r on =
         let place : number + above ≡ suc number + a = omega arith in
         on a (r ∙ ap Err place) (subst (λ n. take n lines ≡ take n others) z same_rest) ∙ ap Err (sym place)
+
     ended_by : (rest more : List (List ℕ)) (a : ℕ) (k : Names) (f : List Statement) → (g h : Names → List Statement → Found) → above ≡ a → take a rest ≡ take a more → followed number rest (Some (true, k, f)) g ≡ Err (number + above) → followed number more (Some (true, k, f)) h ≡ Err (number + above)
     ended_by [] more a k f g h z t r = absurd cc
     ended_by (x ∷ rest) (y ∷ more) a k f g h z t r = r
     ended_by (x ∷ rest) [] zero k f g h z t r = absurd (let same = err_is (suc number) (number + above) r in omega arith)
     ended_by (x ∷ rest) [] (suc a) k f g h z t r = absurd cc
+
     by_turn : (t : Option Turn) → turn_at number known front line ≡ t → ((k : Names) (f : List Statement) (a : ℕ) → lines_at (suc number) k f lines ≡ Err (suc number + a) → take (suc a) lines ≡ take (suc a) others → lines_at (suc number) k f others ≡ Err (suc number + a))
         → lines_at number known front (l ∷ others) ≡ Err (number + above)
     by_turn None h on = lines-turn number known front l others None (turn_there None h) ∙ sym (lines-turn number known front line lines None h) ∙ e

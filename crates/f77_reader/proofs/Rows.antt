@@ -1,12 +1,10 @@
 -- Lines of a source, one after the other.
-use Rattle.std.proofs.Common.{◌≡◌, ℕ, suc, ◌+◌, ◌<◌, ◌≤◌, Bool, true, false, eqb, ltb, cond, add-one, List, [], ◌∷◌, ◌++◌, length, map, Option, Some, None, Result, Ok, Err, refl, sym, ap, ◌∙◌, arith}
+use Rattle.std.proofs.Common.{◌≡◌, ℕ, suc, ◌+◌, ◌<◌, Bool, true, false, eqb, add-one, List, [], ◌∷◌, length, map, Some, None, Ok, Err, refl, sym, ap, ◌∙◌, arith}
 use Rattle.nest_tree.specs.Tree.{Statement, next}
 use Rattle.nest_tree.specs.View.{statement_of, statements_from}
 use Rattle.nest_tree.specs.declared.tree.Item.{Item}
-use Rattle.f77_reader.specs.declared.fault.Fault.{Fault}
-use Rattle.f77_reader.specs.declared.fault.Fault.TheVariants.{Memory, NoForm}
 use Rattle.f77_reader.specs.Lines.{with_byte, lines_of}
-use Rattle.f77_reader.specs.Reading.{Names, Found, first_of, after_first, followed, turn_at, lines_at}
+use Rattle.f77_reader.specs.Reading.{Names, Found, first_of, after_first, turn_at, lines_at}
 use Rattle.f77_reader.specs.Saying.{in_order}
 
 -- bytes that are not empty are cut behind their first line

@@ -1,17 +1,17 @@
 -- A source of the straight form is read as its program.
-use Rattle.std.proofs.Common.{◌≡◌, ℕ, suc, ◌+◌, ◌<◌, ◌≤◌, Bool, true, false, ltb, eqb, cond, List, [], ◌∷◌, ◌++◌, length, map, Option, Some, None, Result, Ok, Err, refl, sym, ap, ◌∙◌, append_assoc, arith}
+use Rattle.std.proofs.Common.{◌≡◌, ℕ, suc, ◌+◌, ◌<◌, ◌≤◌, true, false, cond, List, [], ◌∷◌, ◌++◌, length, map, Option, Some, None, Ok, refl, sym, ap, ◌∙◌, append_assoc, arith}
 use Rattle.std.proofs.lemmas.Bool.{lt-ltb}
 use Rattle.std.proofs.lemmas.List.{append-nil}
 use Rattle.nest_tree.specs.Tree as tree
 use Rattle.nest_tree.specs.Tree.{Statement, next}
 use Rattle.f77_reader.specs.Lines.{lines_of}
-use Rattle.f77_reader.specs.Written.{Written, heading, assignment, printing, ending, Sum, Item}
+use Rattle.f77_reader.specs.Written.{Written, heading, assignment, printing, ending}
 use Rattle.f77_reader.specs.Meaning.{names_in_line, names_in, with_names, scalar, sum_tree, item_tree, statements_tree, program_of}
-use Rattle.f77_reader.specs.Straight.{Says, AllSay, EndsOnce, IsOrdered, IsStraight}
-use Rattle.f77_reader.specs.Reading.{◌>>=◌, Names, Said, headed, stated, ended, line_at, Turn, turned, turn_at, Found, followed, lines_at}
-use Rattle.f77_reader.specs.Saying.{in_order, tree_from, found_tree}
+use Rattle.f77_reader.specs.Straight.{AllSay, EndsOnce, IsOrdered, IsStraight}
+use Rattle.f77_reader.specs.Reading.{◌>>=◌, Names, Said, headed, stated, ended, line_at, Turn, turned, turn_at, followed, lines_at}
+use Rattle.f77_reader.specs.Saying.{in_order, found_tree}
 use Rattle.f77_reader.proofs.Later.{IsLater, later-self, later-first, later-second, with_names-append}
-use Rattle.f77_reader.proofs.Lined.{said_as, line-read}
+use Rattle.f77_reader.proofs.Lined.{line-read}
 
 -- the statements of lines as a list
 abbrev pub statements_list : Names → ℕ → List Written → List Statement

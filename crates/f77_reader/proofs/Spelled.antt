@@ -1,18 +1,16 @@
 -- What is written is read as its tree: expressions.
-use Rattle.std.proofs.Common.{◌≡◌, ℕ, suc, ◌+◌, ◌-◌, ◌*◌, ◌<◌, ◌≤◌, Bool, true, false, not, ◌&&◌, ◌||◌, eqb, leb, cond, pos, List, [], ◌∷◌, ◌++◌, length, map, Option, Some, None, refl, sym, ap, ◌∙◌, append_assoc, arith}
-use Rattle.std.specs.List.{list_any, list_all}
-use Rattle.std.proofs.lemmas.Bool.{and_from, and_parts, leb-true, le-leb}
+use Rattle.std.proofs.Common.{◌≡◌, ℕ, ◌+◌, ◌-◌, ◌*◌, ◌≤◌, Bool, true, false, ◌&&◌, eqb, leb, cond, pos, List, [], ◌∷◌, ◌++◌, length, Option, Some, None, refl, sym, ap, ◌∙◌, arith}
+use Rattle.std.specs.List.{list_all}
+use Rattle.std.proofs.lemmas.Bool.{and_parts, leb-true, le-leb}
 use Rattle.std.proofs.lemmas.Bool.Decides.{nat_tests}
-use Rattle.std.proofs.lemmas.List.{append-nil}
 use Rattle.nest_tree.specs.Tree as tree
 use Rattle.nest_tree.specs.Tree.{Expression}
-use Rattle.f77_reader.specs.Characters.{is_digit, is_capital_or_digit, is_integer_letter, is_variable_name, is_number, decimal_from, decimal}
-use Rattle.f77_reader.specs.Lines.{quoted_after}
+use Rattle.f77_reader.specs.Characters.{is_digit, is_capital_or_digit, is_integer_letter, is_variable_name, decimal_from, decimal}
 use Rattle.f77_reader.specs.Written.{Factor, named, digits, Term, Sign, plus, minus, Signed, Sum, unsigned, signed, factor_text, factors_text, term_text, sign_code, signed_text, sum_text, is_factor, is_term, is_signed, is_sum}
-use Rattle.f77_reader.specs.Meaning.{names_in_factor, names_in_factors, names_in_term, names_in_signed, names_in_sum, number_of, with_name, with_names, scalar, factor_tree, product_tree, term_tree, joined, lead, total_tree, sum_tree}
+use Rattle.f77_reader.specs.Meaning.{names_in_factor, names_in_factors, names_in_term, names_in_signed, names_in_sum, with_name, with_names, scalar, factor_tree, product_tree, term_tree, joined, lead, total_tree, sum_tree}
 use Rattle.f77_reader.specs.Reading.{◌>>=◌, Names, before, behind, rest_pieces, star, signs, comma, number_from, factor_at, product_at, term_at, joined_by, total_at, led_by, terms_at, sum_at}
 use Rattle.f77_reader.proofs.Cuts.{rest_pieces-step}
-use Rattle.f77_reader.proofs.Joined.{passes, passes-append, begins_apart, before-joined, behind-joined, AreSymbols, star_symbols, comma_symbols, signs_symbols, no_apostrophe, word_range, IsWord, factor_word, factor-passes}
+use Rattle.f77_reader.proofs.Joined.{passes, passes-append, begins_apart, before-joined, behind-joined, AreSymbols, star_symbols, comma_symbols, signs_symbols, no_apostrophe, word_range, factor_word, factor-passes}
 use Rattle.f77_reader.proofs.Later.{IsLater, later-first, later-second, number-stays, with_names-append}
 
 -- ---- numbers

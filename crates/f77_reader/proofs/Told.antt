@@ -1,6 +1,6 @@
 -- What is read is written so: items, statements and lines.
-use Rattle.std.proofs.Common.{◌≡◌, ℕ, zero, suc, ◌+◌, ◌-◌, ◌<◌, ◌≤◌, Bool, true, false, not, ◌&&◌, ◌||◌, eqb, leb, ltb, cond, List, [], ◌∷◌, ◌++◌, length, map, take, drop, Option, Some, None, Result, Ok, Err, refl, sym, ap, subst, ◌∙◌, append_assoc, arith}
-use Rattle.std.specs.List.{list_any, list_all}
+use Rattle.std.proofs.Common.{◌≡◌, ℕ, ◌-◌, ◌<◌, Bool, true, false, eqb, ltb, cond, List, [], ◌∷◌, ◌++◌, length, map, take, drop, Option, Some, None, refl, sym, ap, subst, ◌∙◌, append_assoc, arith}
+use Rattle.std.specs.List.{list_all}
 use Rattle.std.specs.Str.{bytes_eq}
 use Rattle.std.proofs.lemmas.Bool.{and_from, and_parts, eqb-true, ltb-true, lt-ltb}
 use Rattle.std.proofs.lemmas.Bool.Decides.{nat_tests}
@@ -10,13 +10,13 @@ use Rattle.nest_tree.specs.Tree as tree
 use Rattle.nest_tree.specs.Tree.{Expression, Printed, Statement}
 use Rattle.f77_reader.specs.Characters.{is_variable_name, is_name}
 use Rattle.f77_reader.specs.Lines.{text_of, line_with, margin, is_body}
-use Rattle.f77_reader.specs.Written.{Sum, sum_text, is_sum, Item, sum, constant, doubled, item_text, items_text, is_item, Written, heading, assignment, printing, ending, written_text, is_written}
+use Rattle.f77_reader.specs.Written.{is_sum, Item, sum, constant, doubled, item_text, items_text, is_item, Written, heading, assignment, printing, ending, written_text, is_written}
 use Rattle.f77_reader.specs.Meaning.{names_in_line, with_name, with_names, scalar, sum_tree, item_tree}
 use Rattle.f77_reader.specs.Straight.{Says}
 use Rattle.f77_reader.specs.Reading.{◌>>=◌, Names, before, behind, rest_pieces, comma, equals, sum_at, characters_at, item_at, items_at, Said, headed, stated, ended, printing_at, assignment_at, heading_at, print_word, program_word, end_word, begins_with, said_at, columns_at, body_at, text_at, line_at, Turn, turned, turn_at}
 use Rattle.f77_reader.proofs.Joined.{is_separator, begins_apart}
 use Rattle.f77_reader.proofs.Later.{later-self}
-use Rattle.f77_reader.proofs.Found.{bind_some, guard_some, pieces_text, are_apart, rest_pieces-whole, rest_pieces-apart, behind-apart, before-behind, IsSumText, sum-found}
+use Rattle.f77_reader.proofs.Found.{bind_some, guard_some, pieces_text, are_apart, rest_pieces-whole, rest_pieces-apart, behind-apart, before-behind, sum-found}
 use Rattle.f77_reader.proofs.Lined.{said_as, line-read}
 
 -- ---- character constants
@@ -163,8 +163,10 @@ said-found known line text r e = by_end (bytes_eq text end_word) refl
   where
     others : Option (Said × Names)
     others = assignment_at known line (before equals false text) (behind equals false text)
+
     heads : Option (Said × Names)
     heads = cond (is_name (drop 7 text)) (Some headed) None >>= λ h. Some (h, known)
+
     by_program : (b : Bool) → begins_with program_word text ≡ b → cond (begins_with program_word text) heads others ≡ Some r → IsWrittenText text
     by_program true h k =
         let chosen : heads ≡ Some r = sym (ap (λ b. cond b heads others) h) ∙ k in
@@ -175,11 +177,13 @@ said-found known line text r e = by_end (bytes_eq text end_word) refl
         let chosen : others ≡ Some r = sym (ap (λ b. cond b heads others) h) ∙ k in
         let found = assignment-found known line (before equals false text) (behind equals false text) r (behind-apart equals false text) chosen in
         record { written = found.written; good = found.good; spelled = sym (before-behind equals false text) ∙ found.spelled }
+
     by_print : (b : Bool) → begins_with print_word text ≡ b → cond (begins_with print_word text) (printing_at known line (drop 6 text)) (cond (begins_with program_word text) heads others) ≡ Some r → IsWrittenText text
     by_print true h k =
         let found = printing-found known line (drop 6 text) r (sym (ap (λ b. cond b (printing_at known line (drop 6 text)) (cond (begins_with program_word text) heads others)) h) ∙ k) in
         record { written = printing found.items; good = found.good; spelled = word-front print_word text h ∙ ap (λ (x : List ℕ). print_word ++ x) found.spelled }
     by_print false h k = by_program (begins_with program_word text) refl (sym (ap (λ b. cond b (printing_at known line (drop 6 text)) (cond (begins_with program_word text) heads others)) h) ∙ k)
+
     by_end : (b : Bool) → bytes_eq text end_word ≡ b → IsWrittenText text
     by_end true h = record { written = ending; good = refl; spelled = same_bytes text end_word h }
     by_end false h = by_print (begins_with print_word text) refl (sym (ap (λ b. cond b (Some (ended, known)) (cond (begins_with print_word text) (printing_at known line (drop 6 text)) (cond (begins_with program_word text) heads others))) h) ∙ e)

@@ -1,5 +1,5 @@
 -- Reading a text from left to right, piece by piece, as the private functions do it. The laws of proofs/ tie this to what is written.
-use Rattle.std.specs.Prelude.{ℕ, zero, suc, ◌+◌, ◌-◌, ◌*◌, ◌==◌, ℤ, pos, Bool, true, false, ◌&&◌, not, nat_lt, nat_le, if◌then◌else◌, List, [], ◌∷◌, ◌++◌, length, take, drop, Option, Some, None, option_and_then, Result, Ok, Err, codes, ◌≡◌}
+use Rattle.std.specs.Prelude.{ℕ, suc, ◌+◌, ◌-◌, ◌*◌, ◌==◌, ℤ, pos, Bool, true, false, ◌&&◌, not, nat_lt, nat_le, if◌then◌else◌, List, [], ◌∷◌, ◌++◌, length, take, drop, Option, Some, None, option_and_then, Result, Ok, Err, codes, ◌≡◌}
 use Rattle.std.specs.List.{list_any}
 use Rattle.std.specs.Str.{bytes_eq}
 use Rattle.nest_tree.specs.Tree as tree
@@ -8,7 +8,7 @@ use Rattle.f77_reader.specs.declared.fault.Fault.{Fault}
 use Rattle.f77_reader.specs.declared.fault.Fault.TheVariants.{Memory, NoForm}
 use Rattle.f77_reader.specs.Characters.{is_digit, is_name, is_variable_name}
 use Rattle.f77_reader.specs.Lines.{quoted_after, text_of, margin, is_body}
-use Rattle.f77_reader.specs.Meaning.{number_of, with_name, scalar}
+use Rattle.f77_reader.specs.Meaning.{with_name, scalar}
 
 infixl 10 ◌>>=◌
 abbrev pub ◌>>=◌ : {A B : Type 0} → Option A → (A → Option B) → Option B

@@ -9,6 +9,7 @@
 mod characters;
 mod expression;
 mod fault;
+mod laws;
 mod line;
 mod names;
 mod reader;
@@ -16,6 +17,7 @@ mod split;
 mod statement;
 
 pub use fault::Refusal;
+pub use laws::{one_first_fault, one_program, program_or_fault};
 pub use reader::read_straight;
 
 #[cfg(test)]

@@ -85,10 +85,7 @@ fn printing(alloc: Global, names: &mut Names, line: u32, text: &[u8]) -> Result<
 {
     match text {
         [] => Ok(Line::Statement(Item::Print(Vec::new(alloc), line))),
-        [b',', ..] => Ok(Line::Statement(Item::Print(
-            items(alloc, names, text)?,
-            line,
-        ))),
+        [b',', ..] => Ok(Line::Statement(Item::Print(items(alloc, names, text)?, line))),
         _ => Err(Fault::NoForm),
     }
 }

@@ -1,8 +1,6 @@
-use Rattle.std.proofs.Common.{◌≡◌, ◌∙◌, ap, subst, sym, arith}
+use Rattle.std.proofs.Common.{arith}
 use Rattle.std.proofs.lemmas.Result.{err_from_is_err_and}
-use Rattle.nest_tree.specs.Tree.{Expression, mul}
 use Rattle.nest_tree.specs.View.{expression_of}
-use Rattle.f77_reader.specs.Reading.{factor_at, product_at, rest_pieces, star}
 use Rattle.f77_reader.proofs.Turns.{product-goes, product-stops, product-ends}
 use Rattle.f77_reader.proofs.expression.term.Goals as goal
 

@@ -1,4 +1,4 @@
-use Rattle.std.proofs.Common.{◌≡◌, ◌∙◌, ap, subst, sym, arith}
+use Rattle.std.proofs.Common.{arith}
 use Rattle.std.proofs.lemmas.Result.{err_from_is_err_and}
 use Rattle.nest_tree.specs.View.{expression_of}
 use Rattle.f77_reader.proofs.Turns.{total-goes, total-stops, total-ends}

@@ -1,4 +1,4 @@
-use Rattle.std.proofs.Common.{◌≡◌, ◌<◌, ◌≤◌, ◌+◌, true, false, Some, Ok, ap, sym, ◌∙◌, map, length, arith}
+use Rattle.std.proofs.Common.{◌≡◌, ◌<◌, true, false, Some, Ok, ap, ◌∙◌, map, length, arith}
 use Rattle.std.proofs.lemmas.Bool.Decides.{nat_tests}
 use Rattle.nest_tree.specs.View.{statement_of}
 use Rattle.f77_reader.specs.Reading.{turn_at}

@@ -1,4 +1,4 @@
-use Rattle.std.proofs.Common.{sym, subst}
+use Rattle.std.proofs.Common.{subst}
 use Rattle.f77_reader.specs.Saying.{Answers, found_tree}
 use Rattle.f77_reader.proofs.Answered.{found_in, answer-found, answer-only, answer-refused, answer-refuses}
 use Rattle.f77_reader.proofs.Formed.{answer-formed, answer-straight}
