@@ -12,3 +12,4 @@ pub mod Told
 pub mod Refused
 pub mod Answered
 pub mod Formed
+pub mod Mapped

@@ -1,12 +1,13 @@
 // The names of a source, numbered as they first appear.
 
-ghost use Rattle.std.specs.Prelude.{◌≡◌, ◌+◌, ◌≤◌, IfOk, map, length};
+ghost use Rattle.std.specs.Prelude.{◌≡◌, IfOk, map};
 ghost use Rattle.f77_reader.specs.Meaning.{number_of, with_name, scalar_named};
 ghost use Rattle.f77_reader.specs.Reading.{FailsForMemory};
 
 use crate::fault::Fault;
 use nest_tree::{Spread, Variable};
 use std::alloc::Global;
+use std::collections::BTreeMap;
 use std::marker::Model;
 
 /// Scalars, numbered from 1 in the order in which their names first appeared. Contracts see the
@@ -14,17 +15,19 @@ use std::marker::Model;
 #[derive(Drop)]
 pub struct Names {
     variables: Vec<Variable>,
+    // The number of each name.
+    numbers: BTreeMap<Vec<u8>, u32>,
 }
 
 impl Model for Names {
     ghost use Rattle.std.specs.Prelude.{ℕ, List};
-    ghost use Rattle.f77_reader.specs.Variables.{names_of, AreScalars};
+    ghost use Rattle.f77_reader.specs.Variables.{names_of, AreScalars, AreNumbered};
 
     ghost Value = { List (List ℕ) };
 
     ghost view = { λ n. names_of n.variables.items };
 
-    ghost invariant = { λ n. AreScalars n.variables.items };
+    ghost invariant = { λ n. AreScalars n.variables.items × AreNumbered n.numbers (names_of n.variables.items) };
 }
 
 impl Names {
@@ -37,6 +40,7 @@ impl Names {
     {
         Names {
             variables: Vec::new(alloc),
+            numbers: BTreeMap::new(alloc),
         }
     }
 
@@ -47,38 +51,67 @@ impl Names {
         ensures names { IfOk result (λ n. self.new ≡ with_name self.old name.now) }
         ensures err { FailsForMemory result }
     {
-        let place = place_of(&self.variables, name);
-        let Ok(number) = u32::try_from(place + 1) else {
+        if let Some(number) = number_under(&self.numbers, name) {
+            return Ok(number);
+        }
+        let Ok(number) = u32::try_from(self.variables.len() + 1) else {
             return Err(Fault::Memory);
         };
-        if place == self.variables.len() {
-            self.variables.push(scalar_named(alloc, name)?)?;
+        self.variables.push(scalar_named(alloc, name)?)?;
+        match put(alloc, &mut self.numbers, name, number) {
+            Ok(()) => Ok(number),
+            Err(fault) => {
+                self.variables.pop();
+                Err(fault)
+            }
         }
-        Ok(number)
     }
 
     /// The scalars, in the order of their numbers.
     pub fn into_variables(self) -> Vec<Variable>
         ensures { map declaration_of result.items ≡ map scalar_named self }
     {
-        let Names { variables } = self;
+        let Names {
+            variables,
+            numbers: _,
+        } = self;
         variables
     }
 }
 
-ghost use Rattle.f77_reader.specs.Variables.{names_of};
+ghost use Rattle.std.specs.Prelude.{ℕ, List, OnOk, OnErr, Some, None, if◌then◌else◌};
+ghost use Rattle.std.specs.Str.{bytes_eq};
+ghost use Rattle.f77_reader.specs.Variables.{number_under};
 
-// The place of the scalar of this name, or how many there are where none has it.
-fn place_of(variables: &[Variable], name: &[u8]) -> usize
-    ensures number { result + 1 ≡ number_of (names_of variables.now) name.now }
-    ensures within { result ≤ length variables.now }
+// The number under this name, where it has one.
+fn number_under(numbers: &BTreeMap<Vec<u8>, u32>, name: &[u8]) -> Option<u32>
+    ensures { result ≡ number_under numbers.now name.now }
 {
-    for (place, variable) in variables.iter().enumerate() {
-        if variable.name.as_slice() == name {
-            return place;
-        }
-    }
-    variables.len()
+    numbers.get(name).copied()
+}
+
+// Puts a new name's number into the map, which stays as it was where memory runs out.
+fn put(
+    alloc: Global,
+    numbers: &mut BTreeMap<Vec<u8>, u32>,
+    name: &[u8],
+    number: u32,
+) -> Result<(), Fault>
+    requires { number_under numbers.old name.now ≡ None }
+    ensures there { OnOk result ((other : List ℕ) → number_under numbers.new other ≡ (if bytes_eq other name.now then Some number else number_under numbers.old other)) }
+    ensures unchanged { OnErr result ((other : List ℕ) → number_under numbers.new other ≡ number_under numbers.old other) }
+    ensures err { FailsForMemory result }
+{
+    let name = copy_of(alloc, name)?;
+    numbers.insert(name, number)?;
+    Ok(())
+}
+
+fn copy_of(alloc: Global, name: &[u8]) -> Result<Vec<u8>, Fault>
+    ensures name { IfOk result (λ copy. copy.items ≡ name.now) }
+    ensures err { FailsForMemory result }
+{
+    Ok(name.to_vec(alloc)?)
 }
 
 ghost use Rattle.nest_tree.specs.View.{declaration_of};
@@ -89,7 +122,7 @@ fn scalar_named(alloc: Global, name: &[u8]) -> Result<Variable, Fault>
     ensures err { FailsForMemory result }
 {
     Ok(Variable {
-        name: name.to_vec(alloc)?,
+        name: copy_of(alloc, name)?,
         bounds: Vec::new(alloc),
         axis: 0,
         spread: Spread::Block,
