@@ -1,4 +1,5 @@
 pub mod PlanText
 pub mod Outside
 pub mod Words
-pub mod Answer
+pub mod Due
+pub mod Written

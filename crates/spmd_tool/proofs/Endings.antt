@@ -1,0 +1,38 @@
+-- How the top call ends, from how it wrote.
+use Rattle.std.proofs.Common.{◌≡◌, ◌≢◌, ℕ, true, false, List, Option, ap, sym, subst, inl, ◌∙◌, refl}
+use Rattle.std.specs.Io.KnownBytes.{Appends}
+use Rattle.spmd_tool.specs.Due.{IsDue, IsDueForRun, IsOrNoMemory, is_said}
+use Rattle.spmd_tool.specs.Outside.{AreTold, WritesPart}
+use Rattle.spmd_tool.specs.Written.{WritesDue, WritesPartOfDue}
+use Rattle.spmd_tool.specs.declared.status.Status.{Status}
+use Rattle.spmd_tool.specs.declared.status.Status.TheVariants.{Done, SourceRefused, BadWords, ReadFault, WriteFault, NoMemory, TooLong}
+
+not_fault : (r : Status) → is_said r ≡ true → r ≢ WriteFault
+not_fault r h e = let f : false ≡ true = sym (ap is_said e) ∙ h in cc
+
+-- what is due for a run is said
+pub due-said : (workers : ℕ) (bytes : List ℕ) (status : Status) (text : List ℕ) → IsDueForRun workers bytes status text → is_said status ≡ true
+due-said workers bytes Done text h = refl
+due-said workers bytes SourceRefused text h = refl
+due-said workers bytes TooLong text h = refl
+due-said workers bytes BadWords text h = absurd h
+due-said workers bytes ReadFault text h = absurd h
+due-said workers bytes WriteFault text h = absurd h
+due-said workers bytes NoMemory text h = absurd h
+
+-- a due text that was said
+pub said-due : (words : List (List ℕ)) (told : Option (List ℕ)) (bytes : List ℕ) (status r : Status) (text : List ℕ) (a b : Option (List ℕ))
+    → AreTold told bytes → IsDue words bytes status text → (r ≢ WriteFault → r ≡ status) → (r ≢ WriteFault → Appends a b text) → is_said r ≡ true → WritesDue words told r a b
+said-due words told bytes status r text a b are due outcome said h =
+    let fine = not_fault r h in
+    record { bytes = bytes; told = are; text = text; due = subst (λ s. IsDue words bytes s text) (sym (outcome fine)) due; written = said fine }
+
+-- a part of it, where a write failed
+pub part-due : (words : List (List ℕ)) (told : Option (List ℕ)) (bytes : List ℕ) (status r : Status) (text : List ℕ) (a b : Option (List ℕ))
+    → AreTold told bytes → IsDue words bytes status text → (r ≡ WriteFault → WritesPart a b text) → r ≡ WriteFault → WritesPartOfDue words told a b
+part-due words told bytes status r text a b are due part h =
+    record { bytes = bytes; told = are; status = status; text = text; due = due; written = part h }
+
+-- where no write failed, it was said
+pub settled : (wanted status r : Status) (Fails : Type 0) → ¬ Fails → (r ≢ WriteFault → r ≡ status) → (r ≡ WriteFault → Fails) → status ≡ wanted → IsOrNoMemory wanted r
+settled wanted status r Fails none outcome fault is = inl (outcome (λ e. none (fault e)) ∙ is)
