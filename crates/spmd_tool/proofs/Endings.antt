@@ -1,24 +1,19 @@
 -- How the top call ends, from how it wrote.
-use Rattle.std.proofs.Common.{◌≡◌, ◌≢◌, ℕ, true, false, List, Option, ap, sym, subst, inl, ◌∙◌, refl}
+use Rattle.std.proofs.Common.{◌≡◌, ◌≢◌, ℕ, true, false, List, Option, ap, sym, subst, inl, ◌∙◌}
 use Rattle.std.specs.Io.KnownBytes.{Appends}
-use Rattle.spmd_tool.specs.Due.{IsDue, IsDueForRun, IsOrNoMemory, is_said}
+use Rattle.spmd_tool.specs.Words.{AreRunWords}
+use Rattle.spmd_tool.specs.Due.{IsDue, run, IsDueForRun, IsOrNoMemory, is_said}
 use Rattle.spmd_tool.specs.Outside.{AreTold, WritesPart}
 use Rattle.spmd_tool.specs.Written.{WritesDue, WritesPartOfDue}
 use Rattle.spmd_tool.specs.declared.status.Status.{Status}
-use Rattle.spmd_tool.specs.declared.status.Status.TheVariants.{Done, SourceRefused, BadWords, ReadFault, WriteFault, NoMemory, TooLong}
+use Rattle.spmd_tool.specs.declared.status.Status.TheVariants.{WriteFault}
 
 not_fault : (r : Status) → is_said r ≡ true → r ≢ WriteFault
 not_fault r h e = let f : false ≡ true = sym (ap is_said e) ∙ h in cc
 
--- what is due for a run is said
-pub due-said : (workers : ℕ) (bytes : List ℕ) (status : Status) (text : List ℕ) → IsDueForRun workers bytes status text → is_said status ≡ true
-due-said workers bytes Done text h = refl
-due-said workers bytes SourceRefused text h = refl
-due-said workers bytes TooLong text h = refl
-due-said workers bytes BadWords text h = absurd h
-due-said workers bytes ReadFault text h = absurd h
-due-said workers bytes WriteFault text h = absurd h
-due-said workers bytes NoMemory text h = absurd h
+-- due for a run, with an equal text
+pub run-due : (words : List (List ℕ)) (workers : ℕ) (bytes : List ℕ) (status : Status) (text that : List ℕ) → AreRunWords words workers → IsDueForRun workers bytes status text → that ≡ text → IsDue words bytes status that
+run-due words workers bytes status text that are due e = run workers are (subst (IsDueForRun workers bytes status) (sym e) due)
 
 -- a due text that was said
 pub said-due : (words : List (List ℕ)) (told : Option (List ℕ)) (bytes : List ℕ) (status r : Status) (text : List ℕ) (a b : Option (List ℕ))

@@ -1,5 +1,6 @@
 pub mod Commands
 pub mod Decimals
+pub mod Dues
 pub mod Endings
 pub mod Lengths
 pub mod Told

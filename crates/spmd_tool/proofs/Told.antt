@@ -1,5 +1,5 @@
 -- What is told of the bytes of a source.
-use Rattle.std.proofs.Common.{ℕ, ◌<◌, List, [], ◌++◌, Option, Some, None, length, sym, ap, subst, ◌∙◌, refl, append-nil, arith}
+use Rattle.std.proofs.Common.{◌≡◌, ℕ, ◌<◌, List, [], ◌++◌, Option, Some, None, length, sym, ap, subst, ◌∙◌, refl, append-nil, arith}
 use Rattle.std.proofs.lemmas.List.{length-append}
 use Rattle.std.specs.Io.KnownBytes.{Consumes, IsAtEnd}
 use Rattle.spmd_tool.specs.Outside.{WhereTold, AreTold}
@@ -10,10 +10,14 @@ some_told None = ([], tt)
 some_told (Some those) = (those, refl)
 
 -- what was read up to the end is what was there
-pub all_told : (old new : Option (List ℕ)) (bytes : List ℕ) → Consumes old new bytes → IsAtEnd new → AreTold old bytes
+all_told : (old new : Option (List ℕ)) (bytes : List ℕ) → Consumes old new bytes → IsAtEnd new → AreTold old bytes
 all_told None new bytes p q = tt
 all_told (Some xs) None bytes p q = absurd p
 all_told (Some xs) (Some ys) bytes p q = sym (p ∙ ap (λ l. bytes ++ l) q ∙ append-nil bytes)
+
+-- the same for equal bytes
+pub read_told : (old new : Option (List ℕ)) (bytes those : List ℕ) → Consumes old new bytes → IsAtEnd new → those ≡ bytes → AreTold old those
+read_told old new bytes those p q e = subst (AreTold old) (sym e) (all_told old new bytes p q)
 
 -- what was there is more than what was read of it
 pub more_told : (old new : Option (List ℕ)) (bytes : List ℕ) (n : ℕ) → Consumes old new bytes → n < length bytes → (all : List ℕ) × AreTold old all × (n < length all)

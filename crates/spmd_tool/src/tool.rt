@@ -45,6 +45,7 @@ pub fn tool<S: Source, K: Sink>(
 
     // Other words are status 2, or 4 where they cannot be refused, and read nothing.
     ensures wrong_words { AreOthers (texts words.now) → (result ≡ Status.BadWords) ⊎ (result ≡ Status.WriteFault) }
+    ensures right_words { (workers : ℕ) → AreRunWords (texts words.now) workers → result ≢ Status.BadWords }
     ensures unread { AreOthers (texts words.now) → source.new ≡ source.old }
 
     // With 0 or 1 the source was read to its end.

@@ -1,10 +1,10 @@
-use Rattle.std.proofs.Common.{Err, refl, ap, sym, subst, arith}
-use Rattle.spmd_tool.specs.Due.{IsDueForRun, run, others}
-use Rattle.spmd_tool.specs.Outside.{AreTold}
+use Rattle.std.proofs.Common.{Err, refl, ap, arith}
+use Rattle.spmd_tool.specs.Due.{run, others}
+use Rattle.spmd_tool.specs.Words.{texts}
 use Rattle.spmd_tool.specs.declared.status.Status.TheVariants.{Done, BadWords, TooLong}
-use Rattle.spmd_tool.proofs.Endings.{said-due, part-due, settled}
+use Rattle.spmd_tool.proofs.Endings.{run-due, said-due, part-due, settled}
 use Rattle.spmd_tool.proofs.Lengths.{reads-short}
-use Rattle.spmd_tool.proofs.Told.{some_told, all_told, at_told}
+use Rattle.spmd_tool.proofs.Told.{some_told, read_told, at_told}
 use Rattle.spmd_tool.proofs.tool.tool.Goals as goal
 
 -- ---- other words
@@ -24,21 +24,21 @@ returns-in_default-clause-part g c =
 pub returns-in-Ok-answer_of-clause-due : goal.returns-in-Ok-answer_of-clause-due
 returns-in-Ok-answer_of-clause-due g c =
     let bytes = c.deref.result.now in
-    let told : AreTold (g.S.Source.left c.args.source.now) bytes = subst (AreTold (g.S.Source.left c.args.source.now)) (sym c.deref.ensures.value) (all_told _ _ c.in-Ok.bytes.items c.in-Ok.ensures.read c.in-Ok.ensures.end) in
-    let due = subst (IsDueForRun c.in-Some.workers bytes c.in-Ok-answer_of.answer.status) (sym c.deref-in-Ok-answer_of.ensures.value) c.in-Ok-answer_of.ensures.due in
-    said-due _ _ bytes c.in-Ok-answer_of.answer.status c.say-in-Ok-answer_of.result _ _ _ told (run c.in-Some.workers c.in-Some.ensures due) c.say-in-Ok-answer_of.ensures.outcome c.say-in-Ok-answer_of.ensures.said
+    let told = read_told _ _ c.in-Ok.bytes.items bytes c.in-Ok.ensures.read c.in-Ok.ensures.end c.deref.ensures.value in
+    let due = run-due (texts c.args.words.now) c.in-Some.workers bytes c.in-Ok-answer_of.answer.status _ c.deref-in-Ok-answer_of.result.now c.in-Some.ensures c.in-Ok-answer_of.ensures.due c.deref-in-Ok-answer_of.ensures.value in
+    said-due _ _ bytes c.in-Ok-answer_of.answer.status c.say-in-Ok-answer_of.result _ _ _ told due c.say-in-Ok-answer_of.ensures.outcome c.say-in-Ok-answer_of.ensures.said
 
 pub returns-in-Ok-answer_of-clause-part : goal.returns-in-Ok-answer_of-clause-part
 returns-in-Ok-answer_of-clause-part g c =
     let bytes = c.deref.result.now in
-    let told : AreTold (g.S.Source.left c.args.source.now) bytes = subst (AreTold (g.S.Source.left c.args.source.now)) (sym c.deref.ensures.value) (all_told _ _ c.in-Ok.bytes.items c.in-Ok.ensures.read c.in-Ok.ensures.end) in
-    let due = subst (IsDueForRun c.in-Some.workers bytes c.in-Ok-answer_of.answer.status) (sym c.deref-in-Ok-answer_of.ensures.value) c.in-Ok-answer_of.ensures.due in
-    part-due _ _ bytes c.in-Ok-answer_of.answer.status c.say-in-Ok-answer_of.result _ _ _ told (run c.in-Some.workers c.in-Some.ensures due) c.say-in-Ok-answer_of.ensures.part
+    let told = read_told _ _ c.in-Ok.bytes.items bytes c.in-Ok.ensures.read c.in-Ok.ensures.end c.deref.ensures.value in
+    let due = run-due (texts c.args.words.now) c.in-Some.workers bytes c.in-Ok-answer_of.answer.status _ c.deref-in-Ok-answer_of.result.now c.in-Some.ensures c.in-Ok-answer_of.ensures.due c.deref-in-Ok-answer_of.ensures.value in
+    part-due _ _ bytes c.in-Ok-answer_of.answer.status c.say-in-Ok-answer_of.result _ _ _ told due c.say-in-Ok-answer_of.ensures.part
 
 pub returns-in-Ok-answer_of-clause-complete : goal.returns-in-Ok-answer_of-clause-complete
 returns-in-Ok-answer_of-clause-complete g c =
     let bytes = c.deref.result.now in
-    let told : AreTold (g.S.Source.left c.args.source.now) bytes = subst (AreTold (g.S.Source.left c.args.source.now)) (sym c.deref.ensures.value) (all_told _ _ c.in-Ok.bytes.items c.in-Ok.ensures.read c.in-Ok.ensures.end) in
+    let told = read_told _ _ c.in-Ok.bytes.items bytes c.in-Ok.ensures.read c.in-Ok.ensures.end c.deref.ensures.value in
     λ none. at_told _ bytes _ told (λ workers tree are reads. settled Done c.in-Ok-answer_of.answer.status c.say-in-Ok-answer_of.result _ none.1 c.say-in-Ok-answer_of.ensures.outcome c.say-in-Ok-answer_of.ensures.fault (c.in-Ok-answer_of.ensures.done tree reads))
 
 -- ---- a source of too many bytes
