@@ -98,12 +98,14 @@ fn refuses_a_line(rt: HostRuntime) -> Result<(), Fail> {
 
 #[test]
 fn refuses_a_source_that_is_too_long(rt: HostRuntime) -> Result<(), Fail> {
-    for (length, status) in [
-        (4_194_304, Status::SourceRefused),
-        (4_194_305, Status::TooLong),
+    for (length, piece, status) in [
+        (4_194_304, 100_000, Status::SourceRefused),
+        (4_194_305, 100_000, Status::TooLong),
+        (200_000, 1, Status::SourceRefused),
     ] {
+        prove!(piece > 0);
         let long = vec![in rt.alloc(); b' '; length]?;
-        let (ended, sink) = run_of(rt.alloc(), &long, (100_000, 1000), (&[], &[]))?;
+        let (ended, sink) = run_of(rt.alloc(), &long, (piece, 1000), (&[], &[]))?;
         assert_eq!(rt; ended, status);
         let line = sink.written() == b"TOO LONG\n".as_slice();
         assert_eq!(rt; line, status == Status::TooLong);
