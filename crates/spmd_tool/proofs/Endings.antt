@@ -1,8 +1,8 @@
 -- How the top call ends, from how it wrote.
-use Rattle.std.proofs.Common.{◌≡◌, ◌≢◌, ℕ, true, false, List, Option, ap, sym, subst, inl, ◌∙◌}
+use Rattle.std.proofs.Common.{◌≡◌, ◌≢◌, ℕ, true, false, List, Option, ap, sym, subst, ◌∙◌}
 use Rattle.std.specs.Io.KnownBytes.{Appends}
 use Rattle.spmd_tool.specs.Words.{AreRunWords}
-use Rattle.spmd_tool.specs.Due.{IsDue, run, IsDueForRun, IsOrNoMemory, is_said}
+use Rattle.spmd_tool.specs.Due.{IsDue, run, IsDueForRun, is_said}
 use Rattle.spmd_tool.specs.Outside.{AreTold, WritesPart}
 use Rattle.spmd_tool.specs.Written.{WritesDue, WritesPartOfDue}
 use Rattle.spmd_tool.specs.declared.status.Status.{Status}
@@ -27,7 +27,3 @@ pub part-due : (words : List (List ℕ)) (told : Option (List ℕ)) (bytes : Lis
     → AreTold told bytes → IsDue words bytes status text → (r ≡ WriteFault → WritesPart a b text) → r ≡ WriteFault → WritesPartOfDue words told a b
 part-due words told bytes status r text a b are due part h =
     record { bytes = bytes; told = are; status = status; text = text; due = due; written = part h }
-
--- where no write failed, it was said
-pub settled : (wanted status r : Status) (Fails : Type 0) → ¬ Fails → (r ≢ WriteFault → r ≡ status) → (r ≡ WriteFault → Fails) → status ≡ wanted → IsOrNoMemory wanted r
-settled wanted status r Fails none outcome fault is = inl (outcome (λ e. none (fault e)) ∙ is)

@@ -3,3 +3,4 @@ pub mod Outside
 pub mod Words
 pub mod Due
 pub mod Written
+pub mod FirstRun

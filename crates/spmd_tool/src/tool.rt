@@ -17,8 +17,13 @@ use crate::words::workers_of;
 use spmd_ports::{Failed, Sink, Source};
 use std::alloc::Global;
 
-/// Does what the words ask for, which stand without the program's name: reads the source to its
-/// end, and then writes what is due to the sink.
+/// Does what the words ask for, which stand without the program's name. They have to be
+/// `run --workers P --plan barrier --by core`, with P from 1 to 64. The source is read to its
+/// end, and then the plan's text and the program's output are written to the sink.
+///
+/// With `Done`, `SourceRefused`, `BadWords` and `TooLong` the text that is due was written, with
+/// `WriteFault` a part from its front, with `ReadFault` and `NoMemory` nothing. The first fault
+/// counts: of the words, then of the reading and the length, then of the source's form.
 pub fn tool<S: Source, K: Sink>(
     alloc: Global,
     words: &[&str],

@@ -1,8 +1,8 @@
-use Rattle.std.proofs.Common.{Err, refl, ap, arith}
+use Rattle.std.proofs.Common.{Err, inl, refl, ap, ◌∙◌, arith}
 use Rattle.spmd_tool.specs.Due.{run, others}
 use Rattle.spmd_tool.specs.Words.{texts}
-use Rattle.spmd_tool.specs.declared.status.Status.TheVariants.{Done, BadWords, TooLong}
-use Rattle.spmd_tool.proofs.Endings.{run-due, said-due, part-due, settled}
+use Rattle.spmd_tool.specs.declared.status.Status.TheVariants.{BadWords, TooLong}
+use Rattle.spmd_tool.proofs.Endings.{run-due, said-due, part-due}
 use Rattle.spmd_tool.proofs.Lengths.{reads-short}
 use Rattle.spmd_tool.proofs.Told.{some_told, read_told, at_told}
 use Rattle.spmd_tool.proofs.tool.tool.Goals as goal
@@ -39,7 +39,7 @@ pub returns-in-Ok-answer_of-clause-complete : goal.returns-in-Ok-answer_of-claus
 returns-in-Ok-answer_of-clause-complete g c =
     let bytes = c.deref.result.now in
     let told = read_told _ _ c.in-Ok.bytes.items bytes c.in-Ok.ensures.read c.in-Ok.ensures.end c.deref.ensures.value in
-    λ none. at_told _ bytes _ told (λ workers tree are reads. settled Done c.in-Ok-answer_of.answer.status c.say-in-Ok-answer_of.result _ none.1 c.say-in-Ok-answer_of.ensures.outcome c.say-in-Ok-answer_of.ensures.fault (c.in-Ok-answer_of.ensures.done tree reads))
+    λ none. at_told _ bytes _ told (λ workers tree are reads. inl (c.say-in-Ok-answer_of.ensures.outcome (λ e. none.1 (c.say-in-Ok-answer_of.ensures.fault e)) ∙ c.in-Ok-answer_of.ensures.done tree reads))
 
 -- ---- a source of too many bytes
 
