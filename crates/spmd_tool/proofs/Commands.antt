@@ -1,5 +1,5 @@
 -- The words of a run, from the words at its places.
-use Rattle.std.proofs.Common.{◌≡◌, ℕ, zero, suc, ◌≤◌, List, [], ◌∷◌, Option, Some, None, length, codes, MatchOption, refl, sym, ap, ◌∙◌, arith}
+use Rattle.std.proofs.Common.{◌≡◌, ℕ, ◌≤◌, List, [], ◌∷◌, Option, Some, None, length, codes, MatchOption, sym, ap, ◌∙◌, arith}
 use Rattle.std.specs.Prelude.{slice_index_or}
 use Rattle.std.specs.Fmt.{decimal}
 use Rattle.spmd_tool.specs.Words.{AreRunWords, run_words}

@@ -1,26 +1,33 @@
--- What is told of a run by what was said.
-use Rattle.std.proofs.Common.{◌≡◌, ◌≢◌, ℕ, Bool, true, false, List, Option, IsTrue, ap, sym, subst, ◌∙◌}
-use Rattle.std.specs.Io.KnownBytes.{Appends}
-use Rattle.spmd_tool.specs.Answer.{IsAnswer, is_said}
-use Rattle.spmd_tool.specs.Outside.{WritesPart}
-use Rattle.spmd_tool.specs.declared.status.Status.{Status}
-use Rattle.spmd_tool.specs.declared.status.Status.TheVariants.{WriteFault, TooLong}
+-- What is told of the bytes of a source.
+use Rattle.std.proofs.Common.{◌≡◌, ℕ, ◌<◌, List, [], ◌++◌, Option, Some, None, length, sym, ap, subst, ◌∙◌, refl, append-nil, arith}
+use Rattle.std.proofs.lemmas.List.{length-append}
+use Rattle.std.specs.Io.KnownBytes.{Consumes, IsAtEnd}
+use Rattle.spmd_tool.specs.Outside.{WhereTold, AreTold}
 
-not_fault : (r : Status) → is_said r ≡ true → r ≢ WriteFault
-not_fault r h e = let f : false ≡ true = sym (ap is_said e) ∙ h in cc
+-- some bytes are those of a source
+pub some_told : (told : Option (List ℕ)) → (bytes : List ℕ) × AreTold told bytes
+some_told None = ([], tt)
+some_told (Some those) = (those, refl)
 
--- what is said is the answer
-pub said_text : (words : List (List ℕ)) (status r : Status) (text : List ℕ) (a b : Option (List ℕ)) → IsAnswer words status text → (r ≢ WriteFault → r ≡ status) → (r ≢ WriteFault → Appends a b text) → is_said r ≡ true → (t : List ℕ) × IsAnswer words r t × Appends a b t
-said_text words status r text a b answer outcome said h =
-    let fine = not_fault r h in
-    (text, subst (λ s. IsAnswer words s text) (sym (outcome fine)) answer, said fine)
+-- what was read up to the end is what was there
+all_told : (old new : Option (List ℕ)) (bytes : List ℕ) → Consumes old new bytes → IsAtEnd new → AreTold old bytes
+all_told None new bytes p q = tt
+all_told (Some xs) None bytes p q = absurd p
+all_told (Some xs) (Some ys) bytes p q = sym (p ∙ ap (λ l. bytes ++ l) q ∙ append-nil bytes)
 
--- a part of it, where a write failed
-pub part_text : (words : List (List ℕ)) (status r : Status) (text : List ℕ) (a b : Option (List ℕ)) → IsAnswer words status text → (r ≡ WriteFault → WritesPart a b text) → r ≡ WriteFault → (s : Status) × (t : List ℕ) × IsAnswer words s t × WritesPart a b t
-part_text words status r text a b answer part e = (status, text, answer, part e)
+-- the same for equal bytes
+pub read_told : (old new : Option (List ℕ)) (bytes those : List ℕ) → Consumes old new bytes → IsAtEnd new → those ≡ bytes → AreTold old those
+read_told old new bytes those p q e = subst (AreTold old) (sym e) (all_told old new bytes p q)
 
--- no other answer is that the source is too long
-pub not_long : (status r : Status) → (r ≢ WriteFault → r ≡ status) → status ≢ TooLong → r ≡ TooLong → ⊥
-not_long status r outcome short e =
-    let fine : r ≢ WriteFault = λ f. (let g : TooLong ≡ WriteFault = sym e ∙ f in cc) in
-    short (sym (outcome fine) ∙ e)
+-- what was there is more than what was read of it
+pub more_told : (old new : Option (List ℕ)) (bytes : List ℕ) (n : ℕ) → Consumes old new bytes → n < length bytes → (all : List ℕ) × AreTold old all × (n < length all)
+more_told None new bytes n p h = (bytes, tt, h)
+more_told (Some xs) None bytes n p h = absurd p
+more_told (Some xs) (Some ys) bytes n p h =
+    let long : n < length xs = omega (arith, ap length p, length-append bytes ys) in
+    (xs, refl, long)
+
+-- what holds of these bytes holds where they are told
+pub at_told : (told : Option (List ℕ)) (bytes : List ℕ) (P : List ℕ → Type 0) → AreTold told bytes → P bytes → WhereTold told P
+at_told None bytes P e p = tt
+at_told (Some those) bytes P e p = subst P e p

@@ -1,4 +1,6 @@
 pub mod PlanText
 pub mod Outside
 pub mod Words
-pub mod Answer
+pub mod Due
+pub mod Written
+pub mod FirstRun

@@ -1,4 +1,4 @@
--- What is known of the bytes of a source and a sink.
+-- What is known of the bytes of a source and a sink, and of their counts.
 use Rattle.std.specs.Prelude.{◌≡◌, ℕ, List, ◌++◌, Option, Some, None, ⊤, ◌⊎◌}
 use Rattle.std.specs.Io.KnownBytes.{Appends}
 use Rattle.spmd_ports.specs.Counts.{Rose}
@@ -8,6 +8,10 @@ abbrev pub WhereTold : Option (List ℕ) → (List ℕ → Type 0) → Type 0
 WhereTold None P = ⊤
 WhereTold (Some bytes) P = P bytes
 
+-- these are the bytes, where they are told
+abbrev pub AreTold : Option (List ℕ) → List ℕ → Type 0
+AreTold told bytes = WhereTold told (λ those. bytes ≡ those)
+
 -- a part from the front of a text was written
 abbrev pub WritesPart : Option (List ℕ) → Option (List ℕ) → List ℕ → Type 0
 WritesPart old new text = (front : List ℕ) × (rest : List ℕ) × (text ≡ front ++ rest) × Appends old new front
@@ -15,3 +19,7 @@ WritesPart old new text = (front : List ℕ) × (rest : List ℕ) × (text ≡ f
 -- one of two counts rose
 abbrev pub RoseOneOf : ℕ → ℕ → ℕ → ℕ → Type 0
 RoseOneOf faults faults' empties empties' = Rose faults faults' ⊎ Rose empties empties'
+
+-- no count rose: neither the source's faults, nor the sink's faults and empty answers
+abbrev pub NoneRose : ℕ → ℕ → ℕ → ℕ → ℕ → ℕ → Type 0
+NoneRose reads reads' faults faults' empties empties' = ¬ Rose reads reads' × ¬ RoseOneOf faults faults' empties empties'

@@ -1,13 +1,15 @@
 // What is due for a run, from the source's bytes alone.
 
-ghost use Rattle.std.specs.Prelude.{◌≡◌, ◌≢◌, ◌≤◌, IfOk, IsTrue};
+ghost use Rattle.std.specs.Prelude.{◌≡◌, ◌≤◌, ℕ, length, IfOk, IsTrue};
 ghost use Rattle.nest_tree.specs.Straight.{IsStraight};
+ghost use Rattle.nest_tree.specs.Tree.{Tree};
 ghost use Rattle.nest_tree.specs.View.{tree_of};
 ghost use Rattle.nest_tree.specs.WellFormed.{IsWellFormed};
 ghost use Rattle.nest_model.specs.Memory.{output_of};
+ghost use Rattle.f77_reader.specs.Straight.{Reads, FirstFault};
 ghost use Rattle.spmd_core.specs.Fit.{IsFit};
 ghost use Rattle.spmd_core.specs.Progress.{has_one_owner};
-ghost use Rattle.spmd_tool.specs.Answer.{IsAnswerFor, is_said, refused_text};
+ghost use Rattle.spmd_tool.specs.Due.{IsDueForRun, most_bytes, run_text, refused_text};
 
 use crate::status::Status;
 use crate::text::plan_text;
@@ -28,43 +30,24 @@ pub struct Answer {
 pub fn answer_of(alloc: Global, workers: u32, bytes: &[u8]) -> Result<Answer, AllocError>
     requires some { 1 ≤ workers }
     requires few { workers ≤ 64 }
-    ensures answer { IfOk result (λ a. IsAnswerFor workers a.status a.text.items) }
-    ensures said { IfOk result (λ a. IsTrue (is_said a.status)) }
-    ensures short { IfOk result (λ a. a.status ≢ Status.TooLong) }
+    requires short { length bytes.now ≤ most_bytes }
+    // The answer is due.
+    ensures due { IfOk result (λ a. IsDueForRun workers bytes.now a.status a.text.items) }
+    // A source of the straight form is run, and any other is refused.
+    ensures done { (tree : Tree) → Reads bytes.now tree → IfOk result (λ a. a.status ≡ Status.Done) }
+    ensures refused { (n : ℕ) → FirstFault bytes.now n → IfOk result (λ a. a.status ≡ Status.SourceRefused) }
 {
     match read_straight(alloc, bytes) {
-        Ok(program) => run_answer(alloc, workers, &program),
-        Err(Refusal::NotInProfile(line)) => refusal_answer(alloc, workers, line),
+        Ok(program) => Ok(Answer {
+            status: Status::Done,
+            text: text_of_run(alloc, &program, workers)?,
+        }),
+        Err(Refusal::NotInProfile(line)) => Ok(Answer {
+            status: Status::SourceRefused,
+            text: text_of_refusal(alloc, line)?,
+        }),
         Err(Refusal::NoMemory) => Err(AllocError),
     }
-}
-
-fn run_answer(alloc: Global, workers: u32, program: &Program) -> Result<Answer, AllocError>
-    requires formed { IsWellFormed (tree_of program.now) }
-    requires straight { IsStraight (tree_of program.now) }
-    requires some { 1 ≤ workers }
-    requires few { workers ≤ 64 }
-    ensures answer { IfOk result (λ a. IsAnswerFor workers a.status a.text.items) }
-    ensures said { IfOk result (λ a. IsTrue (is_said a.status)) }
-    ensures short { IfOk result (λ a. a.status ≢ Status.TooLong) }
-{
-    let text = text_of_run(alloc, program, workers)?;
-    Ok(Answer {
-        status: Status::Done,
-        text,
-    })
-}
-
-fn refusal_answer(alloc: Global, workers: u32, line: u32) -> Result<Answer, AllocError>
-    ensures answer { IfOk result (λ a. IsAnswerFor workers a.status a.text.items) }
-    ensures said { IfOk result (λ a. IsTrue (is_said a.status)) }
-    ensures short { IfOk result (λ a. a.status ≢ Status.TooLong) }
-{
-    let text = text_of_refusal(alloc, line)?;
-    Ok(Answer {
-        status: Status::SourceRefused,
-        text,
-    })
 }
 
 // The plan and the output of a program that runs with a barrier in front of each statement.
@@ -73,7 +56,7 @@ fn text_of_run(alloc: Global, program: &Program, workers: u32) -> Result<Vec<u8>
     requires straight { IsStraight (tree_of program.now) }
     requires some { 1 ≤ workers }
     requires few { workers ≤ 64 }
-    ensures { IfOk result (λ text. IsAnswerFor workers Status.Done text.items) }
+    ensures { IfOk result (λ text. text.items ≡ run_text workers (tree_of program.now)) }
 {
     let plan = all_barriers(alloc, program, workers)?;
     let mut text = plan_text(alloc, &plan)?;

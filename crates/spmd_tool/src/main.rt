@@ -5,7 +5,11 @@
 //! and ends with its status.
 #![tactic(auto)]
 
+ghost use Rattle.std.specs.Prelude.{◌≡◌, ◌≢◌, ◌⊎◌, ℕ, map, string_bytes, IfOk};
+ghost use Rattle.spmd_tool.specs.Words.{texts, AreRunWords, AreOthers};
+
 mod answer;
+mod laws;
 mod outside;
 mod status;
 mod text;
@@ -15,6 +19,7 @@ mod words;
 use crate::status::Status;
 use crate::tool::tool;
 use spmd_ports::{StdSink, StdSource};
+use std::alloc::{AllocError, Global};
 use std::io::ErrorKind;
 use std::process::ExitCode;
 use std::{env, io};
@@ -38,17 +43,28 @@ fn words_of(rt: &HostRuntime) -> io::Result<Vec<String>> {
     Ok(words)
 }
 
-// The tool over standard input and output.
-fn run(rt: &HostRuntime, words: &[String]) -> Status {
-    let mut texts = Vec::new(rt.alloc());
-    for word in words {
-        if texts.push(word.as_str()).is_err() {
-            return Status::NoMemory;
-        }
-    }
+// The tool over standard input and output, on these words.
+fn run(rt: &HostRuntime, words: &[String]) -> Status
+    ensures right_words { (workers : ℕ) → AreRunWords (map string_bytes words.now) workers → result ≢ Status.BadWords }
+    ensures wrong_words { AreOthers (map string_bytes words.now) → (result ≡ Status.BadWords) ⊎ ((result ≡ Status.WriteFault) ⊎ (result ≡ Status.NoMemory)) }
+{
+    let Ok(texts) = texts_of(rt.alloc(), words) else {
+        return Status::NoMemory;
+    };
     let mut source = StdSource::new(rt.stdin());
     let mut sink = StdSink::new(rt.stdout());
     tool(rt.alloc(), &texts, &mut source, &mut sink)
+}
+
+// The texts of words.
+fn texts_of(alloc: Global, words: &[String]) -> Result<Vec<&str>, AllocError>
+    ensures { IfOk result (λ refs. texts refs.items ≡ map string_bytes words.now) }
+{
+    let mut refs = Vec::new(alloc);
+    for word in words {
+        refs.push(word.as_str())?;
+    }
+    Ok(refs)
 }
 
 #[cfg(test)]

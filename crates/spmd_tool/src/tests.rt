@@ -98,12 +98,14 @@ fn refuses_a_line(rt: HostRuntime) -> Result<(), Fail> {
 
 #[test]
 fn refuses_a_source_that_is_too_long(rt: HostRuntime) -> Result<(), Fail> {
-    for (length, status) in [
-        (4_194_304, Status::SourceRefused),
-        (4_194_305, Status::TooLong),
+    for (length, piece, status) in [
+        (4_194_304, 100_000, Status::SourceRefused),
+        (4_194_305, 100_000, Status::TooLong),
+        (200_000, 1, Status::SourceRefused),
     ] {
+        prove!(piece > 0);
         let long = vec![in rt.alloc(); b' '; length]?;
-        let (ended, sink) = run_of(rt.alloc(), &long, (100_000, 1000), (&[], &[]))?;
+        let (ended, sink) = run_of(rt.alloc(), &long, (piece, 1000), (&[], &[]))?;
         assert_eq!(rt; ended, status);
         let line = sink.written() == b"TOO LONG\n".as_slice();
         assert_eq!(rt; line, status == Status::TooLong);
@@ -111,44 +113,67 @@ fn refuses_a_source_that_is_too_long(rt: HostRuntime) -> Result<(), Fail> {
     Ok(())
 }
 
-// The status with the workers and the words at these two places turned round.
-fn status_with(alloc: Global, workers: &str, turned: (usize, usize)) -> Result<Status, Fail>
-    requires first { turned.0 < 7 }
-    requires second { turned.1 < 7 }
-{
-    let mut words = WORDS;
-    words[2] = workers;
-    words.swap(turned.0, turned.1);
+// The status and what is written with these words.
+fn said_to(alloc: Global, words: &[&str]) -> Result<(Status, MemSink), Fail> {
     let mut source = MemSource::new(alloc, FIRST, 1000, &[])?;
     let mut sink = MemSink::new(alloc, 1000, 1000, &[])?;
-    Ok(tool(alloc, &words, &mut source, &mut sink))
+    let status = tool(alloc, words, &mut source, &mut sink);
+    Ok((status, sink))
 }
 
 #[test]
 fn takes_1_to_64_workers(rt: HostRuntime) -> Result<(), Fail> {
+    let mut words = WORDS;
     for workers in ["1", "9", "10", "63", "64"] {
-        let status = status_with(rt.alloc(), workers, (0, 0))?;
+        words[2] = workers;
+        let (status, _) = said_to(rt.alloc(), &words)?;
         assert_eq!(rt; status, Status::Done, "{workers}");
     }
     for workers in ["", "0", "02", "65", "100", "+1", "-1", "1 ", "a"] {
-        let status = status_with(rt.alloc(), workers, (0, 0))?;
+        words[2] = workers;
+        let (status, _) = said_to(rt.alloc(), &words)?;
         assert_eq!(rt; status, Status::BadWords, "{workers}");
     }
     Ok(())
 }
 
+// The words in one of their 5,040 orders. Order 0 is their own.
+fn ordered(alloc: Global, order: usize) -> Result<Vec<&'static str>, Fail> {
+    let mut left = Vec::from_array(alloc, WORDS)?;
+    let mut words = Vec::new(alloc);
+    let mut choice = order;
+    while !left.is_empty() {
+        let count = left.len();
+        words.push(left.remove(choice % count))?;
+        choice /= count;
+    }
+    Ok(words)
+}
+
 #[test]
 fn takes_words_in_their_order_alone(rt: HostRuntime) -> Result<(), Fail> {
-    for second in 1..7usize {
-        for first in 0..second {
-            let status = status_with(rt.alloc(), "2", (first, second))?;
-            assert_eq!(rt; status, Status::BadWords, "{first} {second}");
+    for order in 0..5040 {
+        let words = ordered(rt.alloc(), order)?;
+        let (status, sink) = said_to(rt.alloc(), &words)?;
+        if order == 0 {
+            assert_eq!(rt; status, Status::Done);
+        } else {
+            assert_eq!(rt; status, Status::BadWords, "{order}");
+            assert_eq!(rt; sink.written(), b"WORDS 0\n".as_slice());
         }
     }
-    let mut source = MemSource::new(rt.alloc(), FIRST, 1000, &[])?;
-    let mut sink = MemSink::new(rt.alloc(), 1000, 1000, &[])?;
-    let status = tool(rt.alloc(), &["run"], &mut source, &mut sink);
+    Ok(())
+}
+
+#[test]
+fn takes_no_fewer_and_no_more_words(rt: HostRuntime) -> Result<(), Fail> {
+    for count in 0..7 {
+        let (status, _) = said_to(rt.alloc(), &WORDS[..count])?;
+        assert_eq!(rt; status, Status::BadWords, "{count}");
+    }
+    let mut words = Vec::from_array(rt.alloc(), WORDS)?;
+    words.push("core")?;
+    let (status, _) = said_to(rt.alloc(), &words)?;
     assert_eq!(rt; status, Status::BadWords);
-    assert_eq!(rt; sink.written(), b"WORDS 0\n".as_slice());
     Ok(())
 }

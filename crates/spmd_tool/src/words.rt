@@ -1,15 +1,15 @@
 // The words of a command.
 
-ghost use Rattle.std.specs.Prelude.{◌≡◌, ◌≢◌, ◌≤◌, ◌<◌, ◌↔◌, ℕ, map, length, codes, IsTrue, MatchOption};
+ghost use Rattle.std.specs.Prelude.{◌≡◌, ◌≢◌, ◌≤◌, ◌<◌, ◌↔◌, ℕ, length, codes, IsTrue, MatchOption};
 ghost use Rattle.std.specs.Fmt.{decimal};
-ghost use Rattle.spmd_tool.specs.Words.{AreRunWords, IsWord};
+ghost use Rattle.spmd_tool.specs.Words.{texts, AreRunWords, AreOthers, IsWord};
 
 /// The workers that the words ask for, where they are those of the one command that is offered:
 /// `run --workers P --plan barrier --by core`, in this order, with P from 1 to 64 in decimal
 /// digits without leading zeros.
 pub fn workers_of(words: &[&str]) -> Option<u32>
-    ensures { MatchOption result ((workers : ℕ) → AreRunWords (map (λ w. w.now) words.now) workers → ⊥)
-        (AreRunWords (map (λ w. w.now) words.now)) }
+    ensures { MatchOption result (AreOthers (texts words.now))
+        (AreRunWords (texts words.now)) }
 {
     if words.len() == 7 && begins(words) && ends(words) {
         workers_in(words[2])
