@@ -10,3 +10,7 @@ pub mod Steps
 pub mod Lowest
 pub mod Origins
 pub mod Tightening
+pub mod Marks
+pub mod Copies
+pub mod Walks
+pub mod Endings

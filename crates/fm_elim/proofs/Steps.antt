@@ -43,7 +43,7 @@ products-append vars rows more (t ∷ terms) k named =
     let same : row_at (rows ++ more) t.0 ≡ row_at rows t.0 = get_or_append_left rows more no_row (t.0 - 1) (omega (arith, first)) in
     ap (λ r. (t.1 *ℤ entry_at vars r k) ∷ products_at vars (rows ++ more) terms k) same ∙ ap (λ ps. (t.1 *ℤ entry_at vars (row_at rows t.0) k) ∷ ps) rest
 
-map-agree : {X Y : Type 0} (f g : X → Y) (xs : List X) → ((x : X) → f x ≡ g x) → map f xs ≡ map g xs
+pub map-agree : {X Y : Type 0} (f g : X → Y) (xs : List X) → ((x : X) → f x ≡ g x) → map f xs ≡ map g xs
 map-agree f g [] h = refl
 map-agree f g (x ∷ xs) h = ap (λ y. y ∷ map f xs) (h x) ∙ ap (λ ys. g x ∷ ys) (map-agree f g xs h)
 

@@ -4,3 +4,4 @@ pub mod Levels
 pub mod Forming
 pub mod Logs
 pub mod Answers
+pub mod Lean

@@ -13,6 +13,7 @@
 #![tactic(auto)]
 
 pub mod answer;
+pub mod certificate;
 pub mod combination;
 pub mod derivation;
 pub mod level;
