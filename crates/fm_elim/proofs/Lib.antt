@@ -14,3 +14,5 @@ pub mod Marks
 pub mod Copies
 pub mod Walks
 pub mod Endings
+pub mod Opposites
+pub mod Reached

@@ -91,13 +91,13 @@ module _ (vars : ℕ) (rows : List Row) (step : Step) (raw : Row) (g : ℕ) (ful
       rest (negsuc n) e = ap (λ m. neg_ℤ (pos m)) e
 
 -- the entries of a suited row are narrow
-narrow-entry : (vars : ℕ) (row : Row) (k : ℕ) → IsSuited vars row → k ≤ vars → IsTrue (is_narrow (entry_at vars row k))
+pub narrow-entry : (vars : ℕ) (row : Row) (k : ℕ) → IsSuited vars row → k ≤ vars → IsTrue (is_narrow (entry_at vars row k))
 narrow-entry vars row k suited h =
     by_lt {P = IsTrue (is_narrow (entry_at vars row k))} k vars
     (λ lt. subst (λ z. IsTrue (is_narrow z)) (sym (entry_at-coef vars row k lt)) (suited.coefs k (pos 0) (omega (arith, suited.full))))
     (λ ge. let e : vars ≡ k = omega arith in subst (λ i. IsTrue (is_narrow (entry_at vars row i))) e (subst (λ z. IsTrue (is_narrow z)) (sym (entry_at-bound vars row)) suited.bound))
 
-once : (z : ℤ) → pos 1 *ℤ z ≡ z
+pub once : (z : ℤ) → pos 1 *ℤ z ≡ z
 once z = omega (arith, ints)
 
 -- a reduction

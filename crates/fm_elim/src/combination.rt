@@ -52,7 +52,7 @@ fn narrow_product(a: i128, b: i128) -> Option<i128>
 }
 
 // The sum, if it is at most 2 ^ 126 in size.
-fn narrow_sum(a: i128, b: i128) -> Option<i128>
+pub(crate) fn narrow_sum(a: i128, b: i128) -> Option<i128>
     ensures { result ≡ (if narrow (a +ℤ b) then Some (a +ℤ b) else None) }
 {
     a.checked_add(b).filter(|sum| is_narrow(*sum))

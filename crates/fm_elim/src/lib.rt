@@ -16,10 +16,12 @@ pub mod answer;
 pub mod certificate;
 pub mod combination;
 pub mod derivation;
+pub mod elimination;
 pub mod level;
 pub mod reduction;
 
 pub use answer::{Answer, NoMemory};
+pub use elimination::decide;
 
 #[cfg(test)]
 mod tests;
