@@ -24,4 +24,6 @@ pub use answer::{Answer, NoMemory};
 pub use elimination::decide;
 
 #[cfg(test)]
+mod decision_tests;
+#[cfg(test)]
 mod tests;

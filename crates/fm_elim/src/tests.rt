@@ -11,9 +11,9 @@ use std::cmp::Ordering;
 use std::test::Fail;
 
 // A row's coefficients and its bound.
-type Given<'a> = (&'a [i128], i128);
+pub(crate) type Given<'a> = (&'a [i128], i128);
 
-fn row_of(alloc: Global, coefs: &[i128], bound: i128) -> Result<Row, AllocError>
+pub(crate) fn row_of(alloc: Global, coefs: &[i128], bound: i128) -> Result<Row, AllocError>
     ensures { IfOk result (λ row. row.coefs ≡ coefs.now) }
 {
     Ok(Row {
