@@ -16,3 +16,4 @@ pub mod Walks
 pub mod Endings
 pub mod Opposites
 pub mod Reached
+pub mod Ends

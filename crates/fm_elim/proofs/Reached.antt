@@ -12,9 +12,9 @@ use Rattle.fm_elim.specs.declared.derivation.Derivation.{Derivation}
 use Rattle.fm_elim.specs.declared.level.Held.{Held}
 use Rattle.fm_elim.specs.Pairs.{coef_of, IsPair, IsWide}
 use Rattle.fm_elim.specs.Levels.{IsEmpty, IsKept, IsRaw, IsDerived, IsClearTo, HasMoreThan}
-use Rattle.fm_elim.specs.Forming.{IsFormed}
+use Rattle.fm_elim.specs.Forming.{IsUpto, IsFormed}
 use Rattle.fm_elim.specs.Logs.{IsLog, IsHeld, rows_of}
-use Rattle.fm_elim.specs.Answers.{NamesEachOnce, HasRationalSolution, IsWidePair, IsWideAt, IsManyAt}
+use Rattle.fm_elim.specs.Answers.{NamesEachOnce, HasRationalSolution, IsWidePair, IsWideAt, IsManyAt, IsFreeOfClashes}
 use Rattle.fm_elim.proofs.Combined.{by_lt}
 use Rattle.fm_elim.proofs.Removal.{IsSolvable}
 use Rattle.fm_elim.proofs.Exactness.{IsExact, IsExact-first, IsExact-next, raw_of_other, kept_of_other}
@@ -29,11 +29,19 @@ pub record IsReached (system : Inequalities) (order : List ℕ) (k : ℕ) (log :
   pub rid : IsRid order k (rows_of level)
   pub clear : (j : ℕ) (row : Row) → j < k → IsDerived system order j row → IsEmpty row → ⊥
   pub useful : All (λ h. IsEmpty h.row → h.row.bound <ℤ pos 0) level
+  pub ascending : AllPairs (λ h o. IsUpto h.row.coefs o.row.coefs) level
+  pub distinct : AllPairs (λ h o. h.row.coefs ≡ o.row.coefs → ⊥) level
   pub back : IsSolvable system.vars (rows_of level) → IsSolvable system.vars system.rows
 
 -- what holds of the rows holds of the held ones
 from_rows : (P : Row → Type 0) (level : List Held) → All P (rows_of level) → All (λ h. P h.row) level
 from_rows P level all k d h = subst P (get_or-map (λ h. h.row) level k d d.row h) (all k d.row (omega (arith, length-map level (λ h. h.row))))
+
+pairs_from_rows : (R : Row → Row → Type 0) (level : List Held) → AllPairs R (rows_of level) → AllPairs (λ h o. R h.row o.row) level
+pairs_from_rows R level all i j d lt h =
+    let at : (k : ℕ) → k < length level → get_or (rows_of level) k d.row ≡ (get_or level k d).row = λ k below. get_or-map (λ h. h.row) level k d d.row below in
+    let both : R (get_or (rows_of level) i d.row) (get_or (rows_of level) j d.row) = all i j d.row lt (omega (arith, length-map level (λ h. h.row))) in
+    subst (λ r. R r (get_or level j d).row) (at i (omega arith)) (subst (R (get_or (rows_of level) i d.row)) (at j h) both)
 
 -- level 0
 pub reached_first : (system : Inequalities) (order : List ℕ) (log : List Derivation) (level : List Held) → IsFormed (λ r. Contains system.rows r) (rows_of level) → IsLog system log → All (IsHeld system log) level → IsReached system order 0 log level
@@ -44,6 +52,8 @@ reached_first system order log level formed good held = record {
   rid = IsRid-start order (rows_of level);
   clear = λ j row lt. absurd (omega arith);
   useful = from_rows (λ r. IsEmpty r → r.bound <ℤ pos 0) level formed.useful;
+  ascending = pairs_from_rows (λ r s. IsUpto r.coefs s.coefs) level formed.ascending;
+  distinct = pairs_from_rows (λ r s. r.coefs ≡ s.coefs → ⊥) level formed.distinct;
   back = solvable_system system.vars system.rows (rows_of level) formed;
 }
 
@@ -76,6 +86,12 @@ module _ (system : Inequalities) (order : List ℕ) (k : ℕ) (log : List Deriva
       (λ early. reached.clear j row early derived)
       (λ here. let e : j ≡ k = omega arith in none_derived row (subst (λ i. IsDerived system order i row) e derived))
 
+  -- nor do two clash, where none of the list do
+  pub free_here : (number : ℕ) → number ≡ k + 1 → IsFreeOfClashes (λ r. Contains (rows_of level) r) → IsFreeOfClashes (IsDerived system order (number - 1))
+  free_here number e free upper lower hu hl =
+      let place : number - 1 ≡ k = omega arith in
+      free upper lower (reached.exact.has upper (subst (λ i. IsDerived system order i upper) place hu)) (reached.exact.has lower (subst (λ i. IsDerived system order i lower) place hl))
+
   full : AreFull system.vars (rows_of level)
   full = All-map (λ r. length r.coefs ≡ system.vars) (λ (h : Held). h.row) level (All-weaker (IsHeld system log) (λ h. length h.row.coefs ≡ system.vars) (λ h held. held.suited.full) level reached.held)
 
@@ -91,6 +107,8 @@ module _ (system : Inequalities) (order : List ℕ) (k : ℕ) (log : List Deriva
         rid = IsRid-next order k system.vars (rows_of level) (rows_of next) full reached.rid formed';
         clear = λ j row lt. clear_here j row (omega arith);
         useful = from_rows (λ r. IsEmpty r → r.bound <ℤ pos 0) next formed.useful;
+        ascending = pairs_from_rows (λ r s. IsUpto r.coefs s.coefs) next formed.ascending;
+        distinct = pairs_from_rows (λ r s. r.coefs ≡ s.coefs → ⊥) next formed.distinct;
         back = λ s. reached.back (solvable_before v system.vars (rows_of level) (rows_of next) low high full formed s);
       }
 

@@ -13,7 +13,7 @@ use Rattle.std.proofs.lemmas.List.Elements.{All-contains, Contains-get_or, All-p
 use Rattle.std.proofs.lemmas.List.Sorted.{ranks_by}
 use lib.Signed.{≤ℤ_refl}
 use Rattle.fm_elim.specs.declared.level.Candidate.{Candidate}
-use Rattle.fm_elim.specs.Forming.{candidate_cmp, IsTightened}
+use Rattle.fm_elim.specs.Forming.{candidate_cmp, IsUpto, IsTightened}
 use Rattle.fm_elim.proofs.Combined.{by_lt}
 
 -- the order of candidates is total
@@ -22,10 +22,6 @@ candidate_total = then_total (on_total (λ c. c.row.coefs) (lists_total int_cmp_
 
 pub candidate_order : IsStrictWeakOrder (λ a b. is_lt (candidate_cmp a b))
 candidate_order = ranks_by candidate_total (λ c. c)
-
--- a list of coefficients isn't after the other
-abbrev pub IsUpto : List ℤ → List ℤ → Type 0
-IsUpto xs ys = is_gt (slice_cmp int_cmp xs ys) ≡ false
 
 same_cons : (x y : ℤ) (xs ys : List ℤ) (o p : Ordering) → o ≡ ordering_reverse p → (o ≡ Equal → x ≡ y) → is_gt (ordering_then o (slice_cmp int_cmp xs ys)) ≡ false → is_gt (ordering_then p (slice_cmp int_cmp ys xs)) ≡ false → (IsUpto xs ys → IsUpto ys xs → xs ≡ ys) → x ∷ xs ≡ y ∷ ys
 same_cons x y xs ys Less Less e same a b rest = cc

@@ -80,3 +80,7 @@ pub record AreClashing (upper lower : Row) : Type 0 where
   pub opposite : lower.coefs ≡ map neg_ℤ upper.coefs
   pub below : (upper.bound +ℤ lower.bound) <ℤ pos 0
   pub narrow : IsTrue (is_narrow (upper.bound +ℤ lower.bound))
+
+-- no two rows of the set clash
+abbrev pub IsFreeOfClashes : (Row → Type 0) → Type 0
+IsFreeOfClashes set = (upper lower : Row) → set upper → set lower → AreClashing upper lower → ⊥

@@ -1,8 +1,8 @@
 -- Lists of rows that hold a level.
-use Rattle.std.specs.Prelude.{pos, ◌≤ℤ◌, ◌<ℤ◌, List, [], ◌∷◌, ◌++◌, ◌⊎◌, ◌≡◌}
+use Rattle.std.specs.Prelude.{ℤ, pos, ◌≤ℤ◌, ◌<ℤ◌, false, List, [], ◌∷◌, ◌++◌, ◌⊎◌, ◌≡◌}
 use Rattle.std.specs.List.{All, AllPairs, Contains}
 use Rattle.std.specs.Cmp.Lexicographic.{slice_cmp}
-use Rattle.std.specs.Ordering.{int_cmp, ordering_then}
+use Rattle.std.specs.Ordering.{int_cmp, is_gt, ordering_then}
 use Rattle.std.specs.declared.cmp.Ordering.{Ordering}
 use Rattle.farkas_cert.specs.declared.system.Row.{Row}
 use Rattle.fm_elim.specs.declared.level.Candidate.{Candidate}
@@ -13,12 +13,17 @@ use Rattle.fm_elim.specs.Levels.{IsEmpty}
 abbrev pub Covers : List Row → Row → Type 0
 Covers rows row = (IsEmpty row × (pos 0 ≤ℤ row.bound)) ⊎ ((least : Row) × Contains rows least × (least.coefs ≡ row.coefs) × (least.bound ≤ℤ row.bound))
 
--- the list has what a level keeps of the raw rows, and nothing else
+-- a list of coefficients isn't after the other
+abbrev pub IsUpto : List ℤ → List ℤ → Type 0
+IsUpto xs ys = is_gt (slice_cmp int_cmp xs ys) ≡ false
+
+-- the list has what a level keeps of the raw rows, in the order of their coefficients, and nothing else
 pub record IsFormed (raws : Row → Type 0) (rows : List Row) : Type 0 where
   pub sound : All (λ r. (raw : Row) × raws raw × IsReduced raw r) rows
   pub complete : (raw : Row) → raws raw → (row : Row) × IsReduced raw row × Covers rows row
   pub distinct : AllPairs (λ r s. r.coefs ≡ s.coefs → ⊥) rows
   pub useful : All (λ r. IsEmpty r → r.bound <ℤ pos 0) rows
+  pub ascending : AllPairs (λ r s. IsUpto r.coefs s.coefs) rows
 
 -- by the coefficients, then by the bound
 abbrev pub candidate_cmp : Candidate → Candidate → Ordering

@@ -1,16 +1,17 @@
 // Elimination, level by level.
 
-ghost use Rattle.std.specs.Prelude.{◌≡◌, ◌↔◌, ◌<◌, ℤ, pos, neg_ℤ, ◌+ℤ◌, ◌<ℤ◌, IsTrue, IfOk, IfNone, IfSome, MatchOption, List, map, length};
-ghost use Rattle.std.specs.List.{All, Contains};
+ghost use Rattle.std.specs.Prelude.{◌≡◌, ◌↔◌, ◌<◌, ◌-◌, ℤ, pos, neg_ℤ, ◌+ℤ◌, ◌<ℤ◌, IsTrue, IfOk, IfNone, IfSome, MatchOption, List, map, length};
+ghost use Rattle.std.specs.List.{All, AllPairs, Contains};
 ghost use Rattle.std.specs.Cmp.Lexicographic.{slice_cmp};
 ghost use Rattle.std.specs.Ordering.{int_cmp};
 ghost use Rattle.farkas_cert.specs.Combination.{is_narrow as narrow};
 ghost use Rattle.farkas_cert.specs.Good.{IsGood};
 ghost use Rattle.fm_elim.specs.declared.level.Held.{Held as HeldRow};
-ghost use Rattle.fm_elim.specs.Levels.{IsEmpty, IsClearTo};
-ghost use Rattle.fm_elim.specs.Logs.{IsLog, IsHeld};
+ghost use Rattle.fm_elim.specs.Levels.{IsEmpty, IsDerived, IsClearTo};
+ghost use Rattle.fm_elim.specs.Forming.{IsUpto};
+ghost use Rattle.fm_elim.specs.Logs.{IsLog, IsHeld, rows_of};
 ghost use Rattle.fm_elim.specs.Lean.{IsLean};
-ghost use Rattle.fm_elim.specs.Answers.{NamesEachOnce, AreNarrow, HasRationalSolution, IfInfeasible, IfOpen, IfWide, IfMany, IsWideAt, IsManyAt, AreClashing};
+ghost use Rattle.fm_elim.specs.Answers.{NamesEachOnce, AreNarrow, HasRationalSolution, IfInfeasible, IfOpen, IfWide, IfMany, IsWideAt, IsManyAt, AreClashing, IsFreeOfClashes};
 
 use crate::answer::{Answer, NoMemory};
 use crate::certificate::certificate_of;
@@ -63,7 +64,10 @@ fn bounds_clash(bound: i128, other: i128) -> bool
 fn clash(level: &[Held]) -> Option<(u64, u64)>
     requires full { (h : HeldRow) (o : HeldRow) → Contains level.now h → Contains level.now o → length h.row.coefs ≡ length o.row.coefs }
     requires narrow { All (λ h. All (λ a. IsTrue (narrow a)) h.row.coefs) level.now }
-    ensures { IfSome result (λ p. (upper : HeldRow) × (lower : HeldRow) × Contains level.now upper × Contains level.now lower × (upper.number ≡ p.0) × (lower.number ≡ p.1) × AreClashing upper.row lower.row) }
+    requires ascending { AllPairs (λ h o. IsUpto h.row.coefs o.row.coefs) level.now }
+    requires distinct { AllPairs (λ h o. h.row.coefs ≡ o.row.coefs → ⊥) level.now }
+    ensures found { IfSome result (λ p. (upper : HeldRow) × (lower : HeldRow) × Contains level.now upper × Contains level.now lower × (upper.number ≡ p.0) × (lower.number ≡ p.1) × AreClashing upper.row lower.row) }
+    ensures none { IfNone result (IsFreeOfClashes (λ r. Contains (rows_of level.now) r)) }
 {
     let mut low = 0;
     let mut high = level.len();
@@ -94,9 +98,12 @@ fn refutation(
     requires log { IsLog system.now log.old.items }
     requires held { All (IsHeld system.now log.old.items) level.now }
     requires useful { All (λ h. IsEmpty h.row → h.row.bound <ℤ pos 0) level.now }
+    requires ascending { AllPairs (λ h o. IsUpto h.row.coefs o.row.coefs) level.now }
+    requires distinct { AllPairs (λ h o. h.row.coefs ≡ o.row.coefs → ⊥) level.now }
     ensures good { IfOk result (λ o. IfSome o (λ c. IsGood system.now c)) }
     ensures lean { IfOk result (λ o. IfSome o (λ c. IsLean system.now c)) }
     ensures clear { IfOk result (λ o. IfNone o (All (λ h. IsEmpty h.row → ⊥) level.now)) }
+    ensures apart { IfOk result (λ o. IfNone o (IsFreeOfClashes (λ r. Contains (rows_of level.now) r))) }
     ensures log { IfOk result (λ o. IfNone o (log.new.items ≡ log.old.items)) }
 {
     if let Some(number) = contradiction(level) {
@@ -121,7 +128,7 @@ fn refutation(
 /// Infeasible comes with a certificate that is good for the system, and in which each step but the
 /// last is needed by a later one. Open comes only where no level keeps a row without coefficients,
 /// so that the system has a rational solution. Wide and Many at a level come only where no level
-/// before it keeps one.
+/// before it keeps one, and no two rows of the level before it add to one (within the limit of 2 ^ 126).
 ///
 /// The order names each variable, from 1, once. The coefficients and the bounds are at most 2 ^ 126
 /// in size. An error says that memory ran out, and nothing of the system.
@@ -133,7 +140,9 @@ pub fn decide(alloc: Global, system: &System, order: &[u32]) -> Result<Answer, N
     ensures clear { IfOk result (λ a. IfOpen a (IsClearTo system.now order.now (length order.now))) }
     ensures solved { IfOk result (λ a. IfOpen a (HasRationalSolution system.now)) }
     ensures wide { IfOk result (λ a. IfWide a (λ k upper lower. IsWideAt system.now order.now k upper lower)) }
+    ensures before_wide { IfOk result (λ a. IfWide a (λ k upper lower. IsFreeOfClashes (IsDerived system.now order.now (k - 1)))) }
     ensures many { IfOk result (λ a. IfMany a (λ k count. IsManyAt system.now order.now k count)) }
+    ensures before_many { IfOk result (λ a. IfMany a (λ k count. IsFreeOfClashes (IsDerived system.now order.now (k - 1)))) }
 {
     let mut log = Vec::new(alloc);
     let mut level = first_level(alloc, system, &mut log)?;

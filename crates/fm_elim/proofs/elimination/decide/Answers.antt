@@ -1,11 +1,12 @@
 use Rattle.std.proofs.Common.{◌≡◌, ◌+◌, ◌-◌, ◌<◌, ◌≤◌, ◌^◌, IfNone, None, Fits, w32, length, get_or, ap, sym, ◌∙◌, subst, refl, arith}
-use Rattle.std.specs.List.{All}
+use Rattle.std.specs.List.{All, Contains}
 use Rattle.fm_elim.specs.declared.level.Held.{Held}
 use Rattle.fm_elim.specs.declared.level.Formed.TheVariants.{Level, Wide, Many}
 use Rattle.fm_elim.specs.Levels.{IsEmpty, IsClearTo}
 use Rattle.fm_elim.specs.Logs.{rows_of}
+use Rattle.fm_elim.specs.Answers.{IsFreeOfClashes}
 use Rattle.fm_elim.specs.Next.{IsNext}
-use Rattle.fm_elim.proofs.Reached.{IsReached, reached_first, order_length, order_within, order_names_last, clear_here, reached_next, wide_here, many_here, solved_here}
+use Rattle.fm_elim.proofs.Reached.{IsReached, reached_first, order_length, order_within, order_names_last, clear_here, reached_next, wide_here, many_here, free_here, solved_here}
 use Rattle.fm_elim.proofs.elimination.decide.Goals as goal
 
 pub loop-index-init : goal.loop-index-init
@@ -84,3 +85,21 @@ returns-clause-solved c =
     let here = subst (λ o. IfNone o (All (λ h. IsEmpty h.row → ⊥) c.as_slice-2.result.now)) c.in-None.is c.in_ok-certificate-2.ensures.clear in
     let none = subst (All (λ (h : Held). IsEmpty h.row → ⊥)) c.as_slice-2.ensures.value here in
     solved_here c.args.system.now c.args.order.now c.loop-index.index c.loop-index.log.items c.loop-index.level.items c.loop-index.invariant none c.requires.order last
+
+pub returns-in-Wide-clause-before_wide : goal.returns-in-Wide-clause-before_wide
+returns-in-Wide-clause-before_wide c =
+    let system = c.args.system.now in
+    let level = c.loop-index.level.items in
+    let here = subst (λ o. IfNone o (All (λ h. IsEmpty h.row → ⊥) c.as_slice.result.now)) c.in_default.is c.in_ok-certificate.ensures.clear in
+    let none = subst (All (λ (h : Held). IsEmpty h.row → ⊥)) c.as_slice.ensures.value here in
+    let free = subst (λ xs. IsFreeOfClashes (λ r. Contains (rows_of xs) r)) c.as_slice.ensures.value (subst (λ o. IfNone o (IsFreeOfClashes (λ r. Contains (rows_of c.as_slice.result.now) r))) c.in_default.is c.in_ok-certificate.ensures.apart) in
+    free_here system c.args.order.now c.loop-index.index c.loop-index.log.items level c.loop-index.invariant none (c.loop-index.index + 1) refl free
+
+pub returns-in-Many-clause-before_many : goal.returns-in-Many-clause-before_many
+returns-in-Many-clause-before_many c =
+    let system = c.args.system.now in
+    let level = c.loop-index.level.items in
+    let here = subst (λ o. IfNone o (All (λ h. IsEmpty h.row → ⊥) c.as_slice.result.now)) c.in_default.is c.in_ok-certificate.ensures.clear in
+    let none = subst (All (λ (h : Held). IsEmpty h.row → ⊥)) c.as_slice.ensures.value here in
+    let free = subst (λ xs. IsFreeOfClashes (λ r. Contains (rows_of xs) r)) c.as_slice.ensures.value (subst (λ o. IfNone o (IsFreeOfClashes (λ r. Contains (rows_of c.as_slice.result.now) r))) c.in_default.is c.in_ok-certificate.ensures.apart) in
+    free_here system c.args.order.now c.loop-index.index c.loop-index.log.items level c.loop-index.invariant none (c.loop-index.index + 1) refl free
