@@ -10,3 +10,9 @@ pub mod Steps
 pub mod Lowest
 pub mod Origins
 pub mod Tightening
+pub mod Continuing
+pub mod Covering
+pub mod Sizes
+pub mod Splitting
+pub mod Leveling
+pub mod Least

@@ -1,5 +1,5 @@
 -- Lists of rows that hold a level.
-use Rattle.std.specs.Prelude.{pos, ◌≤ℤ◌, ◌<ℤ◌, List, [], ◌∷◌, ◌++◌, ◌⊎◌, ◌≡◌}
+use Rattle.std.specs.Prelude.{◌-◌, ◌<◌, pos, ◌≤ℤ◌, ◌<ℤ◌, List, [], ◌∷◌, ◌++◌, length, slice_index_or, ◌⊎◌, ◌≡◌}
 use Rattle.std.specs.List.{All, AllPairs, Contains}
 use Rattle.std.specs.Cmp.Lexicographic.{slice_cmp}
 use Rattle.std.specs.Ordering.{int_cmp, ordering_then}
@@ -27,6 +27,14 @@ candidate_cmp a b = ordering_then (slice_cmp int_cmp a.row.coefs b.row.coefs) (i
 -- the candidate was added, or left out since its row says nothing
 abbrev pub IsAdded : List Candidate → Candidate → List Candidate → Type 0
 IsAdded old candidate new = ((new ≡ old ++ candidate ∷ []) × (IsEmpty candidate.row → candidate.row.bound <ℤ pos 0)) ⊎ ((new ≡ old) × IsEmpty candidate.row × (pos 0 ≤ℤ candidate.row.bound))
+
+-- the candidate has the coefficients of the last one kept
+abbrev pub IsRepeat : List Candidate → Candidate → Type 0
+IsRepeat kept candidate = (0 < length kept) × ((d : Candidate) → (slice_index_or kept (length kept - 1) d).row.coefs ≡ candidate.row.coefs)
+
+-- the candidate was kept, unless it repeats the last one
+abbrev pub IsFollowed : List Candidate → Candidate → List Candidate → Type 0
+IsFollowed old candidate new = (IsRepeat old candidate × (new ≡ old)) ⊎ ((IsRepeat old candidate → ⊥) × (new ≡ old ++ candidate ∷ []))
 
 -- of the candidates with equal coefficients one with the least bound was kept
 pub record IsTightened (candidates kept : List Candidate) : Type 0 where

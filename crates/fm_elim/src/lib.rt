@@ -15,8 +15,11 @@
 pub mod answer;
 pub mod combination;
 pub mod derivation;
+pub mod forming;
 pub mod level;
+pub mod pairs;
 pub mod reduction;
+pub mod tighten;
 
 pub use answer::{Answer, NoMemory};
 
