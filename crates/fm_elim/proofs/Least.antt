@@ -32,8 +32,8 @@ common_exists [] = (0, IsCommonDivisor-nil)
 common_exists (a ∷ coefs) =
     let rest = common_exists coefs in
     let both = gcd_exists (unsigned_abs a) rest.0 in
-    (both.0, All-cons (λ b. both.0 ∣ unsigned_abs b) a coefs both.1.0 (λ k d h. dvd_trans both.0 both.1.1 (rest.1.0 k d h)),
-     λ d each. both.1.2 d (All-head (λ b. d ∣ unsigned_abs b) a coefs each) (rest.1.1 d (All-tail (λ b. d ∣ unsigned_abs b) a coefs each)))
+    (both.0, (All-cons (λ b. both.0 ∣ unsigned_abs b) a coefs both.1.0 (λ k d h. dvd_trans both.0 both.1.1 (rest.1.0 k d h)),
+     λ d each. both.1.2 d (All-head (λ b. d ∣ unsigned_abs b) a coefs each) (rest.1.1 d (All-tail (λ b. d ∣ unsigned_abs b) a coefs each))))
 
 pub reduction_exists : (raw : Row) → (row : Row) × IsReduced raw row
 reduction_exists raw = let found = common_exists raw.coefs in (divided (max found.0 1) raw, (found.0, (found.1, refl)))

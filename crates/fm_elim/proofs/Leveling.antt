@@ -1,5 +1,5 @@
 -- A level from its candidates: tightened, they are formed, and where too many are apart it has too many rows.
-use Rattle.std.proofs.Common.{◌≡◌, ℕ, ◌<◌, pos, ◌<ℤ◌, ⊎_elim, inl, inr, List, map, length, get_or, ap, sym, ◌∙◌, subst, arith}
+use Rattle.std.proofs.Common.{◌≡◌, ℕ, ◌<◌, ℤ, pos, ◌<ℤ◌, ⊎_elim, inl, inr, List, map, length, get_or, ap, sym, ◌∙◌, subst, arith}
 use Rattle.std.specs.List.{All, Contains}
 use Rattle.std.proofs.lemmas.List.{length-map, get_or-map}
 use Rattle.std.proofs.lemmas.List.Elements.{All-map, All-weaker, All-contains}
@@ -10,13 +10,14 @@ use Rattle.fm_elim.specs.declared.level.Held.{Held}
 use Rattle.fm_elim.specs.declared.level.Candidate.{Candidate}
 use Rattle.fm_elim.specs.declared.level.Origin.TheVariants.{Numbered}
 use Rattle.fm_elim.specs.Reduction.{IsReduced}
-use Rattle.fm_elim.specs.Pairs.{coef_of}
-use Rattle.fm_elim.specs.Levels.{IsEmpty, IsRaw}
+use Rattle.fm_elim.specs.Pairs.{coef_of, IsPair, IsWide}
+use Rattle.fm_elim.specs.Levels.{IsEmpty, IsKept, IsRaw, HasMoreThan}
 use Rattle.fm_elim.specs.Forming.{Covers, IsFormed, IsTightened}
 use Rattle.fm_elim.specs.Logs.{IsFounded, IsHeld, rows_of, rows_among}
-use Rattle.fm_elim.specs.Gathering.{IsPaired, IsMade, candidate_of, CoversPair, IsSource, IsGathered, IsSound, IsCovered}
+use Rattle.fm_elim.specs.Gathering.{IsPaired, IsMade, candidate_of, CoversPair, HasApart, IsTooWide, IsSource, IsGathered, IsSound, IsCovered}
 use Rattle.fm_elim.proofs.Lowest.{IsReduced-lowest}
-use Rattle.fm_elim.proofs.Covering.{Contains-map, Contains-unmap, Covers-tightened}
+use Rattle.fm_elim.proofs.Covering.{Contains-map, Contains-unmap, Covers-tightened, HasApart-weaker, HasApart-tightened}
+use Rattle.fm_elim.proofs.Least.{listed_raws, many_from}
 use Rattle.fm_elim.proofs.Splitting.{IsSplit, apart_has, has_apart, uppers_have, has_upper, lowers_have, has_lower}
 
 -- tightened candidates that are sound and cover all raw rows
@@ -89,3 +90,32 @@ module _ (v : ℕ) (level apart uppers lowers : List Held) (split : IsSplit v le
       let at_up = All-contains (λ u. All (λ l. CoversPair v (rows_among candidates) u.row l.row) lowers) uppers up.0 gathered.pairs there_up in
       let at_low = All-contains (λ l. CoversPair v (rows_among candidates) up.0.row l.row) lowers low.0 at_up there_low in
       at_low raw paired) is_raw
+
+  -- a wide pair is one of the level's rows
+  pub wide_there : (u l : Held) → Contains uppers u → Contains lowers l → IsTooWide v u.row l.row → Contains (rows_of level) u.row × Contains (rows_of level) l.row × ((m : ℤ) × (n : ℤ) × IsPair v u.row l.row m n × IsWide system.vars m u.row n l.row)
+  wide_there u l has_u has_l wide =
+      let up = (uppers_have v level apart uppers lowers split u has_u).0 in
+      let low = (lowers_have v level apart uppers lowers split l has_l).0 in
+      let full = (All-contains (IsHeld system log) level u held up).suited.full in
+      (Contains-map (λ (h : Held). h.row) level u up, Contains-map (λ (h : Held). h.row) level l low, (wide.0, wide.1, wide.2, subst (λ k. IsWide k wide.0 u.row wide.1 l.row) full wide.3))
+
+  -- too many sources apart
+  pub many_there : HasApart 20000 (IsSource v apart uppers lowers) → HasMoreThan 20000 (IsKept (IsRaw v (Contains (rows_of level))))
+  many_there h = many_from 20000 (IsRaw v (Contains (rows_of level))) (listed_raws v (rows_of level)) (HasApart-weaker 20000 (IsSource v apart uppers lowers) (IsSound (IsRaw v (Contains (rows_of level)))) source_sound h)
+
+  -- gathered candidates, tightened
+  module _ (candidates kept : List Candidate) (gathered : IsGathered v apart uppers lowers candidates) (tight : IsTightened candidates kept) where
+    sound : All (IsSound (IsRaw v (Contains (rows_of level)))) candidates
+    sound = All-weaker (IsSource v apart uppers lowers) (IsSound (IsRaw v (Contains (rows_of level)))) source_sound candidates gathered.only
+
+    pub next_formed : IsFormed (IsRaw v (Contains (rows_of level))) (rows_among kept)
+    next_formed = formed_from (IsRaw v (Contains (rows_of level))) candidates kept sound (gathered_covers candidates gathered) tight
+
+    pub next_lowest : All (λ c. IsReduced c.row c.row) kept
+    next_lowest = lowest_from (IsRaw v (Contains (rows_of level))) candidates kept sound tight
+
+    pub next_founded : All (IsFounded system log) kept
+    next_founded = founded_from system log candidates kept (All-weaker (IsSource v apart uppers lowers) (IsFounded system log) source_founded candidates gathered.only) tight
+
+    pub next_many : 20000 < length kept → HasMoreThan 20000 (IsKept (IsRaw v (Contains (rows_of level))))
+    next_many many = many_there (HasApart-weaker 20000 (Contains candidates) (IsSource v apart uppers lowers) (λ c there. All-contains (IsSource v apart uppers lowers) candidates c gathered.only there) (HasApart-tightened 20000 candidates kept many tight))

@@ -16,3 +16,4 @@ pub mod Sizes
 pub mod Splitting
 pub mod Leveling
 pub mod Least
+pub mod Given
