@@ -17,3 +17,10 @@ pub mod Endings
 pub mod Opposites
 pub mod Reached
 pub mod Ends
+pub mod Continuing
+pub mod Covering
+pub mod Sizes
+pub mod Splitting
+pub mod Leveling
+pub mod Least
+pub mod Given

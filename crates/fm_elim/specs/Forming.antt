@@ -1,5 +1,5 @@
 -- Lists of rows that hold a level.
-use Rattle.std.specs.Prelude.{ℤ, pos, ◌≤ℤ◌, ◌<ℤ◌, false, List, [], ◌∷◌, ◌++◌, ◌⊎◌, ◌≡◌}
+use Rattle.std.specs.Prelude.{◌-◌, ◌<◌, ℤ, pos, ◌≤ℤ◌, ◌<ℤ◌, false, List, [], ◌∷◌, ◌++◌, length, slice_index_or, ◌⊎◌, ◌≡◌}
 use Rattle.std.specs.List.{All, AllPairs, Contains}
 use Rattle.std.specs.Cmp.Lexicographic.{slice_cmp}
 use Rattle.std.specs.Ordering.{int_cmp, is_gt, ordering_then}
@@ -33,8 +33,17 @@ candidate_cmp a b = ordering_then (slice_cmp int_cmp a.row.coefs b.row.coefs) (i
 abbrev pub IsAdded : List Candidate → Candidate → List Candidate → Type 0
 IsAdded old candidate new = ((new ≡ old ++ candidate ∷ []) × (IsEmpty candidate.row → candidate.row.bound <ℤ pos 0)) ⊎ ((new ≡ old) × IsEmpty candidate.row × (pos 0 ≤ℤ candidate.row.bound))
 
--- of the candidates with equal coefficients one with the least bound was kept
+-- the candidate has the coefficients of the last one kept
+abbrev pub IsRepeat : List Candidate → Candidate → Type 0
+IsRepeat kept candidate = (0 < length kept) × ((d : Candidate) → (slice_index_or kept (length kept - 1) d).row.coefs ≡ candidate.row.coefs)
+
+-- the candidate was kept, unless it repeats the last one
+abbrev pub IsFollowed : List Candidate → Candidate → List Candidate → Type 0
+IsFollowed old candidate new = (IsRepeat old candidate × (new ≡ old)) ⊎ ((IsRepeat old candidate → ⊥) × (new ≡ old ++ candidate ∷ []))
+
+-- of the candidates with equal coefficients one with the least bound was kept, and those are in the order of their coefficients
 pub record IsTightened (candidates kept : List Candidate) : Type 0 where
   pub subset : All (Contains candidates) kept
   pub covers : All (λ c. (k : Candidate) × Contains kept k × (k.row.coefs ≡ c.row.coefs) × (k.row.bound ≤ℤ c.row.bound)) candidates
   pub distinct : AllPairs (λ a b. a.row.coefs ≡ b.row.coefs → ⊥) kept
+  pub ascending : AllPairs (λ a b. IsUpto a.row.coefs b.row.coefs) kept

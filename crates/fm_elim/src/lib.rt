@@ -17,8 +17,11 @@ pub mod certificate;
 pub mod combination;
 pub mod derivation;
 pub mod elimination;
+pub mod forming;
 pub mod level;
+pub mod pairs;
 pub mod reduction;
+pub mod tighten;
 
 pub use answer::{Answer, NoMemory};
 pub use elimination::decide;
