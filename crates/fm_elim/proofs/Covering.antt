@@ -1,16 +1,15 @@
 -- Candidates that are joined and tightened still cover the same rows, and still come from where they came.
-use Rattle.std.proofs.Common.{◌≡◌, ℕ, zero, suc, ◌<◌, ℤ, pos, ◌≤ℤ◌, ◌<ℤ◌, ◌⊎◌, ⊎_elim, inl, inr, Option, Some, None, MatchOption, List, [], ◌∷◌, ◌++◌, map, length, get_or, take, refl, ap, sym, ◌∙◌, subst, arith}
-use Rattle.std.specs.List.{All, AllPairs, Contains}
+use Rattle.std.proofs.Common.{◌≡◌, ℕ, zero, suc, ◌<◌, ◌≤ℤ◌, ⊎_elim, inl, inr, Option, Some, None, MatchOption, List, [], ◌∷◌, ◌++◌, map, length, get_or, take, refl, ap, sym, ◌∙◌, subst, arith}
+use Rattle.std.specs.List.{All, Contains}
 use Rattle.std.proofs.lemmas.Int.{ints}
-use Rattle.std.proofs.lemmas.List.{length-map, get_or-map, get_or_default, map-append}
-use Rattle.std.proofs.lemmas.List.Elements.{All-nil, All-cons, All-append, All-push, All-weaker, All-contains, All-contains_itself, All-take, Contains-get_or, Contains-push, Contains-append_left, Contains-append_right, Contains-append_cases, Contains-push_cases}
+use Rattle.std.proofs.lemmas.List.{length-map, get_or-map, map-append}
+use Rattle.std.proofs.lemmas.List.Elements.{All-nil, All-cons, All-append, All-push, All-weaker, All-contains, All-contains_itself, All-take, Contains-push, Contains-append_left, Contains-append_right, Contains-push_cases}
 use lib.Signed.{≤ℤ_refl}
 use Rattle.farkas_cert.specs.declared.system.Row.{Row}
 use Rattle.fm_elim.specs.declared.level.Held.{Held}
 use Rattle.fm_elim.specs.declared.level.Candidate.{Candidate}
 use Rattle.fm_elim.specs.Reduction.{IsReduced}
 use Rattle.fm_elim.specs.Pairs.{combination}
-use Rattle.fm_elim.specs.Levels.{IsEmpty}
 use Rattle.fm_elim.specs.Forming.{Covers, IsAdded, IsTightened}
 use Rattle.fm_elim.specs.Logs.{rows_among}
 use Rattle.fm_elim.specs.Gathering.{IsUseful, IsPaired, IsMade, candidate_of, CoversPair, HasApart, IsThinned, IsJoint, IsJoined, IsSource, IsGathered}

@@ -1,15 +1,14 @@
 -- Of the raw rows of a level with equal reduced coefficients one has the least bound, since there are finitely many.
-use Rattle.std.proofs.Common.{◌≡◌, ℕ, zero, suc, ◌<◌, ℤ, pos, ◌≤ℤ◌, ◌<ℤ◌, unsigned_abs, max, ◌⊎◌, ⊎_elim, inl, inr, List, [], ◌∷◌, ◌++◌, map, length, get_or, refl, ap, sym, ◌∙◌, subst, arith}
+use Rattle.std.proofs.Common.{◌≡◌, ℕ, zero, suc, ◌<◌, ℤ, pos, ◌≤ℤ◌, ◌<ℤ◌, unsigned_abs, max, ◌⊎◌, ⊎_elim, inl, inr, List, [], ◌∷◌, ◌++◌, length, get_or, refl, ap, sym, ◌∙◌, subst, arith}
 use Rattle.std.specs.Int.{◌∣◌}
-use Rattle.std.specs.Bool.{Decides}
 use Rattle.std.specs.Cmp.Lexicographic.{pointwise}
 use Rattle.std.specs.Ordering.{int_eq}
-use Rattle.std.specs.List.{All, AllPairs, AllZip, Contains}
+use Rattle.std.specs.List.{All, AllZip, Contains}
 use Rattle.std.proofs.lemmas.Int.{ints, by_lt_z}
 use Rattle.std.proofs.lemmas.Bool.{cases_Bool}
 use Rattle.std.proofs.lemmas.Bool.Decides.{Decides-int_eq, not_from_Decides}
 use Rattle.std.proofs.lemmas.Slice.Eq.{slice_eq-Decides}
-use Rattle.std.proofs.lemmas.Nat.Gcd.{dvd-zero, dvd_trans}
+use Rattle.std.proofs.lemmas.Nat.Gcd.{dvd_trans}
 use Rattle.std.proofs.lemmas.List.{length-map, get_or-map}
 use Rattle.std.proofs.lemmas.List.Elements.{All-map, All-head, All-tail, All-nil, All-cons, All-append, All-contains, AllZip-get_or, length_all_zip, Contains-append_left, Contains-append_right, Contains-append_cases}
 use lib.Signed.{≤ℤ_refl}
@@ -18,22 +17,26 @@ use Rattle.fm_elim.specs.declared.level.Candidate.{Candidate}
 use Rattle.fm_elim.specs.declared.level.Origin.TheVariants.{Numbered}
 use Rattle.fm_elim.specs.Reduction.{IsCommonDivisor, IsReduced, divided}
 use Rattle.fm_elim.specs.Pairs.{coef_of, combination}
-use Rattle.fm_elim.specs.Levels.{IsEmpty, IsKept, IsRaw, HasMoreThan}
+use Rattle.fm_elim.specs.Levels.{IsKept, IsRaw, HasMoreThan}
 use Rattle.fm_elim.specs.Logs.{rows_among}
 use Rattle.fm_elim.specs.Gathering.{IsUseful, IsPaired, HasApart, IsSound}
 use Rattle.fm_elim.proofs.Divisors.{IsCommonDivisor-nil}
 use Rattle.fm_elim.proofs.Exactness.{IsReduced-unique}
 use Rattle.fm_elim.proofs.Back.{gcd_exists, pair_exists}
-use Rattle.fm_elim.proofs.Covering.{Contains-map, IsPaired-unique}
+use Rattle.fm_elim.proofs.Covering.{IsPaired-unique}
 
 -- each row has a reduction
 common_exists : (coefs : List ℤ) → (g : ℕ) × IsCommonDivisor coefs g
 common_exists [] = (0, IsCommonDivisor-nil)
 common_exists (a ∷ coefs) =
     let rest = common_exists coefs in
-    let both = gcd_exists (unsigned_abs a) rest.0 in
-    (both.0, (All-cons (λ b. both.0 ∣ unsigned_abs b) a coefs both.1.0 (λ k d h. dvd_trans both.0 both.1.1 (rest.1.0 k d h)),
-     λ d each. both.1.2 d (All-head (λ b. d ∣ unsigned_abs b) a coefs each) (rest.1.1 d (All-tail (λ b. d ∣ unsigned_abs b) a coefs each))))
+    let both = gcd_exists (unsigned_abs a) rest.0 in (
+      both.0,
+      (
+        All-cons (λ b. both.0 ∣ unsigned_abs b) a coefs both.1.0 (λ k d h. dvd_trans both.0 both.1.1 (rest.1.0 k d h)),
+        λ d each. both.1.2 d (All-head (λ b. d ∣ unsigned_abs b) a coefs each) (rest.1.1 d (All-tail (λ b. d ∣ unsigned_abs b) a coefs each)),
+      ),
+    )
 
 pub reduction_exists : (raw : Row) → (row : Row) × IsReduced raw row
 reduction_exists raw = let found = common_exists raw.coefs in (divided (max found.0 1) raw, (found.0, (found.1, refl)))
@@ -52,29 +55,36 @@ listed_none raws none = ([], record { sound = All-nil (λ r. (raw : Row) × raws
 
 listed_one : (raws : Row → Type 0) (raw : Row) → raws raw → ((other : Row) → raws other → raw ≡ other) → Listed raws
 listed_one raws raw has only =
-    let found = reduction_exists raw in
-    (found.0 ∷ [], record {
-      sound = All-cons (λ r. (raw : Row) × raws raw × IsReduced raw r) found.0 [] (raw, has, found.1) (All-nil (λ r. (raw : Row) × raws raw × IsReduced raw r));
-      complete = λ other there. (found.0, subst (λ r. IsReduced r found.0) (only other there) found.1, (0, omega arith, refl));
-    })
+    let found = reduction_exists raw in (
+      found.0 ∷ [],
+      record {
+        sound = All-cons (λ r. (raw : Row) × raws raw × IsReduced raw r) found.0 [] (raw, has, found.1) (All-nil (λ r. (raw : Row) × raws raw × IsReduced raw r));
+        complete = λ other there. (found.0, subst (λ r. IsReduced r found.0) (only other there) found.1, (0, omega arith, refl));
+      },
+    )
 
 -- those of two sets
 pub listed_both : (P Q : Row → Type 0) → Listed P → Listed Q → Listed (λ raw. P raw ⊎ Q raw)
-listed_both P Q a b = (a.0 ++ b.0, record {
-  sound = All-append (λ r. (raw : Row) × (P raw ⊎ Q raw) × IsReduced raw r) a.0 b.0 (λ k d h. let at = a.1.sound k d h in (at.0, inl at.1, at.2)) (λ k d h. let at = b.1.sound k d h in (at.0, inr at.1, at.2));
-  complete = λ raw has. ⊎_elim (λ p. let at = a.1.complete raw p in (at.0, at.1, Contains-append_left a.0 b.0 at.0 at.2)) (λ q. let at = b.1.complete raw q in (at.0, at.1, Contains-append_right a.0 b.0 at.0 at.2)) has;
-})
+listed_both P Q a b = (
+  a.0 ++ b.0,
+  record {
+    sound = All-append (λ r. (raw : Row) × (P raw ⊎ Q raw) × IsReduced raw r) a.0 b.0 (λ k d h. let at = a.1.sound k d h in (at.0, inl at.1, at.2)) (λ k d h. let at = b.1.sound k d h in (at.0, inr at.1, at.2));
+    complete = λ raw has. ⊎_elim (λ p. let at = a.1.complete raw p in (at.0, at.1, Contains-append_left a.0 b.0 at.0 at.2)) (λ q. let at = b.1.complete raw q in (at.0, at.1, Contains-append_right a.0 b.0 at.0 at.2)) has;
+  },
+)
 
 -- those that belong to an element of a list
 pub listed_each : (xs : List Row) (S : Row → Row → Type 0) → ((x : Row) → Listed (S x)) → Listed (λ raw. (x : Row) × Contains xs x × S x raw)
 listed_each [] S each = listed_none (λ raw. (x : Row) × Contains [] x × S x raw) (λ raw has. absurd (omega (arith, has.1.1)))
 listed_each (x ∷ xs) S each =
-    let both = listed_both (S x) (λ raw. (y : Row) × Contains xs y × S y raw) (each x) (listed_each xs S each) in
-    (both.0, record {
-      sound = λ k d h. let at = both.1.sound k d h in
-          (at.0, ⊎_elim (λ here. (x, (0, omega arith, refl), here)) (λ later. (later.0, Contains-append_right (x ∷ []) xs later.0 later.1, later.2)) at.1, at.2);
-      complete = λ raw has. both.1.complete raw (⊎_elim (λ first. inl (subst (λ y. S y raw) (first_is first) has.2)) (λ later. inr (has.0, later, has.2)) (Contains-append_cases (x ∷ []) xs has.0 has.1));
-    })
+    let both = listed_both (S x) (λ raw. (y : Row) × Contains xs y × S y raw) (each x) (listed_each xs S each) in (
+      both.0,
+      record {
+        sound = λ k d h. let at = both.1.sound k d h in
+            (at.0, ⊎_elim (λ here. (x, (0, omega arith, refl), here)) (λ later. (later.0, Contains-append_right (x ∷ []) xs later.0 later.1, later.2)) at.1, at.2);
+        complete = λ raw has. both.1.complete raw (⊎_elim (λ first. inl (subst (λ y. S y raw) (first_is first) has.2)) (λ later. inr (has.0, later, has.2)) (Contains-append_cases (x ∷ []) xs has.0 has.1));
+      },
+    )
   where
     first_is : {y : Row} → Contains (x ∷ []) y → y ≡ x
     first_is {y} h = only h.0 h.1 h.2
@@ -108,13 +118,18 @@ pub listed_raws : (v : ℕ) (rows : List Row) → Listed (IsRaw v (Contains rows
 listed_raws v rows =
     let P : Row → Type 0 = λ raw. (x : Row) × Contains rows x × ((x ≡ raw) × (coef_of v x ≡ pos 0)) in
     let Q : Row → Type 0 = λ raw. (x : Row) × Contains rows x × ((y : Row) × Contains rows y × IsPaired v x y raw) in
-    let both = listed_both P Q (listed_each rows (λ x raw. (x ≡ raw) × (coef_of v x ≡ pos 0)) (listed_alone v)) (listed_each rows (λ x raw. (y : Row) × Contains rows y × IsPaired v x y raw) (λ x. listed_each rows (IsPaired v x) (listed_pair v x))) in
-    (both.0, record {
-      sound = λ k d h. let at = both.1.sound k d h in
-          (at.0, ⊎_elim (λ p. inl (subst (λ r. Contains rows r × (coef_of v r ≡ pos 0)) p.2.0 (p.1, p.2.1)))
-          (λ q. let p = q.2.2 in inr (record { upper = q.0; lower = q.2.0; m = p.m; n = p.n; has_upper = q.1; has_lower = q.2.1; pair = p.pair; made = p.made })) at.1, at.2);
-      complete = λ raw has. both.1.complete raw (⊎_elim (λ a. inl (raw, a.0, (refl, a.1))) (λ b. inr (b.upper, b.has_upper, (b.lower, b.has_lower, record { m = b.m; n = b.n; pair = b.pair; made = b.made }))) has);
-    })
+    let both = listed_both P Q (listed_each rows (λ x raw. (x ≡ raw) × (coef_of v x ≡ pos 0)) (listed_alone v)) (listed_each rows (λ x raw. (y : Row) × Contains rows y × IsPaired v x y raw) (λ x. listed_each rows (IsPaired v x) (listed_pair v x))) in (
+      both.0,
+      record {
+        sound = λ k d h. let at = both.1.sound k d h in (
+          at.0,
+          ⊎_elim (λ p. inl (subst (λ r. Contains rows r × (coef_of v r ≡ pos 0)) p.2.0 (p.1, p.2.1)))
+              (λ q. let p = q.2.2 in inr (record { upper = q.0; lower = q.2.0; m = p.m; n = p.n; has_upper = q.1; has_lower = q.2.1; pair = p.pair; made = p.made })) at.1,
+          at.2,
+        );
+        complete = λ raw has. both.1.complete raw (⊎_elim (λ a. inl (raw, a.0, (refl, a.1))) (λ b. inr (b.upper, b.has_upper, (b.lower, b.has_lower, record { m = b.m; n = b.n; pair = b.pair; made = b.made }))) has);
+      },
+    )
 
 -- lists of numbers are the same or not
 same_or_not : (xs ys : List ℤ) → (xs ≡ ys) ⊎ (xs ≡ ys → ⊥)
@@ -144,11 +159,14 @@ least_among coefs (x ∷ list) = ⊎_elim (λ none. first_only none) (λ some. c
 
     first_only : ((row : Row) → Contains list row → row.coefs ≡ coefs → ⊥) → ((row : Row) → Contains (x ∷ list) row → row.coefs ≡ coefs → ⊥) ⊎ ((row : Row) × IsLeast coefs (x ∷ list) row)
     first_only none =
-        ⊎_elim (λ same. inr (x, record {
-          there = at_front;
-          same = same;
-          least = λ other h e. ⊎_elim (λ front. subst (λ r. x.bound ≤ℤ r.bound) (is_first front) (≤ℤ_refl x.bound)) (λ later. absurd (none other later e)) (Contains-append_cases (x ∷ []) list other h);
-        }))
+        ⊎_elim (λ same. inr (
+          x,
+          record {
+            there = at_front;
+            same = same;
+            least = λ other h e. ⊎_elim (λ front. subst (λ r. x.bound ≤ℤ r.bound) (is_first front) (≤ℤ_refl x.bound)) (λ later. absurd (none other later e)) (Contains-append_cases (x ∷ []) list other h);
+          },
+        ))
         (λ apart. inl (λ row h e. ⊎_elim (λ front. apart (ap (λ r. r.coefs) (is_first front) ∙ e)) (λ later. none row later e) (Contains-append_cases (x ∷ []) list row h))) (same_or_not x.coefs coefs)
 
     keep : (row : Row) → IsLeast coefs list row → (x.coefs ≡ coefs → row.bound ≤ℤ x.bound) → IsLeast coefs (x ∷ list) row
@@ -179,18 +197,21 @@ kept_exists raws listed row raw has reduced useful =
     let one : found.0 ≡ row = IsReduced-unique raw found.0 row found.1 reduced in
     let there : Contains listed.0 row = subst (Contains listed.0) one found.2 in
     ⊎_elim (λ none. absurd (none row there refl)) (λ some.
-    let least = some.1 in
-    (some.0, record {
-      reduced = All-contains (λ r. (raw : Row) × raws raw × IsReduced raw r) listed.0 some.0 listed.1.sound least.there;
-      least = λ other_raw other from made e.
-          let at = listed.1.complete other_raw from in
-          let same : at.0 ≡ other = IsReduced-unique other_raw at.0 other at.1 made in
-          least.least other (subst (Contains listed.0) same at.2) (e ∙ least.same);
-      useful = λ empty.
-          let low : row.bound <ℤ pos 0 = useful (subst IsZero least.same empty) in
-          let below = least.least row there refl in
-          omega (arith, ints, low, below);
-    }, least.same)) (least_among row.coefs listed.0)
+    let least = some.1 in (
+      some.0,
+      record {
+        reduced = All-contains (λ r. (raw : Row) × raws raw × IsReduced raw r) listed.0 some.0 listed.1.sound least.there;
+        least = λ other_raw other from made e.
+            let at = listed.1.complete other_raw from in
+            let same : at.0 ≡ other = IsReduced-unique other_raw at.0 other at.1 made in
+            least.least other (subst (Contains listed.0) same at.2) (e ∙ least.same);
+        useful = λ empty.
+            let low : row.bound <ℤ pos 0 = useful (subst IsZero least.same empty) in
+            let below = least.least row there refl in
+            omega (arith, ints, low, below);
+      },
+      least.same,
+    )) (least_among row.coefs listed.0)
   where
     IsZero : List ℤ → Type 0
     IsZero coefs = All (λ a. a ≡ pos 0) coefs
@@ -210,14 +231,16 @@ many_from limit raws listed h =
     let rows = rows_among h.kept in
     let sound : All (λ r. IsUseful r × ((raw : Row) × raws raw × IsReduced raw r)) rows = All-map (λ r. IsUseful r × ((raw : Row) × raws raw × IsReduced raw r)) (λ (c : Candidate). c.row) h.kept h.all in
     let kept = kept_for raws listed rows sound in
-    let long : length kept.0 ≡ length h.kept = length_all_zip (λ k r. IsKept raws k × (k.coefs ≡ r.coefs)) kept.0 rows kept.1 ∙ length-map h.kept (λ (c : Candidate). c.row) in
-    (kept.0, omega (arith, long, h.many),
-     λ i j d lt within e.
-    let c : Candidate = record { row = d; origin = Numbered 0 } in
-    let within_c : j < length h.kept = omega (arith, long, within) in
-    let at_i = AllZip-get_or (λ k r. IsKept raws k × (k.coefs ≡ r.coefs)) kept.0 rows i d d kept.1 (omega arith) in
-    let at_j = AllZip-get_or (λ k r. IsKept raws k × (k.coefs ≡ r.coefs)) kept.0 rows j d d kept.1 within in
-    let row_i = get_or-map (λ (c : Candidate). c.row) h.kept i c d (omega arith) in
-    let row_j = get_or-map (λ (c : Candidate). c.row) h.kept j c d within_c in
-    h.apart i j c lt within_c (ap (λ (r : Row). r.coefs) (sym row_i) ∙ sym at_i.1 ∙ ap (λ (r : Row). r.coefs) e ∙ at_j.1 ∙ ap (λ (r : Row). r.coefs) row_j),
-     λ k d within. (AllZip-get_or (λ k r. IsKept raws k × (k.coefs ≡ r.coefs)) kept.0 rows k d d kept.1 within).0)
+    let long : length kept.0 ≡ length h.kept = length_all_zip (λ k r. IsKept raws k × (k.coefs ≡ r.coefs)) kept.0 rows kept.1 ∙ length-map h.kept (λ (c : Candidate). c.row) in (
+      kept.0,
+      omega (arith, long, h.many),
+      λ i j d lt within e.
+          let c : Candidate = record { row = d; origin = Numbered 0 } in
+          let within_c : j < length h.kept = omega (arith, long, within) in
+          let at_i = AllZip-get_or (λ k r. IsKept raws k × (k.coefs ≡ r.coefs)) kept.0 rows i d d kept.1 (omega arith) in
+          let at_j = AllZip-get_or (λ k r. IsKept raws k × (k.coefs ≡ r.coefs)) kept.0 rows j d d kept.1 within in
+          let row_i = get_or-map (λ (c : Candidate). c.row) h.kept i c d (omega arith) in
+          let row_j = get_or-map (λ (c : Candidate). c.row) h.kept j c d within_c in
+          h.apart i j c lt within_c (ap (λ (r : Row). r.coefs) (sym row_i) ∙ sym at_i.1 ∙ ap (λ (r : Row). r.coefs) e ∙ at_j.1 ∙ ap (λ (r : Row). r.coefs) row_j),
+      λ k d within. (AllZip-get_or (λ k r. IsKept raws k × (k.coefs ≡ r.coefs)) kept.0 rows k d d kept.1 within).0,
+    )

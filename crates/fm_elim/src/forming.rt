@@ -43,11 +43,7 @@ fn place(split: &mut BySign, held: Held, variable: u32) -> Result<(), AllocError
 
 /// The rows without the variable, those that bound it from above, and those that bound it from below.
 /// An error says that memory ran out.
-pub fn split_by_sign(
-    alloc: Global,
-    level: Vec<Held>,
-    variable: u32,
-) -> Result<BySign, AllocError>
+pub fn split_by_sign(alloc: Global, level: Vec<Held>, variable: u32) -> Result<BySign, AllocError>
     requires from_one { 1 ≤ variable }
     requires known { All (λ h. variable ≤ length h.row.coefs) level.items }
     ensures apart { IfOk result (λ split. split.apart.items ≡ filter (λ h. int_eq (coef variable h.row) (pos 0)) level.items) }
@@ -66,12 +62,7 @@ pub fn split_by_sign(
 }
 
 // The least combination of a pair, reduced.
-fn paired(
-    alloc: Global,
-    upper: &Held,
-    lower: &Held,
-    variable: u32,
-) -> Result<Candidate, AllocError>
+fn paired(alloc: Global, upper: &Held, lower: &Held, variable: u32) -> Result<Candidate, AllocError>
     requires opposed { IsOpposed variable upper.now.row lower.now.row }
     requires narrow { IsNarrowPair variable upper.now.row lower.now.row }
     ensures { IfOk result (λ candidate. IsMade variable upper.now lower.now candidate) }

@@ -208,13 +208,7 @@ pub fn next_level(
         let lower = copy_of(alloc, &lower.row)?;
         return Ok(Formed::Wide(upper, lower));
     }
-    let Some(candidates) = gathered(
-        alloc,
-        apart,
-        uppers.as_slice(),
-        lowers.as_slice(),
-        variable,
-    )?
+    let Some(candidates) = gathered(alloc, apart, uppers.as_slice(), lowers.as_slice(), variable)?
     else {
         return Ok(Formed::Many);
     };

@@ -3,8 +3,9 @@
 ghost use Rattle.std.specs.Prelude.{◌≡◌, IfOk};
 
 use crate::combination::{are_narrow, combine, multipliers};
-use crate::level::{Candidate, add, compare, given_candidate};
+use crate::level::{Candidate, add, given_candidate};
 use crate::reduction::reduced;
+use crate::tighten::compare;
 use farkas_cert::{Coefs, Row};
 use std::alloc::{AllocError, Global};
 use std::cmp::Ordering;

@@ -1,4 +1,4 @@
-use Rattle.std.proofs.Common.{rules, ◌≡◌, ◌+◌, ◌≤◌, ◌<◌, pos, ◌*ℤ◌, FitsSigned, IsTrue, length, get_or, to_z, of_z, ap, subst, arith}
+use Rattle.std.proofs.Common.{rules, ◌≡◌, ◌≤◌, ◌<◌, pos, ◌*ℤ◌, FitsSigned, IsTrue, length, get_or, to_z, of_z, ap, subst, arith}
 use Rattle.std.specs.Int.{w128}
 use Rattle.std.proofs.lemmas.Int.{to_z-of_z}
 use Rattle.farkas_cert.specs.Combination.{stays_narrow}

@@ -1,4 +1,4 @@
-use Rattle.std.proofs.Common.{◌≡◌, length, get_or, [], ◌∷◌, ◌++◌, ap, sym, ◌∙◌, subst}
+use Rattle.std.proofs.Common.{◌≡◌, length, [], ◌∷◌, ◌++◌, ap, sym, ◌∙◌, subst}
 use Rattle.std.specs.List.{All}
 use Rattle.std.proofs.lemmas.List.{map-append}
 use Rattle.std.proofs.lemmas.List.Elements.{All-weaker, All-push}
@@ -7,7 +7,7 @@ use Rattle.std.proofs.lemmas.Iterator.Consumers.{YieldsList-turn}
 use Rattle.fm_elim.specs.declared.level.Held.{Held}
 use Rattle.fm_elim.specs.declared.level.Candidate.{Candidate}
 use Rattle.fm_elim.specs.Reduction.{IsReduced}
-use Rattle.fm_elim.specs.Logs.{IsFounded, IsHeld, rows_of, rows_among}
+use Rattle.fm_elim.specs.Logs.{IsFounded, IsHeld, rows_of}
 use Rattle.fm_elim.proofs.Continuing.{IsFounded-continued, IsHeld-continued}
 use Rattle.fm_elim.proofs.level.numbered.Goals as goal
 

@@ -1,7 +1,6 @@
-use Rattle.std.proofs.Common.{rules, ◌≡◌, ◌*◌, ◌≤◌, ◌^◌, IsTrue, nat_le, unsigned_abs, FitsSigned, ap, sym, ◌∙◌, subst, arith}
+use Rattle.std.proofs.Common.{rules, ◌≡◌, ◌*◌, ◌≤◌, ◌^◌, unsigned_abs, FitsSigned, ap, sym, ◌∙◌, subst}
 use Rattle.std.specs.Int.{w128}
 use Rattle.std.proofs.lemmas.Int.{to_z-of_z}
-use Rattle.std.proofs.lemmas.Bool.Decides.{nat_tests}
 use Rattle.fm_elim.specs.Pairs.{coef_of}
 use Rattle.fm_elim.proofs.Sizes.{small_pair, le_from_test}
 use Rattle.fm_elim.proofs.pairs.is_small.Goals as goal
