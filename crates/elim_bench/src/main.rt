@@ -30,7 +30,7 @@
 //! | 0 | each system was decided | |
 //! | 1 | line n is none of the above, or none at its place | `LINE n: what is wrong` |
 //! | 2 | there are words other than `--times` | a line on standard error |
-//! | 3 | a certificate was refused, which is a fault of the program | `NAME REFUSED: why` |
+//! | 3 | a certificate of the system that ends with line n was refused, which is a fault of the program | `LINE n: the certificate was refused: why` |
 //! | 4 | a read or a write failed | a line on standard error |
 //! | 5 | memory ran out | a line on standard error |
 #![tactic(auto)]
@@ -74,3 +74,6 @@ fn asks_for_times(rt: &HostRuntime) -> io::Result<Option<bool>> {
     }
     Ok(Some(times))
 }
+
+#[cfg(test)]
+mod tests;
