@@ -1,6 +1,7 @@
 -- The combination of two rows, entry by entry.
 use Rattle.std.proofs.Common.{◌≡◌, ℕ, zero, suc, ◌+◌, ◌≤◌, ◌<◌, ℤ, pos, negsuc, ◌+ℤ◌, ◌*ℤ◌, Bool, true, false, ◌&&◌, if◌then◌else◌, ◌⊎◌, ⊎_elim, ◌<ℤ◌, ◌/◌, unsigned_abs, Option, Some, None, IsTrue, List, [], ◌∷◌, length, get_or, drop, add-one, refl, sym, ◌∙◌, arith}
 use Rattle.std.specs.Int.{IsGcd}
+use Rattle.std.specs.Option.{is_some}
 use Rattle.std.proofs.Math.Nat.{eq-zero_of_zero-dvd, div-le_self}
 use Rattle.std.proofs.Math.Seq.{drop-cons}
 use Rattle.std.proofs.Math.IntN.{+ℤ_idl}
@@ -74,3 +75,15 @@ combined-done m n xs ys k h = let e = drop_all k xs h in rw e refl
 -- two cases
 pub by_lt : {P : Type 0} (a b : ℕ) → (a < b → P) → (b ≤ a → P) → P
 by_lt {P} a b f g = ⊎_elim f g (cases_lt a b)
+
+-- a sum that is there is narrow, and one that isn't is wide
+none_from_test : (o : Option ℤ) → is_some o ≡ false → o ≡ None
+none_from_test None h = refl
+none_from_test (Some x) h = cc
+
+pub sum_is_wide : (p q : ℤ) (r : Option ℤ) → r ≡ (if is_narrow p && is_narrow q && is_narrow (p +ℤ q) then Some (p +ℤ q) else None) → is_some r ≡ false → stays_narrow (pos 0) (p ∷ q ∷ []) ≡ false
+sum_is_wide p q r e h = sum_where_none p q (sym e ∙ none_from_test r h)
+
+pub sum_is_narrow : (p q : ℤ) (r : Option ℤ) → r ≡ (if is_narrow p && is_narrow q && is_narrow (p +ℤ q) then Some (p +ℤ q) else None) → is_some r ≡ true → IsTrue (stays_narrow (pos 0) (p ∷ q ∷ []))
+sum_is_narrow p q None e h = cc
+sum_is_narrow p q (Some s) e h = (sum_where_some p q s (sym e)).0

@@ -81,7 +81,7 @@ module _ (v : ℕ) (set other : Row → Type 0) (forth : (r : Row) → set r →
       ⊎_elim (λ alone. inl (forth raw alone.0, alone.1))
       (λ both. inr (record { upper = both.upper; lower = both.lower; m = both.m; n = both.n; has_upper = forth both.upper both.has_upper; has_lower = forth both.lower both.has_lower; pair = both.pair; made = both.made })) h
 
-kept_of_other : (raws other : Row → Type 0) → ((r : Row) → raws r → other r) → ((r : Row) → other r → raws r) → (r : Row) → IsKept raws r → IsKept other r
+pub kept_of_other : (raws other : Row → Type 0) → ((r : Row) → raws r → other r) → ((r : Row) → other r → raws r) → (r : Row) → IsKept raws r → IsKept other r
 kept_of_other raws other forth back r kept = record {
   reduced = (kept.reduced.0, forth kept.reduced.0 kept.reduced.1, kept.reduced.2);
   least = λ raw o has reduced same. kept.least raw o (back raw has) reduced same;

@@ -10,3 +10,17 @@ pub mod Steps
 pub mod Lowest
 pub mod Origins
 pub mod Tightening
+pub mod Marks
+pub mod Copies
+pub mod Walks
+pub mod Endings
+pub mod Opposites
+pub mod Reached
+pub mod Ends
+pub mod Continuing
+pub mod Covering
+pub mod Sizes
+pub mod Splitting
+pub mod Leveling
+pub mod Least
+pub mod Given

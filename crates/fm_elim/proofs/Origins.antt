@@ -1,12 +1,14 @@
 -- Candidates are founded: their rows have numbers, or are what their derivations make.
-use Rattle.std.proofs.Common.{◌≡◌, ℕ, max, ℤ, pos, ◌≤ℤ◌, List, Some, None, ap, sym, ◌∙◌, subst, arith}
+use Rattle.std.proofs.Common.{◌≡◌, ℕ, max, ℤ, pos, ◌≤ℤ◌, List, Some, None, length, refl, ap, sym, ◌∙◌, subst, arith}
 use Rattle.std.proofs.lemmas.Int.{ints}
 use Rattle.farkas_cert.specs.declared.system.Row.{Row}
 use Rattle.farkas_cert.specs.Inequalities.{Inequalities}
 use Rattle.fm_elim.specs.declared.derivation.Derivation.{Derivation}
+use Rattle.fm_elim.specs.declared.level.Held.{Held}
 use Rattle.fm_elim.specs.declared.level.Origin.TheVariants.{Numbered, Made}
 use Rattle.fm_elim.specs.Reduction.{IsReducedBy, divided}
-use Rattle.fm_elim.specs.Pairs.{combination, IsNarrow}
+use Rattle.fm_elim.specs.Pairs.{combination, IsNarrow, IsPair}
+use Rattle.fm_elim.specs.Gathering.{IsMade}
 use Rattle.fm_elim.specs.Logs.{all_rows, IsNumber, IsSuited, IsFounded}
 use Rattle.fm_elim.proofs.Divisors.{divided-one}
 use Rattle.fm_elim.proofs.Steps.{good_reduction, reduction_makes, good_combination, combination_makes}
@@ -41,3 +43,15 @@ combination_founded system log upper lower row m n d a b g su sl na nb hm hn nar
     let suited : IsSuited system.vars row = subst (IsSuited system.vars) (sym reduced.1) (IsSuited-divided system.vars (max g 1) raw (IsSuited-combination system.vars m n upper lower su.full sl.full narrow)) in
     subst (λ z. IsFounded system log (record { row = row; origin = Made (record { divisor = z; first = (a, m); second = Some (b, n) }) })) (sym e)
     (record { suited = suited; origin = (good, makes ∙ sym reduced.1) })
+
+-- the candidate of a pair that is nowhere wide
+pub made_from : (v : ℕ) (upper lower : Held) (row : Row) (m n d : ℤ) (g : ℕ) → IsPair v upper.row lower.row m n → IsNarrow (length upper.row.coefs) m upper.row n lower.row → IsReducedBy g (combination m upper.row n lower.row) row → d ≡ pos (max g 1) → IsMade v upper lower (record { row = row; origin = Made (record { divisor = d; first = (upper.number, m); second = Some (lower.number, n) }) })
+made_from v upper lower row m n d g pair narrow reduced e = record {
+  raw = combination m upper.row n lower.row;
+  paired = record { m = m; n = n; pair = pair; made = refl };
+  reduced = (g, reduced);
+  founded = λ system log hu hl.
+      combination_founded system log upper.row lower.row row m n d upper.number lower.number g hu.suited hl.suited hu.number hl.number
+      (subst (λ z. pos 0 ≤ℤ z) (sym pair.upper_times) (omega (arith, ints))) (subst (λ z. pos 0 ≤ℤ z) (sym pair.lower_times) (omega (arith, ints)))
+      (subst (λ k. IsNarrow k m upper.row n lower.row) hu.suited.full narrow) reduced e;
+}

@@ -43,7 +43,7 @@ products-append vars rows more (t ∷ terms) k named =
     let same : row_at (rows ++ more) t.0 ≡ row_at rows t.0 = get_or_append_left rows more no_row (t.0 - 1) (omega (arith, first)) in
     ap (λ r. (t.1 *ℤ entry_at vars r k) ∷ products_at vars (rows ++ more) terms k) same ∙ ap (λ ps. (t.1 *ℤ entry_at vars (row_at rows t.0) k) ∷ ps) rest
 
-map-agree : {X Y : Type 0} (f g : X → Y) (xs : List X) → ((x : X) → f x ≡ g x) → map f xs ≡ map g xs
+pub map-agree : {X Y : Type 0} (f g : X → Y) (xs : List X) → ((x : X) → f x ≡ g x) → map f xs ≡ map g xs
 map-agree f g [] h = refl
 map-agree f g (x ∷ xs) h = ap (λ y. y ∷ map f xs) (h x) ∙ ap (λ ys. g x ∷ ys) (map-agree f g xs h)
 
@@ -91,13 +91,13 @@ module _ (vars : ℕ) (rows : List Row) (step : Step) (raw : Row) (g : ℕ) (ful
       rest (negsuc n) e = ap (λ m. neg_ℤ (pos m)) e
 
 -- the entries of a suited row are narrow
-narrow-entry : (vars : ℕ) (row : Row) (k : ℕ) → IsSuited vars row → k ≤ vars → IsTrue (is_narrow (entry_at vars row k))
+pub narrow-entry : (vars : ℕ) (row : Row) (k : ℕ) → IsSuited vars row → k ≤ vars → IsTrue (is_narrow (entry_at vars row k))
 narrow-entry vars row k suited h =
     by_lt {P = IsTrue (is_narrow (entry_at vars row k))} k vars
     (λ lt. subst (λ z. IsTrue (is_narrow z)) (sym (entry_at-coef vars row k lt)) (suited.coefs k (pos 0) (omega (arith, suited.full))))
     (λ ge. let e : vars ≡ k = omega arith in subst (λ i. IsTrue (is_narrow (entry_at vars row i))) e (subst (λ z. IsTrue (is_narrow z)) (sym (entry_at-bound vars row)) suited.bound))
 
-once : (z : ℤ) → pos 1 *ℤ z ≡ z
+pub once : (z : ℤ) → pos 1 *ℤ z ≡ z
 once z = omega (arith, ints)
 
 -- a reduction

@@ -1,5 +1,5 @@
 -- Of sorted candidates with equal coefficients the first is kept.
-use Rattle.std.proofs.Common.{◌≡◌, ℕ, ◌-◌, ◌<◌, ℤ, ◌≤ℤ◌, ◌<ℤ◌, false, List, [], ◌∷◌, ◌++◌, length, get_or, refl, ap, sym, ◌∙◌, subst, length-append, arith}
+use Rattle.std.proofs.Common.{◌≡◌, ℕ, ◌-◌, ◌<◌, ℤ, ◌≤ℤ◌, ◌<ℤ◌, Bool, false, ⊎_elim, List, [], ◌∷◌, ◌++◌, length, get_or, take, refl, ap, sym, ◌∙◌, subst, length-append, arith}
 use Rattle.std.specs.List.{All, Contains}
 use Rattle.std.specs.Cmp.{IsTotalOrder, IsStrictWeakOrder}
 use Rattle.std.specs.Cmp.Lexicographic.{slice_cmp}
@@ -8,12 +8,14 @@ use Rattle.std.specs.declared.cmp.Ordering.{Ordering}
 use Rattle.std.specs.declared.cmp.Ordering.TheVariants.{Less, Equal, Greater}
 use Rattle.std.proofs.lemmas.Int.{ints}
 use Rattle.std.proofs.lemmas.Cmp.{int_cmp_total, lists_total, on_total, then_total, int_ranked, tied_itself, upto}
-use Rattle.std.proofs.lemmas.List.{get_or_append_left, get_or_push}
+use Rattle.std.proofs.lemmas.List.{get_or_append_left, get_or_push, get_or_default, get_or-take}
 use Rattle.std.proofs.lemmas.List.Elements.{All-contains, Contains-get_or, All-push, All-weaker, All-nil, Contains-push, Contains-append_left}
-use Rattle.std.proofs.lemmas.List.Sorted.{ranks_by}
+use Rattle.std.specs.List.Sorted.{IsSorted, IsPermutation}
+use Rattle.std.proofs.lemmas.List.Quantifiers.{all_pairs_push}
+use Rattle.std.proofs.lemmas.List.Sorted.{ranks_by, sorted_far, IsPermutation-sym, Contains-permutation, All-permutation}
 use lib.Signed.{≤ℤ_refl}
 use Rattle.fm_elim.specs.declared.level.Candidate.{Candidate}
-use Rattle.fm_elim.specs.Forming.{candidate_cmp, IsTightened}
+use Rattle.fm_elim.specs.Forming.{candidate_cmp, IsUpto, IsFollowed, IsTightened}
 use Rattle.fm_elim.proofs.Combined.{by_lt}
 
 -- the order of candidates is total
@@ -22,10 +24,6 @@ candidate_total = then_total (on_total (λ c. c.row.coefs) (lists_total int_cmp_
 
 pub candidate_order : IsStrictWeakOrder (λ a b. is_lt (candidate_cmp a b))
 candidate_order = ranks_by candidate_total (λ c. c)
-
--- a list of coefficients isn't after the other
-abbrev pub IsUpto : List ℤ → List ℤ → Type 0
-IsUpto xs ys = is_gt (slice_cmp int_cmp xs ys) ≡ false
 
 same_cons : (x y : ℤ) (xs ys : List ℤ) (o p : Ordering) → o ≡ ordering_reverse p → (o ≡ Equal → x ≡ y) → is_gt (ordering_then o (slice_cmp int_cmp xs ys)) ≡ false → is_gt (ordering_then p (slice_cmp int_cmp ys xs)) ≡ false → (IsUpto xs ys → IsUpto ys xs → xs ≡ ys) → x ∷ xs ≡ y ∷ ys
 same_cons x y xs ys Less Less e same a b rest = cc
@@ -90,7 +88,7 @@ pub record IsWalked (done kept : List Candidate) : Type 0 where
 
 pub IsWalked-start : IsWalked [] []
 IsWalked-start = record {
-  tight = record { subset = All-nil (Contains []); covers = All-nil (λ c. (k : Candidate) × Contains [] k × (k.row.coefs ≡ c.row.coefs) × (k.row.bound ≤ℤ c.row.bound)); distinct = λ i j d lt h. absurd (omega arith) };
+  tight = record { subset = All-nil (Contains []); covers = All-nil (λ c. (k : Candidate) × Contains [] k × (k.row.coefs ≡ c.row.coefs) × (k.row.bound ≤ℤ c.row.bound)); distinct = λ i j d lt h. absurd (omega arith); ascending = λ i j d lt h. absurd (omega arith) };
   started = λ h. refl;
   last = λ d h. absurd (omega arith);
 }
@@ -116,6 +114,7 @@ module _ (done kept : List Candidate) (c : Candidate) (walked : IsWalked done ke
           subset = All-weaker (Contains done) (Contains (done ++ c ∷ [])) (λ b h. Contains-append_left done (c ∷ []) b h) kept walked.tight.subset;
           covers = All-push (λ b. (k : Candidate) × Contains kept k × (k.row.coefs ≡ b.row.coefs) × (k.row.bound ≤ℤ b.row.bound)) done c walked.tight.covers (k, there, same c, bound_from_order k c (last_before c some) (same c));
           distinct = walked.tight.distinct;
+          ascending = walked.tight.ascending;
         };
         started = λ h. absurd (omega arith);
         last = λ d h. All-push (λ b. IsUpto b.row.coefs (get_or kept (length kept - 1) d).row.coefs) done c (walked.last d h) (subst (IsUpto c.row.coefs) (sym (same d)) (upto_refl c.row.coefs));
@@ -136,6 +135,8 @@ module _ (done kept : List Candidate) (c : Candidate) (walked : IsWalked done ke
           let at : j ≡ length kept = omega arith in
           let here : get_or (kept ++ c ∷ []) j d ≡ c = ap (λ n. get_or (kept ++ c ∷ []) n d) at ∙ get_or_push kept c d (length kept) refl in
           apart i d (omega arith) (ap (λ b. b.row.coefs) (sym (get_or_append_left kept (c ∷ []) d i (omega arith))) ∙ e ∙ ap (λ b. b.row.coefs) here));
+      ascending = all_pairs_push (λ a b. IsUpto a.row.coefs b.row.coefs) kept c walked.tight.ascending
+          (All-weaker (Contains done) (λ b. IsUpto b.row.coefs c.row.coefs) (λ b there. upto_from_order b c (All-contains (λ a. is_lt (candidate_cmp c a) ≡ false) done b after there)) kept walked.tight.subset);
     };
     started = λ h. absurd (omega (arith, length-append kept (c ∷ [])));
     last = λ d h.
@@ -155,3 +156,28 @@ module _ (done kept : List Candidate) (c : Candidate) (walked : IsWalked done ke
           let below : IsUpto (get_or kept i d).row.coefs k.row.coefs = All-contains (λ b. IsUpto b.row.coefs k.row.coefs) done (get_or kept i d) (walked.last f some) there in
           let above : IsUpto k.row.coefs c.row.coefs = upto_from_order k c (last_before f some) in
           upto_same k.row.coefs c.row.coefs above (subst (λ xs. IsUpto xs k.row.coefs) e below))
+
+-- the candidates so far of a sorted list aren't after the next one
+pub after_so_far : (all done : List Candidate) (c : Candidate) → IsSorted candidate_cmp all → length done < length all → c ≡ get_or all (length done) c → done ≡ take (length done) all → All (λ b. is_lt (candidate_cmp c b) ≡ false) done
+after_so_far all done c sorted within at so_far k d h =
+    let lt : Candidate → Candidate → Bool = λ a b. is_lt (candidate_cmp a b) in
+    let far : is_lt (candidate_cmp (get_or all (length done) d) (get_or all k d)) ≡ false = sorted_far lt candidate_order all sorted k (length done) d (omega arith) within in
+    let new : get_or all (length done) d ≡ c = get_or_default all (length done) d c within ∙ sym at in
+    let old : get_or all k d ≡ get_or done k d = sym (ap (λ cs. get_or cs k d) so_far ∙ get_or-take (length done) all k d h) in
+    subst (λ b. is_lt (candidate_cmp c b) ≡ false) old (subst (λ a. is_lt (candidate_cmp a (get_or all k d)) ≡ false) new far)
+
+pub IsWalked-followed : (done kept new : List Candidate) (c : Candidate) → IsWalked done kept → IsFollowed kept c new → All (λ b. is_lt (candidate_cmp c b) ≡ false) done → IsWalked (done ++ c ∷ []) new
+IsWalked-followed done kept new c walked followed after =
+    ⊎_elim (λ repeat. subst (IsWalked (done ++ c ∷ [])) (sym repeat.1) (IsWalked-repeat done kept c walked after repeat.0.0 repeat.0.1))
+    (λ other. subst (IsWalked (done ++ c ∷ [])) (sym other.1) (IsWalked-keep done kept c walked after (λ some same. other.0 (some, same)))) followed
+
+-- the order in which the candidates stood doesn't matter
+pub IsTightened-permutation : (xs ys kept : List Candidate) → IsPermutation xs ys → IsTightened ys kept → IsTightened xs kept
+IsTightened-permutation xs ys kept moved tight =
+    let back = IsPermutation-sym xs ys moved in
+    record {
+      subset = All-weaker (Contains ys) (Contains xs) (λ c h. Contains-permutation ys xs c back h) kept tight.subset;
+      covers = All-permutation (λ c. (k : Candidate) × Contains kept k × (k.row.coefs ≡ c.row.coefs) × (k.row.bound ≤ℤ c.row.bound)) ys xs back tight.covers;
+      distinct = tight.distinct;
+      ascending = tight.ascending;
+    }

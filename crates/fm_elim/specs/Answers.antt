@@ -1,12 +1,15 @@
 -- What each answer of elimination rests on.
-use Rattle.std.specs.Prelude.{ℕ, ℤ, IsTrue, List, slice_index}
+use Rattle.std.specs.Prelude.{⊤, ℕ, ◌-◌, ◌≤◌, ℤ, pos, neg_ℤ, ◌+ℤ◌, ◌<ℤ◌, IsTrue, List, map, slice_index, ◌≡◌}
 use Rattle.std.specs.List.{All, range_with_len}
 use Rattle.std.specs.List.Sorted.{IsPermutation}
 use Rattle.farkas_cert.specs.declared.system.Row.{Row}
 use Rattle.farkas_cert.specs.Inequalities.{Inequalities, IsRationalSolution}
 use Rattle.farkas_cert.specs.Combination.{is_narrow}
+use Rattle.farkas_cert.specs.declared.certificate.Certificate.{Certificate}
+use Rattle.fm_elim.specs.declared.answer.Answer.{Answer}
+use Rattle.fm_elim.specs.declared.answer.Answer.TheVariants.{Infeasible, Open, Wide, Many}
 use Rattle.fm_elim.specs.Pairs.{IsPair, IsWide}
-use Rattle.fm_elim.specs.Levels.{IsDerived}
+use Rattle.fm_elim.specs.Levels.{IsDerived, IsClearTo, HasMoreThan}
 
 -- the order names each variable, from 1, once
 abbrev pub NamesEachOnce : ℕ → List ℕ → Type 0
@@ -28,3 +31,56 @@ pub record IsWidePair (system : Inequalities) (order : List ℕ) (k : ℕ) (uppe
   pub has_lower : IsDerived system order k lower
   pub pair : IsPair (slice_index order k) upper lower m n
   pub wide : IsWide system.vars m upper n lower
+
+-- what holds of the certificate, if the answer is Infeasible
+abbrev pub IfInfeasible : Answer → (Certificate → Type 0) → Type 0
+IfInfeasible (Infeasible certificate) P = P certificate
+IfInfeasible Open P = ⊤
+IfInfeasible (Wide level upper lower) P = ⊤
+IfInfeasible (Many level count) P = ⊤
+
+-- what holds if the answer is Open
+abbrev pub IfOpen : Answer → Type 0 → Type 0
+IfOpen (Infeasible certificate) P = ⊤
+IfOpen Open P = P
+IfOpen (Wide level upper lower) P = ⊤
+IfOpen (Many level count) P = ⊤
+
+-- what holds of the level and its two rows, if the answer is Wide
+abbrev pub IfWide : Answer → (ℕ → Row → Row → Type 0) → Type 0
+IfWide (Infeasible certificate) P = ⊤
+IfWide Open P = ⊤
+IfWide (Wide level upper lower) P = P level upper lower
+IfWide (Many level count) P = ⊤
+
+-- what holds of the level and its count, if the answer is Many
+abbrev pub IfMany : Answer → (ℕ → ℕ → Type 0) → Type 0
+IfMany (Infeasible certificate) P = ⊤
+IfMany Open P = ⊤
+IfMany (Wide level upper lower) P = ⊤
+IfMany (Many level count) P = P level count
+
+-- level k is one of the levels from 1 on, no level before it keeps a row without coefficients, and these two rows of level k - 1 have a wide combination
+pub record IsWideAt (system : Inequalities) (order : List ℕ) (k : ℕ) (upper lower : Row) : Type 0 where
+  pub low : 1 ≤ k
+  pub high : k ≤ system.vars
+  pub clear : IsClearTo system order (k - 1)
+  pub pair : IsWidePair system order (k - 1) upper lower
+
+-- level k is one of the levels from 1 on, no level before it keeps a row without coefficients, and it has more than 20,000 rows: so many, and one more, are counted
+pub record IsManyAt (system : Inequalities) (order : List ℕ) (k count : ℕ) : Type 0 where
+  pub low : 1 ≤ k
+  pub high : k ≤ system.vars
+  pub clear : IsClearTo system order (k - 1)
+  pub count_is : count ≡ 20001
+  pub more : HasMoreThan 20000 (IsDerived system order k)
+
+-- each other's opposites but for the bounds, which add to less than 0 (and to no less than - 2 ^ 126)
+pub record AreClashing (upper lower : Row) : Type 0 where
+  pub opposite : lower.coefs ≡ map neg_ℤ upper.coefs
+  pub below : (upper.bound +ℤ lower.bound) <ℤ pos 0
+  pub narrow : IsTrue (is_narrow (upper.bound +ℤ lower.bound))
+
+-- no two rows of the set clash
+abbrev pub IsFreeOfClashes : (Row → Type 0) → Type 0
+IsFreeOfClashes set = (upper lower : Row) → set upper → set lower → AreClashing upper lower → ⊥

@@ -1,5 +1,5 @@
 -- Derivations: how the rows of the levels are made, as steps of a certificate.
-use Rattle.std.specs.Prelude.{ℕ, ◌≤◌, IsTrue, List, ◌∷◌, map, length, option_to_list, ◌≡◌}
+use Rattle.std.specs.Prelude.{ℕ, ◌≤◌, IsTrue, List, ◌∷◌, ◌++◌, map, length, option_to_list, ◌≡◌}
 use Rattle.std.specs.List.{All}
 use Rattle.farkas_cert.specs.declared.system.Row.{Row}
 use Rattle.farkas_cert.specs.declared.certificate.Step.{Step}
@@ -24,6 +24,10 @@ all_rows system log = rows_after system.vars system.rows (map step_of log)
 -- the derivations are good steps
 abbrev pub IsLog : Inequalities → List Derivation → Type 0
 IsLog system log = AreGoodSteps system.vars system.rows (map step_of log)
+
+-- the log was carried on, or left as it was
+abbrev pub IsContinued : List Derivation → List Derivation → Type 0
+IsContinued old new = (more : List Derivation) × (new ≡ old ++ more)
 
 -- the row has this number
 abbrev pub IsNumber : List Row → ℕ → Row → Type 0

@@ -2,6 +2,7 @@
 
 ghost use Rattle.std.specs.Prelude.{◌≡◌, ◌↔◌, ℕ, ◌+◌, ◌*◌, ◌/◌, ◌≤◌, ◌^◌, ℤ, pos, ◌+ℤ◌, ◌*ℤ◌, ◌<ℤ◌, unsigned_abs, nat_le, IsTrue, IfOk, MatchOption, ◌&&◌, if◌then◌else◌, Some, None, length};
 ghost use Rattle.std.specs.Int.{IsGcd};
+ghost use Rattle.std.specs.Bool.{MatchBool};
 ghost use Rattle.std.specs.List.{All};
 ghost use Rattle.farkas_cert.specs.Combination.{is_narrow as narrow};
 ghost use Rattle.fm_elim.specs.Pairs.{combination as combination_of, IsWide, IsNarrow};
@@ -52,7 +53,7 @@ fn narrow_product(a: i128, b: i128) -> Option<i128>
 }
 
 // The sum, if it is at most 2 ^ 126 in size.
-fn narrow_sum(a: i128, b: i128) -> Option<i128>
+pub(crate) fn narrow_sum(a: i128, b: i128) -> Option<i128>
     ensures { result ≡ (if narrow (a +ℤ b) then Some (a +ℤ b) else None) }
 {
     a.checked_add(b).filter(|sum| is_narrow(*sum))
@@ -77,6 +78,24 @@ pub fn multipliers(upper: i128, lower: i128) -> (i128, i128)
     let below = lower.unsigned_abs();
     let divisor = greatest_common_divisor(above, below);
     ((below / divisor) as i128, (above / divisor) as i128)
+}
+
+/// Whether no product and no sum of m times the first row and n times the other passes 2 ^ 126 in size.
+pub fn is_narrow_combination(m: i128, upper: &Row, n: i128, lower: &Row) -> bool
+    requires { length lower.now.coefs ≡ length upper.now.coefs }
+    ensures { let vars = length upper.now.coefs in
+        MatchBool result (IsNarrow vars m upper.now n lower.now) (IsWide vars m upper.now n lower.now) }
+{
+    if weighted_sum(m, upper.bound, n, lower.bound).is_none() {
+        return false;
+    }
+    let others = lower.coefs.as_slice();
+    for (k, coef) in upper.coefs.as_slice().iter().enumerate() {
+        if weighted_sum(m, *coef, n, others[k]).is_none() {
+            return false;
+        }
+    }
+    true
 }
 
 /// m times the first row and n times the other, or None where a product or a sum passes 2 ^ 126 in size.

@@ -1,21 +1,29 @@
-// The rows of a level, and the candidates of the next one.
+// The rows of a level, and how the next one is formed.
 
-ghost use Rattle.std.specs.Prelude.{◌≡◌, ◌-◌, ◌≤◌, ◌<◌, IsTrue, IfOk, OnOk, ◌↔◌, List, length, slice_index_or};
-ghost use Rattle.std.specs.List.{All};
+ghost use Rattle.std.specs.Prelude.{◌≡◌, ◌≤◌, IsTrue, IfOk, OnOk, ◌↔◌, [], List, length};
+ghost use Rattle.std.specs.List.{All, Contains};
 ghost use Rattle.farkas_cert.specs.Inequalities.{Inequalities};
 ghost use Rattle.farkas_cert.specs.Combination.{is_narrow as narrow};
 ghost use Rattle.fm_elim.specs.declared.derivation.Derivation.{Derivation as Steps};
 ghost use Rattle.fm_elim.specs.Reduction.{IsReduced};
 ghost use Rattle.fm_elim.specs.Pairs.{coef_of as coef};
 ghost use Rattle.fm_elim.specs.Levels.{IsEmpty};
-ghost use Rattle.fm_elim.specs.Forming.{candidate_cmp, IsAdded};
-ghost use Rattle.fm_elim.specs.Logs.{all_rows, IsNumber, IsSuited, IsFounded};
+ghost use Rattle.fm_elim.specs.Forming.{IsAdded, IsFormed};
+ghost use Rattle.fm_elim.specs.Logs.{all_rows, IsLog, IsContinued, IsNumber, IsSuited, IsFounded, IsHeld, rows_of, rows_among};
+ghost use Rattle.fm_elim.specs.Gathering.{AreGiven};
+ghost use Rattle.fm_elim.specs.Next.{IsNext};
+ghost use Rattle.fm_elim.specs.Answers.{AreNarrow};
 
 use crate::derivation::Derivation;
+use crate::forming::{BySign, gathered, split_by_sign};
+use crate::pairs::wide_pair;
 use crate::reduction::reduced;
-use farkas_cert::{Coefs, Row};
+use crate::tighten::tightest;
+use farkas_cert::{Coefs, Row, System};
 use std::alloc::{AllocError, Global};
-use std::cmp::Ordering;
+
+/// A level with more rows than this is given up.
+pub const MOST_ROWS: usize = 20_000;
 
 /// A row of a level, with its number among the given and the derived rows.
 #[derive(Drop)]
@@ -36,6 +44,18 @@ pub enum Origin {
 pub struct Candidate {
     pub row: Row,
     pub origin: Origin,
+}
+
+/// What forming a level comes to.
+#[derive(Drop)]
+pub enum Formed {
+    /// The rows of the level, by their coefficients.
+    Level(Vec<Held>),
+    /// Two rows of the level before, one that bounds the variable from above and one from below, whose
+    /// least combination has a product or a sum past 2 ^ 126 in size.
+    Wide(Row, Row),
+    /// The level has more than 20,000 rows.
+    Many,
 }
 
 /// The coefficient of the variable, numbered from 1.
@@ -60,33 +80,6 @@ fn copy_of(alloc: Global, row: &Row) -> Result<Row, AllocError>
         coefs: Coefs::from_slice(alloc, row.coefs.as_slice())?,
         bound: row.bound,
     })
-}
-
-/// Orders candidates by the coefficients, then by the bound.
-pub fn compare(a: &Candidate, b: &Candidate) -> Ordering
-    ensures { result ≡ candidate_cmp a.now b.now }
-{
-    a.row
-        .coefs
-        .as_slice()
-        .cmp(&b.row.coefs.as_slice())
-        .then(a.row.bound.cmp(&b.row.bound))
-}
-
-fn are_same(coefs: &[i128], others: &[i128]) -> bool
-    ensures { IsTrue result ↔ (coefs.now ≡ others.now) }
-{
-    coefs == others
-}
-
-/// Whether the candidate has the coefficients of the last one kept.
-pub fn repeats(kept: &[Candidate], candidate: &Candidate) -> bool
-    ensures { IsTrue result ↔ ((0 < length kept.now) × ((d : Candidate) → (slice_index_or kept.now (length kept.now - 1) d).row.coefs ≡ candidate.now.row.coefs)) }
-{
-    match kept.last() {
-        Some(last) => are_same(last.row.coefs.as_slice(), candidate.row.coefs.as_slice()),
-        None => false,
-    }
 }
 
 /// A given row, with its number, reduced. Its coefficients are at most 2 ^ 126 in size. An error says that memory ran out.
@@ -116,4 +109,112 @@ pub fn add(candidates: &mut Vec<Candidate>, candidate: Candidate) -> Result<(), 
         candidates.push(candidate)?;
     }
     Ok(())
+}
+
+// The number of the candidate's row. A row that is to be derived gets the next one.
+fn number_of(
+    system: &System,
+    candidate: &Candidate,
+    log: &mut Vec<Derivation>,
+) -> Result<u64, AllocError>
+    requires log { IsLog system.now log.old.items }
+    requires founded { IsFounded system.now log.old.items candidate.now }
+    ensures number { IfOk result (λ number. IsNumber (all_rows system.now log.new.items) number candidate.now.row) }
+    ensures continued { OnOk result (IsContinued log.old.items log.new.items) }
+    ensures log { OnOk result (IsLog system.now log.new.items) }
+{
+    match candidate.origin {
+        Origin::Numbered(number) => Ok(number),
+        Origin::Made(derivation) => {
+            log.push(derivation)?;
+            Ok(system.rows().len() as u64 + log.len() as u64)
+        }
+    }
+}
+
+// The rows of the candidates, each with its number.
+fn numbered(
+    alloc: Global,
+    system: &System,
+    candidates: Vec<Candidate>,
+    log: &mut Vec<Derivation>,
+) -> Result<Vec<Held>, AllocError>
+    requires log { IsLog system.now log.old.items }
+    requires founded { All (IsFounded system.now log.old.items) candidates.items }
+    requires lowest { All (λ c. IsReduced c.row c.row) candidates.items }
+    ensures rows { IfOk result (λ level. rows_of level.items ≡ rows_among candidates.items) }
+    ensures log { OnOk result (IsLog system.now log.new.items) }
+    ensures held { IfOk result (λ level. All (IsHeld system.now log.new.items) level.items) }
+{
+    let mut level = Vec::with_capacity(alloc, candidates.len())?;
+    for candidate in candidates {
+        let number = number_of(system, &candidate, log)?;
+        let Candidate { row, origin: _ } = candidate;
+        level.push(Held { row, number })?;
+    }
+    Ok(level)
+}
+
+// The system's rows, reduced, as candidates.
+fn given_candidates(alloc: Global, system: &System) -> Result<Vec<Candidate>, AllocError>
+    requires { AreNarrow system.now.rows }
+    ensures { IfOk result (λ candidates. AreGiven system.now system.now.rows candidates.items) }
+{
+    let mut candidates = Vec::with_capacity(alloc, system.rows().len())?;
+    for (index, row) in system.rows().iter().enumerate() {
+        let candidate = given_candidate(alloc, row, index as u64 + 1)?;
+        add(&mut candidates, candidate)?;
+    }
+    Ok(candidates)
+}
+
+/// Level 0: the given rows, reduced, by their coefficients. An error says that memory ran out.
+pub fn first_level(
+    alloc: Global,
+    system: &System,
+    log: &mut Vec<Derivation>,
+) -> Result<Vec<Held>, AllocError>
+    requires fresh { log.old.items ≡ [] }
+    requires narrow { AreNarrow system.now.rows }
+    ensures formed { IfOk result (λ level. IsFormed (λ r. Contains system.now.rows r) (rows_of level.items)) }
+    ensures log { OnOk result (IsLog system.now log.new.items) }
+    ensures held { IfOk result (λ level. All (IsHeld system.now log.new.items) level.items) }
+{
+    let kept = tightest(alloc, given_candidates(alloc, system)?)?;
+    numbered(alloc, system, kept, log)
+}
+
+/// Removes the variable, numbered from 1, from the rows of a level. An error says that memory ran out.
+pub fn next_level(
+    alloc: Global,
+    system: &System,
+    level: Vec<Held>,
+    variable: u32,
+    log: &mut Vec<Derivation>,
+) -> Result<Formed, AllocError>
+    requires variable { (1 ≤ variable) × (variable ≤ system.now.vars) }
+    requires log { IsLog system.now log.old.items }
+    requires held { All (IsHeld system.now log.old.items) level.items }
+    ensures next { IfOk result (λ f. IsNext system.now variable (rows_of level.items) log.new.items f) }
+    ensures log { OnOk result (IsLog system.now log.new.items) }
+{
+    let BySign {
+        apart,
+        uppers,
+        lowers,
+    } = split_by_sign(alloc, level, variable)?;
+    if let Some((upper, lower)) = wide_pair(uppers.as_slice(), lowers.as_slice(), variable) {
+        let upper = copy_of(alloc, &upper.row)?;
+        let lower = copy_of(alloc, &lower.row)?;
+        return Ok(Formed::Wide(upper, lower));
+    }
+    let Some(candidates) = gathered(alloc, apart, uppers.as_slice(), lowers.as_slice(), variable)?
+    else {
+        return Ok(Formed::Many);
+    };
+    let kept = tightest(alloc, candidates)?;
+    if kept.len() > MOST_ROWS {
+        return Ok(Formed::Many);
+    }
+    Ok(Formed::Level(numbered(alloc, system, kept, log)?))
 }

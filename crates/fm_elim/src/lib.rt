@@ -1,24 +1,35 @@
-//! Groundwork of Fourier's elimination over systems of linear inequalities, with rounding.
+//! The decision of systems of linear inequalities by Fourier's elimination, with rounding.
 //!
-//! What it holds today:
+//! [`decide`] removes the variables of a system one by one, in an order that the caller gives. Level 0
+//! has the system's rows in their lowest terms; level k has the rows of level k - 1 without the k-th
+//! variable, and the least combinations of its pairs of opposite sign. It answers with a certificate
+//! that the system has no whole solution, or that no level has a contradiction, so that it has a
+//! rational one; or it gives up, where a number gets too large or a level has too many rows.
 //!
-//! - [`reduction`]: rows in their lowest terms, their bounds rounded down.
-//! - [`combination`]: the least combination of two rows by which a variable cancels, and whether a
-//!   product or a sum in it passes 2 ^ 126 in size.
-//! - [`level`]: the candidates of a level, and their order.
-//! - As definitions: the levels of elimination as sets of rows, and what each [`Answer`] rests on;
-//!   with lemmas towards them.
-//!
-//! The decision itself isn't here yet: no function forms a level or gives an [`Answer`].
+//! - [`answer`]: the answers.
+//! - [`elimination`]: the decision, level by level.
+//! - [`level`], with [`forming`], [`pairs`] and [`tighten`]: level 0, and each level from the one
+//!   before it.
+//! - [`reduction`] and [`combination`]: rows in their lowest terms, and the least combination of two.
+//! - [`derivation`] and [`certificate`]: how the rows were made, and the certificate that ends in one
+//!   of them.
 #![tactic(auto)]
 
 pub mod answer;
+pub mod certificate;
 pub mod combination;
 pub mod derivation;
+pub mod elimination;
+pub mod forming;
 pub mod level;
+pub mod pairs;
 pub mod reduction;
+pub mod tighten;
 
 pub use answer::{Answer, NoMemory};
+pub use elimination::decide;
 
+#[cfg(test)]
+mod decision_tests;
 #[cfg(test)]
 mod tests;

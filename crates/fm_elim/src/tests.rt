@@ -3,17 +3,18 @@
 ghost use Rattle.std.specs.Prelude.{◌≡◌, IfOk};
 
 use crate::combination::{are_narrow, combine, multipliers};
-use crate::level::{Candidate, add, compare, given_candidate};
+use crate::level::{Candidate, add, given_candidate};
 use crate::reduction::reduced;
+use crate::tighten::compare;
 use farkas_cert::{Coefs, Row};
 use std::alloc::{AllocError, Global};
 use std::cmp::Ordering;
 use std::test::Fail;
 
 // A row's coefficients and its bound.
-type Given<'a> = (&'a [i128], i128);
+pub(crate) type Given<'a> = (&'a [i128], i128);
 
-fn row_of(alloc: Global, coefs: &[i128], bound: i128) -> Result<Row, AllocError>
+pub(crate) fn row_of(alloc: Global, coefs: &[i128], bound: i128) -> Result<Row, AllocError>
     ensures { IfOk result (λ row. row.coefs ≡ coefs.now) }
 {
     Ok(Row {

@@ -1,0 +1,160 @@
+-- What a level that elimination has reached is known to be, and what its answers rest on.
+use Rattle.std.proofs.Common.{◌≡◌, ℕ, zero, suc, ◌+◌, ◌-◌, ◌≤◌, ◌<◌, ℤ, pos, ◌<ℤ◌, List, [], map, length, get_or, slice_index, refl, ap, sym, ◌∙◌, subst, arith}
+use Rattle.std.specs.List.{All, AllPairs, Contains, range_with_len}
+use Rattle.std.specs.List.Sorted.{IsPermutation}
+use Rattle.std.proofs.lemmas.List.{get_or_default, get_or-map, length-map}
+use Rattle.std.proofs.lemmas.List.FromFn.{length-range_with_len, get_or-range_with_len}
+use Rattle.std.proofs.lemmas.List.Elements.{All-contains, All-map, All-weaker, Contains-get_or}
+use Rattle.std.proofs.lemmas.List.Sorted.{Contains-permutation, length_permutation, IsPermutation-sym}
+use Rattle.farkas_cert.specs.declared.system.Row.{Row}
+use Rattle.farkas_cert.specs.Inequalities.{Inequalities, AreFull}
+use Rattle.fm_elim.specs.declared.derivation.Derivation.{Derivation}
+use Rattle.fm_elim.specs.declared.level.Held.{Held}
+use Rattle.fm_elim.specs.Pairs.{coef_of, IsPair, IsWide}
+use Rattle.fm_elim.specs.Levels.{IsEmpty, IsKept, IsRaw, IsDerived, IsClearTo, HasMoreThan}
+use Rattle.fm_elim.specs.Forming.{IsUpto, IsFormed}
+use Rattle.fm_elim.specs.Logs.{IsLog, IsHeld, rows_of}
+use Rattle.fm_elim.specs.Answers.{NamesEachOnce, HasRationalSolution, IsWidePair, IsWideAt, IsManyAt, IsFreeOfClashes}
+use Rattle.fm_elim.proofs.Combined.{by_lt}
+use Rattle.fm_elim.proofs.Removal.{IsSolvable}
+use Rattle.fm_elim.proofs.Exactness.{IsExact, IsExact-first, IsExact-next, raw_of_other, kept_of_other}
+use Rattle.fm_elim.proofs.Back.{solvable_before, solvable_system}
+use Rattle.fm_elim.proofs.Columns.{IsRid, IsRid-start, IsRid-next, empty_from_rid, solvable_nothing}
+
+-- the list is level k, no level before it keeps a row without coefficients, its rows have their numbers, and what satisfies it can be moved to satisfy the system
+pub record IsReached (system : Inequalities) (order : List ℕ) (k : ℕ) (log : List Derivation) (level : List Held) : Type 0 where
+  pub steps : IsLog system log
+  pub held : All (IsHeld system log) level
+  pub exact : IsExact (IsDerived system order k) (rows_of level)
+  pub rid : IsRid order k (rows_of level)
+  pub clear : (j : ℕ) (row : Row) → j < k → IsDerived system order j row → IsEmpty row → ⊥
+  pub useful : All (λ h. IsEmpty h.row → h.row.bound <ℤ pos 0) level
+  pub ascending : AllPairs (λ h o. IsUpto h.row.coefs o.row.coefs) level
+  pub distinct : AllPairs (λ h o. h.row.coefs ≡ o.row.coefs → ⊥) level
+  pub back : IsSolvable system.vars (rows_of level) → IsSolvable system.vars system.rows
+
+-- what holds of the rows holds of the held ones
+from_rows : (P : Row → Type 0) (level : List Held) → All P (rows_of level) → All (λ h. P h.row) level
+from_rows P level all k d h = subst P (get_or-map (λ h. h.row) level k d d.row h) (all k d.row (omega (arith, length-map level (λ h. h.row))))
+
+pairs_from_rows : (R : Row → Row → Type 0) (level : List Held) → AllPairs R (rows_of level) → AllPairs (λ h o. R h.row o.row) level
+pairs_from_rows R level all i j d lt h =
+    let at : (k : ℕ) → k < length level → get_or (rows_of level) k d.row ≡ (get_or level k d).row = λ k below. get_or-map (λ h. h.row) level k d d.row below in
+    let both : R (get_or (rows_of level) i d.row) (get_or (rows_of level) j d.row) = all i j d.row lt (omega (arith, length-map level (λ h. h.row))) in
+    subst (λ r. R r (get_or level j d).row) (at i (omega arith)) (subst (R (get_or (rows_of level) i d.row)) (at j h) both)
+
+-- level 0
+pub reached_first : (system : Inequalities) (order : List ℕ) (log : List Derivation) (level : List Held) → IsFormed (λ r. Contains system.rows r) (rows_of level) → IsLog system log → All (IsHeld system log) level → IsReached system order 0 log level
+reached_first system order log level formed good held = record {
+  steps = good;
+  held = held;
+  exact = IsExact-first system order (rows_of level) formed;
+  rid = IsRid-start order (rows_of level);
+  clear = λ j row lt. absurd (omega arith);
+  useful = from_rows (λ r. IsEmpty r → r.bound <ℤ pos 0) level formed.useful;
+  ascending = pairs_from_rows (λ r s. IsUpto r.coefs s.coefs) level formed.ascending;
+  distinct = pairs_from_rows (λ r s. r.coefs ≡ s.coefs → ⊥) level formed.distinct;
+  back = solvable_system system.vars system.rows (rows_of level) formed;
+}
+
+-- how many variables the order has, and which
+pub order_length : (vars : ℕ) (order : List ℕ) → NamesEachOnce vars order → length order ≡ vars
+order_length vars order names = length_permutation (range_with_len 1 vars) order names ∙ length-range_with_len 1 vars
+
+pub order_within : (vars : ℕ) (order : List ℕ) (k : ℕ) → NamesEachOnce vars order → k < length order → (1 ≤ slice_index order k) × (slice_index order k ≤ vars)
+order_within vars order k names h =
+    let listed = Contains-permutation order (range_with_len 1 vars) (slice_index order k) (IsPermutation-sym (range_with_len 1 vars) order names) (Contains-get_or order k 0 h) in
+    let within : listed.0 < vars = omega (arith, listed.1, length-range_with_len 1 vars) in
+    let at : 1 + listed.0 ≡ slice_index order k = sym (get_or-range_with_len 1 vars listed.0 (slice_index order k) within) ∙ listed.2 in
+    (omega arith, omega arith)
+
+-- the last variable is one of the order's numbers
+pub order_names_last : (vars : ℕ) (order : List ℕ) → NamesEachOnce vars order → 0 < vars → (i : ℕ) × (get_or order i 0 ≡ vars)
+order_names_last vars order names some =
+    let count : length (range_with_len 1 vars) ≡ vars = length-range_with_len 1 vars in
+    let listed : Contains (range_with_len 1 vars) vars = (vars - 1, omega arith, get_or-range_with_len 1 vars (vars - 1) vars (omega arith) ∙ omega arith) in
+    let there = Contains-permutation (range_with_len 1 vars) order vars names listed in
+    (there.0, get_or_default order there.0 0 vars there.1 ∙ there.2)
+
+module _ (system : Inequalities) (order : List ℕ) (k : ℕ) (log : List Derivation) (level : List Held) (reached : IsReached system order k log level) (none : All (λ h. IsEmpty h.row → ⊥) level) where
+  -- no row of this level is without coefficients
+  none_derived : (row : Row) → IsDerived system order k row → IsEmpty row → ⊥
+  none_derived row derived = All-contains (λ r. IsEmpty r → ⊥) (rows_of level) row (All-map (λ r. IsEmpty r → ⊥) (λ (h : Held). h.row) level none) (reached.exact.has row derived)
+
+  pub clear_here : IsClearTo system order k
+  clear_here j row lt derived = by_lt {P = IsEmpty row → ⊥} j k
+      (λ early. reached.clear j row early derived)
+      (λ here. let e : j ≡ k = omega arith in none_derived row (subst (λ i. IsDerived system order i row) e derived))
+
+  -- nor do two clash, where none of the list do
+  pub free_here : (number : ℕ) → number ≡ k + 1 → IsFreeOfClashes (λ r. Contains (rows_of level) r) → IsFreeOfClashes (IsDerived system order (number - 1))
+  free_here number e free upper lower hu hl =
+      let place : number - 1 ≡ k = omega arith in
+      free upper lower (reached.exact.has upper (subst (λ i. IsDerived system order i upper) place hu)) (reached.exact.has lower (subst (λ i. IsDerived system order i lower) place hl))
+
+  full : AreFull system.vars (rows_of level)
+  full = All-map (λ r. length r.coefs ≡ system.vars) (λ (h : Held). h.row) level (All-weaker (IsHeld system log) (λ h. length h.row.coefs ≡ system.vars) (λ h held. held.suited.full) level reached.held)
+
+  -- the next level
+  pub reached_next : (v : ℕ) (more : List Derivation) (next : List Held) → v ≡ slice_index order k → 1 ≤ v → v ≤ system.vars → IsFormed (IsRaw v (Contains (rows_of level))) (rows_of next) → IsLog system more → All (IsHeld system more) next → IsReached system order (k + 1) more next
+  reached_next v more next is low high formed good held =
+      let formed' = subst (λ i. IsFormed (IsRaw i (Contains (rows_of level))) (rows_of next)) is formed in
+      let e : suc k ≡ k + 1 = omega arith in
+      record {
+        steps = good;
+        held = held;
+        exact = subst (λ i. IsExact (IsDerived system order i) (rows_of next)) e (IsExact-next system order k (rows_of level) (rows_of next) reached.exact formed');
+        rid = IsRid-next order k system.vars (rows_of level) (rows_of next) full reached.rid formed';
+        clear = λ j row lt. clear_here j row (omega arith);
+        useful = from_rows (λ r. IsEmpty r → r.bound <ℤ pos 0) next formed.useful;
+        ascending = pairs_from_rows (λ r s. IsUpto r.coefs s.coefs) next formed.ascending;
+        distinct = pairs_from_rows (λ r s. r.coefs ≡ s.coefs → ⊥) next formed.distinct;
+        back = λ s. reached.back (solvable_before v system.vars (rows_of level) (rows_of next) low high full formed s);
+      }
+
+  -- two rows with a wide combination
+  pub wide_here : (v number : ℕ) (upper lower : Row) → v ≡ slice_index order k → number ≡ k + 1 → k < system.vars → Contains (rows_of level) upper → Contains (rows_of level) lower → ((m : ℤ) × (n : ℤ) × IsPair v upper lower m n × IsWide system.vars m upper n lower) → IsWideAt system order number upper lower
+  wide_here v number upper lower is e within has_upper has_lower pair =
+      let place : k ≡ number - 1 = omega arith in
+      record {
+        low = omega arith;
+        high = omega arith;
+        clear = subst (IsClearTo system order) place clear_here;
+        pair = subst (λ i. IsWidePair system order i upper lower) place (record {
+          m = pair.0;
+          n = pair.1;
+          has_upper = reached.exact.only upper has_upper;
+          has_lower = reached.exact.only lower has_lower;
+          pair = subst (λ i. IsPair i upper lower pair.0 pair.1) is pair.2;
+          wide = pair.3;
+        });
+      }
+
+  -- too many rows
+  pub many_here : (v number count : ℕ) → v ≡ slice_index order k → number ≡ k + 1 → k < system.vars → count ≡ 20001 → HasMoreThan 20000 (IsKept (IsRaw v (Contains (rows_of level)))) → IsManyAt system order number count
+  many_here v number count is e within counted more =
+      let place : k ≡ number - 1 = omega arith in
+      let next : suc k ≡ number = omega arith in
+      let w = slice_index order k in
+      let here : Row → Type 0 = IsRaw w (Contains (rows_of level)) in
+      let there : Row → Type 0 = IsRaw w (λ r. IsDerived system order k r) in
+      let forth : (r : Row) → here r → there r = raw_of_other w (Contains (rows_of level)) (λ r. IsDerived system order k r) reached.exact.only in
+      let back : (r : Row) → there r → here r = raw_of_other w (λ r. IsDerived system order k r) (Contains (rows_of level)) reached.exact.has in
+      let more' : HasMoreThan 20000 (IsKept here) = subst (λ i. HasMoreThan 20000 (IsKept (IsRaw i (Contains (rows_of level))))) is more in
+      record {
+        low = omega arith;
+        high = omega arith;
+        clear = subst (IsClearTo system order) place clear_here;
+        count_is = counted;
+        more = subst (λ i. HasMoreThan 20000 (IsDerived system order i)) next (more'.0, more'.1, more'.2, All-weaker (IsKept here) (IsKept there) (kept_of_other here there forth back) more'.0 more'.3);
+      }
+
+  -- after the last level nothing is left, and the system has a solution
+  pub solved_here : NamesEachOnce system.vars order → k ≡ length order → HasRationalSolution system
+  solved_here names last =
+      let nothing : (r : Row) → Contains (rows_of level) r → ⊥ = λ r there.
+          let rid = All-contains (λ r. (j : ℕ) → j < k → coef_of (slice_index order j) r ≡ pos 0) (rows_of level) r reached.rid there in
+          let empty = empty_from_rid order system.vars r names (All-contains (λ r. length r.coefs ≡ system.vars) (rows_of level) r full there) (λ j lt. rid j (omega arith)) in
+          All-contains (λ r. IsEmpty r → ⊥) (rows_of level) r (All-map (λ r. IsEmpty r → ⊥) (λ (h : Held). h.row) level none) there empty in
+      let s = reached.back (solvable_nothing system.vars (rows_of level) nothing) in
+      (s.x, s.d, record { values = s.values; divisor = s.divisor; rows = s.holds })

@@ -1,0 +1,202 @@
+// Worked decisions, each answer as a text. A level is in the order of its coefficients, so the rows below 0 come first.
+
+ghost use Rattle.std.specs.Prelude.{◌≡◌, ◌↔◌, IfOk, IsTrue, [], ◌∷◌};
+ghost use Rattle.std.specs.List.{range_with_len};
+ghost use Rattle.fm_elim.specs.Answers.{AreNarrow, NamesEachOnce};
+
+use crate::answer::{Answer, NoMemory};
+use crate::combination::{are_narrow, is_narrow};
+use crate::elimination::decide;
+use crate::tests::{Given, row_of};
+use farkas_cert::{Certificate, Row, System, check_cert};
+use std::alloc::{AllocError, Global};
+use std::test::Fail;
+
+// The system of these rows, those of another number of coefficients left out.
+fn system_of(alloc: Global, vars: u32, rows: &[Given<'_>]) -> Result<System, AllocError> {
+    let mut system = System::empty(alloc, vars);
+    for (coefs, bound) in rows {
+        if coefs.len() == vars as usize {
+            system.push(row_of(alloc, coefs, *bound)?)?;
+        }
+    }
+    Ok(system)
+}
+
+fn is_narrow_row(row: &Row) -> bool
+    ensures { IsTrue result ↔ AreNarrow (row.now ∷ []) }
+{
+    are_narrow(row.coefs.as_slice()) && is_narrow(row.bound)
+}
+
+fn are_narrow_rows(rows: &[Row]) -> bool
+    ensures { IsTrue result ↔ AreNarrow rows.now }
+{
+    rows.iter().all(|row| is_narrow_row(row))
+}
+
+fn in_order(alloc: Global, vars: u32) -> Result<Vec<u32>, AllocError>
+    ensures { IfOk result (λ order. order.items ≡ range_with_len 1 vars) }
+{
+    let mut order = Vec::new(alloc);
+    for index in 0..vars {
+        order.push(index + 1)?;
+    }
+    Ok(order)
+}
+
+// The variables in order, or from the last one back.
+fn order_of(alloc: Global, vars: u32, back: bool) -> Result<Vec<u32>, AllocError>
+    ensures { IfOk result (λ order. NamesEachOnce vars order.items) }
+{
+    let mut order = in_order(alloc, vars)?;
+    if back {
+        order.reverse();
+        return Ok(order);
+    }
+    Ok(order)
+}
+
+// The divisor of each step, then its terms, as `2 1*1` for half of row 1.
+fn certificate_text(alloc: Global, certificate: &Certificate) -> Result<String, AllocError> {
+    let mut text = String::new(alloc);
+    for step in certificate.steps.as_slice() {
+        text.push_str(format!(in alloc; ", {}", step.divisor)?.as_str())?;
+        for (row, multiplier) in step.terms.as_slice() {
+            text.push_str(format!(in alloc; " {row}*{multiplier}")?.as_str())?;
+        }
+    }
+    Ok(text)
+}
+
+fn row_text(alloc: Global, row: &Row) -> Result<String, AllocError> {
+    let mut text = String::new(alloc);
+    for coef in row.coefs.as_slice() {
+        text.push_str(format!(in alloc; "{coef} ")?.as_str())?;
+    }
+    text.push_str(format!(in alloc; "<= {}", row.bound)?.as_str())?;
+    Ok(text)
+}
+
+fn answer_text(alloc: Global, system: &System, answer: &Answer) -> Result<String, AllocError> {
+    match answer {
+        Answer::Infeasible(certificate) => {
+            let steps = certificate_text(alloc, certificate)?;
+            let good = check_cert(alloc, system, certificate).is_ok();
+            format!(in alloc; "infeasible, good {good}{steps}")
+        }
+        Answer::Open => format!(in alloc; "open"),
+        Answer::Wide { level, upper, lower } => {
+            let upper = row_text(alloc, upper)?;
+            let lower = row_text(alloc, lower)?;
+            format!(in alloc; "wide {level}, {upper}, {lower}")
+        }
+        Answer::Many { level, count } => format!(in alloc; "many {level}, {count}"),
+    }
+}
+
+// What elimination says of the system, by the variables in order or from the last one back.
+fn decided(alloc: Global, system: &System, back: bool) -> Result<String, NoMemory> {
+    if !are_narrow_rows(system.rows()) {
+        return Ok(format!(in alloc; "too large")?);
+    }
+    let order = order_of(alloc, system.vars(), back)?;
+    let answer = decide(alloc, system, order.as_slice())?;
+    Ok(answer_text(alloc, system, &answer)?)
+}
+
+// The answer for rows over so many variables, in order.
+fn told(alloc: Global, vars: u32, rows: &[Given<'_>]) -> Result<String, NoMemory> {
+    decided(alloc, &system_of(alloc, vars, rows)?, false)
+}
+
+// i is 1; and 2i is 1, which holds at i = 1/2 alone.
+#[test]
+fn rounding_refutes(rt: HostRuntime) -> Result<(), Fail> {
+    let alloc = rt.alloc();
+    assert_eq!(rt; told(alloc, 1, &[(&[1], 1), (&[-1], -1)])?.as_str(), "open");
+    assert_eq!(rt;
+        told(alloc, 1, &[(&[2], 1), (&[-2], -1)])?.as_str(),
+        "infeasible, good true, 2 2*1, 2 1*1, 1 3*1 4*1"
+    );
+    Ok(())
+}
+
+// i <= 5, i <= 3 and i >= 4: the least bound counts, and i <= 5 stands in no step.
+#[test]
+fn the_least_bound_counts(rt: HostRuntime) -> Result<(), Fail> {
+    assert_eq!(rt;
+        told(rt.alloc(), 1, &[(&[1], 5), (&[1], 3), (&[-1], -4)])?.as_str(),
+        "infeasible, good true, 1 3*1 2*1"
+    );
+    Ok(())
+}
+
+// i + j <= 0, j - i <= 7, i >= 1 and j >= 1: without i, j <= - 1; the second row isn't needed.
+#[test]
+fn a_certificate_has_only_what_it_needs(rt: HostRuntime) -> Result<(), Fail> {
+    assert_eq!(rt;
+        told(rt.alloc(), 2, &[(&[1, 1], 0), (&[-1, 1], 7), (&[-1, 0], -1), (&[0, -1], -1)])?.as_str(),
+        "infeasible, good true, 1 1*1 3*1, 1 4*1 5*1"
+    );
+    Ok(())
+}
+
+// A triangle with the corners (1/3, 0), (3/5, 4/5) and (0, 1/2) has no whole point.
+#[test]
+fn an_open_system_may_have_no_whole_solution(rt: HostRuntime) -> Result<(), Fail> {
+    assert_eq!(rt;
+        told(rt.alloc(), 2, &[(&[-3, -2], -1), (&[-1, 2], 1), (&[3, -1], 1)])?.as_str(),
+        "open"
+    );
+    Ok(())
+}
+
+// No row, no variable, and rows without coefficients: the second of three is a contradiction.
+#[test]
+fn little_is_decided(rt: HostRuntime) -> Result<(), Fail> {
+    let alloc = rt.alloc();
+    assert_eq!(rt; told(alloc, 0, &[])?.as_str(), "open");
+    assert_eq!(rt; told(alloc, 2, &[])?.as_str(), "open");
+    assert_eq!(rt; told(alloc, 0, &[(&[], -1)])?.as_str(), "infeasible, good true");
+    assert_eq!(rt;
+        told(alloc, 0, &[(&[], 3), (&[], -1), (&[], 4)])?.as_str(),
+        "infeasible, good true, 1 2*1"
+    );
+    Ok(())
+}
+
+// Without the first variable the combination's second entry is 2 ^ 128 + 2 ^ 64 - 1; without the second
+// one nothing is combined.
+#[test]
+fn the_order_decides_what_is_wide(rt: HostRuntime) -> Result<(), Fail> {
+    let alloc = rt.alloc();
+    let large = 1i128 << 64;
+    let rows: &[Given<'_>] = &[(&[large, large - 1], 0), (&[-(large + 1), 1], 0)];
+    let system = system_of(alloc, 2, rows)?;
+    assert_eq!(rt;
+        decided(alloc, &system, false)?.as_str(),
+        "wide 1, 18446744073709551616 18446744073709551615 <= 0, -18446744073709551617 1 <= 0"
+    );
+    assert_eq!(rt; decided(alloc, &system, true)?.as_str(), "open");
+    Ok(())
+}
+
+// 150 rows that bound the first variable from above, and 150 from below.
+fn crowd(alloc: Global) -> Result<System, AllocError> {
+    let mut system = System::empty(alloc, 3);
+    for index in 0..150u8 {
+        let coef = i128::from(index) + 1;
+        system.push(row_of(alloc, &[1, coef, 1], 0)?)?;
+        system.push(row_of(alloc, &[-1, 151 * coef, 0], 0)?)?;
+    }
+    Ok(system)
+}
+
+// All 22,500 combinations differ.
+#[test]
+fn too_many_rows_are_given_up(rt: HostRuntime) -> Result<(), Fail> {
+    let alloc = rt.alloc();
+    assert_eq!(rt; decided(alloc, &crowd(alloc)?, false)?.as_str(), "many 1, 20001");
+    Ok(())
+}
