@@ -1,0 +1,232 @@
+// What a line of the input says.
+
+ghost use Rattle.std.specs.Prelude.{◌≡◌, ◌≢◌, ◌↔◌, IfOk, IfErr, IsTrue, Some, None, [], ◌∷◌, map};
+ghost use Rattle.std.specs.List.{All, list_all};
+ghost use Rattle.farkas_cert.specs.Combination.{is_narrow};
+ghost use Rattle.std.specs.List.{All};
+ghost use Rattle.farkas_cert.specs.Combination.{is_narrow};
+ghost use Rattle.std.specs.Str.{bytes_eq};
+ghost use Rattle.elim_bench.specs.Lines as spec;
+ghost use Rattle.elim_bench.specs.Tasks.{IsNarrowLine};
+ghost use Rattle.elim_bench.specs.declared.line.LineFault.TheVariants.{NoMemory};
+
+use crate::number::{entry_of, natural_up_to};
+use farkas_cert::{Coefs, Row};
+use std::alloc::{AllocError, AllocFailed, Global};
+use std::marker::Model;
+use thiserror::Error;
+
+/// The most variables of a system.
+pub const MOST_VARIABLES: u32 = 1000;
+
+/// The name of a system. Contracts see its bytes.
+#[derive(Drop)]
+pub struct Name {
+    bytes: Vec<u8>,
+}
+
+impl Model for Name {
+    ghost use Rattle.std.specs.Prelude.{List, ℕ};
+
+    ghost Value = { List ℕ };
+
+    ghost view = { λ n. n.bytes.items };
+}
+
+impl Name {
+    /// The bytes of the name.
+    pub fn as_slice(&self) -> &[u8]
+        ensures { result.now ≡ self.now }
+    {
+        self.bytes.as_slice()
+    }
+}
+
+/// The head of a system.
+#[derive(Drop)]
+pub struct Head {
+    pub name: Name,
+    pub variables: u32,
+    pub rows: u32,
+}
+
+/// What a line says.
+#[derive(Drop)]
+pub enum Line {
+    /// It is passed over.
+    Nothing,
+    Head(Head),
+    Row(Row),
+}
+
+/// What is wrong with a line.
+#[derive(Clone, Copy, Debug, PartialEq, Eq, Error)]
+pub enum LineFault {
+    #[error("a system begins with: system NAME VARS ROWS")]
+    HeadForm,
+    #[error("the name has a character that is not printable")]
+    BadName,
+    #[error("the number of variables is not 0 to 1000 in decimal digits")]
+    BadVariables,
+    #[error("the number of rows is not 0 to 4294967295 in decimal digits")]
+    BadRows,
+    #[error("a coefficient or a bound is no whole number of at most 2 ^ 126 in size")]
+    BadNumber,
+    #[error("a row ends with: <= BOUND")]
+    RowForm,
+    #[error("the row has not one coefficient for each variable")]
+    WrongCount,
+    #[error("a row where a system has to begin")]
+    NoSystem,
+    #[error("the system before has too few rows")]
+    MissingRows,
+    /// Memory ran out. It says nothing of the line.
+    #[error("out of memory")]
+    NoMemory,
+}
+
+impl From<AllocError> for LineFault {
+    ghost from_gives = { λ _ fault. fault ≡ NoMemory };
+
+    fn from(_error: AllocError) -> LineFault {
+        LineFault::NoMemory
+    }
+}
+
+impl<T: Drop> From<AllocFailed<T>> for LineFault {
+    ghost from_gives = { λ _ fault. fault ≡ NoMemory };
+
+    fn from(_failed: AllocFailed<T>) -> LineFault {
+        LineFault::NoMemory
+    }
+}
+
+/// What the line says; its end may be there or not.
+pub fn read_line(alloc: Global, bytes: &[u8]) -> Result<Line, LineFault>
+    ensures line { IfOk result (λ line. spec.line_of bytes.now ≡ Some line) }
+    ensures malformed { IfErr result (λ fault. fault ≢ NoMemory → spec.line_of bytes.now ≡ None) }
+    ensures narrow { IfOk result IsNarrowLine }
+{
+    if is_comment(bytes) {
+        return Ok(Line::Nothing);
+    }
+    let words = words_of(alloc, bytes)?;
+    match words.first() {
+        None => Ok(Line::Nothing),
+        Some(word) if is_same(word, b"system") => Ok(Line::Head(head_of(alloc, &words[1..])?)),
+        Some(_) => Ok(Line::Row(row_of(alloc, words.as_slice())?)),
+    }
+}
+
+fn is_same(word: &[u8], other: &[u8]) -> bool
+    ensures { result ≡ bytes_eq word.now other.now }
+{
+    word == other
+}
+
+fn is_comment(bytes: &[u8]) -> bool
+    ensures { result ≡ spec.is_comment bytes.now }
+{
+    match bytes {
+        [first, ..] => *first == b'#',
+        [] => false,
+    }
+}
+
+// A space, a tab, or what ends a line.
+fn is_blank(byte: u8) -> bool
+    ensures { result ≡ spec.is_blank byte }
+{
+    byte == b' ' || byte == b'\t' || byte == b'\r' || byte == b'\n'
+}
+
+// The words of a line, in order: what stands between blanks.
+fn words_of(alloc: Global, bytes: &[u8]) -> Result<Vec<&[u8]>, AllocError>
+    ensures { IfOk result (λ words. map (λ w. w.now) words.items ≡ spec.words_of bytes.now) }
+{
+    bytes
+        .split(|byte| is_blank(*byte))
+        .filter(|word| !word.is_empty())
+        .collect(alloc)
+}
+
+// A character of ASCII that shows, no blank.
+fn is_printable(byte: u8) -> bool
+    ensures { result ≡ spec.is_printable byte }
+{
+    33 <= byte && byte <= 126
+}
+
+// Whether the word has printable characters alone.
+fn is_name(word: &[u8]) -> bool
+    ensures { result ≡ list_all spec.is_printable word.now }
+{
+    word.iter().all(|byte| is_printable(*byte))
+}
+
+// The head that the words behind `system` give.
+fn head_of(alloc: Global, words: &[&[u8]]) -> Result<Head, LineFault>
+    ensures head { IfOk result (λ head. spec.head_of (map (λ w. w.now) words.now) ≡ Some head) }
+    ensures malformed { IfErr result (λ fault. fault ≢ NoMemory → spec.head_of (map (λ w. w.now) words.now) ≡ None) }
+{
+    match words {
+        [name, variables, rows] => named_head(alloc, name, variables, rows),
+        _ => Err(LineFault::HeadForm),
+    }
+}
+
+// The head of these three words.
+fn named_head(alloc: Global, name: &[u8], variables: &[u8], rows: &[u8]) -> Result<Head, LineFault>
+    ensures head { IfOk result (λ head. spec.head_of (name.now ∷ variables.now ∷ rows.now ∷ []) ≡ Some head) }
+    ensures malformed { IfErr result (λ fault. fault ≢ NoMemory → spec.head_of (name.now ∷ variables.now ∷ rows.now ∷ []) ≡ None) }
+{
+    if !is_name(name) {
+        return Err(LineFault::BadName);
+    }
+    let Some(variables) = natural_up_to(MOST_VARIABLES as u128, variables) else {
+        return Err(LineFault::BadVariables);
+    };
+    let Some(rows) = natural_up_to(u32::MAX as u128, rows) else {
+        return Err(LineFault::BadRows);
+    };
+    Ok(Head {
+        name: Name {
+            bytes: name.to_vec(alloc)?,
+        },
+        variables: variables as u32,
+        rows: rows as u32,
+    })
+}
+
+// The row that the words give: coefficients, `<=` and a bound.
+fn row_of(alloc: Global, words: &[&[u8]]) -> Result<Row, LineFault>
+    ensures row { IfOk result (λ row. spec.row_of (map (λ w. w.now) words.now) ≡ Some row) }
+    ensures malformed { IfErr result (λ fault. fault ≢ NoMemory → spec.row_of (map (λ w. w.now) words.now) ≡ None) }
+    ensures coefs { IfOk result (λ row. All (λ a. IsTrue (is_narrow a)) row.coefs) }
+    ensures bound { IfOk result (λ row. IsTrue (is_narrow row.bound)) }
+{
+    let mut coefs = Coefs::with_capacity(alloc, words.len())?;
+    for (place, word) in words.iter().enumerate() {
+        if is_same(word, b"<=") {
+            let bound = bound_of(&words[place + 1..])?;
+            return Ok(Row { coefs, bound });
+        }
+        let Some(coef) = entry_of(word) else {
+            return Err(LineFault::BadNumber);
+        };
+        coefs.push(coef)?;
+    }
+    Err(LineFault::RowForm)
+}
+
+// The bound that the words behind `<=` give.
+fn bound_of(words: &[&[u8]]) -> Result<i128, LineFault>
+    ensures bound { IfOk result (λ bound. spec.bound_of (map (λ w. w.now) words.now) ≡ Some bound) }
+    ensures malformed { IfErr result (λ _. spec.bound_of (map (λ w. w.now) words.now) ≡ None) }
+    ensures narrow { IfOk result (λ bound. IsTrue (is_narrow bound)) }
+{
+    let [word] = words else {
+        return Err(LineFault::RowForm);
+    };
+    entry_of(word).ok_or(LineFault::BadNumber)
+}

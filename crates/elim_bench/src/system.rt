@@ -1,0 +1,144 @@
+// Systems, while their rows are read.
+
+ghost use Rattle.std.specs.Prelude.{◌≡◌, ◌≢◌, ◌↔◌, ◌++◌, [], ◌∷◌, Some, None, OnOk, OnErr, IfOk, IfErr, IsTrue, length};
+ghost use Rattle.std.specs.List.{All};
+ghost use Rattle.farkas_cert.specs.Combination.{is_narrow};
+ghost use Rattle.elim_bench.specs.declared.line.Line.TheVariants as lines;
+ghost use Rattle.elim_bench.specs.declared.line.LineFault.TheVariants.{NoMemory};
+ghost use Rattle.elim_bench.specs.Tasks as spec;
+
+use crate::line::{Head, Line, LineFault, Name};
+use farkas_cert::{Row, System};
+use std::alloc::{AllocError, Global};
+use std::marker::Model;
+
+/// A system whose coefficients and bounds are at most 2 ^ 126 in size. Contracts see the number of
+/// variables and the list of rows.
+#[derive(Drop)]
+pub struct NarrowSystem {
+    system: System,
+}
+
+impl Model for NarrowSystem {
+    ghost use Rattle.farkas_cert.specs.Inequalities.{Inequalities};
+    ghost use Rattle.fm_elim.specs.Answers.{AreNarrow};
+
+    ghost Value = { Inequalities };
+
+    ghost view = { λ s. s.system };
+
+    ghost invariant = { λ s. AreNarrow s.system.rows };
+}
+
+impl NarrowSystem {
+    ghost use Rattle.farkas_cert.specs.Inequalities.{Inequalities};
+    ghost use Rattle.fm_elim.specs.Answers.{AreNarrow};
+
+    /// The system over so many variables with no row.
+    pub fn empty(alloc: Global, variables: u32) -> Self
+        ensures { result ≡ record { vars = variables; rows = [] } }
+    {
+        NarrowSystem {
+            system: System::empty(alloc, variables),
+        }
+    }
+
+    /// One more row at the end. Where memory runs out nothing has changed.
+    pub fn push(&mut self, row: Row) -> Result<(), AllocError>
+        requires full { length row.coefs ≡ self.old.vars }
+        requires coefs { All (λ a. IsTrue (is_narrow a)) row.coefs }
+        requires bound { IsTrue (is_narrow row.bound) }
+        ensures ok { OnOk result (self.new ≡ record { vars = self.old.vars; rows = self.old.rows ++ row ∷ [] }) }
+        ensures err { OnErr result (self.new ≡ self.old) }
+    {
+        self.system.push(row)
+    }
+
+    /// The system.
+    pub fn as_system(&self) -> &System
+        ensures system { result.now ≡ self.now }
+        ensures narrow { AreNarrow self.now.rows }
+    {
+        &self.system
+    }
+}
+
+/// A system that is being read: its name, its rows so far, and how many are missing.
+#[derive(Drop)]
+pub struct Task {
+    pub name: Name,
+    pub missing: u32,
+    pub system: NarrowSystem,
+}
+
+impl Task {
+    ghost use Rattle.elim_bench.specs.Tasks.{first_task, task_with};
+
+    /// The system of a head, with no row yet.
+    pub fn new(alloc: Global, head: Head) -> Task
+        ensures { result ≡ first_task head }
+    {
+        let Head {
+            name,
+            variables,
+            rows,
+        } = head;
+        Task {
+            name,
+            missing: rows,
+            system: NarrowSystem::empty(alloc, variables),
+        }
+    }
+
+    /// Adds a row.
+    pub fn add(&mut self, row: Row) -> Result<(), AllocError>
+        requires full { length row.coefs ≡ self.old.system.vars }
+        requires coefs { All (λ a. IsTrue (is_narrow a)) row.coefs }
+        requires bound { IsTrue (is_narrow row.bound) }
+        ensures ok { OnOk result (self.new ≡ task_with row self.old) }
+        ensures err { OnErr result (self.new ≡ self.old) }
+    {
+        self.system.push(row)?;
+        self.missing = self.missing.saturating_sub(1);
+        Ok(())
+    }
+
+    /// Whether all rows are there.
+    pub fn is_complete(&self) -> bool
+        ensures { IsTrue result ↔ (self.now.missing ≡ 0) }
+    {
+        self.missing == 0
+    }
+}
+
+/// The open system behind a line: it begins with a head, and each row comes to it.
+pub fn open_behind(
+    alloc: Global,
+    pending: Option<Task>,
+    line: Line,
+) -> Result<Option<Task>, LineFault>
+    requires { spec.IsNarrowLine line }
+    ensures task { IfOk result (λ next. spec.open_behind pending line ≡ Some next) }
+    ensures misplaced { IfErr result (λ fault. fault ≢ NoMemory → spec.open_behind pending line ≡ None) }
+{
+    match (line, pending) {
+        (Line::Nothing, pending) => Ok(pending),
+        (Line::Head(head), None) => Ok(Some(Task::new(alloc, head))),
+        (Line::Head(_), Some(_)) => Err(LineFault::MissingRows),
+        (Line::Row(row), Some(task)) => with_row(task, row),
+        (Line::Row(_), None) => Err(LineFault::NoSystem),
+    }
+}
+
+// The task with one row more, if it has a coefficient for each variable.
+fn with_row(mut task: Task, row: Row) -> Result<Option<Task>, LineFault>
+    requires { spec.IsNarrowLine (lines.Row row) }
+    ensures task { IfOk result (λ next. spec.open_behind (Some task) (lines.Row row) ≡ Some next) }
+    ensures misplaced { IfErr result (λ fault. fault ≢ NoMemory → spec.open_behind (Some task) (lines.Row row) ≡ None) }
+{
+    if row.coefs.as_slice().len() != task.system.as_system().vars() as usize {
+        return Err(LineFault::WrongCount);
+    }
+    task.add(row)?;
+    Ok(Some(task))
+}
