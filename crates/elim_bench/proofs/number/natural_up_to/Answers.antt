@@ -1,5 +1,4 @@
-use Rattle.std.proofs.Common.{rules, arith, ◌≡◌, ℕ, ◌+◌, ◌-◌, ◌*◌, ◌<◌, ◌^◌, None, sym, ◌∙◌}
-use Rattle.std.proofs.Math.ListN.{get_or}
+use Rattle.std.proofs.Common.{rules, arith, ◌≡◌, None, sym, ◌∙◌}
 use Rattle.elim_bench.proofs.Digits.{within-digit}
 use Rattle.elim_bench.proofs.number.natural_up_to.Goals as goal
 

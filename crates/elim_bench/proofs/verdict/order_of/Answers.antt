@@ -1,4 +1,4 @@
-use Rattle.std.proofs.Common.{◌≡◌, ◌∙◌, sym, rules}
+use Rattle.std.proofs.Common.{rules}
 use Rattle.elim_bench.proofs.Orders.{range_with_len-more}
 use Rattle.elim_bench.proofs.verdict.order_of.Goals as goal
 
