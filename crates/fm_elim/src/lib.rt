@@ -5,11 +5,12 @@
 //! - [`reduction`]: rows in their lowest terms, their bounds rounded down.
 //! - [`combination`]: the least combination of two rows by which a variable cancels, and whether a
 //!   product or a sum in it passes 2 ^ 126 in size.
-//! - [`level`]: the candidates of a level, and their order.
+//! - [`level`]: the first level, of the given rows, and each next one, which removes a variable; with
+//!   [`tighten`], [`pairs`] and [`forming`], its parts.
 //! - As definitions: the levels of elimination as sets of rows, and what each [`Answer`] rests on;
 //!   with lemmas towards them.
 //!
-//! The decision itself isn't here yet: no function forms a level or gives an [`Answer`].
+//! The decision itself isn't here yet: no function gives an [`Answer`].
 #![tactic(auto)]
 
 pub mod answer;
