@@ -144,7 +144,7 @@ pub fn decide(alloc: Global, system: &System, order: &[u32]) -> Result<Answer, N
     ensures many { IfOk result (λ a. IfMany a (λ k count. IsManyAt system.now order.now k count)) }
     ensures before_many { IfOk result (λ a. IfMany a (λ k count. IsFreeOfClashes (IsDerived system.now order.now (k - 1)))) }
 {
-    let mut log = Vec::new(alloc);
+    let mut log = Vec::with_capacity(alloc, system.rows().len())?;
     let mut level = first_level(alloc, system, &mut log)?;
     for (index, variable) in order.iter().enumerate() {
         if let Some(certificate) = refutation(alloc, system, level.as_slice(), &mut log)? {
