@@ -11,7 +11,7 @@ use crate::combination::{combine, multipliers};
 use crate::derivation::Derivation;
 use crate::level::{Candidate, Held, Origin, add, coef_of};
 use crate::reduction::reduced;
-use crate::tighten::thinned;
+use crate::tighten::{Batch, thinned};
 use std::alloc::{AllocError, Global};
 
 /// The rows of a level by the sign of a variable's coefficient.
@@ -83,18 +83,19 @@ fn paired(alloc: Global, upper: &Held, lower: &Held, variable: u32) -> Result<Ca
 // Joins the candidate of a pair to the others, or is None where they come to too many.
 fn with_pair(
     alloc: Global,
-    candidates: Vec<Candidate>,
+    batch: Batch,
     upper: &Held,
     lower: &Held,
     variable: u32,
-) -> Result<Option<Vec<Candidate>>, AllocError>
+) -> Result<Option<Batch>, AllocError>
     requires opposed { IsOpposed variable upper.now.row lower.now.row }
     requires narrow { IsNarrowPair variable upper.now.row lower.now.row }
-    ensures { IfOk result (λ o. MatchOption o (HasApart 20000 (IsJoint variable upper.now (lower.now ∷ []) candidates.items))
-        (λ joined. IsJoined variable upper.now (lower.now ∷ []) candidates.items joined.items)) }
+    ensures { IfOk result (λ o. MatchOption o (HasApart 20000 (IsJoint variable upper.now (lower.now ∷ []) batch.candidates.items))
+        (λ joined. IsJoined variable upper.now (lower.now ∷ []) batch.candidates.items joined.candidates.items)) }
 {
-    let mut joined = candidates;
-    add(&mut joined, paired(alloc, upper, lower, variable)?)?;
+    let mut joined = batch;
+    let candidate = paired(alloc, upper, lower, variable)?;
+    add(&mut joined.candidates, candidate)?;
     thinned(alloc, joined)
 }
 
@@ -102,17 +103,17 @@ fn with_pair(
 // too many.
 fn with_pairs(
     alloc: Global,
-    candidates: Vec<Candidate>,
+    batch: Batch,
     upper: &Held,
     lowers: &[Held],
     variable: u32,
-) -> Result<Option<Vec<Candidate>>, AllocError>
+) -> Result<Option<Batch>, AllocError>
     requires opposed { All (λ l. IsOpposed variable upper.now.row l.row) lowers.now }
     requires narrow { All (λ l. IsNarrowPair variable upper.now.row l.row) lowers.now }
-    ensures { IfOk result (λ o. MatchOption o (HasApart 20000 (IsJoint variable upper.now lowers.now candidates.items))
-        (λ joined. IsJoined variable upper.now lowers.now candidates.items joined.items)) }
+    ensures { IfOk result (λ o. MatchOption o (HasApart 20000 (IsJoint variable upper.now lowers.now batch.candidates.items))
+        (λ joined. IsJoined variable upper.now lowers.now batch.candidates.items joined.candidates.items)) }
 {
-    let mut joined = candidates;
+    let mut joined = batch;
     for lower in lowers {
         let Some(more) = with_pair(alloc, joined, upper, lower, variable)? else {
             return Ok(None);
@@ -154,12 +155,12 @@ pub fn gathered(
     ensures { IfOk result (λ o. MatchOption o (HasApart 20000 (IsSource variable apart.items uppers.now lowers.now))
         (λ candidates. IsGathered variable apart.items uppers.now lowers.now candidates.items)) }
 {
-    let mut candidates = carried(alloc, apart)?;
+    let mut batch = Batch::new(carried(alloc, apart)?);
     for upper in uppers {
-        let Some(more) = with_pairs(alloc, candidates, upper, lowers, variable)? else {
+        let Some(more) = with_pairs(alloc, batch, upper, lowers, variable)? else {
             return Ok(None);
         };
-        candidates = more;
+        batch = more;
     }
-    Ok(Some(candidates))
+    Ok(Some(batch.candidates))
 }

@@ -10,8 +10,33 @@ use crate::level::{Candidate, MOST_ROWS};
 use std::alloc::{AllocError, Global};
 use std::cmp::Ordering;
 
-/// So many candidates are held at most before they are tightened.
-const MOST_CANDIDATES: usize = 2 * MOST_ROWS;
+/// So many candidates are held before they are first tightened: where none repeats another, there are
+/// too many rows soon.
+const FIRST_LIMIT: usize = MOST_ROWS + MOST_ROWS / 8;
+
+/// So many are held before each later time. As many again as may stay, so that each candidate is
+/// sorted a few times at most.
+const LIMIT: usize = 2 * MOST_ROWS;
+
+/// The candidates so far.
+#[derive(Drop)]
+pub struct Batch {
+    pub candidates: Vec<Candidate>,
+    /// How many there may be before they are tightened.
+    limit: usize,
+}
+
+impl Batch {
+    /// The first candidates.
+    pub fn new(candidates: Vec<Candidate>) -> Self
+        ensures { result.candidates ≡ candidates }
+    {
+        Batch {
+            candidates,
+            limit: FIRST_LIMIT,
+        }
+    }
+}
 
 /// Orders candidates by the coefficients, then by the bound.
 pub fn compare(a: &Candidate, b: &Candidate) -> Ordering
@@ -73,18 +98,19 @@ pub fn tightest(alloc: Global, candidates: Vec<Candidate>) -> Result<Vec<Candida
 
 /// Tightens the candidates where there are many, and is None where more than 20,000 are left. An error
 /// says that memory ran out.
-pub fn thinned(
-    alloc: Global,
-    candidates: Vec<Candidate>,
-) -> Result<Option<Vec<Candidate>>, AllocError>
-    ensures { IfOk result (λ o. MatchOption o (HasApart 20000 (Contains candidates.items)) (λ kept. IsThinned candidates.items kept.items)) }
+pub fn thinned(alloc: Global, batch: Batch) -> Result<Option<Batch>, AllocError>
+    ensures { IfOk result (λ o. MatchOption o (HasApart 20000 (Contains batch.candidates.items)) (λ kept. IsThinned batch.candidates.items kept.candidates.items)) }
 {
-    if candidates.len() <= MOST_CANDIDATES {
-        return Ok(Some(candidates));
+    let Batch { candidates, limit } = batch;
+    if candidates.len() <= limit {
+        return Ok(Some(Batch { candidates, limit }));
     }
-    let kept = tightest(alloc, candidates)?;
-    if kept.len() > MOST_ROWS {
+    let candidates = tightest(alloc, candidates)?;
+    if candidates.len() > MOST_ROWS {
         return Ok(None);
     }
-    Ok(Some(kept))
+    Ok(Some(Batch {
+        candidates,
+        limit: LIMIT,
+    }))
 }

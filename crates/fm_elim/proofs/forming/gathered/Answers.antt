@@ -19,9 +19,9 @@ returns-in_default c =
     let ls = c.args.lowers.now in
     let i = c.loop-upper.upper-index in
     let u = c.upper-item.result in
-    let old = c.loop-upper.candidates.items in
+    let old = c.loop-upper.batch.candidates.items in
     let there : Contains us u = subst (Contains us) (sym c.upper-item.is) (Contains-get_or us i u c.loop-upper-test.true) in
-    let many : HasApart 20000 (IsJoint v u ls old) = subst (λ o. MatchOption o (HasApart 20000 (IsJoint v u ls old)) (λ new. IsJoined v u ls old new.items)) c.in_default.is c.in_ok-more.ensures in
+    let many : HasApart 20000 (IsJoint v u ls old) = subst (λ o. MatchOption o (HasApart 20000 (IsJoint v u ls old)) (λ new. IsJoined v u ls old new.candidates.items)) c.in_default.is c.in_ok-more.ensures in
     HasApart-gathered 20000 v apart (take i us) us ls u old (Contains-take i us) there c.loop-upper.invariant many
 
 pub loop-upper-preserved : goal.loop-upper-preserved
@@ -32,8 +32,15 @@ loop-upper-preserved c =
     let ls = c.args.lowers.now in
     let i = c.loop-upper.upper-index in
     let u = c.upper-item.result in
-    let old = c.loop-upper.candidates.items in
-    let new = c.in-Some.more.items in
-    let joined = MatchOption-at_some (HasApart 20000 (IsJoint v u ls old)) (λ new. IsJoined v u ls old new.items) c.in-Some.more c.in-Some.is c.in_ok-more.ensures in
+    let old = c.loop-upper.batch.candidates.items in
+    let new = c.in-Some.more.candidates.items in
+    let joined = MatchOption-at_some (HasApart 20000 (IsJoint v u ls old)) (λ new. IsJoined v u ls old new.candidates.items) c.in-Some.more c.in-Some.is c.in_ok-more.ensures in
     let more : take (i + 1) us ≡ take i us ++ u ∷ [] = take_more us i u c.loop-upper-test.true ∙ ap (λ h. take i us ++ h ∷ []) (sym c.upper-item.is) in
     subst (λ hs. IsGathered v apart hs ls new) (sym more) (IsGathered-more v apart (take i us) ls u old new c.loop-upper.invariant joined)
+
+pub loop-upper-init : goal.loop-upper-init
+loop-upper-init c =
+    let v = c.args.variable in
+    let apart = c.args.apart.items in
+    let ls = c.args.lowers.now in
+    subst (λ b. IsGathered v apart [] ls b.items) (sym c.new-batch.ensures) (c.in_ok-carried.ensures v ls)
