@@ -3,8 +3,6 @@
 ghost use Rattle.std.specs.Prelude.{◌≡◌, ◌≢◌, ◌↔◌, IfOk, IfErr, IsTrue, Some, None, [], ◌∷◌, map};
 ghost use Rattle.std.specs.List.{All, list_all};
 ghost use Rattle.farkas_cert.specs.Combination.{is_narrow};
-ghost use Rattle.std.specs.List.{All};
-ghost use Rattle.farkas_cert.specs.Combination.{is_narrow};
 ghost use Rattle.std.specs.Str.{bytes_eq};
 ghost use Rattle.elim_bench.specs.Lines as spec;
 ghost use Rattle.elim_bench.specs.Tasks.{IsNarrowLine};

@@ -20,7 +20,7 @@
 //! NAME MANY level count     so many rows, or more, at this level
 //! ```
 //!
-//! With the word `--times` it also writes to standard error, for each system, its name and how
+//! With the word `--times` it also writes to standard error, a line for each system in order, how
 //! many microseconds the decision took, without the reading and without the check.
 //!
 //! It ends with one of these statuses. What was written before stays written.
