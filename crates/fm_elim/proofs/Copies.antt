@@ -1,19 +1,15 @@
 -- Steps by new numbers make the same rows.
-use Rattle.std.proofs.Common.{◌≡◌, ℕ, zero, suc, ◌+◌, ◌-◌, ◌≤◌, ◌<◌, ℤ, pos, ◌+ℤ◌, ◌*ℤ◌, ◌≤ℤ◌, int_div, int_rem, IsTrue, IsSomeAnd, Bool, true, false, List, [], ◌∷◌, ◌++◌, map, take, length, get_or, slice_index, slice_get, refl, ap, sym, ◌∙◌, subst, length-append, arith}
+use Rattle.std.proofs.Common.{◌≡◌, ℕ, zero, suc, ◌+◌, ◌-◌, ◌≤◌, ◌<◌, ℤ, pos, ◌*ℤ◌, ◌≤ℤ◌, int_div, int_rem, IsTrue, List, [], ◌∷◌, ◌++◌, map, take, length, get_or, slice_index, refl, ap, sym, ◌∙◌, subst, length-append, arith}
 use Rattle.std.specs.Int.{int_div_euclid}
-use Rattle.std.specs.List.{All, Any, range_with_len}
-use Rattle.std.proofs.lemmas.Int.{ints}
-use Rattle.std.proofs.lemmas.List.{get_or_append_left, get_or_default, get_or_at, get_or_push, get_or-map, length-map, length-take-le, append_assoc, append-nil}
-use Rattle.std.proofs.lemmas.List.Elements.{All-head, All-tail, All-cons, All-nil, All-map}
+use Rattle.std.specs.List.{All, range_with_len}
+use Rattle.std.proofs.lemmas.List.{get_or_at, get_or-map, length-map, append_assoc, append-nil}
+use Rattle.std.proofs.lemmas.List.Elements.{All-head, All-tail, All-map}
 use Rattle.farkas_cert.specs.declared.system.Row.{Row}
 use Rattle.farkas_cert.specs.declared.certificate.Step.{Step}
-use Rattle.farkas_cert.specs.Inequalities.{Inequalities}
-use Rattle.farkas_cert.specs.Combination.{no_row, row_at, entry_at, products_at, total, sum_at, made_row, is_narrow, stays_narrow}
+use Rattle.farkas_cert.specs.Combination.{no_row, row_at, entry_at, products_at, total, sum_at, made_row, stays_narrow}
 use Rattle.farkas_cert.specs.Good.{IsGoodStep, AreGoodSteps, rows_after}
-use Rattle.fm_elim.specs.declared.derivation.Derivation.{Derivation}
-use Rattle.fm_elim.specs.Logs.{step_of, all_rows, IsLog}
 use Rattle.fm_elim.specs.Lean.{Names, renumbered}
-use Rattle.fm_elim.proofs.Steps.{IsGoodStep-append, made_row-append, length-rows_after, map-agree}
+use Rattle.fm_elim.proofs.Steps.{IsGoodStep-append, made_row-append, map-agree}
 
 -- the first steps are good too
 pub AreGoodSteps-take : (vars : ℕ) (rows : List Row) (n : ℕ) (steps : List Step) → AreGoodSteps vars rows steps → AreGoodSteps vars rows (take n steps)

@@ -1,6 +1,5 @@
 -- What makes a certificate end in a contradiction.
-use Rattle.std.proofs.Common.{◌≡◌, ℕ, zero, suc, ◌+◌, ◌-◌, ◌≤◌, ◌<◌, ℤ, pos, IsSomeAnd, List, [], ◌∷◌, ◌++◌, map, take, length, get_or, slice_index, slice_get, refl, ap, sym, ◌∙◌, subst, length-append, arith}
-use Rattle.std.specs.List.{All}
+use Rattle.std.proofs.Common.{◌≡◌, ℕ, zero, suc, ◌+◌, ◌-◌, ◌≤◌, ◌<◌, pos, IsSomeAnd, List, [], ◌∷◌, ◌++◌, map, take, length, get_or, slice_get, ap, sym, ◌∙◌, subst, arith}
 use Rattle.std.proofs.Math.Nat.{one-dvd}
 use Rattle.std.proofs.lemmas.List.{append-nil, get_or_append_left, get_or_push, length_push, length-map, length-take-le, take-map}
 use Rattle.farkas_cert.specs.declared.system.Row.{Row}
@@ -8,7 +7,7 @@ use Rattle.farkas_cert.specs.declared.certificate.Step.{Step}
 use Rattle.farkas_cert.specs.declared.certificate.Certificate.{Certificate}
 use Rattle.farkas_cert.specs.Inequalities.{Inequalities}
 use Rattle.farkas_cert.specs.Combination.{no_row, row_at, made_row}
-use Rattle.farkas_cert.specs.Good.{IsGoodStep, AreGoodSteps, rows_after, IsContradiction, EndInContradiction, IsGood}
+use Rattle.farkas_cert.specs.Good.{AreGoodSteps, rows_after, IsContradiction, EndInContradiction, IsGood}
 use Rattle.fm_elim.specs.declared.derivation.Derivation.{Derivation}
 use Rattle.fm_elim.specs.Reduction.{DividesEach}
 use Rattle.fm_elim.specs.Logs.{step_of, all_rows, IsLog, IsNumber, IsSuited}

@@ -1,11 +1,10 @@
 -- Rows that are marked as needed, in a walk back over derivations.
-use Rattle.std.proofs.Common.{◌≡◌, ℕ, zero, suc, ◌+◌, ◌-◌, ◌≤◌, ◌<◌, ℤ, Bool, true, false, ◌⊎◌, inl, inr, ⊎_elim, Option, Some, None, List, [], ◌∷◌, length, get_or, set, replicate, refl, ap, sym, ◌∙◌, subst, arith}
+use Rattle.std.proofs.Common.{◌≡◌, ℕ, zero, suc, ◌+◌, ◌-◌, ◌≤◌, ◌<◌, ℤ, Bool, true, false, ◌⊎◌, inl, inr, ⊎_elim, Some, None, List, [], ◌∷◌, length, get_or, set, replicate, refl, ap, sym, ◌∙◌, subst, arith}
 use Rattle.std.specs.List.{All, Any}
 use Rattle.std.proofs.lemmas.List.{get_or-set_same, get_or_default, length-set, length-replicate, get_or-replicate}
 use Rattle.std.proofs.lemmas.Bool.{both_ways}
 use Rattle.std.proofs.lemmas.List.Elements.{All-head, All-tail, All-cons, All-nil, All-weaker}
 use Rattle.std.specs.Prelude.{option_to_list}
-use Rattle.farkas_cert.specs.declared.certificate.Step.{Step}
 use Rattle.fm_elim.specs.declared.derivation.Derivation.{Derivation}
 use Rattle.fm_elim.specs.Logs.{step_of}
 use Rattle.fm_elim.specs.Lean.{Names, IsMarked, AreMarkedToo, AreNeeded}

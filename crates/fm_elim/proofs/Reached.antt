@@ -1,7 +1,6 @@
 -- What a level that elimination has reached is known to be, and what its answers rest on.
-use Rattle.std.proofs.Common.{◌≡◌, ℕ, zero, suc, ◌+◌, ◌-◌, ◌≤◌, ◌<◌, ℤ, pos, ◌<ℤ◌, List, [], map, length, get_or, slice_index, refl, ap, sym, ◌∙◌, subst, arith}
+use Rattle.std.proofs.Common.{◌≡◌, ℕ, suc, ◌+◌, ◌-◌, ◌≤◌, ◌<◌, ℤ, pos, ◌<ℤ◌, List, length, get_or, slice_index, sym, ◌∙◌, subst, arith}
 use Rattle.std.specs.List.{All, AllPairs, Contains, range_with_len}
-use Rattle.std.specs.List.Sorted.{IsPermutation}
 use Rattle.std.proofs.lemmas.List.{get_or_default, get_or-map, length-map}
 use Rattle.std.proofs.lemmas.List.FromFn.{length-range_with_len, get_or-range_with_len}
 use Rattle.std.proofs.lemmas.List.Elements.{All-contains, All-map, All-weaker, Contains-get_or}
@@ -153,8 +152,8 @@ module _ (system : Inequalities) (order : List ℕ) (k : ℕ) (log : List Deriva
   pub solved_here : NamesEachOnce system.vars order → k ≡ length order → HasRationalSolution system
   solved_here names last =
       let nothing : (r : Row) → Contains (rows_of level) r → ⊥ = λ r there.
-          let rid = All-contains (λ r. (j : ℕ) → j < k → coef_of (slice_index order j) r ≡ pos 0) (rows_of level) r reached.rid there in
-          let empty = empty_from_rid order system.vars r names (All-contains (λ r. length r.coefs ≡ system.vars) (rows_of level) r full there) (λ j lt. rid j (omega arith)) in
-          All-contains (λ r. IsEmpty r → ⊥) (rows_of level) r (All-map (λ r. IsEmpty r → ⊥) (λ (h : Held). h.row) level none) there empty in
+      let rid = All-contains (λ r. (j : ℕ) → j < k → coef_of (slice_index order j) r ≡ pos 0) (rows_of level) r reached.rid there in
+      let empty = empty_from_rid order system.vars r names (All-contains (λ r. length r.coefs ≡ system.vars) (rows_of level) r full there) (λ j lt. rid j (omega arith)) in
+      All-contains (λ r. IsEmpty r → ⊥) (rows_of level) r (All-map (λ r. IsEmpty r → ⊥) (λ (h : Held). h.row) level none) there empty in
       let s = reached.back (solvable_nothing system.vars (rows_of level) nothing) in
       (s.x, s.d, record { values = s.values; divisor = s.divisor; rows = s.holds })

@@ -1,7 +1,6 @@
 -- The needed derivations are copied in order, with new numbers of their rows.
-use Rattle.std.proofs.Common.{◌≡◌, ℕ, zero, suc, ◌+◌, ◌-◌, ◌≤◌, ◌<◌, ℤ, pos, None, IsSomeAnd, Bool, true, false, List, [], ◌∷◌, ◌++◌, map, length, get_or, slice_index, slice_get, refl, ap, sym, ◌∙◌, subst, length-append, arith}
-use Rattle.std.specs.List.{All, Any}
-use Rattle.std.proofs.lemmas.Bool.{both_ways}
+use Rattle.std.proofs.Common.{◌≡◌, ℕ, zero, suc, ◌+◌, ◌-◌, ◌≤◌, ◌<◌, ℤ, pos, None, IsSomeAnd, Bool, List, [], ◌∷◌, ◌++◌, map, length, get_or, slice_index, slice_get, refl, ap, sym, ◌∙◌, subst, length-append, arith}
+use Rattle.std.specs.List.{All}
 use Rattle.std.proofs.lemmas.List.{append-nil, get_or_append_left, get_or_default, get_or_push, get_or-map, length-map, length_push}
 use Rattle.std.proofs.lemmas.List.Elements.{All-head, All-tail}
 use Rattle.farkas_cert.specs.declared.system.Row.{Row}
@@ -194,16 +193,16 @@ module _ (system : Inequalities) (log : List Derivation) (needed : List Bool) (n
       let q = found.0 in
       let copy = found.3 in
       let early : q + 1 < length log = by_lt (q + 1) (length log) (λ lt. lt) (λ ge.
-          let e : length system.rows + length log - 1 ≡ length system.rows + q = omega (arith, found.1) in
-          let at : length system.rows + length steps ≡ length system.rows + k + 1 = sym (copied.latest some) ∙ ap (slice_index numbers) e ∙ copy.number in
-          absurd (omega arith)) in
+      let e : length system.rows + length log - 1 ≡ length system.rows + q = omega (arith, found.1) in
+      let at : length system.rows + length steps ≡ length system.rows + k + 1 = sym (copied.latest some) ∙ ap (slice_index numbers) e ∙ copy.number in
+      absurd (omega arith)) in
       let d : Derivation = no_derivation in
       let later = marks.only q d early found.2 in
       let copy' = copied.forth later.0 later.3 later.4 in
       let names : Names (get_or steps copy'.0 no_step) (length system.rows + k + 1) =
-          subst (λ s. Names s (length system.rows + k + 1)) (sym (copy'.1.step d no_step))
-          (subst (Names (renumbered numbers (step_of (get_or log later.0 d)))) (ap (slice_index numbers) (omega arith) ∙ copy.number)
-          (Names-renumbered numbers (step_of (get_or log later.0 d)) (length system.rows + q + 1) later.5)) in
+      subst (λ s. Names s (length system.rows + k + 1)) (sym (copy'.1.step d no_step))
+      (subst (Names (renumbered numbers (step_of (get_or log later.0 d)))) (ap (slice_index numbers) (omega arith) ∙ copy.number)
+      (Names-renumbered numbers (step_of (get_or log later.0 d)) (length system.rows + q + 1) later.5)) in
       let named = (step_at system.vars system.rows steps copy'.0 no_step copied.good copy'.1.within).named in
       let below : length system.rows + k + 1 ≤ length system.rows + copy'.0 = within_named (length system.rows + copy'.0) (length system.rows + k + 1) (get_or steps copy'.0 no_step).terms named names in
       (copy'.0, omega arith, at_place c.steps copy'.0 (subst (λ ss. Names (get_or ss copy'.0 no_step) (length system.rows + k + 1)) (sym is) names) (omega (arith, copy'.1.within)))

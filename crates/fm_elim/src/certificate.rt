@@ -55,11 +55,7 @@ fn own_numbers(alloc: Global, given: usize) -> Result<Vec<u64>, AllocError>
 }
 
 // The step of a derivation, by the new numbers of the rows.
-fn renumbered(
-    alloc: Global,
-    numbers: &[u64],
-    derivation: &Derivation,
-) -> Result<Step, AllocError>
+fn renumbered(alloc: Global, numbers: &[u64], derivation: &Derivation) -> Result<Step, AllocError>
     requires { All (λ t. (1 ≤ t.0) × (t.0 ≤ length numbers.now)) (step_of derivation.now).terms }
     ensures { IfOk result (λ step. step ≡ renumbered_by numbers.now (step_of derivation.now)) }
 {

@@ -86,7 +86,11 @@ fn answer_text(alloc: Global, system: &System, answer: &Answer) -> Result<String
             format!(in alloc; "infeasible, good {good}{steps}")
         }
         Answer::Open => format!(in alloc; "open"),
-        Answer::Wide { level, upper, lower } => {
+        Answer::Wide {
+            level,
+            upper,
+            lower,
+        } => {
             let upper = row_text(alloc, upper)?;
             let lower = row_text(alloc, lower)?;
             format!(in alloc; "wide {level}, {upper}, {lower}")
@@ -136,7 +140,12 @@ fn the_least_bound_counts(rt: HostRuntime) -> Result<(), Fail> {
 #[test]
 fn a_certificate_has_only_what_it_needs(rt: HostRuntime) -> Result<(), Fail> {
     assert_eq!(rt;
-        told(rt.alloc(), 2, &[(&[1, 1], 0), (&[-1, 1], 7), (&[-1, 0], -1), (&[0, -1], -1)])?.as_str(),
+        told(
+            rt.alloc(),
+            2,
+            &[(&[1, 1], 0), (&[-1, 1], 7), (&[-1, 0], -1), (&[0, -1], -1)]
+        )?
+        .as_str(),
         "infeasible, good true, 1 1*1 3*1, 1 4*1 5*1"
     );
     Ok(())
@@ -146,7 +155,12 @@ fn a_certificate_has_only_what_it_needs(rt: HostRuntime) -> Result<(), Fail> {
 #[test]
 fn an_open_system_may_have_no_whole_solution(rt: HostRuntime) -> Result<(), Fail> {
     assert_eq!(rt;
-        told(rt.alloc(), 2, &[(&[-3, -2], -1), (&[-1, 2], 1), (&[3, -1], 1)])?.as_str(),
+        told(
+            rt.alloc(),
+            2,
+            &[(&[-3, -2], -1), (&[-1, 2], 1), (&[3, -1], 1)]
+        )?
+        .as_str(),
         "open"
     );
     Ok(())
@@ -158,7 +172,10 @@ fn little_is_decided(rt: HostRuntime) -> Result<(), Fail> {
     let alloc = rt.alloc();
     assert_eq!(rt; told(alloc, 0, &[])?.as_str(), "open");
     assert_eq!(rt; told(alloc, 2, &[])?.as_str(), "open");
-    assert_eq!(rt; told(alloc, 0, &[(&[], -1)])?.as_str(), "infeasible, good true");
+    assert_eq!(rt;
+        told(alloc, 0, &[(&[], -1)])?.as_str(),
+        "infeasible, good true"
+    );
     assert_eq!(rt;
         told(alloc, 0, &[(&[], 3), (&[], -1), (&[], 4)])?.as_str(),
         "infeasible, good true, 1 2*1"
@@ -197,6 +214,9 @@ fn crowd(alloc: Global) -> Result<System, AllocError> {
 #[test]
 fn too_many_rows_are_given_up(rt: HostRuntime) -> Result<(), Fail> {
     let alloc = rt.alloc();
-    assert_eq!(rt; decided(alloc, &crowd(alloc)?, false)?.as_str(), "many 1, 20001");
+    assert_eq!(rt;
+        decided(alloc, &crowd(alloc)?, false)?.as_str(),
+        "many 1, 20001"
+    );
     Ok(())
 }

@@ -1,4 +1,4 @@
-use Rattle.std.proofs.Common.{◌≡◌, ℕ, ◌+◌, ◌-◌, ◌≤◌, ◌<◌, length, take, get_or, refl, ap, sym, ◌∙◌, subst, arith}
+use Rattle.std.proofs.Common.{◌≡◌, ◌+◌, ◌-◌, ◌≤◌, length, take, get_or, ap, sym, ◌∙◌, subst, arith}
 use Rattle.std.specs.List.{All}
 use Rattle.farkas_cert.specs.Good.{IsGood}
 use Rattle.fm_elim.specs.Logs.{step_of}
@@ -30,7 +30,7 @@ needed_steps-requires-clause-log c = IsLog-take c.args.system.now c.args.log.now
 pub returns-clause-good : goal.returns-clause-good
 returns-clause-good c =
     elim c.if-number-given.branch [
-      then-number-given+in_ok-steps w ↦ w.in_ok-steps.ensures.good (record { steps = c.from_vec.result }) (c.from_vec.ensures ∙ ap (λ v. v.items) w.steps-is)
+      | then-number-given+in_ok-steps w ↦ w.in_ok-steps.ensures.good (record { steps = c.from_vec.result }) (c.from_vec.ensures ∙ ap (λ v. v.items) w.steps-is)
       | else-number-given+in_ok-needed+in_ok-steps-2 w ↦
           let system = c.args.system.now in
           let made = w.in_ok-steps-2.ensures in
@@ -44,6 +44,6 @@ returns-clause-good c =
 pub returns-clause-lean : goal.returns-clause-lean
 returns-clause-lean c =
     elim c.if-number-given.branch [
-      then-number-given+in_ok-steps w ↦ w.in_ok-steps.ensures.lean (record { steps = c.from_vec.result }) (c.from_vec.ensures ∙ ap (λ v. v.items) w.steps-is)
+      | then-number-given+in_ok-steps w ↦ w.in_ok-steps.ensures.lean (record { steps = c.from_vec.result }) (c.from_vec.ensures ∙ ap (λ v. v.items) w.steps-is)
       | else-number-given+in_ok-needed+in_ok-steps-2 w ↦ w.in_ok-steps-2.ensures.lean (record { steps = c.from_vec.result }) (c.from_vec.ensures ∙ ap (λ v. v.items) w.steps-is)
     ]

@@ -1,4 +1,4 @@
-use Rattle.std.proofs.Common.{ℕ, ◌≤◌, ℤ, true, set, ◌-◌, arith, length}
+use Rattle.std.proofs.Common.{◌≤◌, true, ◌-◌, arith, length}
 use Rattle.std.proofs.lemmas.List.{length-set}
 use Rattle.fm_elim.proofs.Marks.{at_first, at_second, AreMarkedToo-one, AreMarkedToo-two}
 use Rattle.fm_elim.proofs.certificate.mark.Goals as goal

@@ -1,4 +1,4 @@
-use Rattle.std.proofs.Common.{◌≡◌, ℕ, ◌+◌, ◌-◌, ◌≤◌, ◌<◌, pos, None, true, false, [], ◌∷◌, ◌++◌, length, get_or, refl, ap, sym, ◌∙◌, subst, arith}
+use Rattle.std.proofs.Common.{◌≡◌, ◌+◌, ◌-◌, ◌≤◌, pos, None, false, [], ◌∷◌, ◌++◌, length, get_or, ap, sym, ◌∙◌, subst, arith}
 use Rattle.std.specs.List.{All}
 use Rattle.std.proofs.lemmas.Bool.{both_ways}
 use Rattle.fm_elim.specs.declared.derivation.Derivation.{Derivation}
@@ -36,7 +36,7 @@ loop-place-preserved c =
     let here : length c.rows-given.result.now + place ≡ length system.rows + place + 1 - 1 = omega arith in
     subst (λ xs. AreCopied system log needed (place + 1) xs c.if-needed-given.steps.items) (sym pushed)
     (elim c.if-needed-given.branch [
-      then-needed-given+in_ok-step+in_ok-push w ↦
+      | then-needed-given+in_ok-step+in_ok-push w ↦
           let step = w.in_ok-step.step in
           let items : c.if-needed-given.steps.items ≡ c.loop-place.steps.items ++ step ∷ [] = ap (λ v. v.items) w.steps-is ∙ w.in_ok-push.ensures.items in
           let is : step ≡ renumbered numbers (step_of (get_or log place d)) = w.in_ok-step.ensures ∙ ap (λ xs. renumbered xs (step_of (get_or log place d))) w.as_slice.ensures.value in

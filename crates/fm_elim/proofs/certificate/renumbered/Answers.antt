@@ -1,4 +1,4 @@
-use Rattle.std.proofs.Common.{ℕ, ◌≤◌, ◌*◌, ◌-◌, ℤ, Fits, w64, rules, ◌<◌, arith, length}
+use Rattle.std.proofs.Common.{◌≤◌, ◌-◌, rules, ◌<◌, arith, length}
 use Rattle.fm_elim.proofs.Marks.{at_first, at_second}
 use Rattle.fm_elim.proofs.certificate.renumbered.Goals as goal
 

@@ -1,6 +1,4 @@
-use Rattle.std.proofs.Common.{◌≡◌, ℕ, ◌+◌, ◌-◌, ◌≤◌, ◌<◌, ℤ, pos, None, [], ◌∷◌, ◌++◌, length, slice_index, refl, ap, sym, ◌∙◌, subst, arith}
-use Rattle.farkas_cert.specs.declared.certificate.Step.{Step}
-use Rattle.fm_elim.specs.Lean.{renumbered}
+use Rattle.std.proofs.Common.{◌≡◌, ◌-◌, ◌≤◌, ◌<◌, pos, [], ◌∷◌, ◌++◌, length, slice_index, ap, ◌∙◌, arith}
 use Rattle.fm_elim.proofs.Endings.{good_without_steps, good_with_copy}
 use Rattle.fm_elim.proofs.certificate.steps_to_given.Goals as goal
 use Rattle.fm_elim.proofs.certificate.steps_to_given.Goals.{then-number-rows+in_ok-numbers+in_ok-step+in_ok-push, else-number-rows}
@@ -10,7 +8,7 @@ returns-clause-good c =
     let r = c.requires in
     let number = c.args.number in
     elim c.if-number-rows.branch [
-      then-number-rows+in_ok-numbers+in_ok-step+in_ok-push w ↦ λ cert is.
+      | then-number-rows+in_ok-numbers+in_ok-step+in_ok-push w ↦ λ cert is.
           let own = w.in_ok-numbers.ensures in
           let below : number < length w.rows-then-number-rows.result.now = let h : number < length c.rows.result.now = w.if-number-rows.true in omega (arith, h, ap length c.rows.ensures.rows, ap length w.rows-then-number-rows.ensures.rows) in
           let low : 1 ≤ number = r.1.0 in

@@ -1,12 +1,10 @@
-use Rattle.std.proofs.Common.{rules, ◌≡◌, ◌+◌, ◌-◌, ◌<◌, ◌≤◌, ℤ, pos, neg_ℤ, ◌+ℤ◌, ◌<ℤ◌, IsTrue, false, FitsSigned, map, length, ap, sym, ◌∙◌, refl, arith}
+use Rattle.std.proofs.Common.{rules, ◌≡◌, ◌-◌, ◌<◌, neg_ℤ, FitsSigned, map, length, ap, sym, ◌∙◌, refl, arith}
 use Rattle.std.specs.Int.{w128}
 use Rattle.std.specs.Cmp.Lexicographic.{slice_cmp}
 use Rattle.std.specs.Ordering.{int_cmp}
 use Rattle.std.specs.declared.cmp.Ordering.TheVariants.{Less, Equal, Greater}
 use Rattle.std.proofs.lemmas.Int.{to_z-of_z}
 use Rattle.std.proofs.lemmas.Bool.{false≢true}
-use Rattle.farkas_cert.specs.Combination.{is_narrow}
-use Rattle.fm_elim.specs.Answers.{AreClashing}
 use Rattle.fm_elim.proofs.Opposites.{same_from_equal}
 use Rattle.fm_elim.proofs.Ends.{inside_up, inside_down, inside_equal, free_from_inside}
 use Rattle.fm_elim.proofs.elimination.clash.Goals as goal

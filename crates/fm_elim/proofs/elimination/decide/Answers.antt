@@ -1,12 +1,11 @@
-use Rattle.std.proofs.Common.{◌≡◌, ◌+◌, ◌-◌, ◌<◌, ◌≤◌, ◌^◌, IfNone, None, Fits, w32, length, get_or, ap, sym, ◌∙◌, subst, refl, arith}
+use Rattle.std.proofs.Common.{◌≡◌, ◌+◌, ◌<◌, IfNone, Fits, w32, length, get_or, subst, refl, arith}
 use Rattle.std.specs.List.{All, Contains}
 use Rattle.fm_elim.specs.declared.level.Held.{Held}
-use Rattle.fm_elim.specs.declared.level.Formed.TheVariants.{Level, Wide, Many}
 use Rattle.fm_elim.specs.Levels.{IsEmpty, IsClearTo}
 use Rattle.fm_elim.specs.Logs.{rows_of}
 use Rattle.fm_elim.specs.Answers.{IsFreeOfClashes}
 use Rattle.fm_elim.specs.Next.{IsNext}
-use Rattle.fm_elim.proofs.Reached.{IsReached, reached_first, order_length, order_within, order_names_last, clear_here, reached_next, wide_here, many_here, free_here, solved_here}
+use Rattle.fm_elim.proofs.Reached.{reached_first, order_length, order_within, order_names_last, clear_here, reached_next, wide_here, many_here, free_here, solved_here}
 use Rattle.fm_elim.proofs.elimination.decide.Goals as goal
 
 pub loop-index-init : goal.loop-index-init
