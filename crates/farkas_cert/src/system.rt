@@ -10,7 +10,7 @@ use std::alloc::{AllocError, Global};
 use std::marker::Model;
 
 /// How many coefficients a row keeps with no memory of its own.
-pub const INLINE: usize = 8;
+pub const INLINE: usize = 4;
 
 /// The coefficients of a row, from the first variable on. Contracts see the list of them.
 #[derive(Drop)]

@@ -100,6 +100,7 @@ pub fn is_narrow_combination(m: i128, upper: &Row, n: i128, lower: &Row) -> bool
 
 /// m times the first row and n times the other, or None where a product or a sum passes 2 ^ 126 in size.
 /// An error says that memory ran out.
+#[inline(always)]
 pub fn combine(
     alloc: Global,
     m: i128,

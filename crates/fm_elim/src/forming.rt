@@ -23,6 +23,7 @@ pub struct BySign {
 }
 
 // Puts a row with the others of its sign.
+#[inline(always)]
 fn place(split: &mut BySign, held: Held, variable: u32) -> Result<(), AllocError>
     requires from_one { 1 ≤ variable }
     requires known { variable ≤ length held.row.coefs }
@@ -62,6 +63,7 @@ pub fn split_by_sign(alloc: Global, level: Vec<Held>, variable: u32) -> Result<B
 }
 
 // The least combination of a pair, reduced.
+#[inline(always)]
 fn paired(alloc: Global, upper: &Held, lower: &Held, variable: u32) -> Result<Candidate, AllocError>
     requires opposed { IsOpposed variable upper.now.row lower.now.row }
     requires narrow { IsNarrowPair variable upper.now.row lower.now.row }
@@ -81,6 +83,7 @@ fn paired(alloc: Global, upper: &Held, lower: &Held, variable: u32) -> Result<Ca
 }
 
 // Joins the candidate of a pair to the others, or is None where they come to too many.
+#[inline(always)]
 fn with_pair(
     alloc: Global,
     batch: Batch,

@@ -59,6 +59,7 @@ pub enum Formed {
 }
 
 /// The coefficient of the variable, numbered from 1.
+#[inline(always)]
 pub fn coef_of(row: &Row, variable: u32) -> i128
     requires { (1 ≤ variable) × (variable ≤ length row.now.coefs) }
     ensures { result ≡ coef variable row.now }
@@ -67,6 +68,7 @@ pub fn coef_of(row: &Row, variable: u32) -> i128
 }
 
 /// Whether the row has only zero coefficients.
+#[inline(always)]
 pub fn is_empty(row: &Row) -> bool
     ensures { IsTrue result ↔ IsEmpty row.now }
 {
@@ -102,6 +104,7 @@ pub fn given_candidate(alloc: Global, row: &Row, number: u64) -> Result<Candidat
 }
 
 /// Adds a candidate, unless it is a row `0 <= bound` that holds. An error says that memory ran out.
+#[inline(always)]
 pub fn add(candidates: &mut Vec<Candidate>, candidate: Candidate) -> Result<(), AllocError>
     ensures { OnOk result (IsAdded candidates.old.items candidate candidates.new.items) }
 {

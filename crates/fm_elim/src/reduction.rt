@@ -55,6 +55,7 @@ fn quotients(alloc: Global, coefs: &[i128], divisor: i128) -> Result<Coefs, Allo
 /// The row divided by the greatest common divisor of its coefficients, the bound rounded down, and that
 /// divisor: 1 where all are 0. The coefficients are at most 2 ^ 126 in size. An error says that memory
 /// ran out.
+#[inline(always)]
 pub fn reduced(alloc: Global, row: Row) -> Result<(Row, i128), AllocError>
     requires { All (λ a. IsTrue (narrow a)) row.coefs }
     ensures { IfOk result (λ p. (g : ℕ) × (p.1 ≡ pos (max g 1)) × IsReducedBy g row p.0) }

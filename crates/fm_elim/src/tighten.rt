@@ -39,6 +39,7 @@ impl Batch {
 }
 
 /// Orders candidates by the coefficients, then by the bound.
+#[inline(always)]
 pub fn compare(a: &Candidate, b: &Candidate) -> Ordering
     ensures { result ≡ candidate_cmp a.now b.now }
 {
@@ -56,6 +57,7 @@ fn are_same(coefs: &[i128], others: &[i128]) -> bool
 }
 
 /// Whether the candidate has the coefficients of the last one kept.
+#[inline(always)]
 pub fn repeats(kept: &[Candidate], candidate: &Candidate) -> bool
     ensures { IsTrue result ↔ IsRepeat kept.now candidate.now }
 {
@@ -66,6 +68,7 @@ pub fn repeats(kept: &[Candidate], candidate: &Candidate) -> bool
 }
 
 // Keeps the candidate, unless it has the coefficients of the last one kept.
+#[inline(always)]
 fn follow(kept: &mut Vec<Candidate>, candidate: Candidate) -> Result<(), AllocError>
     ensures { OnOk result (IsFollowed kept.old.items candidate kept.new.items) }
 {
@@ -98,6 +101,7 @@ pub fn tightest(alloc: Global, candidates: Vec<Candidate>) -> Result<Vec<Candida
 
 /// Tightens the candidates where there are many, and is None where more than 20,000 are left. An error
 /// says that memory ran out.
+#[inline(always)]
 pub fn thinned(alloc: Global, batch: Batch) -> Result<Option<Batch>, AllocError>
     ensures { IfOk result (λ o. MatchOption o (HasApart 20000 (Contains batch.candidates.items)) (λ kept. IsThinned batch.candidates.items kept.candidates.items)) }
 {
