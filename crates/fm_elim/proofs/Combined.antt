@@ -1,6 +1,6 @@
 -- The combination of two rows, entry by entry.
-use Rattle.std.proofs.Common.{◌≡◌, ℕ, zero, suc, ◌+◌, ◌≤◌, ◌<◌, ℤ, pos, negsuc, ◌+ℤ◌, ◌*ℤ◌, Bool, true, false, ◌&&◌, if◌then◌else◌, ◌⊎◌, ⊎_elim, ◌<ℤ◌, ◌/◌, unsigned_abs, Option, Some, None, IsTrue, List, [], ◌∷◌, length, get_or, drop, add-one, refl, sym, ◌∙◌, arith}
-use Rattle.std.specs.Int.{IsGcd}
+use Rattle.std.proofs.Common.{◌≡◌, ℕ, zero, suc, ◌+◌, ◌≤◌, ◌<◌, ℤ, pos, negsuc, ◌+ℤ◌, ◌*ℤ◌, Bool, true, false, ◌&&◌, if◌then◌else◌, ◌⊎◌, ⊎_elim, ◌<ℤ◌, ◌/◌, unsigned_abs, Option, Some, None, IsTrue, FitsSigned, List, [], ◌∷◌, length, get_or, drop, add-one, refl, sym, ◌∙◌, arith}
+use Rattle.std.specs.Int.{IsGcd, w128}
 use Rattle.std.specs.Option.{is_some}
 use Rattle.std.proofs.Math.Nat.{eq-zero_of_zero-dvd, div-le_self}
 use Rattle.std.proofs.Math.Seq.{drop-cons}
@@ -40,6 +40,14 @@ pub sum_where_some : (p q s : ℤ) → (if is_narrow p && is_narrow q && is_narr
 sum_where_some p q s h =
     let parts = cond_some (is_narrow p && is_narrow q && is_narrow (p +ℤ q)) (p +ℤ q) s h in
     (rw (both_narrow p q) (grind (arith, parts.0)), parts.1)
+
+-- a narrow number fits 128 bits
+pub fits_narrow : (z : ℤ) → IsTrue (is_narrow z) → FitsSigned w128 z
+fits_narrow z h = grind (arith, nat_tests, ints)
+
+-- the parts of a narrow sum
+pub narrow_parts : (p q : ℤ) → IsTrue (stays_narrow (pos 0) (p ∷ q ∷ [])) → IsTrue (is_narrow p) × IsTrue (is_narrow q) × IsTrue (is_narrow (p +ℤ q))
+narrow_parts p q h = let parts : IsTrue (is_narrow p && is_narrow q && is_narrow (p +ℤ q)) = sym (both_narrow p q) ∙ h in grind (arith, parts)
 
 -- the entries of a row
 pub entry_at-coef : (vars : ℕ) (row : Row) (k : ℕ) → k < vars → entry_at vars row k ≡ get_or row.coefs k (pos 0)

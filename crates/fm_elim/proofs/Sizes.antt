@@ -8,7 +8,7 @@ use Rattle.std.proofs.lemmas.Bool.Decides.{nat_tests}
 use Rattle.std.proofs.lemmas.List.{get_or_past}
 use Rattle.farkas_cert.specs.declared.system.Row.{Row}
 use Rattle.farkas_cert.specs.Combination.{entry_at, is_narrow, stays_narrow}
-use Rattle.fm_elim.specs.Pairs.{coef_of, IsPair, IsWide, IsNarrow, products_of}
+use Rattle.fm_elim.specs.Pairs.{coef_of, IsPair, IsWide, IsNarrow}
 use Rattle.fm_elim.specs.Gathering.{IsWithin, IsNarrowPair, IsTooWide}
 use Rattle.fm_elim.proofs.Divisors.{narrow_from_le}
 use Rattle.fm_elim.proofs.Combined.{both_narrow, entry_at-coef, entry_at-bound, by_lt, quotient_le}
@@ -35,13 +35,6 @@ narrow_pair_from v upper lower m n pair narrow = record {
 pub pair_answer : (v : ℕ) (upper lower : Row) (m n : ℤ) (b : Bool) → IsPair v upper lower m n → MatchBool b (IsNarrow (length upper.coefs) m upper n lower) (IsWide (length upper.coefs) m upper n lower) → MatchBool b (IsNarrowPair v upper lower) (IsTooWide v upper lower)
 pair_answer v upper lower m n true pair h = narrow_pair_from v upper lower m n pair h
 pair_answer v upper lower m n false pair h = (m, n, pair, h)
-
--- nowhere wide, and wide somewhere
-narrow_not_false : (b : Bool) → IsTrue b → b ≡ false → ⊥
-narrow_not_false b t e = cc
-
-pub narrow_not_wide : (vars : ℕ) (m n : ℤ) (upper lower : Row) → IsNarrow vars m upper n lower → IsWide vars m upper n lower → ⊥
-narrow_not_wide vars m n upper lower narrow wide = narrow_not_false (stays_narrow (pos 0) (products_of vars m upper n lower wide.0)) (narrow wide.0 wide.1) wide.2
 
 -- the size of a sum
 size_sum : (p q : ℤ) → unsigned_abs (p +ℤ q) ≤ unsigned_abs p + unsigned_abs q

@@ -1,10 +1,10 @@
 // The least combination of a pair of rows of opposite sign.
 
-ghost use Rattle.std.specs.Prelude.{◌≡◌, ◌↔◌, ℕ, ◌+◌, ◌*◌, ◌/◌, ◌≤◌, ◌^◌, ℤ, pos, ◌+ℤ◌, ◌*ℤ◌, ◌<ℤ◌, unsigned_abs, nat_le, IsTrue, IfOk, MatchOption, ◌&&◌, if◌then◌else◌, Some, None, length};
+ghost use Rattle.std.specs.Prelude.{◌≡◌, ◌↔◌, ℕ, ◌+◌, ◌*◌, ◌/◌, ◌≤◌, ◌^◌, ℤ, pos, ◌+ℤ◌, ◌*ℤ◌, ◌<ℤ◌, unsigned_abs, nat_le, IsTrue, IfOk, MatchOption, ◌&&◌, if◌then◌else◌, Some, None, [], ◌∷◌, length};
 ghost use Rattle.std.specs.Int.{IsGcd};
 ghost use Rattle.std.specs.Bool.{MatchBool};
 ghost use Rattle.std.specs.List.{All};
-ghost use Rattle.farkas_cert.specs.Combination.{is_narrow as narrow};
+ghost use Rattle.farkas_cert.specs.Combination.{is_narrow as narrow, stays_narrow};
 ghost use Rattle.fm_elim.specs.Pairs.{combination as combination_of, IsWide, IsNarrow};
 
 use crate::reduction::greatest_common_divisor;
@@ -98,31 +98,28 @@ pub fn is_narrow_combination(m: i128, upper: &Row, n: i128, lower: &Row) -> bool
     true
 }
 
-/// m times the first row and n times the other, or None where a product or a sum passes 2 ^ 126 in size.
+// m * a + n * b, where both products and their sum are at most 2 ^ 126 in size.
+#[inline(always)]
+fn narrow_weighted_sum(m: i128, a: i128, n: i128, b: i128) -> i128
+    requires { IsTrue (stays_narrow (pos 0) ((m *ℤ a) ∷ (n *ℤ b) ∷ [])) }
+    ensures { result ≡ m *ℤ a +ℤ n *ℤ b }
+{
+    m * a + n * b
+}
+
+/// m times the first row and n times the other, where no product and no sum passes 2 ^ 126 in size.
 /// An error says that memory ran out.
 #[inline(always)]
-pub fn combine(
-    alloc: Global,
-    m: i128,
-    upper: &Row,
-    n: i128,
-    lower: &Row,
-) -> Result<Option<Row>, AllocError>
-    requires { length lower.now.coefs ≡ length upper.now.coefs }
-    ensures { let vars = length upper.now.coefs in
-        IfOk result (λ o. MatchOption o (IsWide vars m upper.now n lower.now)
-        (λ row. (row ≡ combination_of m upper.now n lower.now) × IsNarrow vars m upper.now n lower.now)) }
+pub fn combine(alloc: Global, m: i128, upper: &Row, n: i128, lower: &Row) -> Result<Row, AllocError>
+    requires same { length lower.now.coefs ≡ length upper.now.coefs }
+    requires narrow { IsNarrow (length upper.now.coefs) m upper.now n lower.now }
+    ensures { IfOk result (λ row. row ≡ combination_of m upper.now n lower.now) }
 {
-    let Some(bound) = weighted_sum(m, upper.bound, n, lower.bound) else {
-        return Ok(None);
-    };
     let others = lower.coefs.as_slice();
     let mut coefs = Coefs::with_capacity(alloc, others.len())?;
     for (k, coef) in upper.coefs.as_slice().iter().enumerate() {
-        match weighted_sum(m, *coef, n, others[k]) {
-            Some(sum) => coefs.push(sum)?,
-            None => return Ok(None),
-        }
+        coefs.push(narrow_weighted_sum(m, *coef, n, others[k]))?;
     }
-    Ok(Some(Row { coefs, bound }))
+    let bound = narrow_weighted_sum(m, upper.bound, n, lower.bound);
+    Ok(Row { coefs, bound })
 }

@@ -70,9 +70,7 @@ fn paired(alloc: Global, upper: &Held, lower: &Held, variable: u32) -> Result<Ca
     ensures { IfOk result (λ candidate. IsMade variable upper.now lower.now candidate) }
 {
     let (m, n) = multipliers(coef_of(&upper.row, variable), coef_of(&lower.row, variable));
-    let Some(sum) = combine(alloc, m, &upper.row, n, &lower.row)? else {
-        unreachable!()
-    };
+    let sum = combine(alloc, m, &upper.row, n, &lower.row)?;
     let (row, divisor) = reduced(alloc, sum)?;
     let origin = Origin::Made(Derivation {
         divisor,

@@ -2,7 +2,7 @@
 
 ghost use Rattle.std.specs.Prelude.{◌≡◌, IfOk};
 
-use crate::combination::{are_narrow, combine, multipliers};
+use crate::combination::{are_narrow, combine, is_narrow_combination, multipliers};
 use crate::level::{Candidate, add, given_candidate};
 use crate::reduction::reduced;
 use crate::tighten::compare;
@@ -57,10 +57,12 @@ fn combination(
 ) -> Result<Option<Row>, AllocError> {
     let upper = row_of(alloc, upper.0, upper.1)?;
     let lower = row_of(alloc, lower.0, lower.1)?;
-    if lower.coefs.as_slice().len() != upper.coefs.as_slice().len() {
+    if lower.coefs.as_slice().len() != upper.coefs.as_slice().len()
+        || !is_narrow_combination(m, &upper, n, &lower)
+    {
         return Ok(None);
     }
-    combine(alloc, m, &upper, n, &lower)
+    Ok(Some(combine(alloc, m, &upper, n, &lower)?))
 }
 
 // 6i + j <= 3 and -4i <= 5: twice the first and three times the other is 2j <= 21.
