@@ -1,5 +1,8 @@
 // How a run ends.
 
+ghost use Rattle.std.specs.Prelude.{◌≡◌};
+ghost use Rattle.elim_bench.specs.Endings.{code_of};
+
 /// How a run ends.
 #[derive(Clone, Copy, Debug, PartialEq, Eq)]
 pub enum Ending {
@@ -19,7 +22,9 @@ pub enum Ending {
 
 impl Ending {
     /// The status of the process.
-    pub fn code(self) -> u8 {
+    pub fn code(self) -> u8
+        ensures { result ≡ code_of self }
+    {
         match self {
             Ending::Done => 0,
             Ending::BadLine => 1,

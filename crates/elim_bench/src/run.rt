@@ -1,5 +1,10 @@
 // The run over the lines of standard input.
 
+ghost use Rattle.std.specs.Prelude.{◌≡◌, ◌≢◌, ◌⊎◌};
+ghost use Rattle.farkas_cert.specs.declared.certificate.CertRefusal.TheVariants as refusals;
+ghost use Rattle.elim_bench.specs.declared.line.LineFault.TheVariants as faults;
+ghost use Rattle.elim_bench.specs.declared.run.Stop.TheVariants as stops;
+
 use crate::ending::Ending;
 use crate::line::{LineFault, read_line};
 use crate::system::{Task, open_behind};
@@ -20,6 +25,8 @@ enum Stop {
 }
 
 impl From<io::Error> for Stop {
+    ghost from_gives = { λ _ stop. (stop ≡ stops.NoMemory) ⊎ (stop ≡ stops.Fault) };
+
     fn from(error: io::Error) -> Stop {
         if error.kind() == ErrorKind::OutOfMemory {
             Stop::NoMemory
@@ -30,18 +37,24 @@ impl From<io::Error> for Stop {
 }
 
 impl From<AllocError> for Stop {
+    ghost from_gives = { λ _ stop. stop ≡ stops.NoMemory };
+
     fn from(_error: AllocError) -> Stop {
         Stop::NoMemory
     }
 }
 
 impl From<NoMemory> for Stop {
+    ghost from_gives = { λ _ stop. stop ≡ stops.NoMemory };
+
     fn from(_error: NoMemory) -> Stop {
         Stop::NoMemory
     }
 }
 
 impl From<LineFault> for Stop {
+    ghost from_gives = { λ fault stop. (fault ≡ faults.NoMemory → stop ≡ stops.NoMemory) × (fault ≢ faults.NoMemory → stop ≡ stops.Line fault) };
+
     fn from(fault: LineFault) -> Stop {
         match fault {
             LineFault::NoMemory => Stop::NoMemory,
@@ -51,6 +64,8 @@ impl From<LineFault> for Stop {
 }
 
 impl From<CertRefusal> for Stop {
+    ghost from_gives = { λ refusal stop. (refusal ≡ refusals.NoMemory → stop ≡ stops.NoMemory) × (refusal ≢ refusals.NoMemory → stop ≡ stops.Certificate refusal) };
+
     fn from(refusal: CertRefusal) -> Stop {
         match refusal {
             CertRefusal::NoMemory => Stop::NoMemory,
