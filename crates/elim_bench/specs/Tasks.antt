@@ -1,11 +1,13 @@
 -- The system that is being read.
-use Rattle.std.specs.Prelude.{◌-◌, ◌==◌, if◌then◌else◌, IsTrue, [], ◌∷◌, ◌++◌, length, Option, Some, None}
+use Rattle.std.specs.Prelude.{◌-◌, ◌==◌, if◌then◌else◌, IsTrue, [], ◌∷◌, ◌++◌, length, Option, Some, None, Result, Ok, Err}
 use Rattle.std.specs.List.{All}
 use Rattle.farkas_cert.specs.declared.system.Row.{Row}
 use Rattle.farkas_cert.specs.Combination.{is_narrow}
 use Rattle.elim_bench.specs.declared.line.Head.{Head}
 use Rattle.elim_bench.specs.declared.line.Line.{Line}
 use Rattle.elim_bench.specs.declared.line.Line.TheVariants as lines
+use Rattle.elim_bench.specs.declared.line.LineFault.{LineFault}
+use Rattle.elim_bench.specs.declared.line.LineFault.TheVariants as faults
 use Rattle.elim_bench.specs.declared.system.Task.{Task}
 
 -- the system of a head, with no row yet
@@ -16,13 +18,13 @@ first_task head = record { name = head.name; missing = head.rows; system = recor
 abbrev pub task_with : Row → Task → Task
 task_with row task = record { name = task.name; missing = task.missing - 1; system = record { vars = task.system.vars; rows = task.system.rows ++ row ∷ [] } }
 
--- the open system behind a line, None where the line may not stand there: a head stands where no system is open, and a row with a coefficient for each variable where one is
-abbrev pub open_behind : Option Task → Line → Option (Option Task)
-open_behind task lines.Nothing = Some task
-open_behind None (lines.Head head) = Some (Some (first_task head))
-open_behind (Some task) (lines.Head head) = None
-open_behind None (lines.Row row) = None
-open_behind (Some task) (lines.Row row) = if length row.coefs == task.system.vars then Some (Some (task_with row task)) else None
+-- the open system behind a line, or why the line may not stand there: a head stands where no system is open, and a row with a coefficient for each variable where one is
+abbrev pub open_behind : Option Task → Line → Result (Option Task) LineFault
+open_behind task lines.Nothing = Ok task
+open_behind None (lines.Head head) = Ok (Some (first_task head))
+open_behind (Some task) (lines.Head head) = Err faults.MissingRows
+open_behind None (lines.Row row) = Err faults.NoSystem
+open_behind (Some task) (lines.Row row) = if length row.coefs == task.system.vars then Ok (Some (task_with row task)) else Err faults.WrongCount
 
 -- the numbers of a row are at most 2 ^ 126 in size
 abbrev pub IsNarrowLine : Line → Type 0

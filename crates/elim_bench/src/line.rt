@@ -1,6 +1,6 @@
 // What a line of the input says.
 
-ghost use Rattle.std.specs.Prelude.{◌≡◌, ◌≢◌, ◌↔◌, IfOk, IfErr, IsTrue, Some, None, [], ◌∷◌, map};
+ghost use Rattle.std.specs.Prelude.{◌≡◌, ◌≢◌, ◌↔◌, IfOk, IfErr, IsTrue, Ok, Err, [], ◌∷◌, map};
 ghost use Rattle.std.specs.List.{All, list_all};
 ghost use Rattle.farkas_cert.specs.Combination.{is_narrow};
 ghost use Rattle.std.specs.Str.{bytes_eq};
@@ -101,8 +101,8 @@ impl<T: Drop> From<AllocFailed<T>> for LineFault {
 
 /// What the line says; its end may be there or not.
 pub fn read_line(alloc: Global, bytes: &[u8]) -> Result<Line, LineFault>
-    ensures line { IfOk result (λ line. spec.line_of bytes.now ≡ Some line) }
-    ensures malformed { IfErr result (λ fault. fault ≢ NoMemory → spec.line_of bytes.now ≡ None) }
+    ensures line { IfOk result (λ line. spec.line_of bytes.now ≡ Ok line) }
+    ensures malformed { IfErr result (λ fault. fault ≢ NoMemory → spec.line_of bytes.now ≡ Err fault) }
     ensures narrow { IfOk result IsNarrowLine }
 {
     if is_comment(bytes) {
@@ -164,8 +164,8 @@ fn is_name(word: &[u8]) -> bool
 
 // The head that the words behind `system` give.
 fn head_of(alloc: Global, words: &[&[u8]]) -> Result<Head, LineFault>
-    ensures head { IfOk result (λ head. spec.head_of (map (λ w. w.now) words.now) ≡ Some head) }
-    ensures malformed { IfErr result (λ fault. fault ≢ NoMemory → spec.head_of (map (λ w. w.now) words.now) ≡ None) }
+    ensures head { IfOk result (λ head. spec.head_of (map (λ w. w.now) words.now) ≡ Ok head) }
+    ensures malformed { IfErr result (λ fault. fault ≢ NoMemory → spec.head_of (map (λ w. w.now) words.now) ≡ Err fault) }
 {
     match words {
         [name, variables, rows] => named_head(alloc, name, variables, rows),
@@ -175,8 +175,8 @@ fn head_of(alloc: Global, words: &[&[u8]]) -> Result<Head, LineFault>
 
 // The head of these three words.
 fn named_head(alloc: Global, name: &[u8], variables: &[u8], rows: &[u8]) -> Result<Head, LineFault>
-    ensures head { IfOk result (λ head. spec.head_of (name.now ∷ variables.now ∷ rows.now ∷ []) ≡ Some head) }
-    ensures malformed { IfErr result (λ fault. fault ≢ NoMemory → spec.head_of (name.now ∷ variables.now ∷ rows.now ∷ []) ≡ None) }
+    ensures head { IfOk result (λ head. spec.head_of (name.now ∷ variables.now ∷ rows.now ∷ []) ≡ Ok head) }
+    ensures malformed { IfErr result (λ fault. fault ≢ NoMemory → spec.head_of (name.now ∷ variables.now ∷ rows.now ∷ []) ≡ Err fault) }
 {
     if !is_name(name) {
         return Err(LineFault::BadName);
@@ -198,8 +198,8 @@ fn named_head(alloc: Global, name: &[u8], variables: &[u8], rows: &[u8]) -> Resu
 
 // The row that the words give: coefficients, `<=` and a bound.
 fn row_of(alloc: Global, words: &[&[u8]]) -> Result<Row, LineFault>
-    ensures row { IfOk result (λ row. spec.row_of (map (λ w. w.now) words.now) ≡ Some row) }
-    ensures malformed { IfErr result (λ fault. fault ≢ NoMemory → spec.row_of (map (λ w. w.now) words.now) ≡ None) }
+    ensures row { IfOk result (λ row. spec.row_of (map (λ w. w.now) words.now) ≡ Ok row) }
+    ensures malformed { IfErr result (λ fault. fault ≢ NoMemory → spec.row_of (map (λ w. w.now) words.now) ≡ Err fault) }
     ensures coefs { IfOk result (λ row. All (λ a. IsTrue (is_narrow a)) row.coefs) }
     ensures bound { IfOk result (λ row. IsTrue (is_narrow row.bound)) }
 {
@@ -219,8 +219,8 @@ fn row_of(alloc: Global, words: &[&[u8]]) -> Result<Row, LineFault>
 
 // The bound that the words behind `<=` give.
 fn bound_of(words: &[&[u8]]) -> Result<i128, LineFault>
-    ensures bound { IfOk result (λ bound. spec.bound_of (map (λ w. w.now) words.now) ≡ Some bound) }
-    ensures malformed { IfErr result (λ _. spec.bound_of (map (λ w. w.now) words.now) ≡ None) }
+    ensures bound { IfOk result (λ bound. spec.bound_of (map (λ w. w.now) words.now) ≡ Ok bound) }
+    ensures malformed { IfErr result (λ fault. spec.bound_of (map (λ w. w.now) words.now) ≡ Err fault) }
     ensures narrow { IfOk result (λ bound. IsTrue (is_narrow bound)) }
 {
     let [word] = words else {

@@ -1,6 +1,6 @@
 // Systems, while their rows are read.
 
-ghost use Rattle.std.specs.Prelude.{◌≡◌, ◌≢◌, ◌↔◌, ◌++◌, [], ◌∷◌, Some, None, OnOk, OnErr, IfOk, IfErr, IsTrue, length};
+ghost use Rattle.std.specs.Prelude.{◌≡◌, ◌≢◌, ◌↔◌, ◌++◌, [], ◌∷◌, Some, Ok, Err, OnOk, OnErr, IfOk, IfErr, IsTrue, length};
 ghost use Rattle.std.specs.List.{All};
 ghost use Rattle.farkas_cert.specs.Combination.{is_narrow};
 ghost use Rattle.elim_bench.specs.declared.line.Line.TheVariants as lines;
@@ -118,8 +118,8 @@ pub fn open_behind(
     line: Line,
 ) -> Result<Option<Task>, LineFault>
     requires { spec.IsNarrowLine line }
-    ensures task { IfOk result (λ next. spec.open_behind pending line ≡ Some next) }
-    ensures misplaced { IfErr result (λ fault. fault ≢ NoMemory → spec.open_behind pending line ≡ None) }
+    ensures task { IfOk result (λ next. spec.open_behind pending line ≡ Ok next) }
+    ensures misplaced { IfErr result (λ fault. fault ≢ NoMemory → spec.open_behind pending line ≡ Err fault) }
 {
     match (line, pending) {
         (Line::Nothing, pending) => Ok(pending),
@@ -133,8 +133,8 @@ pub fn open_behind(
 // The task with one row more, if it has a coefficient for each variable.
 fn with_row(mut task: Task, row: Row) -> Result<Option<Task>, LineFault>
     requires { spec.IsNarrowLine (lines.Row row) }
-    ensures task { IfOk result (λ next. spec.open_behind (Some task) (lines.Row row) ≡ Some next) }
-    ensures misplaced { IfErr result (λ fault. fault ≢ NoMemory → spec.open_behind (Some task) (lines.Row row) ≡ None) }
+    ensures task { IfOk result (λ next. spec.open_behind (Some task) (lines.Row row) ≡ Ok next) }
+    ensures misplaced { IfErr result (λ fault. fault ≢ NoMemory → spec.open_behind (Some task) (lines.Row row) ≡ Err fault) }
 {
     if row.coefs.as_slice().len() != task.system.as_system().vars() as usize {
         return Err(LineFault::WrongCount);
