@@ -1,10 +1,10 @@
 -- The first run: K = 20, K = K*2 + 2, PRINT *, 'K', K.
-use Rattle.std.specs.Prelude.{pos, ◌≡◌, [], ◌∷◌, codes, ◌++◌, refl}
+use Rattle.std.specs.Prelude.{pos, ◌≡◌, None, [], ◌∷◌, codes, ◌++◌, refl}
 use Rattle.std.specs.Int.{int_wrap}
 use Rattle.std.specs.Fmt.{digits}
 use Rattle.nest_tree.specs.declared.tree.Access.{Access}
 use Rattle.nest_tree.specs.declared.tree.Spread.TheVariants.{Block}
-use Rattle.nest_tree.specs.Tree.{Tree, number, load, add, mul, value, text, assign, print, done, next}
+use Rattle.nest_tree.specs.Tree.{Tree, number, load, add, mul, value, text, assign, print, work, done, next}
 use Rattle.nest_model.specs.Memory.{last_memory, output_of}
 
 -- the scalar K
@@ -13,7 +13,7 @@ k = record { variable = 1; subscripts = [] }
 
 abbrev pub first_run : Tree
 first_run = record {
-  items = next (assign k (number (pos 20)) 2) (next (assign k (add (mul (load k) (number (pos 2))) (number (pos 2))) 3) (next (print (text (75 ∷ []) ∷ value (load k) ∷ []) 4) done));
+  items = next (work (assign (record { target = k; value = number (pos 20); guard = None; line = 2 }))) (next (work (assign (record { target = k; value = add (mul (load k) (number (pos 2))) (number (pos 2)); guard = None; line = 3 }))) (next (work (print (record { items = text (75 ∷ []) ∷ value (load k) ∷ []; line = 4 }))) done));
   params = [];
   variables = record { name = 75 ∷ []; bounds = []; axis = 0; spread = Block } ∷ [];
 }

@@ -1,8 +1,8 @@
 -- The value of an expression, from the values of its loads in text order.
-use Rattle.std.specs.Prelude.{ℕ, ◌+◌, ℤ, pos, ◌+ℤ◌, ◌-ℤ◌, ◌*ℤ◌, neg_ℤ, List, [], ◌∷◌, ◌++◌, drop, fold, slice_index_or, Bool, true, false, ◌&&◌, nat_lt, unsigned_abs}
+use Rattle.std.specs.Prelude.{ℕ, ℤ, pos, ◌+ℤ◌, ◌-ℤ◌, ◌*ℤ◌, neg_ℤ, List, [], ◌∷◌, drop, length, fold, slice_index_or, Bool, true, false, ◌&&◌, nat_lt, unsigned_abs}
 use Rattle.std.specs.Int.{int_min, int_max}
-use Rattle.nest_tree.specs.declared.tree.Access.{Access}
 use Rattle.nest_tree.specs.Form.{numbered}
+use Rattle.nest_tree.specs.Loads.{loads_in}
 use Rattle.nest_tree.specs.Tree.{Expression, Expressions, number, loop_value, param, load, neg, add, sub, mul, div, least_of, greatest_of, no_more, one_more}
 use Rattle.nest_tree.specs.WellFormed.{is_number_of}
 use Rattle.nest_tree.specs.Values.{wrapped, quotient}
@@ -28,44 +28,6 @@ abbrev mutual
   have_values loops params no_more = true
   have_values loops params (one_more e rest) = has_value loops params e && have_values loops params rest
 
--- the accesses that an expression loads, in text order
-abbrev mutual
-  pub loads_in : Expression → List Access
-  loads_in (number n) = []
-  loads_in (loop_value l) = []
-  loads_in (param p) = []
-  loads_in (load a) = a ∷ []
-  loads_in (neg a) = loads_in a
-  loads_in (add a b) = loads_in a ++ loads_in b
-  loads_in (sub a b) = loads_in a ++ loads_in b
-  loads_in (mul a b) = loads_in a ++ loads_in b
-  loads_in (div a divisor) = loads_in a
-  loads_in (least_of arguments) = loads_among arguments
-  loads_in (greatest_of arguments) = loads_among arguments
-
-  pub loads_among : Expressions → List Access
-  loads_among no_more = []
-  loads_among (one_more e rest) = loads_in e ++ loads_among rest
-
--- how many they are
-abbrev mutual
-  pub load_count : Expression → ℕ
-  load_count (number n) = 0
-  load_count (loop_value l) = 0
-  load_count (param p) = 0
-  load_count (load a) = 1
-  load_count (neg a) = load_count a
-  load_count (add a b) = load_count a + load_count b
-  load_count (sub a b) = load_count a + load_count b
-  load_count (mul a b) = load_count a + load_count b
-  load_count (div a divisor) = load_count a
-  load_count (least_of arguments) = loads_counted arguments
-  load_count (greatest_of arguments) = loads_counted arguments
-
-  pub loads_counted : Expressions → ℕ
-  loads_counted no_more = 0
-  loads_counted (one_more e rest) = load_count e + loads_counted rest
-
 -- the least and the greatest of some values, 0 of none
 abbrev pub least : List ℤ → ℤ
 least [] = pos 0
@@ -84,11 +46,11 @@ abbrev mutual
   value_of (load a) loops params loaded = slice_index_or loaded 0 (pos 0)
   value_of (neg a) loops params loaded = wrapped (neg_ℤ (value_of a loops params loaded))
   value_of (add a b) loops params loaded =
-      wrapped (value_of a loops params loaded +ℤ value_of b loops params (drop (load_count a) loaded))
+      wrapped (value_of a loops params loaded +ℤ value_of b loops params (drop (length (loads_in a)) loaded))
   value_of (sub a b) loops params loaded =
-      wrapped (value_of a loops params loaded -ℤ value_of b loops params (drop (load_count a) loaded))
+      wrapped (value_of a loops params loaded -ℤ value_of b loops params (drop (length (loads_in a)) loaded))
   value_of (mul a b) loops params loaded =
-      wrapped (value_of a loops params loaded *ℤ value_of b loops params (drop (load_count a) loaded))
+      wrapped (value_of a loops params loaded *ℤ value_of b loops params (drop (length (loads_in a)) loaded))
   value_of (div a divisor) loops params loaded = quotient (value_of a loops params loaded) divisor
   value_of (least_of arguments) loops params loaded = least (values_of arguments loops params loaded)
   value_of (greatest_of arguments) loops params loaded = greatest (values_of arguments loops params loaded)
@@ -96,4 +58,4 @@ abbrev mutual
   pub values_of : Expressions → List ℤ → List ℤ → List ℤ → List ℤ
   values_of no_more loops params loaded = []
   values_of (one_more e rest) loops params loaded =
-      value_of e loops params loaded ∷ values_of rest loops params (drop (load_count e) loaded)
+      value_of e loops params loaded ∷ values_of rest loops params (drop (length (loads_in e)) loaded)

@@ -1,11 +1,13 @@
 -- Memory in front of each instance and behind the last, and the output.
-use Rattle.std.specs.Prelude.{ℕ, ℤ, pos, Option, Some, None, List, [], ◌∷◌, ◌++◌, map, take, drop, fold, replicate, slice_set, slice_index_or}
+use Rattle.std.specs.Prelude.{ℕ, ℤ, pos, Option, Some, None, List, [], ◌∷◌, ◌++◌, map, take, drop, length, fold, replicate, slice_set, slice_index_or}
 use Rattle.std.specs.List.{flat_map}
 use Rattle.std.specs.Fmt.{signed_decimal}
 use Rattle.nest_tree.specs.Layout.{cell_count, element_count, bounds_of}
-use Rattle.nest_tree.specs.Tree.{Printed, value, whole, text, Statement, do_loop, assign, print, continue, Tree}
-use Rattle.nest_model.specs.Meaning.{load_count, value_of}
-use Rattle.nest_model.specs.Instances.{Instance, instances, param_values}
+use Rattle.nest_tree.specs.Tree.{Printed, value, whole, text, Work, assign, print, Tree}
+use Rattle.nest_tree.specs.Loads.{loads_in}
+use Rattle.nest_model.specs.Meaning.{value_of}
+use Rattle.nest_tree.specs.Tree.{param_values}
+use Rattle.nest_model.specs.Instances.{Instance, instances}
 use Rattle.nest_model.specs.Accesses.{loads_of, store_of}
 
 -- the value of a cell, 0 where there is none
@@ -16,12 +18,10 @@ cell_value memory cell = slice_index_or memory cell (pos 0)
 abbrev pub loaded_in : Tree → List ℤ → Instance → List ℤ
 loaded_in tree memory i = map (cell_value memory) (loads_of tree i)
 
--- the value that a statement stores, from what its loads gave
-abbrev pub assigned : Tree → List ℤ → Statement → List ℤ → ℤ
-assigned tree loops (do_loop n m1 m2 step body line) loaded = pos 0
-assigned tree loops (assign target e line) loaded = value_of e loops (param_values tree) loaded
-assigned tree loops (print items line) loaded = pos 0
-assigned tree loops (continue line) loaded = pos 0
+-- the value that a piece of work stores, from what its loads gave; a PRINT stores none
+abbrev pub assigned : Tree → List ℤ → Work → List ℤ → ℤ
+assigned tree loops (assign a) loaded = value_of a.value loops (param_values tree) loaded
+assigned tree loops (print p) loaded = pos 0
 
 abbrev pub assigned_value : Tree → Instance → List ℤ → ℤ
 assigned_value tree i loaded = assigned tree i.loops i.what loaded
@@ -54,18 +54,16 @@ number_text z = 32 ∷ signed_decimal z
 abbrev pub items_text : Tree → List ℤ → List Printed → List ℤ → List ℕ
 items_text tree loops [] loaded = []
 items_text tree loops (value e ∷ rest) loaded =
-    number_text (value_of e loops (param_values tree) loaded) ++ items_text tree loops rest (drop (load_count e) loaded)
+    number_text (value_of e loops (param_values tree) loaded) ++ items_text tree loops rest (drop (length (loads_in e)) loaded)
 items_text tree loops (whole variable ∷ rest) loaded =
     let count = element_count (bounds_of tree variable) in
     flat_map number_text (take count loaded) ++ items_text tree loops rest (drop count loaded)
 items_text tree loops (text characters ∷ rest) loaded = 32 ∷ (characters ++ items_text tree loops rest loaded)
 
--- the line that a statement prints, with its line end
-abbrev pub printed_text : Tree → List ℤ → Statement → List ℤ → List ℕ
-printed_text tree loops (do_loop n m1 m2 step body line) loaded = []
-printed_text tree loops (assign target e line) loaded = []
-printed_text tree loops (print items line) loaded = items_text tree loops items loaded ++ 10 ∷ []
-printed_text tree loops (continue line) loaded = []
+-- the line that a piece of work prints, with its line end; an assignment prints none
+abbrev pub printed_text : Tree → List ℤ → Work → List ℤ → List ℕ
+printed_text tree loops (assign a) loaded = []
+printed_text tree loops (print p) loaded = items_text tree loops p.items loaded ++ 10 ∷ []
 
 abbrev pub line_of : Tree → Instance → List ℤ → List ℕ
 line_of tree i loaded = printed_text tree i.loops i.what loaded

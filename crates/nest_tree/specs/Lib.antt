@@ -4,5 +4,8 @@ pub mod Tree
 pub mod View
 pub mod Layout
 pub mod WellFormed
+pub mod Loads
+pub mod Intervals
+pub mod Limits
 pub mod Straight
 pub mod LaidOut

@@ -1,7 +1,8 @@
 -- The tree of a program as plain data, without where its nodes lie in memory.
-use Rattle.std.specs.Prelude.{ℕ, ℤ, List}
+use Rattle.std.specs.Prelude.{ℕ, ℤ, List, Option, map}
 use Rattle.nest_tree.specs.Form.{Form}
 use Rattle.nest_tree.specs.declared.tree.Access.{Access}
+use Rattle.nest_tree.specs.declared.tree.Guard.{Guard}
 use Rattle.nest_tree.specs.declared.tree.Spread.{Spread}
 
 -- an expression; an access is a variable's number and its subscripts
@@ -30,12 +31,36 @@ pub data Printed : Type 0 where
   whole : (variable : ℕ) → Printed
   text : (characters : List ℕ) → Printed
 
--- a loop with its body, or a statement; the last number is the line
+-- an assignment, with its comparison where it stands behind a logical IF
+pub record Assignment : Type 0 where
+  pub target : Access
+  pub value : Expression
+  pub guard : Option Guard
+  pub line : ℕ
+
+-- a PRINT
+pub record Printing : Type 0 where
+  pub items : List Printed
+  pub line : ℕ
+
+-- a piece of work: what an instance executes
+pub data Work : Type 0 where
+  assign : (assignment : Assignment) → Work
+  print : (printing : Printing) → Work
+
+-- the head of a loop, `DO .. variable = m1, m2, step`, with the loop's number and the line of the DO statement
+pub record Head : Type 0 where
+  pub number : ℕ
+  pub m1 : Form
+  pub m2 : Form
+  pub step : ℤ
+  pub line : ℕ
+
+-- a loop with its body, a piece of work, or a CONTINUE by its line
 mutual
   pub data Statement : Type 0 where
-    do_loop : (number : ℕ) (m1 m2 : Form) (step : ℤ) (body : Statements) (line : ℕ) → Statement
-    assign : (target : Access) (e : Expression) (line : ℕ) → Statement
-    print : (items : List Printed) (line : ℕ) → Statement
+    do_loop : (head : Head) (body : Statements) → Statement
+    work : (w : Work) → Statement
     continue : (line : ℕ) → Statement
 
   pub data Statements : Type 0 where
@@ -59,3 +84,7 @@ pub record Tree : Type 0 where
   pub items : Statements
   pub params : List Constant
   pub variables : List Declaration
+
+-- the values of the named constants, by number
+abbrev pub param_values : Tree → List ℤ
+param_values tree = map (λ (p : Constant). p.value) tree.params

@@ -1,6 +1,6 @@
 -- From the declared types to the tree as plain data.
 use Rattle.std.specs.Prelude.{List, [], ◌∷◌, map}
-use Rattle.nest_tree.specs.Tree.{Expression, Expressions, number, loop_value, param, load, neg, add, sub, mul, div, least_of, greatest_of, no_more, one_more, Printed, value, whole, text, Statement, Statements, do_loop, assign, print, continue, done, next, Constant, Declaration, Tree}
+use Rattle.nest_tree.specs.Tree.{Expression, Expressions, number, loop_value, param, load, neg, add, sub, mul, div, least_of, greatest_of, no_more, one_more, Printed, value, whole, text, assign, print, Statement, Statements, do_loop, work, continue, done, next, Constant, Declaration, Tree}
 use Rattle.nest_tree.specs.declared.tree.Expr.{Expr, Number, LoopValue, Param, Load, Neg', Add', Sub', Mul', Div', Min', Max', Row_of-Expr, end_of-Expr, more_of-Expr}
 use Rattle.nest_tree.specs.declared.tree.PrintItem.{PrintItem}
 use Rattle.nest_tree.specs.declared.tree.PrintItem.TheVariants.{Value, Whole, Text}
@@ -39,9 +39,9 @@ printed_of (Text characters) = text characters.items
 
 abbrev mutual
   pub statement_of : Item → Statement
-  statement_of (Loop' n m1 m2 step shape items line) = do_loop n m1 m2 step (statements_of items) line
-  statement_of (Assign target e line) = assign target (expression_of e) line
-  statement_of (Print items line) = print (map printed_of items.items) line
+  statement_of (Loop' n m1 m2 step shape items line) = do_loop (record { number = n; m1 = m1; m2 = m2; step = step; line = line }) (statements_of items)
+  statement_of (Assign target e guard line) = work (assign (record { target = target; value = expression_of e; guard = guard; line = line }))
+  statement_of (Print items line) = work (print (record { items = map printed_of items.items; line = line }))
   statement_of (Continue line) = continue line
 
   pub statements_of : {m : _} → Row_of-Item m → Statements

@@ -9,12 +9,15 @@
 
 pub mod form;
 pub mod layout;
+pub mod limits;
 pub mod tree;
 
 pub use form::{Affine, Pairs};
 pub use layout::Layout;
+pub use limits::Limit;
 pub use tree::{
-    Access, Expr, Item, Nest, Parameter, PrintItem, Program, Spread, Subscripts, Variable,
+    Access, Compare, Expr, Guard, Item, Nest, Parameter, PrintItem, Program, Spread, Subscripts,
+    Variable,
 };
 
 #[cfg(test)]

@@ -103,12 +103,31 @@ pub struct Nest {
     pub line: u32,
 }
 
+/// How the two sides of a logical IF's comparison are compared: `.LT.`, `.LE.`, `.EQ.`, `.GE.`, `.GT.`.
+#[derive(Clone, Copy, Debug, PartialEq, Eq)]
+pub enum Compare {
+    Lt,
+    Le,
+    Eq,
+    Ge,
+    Gt,
+}
+
+/// The comparison of a logical IF, `left .op. right`.
+#[derive(Drop)]
+pub struct Guard {
+    pub left: Affine,
+    pub op: Compare,
+    pub right: Affine,
+}
+
 /// A statement that is executed, or a loop with its body. The last number is the line, from 1.
 #[derive(Drop)]
 #[cycle(nest)]
 pub enum Item {
     Loop(Nest),
-    Assign(Access, Expr, u32),
+    /// An assignment. With a comparison it is executed only where that holds.
+    Assign(Access, Expr, Option<Guard>, u32),
     Print(Vec<PrintItem>, u32),
     Continue(u32),
 }
