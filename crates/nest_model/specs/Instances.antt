@@ -1,11 +1,9 @@
 -- The instances of a program: its assignments and PRINTs at the values of the loops round them, an assignment behind a logical IF only where its comparison holds, in sequential order.
-use Rattle.std.specs.Prelude.{ℕ, ◌+◌, ◌-◌, ℤ, pos, negsuc, ◌+ℤ◌, ◌-ℤ◌, ◌*ℤ◌, int_div, int_lt, int_le, Bool, true, if◌then◌else◌, Option, Some, None, List, [], ◌∷◌, ◌++◌, map, slice_set, replicate, ◌≡◌, refl}
+use Rattle.std.specs.Prelude.{ℕ, ◌+◌, ◌-◌, ℤ, pos, negsuc, ◌+ℤ◌, ◌-ℤ◌, ◌*ℤ◌, int_div, Bool, true, if◌then◌else◌, Option, Some, None, List, [], ◌∷◌, ◌++◌, map, slice_set, replicate, ◌≡◌, refl}
 use Rattle.std.specs.List.{flat_map, range_with_len}
-use Rattle.std.specs.Ordering.{int_eq}
-use Rattle.nest_tree.specs.declared.tree.Compare.{Compare}
-use Rattle.nest_tree.specs.declared.tree.Compare.TheVariants.{Lt, Le, Eq, Ge, Gt}
-use Rattle.nest_tree.specs.declared.tree.Guard.{Guard}
+use Rattle.nest_tree.specs.declared.tree.Compare.TheVariants.{Eq}
 use Rattle.nest_tree.specs.Form.{Form, form_value}
+pub use Rattle.nest_tree.specs.Guards.{compares, holds}
 use Rattle.nest_tree.specs.Layout.{count_of}
 use Rattle.nest_tree.specs.Tree.{param_values}
 use Rattle.nest_tree.specs.Tree.{number, Work, assign, print, Head, Statement, Statements, do_loop, work, continue, done, next, Tree}
@@ -43,19 +41,6 @@ abbrev mutual
   pub works_of : Statements → ℕ
   works_of done = 0
   works_of (next s rest) = works_in s + works_of rest
-
--- the two sides compare as the operator says
-abbrev pub compares : Compare → ℤ → ℤ → Bool
-compares Lt a b = int_lt a b
-compares Le a b = int_le a b
-compares Eq a b = int_eq a b
-compares Ge a b = int_le b a
-compares Gt a b = int_lt b a
-
--- a comparison holds where the loops and the named constants have these values; where there is none, nothing is in the way
-abbrev pub holds : Option Guard → List ℤ → List ℤ → Bool
-holds None loops params = true
-holds (Some g) loops params = compares g.op (form_value g.left loops params) (form_value g.right loops params)
 
 -- a piece of work is executed at these values: a PRINT always, an assignment where its comparison holds
 abbrev pub is_executed : Work → List ℤ → List ℤ → Bool

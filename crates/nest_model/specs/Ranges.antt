@@ -1,22 +1,13 @@
 -- Subscripts in range: what every call that runs a program asks for.
-use Rattle.std.specs.Prelude.{ℤ, Bool, true, ◌&&◌, int_le, IsTrue, List, [], ◌∷◌, ◌++◌}
+use Rattle.std.specs.Prelude.{ℤ, Bool, IsTrue, List, [], ◌∷◌, ◌++◌}
 use Rattle.std.specs.List.{list_all}
 use Rattle.nest_tree.specs.declared.tree.Access.{Access}
 use Rattle.nest_tree.specs.Layout.{bounds_of}
+pub use Rattle.nest_tree.specs.Layout.{is_inside, are_inside}
 use Rattle.nest_tree.specs.Loads.{loads_in_work}
 use Rattle.nest_tree.specs.Tree.{Work, assign, print, Tree}
 use Rattle.nest_model.specs.Accesses.{subscript_values}
 use Rattle.nest_model.specs.Instances.{Instance, instances}
-
--- a subscript lies within the bounds of its dimension
-abbrev pub is_inside : ℤ × ℤ → ℤ → Bool
-is_inside (low, high) s = int_le low s && int_le s high
-
--- each subscript lies within the bounds of its dimension, dimension by dimension
-abbrev pub are_inside : List (ℤ × ℤ) → List ℤ → Bool
-are_inside [] subscripts = true
-are_inside (bounds ∷ rest) [] = true
-are_inside (bounds ∷ rest) (s ∷ subscripts) = is_inside bounds s && are_inside rest subscripts
 
 abbrev pub is_access_inside : Tree → List ℤ → Access → Bool
 is_access_inside tree loops a = are_inside (bounds_of tree a.variable) (subscript_values tree loops a.subscripts)

@@ -1,5 +1,5 @@
 -- Which cell of memory a variable's element has: variables one behind another, arrays in column-major order (ANSI X3.9-1978, 5.2.5).
-use Rattle.std.specs.Prelude.{ℕ, zero, suc, ◌+◌, ◌*◌, ◌-◌, ℤ, pos, negsuc, ◌-ℤ◌, ◌+ℤ◌, List, [], ◌∷◌, take, ◌≡◌, refl}
+use Rattle.std.specs.Prelude.{ℕ, zero, suc, ◌+◌, ◌*◌, ◌-◌, ℤ, pos, negsuc, ◌-ℤ◌, ◌+ℤ◌, int_le, Bool, true, ◌&&◌, List, [], ◌∷◌, take, ◌≡◌, refl}
 use Rattle.nest_tree.specs.declared.tree.Spread.TheVariants.{Block}
 use Rattle.nest_tree.specs.Tree.{Declaration, Tree, done}
 
@@ -44,6 +44,16 @@ bounds_at (v ∷ rest) (suc n) = bounds_at rest n
 
 abbrev pub bounds_of : Tree → ℕ → List (ℤ × ℤ)
 bounds_of tree variable = bounds_at tree.variables (variable - 1)
+
+-- a subscript lies within the bounds of its dimension
+abbrev pub is_inside : ℤ × ℤ → ℤ → Bool
+is_inside (low, high) s = int_le low s && int_le s high
+
+-- each subscript lies within the bounds of its dimension, dimension by dimension
+abbrev pub are_inside : List (ℤ × ℤ) → List ℤ → Bool
+are_inside [] subscripts = true
+are_inside (bounds ∷ rest) [] = true
+are_inside (bounds ∷ rest) (s ∷ subscripts) = is_inside bounds s && are_inside rest subscripts
 
 -- the cell of an element
 abbrev pub cell_of : Tree → ℕ → List ℤ → ℕ

@@ -2,6 +2,7 @@ pub mod Values
 pub mod Form
 pub mod Tree
 pub mod View
+pub mod Guards
 pub mod Layout
 pub mod WellFormed
 pub mod Loads
