@@ -8,7 +8,7 @@ use Rattle.f77_reader.specs.declared.fault.Refusal.TheVariants.{NotInProfile, No
 use Rattle.f77_reader.specs.Lines.{lines_of}
 use Rattle.f77_reader.specs.Written.{Written}
 use Rattle.f77_reader.specs.Meaning.{program_of}
-use Rattle.f77_reader.specs.Straight.{AllSay, IsStraight, Reads, Begins, FirstFault}
+use Rattle.f77_reader.specs.Straight.{AllSay, IsWrittenAs, Reads, Begins, FirstFault}
 use Rattle.f77_reader.specs.Reading.{Names, Found, lines_at}
 use Rattle.f77_reader.specs.Saying.{tree_from, found_tree, Answers, IsReadAs, IsRefusedAt}
 use Rattle.f77_reader.proofs.Sourced.{straight-read, straight-found}
@@ -30,7 +30,7 @@ err_is m n h = cc
 no_both : (t : Tree) (n : ℕ) → ok_tree t ≡ err_tree n → ⊥
 no_both t n h = cc
 
-found-straight : (bytes : List ℕ) (r : List Statement × Names) → found_in bytes ≡ Ok r → (ws : List Written) × IsStraight bytes ws
+found-straight : (bytes : List ℕ) (r : List Statement × Names) → found_in bytes ≡ Ok r → (ws : List Written) × IsWrittenAs bytes ws
 found-straight bytes r e =
     let h = whole-first (lines_of bytes) r e in
     (h.ws, record { lines = h.say; order = h.order; count = omega (arith, h.few) })
@@ -63,7 +63,7 @@ refused-first bytes (suc k) e = (refused-begins bytes (suc k) k refl e, refused-
 -- ---- at most one answer
 
 -- a source begins as itself, however many lines one takes
-straight-begins : (bytes : List ℕ) (ws : List Written) (n : ℕ) → IsStraight bytes ws → Begins bytes n
+straight-begins : (bytes : List ℕ) (ws : List Written) (n : ℕ) → IsWrittenAs bytes ws → Begins bytes n
 straight-begins bytes ws n h = record { source = bytes; ws = ws; straight = h; same = refl }
 
 fewer : (a b : ℕ) (xs ys : List (List ℕ)) → a ≤ b → take b xs ≡ take b ys → take a xs ≡ take a ys
@@ -97,7 +97,7 @@ one_first bytes m n f g =
     let below : n < m → ⊥ = not_below bytes n m g f in
     omega arith
 
-pub straight-no_fault : (bytes : List ℕ) (ws : List Written) (n : ℕ) → IsStraight bytes ws → FirstFault bytes n → ⊥
+pub straight-no_fault : (bytes : List ℕ) (ws : List Written) (n : ℕ) → IsWrittenAs bytes ws → FirstFault bytes n → ⊥
 straight-no_fault bytes ws zero h f = f
 straight-no_fault bytes ws (suc n) h f = f.1 (straight-begins bytes ws (suc n) h)
 

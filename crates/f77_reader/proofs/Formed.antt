@@ -1,20 +1,21 @@
 -- The program of a source is well formed and a straight line.
-use Rattle.std.proofs.Common.{◌≡◌, ℕ, zero, suc, ◌+◌, ◌-◌, ◌<◌, Bool, true, false, ◌&&◌, ◌||◌, ◌==◌, nat_lt, leb, cond, List, [], ◌∷◌, ◌++◌, length, map, Result, Ok, Err, refl, sym, ap, ◌∙◌, arith, IfOk}
+use Rattle.std.proofs.Common.{◌≡◌, ℕ, zero, suc, ◌+◌, ◌-◌, ◌<◌, Bool, true, false, ◌&&◌, ◌||◌, ◌==◌, nat_lt, leb, cond, pos, slice_index_or, List, [], ◌∷◌, ◌++◌, length, map, Result, Ok, Err, refl, sym, ap, ◌∙◌, arith, IfOk}
 use Rattle.std.specs.List.{list_all}
 use Rattle.std.specs.Str.{bytes_eq}
 use Rattle.std.proofs.lemmas.Bool.{and_from, and_parts, lt-ltb, le-leb}
 use Rattle.std.proofs.lemmas.List.{length-map}
 use Rattle.std.proofs.lemmas.Slice.Eq.{bytes_eq-Decides}
-use Rattle.nest_tree.specs.Layout.{bounds_at}
 use Rattle.nest_tree.specs.Straight.{is_scalar, are_works, is_straight}
-use Rattle.nest_tree.specs.Tree.{Expression, mul, Statements, Tree}
+use Rattle.nest_tree.specs.Tree.{Expression, mul, Tree}
 use Rattle.nest_tree.specs.View.{tree_of}
 use Rattle.nest_tree.specs.declared.tree.Program.{Program}
 use Rattle.f77_reader.specs.declared.fault.Refusal.{Refusal}
-use Rattle.nest_tree.specs.WellFormed.{is_number_of, is_good_access, is_good_expression, is_good_item, are_good_statements, is_good_declaration, statement_count, is_well_formed}
-use Rattle.f77_reader.specs.Written.{Factor, named, digits, Term, Sign, plus, minus, Signed, Sum, unsigned, signed, Item, sum, constant, Written, heading, assignment, printing, ending}
+use Rattle.nest_tree.specs.WellFormed.{is_number_of, is_value, Scope, rank, rank_of, is_good_access, is_good_expression, is_good_item, are_good_statements, is_good_declaration, statement_count, is_well_formed}
+use Rattle.f77_reader.specs.Written.{Factor, named, digits, Term, Sign, plus, minus, Signed, Sum, unsigned, signed, Item, sum, constant, Written, heading, assignment, printing, ending, is_factor, is_term, is_signed, is_sum, is_item, is_written}
+use Rattle.f77_reader.specs.Lines.{lines_of}
+use Rattle.f77_reader.specs.Characters.{is_digit, is_variable_name, is_number, decimal}
 use Rattle.f77_reader.specs.Meaning.{names_in_factor, names_in_factors, names_in_term, names_in_signed, names_in_sum, names_in_items, names_in, number_of, is_known, with_name, with_names, scalar, factor_tree, product_tree, term_tree, joined, lead, total_tree, sum_tree, item_tree, statements_tree, scalar_named, program_of}
-use Rattle.f77_reader.specs.Straight.{EndsOnce, IsOrdered, IsStraight, Reads}
+use Rattle.f77_reader.specs.Straight.{AllSay, EndsOnce, IsOrdered, IsWrittenAs, Reads}
 use Rattle.f77_reader.specs.Reading.{Names}
 use Rattle.f77_reader.proofs.Later.{later-names}
 use Rattle.f77_reader.proofs.Numbered.{known-number, number_of-positive}
@@ -63,83 +64,100 @@ all_known known (name ∷ names) =
 
 -- ---- parts over known names
 
-no_bounds : (known : Names) (n : ℕ) → length (bounds_at (map scalar_named known) n) ≡ 0
-no_bounds [] n = refl
-no_bounds (name ∷ known) zero = refl
-no_bounds (name ∷ known) (suc n) = no_bounds known n
+no_ranks : (known : Names) (n : ℕ) → slice_index_or (map rank (map scalar_named known)) n 0 ≡ 0
+no_ranks [] n = refl
+no_ranks (name ∷ known) zero = refl
+no_ranks (name ∷ known) (suc n) = no_ranks known n
 
--- a tree over scalars of these names
-abbrev over : Statements → Names → Tree
-over items known = record { items = items; params = []; variables = map scalar_named known }
+-- what a number is, it is a value
+number-value : (ds : List ℕ) → is_number ds ≡ true → is_value (pos (decimal ds)) ≡ true
+number-value [] h = absurd cc
+number-value (d ∷ ds) h = (and_parts (is_digit d && list_all is_digit ds) (leb (decimal (d ∷ ds)) 9223372036854775807) h).1
 
-module _ (items : Statements) (known : Names) where
-  good-scalar : (name : List ℕ) → is_known known name ≡ true → is_good_access (over items known) [] (scalar known name) ≡ true
+module _ (known : Names) where
+  -- scalars of these names, and no named constant
+  abbrev scope : Scope
+  scope = record { constants = 0; ranks = map rank (map scalar_named known) }
+
+  abbrev good : Expression → Bool
+  good e = is_good_expression scope [] e
+
+  good-scalar : (name : List ℕ) → is_known known name ≡ true → is_good_access scope [] (scalar known name) ≡ true
   good-scalar name h =
       let n = number_of known name in
-      let count : length (map scalar_named known) ≡ length known = length-map known scalar_named in
+      let count : length scope.ranks ≡ length known = length-map (map scalar_named known) rank ∙ length-map known scalar_named in
       let low = number_of-positive known name in
       let high = known-number known name h in
-      let numbered : is_number_of (length (map scalar_named known)) n ≡ true = and_from (leb 1 n) (leb n (length (map scalar_named known))) (le-leb 1 n low) (le-leb n (length (map scalar_named known)) (omega (arith, count))) in
-      and_from (is_number_of (length (map scalar_named known)) n && 0 == length (bounds_at (map scalar_named known) (n - 1))) true
-      (and_from (is_number_of (length (map scalar_named known)) n) (0 == length (bounds_at (map scalar_named known) (n - 1))) numbered (ap (λ k. 0 == k) (no_bounds known (n - 1)))) refl
+      let numbered : is_number_of (length scope.ranks) n ≡ true = and_from (leb 1 n) (leb n (length scope.ranks)) (le-leb 1 n low) (le-leb n (length scope.ranks) (omega (arith, count))) in
+      and_from (is_number_of (length scope.ranks) n && 0 == rank_of scope n) true (and_from (is_number_of (length scope.ranks) n) (0 == rank_of scope n) numbered (ap (λ k. 0 == k) (no_ranks known (n - 1)))) refl
 
-  good-factor : (f : Factor) → AreKnown known (names_in_factor f) → is_good_expression (over items known) [] (factor_tree known f) ≡ true
-  good-factor (named name) h = let p = and_parts (is_known known name) true h in good-scalar name p.0
-  good-factor (digits ds) h = refl
+  good-factor : (f : Factor) → is_factor f ≡ true → AreKnown known (names_in_factor f) → good (factor_tree known f) ≡ true
+  good-factor (named name) g h = let p = and_parts (is_known known name) true h in good-scalar name p.0
+  good-factor (digits ds) g h = number-value ds g
 
-  good-product : (a : Expression) (fs : List Factor) → is_good_expression (over items known) [] a ≡ true → AreKnown known (names_in_factors fs) → is_good_expression (over items known) [] (product_tree known a fs) ≡ true
-  good-product a [] g h = g
-  good-product a (f ∷ fs) g h =
+  good-product : (a : Expression) (fs : List Factor) → good a ≡ true → list_all is_factor fs ≡ true → AreKnown known (names_in_factors fs) → good (product_tree known a fs) ≡ true
+  good-product a [] g w h = g
+  good-product a (f ∷ fs) g w h =
       let p = all_parts known (names_in_factor f) (names_in_factors fs) h in
-      good-product (mul a (factor_tree known f)) fs (and_from (is_good_expression (over items known) [] a) (is_good_expression (over items known) [] (factor_tree known f)) g (good-factor f p.0)) p.1
+      let q = and_parts (is_factor f) (list_all is_factor fs) w in
+      good-product (mul a (factor_tree known f)) fs (and_from (good a) (good (factor_tree known f)) g (good-factor f q.0 p.0)) q.1 p.1
 
-  good-term : (t : Term) → AreKnown known (names_in_term t) → is_good_expression (over items known) [] (term_tree known t) ≡ true
-  good-term t h =
+  good-term : (t : Term) → is_term t ≡ true → AreKnown known (names_in_term t) → good (term_tree known t) ≡ true
+  good-term t w h =
       let p = all_parts known (names_in_factor t.first) (names_in_factors t.others) h in
-      good-product (factor_tree known t.first) t.others (good-factor t.first p.0) p.1
+      let q = and_parts (is_factor t.first) (list_all is_factor t.others) w in
+      good-product (factor_tree known t.first) t.others (good-factor t.first q.0 p.0) q.1 p.1
 
-  good-joined : (s : Sign) (a b : Expression) → is_good_expression (over items known) [] a ≡ true → is_good_expression (over items known) [] b ≡ true → is_good_expression (over items known) [] (joined s a b) ≡ true
-  good-joined plus a b g h = and_from (is_good_expression (over items known) [] a) (is_good_expression (over items known) [] b) g h
-  good-joined minus a b g h = and_from (is_good_expression (over items known) [] a) (is_good_expression (over items known) [] b) g h
+  good-joined : (s : Sign) (a b : Expression) → good a ≡ true → good b ≡ true → good (joined s a b) ≡ true
+  good-joined plus a b g h = and_from (good a) (good b) g h
+  good-joined minus a b g h = and_from (good a) (good b) g h
 
-  good-lead : (s : Sign) (a : Expression) → is_good_expression (over items known) [] a ≡ true → is_good_expression (over items known) [] (lead s a) ≡ true
+  good-lead : (s : Sign) (a : Expression) → good a ≡ true → good (lead s a) ≡ true
   good-lead plus a g = g
   good-lead minus a g = g
 
-  good-total : (a : Expression) (ss : List Signed) → is_good_expression (over items known) [] a ≡ true → AreKnown known (names_in_signed ss) → is_good_expression (over items known) [] (total_tree known a ss) ≡ true
-  good-total a [] g h = g
-  good-total a (s ∷ ss) g h =
+  good-total : (a : Expression) (ss : List Signed) → good a ≡ true → list_all is_signed ss ≡ true → AreKnown known (names_in_signed ss) → good (total_tree known a ss) ≡ true
+  good-total a [] g w h = g
+  good-total a (s ∷ ss) g w h =
       let p = all_parts known (names_in_term s.term) (names_in_signed ss) h in
-      good-total (joined s.sign a (term_tree known s.term)) ss (good-joined s.sign a (term_tree known s.term) g (good-term s.term p.0)) p.1
+      let q = and_parts (is_signed s) (list_all is_signed ss) w in
+      good-total (joined s.sign a (term_tree known s.term)) ss (good-joined s.sign a (term_tree known s.term) g (good-term s.term q.0 p.0)) q.1 p.1
 
-  good-sum : (e : Sum) → AreKnown known (names_in_sum e) → is_good_expression (over items known) [] (sum_tree known e) ≡ true
-  good-sum (unsigned first others) h =
+  good-sum : (e : Sum) → is_sum e ≡ true → AreKnown known (names_in_sum e) → good (sum_tree known e) ≡ true
+  good-sum (unsigned first others) w h =
       let p = all_parts known (names_in_term first) (names_in_signed others) h in
-      good-total (term_tree known first) others (good-term first p.0) p.1
-  good-sum (signed first others) h =
+      let q = and_parts (is_term first) (list_all is_signed others) w in
+      good-total (term_tree known first) others (good-term first q.0 p.0) q.1 p.1
+  good-sum (signed first others) w h =
       let p = all_parts known (names_in_term first.term) (names_in_signed others) h in
-      good-total (lead first.sign (term_tree known first.term)) others (good-lead first.sign (term_tree known first.term) (good-term first.term p.0)) p.1
+      let q = and_parts (is_signed first) (list_all is_signed others) w in
+      good-total (lead first.sign (term_tree known first.term)) others (good-lead first.sign (term_tree known first.term) (good-term first.term q.0 p.0)) q.1 p.1
 
-  good-items : (is : List Item) → AreKnown known (names_in_items is) → list_all (is_good_item (over items known) []) (map (item_tree known) is) ≡ true
-  good-items [] h = refl
-  good-items (sum e ∷ is) h =
+  good-items : (is : List Item) → list_all is_item is ≡ true → AreKnown known (names_in_items is) → list_all (is_good_item scope []) (map (item_tree known) is) ≡ true
+  good-items [] w h = refl
+  good-items (sum e ∷ is) w h =
       let p = all_parts known (names_in_sum e) (names_in_items is) h in
-      and_from (is_good_expression (over items known) [] (sum_tree known e)) (list_all (is_good_item (over items known) []) (map (item_tree known) is)) (good-sum e p.0) (good-items is p.1)
-  good-items (constant cs ∷ is) h = good-items is h
+      let q = and_parts (is_sum e) (list_all is_item is) w in
+      and_from (good (sum_tree known e)) (list_all (is_good_item scope []) (map (item_tree known) is)) (good-sum e q.0 p.0) (good-items is q.1 p.1)
+  good-items (constant cs ∷ is) w h = good-items is (and_parts (is_item (constant cs)) (list_all is_item is) w).1 h
 
-  good-statements : (first line : ℕ) (ws : List Written) → AreKnown known (names_in ws) → are_good_statements (over items known) [] first (statements_tree known line ws) ≡ true
-  good-statements first line [] h = refl
-  good-statements first line (heading name ∷ ws) h = good-statements first (suc line) ws h
-  good-statements first line (assignment name e ∷ ws) h =
+  good-statements : (first line : ℕ) (ws : List Written) → list_all is_written ws ≡ true → AreKnown known (names_in ws) → are_good_statements scope [] first (statements_tree known line ws) ≡ true
+  good-statements first line [] w h = refl
+  good-statements first line (heading name ∷ ws) w h = good-statements first (suc line) ws (and_parts (is_written (heading name)) (list_all is_written ws) w).1 h
+  good-statements first line (assignment name e ∷ ws) w h =
       let p = all_parts known (name ∷ names_in_sum e) (names_in ws) h in
       let q = and_parts (is_known known name) (list_all (is_known known) (names_in_sum e)) p.0 in
-      and_from (is_good_access (over items known) [] (scalar known name) && is_good_expression (over items known) [] (sum_tree known e)) (are_good_statements (over items known) [] (first + 0) (statements_tree known (suc line) ws))
-      (and_from (is_good_access (over items known) [] (scalar known name)) (is_good_expression (over items known) [] (sum_tree known e)) (good-scalar name q.0) (good-sum e q.1))
-      (good-statements (first + 0) (suc line) ws p.1)
-  good-statements first line (printing is ∷ ws) h =
+      let g = and_parts (is_written (assignment name e)) (list_all is_written ws) w in
+      let s = and_parts (is_variable_name name) (is_sum e) g.0 in
+      let access = is_good_access scope [] (scalar known name) in
+      and_from (access && good (sum_tree known e) && true) (are_good_statements scope [] (first + 0) (statements_tree known (suc line) ws))
+      (and_from (access && good (sum_tree known e)) true (and_from access (good (sum_tree known e)) (good-scalar name q.0) (good-sum e s.1 q.1)) refl)
+      (good-statements (first + 0) (suc line) ws g.1 p.1)
+  good-statements first line (printing is ∷ ws) w h =
       let p = all_parts known (names_in_items is) (names_in ws) h in
-      and_from (list_all (is_good_item (over items known) []) (map (item_tree known) is)) (are_good_statements (over items known) [] (first + 0) (statements_tree known (suc line) ws)) (good-items is p.0) (good-statements (first + 0) (suc line) ws p.1)
-  good-statements first line (ending ∷ ws) h = good-statements first (suc line) ws h
+      let g = and_parts (is_written (printing is)) (list_all is_written ws) w in
+      and_from (list_all (is_good_item scope []) (map (item_tree known) is)) (are_good_statements scope [] (first + 0) (statements_tree known (suc line) ws)) (good-items is g.0 p.0) (good-statements (first + 0) (suc line) ws g.1 p.1)
+  good-statements first line (ending ∷ ws) w h = good-statements first (suc line) ws w h
 
 -- ---- the whole
 
@@ -174,15 +192,20 @@ count-ordered known line (assignment name e ∷ ws) h = count-ends known line (a
 count-ordered known line (printing is ∷ ws) h = count-ends known line (printing is ∷ ws) h
 count-ordered known line (ending ∷ ws) h = count-ends known line (ending ∷ ws) h
 
-program-formed : (bytes : List ℕ) (ws : List Written) → IsStraight bytes ws → is_well_formed (program_of ws) ≡ true
+all_written : (lines : List (List ℕ)) (ws : List Written) → AllSay lines ws → list_all is_written ws ≡ true
+all_written lines [] h = refl
+all_written [] (w ∷ ws) h = absurd h
+all_written (line ∷ lines) (w ∷ ws) h = and_from (is_written w) (list_all is_written ws) h.0.good (all_written lines ws h.1)
+
+program-formed : (bytes : List ℕ) (ws : List Written) → IsWrittenAs bytes ws → is_well_formed (program_of ws) ≡ true
 program-formed bytes ws h =
     let known = with_names [] (names_in ws) in
     let items = statements_tree known 1 ws in
     let few = count-ordered known 1 ws h.order in
     let most = h.count in
-    and_from (list_all is_good_declaration (map scalar_named known) && nat_lt (statement_count items) 400) (are_good_statements (over items known) [] 1 items)
+    and_from (list_all is_good_declaration (map scalar_named known) && nat_lt (statement_count items) 400) (are_good_statements (scope known) [] 1 items)
     (and_from (list_all is_good_declaration (map scalar_named known)) (nat_lt (statement_count items) 400) (good-declarations known) (lt-ltb (statement_count items) 400 (omega arith)))
-    (good-statements items known 1 1 ws (all_known [] (names_in ws)))
+    (good-statements known 1 1 ws (all_written (lines_of bytes) ws h.lines) (all_known [] (names_in ws)))
 
 program-straight : (ws : List Written) → is_straight (program_of ws) ≡ true
 program-straight ws =

@@ -9,7 +9,7 @@ use Rattle.nest_tree.specs.Tree.{Expression, Printed, Statement, Statements, don
 use Rattle.f77_reader.specs.Characters.{is_capital_or_digit, is_integer_letter, is_variable_name}
 use Rattle.f77_reader.specs.Lines.{text_of, line_with, is_body}
 use Rattle.f77_reader.specs.Written.{Sum, sum_text, is_sum, Item, sum, constant, doubled, item_text, items_text, is_item, Written, heading, assignment, printing, ending, written_text, is_written}
-use Rattle.f77_reader.specs.Meaning.{names_in_sum, names_in_items, names_in_line, number_of, with_name, with_names, scalar, sum_tree, item_tree}
+use Rattle.f77_reader.specs.Meaning.{plain_assignment, print_statement, names_in_sum, names_in_items, names_in_line, number_of, with_name, with_names, scalar, sum_tree, item_tree}
 use Rattle.f77_reader.specs.Straight.{Says}
 use Rattle.f77_reader.specs.Reading.{◌>>=◌, Names, before, behind, rest_pieces, comma, equals, sum_at, characters_at, item_at, items_at, Said, headed, stated, ended, printing_at, assignment_at, heading_at, said_at, columns_at, body_at, text_at, line_at}
 use Rattle.f77_reader.proofs.Cuts.{rest_pieces-step}
@@ -100,27 +100,27 @@ items-read known later front (i ∷ is) h l =
 -- what is said, where variables have the numbers of later names
 abbrev pub said_as : Names → ℕ → Written → Said
 said_as later line (heading name) = headed
-said_as later line (assignment name e) = stated (tree.assign (scalar later name) (sum_tree later e) line)
-said_as later line (printing items) = stated (tree.print (map (item_tree later) items) line)
+said_as later line (assignment name e) = stated (plain_assignment (scalar later name) (sum_tree later e) line)
+said_as later line (printing items) = stated (print_statement (map (item_tree later) items) line)
 said_as later line ending = ended
 
 letter_range : (c : ℕ) → is_integer_letter c ≡ true → (eqb c 69 ≡ false) × (eqb c 80 ≡ false)
 letter_range c h = (grind (arith, nat_tests), grind (arith, nat_tests))
 
 printing-read : (known later : Names) (line : ℕ) (items : List Item) → list_all is_item items ≡ true → IsLater (with_names known (names_in_items items)) later
-    → printing_at known line (items_text items) ≡ Some (stated (tree.print (map (item_tree later) items) line), with_names known (names_in_items items))
+    → printing_at known line (items_text items) ≡ Some (stated (print_statement (map (item_tree later) items) line), with_names known (names_in_items items))
 unfolding printing_at
 printing-read known later line [] h l = refl
-printing-read known later line (i ∷ is) h l = ap (λ (o : Option (List Printed × Names)). o >>= λ r. Some (stated (tree.print r.0 line), r.1)) (items-read known later [] (i ∷ is) h l)
+printing-read known later line (i ∷ is) h l = ap (λ (o : Option (List Printed × Names)). o >>= λ r. Some (stated (print_statement r.0 line), r.1)) (items-read known later [] (i ∷ is) h l)
 
 assignment-read : (known later : Names) (line : ℕ) (name : List ℕ) (e : Sum) → is_variable_name name ≡ true → is_sum e ≡ true → IsLater (with_names known (name ∷ names_in_sum e)) later
-    → assignment_at known line name (61 ∷ sum_text e) ≡ Some (stated (tree.assign (scalar later name) (sum_tree later e) line), with_names known (name ∷ names_in_sum e))
+    → assignment_at known line name (61 ∷ sum_text e) ≡ Some (stated (plain_assignment (scalar later name) (sum_tree later e) line), with_names known (name ∷ names_in_sum e))
 unfolding assignment_at
 assignment-read known later line name e h g l =
     let number : number_of known name ≡ number_of later name = number-stays known later name (later-then (with_name known name) (with_names (with_name known name) (names_in_sum e)) later (later-names (with_name known name) (names_in_sum e)) l) in
-    ap (λ b. cond b (sum_at (with_name known name) (sum_text e) >>= λ r. Some (stated (tree.assign (scalar known name) r.0 line), r.1)) None) h
-    ∙ ap (λ (o : Option (Expression × Names)). o >>= λ r. Some (stated (tree.assign (scalar known name) r.0 line), r.1)) (sum-read (with_name known name) later e g l)
-    ∙ ap (λ k. Some (stated (tree.assign (record { variable = k; subscripts = [] }) (sum_tree later e) line), with_names known (name ∷ names_in_sum e))) number
+    ap (λ b. cond b (sum_at (with_name known name) (sum_text e) >>= λ r. Some (stated (plain_assignment (scalar known name) r.0 line), r.1)) None) h
+    ∙ ap (λ (o : Option (Expression × Names)). o >>= λ r. Some (stated (plain_assignment (scalar known name) r.0 line), r.1)) (sum-read (with_name known name) later e g l)
+    ∙ ap (λ k. Some (stated (plain_assignment (record { variable = k; subscripts = [] }) (sum_tree later e) line), with_names known (name ∷ names_in_sum e))) number
 
 pub said-read : (known later : Names) (line : ℕ) (w : Written) → is_written w ≡ true → IsLater (with_names known (names_in_line w)) later → said_at known line (written_text w) ≡ Some (said_as later line w, with_names known (names_in_line w))
 unfolding said_at heading_at

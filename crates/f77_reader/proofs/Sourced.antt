@@ -2,12 +2,11 @@
 use Rattle.std.proofs.Common.{◌≡◌, ℕ, suc, ◌+◌, ◌<◌, ◌≤◌, true, false, cond, List, [], ◌∷◌, ◌++◌, length, map, Option, Some, None, Ok, refl, sym, ap, ◌∙◌, append_assoc, arith}
 use Rattle.std.proofs.lemmas.Bool.{lt-ltb}
 use Rattle.std.proofs.lemmas.List.{append-nil}
-use Rattle.nest_tree.specs.Tree as tree
 use Rattle.nest_tree.specs.Tree.{Statement, next}
 use Rattle.f77_reader.specs.Lines.{lines_of}
 use Rattle.f77_reader.specs.Written.{Written, heading, assignment, printing, ending}
-use Rattle.f77_reader.specs.Meaning.{names_in_line, names_in, with_names, scalar, sum_tree, item_tree, statements_tree, program_of}
-use Rattle.f77_reader.specs.Straight.{AllSay, EndsOnce, IsOrdered, IsStraight}
+use Rattle.f77_reader.specs.Meaning.{plain_assignment, print_statement, names_in_line, names_in, with_names, scalar, sum_tree, item_tree, statements_tree, program_of}
+use Rattle.f77_reader.specs.Straight.{AllSay, EndsOnce, IsOrdered, IsWrittenAs}
 use Rattle.f77_reader.specs.Reading.{◌>>=◌, Names, Said, headed, stated, ended, line_at, Turn, turned, turn_at, followed, lines_at}
 use Rattle.f77_reader.specs.Saying.{in_order, found_tree}
 use Rattle.f77_reader.proofs.Later.{IsLater, later-self, later-first, later-second, with_names-append}
@@ -17,15 +16,15 @@ use Rattle.f77_reader.proofs.Lined.{line-read}
 abbrev pub statements_list : Names → ℕ → List Written → List Statement
 statements_list later line [] = []
 statements_list later line (heading name ∷ ws) = statements_list later (suc line) ws
-statements_list later line (assignment name e ∷ ws) = tree.assign (scalar later name) (sum_tree later e) line ∷ statements_list later (suc line) ws
-statements_list later line (printing items ∷ ws) = tree.print (map (item_tree later) items) line ∷ statements_list later (suc line) ws
+statements_list later line (assignment name e ∷ ws) = plain_assignment (scalar later name) (sum_tree later e) line ∷ statements_list later (suc line) ws
+statements_list later line (printing items ∷ ws) = print_statement (map (item_tree later) items) line ∷ statements_list later (suc line) ws
 statements_list later line (ending ∷ ws) = statements_list later (suc line) ws
 
 pub in_order-statements : (later : Names) (line : ℕ) (ws : List Written) → in_order (statements_list later line ws) ≡ statements_tree later line ws
 in_order-statements later line [] = refl
 in_order-statements later line (heading name ∷ ws) = in_order-statements later (suc line) ws
-in_order-statements later line (assignment name e ∷ ws) = ap (next (tree.assign (scalar later name) (sum_tree later e) line)) (in_order-statements later (suc line) ws)
-in_order-statements later line (printing items ∷ ws) = ap (next (tree.print (map (item_tree later) items) line)) (in_order-statements later (suc line) ws)
+in_order-statements later line (assignment name e ∷ ws) = ap (next (plain_assignment (scalar later name) (sum_tree later e) line)) (in_order-statements later (suc line) ws)
+in_order-statements later line (printing items ∷ ws) = ap (next (print_statement (map (item_tree later) items) line)) (in_order-statements later (suc line) ws)
 in_order-statements later line (ending ∷ ws) = in_order-statements later (suc line) ws
 
 pub some-behind : (ws : List Written) → EndsOnce ws → 0 < length ws
@@ -57,7 +56,7 @@ lines-read number known later front [] (w ∷ ws) say order few l = absurd say
 lines-read number known later front (line ∷ lines) (heading name ∷ ws) say order few l = absurd order
 lines-read number known later front (line ∷ lines) (assignment name e ∷ ws) say order few l =
     let w = assignment name e in
-    let s : Statement = tree.assign (scalar later name) (sum_tree later e) number in
+    let s : Statement = plain_assignment (scalar later name) (sum_tree later e) number in
     let ns = names_in_line w in
     let some = some-behind ws order in
     let turn = turn-stated number known (with_names known ns) front line s (omega arith) (line-read known later number line w say.0 (later-first known ns (names_in ws) later l)) in
@@ -65,7 +64,7 @@ lines-read number known later front (line ∷ lines) (assignment name e ∷ ws) 
     ∙ ap (λ (x : List Statement). Ok (x, with_names (with_names known ns) (names_in ws))) (append_assoc front (s ∷ []) (statements_list later (suc number) ws)) ∙ ap (λ (x : Names). Ok (front ++ statements_list later number (w ∷ ws), x)) (sym (with_names-append known ns (names_in ws)))
 lines-read number known later front (line ∷ lines) (printing items ∷ ws) say order few l =
     let w = printing items in
-    let s : Statement = tree.print (map (item_tree later) items) number in
+    let s : Statement = print_statement (map (item_tree later) items) number in
     let ns = names_in_line w in
     let some = some-behind ws order in
     let turn = turn-stated number known (with_names known ns) front line s (omega arith) (line-read known later number line w say.0 (later-first known ns (names_in ws) later l)) in
@@ -90,10 +89,10 @@ source-read lines (assignment name e ∷ ws) say order few = lines-read 1 [] (na
 source-read lines (printing items ∷ ws) say order few = lines-read 1 [] (names_of_source (printing items ∷ ws)) [] lines (printing items ∷ ws) say order (omega arith) (later-self (names_of_source (printing items ∷ ws)))
 source-read lines (ending ∷ ws) say order few = lines-read 1 [] (names_of_source (ending ∷ ws)) [] lines (ending ∷ ws) say order (omega arith) (later-self (names_of_source (ending ∷ ws)))
 
-pub straight-read : (bytes : List ℕ) (ws : List Written) → IsStraight bytes ws → lines_at 1 [] [] (lines_of bytes) ≡ Ok (statements_list (names_of_source ws) 1 ws, names_of_source ws)
+pub straight-read : (bytes : List ℕ) (ws : List Written) → IsWrittenAs bytes ws → lines_at 1 [] [] (lines_of bytes) ≡ Ok (statements_list (names_of_source ws) 1 ws, names_of_source ws)
 straight-read bytes ws h = source-read (lines_of bytes) ws h.lines h.order h.count
 
 -- the tree that is found is the program
-pub straight-found : (bytes : List ℕ) (ws : List Written) → IsStraight bytes ws → found_tree (lines_at 1 [] [] (lines_of bytes)) ≡ Ok (program_of ws)
+pub straight-found : (bytes : List ℕ) (ws : List Written) → IsWrittenAs bytes ws → found_tree (lines_at 1 [] [] (lines_of bytes)) ≡ Ok (program_of ws)
 straight-found bytes ws h =
     ap found_tree (straight-read bytes ws h) ∙ ap (λ x. Ok (record { items = x; params = []; variables = (program_of ws).variables })) (in_order-statements (names_of_source ws) 1 ws)

@@ -11,7 +11,7 @@ use Rattle.nest_tree.specs.Tree.{Expression, Printed, Statement}
 use Rattle.f77_reader.specs.Characters.{is_variable_name, is_name}
 use Rattle.f77_reader.specs.Lines.{text_of, line_with, margin, is_body}
 use Rattle.f77_reader.specs.Written.{is_sum, Item, sum, constant, doubled, item_text, items_text, is_item, Written, heading, assignment, printing, ending, written_text, is_written}
-use Rattle.f77_reader.specs.Meaning.{names_in_line, with_name, with_names, scalar, sum_tree, item_tree}
+use Rattle.f77_reader.specs.Meaning.{plain_assignment, print_statement, names_in_line, with_name, with_names, scalar, sum_tree, item_tree}
 use Rattle.f77_reader.specs.Straight.{Says}
 use Rattle.f77_reader.specs.Reading.{◌>>=◌, Names, before, behind, rest_pieces, comma, equals, sum_at, characters_at, item_at, items_at, Said, headed, stated, ended, printing_at, assignment_at, heading_at, print_word, program_word, end_word, begins_with, said_at, columns_at, body_at, text_at, line_at, Turn, turned, turn_at}
 use Rattle.f77_reader.proofs.Joined.{is_separator, begins_apart}
@@ -135,8 +135,8 @@ printing-found : (known : Names) (line : ℕ) (text : List ℕ) (r : Said × Nam
 unfolding printing_at
 printing-found known line [] r e = record { items = []; good = refl; spelled = refl }
 printing-found known line (c ∷ cs) r e =
-    let g = guard_some (eqb c 44) (items_at known [] (rest_pieces comma (c ∷ cs)) >>= λ is. Some (stated (tree.print is.0 line), is.1)) r e in
-    let b = bind_some (items_at known [] (rest_pieces comma (c ∷ cs))) (λ is. Some (stated (tree.print is.0 line), is.1)) r g.1 in
+    let g = guard_some (eqb c 44) (items_at known [] (rest_pieces comma (c ∷ cs)) >>= λ is. Some (stated (print_statement is.0 line), is.1)) r e in
+    let b = bind_some (items_at known [] (rest_pieces comma (c ∷ cs))) (λ is. Some (stated (print_statement is.0 line), is.1)) r g.1 in
     let start : is_separator comma c ≡ true = (let is = eqb-true c 44 g.0 in grind (arith, nat_tests)) in
     let found = items-found known [] (rest_pieces comma (c ∷ cs)) b.0 (rest_pieces-apart comma (c ∷ cs) start) b.1 in
     record { items = found.items; good = found.good; spelled = sym (rest_pieces-whole comma (c ∷ cs)) ∙ found.spelled }
@@ -148,8 +148,8 @@ assignment-found : (known : Names) (line : ℕ) (name text : List ℕ) (r : Said
 unfolding assignment_at
 assignment-found known line name [] r h e = absurd cc
 assignment-found known line name (c ∷ cs) r h e =
-    let g = guard_some (is_variable_name name) (sum_at (with_name known name) cs >>= λ e. Some (stated (tree.assign (scalar known name) e.0 line), e.1)) r e in
-    let b = bind_some (sum_at (with_name known name) cs) (λ e. Some (stated (tree.assign (scalar known name) e.0 line), e.1)) r g.1 in
+    let g = guard_some (is_variable_name name) (sum_at (with_name known name) cs >>= λ e. Some (stated (plain_assignment (scalar known name) e.0 line), e.1)) r e in
+    let b = bind_some (sum_at (with_name known name) cs) (λ e. Some (stated (plain_assignment (scalar known name) e.0 line), e.1)) r g.1 in
     let s = sum-found (with_name known name) cs b.0 b.1 in
     record {
       written = assignment name s.sum;
@@ -260,11 +260,11 @@ turned-place number front later known (heading name) t e =
     let g = guard_some (eqb number 1) (Some (false, known, front)) t e in
     (eqb-true number 1 g.0, ends false known front t g.1)
 turned-place number front later known (assignment name s) t e =
-    let all = front ++ tree.assign (scalar later name) (sum_tree later s) number ∷ [] in
+    let all = front ++ plain_assignment (scalar later name) (sum_tree later s) number ∷ [] in
     let g = guard_some (ltb number 400) (Some (false, known, all)) t e in
     (ltb-true number 400 g.0, ends false known all t g.1)
 turned-place number front later known (printing items) t e =
-    let all = front ++ tree.print (map (item_tree later) items) number ∷ [] in
+    let all = front ++ print_statement (map (item_tree later) items) number ∷ [] in
     let g = guard_some (ltb number 400) (Some (false, known, all)) t e in
     (ltb-true number 400 g.0, ends false known all t g.1)
 turned-place number front later known ending t e = ends true known front t e

@@ -1,10 +1,10 @@
 -- The tree that a written source stands for.
-use Rattle.std.specs.Prelude.{ℕ, suc, pos, Bool, if◌then◌else◌, List, [], ◌∷◌, ◌++◌, map, codes, ◌≡◌, refl}
+use Rattle.std.specs.Prelude.{ℕ, suc, pos, Bool, None, if◌then◌else◌, List, [], ◌∷◌, ◌++◌, map, codes, ◌≡◌, refl}
 use Rattle.std.specs.List.{list_any}
 use Rattle.std.specs.Str.{bytes_eq}
 use Rattle.nest_tree.specs.declared.tree.Access.{Access}
 use Rattle.nest_tree.specs.declared.tree.Spread.TheVariants.{Block}
-use Rattle.nest_tree.specs.Tree.{Expression, number, load, neg, add, sub, mul, Printed, value, text, Statements, assign, print, done, next, Declaration, Tree}
+use Rattle.nest_tree.specs.Tree.{Expression, number, load, neg, add, sub, mul, Printed, value, text, assign, print, Statement, Statements, work, done, next, Declaration, Tree}
 use Rattle.f77_reader.specs.Characters.{decimal}
 use Rattle.f77_reader.specs.Written.{Factor, named, digits, Term, Sign, plus, minus, Signed, Sum, unsigned, signed, Item, sum, constant, Written, heading, assignment, printing, ending}
 
@@ -102,12 +102,19 @@ abbrev pub item_tree : List (List ℕ) → Item → Printed
 item_tree known (sum e) = value (sum_tree known e)
 item_tree known (constant characters) = text characters
 
+-- an assignment without a comparison, and a PRINT, on the line with this number
+abbrev pub plain_assignment : Access → Expression → ℕ → Statement
+plain_assignment target e line = work (assign (record { target = target; value = e; guard = None; line = line }))
+
+abbrev pub print_statement : List Printed → ℕ → Statement
+print_statement items line = work (print (record { items = items; line = line }))
+
 -- the statements of lines, the first of which has this number; PROGRAM and END are no statements of the tree
 abbrev pub statements_tree : List (List ℕ) → ℕ → List Written → Statements
 statements_tree known line [] = done
 statements_tree known line (heading name ∷ ws) = statements_tree known (suc line) ws
-statements_tree known line (assignment name e ∷ ws) = next (assign (scalar known name) (sum_tree known e) line) (statements_tree known (suc line) ws)
-statements_tree known line (printing items ∷ ws) = next (print (map (item_tree known) items) line) (statements_tree known (suc line) ws)
+statements_tree known line (assignment name e ∷ ws) = next (plain_assignment (scalar known name) (sum_tree known e) line) (statements_tree known (suc line) ws)
+statements_tree known line (printing items ∷ ws) = next (print_statement (map (item_tree known) items) line) (statements_tree known (suc line) ws)
 statements_tree known line (ending ∷ ws) = statements_tree known (suc line) ws
 
 -- a scalar by its name
@@ -122,5 +129,5 @@ program_of ws =
 
 -- K=L*2-K makes K the first variable and L the second
 pub program_of-example : program_of (assignment (codes "K") (unsigned (record { first = named (codes "L"); others = digits (codes "2") ∷ [] }) (record { sign = minus; term = record { first = named (codes "K"); others = [] } } ∷ [])) ∷ ending ∷ [])
-    ≡ record { items = next (assign (record { variable = 1; subscripts = [] }) (sub (mul (load (record { variable = 2; subscripts = [] })) (number (pos 2))) (load (record { variable = 1; subscripts = [] }))) 1) done; params = []; variables = scalar_named (codes "K") ∷ scalar_named (codes "L") ∷ [] }
+    ≡ record { items = next (plain_assignment (record { variable = 1; subscripts = [] }) (sub (mul (load (record { variable = 2; subscripts = [] })) (number (pos 2))) (load (record { variable = 1; subscripts = [] }))) 1) done; params = []; variables = scalar_named (codes "K") ∷ scalar_named (codes "L") ∷ [] }
 program_of-example = refl

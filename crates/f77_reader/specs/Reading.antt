@@ -8,7 +8,7 @@ use Rattle.f77_reader.specs.declared.fault.Fault.{Fault}
 use Rattle.f77_reader.specs.declared.fault.Fault.TheVariants.{Memory, NoForm}
 use Rattle.f77_reader.specs.Characters.{is_digit, is_name, is_variable_name}
 use Rattle.f77_reader.specs.Lines.{quoted_after, text_of, margin, is_body}
-use Rattle.f77_reader.specs.Meaning.{with_name, scalar}
+use Rattle.f77_reader.specs.Meaning.{plain_assignment, print_statement, with_name, scalar}
 
 infixl 10 ◌>>=◌
 abbrev pub ◌>>=◌ : {A B : Type 0} → Option A → (A → Option B) → Option B
@@ -146,15 +146,15 @@ pub data Said : Type 0 where
 
 -- the items of a PRINT behind `PRINT*`
 unfoldable pub printing_at : Names → ℕ → List ℕ → Option (Said × Names)
-printing_at known line [] = Some (stated (tree.print [] line), known)
+printing_at known line [] = Some (stated (print_statement [] line), known)
 printing_at known line (c ∷ cs) =
-    if c == 44 then (items_at known [] (rest_pieces comma (c ∷ cs)) >>= λ is. Some (stated (tree.print is.0 line), is.1)) else None
+    if c == 44 then (items_at known [] (rest_pieces comma (c ∷ cs)) >>= λ is. Some (stated (print_statement is.0 line), is.1)) else None
 
 -- what stands behind the name of an assignment: `=` and an expression
 unfoldable pub assignment_at : Names → ℕ → List ℕ → List ℕ → Option (Said × Names)
 assignment_at known line name [] = None
 assignment_at known line name (c ∷ cs) =
-    if is_variable_name name then (sum_at (with_name known name) cs >>= λ e. Some (stated (tree.assign (scalar known name) e.0 line), e.1)) else None
+    if is_variable_name name then (sum_at (with_name known name) cs >>= λ e. Some (stated (plain_assignment (scalar known name) e.0 line), e.1)) else None
 
 unfoldable pub heading_at : List ℕ → Option Said
 heading_at name = if is_name name then Some headed else None

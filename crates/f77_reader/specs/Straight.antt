@@ -38,20 +38,20 @@ IsOrdered (printing items ∷ ws) = EndsOnce (printing items ∷ ws)
 IsOrdered (ending ∷ ws) = EndsOnce (ending ∷ ws)
 
 -- the bytes are a source of the straight form whose lines say this
-pub record IsStraight (bytes : List ℕ) (ws : List Written) : Type 0 where
+pub record IsWrittenAs (bytes : List ℕ) (ws : List Written) : Type 0 where
   pub lines : AllSay (lines_of bytes) ws
   pub order : IsOrdered ws
   pub count : length ws ≤ 400
 
 -- the bytes are a source of the straight form that stands for this program
 abbrev pub Reads : List ℕ → Tree → Type 0
-Reads bytes tree = (ws : List Written) × IsStraight bytes ws × (tree ≡ program_of ws)
+Reads bytes tree = (ws : List Written) × IsWrittenAs bytes ws × (tree ≡ program_of ws)
 
 -- some source of the straight form has the same first n lines as the bytes; a missing line is the same as a missing line
 pub record Begins (bytes : List ℕ) (n : ℕ) : Type 0 where
   pub source : List ℕ
   pub ws : List Written
-  pub straight : IsStraight source ws
+  pub straight : IsWrittenAs source ws
   pub same : take n (lines_of source) ≡ take n (lines_of bytes)
 
 -- The refused line, from 1: the first that no source of the straight form has behind the lines above it. A missing line counts as the next one.

@@ -105,7 +105,7 @@ fn assignment(
         [_, right @ ..] if is_variable_name(name) => {
             let target = scalar(alloc, names, name)?;
             let value = expression(alloc, names, right)?;
-            Ok(Line::Statement(Item::Assign(target, value, line)))
+            Ok(Line::Statement(Item::Assign(target, value, None, line)))
         }
         _ => Err(Fault::NoForm),
     }

@@ -73,7 +73,10 @@ fn operators_associate_to_the_left(rt: HostRuntime) {
         return;
     };
     let mut is_left = false;
-    if let Some(Item::Assign(target, Expr::Sub(first, product), line)) = program.items.first() {
+    if let Some(Item::Assign(target, Expr::Sub(first, product), None, line)) = program
+        .items
+        .first()
+    {
         let numbered = target.variable == 1 && *line == 1 && program.variables.len() == 2;
         is_left = numbered && is_difference(first) && is_product(product);
     }
