@@ -45,15 +45,15 @@ work_estimate tree = work_of (param_values tree) (no_ends tree) 1 tree.items
 abbrev pub wide_end : ℤ × ℤ → Option ℤ
 wide_end (low, high) = if not (is_small low) then Some low else if not (is_small high) then Some high else None
 
--- an end past it, as the limit that the statement of this line passes
+-- the first such end of these forms' intervals
+abbrev pub wide_forms : List ℤ → List (ℤ × ℤ) → List Form → Option ℤ
+wide_forms params ends [] = None
+wide_forms params ends (f ∷ rest) = option_or (wide_end (form_interval f ends params)) (wide_forms params ends rest)
+
+-- such an end as the limit that the statement of this line passes
 abbrev pub wide_at : ℕ → Option ℤ → Option Limit
 wide_at line None = None
 wide_at line (Some end) = Some (TooWide line end)
-
--- the first such end of these forms' intervals
-abbrev pub wide_forms : List ℤ → List (ℤ × ℤ) → ℕ → List Form → Option Limit
-wide_forms params ends line [] = None
-wide_forms params ends line (f ∷ rest) = option_or (wide_at line (wide_end (form_interval f ends params))) (wide_forms params ends line rest)
 
 -- a loop is empty where its interval is
 abbrev pub is_empty : ℤ × ℤ → Bool
@@ -68,9 +68,9 @@ abbrev mutual
   pub wide_in : List ℤ → List (ℤ × ℤ) → Statement → Option Limit
   wide_in params ends (do_loop head body) =
       let interval = head_interval params ends head in
-      option_or (wide_forms params ends head.line (head.m1 ∷ head.m2 ∷ []))
+      option_or (wide_at head.line (wide_forms params ends (head.m1 ∷ head.m2 ∷ [])))
       (if is_empty interval then None else wide_of params (with_ends ends head.number interval) body)
-  wide_in params ends (work w) = wide_forms params ends (line_of_work w) (work_forms w)
+  wide_in params ends (work w) = wide_at (line_of_work w) (wide_forms params ends (work_forms w))
   wide_in params ends (continue line) = None
 
   pub wide_of : List ℤ → List (ℤ × ℤ) → Statements → Option Limit

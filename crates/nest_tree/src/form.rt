@@ -1,7 +1,11 @@
 // Affine forms: a constant plus multiples of DO variables and of named constants.
 
-ghost use Rattle.std.specs.Prelude.{◌≡◌, ℕ, ◌+◌, ◌++◌, [], ◌∷◌, OnOk, OnErr};
+ghost use Rattle.std.specs.Prelude.{◌≡◌, ℕ, ◌+◌, ◌-◌, ◌^◌, ◌≤◌, ◌++◌, [], ◌∷◌, ◌+ℤ◌, ◌*ℤ◌, OnOk, OnErr, IsTrue, length, map, unsigned_abs};
+ghost use Rattle.nest_tree.specs.Form.{dot, is_small, reach_within, rises_above};
+ghost use Rattle.nest_tree.specs.Intervals.{dot_ends, multiple, plus};
+ghost use Rattle.nest_tree.specs.Values.{wrapped};
 
+use crate::tree::Parameter;
 use smallvec::SmallVec;
 use std::alloc::{AllocError, Global};
 use std::marker::Model;
@@ -70,7 +74,9 @@ impl Model for Affine {
 }
 
 impl Affine {
-    ghost use Rattle.nest_tree.specs.Form.{Form, IsForm};
+    ghost use Rattle.std.specs.Prelude.{IsTrue, length, map};
+    ghost use Rattle.nest_tree.specs.Form.{Form, IsForm, form_value, is_given, is_small};
+    ghost use Rattle.nest_tree.specs.Intervals.{form_interval};
 
     /// The form of these parts.
     pub fn new(constant: i64, loops: Pairs, params: Pairs) -> Self
@@ -94,15 +100,149 @@ impl Affine {
 
     /// The coefficients of DO variables, by the number of the loop.
     pub fn loops(&self) -> &[(u32, i64)]
-        ensures { result.now ≡ self.now.loops }
+        ensures pairs { result.now ≡ self.now.loops }
+        ensures form { IsForm self.now }
     {
         self.loops.as_slice()
     }
 
     /// The coefficients of named constants, by their number.
     pub fn params(&self) -> &[(u32, i64)]
-        ensures { result.now ≡ self.now.params }
+        ensures pairs { result.now ≡ self.now.params }
+        ensures form { IsForm self.now }
     {
         self.params.as_slice()
     }
+
+    /// The value where the loops and the named constants, by number from 1, have these values.
+    /// It is within plus or minus 2147483647; what is added up on the way need not be.
+    pub fn value(&self, loops: &[i64], params: &[i64]) -> i64
+        requires given { IsTrue (is_given self.now (length loops.now) (length params.now)) }
+        requires small { IsTrue (is_small (form_value self.now loops.now params.now)) }
+        ensures { result ≡ form_value self.now loops.now params.now }
+    {
+        let varying = wrapped_sum(self.constant, self.loops.as_slice(), loops);
+        wrapped_sum(varying, self.params.as_slice(), params)
+    }
+
+    /// The value where the loops and the named constants, by number from 1, have these values,
+    /// however far it is from 0.
+    pub fn exact_value(&self, loops: &[i64], params: &[i64]) -> i128
+        requires { IsTrue (is_given self.now (length loops.now) (length params.now)) }
+        ensures { result ≡ form_value self.now loops.now params.now }
+    {
+        let varying = exact_sum(i128::from(self.constant), self.loops.as_slice(), loops);
+        exact_sum(varying, self.params.as_slice(), params)
+    }
+
+    /// The interval from the least to the greatest value, where the loops have these intervals
+    /// and the named constants these values, by number from 1.
+    pub fn interval(&self, ends: &[(i64, i64)], params: &[i64]) -> (i128, i128)
+        requires { IsTrue (is_given self.now (length ends.now) (length params.now)) }
+        ensures { result ≡ form_interval self.now ends.now params.now }
+    {
+        let fixed = exact_sum(i128::from(self.constant), self.params.as_slice(), params);
+        interval_sum(fixed, self.loops.as_slice(), ends)
+    }
+
+    /// The interval, as `interval` has it, with the values that the program's named constants have.
+    pub fn interval_among(&self, ends: &[(i64, i64)], constants: &[Parameter]) -> (i128, i128)
+        requires { IsTrue (is_given self.now (length ends.now) (length constants.now)) }
+        ensures { result ≡ form_interval self.now ends.now (map (λ p. p.value) constants.now) }
+    {
+        let fixed = constant_sum(i128::from(self.constant), self.params.as_slice(), constants);
+        interval_sum(fixed, self.loops.as_slice(), ends)
+    }
+}
+
+// The sum of a start and of coefficients times values by number, wrapped to 64 bits.
+fn wrapped_sum(start: i64, pairs: &[(u32, i64)], values: &[i64]) -> i64
+    requires rising { IsTrue (rises_above 0 pairs.now) }
+    requires given { IsTrue (reach_within (length values.now) pairs.now) }
+    ensures { result ≡ wrapped (start +ℤ dot pairs.now values.now) }
+{
+    let mut sum = start;
+    for &(number, coefficient) in pairs {
+        sum = with_product(sum, coefficient, values[number as usize - 1]);
+    }
+    sum
+}
+
+// A sum and one product more, wrapped to 64 bits.
+fn with_product(sum: i64, coefficient: i64, value: i64) -> i64
+    ensures { result ≡ wrapped (sum +ℤ (coefficient *ℤ value)) }
+{
+    sum.wrapping_add(coefficient.wrapping_mul(value))
+}
+
+// The sum of a start and of coefficients times values by number.
+fn exact_sum(start: i128, pairs: &[(u32, i64)], values: &[i64]) -> i128
+    requires rising { IsTrue (rises_above 0 pairs.now) }
+    requires given { IsTrue (reach_within (length values.now) pairs.now) }
+    requires start { unsigned_abs start ≤ 2 ^ 126 }
+    ensures value { result ≡ start +ℤ dot pairs.now values.now }
+    ensures near { unsigned_abs result ≤ unsigned_abs start + (2 ^ 126 - 2 ^ 94) }
+{
+    let mut sum = start;
+    for &(number, coefficient) in pairs {
+        sum += product(coefficient, values[number as usize - 1]);
+    }
+    sum
+}
+
+// The sum of a start and of coefficients times the values of named constants by number.
+fn constant_sum(start: i128, pairs: &[(u32, i64)], constants: &[Parameter]) -> i128
+    requires rising { IsTrue (rises_above 0 pairs.now) }
+    requires given { IsTrue (reach_within (length constants.now) pairs.now) }
+    requires start { unsigned_abs start ≤ 2 ^ 126 }
+    ensures value { result ≡ start +ℤ dot pairs.now (map (λ p. p.value) constants.now) }
+    ensures near { unsigned_abs result ≤ unsigned_abs start + (2 ^ 126 - 2 ^ 94) }
+{
+    let mut sum = start;
+    for &(number, coefficient) in pairs {
+        sum += product(coefficient, constants[number as usize - 1].value);
+    }
+    sum
+}
+
+// The interval of a number and of coefficients times values in intervals by number.
+fn interval_sum(fixed: i128, pairs: &[(u32, i64)], ends: &[(i64, i64)]) -> (i128, i128)
+    requires rising { IsTrue (rises_above 0 pairs.now) }
+    requires given { IsTrue (reach_within (length ends.now) pairs.now) }
+    requires fixed { unsigned_abs fixed ≤ 2 ^ 126 }
+    ensures { result ≡ plus (fixed, fixed) (dot_ends pairs.now ends.now) }
+{
+    let mut low = fixed;
+    let mut high = fixed;
+    for &(number, coefficient) in pairs {
+        let (least, greatest) = multiple(coefficient, ends[number as usize - 1]);
+        low += least;
+        high += greatest;
+    }
+    (low, high)
+}
+
+// A multiple of an interval: a negative coefficient turns it round.
+fn multiple(coefficient: i64, ends: (i64, i64)) -> (i128, i128)
+    requires { IsTrue (is_small coefficient) }
+    ensures value { result ≡ multiple coefficient ends }
+    ensures low { unsigned_abs result.0 ≤ 2 ^ 94 }
+    ensures high { unsigned_abs result.1 ≤ 2 ^ 94 }
+{
+    let first = product(coefficient, ends.0);
+    let second = product(coefficient, ends.1);
+    if coefficient >= 0 {
+        (first, second)
+    } else {
+        (second, first)
+    }
+}
+
+// A coefficient times a value.
+fn product(coefficient: i64, value: i64) -> i128
+    requires { IsTrue (is_small coefficient) }
+    ensures value { result ≡ coefficient *ℤ value }
+    ensures near { unsigned_abs result ≤ 2 ^ 94 }
+{
+    i128::from(coefficient) * i128::from(value)
 }

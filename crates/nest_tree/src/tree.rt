@@ -113,12 +113,50 @@ pub enum Compare {
     Gt,
 }
 
+impl Compare {
+    ghost use Rattle.nest_tree.specs.Guards.{compares};
+
+    /// Whether the two sides compare so.
+    pub fn holds(self, left: i64, right: i64) -> bool
+        ensures { result ≡ compares self left right }
+    {
+        match self {
+            Compare::Lt => left < right,
+            Compare::Le => left <= right,
+            Compare::Eq => left == right,
+            Compare::Ge => left >= right,
+            Compare::Gt => left > right,
+        }
+    }
+}
+
 /// The comparison of a logical IF, `left .op. right`.
 #[derive(Drop)]
 pub struct Guard {
     pub left: Affine,
     pub op: Compare,
     pub right: Affine,
+}
+
+impl Guard {
+    ghost use Rattle.std.specs.Prelude.{IsTrue, length, Some};
+    ghost use Rattle.nest_tree.specs.Form.{form_value, is_given, is_small};
+    ghost use Rattle.nest_tree.specs.Guards.{holds};
+
+    /// Whether the comparison holds where the loops and the named constants, by number from 1,
+    /// have these values. Each side's value is within plus or minus 2147483647.
+    pub fn holds(&self, loops: &[i64], params: &[i64]) -> bool
+        requires left_given { IsTrue (is_given self.now.left (length loops.now) (length params.now)) }
+        requires right_given { IsTrue (is_given self.now.right (length loops.now) (length params.now)) }
+        requires left_small { IsTrue (is_small (form_value self.now.left loops.now params.now)) }
+        requires right_small { IsTrue (is_small (form_value self.now.right loops.now params.now)) }
+        ensures { result ≡ holds (Some self.now) loops.now params.now }
+    {
+        self.op.holds(
+            self.left.value(loops, params),
+            self.right.value(loops, params),
+        )
+    }
 }
 
 /// A statement that is executed, or a loop with its body. The last number is the line, from 1.
