@@ -1,8 +1,8 @@
 -- Who posts in front of a phase, and whom a processor awaits there, kind by kind.
-use Rattle.std.proofs.Common.{◌≡◌, ℕ, zero, suc, ◌+◌, ◌-◌, ◌*◌, ◌/◌, ◌%◌, ◌^◌, ◌<◌, ◌≤◌, ℤ, Bool, true, false, ◌&&◌, ◌||◌, ◌==◌, not, nat_lt, IsTrue, List, [], ◌∷◌, length, get_or, Option, Some, None, refl, sym, ◌∙◌, ap, ◌⊎◌, inl, inr, bit_and, bit_or, max, arith}
+use Rattle.std.proofs.Common.{◌≡◌, ℕ, zero, suc, ◌+◌, ◌-◌, ◌*◌, ◌/◌, ◌%◌, ◌^◌, ◌<◌, ◌≤◌, ℤ, Bool, true, false, ◌&&◌, ◌||◌, ◌==◌, not, nat_lt, List, [], length, get_or, Some, refl, sym, ◌∙◌, ap, inl, inr, bit_and, bit_or, max, arith}
 use Rattle.std.specs.List.{list_any, range_with_len, filter}
 use Rattle.std.specs.Int.{bit_at}
-use Rattle.std.proofs.lemmas.Bool.{eq-eqb, ne_eqb, cases_eq, cases_lt, lt-ltb, le-ltb, and_right}
+use Rattle.std.proofs.lemmas.Bool.{eq-eqb, ne_eqb, cases_lt, lt-ltb, le-ltb, and_right}
 use Rattle.std.proofs.lemmas.Option.{slice_get-get_or}
 use Rattle.std.proofs.lemmas.Nat.Bits.{bit_at_or, bit_at-zero, bit_at_ones}
 use Rattle.nest_tree.specs.Tree.{Tree}
@@ -13,7 +13,7 @@ use Rattle.spmd_core.specs.declared.plan.Plan.{Plan}
 use Rattle.spmd_core.specs.Owners.{anchor_owner}
 use Rattle.spmd_core.specs.Waits.{waits_at, posts_at, waits_for}
 use Rattle.spmd_core.specs.Words.{members}
-use Rattle.spmd_core.proofs.Words.{any_from, any_none, members_masked, digit, bit_of_one, bit_of_lower, bit_of_higher, max_digits}
+use Rattle.spmd_core.proofs.Words.{any_from, any_none, members_masked, digit, bit_of_lower, bit_of_higher, max_digits}
 
 passes : (p q : ℕ) (b : Bool) → (p ≡ q → ⊥) → b ≡ true → (not (p == q) && b) ≡ true
 passes p q b ne h = ap (λ x. not x && b) (ne_eqb p q ne) ∙ h

@@ -11,7 +11,8 @@ use Rattle.spmd_core.specs.declared.plan.Kind.TheVariants.{Barrier}
 use Rattle.spmd_core.specs.declared.refusal.PlanRefusal.{PlanRefusal}
 use Rattle.spmd_core.specs.Barriers.{origin, barrier_plan_for}
 use Rattle.spmd_core.proofs.Fits.{first_misfit-shaped}
-use Rattle.spmd_core.specs.Fit.{is_origin, is_good_anchor, is_good_kind, wrong_field_for, unplaced_anchor, unplaced_kind, misplaced_print, is_print, IsFit, or_else, shape_refusal}
+use Rattle.spmd_core.specs.Fit.{is_origin, is_good_anchor, is_good_kind, wrong_field_for, unplaced_anchor, unplaced_kind, misplaced_print, is_print, IsFit, shape_refusal}
+use Rattle.std.specs.Option.{option_or}
 
 all_good_anchors : (n : ℕ) → list_all is_good_anchor (replicate n origin) ≡ true
 all_good_anchors zero = refl
@@ -52,8 +53,8 @@ pub fits : (tree : Tree) (w n : ℕ) → works_of tree.items ≡ n → 1 ≤ w �
 fits tree w n e some few =
     let plan = barrier_plan_for w n in
     first_misfit-shaped tree plan n e (sym (ap shape_refusal (right_shape w n some few)))
-    ∙ ap (λ (o : Option PlanRefusal). or_else o (or_else (unplaced_kind w 1 plan.kinds) (misplaced_print 1 tree.items plan.anchors))) (no_unplaced_anchor w 1 n)
-    ∙ ap (λ (o : Option PlanRefusal). or_else o (misplaced_print 1 tree.items plan.anchors)) (no_unplaced_kind w 1 n) ∙ no_misplaced_print 1 n tree.items
+    ∙ ap (λ (o : Option PlanRefusal). option_or o (option_or (unplaced_kind w 1 plan.kinds) (misplaced_print 1 tree.items plan.anchors))) (no_unplaced_anchor w 1 n)
+    ∙ ap (λ (o : Option PlanRefusal). option_or o (misplaced_print 1 tree.items plan.anchors)) (no_unplaced_kind w 1 n) ∙ no_misplaced_print 1 n tree.items
 
 -- processor 0 owns all
 pub all_origins : (n : ℕ) → list_all is_origin (replicate n origin) ≡ true

@@ -1,7 +1,7 @@
 -- The room that the first state needs: all PRINTs belong to processor 0.
-use Rattle.std.proofs.Common.{◌≡◌, ℕ, zero, suc, ◌+◌, ◌-◌, ◌*◌, ◌<◌, ◌≤◌, ℤ, pos, Bool, true, false, ◌&&◌, ◌==◌, nat_le, cond, if◌then◌else◌, List, [], ◌∷◌, ◌++◌, length, map, drop, get_or, Option, Some, None, replicate, refl, sym, ◌∙◌, ap, subst, add-zero, zero-add, vec_capacity, ◌+ℤ◌, inl, inr, arith}
+use Rattle.std.proofs.Common.{◌≡◌, ℕ, zero, suc, ◌+◌, ◌-◌, ◌<◌, ◌≤◌, ℤ, pos, Bool, true, false, ◌==◌, cond, if◌then◌else◌, List, [], ◌∷◌, ◌++◌, length, map, drop, get_or, Some, replicate, refl, sym, ◌∙◌, ap, subst, add-zero, zero-add, ◌+ℤ◌, inl, inr, arith}
 use Rattle.std.specs.Prelude.{All, sum_by, slice_get}
-use Rattle.std.specs.List.{flat_map, filter, range_with_len, list_all}
+use Rattle.std.specs.List.{flat_map, range_with_len}
 use Rattle.std.specs.Ordering.{int_eq}
 use Rattle.std.proofs.lemmas.Bool.{and_parts, eqb-true, ne_eqb, cases_Bool}
 use Rattle.std.proofs.lemmas.List.Elements.{All-from_get_or}
@@ -9,21 +9,20 @@ use Rattle.std.proofs.lemmas.List.Sums.{sum_by-append, sum_by-cons, sum_by-le}
 use Rattle.std.proofs.Math.Nat.{zero-div}
 use Rattle.std.proofs.lemmas.Bool.Decides.{Decides-int_eq}
 use Rattle.std.proofs.lemmas.Option.{slice_get-get_or}
-use Rattle.nest_tree.specs.Straight.{are_works}
-use Rattle.nest_tree.specs.Tree.{Tree, Statement, Statements, do_loop, assign, print, continue, done, next}
-use Rattle.nest_model.specs.Accesses.{loads_of, store_of, statement_store}
+use Rattle.nest_tree.specs.Straight.{are_works, is_plain_work}
+use Rattle.nest_tree.specs.Tree.{Tree, Work, assign, print, Statements, do_loop, work, continue, done, next, param_values}
+use Rattle.nest_model.specs.Accesses.{loads_of, store_of, work_store}
 use Rattle.nest_model.specs.Instances.{works_of, no_values, Instance}
 use Rattle.spmd_core.specs.declared.plan.Anchor.{Anchor}
 use Rattle.spmd_core.specs.declared.plan.Plan.{Plan}
 use Rattle.spmd_core.specs.declared.processor.Processor.{Processor}
-use Rattle.spmd_core.specs.Acts.{Act, post, await, load, store, last_act, instance_acts}
+use Rattle.spmd_core.specs.Acts.{Act, post, await, load, last_act}
 use Rattle.spmd_core.specs.Cursors.{cursor_left, planned_turns, IsBegunAt}
-use Rattle.spmd_core.specs.Fit.{is_print, is_origin}
-use Rattle.spmd_core.specs.Numbered.{own_acts, instance_at, places, statement_at, longest_line, longest_lines}
+use Rattle.spmd_core.specs.Fit.{prints, is_origin}
+use Rattle.spmd_core.specs.Numbered.{own_acts, instance_at, places, work_at, longest_line, longest_lines}
 use Rattle.spmd_core.specs.Owners.{owner_of, owner_by}
 use Rattle.spmd_core.specs.Shown.{act_room, room_of, IsFresh, AreFresh, IsKept, left_of, position_of, load_count_at, state_of}
-use Rattle.spmd_core.specs.Turns.{Planned, planned, turns_of, turn_acts, part_acts, is_busy}
-use Rattle.nest_model.specs.Instances.{param_values}
+use Rattle.spmd_core.specs.Turns.{Planned, planned, turns_of, turn_acts}
 use Rattle.nest_tree.specs.Form.{form_value, dot}
 use Rattle.nest_tree.specs.Layout.{count_of, cell_count}
 use Rattle.spmd_core.specs.Machine.{first_state}
@@ -42,15 +41,13 @@ none_loads : (i : Instance) (cells : List ℕ) (last : Act) → sum_by act_room 
 none_loads i [] last = sum_by-cons act_room last [] ∙ add-zero (act_room last)
 none_loads i (c ∷ cells) last = sum_by-cons act_room (load i c) (map (load i) cells ++ last ∷ []) ∙ ap (λ n. 0 + n) (none_loads i cells last) ∙ zero-add (act_room last)
 
-last_room : (tree : Tree) (what : Statement) (place : ℕ) → act_room (last_act (record { statement = place + 1; what = what; loops = no_values tree }) (statement_store tree (no_values tree) what)) ≡ longest_line what
-last_room tree (do_loop n m1 m2 step body line) place = refl
-last_room tree (assign target e line) place = refl
-last_room tree (print items line) place = refl
-last_room tree (continue line) place = refl
+last_room : (tree : Tree) (what : Work) (place : ℕ) → act_room (last_act (record { statement = place + 1; what = what; loops = no_values tree }) (work_store tree (no_values tree) what)) ≡ longest_line what
+last_room tree (assign a) place = refl
+last_room tree (print p) place = refl
 
-own_room : (tree : Tree) (n : ℕ) → sum_by act_room (own_acts tree n) ≡ longest_line (statement_at tree.items n)
+own_room : (tree : Tree) (n : ℕ) → sum_by act_room (own_acts tree n) ≡ longest_line (work_at tree.items n)
 unfolding own_acts
-own_room tree n = none_loads (instance_at tree n) (loads_of tree (instance_at tree n)) (last_act (instance_at tree n) (store_of tree (instance_at tree n))) ∙ last_room tree (statement_at tree.items n) n
+own_room tree n = none_loads (instance_at tree n) (loads_of tree (instance_at tree n)) (last_act (instance_at tree n) (store_of tree (instance_at tree n))) ∙ last_room tree (work_at tree.items n) n
 
 await_room : (n : ℕ) (qs : List ℕ) → sum_by act_room (map (λ q. await q n) qs) ≡ 0
 await_room n [] = refl
@@ -65,7 +62,7 @@ work_room true acts = refl
 work_room false acts = refl
 
 -- a turn prints what its own statement prints
-turn_room : (tree : Tree) (t : Planned) → sum_by act_room (turn_acts (own_acts tree) t) ≡ cond t.works (longest_line (statement_at tree.items t.passed)) 0
+turn_room : (tree : Tree) (t : Planned) → sum_by act_room (turn_acts (own_acts tree) t) ≡ cond t.works (longest_line (work_at tree.items t.passed)) 0
 turn_room tree t =
     let awaits = map (λ q. await q t.passed) t.awaits in
     let own = if t.works then drop 0 (own_acts tree t.passed) else [] in
@@ -88,7 +85,7 @@ origin_owner tree workers loops a some origin placed =
     zero_dealt (Block b) h = zero-div b
     zero_dealt Cyclic h = omega (arith, some)
 
-pub print_owner : (tree : Tree) (plan : Plan) (n : ℕ) (d : Anchor) → Suits tree plan → n < works_of tree.items → is_print (statement_at tree.items n) ≡ true → owner_of tree plan (n + 1) (instance_at tree n) ≡ 0
+pub print_owner : (tree : Tree) (plan : Plan) (n : ℕ) (d : Anchor) → Suits tree plan → n < works_of tree.items → prints (work_at tree.items n) ≡ true → owner_of tree plan (n + 1) (instance_at tree n) ≡ 0
 print_owner tree plan n d fit lt pr =
     let less : n + 1 - 1 ≡ n = omega arith in
     let inside : n < length plan.anchors = omega (arith, fit.anchors) in
@@ -99,21 +96,19 @@ print_owner tree plan n d fit lt pr =
     ∙ origin_owner tree plan.workers (no_values tree) a fit.low (fit.origins n d inside pr) good.1
 
 -- an assignment prints nothing
-silent : (s : Statement) → is_print s ≡ false → longest_line s ≡ 0
-silent (do_loop n m1 m2 step body line) h = refl
-silent (assign target e line) h = refl
-silent (print items line) h = absurd (cc)
-silent (continue line) h = refl
+silent : (w : Work) → prints w ≡ false → longest_line w ≡ 0
+silent (assign a) h = refl
+silent (print p) h = absurd (cc)
 
 -- another processor than 0 prints nothing
 other_room : (tree : Tree) (plan : Plan) (p n : ℕ) → Suits tree plan → 1 ≤ p → n < works_of tree.items → sum_by act_room (turn_acts (own_acts tree) (planned tree plan p n)) ≤ 0
 other_room tree plan p n fit some lt =
     let inside : n < length plan.anchors = omega (arith, fit.anchors) in
     let owner = owner_of tree plan (n + 1) (instance_at tree n) in
-    let line = longest_line (statement_at tree.items n) in
-    let nothing : cond (owner == p) line 0 ≡ 0 = elim (cases_Bool (is_print (statement_at tree.items n))) [
+    let line = longest_line (work_at tree.items n) in
+    let nothing : cond (owner == p) line 0 ≡ 0 = elim (cases_Bool (prints (work_at tree.items n))) [
       | inl pr ↦ let other : owner ≡ p → ⊥ = λ (e : owner ≡ p). omega (arith, print_owner tree plan n (pick plan.anchors n inside) fit lt pr) in ap (λ b. cond b line 0) (ne_eqb owner p other)
-      | inr quiet ↦ ap (λ k. cond (owner == p) k 0) (silent (statement_at tree.items n) quiet) ∙ same_either (owner == p)
+      | inr quiet ↦ ap (λ k. cond (owner == p) k 0) (silent (work_at tree.items n) quiet) ∙ same_either (owner == p)
     ] in
     omega (arith, turn_room tree (planned tree plan p n), nothing)
   where
@@ -121,10 +116,10 @@ other_room tree plan p n fit some lt =
     same_either true = refl
     same_either false = refl
 
-any_room : (tree : Tree) (plan : Plan) (p n : ℕ) → sum_by act_room (turn_acts (own_acts tree) (planned tree plan p n)) ≤ longest_line (statement_at tree.items n)
+any_room : (tree : Tree) (plan : Plan) (p n : ℕ) → sum_by act_room (turn_acts (own_acts tree) (planned tree plan p n)) ≤ longest_line (work_at tree.items n)
 any_room tree plan p n =
     let turn = turn_room tree (planned tree plan p n) in
-    let most = at_most (owner_of tree plan (n + 1) (instance_at tree n) == p) (longest_line (statement_at tree.items n)) in
+    let most = at_most (owner_of tree plan (n + 1) (instance_at tree n) == p) (longest_line (work_at tree.items n)) in
     omega (arith, turn, most)
   where
     at_most : (b : Bool) (k : ℕ) → cond b k 0 ≤ k
@@ -150,20 +145,20 @@ zeros a (suc n) = sum_by-cons (λ (k : ℕ). 0) a (range_with_len (a + 1) n) ∙
 number : (n k : ℕ) → n + suc k ≡ n + 1 + k
 number n k = omega arith
 
-line_more : (tree : Tree) (n : ℕ) (s : Statement) (rest : Statements) → s ≡ statement_at tree.items (n + 0) → sum_by (λ k. longest_line (statement_at tree.items k)) (range_with_len (n + 1) (works_of rest)) ≡ longest_lines rest →
-    sum_by (λ k. longest_line (statement_at tree.items k)) (range_with_len n (1 + works_of rest)) ≡ longest_line s + longest_lines rest
+line_more : (tree : Tree) (n : ℕ) (s : Work) (rest : Statements) → s ≡ work_at tree.items (n + 0) → sum_by (λ k. longest_line (work_at tree.items k)) (range_with_len (n + 1) (works_of rest)) ≡ longest_lines rest →
+    sum_by (λ k. longest_line (work_at tree.items k)) (range_with_len n (1 + works_of rest)) ≡ longest_line s + longest_lines rest
 line_more tree n s rest is h =
-    let f = λ (k : ℕ). longest_line (statement_at tree.items k) in
+    let f = λ (k : ℕ). longest_line (work_at tree.items k) in
     let more : 1 + works_of rest ≡ suc (works_of rest) = omega arith in
     ap (λ k. sum_by f (range_with_len n k)) more ∙ sum_by-cons f n (range_with_len (n + 1) (works_of rest)) ∙ ap (λ k. f n + k) h
-    ∙ ap (λ (w : Statement). longest_line w + longest_lines rest) (ap (statement_at tree.items) (sym (add-zero n)) ∙ sym is)
+    ∙ ap (λ (w : Work). longest_line w + longest_lines rest) (ap (work_at tree.items) (sym (add-zero n)) ∙ sym is)
 
 -- the lines of all statements by their places
-lines_from : (tree : Tree) (n : ℕ) (ss : Statements) → are_works ss ≡ true → ((k : ℕ) → statement_at ss k ≡ statement_at tree.items (n + k)) → sum_by (λ k. longest_line (statement_at tree.items k)) (range_with_len n (works_of ss)) ≡ longest_lines ss
+lines_from : (tree : Tree) (n : ℕ) (ss : Statements) → are_works ss ≡ true → ((k : ℕ) → work_at ss k ≡ work_at tree.items (n + k)) → sum_by (λ k. longest_line (work_at tree.items k)) (range_with_len n (works_of ss)) ≡ longest_lines ss
 lines_from tree n done works same = refl
-lines_from tree n (next (do_loop m m1 m2 step body line) rest) works same = absurd (cc)
-lines_from tree n (next (assign target e line) rest) works same = line_more tree n (assign target e line) rest (same 0) (lines_from tree (n + 1) rest works (λ k. same (suc k) ∙ ap (statement_at tree.items) (number n k)))
-lines_from tree n (next (print items line) rest) works same = line_more tree n (print items line) rest (same 0) (lines_from tree (n + 1) rest works (λ k. same (suc k) ∙ ap (statement_at tree.items) (number n k)))
+lines_from tree n (next (do_loop head body) rest) works same = absurd (cc)
+lines_from tree n (next (work w) rest) works same =
+    line_more tree n w rest (same 0) (lines_from tree (n + 1) rest (and_parts (is_plain_work w) (are_works rest) works).1 (λ k. same (suc k) ∙ ap (work_at tree.items) (number n k)))
 lines_from tree n (next (continue line) rest) works same = absurd (cc)
 
 -- what a fresh processor has left is all of its turns
@@ -175,12 +170,12 @@ fresh_room tree plan size p x f =
 pub fresh_rooms : (tree : Tree) (plan : Plan) (size : ℕ) (ps : List Processor) → Suits tree plan → AreFresh tree plan size ps → sum_by (room_of tree) ps ≤ longest_lines tree.items
 fresh_rooms tree plan size [] fit fresh = omega arith
 fresh_rooms tree plan size (x ∷ ps) fit fresh =
-    let line = λ (k : ℕ). longest_line (statement_at tree.items k) in
+    let line = λ (k : ℕ). longest_line (work_at tree.items k) in
     let first : room_of tree x ≤ longest_lines tree.items = omega (
       arith,
       fresh_room tree plan size 0 x (fresh 0 x (omega arith)),
       rooms_below (own_acts tree) (planned tree plan 0) line 0 (works_of tree.items) (λ k low high. any_room tree plan 0 k),
-      lines_from tree 0 tree.items fit.works (λ k. ap (statement_at tree.items) (sym (zero-add k))),
+      lines_from tree 0 tree.items fit.works (λ k. ap (work_at tree.items) (sym (zero-add k))),
     ) in
     let others : All (λ y. room_of tree y ≤ 0) ps = All-from_get_or (λ y. room_of tree y ≤ 0) ps x (λ i lt.
     omega (

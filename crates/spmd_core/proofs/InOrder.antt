@@ -1,30 +1,30 @@
 -- Where processor 0 owns every statement, memory and output are what its own acts make of them.
-use Rattle.std.proofs.Common.{◌≡◌, ◌≢◌, ℕ, zero, suc, ◌+◌, ◌-◌, ◌<◌, ◌≤◌, ℤ, pos, Bool, true, false, ◌&&◌, ◌==◌, cond, if◌then◌else◌, List, [], ◌∷◌, ◌++◌, length, take, map, drop, set, get_or, replicate, fold, Option, Some, None, refl, sym, ◌∙◌, ap, subst, inl, inr, append_assoc, append-nil, length-append, length-set, zero-add, add-zero, arith}
+use Rattle.std.proofs.Common.{◌≡◌, ◌≢◌, ℕ, zero, suc, ◌+◌, ◌-◌, ◌<◌, ◌≤◌, ℤ, Bool, true, false, ◌==◌, cond, if◌then◌else◌, List, [], ◌∷◌, ◌++◌, length, take, map, drop, set, get_or, replicate, fold, Option, Some, None, refl, sym, ◌∙◌, ap, subst, append_assoc, append-nil, length-set, zero-add, add-zero, arith}
 use Rattle.std.specs.Prelude.{slice_index, slice_index_or, slice_get, All}
-use Rattle.std.specs.List.{flat_map, list_all, range_with_len}
-use Rattle.std.proofs.lemmas.Bool.{cases_eq, ne_eqb, and_parts}
+use Rattle.std.specs.List.{flat_map, range_with_len}
+use Rattle.std.proofs.lemmas.Bool.{ne_eqb, and_parts}
 use Rattle.std.proofs.lemmas.List.Elements.{All-nil, All-cons, All-append, All-get_or, All-head, All-tail}
 use Rattle.std.proofs.lemmas.Option.{slice_get-get_or}
 use Rattle.std.proofs.lemmas.List.{take_more, take_all, get_or-set_same, get_or-set_other, get_or-replicate, length-replicate}
 use Rattle.std.proofs.lemmas.List.Sums.{fold-append, fold_push}
-use Rattle.nest_tree.specs.Straight.{are_works}
-use Rattle.nest_tree.specs.Tree.{Tree, Statement, Statements, do_loop, assign, print, continue, done, next}
-use Rattle.nest_model.specs.Accesses.{loads_of, store_of, statement_store}
-use Rattle.nest_model.specs.Instances.{Instance, works_of, no_values, param_values, instances, instances_in}
+use Rattle.nest_tree.specs.Straight.{are_works, is_plain_work}
+use Rattle.nest_tree.specs.Tree.{Tree, Work, assign, print, Statements, do_loop, work, continue, done, next, param_values}
+use Rattle.nest_model.specs.Accesses.{loads_of, store_of, work_store}
+use Rattle.nest_model.specs.Instances.{Instance, works_of, no_values, instances, instances_in}
 use Rattle.nest_model.specs.Memory.{cell_value, assigned_value, line_of, first_memory, memory_after, last_memory, output_from, output_of, loaded_in, with_store}
 use Rattle.spmd_core.specs.declared.plan.Plan.{Plan}
 use Rattle.spmd_core.specs.Acts as act
 use Rattle.spmd_core.specs.Acts.{Act, acts_of, last_act, instance_acts}
 use Rattle.spmd_core.specs.Fit.{is_origin, is_constant, has_places, is_good_anchor}
 use Rattle.spmd_core.specs.Machine.{State, first_state, next_act, is_possible, moved, acted, stepped, stepped_by, run_of, IsEnded}
-use Rattle.spmd_core.specs.Numbered.{own_acts, places, phase_at, instance_at, statement_at}
+use Rattle.spmd_core.specs.Numbered.{own_acts, places, instance_at, work_at}
 use Rattle.spmd_core.specs.Owners.{owner_of, owner_by}
 use Rattle.spmd_core.specs.Progress.{IsLawful, IsInOrder, IsReached, Alone, alone, done_alone, has_one_owner}
 use Rattle.spmd_core.specs.Turns.{Planned, planned, turn_acts, part_acts}
 use Rattle.spmd_core.proofs.FreshRoom.{origin_owner}
 use Rattle.spmd_core.proofs.PlannedTurns.{pick}
-use Rattle.spmd_core.proofs.Lawful.{Next, next_inside, lawful_first, lawful_stepped}
-use Rattle.spmd_core.proofs.StatementPlaces.{no_values-straight}
+use Rattle.spmd_core.proofs.Lawful.{next_inside, lawful_first, lawful_stepped}
+use Rattle.spmd_core.proofs.StatementPlaces.{one_instance}
 use Rattle.spmd_core.proofs.Suits.{Suits, passes_at}
 use Rattle.spmd_core.proofs.Unstuck.{acts_phases}
 
@@ -186,14 +186,13 @@ loads_alone tree i registers memory output (c ∷ cells) =
     ∙ ap (λ (r : List ℤ). let x : Alone = record { registers = r; memory = memory; output = output } in x) (append_assoc registers (cell_value memory c ∷ []) (map (cell_value memory) cells))
 
 -- what an instance does alone
-last_alone : (tree : Tree) (n : ℕ) (loops : List ℤ) (what : Statement) (registers memory : List ℤ) (output : List ℕ) →
+last_alone : (tree : Tree) (n : ℕ) (loops : List ℤ) (what : Work) (registers memory : List ℤ) (output : List ℕ) →
     (let i : Instance = record { statement = n; what = what; loops = loops } in
-    alone tree (record { registers = registers; memory = memory; output = output }) (last_act i (statement_store tree loops what))
-    ≡ record { registers = []; memory = with_store memory (statement_store tree loops what) (assigned_value tree i registers); output = output ++ line_of tree i registers })
-last_alone tree n loops (do_loop m m1 m2 step body line) registers memory output = refl
-last_alone tree n loops (assign target e line) registers memory output = ap (λ (o : List ℕ). let x : Alone = record { registers = []; memory = with_store memory (statement_store tree loops (assign target e line)) (assigned_value tree (record { statement = n; what = assign target e line; loops = loops }) registers); output = o } in x) (sym (append-nil output))
-last_alone tree n loops (print items line) registers memory output = refl
-last_alone tree n loops (continue line) registers memory output = refl
+    alone tree (record { registers = registers; memory = memory; output = output }) (last_act i (work_store tree loops what))
+    ≡ record { registers = []; memory = with_store memory (work_store tree loops what) (assigned_value tree i registers); output = output ++ line_of tree i registers })
+last_alone tree n loops (assign a) registers memory output =
+    ap (λ (o : List ℕ). let x : Alone = record { registers = []; memory = with_store memory (work_store tree loops (assign a)) (assigned_value tree (record { statement = n; what = assign a; loops = loops }) registers); output = o } in x) (sym (append-nil output))
+last_alone tree n loops (print p) registers memory output = refl
 
 own_alone : (tree : Tree) (n : ℕ) (memory : List ℤ) (output : List ℕ) →
     fold (alone tree) (record { registers = []; memory = memory; output = output }) (own_acts tree n)
@@ -203,7 +202,7 @@ own_alone tree n memory output =
     let i = instance_at tree n in
     fold-append (alone tree) (record { registers = []; memory = memory; output = output }) (map (act.load i) (loads_of tree i)) (last_act i (store_of tree i) ∷ [])
     ∙ ap (λ (a : Alone). alone tree a (last_act i (store_of tree i))) (loads_alone tree i [] memory output (loads_of tree i))
-    ∙ last_alone tree (n + 1) (no_values tree) (statement_at tree.items n) (map (cell_value memory) (loads_of tree i)) memory output
+    ∙ last_alone tree (n + 1) (no_values tree) (work_at tree.items n) (map (cell_value memory) (loads_of tree i)) memory output
 
 awaits_alone : (tree : Tree) (a : Alone) (n : ℕ) (qs : List ℕ) (rest : List Act) → fold (alone tree) a (map (λ q. act.await q n) qs ++ rest) ≡ fold (alone tree) a rest
 awaits_alone tree a n [] rest = refl
@@ -239,25 +238,27 @@ phases_alone tree plan a (suc n) memory output fit one le =
 number : (n k : ℕ) → n + suc k ≡ n + 1 + k
 number n k = omega arith
 
-instance_more : (tree : Tree) (n : ℕ) (w : Statement) (rest : Statements) → w ≡ statement_at tree.items (n + 0) →
+instance_more : (tree : Tree) (n : ℕ) (w : Work) (rest : Statements) → w ≡ work_at tree.items (n + 0) →
     instances_in (param_values tree) rest (n + 1 + 1) (no_values tree) ≡ map (instance_at tree) (range_with_len (n + 1) (works_of rest)) →
     (let i : Instance = record { statement = n + 1; what = w; loops = no_values tree } in i ∷ instances_in (param_values tree) rest (n + 1 + 1) (no_values tree)) ≡ map (instance_at tree) (range_with_len n (1 + works_of rest))
 instance_more tree n w rest is h =
     let more : 1 + works_of rest ≡ suc (works_of rest) = omega arith in
-    ap (λ (x : Statement). (let i : Instance = record { statement = n + 1; what = x; loops = no_values tree } in i ∷ instances_in (param_values tree) rest (n + 1 + 1) (no_values tree))) (is ∙ ap (statement_at tree.items) (add-zero n))
+    ap (λ (x : Work). (let i : Instance = record { statement = n + 1; what = x; loops = no_values tree } in i ∷ instances_in (param_values tree) rest (n + 1 + 1) (no_values tree))) (is ∙ ap (work_at tree.items) (add-zero n))
     ∙ ap (λ is. instance_at tree n ∷ is) h ∙ ap (λ k. map (instance_at tree) (range_with_len n k)) (sym more)
 
 -- the instances of a straight-line program by their places
-instances_from : (tree : Tree) (n : ℕ) (ss : Statements) → are_works ss ≡ true → ((k : ℕ) → statement_at ss k ≡ statement_at tree.items (n + k)) →
+instances_from : (tree : Tree) (n : ℕ) (ss : Statements) → are_works ss ≡ true → ((k : ℕ) → work_at ss k ≡ work_at tree.items (n + k)) →
     instances_in (param_values tree) ss (n + 1) (no_values tree) ≡ map (instance_at tree) (range_with_len n (works_of ss))
 instances_from tree n done works same = refl
-instances_from tree n (next (do_loop m m1 m2 step body line) rest) works same = absurd (cc)
-instances_from tree n (next (assign target e line) rest) works same = instance_more tree n (assign target e line) rest (same 0) (instances_from tree (n + 1) rest works (λ k. same (suc k) ∙ ap (statement_at tree.items) (number n k)))
-instances_from tree n (next (print items line) rest) works same = instance_more tree n (print items line) rest (same 0) (instances_from tree (n + 1) rest works (λ k. same (suc k) ∙ ap (statement_at tree.items) (number n k)))
+instances_from tree n (next (do_loop head body) rest) works same = absurd (cc)
+instances_from tree n (next (work w) rest) works same =
+    let plain = and_parts (is_plain_work w) (are_works rest) works in
+    ap (λ is. is ++ instances_in (param_values tree) rest (n + 1 + 1) (no_values tree)) (one_instance w (n + 1) (no_values tree) (param_values tree) plain.0)
+    ∙ instance_more tree n w rest (same 0) (instances_from tree (n + 1) rest plain.1 (λ k. same (suc k) ∙ ap (work_at tree.items) (number n k)))
 instances_from tree n (next (continue line) rest) works same = absurd (cc)
 
 pub instances-straight : (tree : Tree) → are_works tree.items ≡ true → instances tree ≡ map (instance_at tree) (places tree)
-instances-straight tree works = instances_from tree 0 tree.items works (λ k. ap (statement_at tree.items) (sym (zero-add k)))
+instances-straight tree works = instances_from tree 0 tree.items works (λ k. ap (work_at tree.items) (sym (zero-add k)))
 
 -- an ended state has the last memory and the whole output
 pub record IsSequential (tree : Tree) (s : State) : Type 0 where

@@ -1,16 +1,15 @@
 -- What the processors of a machine keep, step by step.
-use Rattle.std.proofs.Common.{◌≡◌, ℕ, suc, ◌+◌, ◌-◌, ◌<◌, ◌≤◌, ℤ, Bool, true, false, List, [], ◌∷◌, ◌++◌, length, map, set, get_or, drop, vec_capacity, refl, sym, ◌∙◌, ap, subst, length-set, arith}
+use Rattle.std.proofs.Common.{◌≡◌, ℕ, ◌-◌, ◌<◌, ◌≤◌, true, ◌∷◌, length, vec_capacity, sym, ◌∙◌, ap, subst, arith}
 use Rattle.std.specs.List.{list_all}
 use Rattle.nest_tree.specs.Tree.{Tree}
-use Rattle.spmd_core.specs.declared.cursor.Cursor.{Cursor}
-use Rattle.spmd_core.specs.declared.cursor.Stage.TheVariants.{Post, Await, Work, End}
+use Rattle.spmd_core.specs.declared.cursor.Stage.TheVariants.{Post, Await}
 use Rattle.spmd_core.specs.declared.plan.Plan.{Plan}
 use Rattle.spmd_core.specs.declared.processor.Processor.{Processor}
-use Rattle.spmd_core.specs.Acts.{Act, post, await}
-use Rattle.spmd_core.specs.Cursors.{planned_of, planned_turns, rest_of, cursor_left, IsBegunAt, IsAtStage, IsAtTurn}
+use Rattle.spmd_core.specs.Acts.{Act, await}
+use Rattle.spmd_core.specs.Cursors.{planned_turns, rest_of, cursor_left, IsBegunAt, IsAtStage}
 use Rattle.spmd_core.specs.Numbered.{own_acts}
-use Rattle.spmd_core.specs.Shown.{IsKept, left_of, load_count_at}
-use Rattle.spmd_core.specs.Turns.{Planned, is_busy, acts_left}
+use Rattle.spmd_core.specs.Shown.{IsKept, left_of}
+use Rattle.spmd_core.specs.Turns.{is_busy, acts_left}
 use Rattle.spmd_core.specs.Words.{members}
 use Rattle.spmd_core.proofs.PlannedTurns.{turn_planned, awaited_below}
 use Rattle.spmd_core.proofs.Steps.{Passes}

@@ -1,5 +1,5 @@
 -- The items of a PRINT, one after another.
-use Rattle.std.proofs.Common.{◌≡◌, ℕ, ◌+◌, ◌<◌, ℤ, true, List, [], ◌∷◌, ◌++◌, length, drop, map, get_or, refl, sym, ◌∙◌, ap, append_assoc, arith}
+use Rattle.std.proofs.Common.{◌≡◌, ℕ, ◌+◌, ◌<◌, ℤ, true, List, ◌∷◌, ◌++◌, length, drop, map, get_or, sym, ◌∙◌, ap, append_assoc}
 use Rattle.std.specs.List.{list_all}
 use Rattle.std.proofs.lemmas.Bool.{and_parts}
 use Rattle.spmd_core.specs.PlainLines.{is_plain, item_load_count, plain_item, plain_items}

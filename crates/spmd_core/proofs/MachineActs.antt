@@ -1,20 +1,18 @@
 -- The acts of a straight-line program, phase by phase.
-use Rattle.std.proofs.Common.{◌≡◌, ℕ, zero, suc, ◌+◌, ◌-◌, ◌<◌, ℤ, Bool, true, false, ◌||◌, ◌&&◌, ◌==◌, not, cond, if◌then◌else◌, List, [], ◌∷◌, ◌++◌, length, map, drop, refl, sym, ◌∙◌, ap, append_assoc, add-zero, zero-add, arith}
-use Rattle.std.proofs.lemmas.Bool.{or_parts, eqb-true, not-false}
+use Rattle.std.proofs.Common.{◌≡◌, ℕ, suc, ◌+◌, ◌-◌, ℤ, Bool, true, false, ◌||◌, ◌==◌, not, cond, if◌then◌else◌, List, [], ◌∷◌, ◌++◌, length, map, refl, sym, ◌∙◌, ap, append_assoc, add-zero, zero-add, arith}
+use Rattle.std.proofs.lemmas.Bool.{and_parts, or_parts, eqb-true, not-false}
 use Rattle.std.proofs.lemmas.List.{nil_from_length}
 use Rattle.std.specs.List.{flat_map, filter, range_with_len}
-use Rattle.nest_tree.specs.Straight.{are_works}
-use Rattle.nest_tree.specs.Tree.{Tree, Statement, Statements, do_loop, assign, print, continue, done, next}
-use Rattle.nest_model.specs.Instances.{works_of, no_values, param_values, Instance}
-use Rattle.spmd_core.specs.declared.plan.Mark.{Mark}
+use Rattle.nest_tree.specs.Straight.{are_works, is_plain_work}
+use Rattle.nest_tree.specs.Tree.{Tree, Work, Statements, do_loop, work, continue, done, next, param_values}
+use Rattle.nest_model.specs.Instances.{works_of, no_values}
 use Rattle.spmd_core.specs.declared.plan.Plan.{Plan}
 use Rattle.spmd_core.specs.Acts.{Act, post, await, instance_acts, acts_along, acts_of, boundary_acts}
-use Rattle.spmd_core.specs.Numbered.{statement_at, instance_at, own_acts, phase_at, places}
+use Rattle.spmd_core.specs.Numbered.{work_at, instance_at, own_acts, phase_at, places}
 use Rattle.spmd_core.specs.Owners.{owner_of}
-use Rattle.spmd_core.specs.Timeline.{Event, timeline_in, begins, executes}
+use Rattle.spmd_core.specs.Timeline.{one_phase, timeline_in}
 use Rattle.spmd_core.specs.Turns.{Planned, planned, is_busy, turn_acts, turns_of, part_acts}
-use Rattle.spmd_core.specs.Waits.{posts_at, waits_for}
-use Rattle.spmd_core.proofs.StatementPlaces.{no_values-straight}
+use Rattle.spmd_core.proofs.StatementPlaces.{no_values-straight, one_instance}
 
 -- turns without an act are left out
 idle_part : (own : ℕ → List Act) (passed : ℕ) (posts : Bool) (awaits : List ℕ) (works : Bool) → (posts || not (length awaits == 0) || works) ≡ false → part_acts own passed posts awaits works 0 ≡ []
@@ -49,33 +47,29 @@ turn_is tree plan p n rest =
     regroup a b c d = append_assoc a (b ++ c) d ∙ ap (λ x. a ++ x) (append_assoc b c d) ∙ sym (append_assoc a b (c ++ d))
 
 -- a phase with its one instance
-first_turn : (tree : Tree) (plan : Plan) (p n : ℕ) (s : Statement) (rest : List Act) → no_values tree ≡ [] → s ≡ statement_at tree.items n →
+first_turn : (tree : Tree) (plan : Plan) (p n : ℕ) (s : Work) (rest : List Act) → no_values tree ≡ [] → s ≡ work_at tree.items n →
     boundary_acts tree plan p (n + 1) (record { place = n + 1; outer = no_values tree })
     ++ ((if owner_of tree plan (n + 1) (record { statement = n + 1; what = s; loops = no_values tree }) == p then instance_acts tree (record { statement = n + 1; what = s; loops = no_values tree }) else []) ++ rest)
     ≡ turn_acts (own_acts tree) (planned tree plan p n) ++ rest
 first_turn tree plan p n s rest none is =
-    let own = λ (w : Statement). (if owner_of tree plan (n + 1) (record { statement = n + 1; what = w; loops = no_values tree }) == p then instance_acts tree (record { statement = n + 1; what = w; loops = no_values tree }) else []) in
+    let own = λ (w : Work). (if owner_of tree plan (n + 1) (record { statement = n + 1; what = w; loops = no_values tree }) == p then instance_acts tree (record { statement = n + 1; what = w; loops = no_values tree }) else []) in
     ap (λ (outer : List ℤ). boundary_acts tree plan p (n + 1) (record { place = n + 1; outer = outer }) ++ (own s ++ rest)) none
     ∙ ap (λ w. boundary_acts tree plan p (n + 1) (phase_at n) ++ (own w ++ rest)) is
     ∙ sym (turn_is tree plan p n rest)
 
 -- from phase n on, where these statements are left
-acts_from : (tree : Tree) (plan : Plan) (p n : ℕ) (ss : Statements) → no_values tree ≡ [] → are_works ss ≡ true → ((k : ℕ) → statement_at ss k ≡ statement_at tree.items (n + k)) →
+acts_from : (tree : Tree) (plan : Plan) (p n : ℕ) (ss : Statements) → no_values tree ≡ [] → are_works ss ≡ true → ((k : ℕ) → work_at ss k ≡ work_at tree.items (n + k)) →
     acts_along tree plan p n n (timeline_in (param_values tree) plan.cut.marks ss (n + 1) (n + 1) (no_values tree))
     ≡ flat_map (turn_acts (own_acts tree)) (map (planned tree plan p) (range_with_len n (works_of ss)))
 acts_from tree plan p n done none works same = refl
-acts_from tree plan p n (next (do_loop m m1 m2 step body line) rest) none works same = absurd (cc)
-acts_from tree plan p n (next (assign target e line) rest) none works same =
+acts_from tree plan p n (next (do_loop head body) rest) none works same = absurd (cc)
+acts_from tree plan p n (next (work w) rest) none works same =
+    let plain = and_parts (is_plain_work w) (are_works rest) works in
     let more : suc (works_of rest) ≡ 1 + works_of rest = omega arith in
     let number : (k : ℕ) → n + suc k ≡ n + 1 + k = λ k. omega arith in
-    first_turn tree plan p n (assign target e line) _ none (same 0 ∙ ap (statement_at tree.items) (add-zero n))
-    ∙ ap (λ acts. turn_acts (own_acts tree) (planned tree plan p n) ++ acts) (acts_from tree plan p (n + 1) rest none works (λ k. same (suc k) ∙ ap (statement_at tree.items) (number k)))
-    ∙ ap (λ k. flat_map (turn_acts (own_acts tree)) (map (planned tree plan p) (range_with_len n k))) more
-acts_from tree plan p n (next (print items line) rest) none works same =
-    let more : suc (works_of rest) ≡ 1 + works_of rest = omega arith in
-    let number : (k : ℕ) → n + suc k ≡ n + 1 + k = λ k. omega arith in
-    first_turn tree plan p n (print items line) _ none (same 0 ∙ ap (statement_at tree.items) (add-zero n))
-    ∙ ap (λ acts. turn_acts (own_acts tree) (planned tree plan p n) ++ acts) (acts_from tree plan p (n + 1) rest none works (λ k. same (suc k) ∙ ap (statement_at tree.items) (number k)))
+    ap (λ is. acts_along tree plan p n n (one_phase (n + 1) (no_values tree) is ++ timeline_in (param_values tree) plan.cut.marks rest (n + 1 + 1) (n + 1 + 1) (no_values tree))) (one_instance w (n + 1) (no_values tree) (param_values tree) plain.0)
+    ∙ first_turn tree plan p n w _ none (same 0 ∙ ap (work_at tree.items) (add-zero n))
+    ∙ ap (λ acts. turn_acts (own_acts tree) (planned tree plan p n) ++ acts) (acts_from tree plan p (n + 1) rest none plain.1 (λ k. same (suc k) ∙ ap (work_at tree.items) (number k)))
     ∙ ap (λ k. flat_map (turn_acts (own_acts tree)) (map (planned tree plan p) (range_with_len n k))) more
 acts_from tree plan p n (next (continue line) rest) none works same = absurd (cc)
 
@@ -84,4 +78,4 @@ pub turns_acts : (tree : Tree) (plan : Plan) (p : ℕ) → are_works tree.items 
 unfolding turns_of
 turns_acts tree plan p works =
     busy_acts (own_acts tree) (map (planned tree plan p) (places tree))
-    ∙ sym (acts_from tree plan p 0 tree.items (no_values-straight tree works) works (λ k. ap (statement_at tree.items) (sym (zero-add k))))
+    ∙ sym (acts_from tree plan p 0 tree.items (no_values-straight tree works) works (λ k. ap (work_at tree.items) (sym (zero-add k))))

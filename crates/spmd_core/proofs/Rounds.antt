@@ -1,8 +1,8 @@
 -- A round of steps: it comes nearer to the end, or no step in it was possible.
-use Rattle.std.proofs.Common.{◌≡◌, ◌≢◌, ℕ, zero, suc, ◌+◌, ◌-◌, ◌<◌, ◌≤◌, Bool, true, false, nat_le, cond, List, [], ◌∷◌, ◌++◌, length, take, map, set, get_or, fold, Option, Some, None, refl, sym, ◌∙◌, ap, subst, inl, inr, zero-add, append-nil, below_more, arith}
-use Rattle.std.specs.Prelude.{slice_index, sum_by, All}
+use Rattle.std.proofs.Common.{◌≡◌, ◌≢◌, ℕ, zero, suc, ◌+◌, ◌-◌, ◌<◌, ◌≤◌, Bool, true, false, nat_le, cond, [], ◌∷◌, ◌++◌, length, set, fold, Option, Some, None, refl, sym, ◌∙◌, ap, subst, inl, inr, zero-add, append-nil, below_more, arith}
+use Rattle.std.specs.Prelude.{slice_index, sum_by}
 use Rattle.std.specs.List.{range_with_len, flat_map}
-use Rattle.std.proofs.lemmas.Bool.{cases_eq, cases_Bool}
+use Rattle.std.proofs.lemmas.Bool.{cases_eq}
 use Rattle.std.proofs.lemmas.List.{get_or-set_same, get_or-set_other}
 use Rattle.std.proofs.lemmas.List.Sums.{sum_by-cons, fold_push, fold-append}
 use Rattle.std.proofs.lemmas.List.Concat.{flat_map-append}
@@ -11,7 +11,7 @@ use Rattle.spmd_core.specs.declared.answer.StepAnswer.{StepAnswer}
 use Rattle.spmd_core.specs.declared.answer.StepAnswer.TheVariants.{Stepped, Blocked, Ended}
 use Rattle.spmd_core.specs.declared.plan.Plan.{Plan}
 use Rattle.spmd_core.specs.Acts.{Act, post, await, load, store, print, acts_of}
-use Rattle.spmd_core.specs.Machine.{State, next_act, is_possible, moved, acted, stepped, stepped_by, IsEnded}
+use Rattle.spmd_core.specs.Machine.{State, next_act, moved, acted, stepped, stepped_by, IsEnded}
 use Rattle.spmd_core.specs.Progress.{IsLawful, acts_to_go, can_do, can_step, rounds}
 use Rattle.spmd_core.specs.Shows.{answer_at, step_answer}
 use Rattle.spmd_core.specs.Waits.{processors}

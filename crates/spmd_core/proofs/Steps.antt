@@ -1,5 +1,5 @@
 -- Steps of the machine's definition over a machine's parts.
-use Rattle.std.proofs.Common.{◌≡◌, ℕ, ◌+◌, ◌-◌, ◌<◌, ◌≤◌, ℤ, Bool, true, false, nat_le, cond, List, [], ◌∷◌, ◌++◌, length, map, set, get_or, Option, Some, None, refl, sym, ◌∙◌, ap, subst, length-append, arith}
+use Rattle.std.proofs.Common.{◌≡◌, ℕ, ◌+◌, ◌-◌, ◌<◌, ◌≤◌, ℤ, true, false, nat_le, cond, List, [], ◌∷◌, ◌++◌, length, map, set, get_or, Some, refl, sym, ◌∙◌, ap, arith}
 use Rattle.std.specs.Prelude.{slice_get, slice_index, sum_by}
 use Rattle.std.specs.List.{flat_map}
 use Rattle.std.proofs.lemmas.List.{get_or-map, map-set, set-get_or}
@@ -8,20 +8,19 @@ use Rattle.nest_tree.specs.Straight.{are_works}
 use Rattle.nest_tree.specs.Tree.{Tree}
 use Rattle.nest_model.specs.Instances.{Instance}
 use Rattle.nest_model.specs.Memory.{cell_value, assigned_value, line_of}
-use Rattle.spmd_core.specs.declared.answer.StepAnswer.{StepAnswer}
-use Rattle.spmd_core.specs.declared.answer.StepAnswer.TheVariants.{Stepped, Blocked, Ended}
+use Rattle.spmd_core.specs.declared.answer.StepAnswer.TheVariants.{Stepped, Blocked}
 use Rattle.spmd_core.specs.declared.plan.Plan.{Plan}
 use Rattle.spmd_core.specs.declared.processor.Processor.{Processor}
 use Rattle.spmd_core.specs.Acts.{Act, post, await, load, store, print, acts_of}
-use Rattle.spmd_core.specs.Cursors.{planned_turns, rest_of, cursor_left, IsBegunAt}
+use Rattle.spmd_core.specs.Cursors.{planned_turns, rest_of}
 use Rattle.spmd_core.specs.Machine.{State, next_act, is_possible, moved, acted, stepped, stepped_by}
 use Rattle.spmd_core.specs.Numbered.{own_acts}
-use Rattle.spmd_core.specs.Shown.{left_of, position_of, state_of, IsKept, act_room, room_of, load_count_at}
+use Rattle.spmd_core.specs.Shown.{left_of, position_of, state_of, IsKept, act_room, room_of}
 use Rattle.spmd_core.specs.Shows.{answer_at, step_answer}
-use Rattle.spmd_core.specs.Turns.{Planned, turn_acts, acts_left, turns_of}
+use Rattle.spmd_core.specs.Turns.{turn_acts}
 use Rattle.spmd_core.specs.Words.{members}
 use Rattle.spmd_core.proofs.MachineActs.{turns_acts}
-use Rattle.spmd_core.proofs.Suffixes.{Suffix, left_suffix, slice_get-left, head, head-cons, head-nil, place_more, suffix_rest}
+use Rattle.spmd_core.proofs.Suffixes.{Suffix, left_suffix, slice_get-left, head, head-cons, place_more}
 
 -- all acts of a processor
 abbrev all_acts : Tree → Processor → List Act

@@ -1,28 +1,29 @@
 -- What a suited program and plan have.
-use Rattle.std.proofs.Common.{◌≡◌, ℕ, zero, suc, ◌+◌, ◌-◌, ◌<◌, ◌≤◌, Bool, true, false, ◌&&◌, ◌||◌, ◌==◌, not, nat_le, nat_lt, cond, if◌then◌else◌, List, [], ◌∷◌, length, get_or, Option, Some, None, is_none, refl, sym, ◌∙◌, ap, subst, arith}
+use Rattle.std.proofs.Common.{◌≡◌, ℕ, zero, suc, ◌+◌, ◌<◌, ◌≤◌, Bool, true, false, ◌&&◌, ◌==◌, not, nat_le, nat_lt, if◌then◌else◌, List, [], ◌∷◌, length, get_or, Option, Some, None, is_none, refl, ◌∙◌, ap, arith}
 use Rattle.std.specs.List.{list_all}
-use Rattle.std.proofs.lemmas.Bool.{and_parts, not-false, not-true, leb-true, eqb-true, ltb-true}
-use Rattle.nest_tree.specs.Straight.{are_works, is_scalar, is_straight}
-use Rattle.nest_tree.specs.Tree.{Tree, Statement, Statements, do_loop, assign, print, continue, done, next}
-use Rattle.nest_tree.specs.WellFormed.{is_well_formed, is_good_declaration, are_good_statements, is_good_statement, statement_count, loops_of}
-use Rattle.nest_model.specs.Instances.{works_of, no_values}
-use Rattle.spmd_core.specs.Fit.{wrong_form, wrong_field, wrong_field_for, shape_refusal, or_else, misplaced, misplaced_print, first_misfit, unplaced_anchor, unplaced_kind, is_placed, is_placed_kind, kind_value, is_good_anchor, is_good_kind, is_print, is_origin}
-use Rattle.spmd_core.specs.Numbered.{statement_at}
+use Rattle.std.proofs.lemmas.Bool.{and_parts, not-false, leb-true, eqb-true, ltb-true}
+use Rattle.nest_tree.specs.Straight.{are_works, is_plain_work, is_scalar, is_straight}
+use Rattle.nest_tree.specs.Tree.{Tree, Statements, do_loop, work, continue, done, next}
+use Rattle.nest_tree.specs.WellFormed.{scope_of, is_well_formed, is_good_constant, is_good_declaration, are_good_statements, statement_count}
+use Rattle.nest_model.specs.Instances.{works_of}
+use Rattle.spmd_core.specs.Fit.{wrong_field, wrong_field_for, shape_refusal, misplaced, misplaced_print, first_misfit, unplaced_anchor, unplaced_kind, is_placed, is_placed_kind, kind_value, is_good_anchor, is_good_kind, prints, is_origin}
+use Rattle.spmd_core.specs.Numbered.{work_at}
 use Rattle.spmd_core.specs.Suited.{is_suited}
-use Rattle.spmd_core.proofs.Fits.{works_of-straight, statement_count-straight}
+use Rattle.spmd_core.proofs.Fits.{works_of-straight, statement_count-straight, few_in_formed}
 use Rattle.spmd_core.specs.declared.refusal.PlanRefusal.{PlanRefusal}
 use Rattle.spmd_core.specs.declared.refusal.PlanRefusal.TheVariants.{Placement, PrintPlace}
 use Rattle.spmd_core.specs.declared.plan.Anchor.{Anchor}
 use Rattle.spmd_core.specs.declared.plan.Kind.{Kind}
 use Rattle.spmd_core.specs.declared.plan.Plan.{Plan}
+use Rattle.std.specs.Option.{option_or}
 
 pub none_if : {X : Type 0} (b : Bool) (x : X) (rest : Option X) → is_none (if b then Some x else rest) ≡ true → (b ≡ false) × (is_none rest ≡ true)
 none_if true x rest h = absurd (cc)
 none_if false x rest h = (refl, h)
 
-pub none_else : (a b : Option PlanRefusal) → is_none (or_else a b) ≡ true → (is_none a ≡ true) × (is_none b ≡ true)
-none_else None b h = (refl, h)
-none_else (Some r) b h = absurd (cc)
+pub none_either : (a b : Option PlanRefusal) → is_none (option_or a b) ≡ true → (is_none a ≡ true) × (is_none b ≡ true)
+none_either None b h = (refl, h)
+none_either (Some r) b h = absurd (cc)
 
 none_shape : (f : Option ℕ) → is_none (shape_refusal f) ≡ true → is_none f ≡ true
 none_shape None h = refl
@@ -46,18 +47,22 @@ placed_kind_at workers phase (k ∷ ks) h zero d lt =
 placed_kind_at workers phase (k ∷ ks) h (suc n) d lt =
     placed_kind_at workers (phase + 1) ks (none_unless (is_placed_kind workers k) (Placement phase (kind_value k) (kind_value k)) (unplaced_kind workers (phase + 1) ks) h).1 n d (omega arith)
 
-print_at : (phase : ℕ) (ss : Statements) (anchors : List Anchor) → is_none (misplaced_print phase ss anchors) ≡ true → (n : ℕ) (d : Anchor) → n < length anchors → is_print (statement_at ss n) ≡ true → is_origin (get_or anchors n d) ≡ true
-print_at phase done anchors h n d lt p = absurd (cc)
-print_at phase (next s rest) [] h n d lt p = absurd (omega arith)
-print_at phase (next s rest) (a ∷ anchors) h zero d lt p =
-    let parts = none_if (is_print s && not (is_origin a)) (PrintPlace phase) (misplaced_print (phase + 1) rest anchors) h in
-    origin (is_print s) (is_origin a) parts.0 p
+print_at : (phase : ℕ) (ss : Statements) (anchors : List Anchor) → are_works ss ≡ true → is_none (misplaced_print phase ss anchors) ≡ true →
+    (n : ℕ) (d : Anchor) → n < works_of ss → n < length anchors → prints (work_at ss n) ≡ true → is_origin (get_or anchors n d) ≡ true
+print_at phase done anchors works h n d below lt p = absurd (omega arith)
+print_at phase (next s rest) [] works h n d below lt p = absurd (omega arith)
+print_at phase (next (do_loop head body) rest) (a ∷ anchors) works h n d below lt p = absurd (cc)
+print_at phase (next (work w) rest) (a ∷ anchors) works h zero d below lt p =
+    let parts = none_if (prints w && not (is_origin a)) (PrintPlace phase) (misplaced_print (phase + 1) rest anchors) h in
+    origin (prints w) (is_origin a) parts.0 p
   where
     origin : (x y : Bool) → (x && not y) ≡ false → x ≡ true → y ≡ true
     origin true y e f = not-false y e
     origin false y e f = absurd (cc)
-print_at phase (next s rest) (a ∷ anchors) h (suc n) d lt p =
-    print_at (phase + 1) rest anchors (none_if (is_print s && not (is_origin a)) (PrintPlace phase) (misplaced_print (phase + 1) rest anchors) h).1 n d (omega arith) p
+print_at phase (next (work w) rest) (a ∷ anchors) works h (suc n) d below lt p =
+    print_at (phase + 1) rest anchors (and_parts (is_plain_work w) (are_works rest) works).1 (none_if (prints w && not (is_origin a)) (PrintPlace phase) (misplaced_print (phase + 1) rest anchors) h).1
+    n d (omega arith) (omega arith) p
+print_at phase (next (continue line) rest) (a ∷ anchors) works h n d below lt p = absurd (cc)
 
 pub record Suits (tree : Tree) (plan : Plan) : Type 0 where
   pub low : 1 ≤ plan.workers
@@ -69,12 +74,12 @@ pub record Suits (tree : Tree) (plan : Plan) : Type 0 where
   pub good_kinds : list_all is_good_kind plan.kinds ≡ true
   pub placed : (n : ℕ) (d : Anchor) → n < length plan.anchors → is_placed plan.workers (get_or plan.anchors n d) ≡ true
   pub placed_kinds : (n : ℕ) (d : Kind) → n < length plan.kinds → is_placed_kind plan.workers (get_or plan.kinds n d) ≡ true
-  pub origins : (n : ℕ) (d : Anchor) → n < length plan.anchors → is_print (statement_at tree.items n) ≡ true → is_origin (get_or plan.anchors n d) ≡ true
+  pub origins : (n : ℕ) (d : Anchor) → n < length plan.anchors → prints (work_at tree.items n) ≡ true → is_origin (get_or plan.anchors n d) ≡ true
   pub works : are_works tree.items ≡ true
   pub scalars : list_all is_scalar tree.variables ≡ true
   pub no_params : tree.params ≡ []
   pub few : statement_count tree.items < 400
-  pub good : are_good_statements tree [] 1 tree.items ≡ true
+  pub good : are_good_statements (scope_of tree) [] 1 tree.items ≡ true
 
 nothing : {X : Type 0} (xs : List X) → (length xs == 0) ≡ true → xs ≡ []
 nothing [] h = refl
@@ -108,18 +113,19 @@ shaped n plan h =
       good_kinds = not-false _ six.0;
     }
 
+pub good_program : (tree : Tree) → is_well_formed tree ≡ true → are_good_statements (scope_of tree) [] 1 tree.items ≡ true
+good_program tree h = (and_parts (list_all is_good_constant tree.params && list_all is_good_declaration tree.variables && nat_lt (statement_count tree.items) 400) (are_good_statements (scope_of tree) [] 1 tree.items) h).1
+
 pub suits : (tree : Tree) (plan : Plan) → is_suited tree plan ≡ true → Suits tree plan
 suits tree plan h =
     let all = and_parts (is_well_formed tree && is_straight tree) (is_none (first_misfit tree plan)) h in
     let program = and_parts (is_well_formed tree) (is_straight tree) all.0 in
-    let formed = and_parts (list_all is_good_declaration tree.variables && nat_lt (statement_count tree.items) 400) (are_good_statements tree [] 1 tree.items) program.0 in
-    let declared = and_parts (list_all is_good_declaration tree.variables) (nat_lt (statement_count tree.items) 400) formed.0 in
     let straight = and_parts (list_all is_scalar tree.variables && length tree.params == 0) (are_works tree.items) program.1 in
     let names = and_parts (list_all is_scalar tree.variables) (length tree.params == 0) straight.0 in
-    let fit = none_else (shape_refusal (wrong_field tree plan)) (misplaced tree.items plan) all.1 in
+    let fit = none_either (shape_refusal (wrong_field tree plan)) (misplaced tree.items plan) all.1 in
     let shape = shaped (works_of tree.items) plan (none_shape (wrong_field tree plan) fit.0) in
-    let anchors = none_else (unplaced_anchor plan.workers 1 plan.anchors) (or_else (unplaced_kind plan.workers 1 plan.kinds) (misplaced_print 1 tree.items plan.anchors)) fit.1 in
-    let kinds = none_else (unplaced_kind plan.workers 1 plan.kinds) (misplaced_print 1 tree.items plan.anchors) anchors.1 in
+    let anchors = none_either (unplaced_anchor plan.workers 1 plan.anchors) (option_or (unplaced_kind plan.workers 1 plan.kinds) (misplaced_print 1 tree.items plan.anchors)) fit.1 in
+    let kinds = none_either (unplaced_kind plan.workers 1 plan.kinds) (misplaced_print 1 tree.items plan.anchors) anchors.1 in
     record {
       low = shape.low;
       high = shape.high;
@@ -130,12 +136,12 @@ suits tree plan h =
       good_kinds = shape.good_kinds;
       placed = placed_at plan.workers 1 plan.anchors anchors.0;
       placed_kinds = placed_kind_at plan.workers 1 plan.kinds kinds.0;
-      origins = print_at 1 tree.items plan.anchors kinds.1;
+      origins = λ n d lt. print_at 1 tree.items plan.anchors straight.1 kinds.1 n d (omega (arith, shape.anchors)) lt;
       works = straight.1;
       scalars = names.0;
       no_params = nothing tree.params names.1;
-      few = ltb-true (statement_count tree.items) 400 declared.1;
-      good = formed.1;
+      few = ltb-true (statement_count tree.items) 400 (few_in_formed tree program.0);
+      good = good_program tree program.0;
     }
 
 pub suited_from : (tree : Tree) (plan : Plan) → is_well_formed tree ≡ true → is_straight tree ≡ true → first_misfit tree plan ≡ None → is_suited tree plan ≡ true
@@ -167,9 +173,6 @@ passes_at test (x ∷ xs) (suc n) d h lt = passes_at test xs n d (and_parts (tes
 
 pub few_works : (ss : Statements) → are_works ss ≡ true → statement_count ss < 400 → works_of ss < 400
 few_works ss works few = omega (arith, works_of-straight ss works, statement_count-straight ss works)
-
-pub good_program : (tree : Tree) → is_well_formed tree ≡ true → are_good_statements tree [] 1 tree.items ≡ true
-good_program tree h = (and_parts (list_all is_good_declaration tree.variables && nat_lt (statement_count tree.items) 400) (are_good_statements tree [] 1 tree.items) h).1
 
 pub scalar_program : (tree : Tree) → is_straight tree ≡ true → list_all is_scalar tree.variables ≡ true
 scalar_program tree h =

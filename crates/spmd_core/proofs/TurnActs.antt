@@ -1,8 +1,8 @@
 -- The acts of turns, as a cursor comes along them.
-use Rattle.std.proofs.Common.{◌≡◌, ℕ, suc, ◌+◌, ◌-◌, ◌<◌, ◌≤◌, Bool, true, false, ◌||◌, ◌==◌, not, List, [], ◌∷◌, ◌++◌, length, drop, map, get_or, refl, sym, ◌∙◌, ap, subst, inl, inr, append_assoc, length-drop, zero, cond, ◌&&◌, arith}
+use Rattle.std.proofs.Common.{◌≡◌, ℕ, suc, ◌+◌, ◌-◌, ◌<◌, Bool, true, false, ◌||◌, ◌==◌, not, List, [], ◌∷◌, ◌++◌, length, drop, map, get_or, refl, sym, ◌∙◌, ap, subst, length-drop, zero, cond, ◌&&◌, arith}
 use Rattle.std.specs.List.{flat_map, list_all, filter, range_with_len}
 use Rattle.std.proofs.lemmas.List.FromFn.{filter_of_map_range_with_len_more}
-use Rattle.std.proofs.lemmas.Bool.{and_parts, eqb-true, ne_eqb, eq-eqb}
+use Rattle.std.proofs.lemmas.Bool.{and_parts, eq-eqb}
 use Rattle.std.proofs.lemmas.List.{drop_more, drop-map, drop-drop}
 use Rattle.spmd_core.specs.declared.cursor.Turn.{Turn}
 use Rattle.spmd_core.specs.Acts.{Act, post, await}
@@ -12,8 +12,6 @@ use Rattle.nest_tree.specs.Tree.{Tree}
 use Rattle.spmd_core.specs.declared.plan.Plan.{Plan}
 use Rattle.spmd_core.specs.Numbered.{places}
 use Rattle.spmd_core.specs.Turns.{Planned, planned, turns_of, is_busy, part_acts, turn_acts, acts_left, IsBegun}
-use Rattle.spmd_core.specs.Words.{members}
-use Rattle.spmd_core.proofs.Words.{members-zero}
 
 -- the turns from this one on
 pub turns_more : (turns : List Turn) (at : ℕ) (t : Turn) → at < length turns → t ≡ get_or turns at t → drop at (map planned_of turns) ≡ planned_of t ∷ drop (at + 1) (map planned_of turns)

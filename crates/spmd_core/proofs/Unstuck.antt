@@ -1,9 +1,9 @@
 -- No state of a run is stuck before its end.
-use Rattle.std.proofs.Common.{◌≡◌, ◌≢◌, ℕ, zero, suc, ◌+◌, ◌-◌, ◌<◌, ◌≤◌, Bool, true, false, ◌&&◌, ◌==◌, not, nat_le, cond, if◌then◌else◌, List, [], ◌∷◌, ◌++◌, length, take, map, drop, get_or, Option, Some, None, refl, sym, ◌∙◌, ap, subst, inl, inr, ◌⊎◌, length-append, zero-add, arith}
+use Rattle.std.proofs.Common.{◌≡◌, ℕ, zero, suc, ◌+◌, ◌-◌, ◌<◌, ◌≤◌, Bool, true, false, nat_le, cond, if◌then◌else◌, List, [], ◌∷◌, ◌++◌, length, take, map, drop, get_or, Option, Some, None, refl, sym, ◌∙◌, ap, subst, inl, inr, ◌⊎◌, length-append, zero-add, arith}
 use Rattle.std.specs.Prelude.{slice_get, slice_index, All}
 use Rattle.std.specs.List.{flat_map, filter, range_with_len}
-use Rattle.std.proofs.lemmas.Bool.{cases_eq, cases_lt, cases_Bool, leb-true, leb-false, and_parts}
-use Rattle.std.proofs.lemmas.List.{take-append-le, take_at, get_or_append_left, get_or-append_right}
+use Rattle.std.proofs.lemmas.Bool.{cases_eq, cases_lt, cases_Bool, leb-false}
+use Rattle.std.proofs.lemmas.List.{take-append-le, get_or_append_left}
 use Rattle.std.proofs.lemmas.List.Elements.{All-nil, All-cons, All-append, All-map, All-get_or, All-weaker, All-from_get_or, All-head, All-tail, All-take}
 use Rattle.std.proofs.lemmas.List.FromFn.{get_or-range_with_len, length-range_with_len}
 use Rattle.std.proofs.lemmas.Option.{slice_get-get_or}
@@ -13,11 +13,11 @@ use Rattle.nest_tree.specs.Tree.{Tree}
 use Rattle.nest_model.specs.Instances.{works_of, Instance}
 use Rattle.nest_model.specs.Accesses.{loads_of, store_of}
 use Rattle.spmd_core.specs.declared.plan.Plan.{Plan}
-use Rattle.spmd_core.specs.Acts.{Act, post, await, load, store, print, acts_of, last_act, instance_acts}
+use Rattle.spmd_core.specs.Acts.{Act, post, await, load, store, print, acts_of, last_act}
 use Rattle.spmd_core.specs.Machine.{State, next_act, is_possible, IsEnded}
 use Rattle.spmd_core.specs.Numbered.{own_acts, places, phase_at, instance_at}
 use Rattle.spmd_core.specs.Progress.{IsLawful, last_post, can_do, CanGo}
-use Rattle.spmd_core.specs.Turns.{Planned, planned, turn_acts, part_acts, turns_of}
+use Rattle.spmd_core.specs.Turns.{planned, turn_acts, turns_of}
 use Rattle.spmd_core.specs.Waits.{posts_at, waits_for, does_wait, processors}
 use Rattle.spmd_core.proofs.Lawful.{last_post-append, next_inside}
 use Rattle.spmd_core.proofs.MachineActs.{turns_acts, busy_acts}

@@ -1,6 +1,6 @@
 -- The acts of a statement: its loads, and then its store or its PRINT.
-use Rattle.std.proofs.Common.{◌≡◌, ℕ, suc, ◌+◌, ◌-◌, ◌<◌, ◌≤◌, ℤ, Bool, true, false, ◌&&◌, List, [], ◌∷◌, ◌++◌, length, map, take, drop, get_or, Option, Some, None, vec_capacity, refl, sym, ◌∙◌, ap, subst, length-append, arith}
-use Rattle.std.specs.List.{flat_map, list_all}
+use Rattle.std.proofs.Common.{◌≡◌, ℕ, ◌+◌, ◌<◌, ◌≤◌, Bool, true, false, List, [], ◌∷◌, ◌++◌, length, map, drop, get_or, vec_capacity, sym, ◌∙◌, ap, subst, length-append, arith}
+use Rattle.std.specs.List.{flat_map}
 use Rattle.std.proofs.lemmas.List.{drop_more, drop_at, get_or_append_left, get_or-map, length-map}
 use Rattle.std.proofs.lemmas.List.FromFn.{get_or-map-range_with_len, length-map-range_with_len}
 use Rattle.nest_tree.specs.Tree.{Tree}
@@ -9,7 +9,7 @@ use Rattle.nest_model.specs.Instances.{works_of}
 use Rattle.spmd_core.specs.declared.cursor.Stage.TheVariants.{Work}
 use Rattle.spmd_core.specs.declared.plan.Plan.{Plan}
 use Rattle.spmd_core.specs.declared.processor.Processor.{Processor}
-use Rattle.spmd_core.specs.Acts.{Act, load, last_act, instance_acts}
+use Rattle.spmd_core.specs.Acts.{Act, load, last_act}
 use Rattle.spmd_core.specs.Cursors.{planned_turns, rest_of, cursor_left, IsBegunAt, IsAtStage}
 use Rattle.spmd_core.specs.Numbered.{own_acts, instance_at, loads_by_place}
 use Rattle.spmd_core.specs.Shown.{IsKept, left_of, load_count_at}

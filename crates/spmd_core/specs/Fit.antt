@@ -1,9 +1,10 @@
 -- Plans that fit a straight-line program: no loop has a mark, each statement is a phase with an anchor and a kind, all forms are constants, blocks reach their places, and each PRINT belongs to processor 0.
 use Rattle.std.specs.Prelude.{ℕ, ◌+◌, ◌*◌, ◌≡◌, ℤ, pos, Bool, true, false, ◌&&◌, not, ◌==◌, nat_le, int_le, int_lt, List, [], ◌∷◌, Option, Some, None, length, if◌then◌else◌}
 use Rattle.std.specs.List.{list_all}
+use Rattle.std.specs.Option.{option_or}
 use Rattle.std.specs.Ordering.{int_eq}
 use Rattle.nest_tree.specs.Form.{Form}
-use Rattle.nest_tree.specs.Tree.{Statement, Statements, do_loop, assign, print, continue, done, next, Tree}
+use Rattle.nest_tree.specs.Tree.{Work, assign, print, Statement, Statements, do_loop, work, continue, done, next, Tree}
 use Rattle.nest_model.specs.Instances.{works_of}
 use Rattle.spmd_core.specs.declared.refusal.PlanRefusal.{PlanRefusal}
 use Rattle.spmd_core.specs.declared.refusal.PlanRefusal.TheVariants.{Shape, Placement, PrintPlace}
@@ -92,10 +93,13 @@ unplaced_kind workers phase (k ∷ rest) =
 abbrev pub is_origin : Anchor → Bool
 is_origin a = is_constant a.form && int_eq a.form.constant (pos 0)
 
+abbrev pub prints : Work → Bool
+prints (assign a) = false
+prints (print p) = true
+
 abbrev pub is_print : Statement → Bool
-is_print (do_loop n m1 m2 step body line) = false
-is_print (assign target e line) = false
-is_print (print items line) = true
+is_print (do_loop head body) = false
+is_print (work w) = prints w
 is_print (continue line) = false
 
 -- the first phase, from this one on, with a PRINT and another anchor than the constant 0
@@ -105,11 +109,6 @@ misplaced_print phase (next s rest) [] = None
 misplaced_print phase (next s rest) (a ∷ anchors) =
     if is_print s && not (is_origin a) then Some (PrintPlace phase) else misplaced_print (phase + 1) rest anchors
 
--- the first of two refusals
-abbrev pub or_else : Option PlanRefusal → Option PlanRefusal → Option PlanRefusal
-or_else (Some refusal) other = Some refusal
-or_else None other = other
-
 abbrev pub shape_refusal : Option ℕ → Option PlanRefusal
 shape_refusal None = None
 shape_refusal (Some field) = Some (Shape field)
@@ -117,11 +116,11 @@ shape_refusal (Some field) = Some (Shape field)
 -- the first phase whose anchor, or whose kind's anchor, isn't placed, or else the first misplaced PRINT
 abbrev pub misplaced : Statements → Plan → Option PlanRefusal
 misplaced items plan =
-    or_else (unplaced_anchor plan.workers 1 plan.anchors) (or_else (unplaced_kind plan.workers 1 plan.kinds) (misplaced_print 1 items plan.anchors))
+    option_or (unplaced_anchor plan.workers 1 plan.anchors) (option_or (unplaced_kind plan.workers 1 plan.kinds) (misplaced_print 1 items plan.anchors))
 
 -- the first reason why a plan doesn't fit a straight-line program: its shape, then the placement of the phases' anchors and of the kinds', then the PRINTs
 abbrev pub first_misfit : Tree → Plan → Option PlanRefusal
-first_misfit tree plan = or_else (shape_refusal (wrong_field tree plan)) (misplaced tree.items plan)
+first_misfit tree plan = option_or (shape_refusal (wrong_field tree plan)) (misplaced tree.items plan)
 
 -- none of these holds
 abbrev pub IsFit : Tree → Plan → Type 0

@@ -1,21 +1,27 @@
 -- A straight-line program by the numbers of its statements.
-use Rattle.std.specs.Prelude.{ℕ, zero, suc, ◌+◌, ℤ, List, [], ◌∷◌, map, length, max, fold}
+use Rattle.std.specs.Prelude.{ℕ, zero, suc, ◌+◌, ℤ, List, [], ◌∷◌, map, length}
 use Rattle.std.specs.List.{range_with_len}
-use Rattle.nest_tree.specs.Tree.{Printed, value, whole, text, Statement, Statements, do_loop, assign, print, continue, done, next, Tree}
+use Rattle.nest_tree.specs.Tree.{Printed, value, whole, text, Work, assign, print, Statement, Statements, do_loop, work, continue, done, next, Tree}
 use Rattle.nest_model.specs.Instances.{Instance, no_values, works_of}
-use Rattle.nest_model.specs.Accesses.{loads_of}
+use Rattle.nest_model.specs.Accesses.{work_loads, loads_of}
 use Rattle.spmd_core.specs.Timeline.{Phase}
 use Rattle.spmd_core.specs.Acts.{Act, instance_acts}
 
--- the statement at this place, from 0; past the last one it does nothing
-abbrev pub statement_at : Statements → ℕ → Statement
-statement_at done n = continue 0
-statement_at (next s rest) zero = s
-statement_at (next s rest) (suc n) = statement_at rest n
+-- a PRINT of nothing
+abbrev pub no_work : Work
+no_work = print (record { items = []; line = 0 })
+
+-- the piece of work at this place, from 0; past the last one there is none
+abbrev pub work_at : Statements → ℕ → Work
+work_at done n = no_work
+work_at (next (do_loop head body) rest) n = work_at rest n
+work_at (next (work w) rest) zero = w
+work_at (next (work w) rest) (suc n) = work_at rest n
+work_at (next (continue line) rest) n = work_at rest n
 
 -- its one instance, and the acts of that
 abbrev pub instance_at : Tree → ℕ → Instance
-instance_at tree place = record { statement = place + 1; what = statement_at tree.items place; loops = no_values tree }
+instance_at tree place = record { statement = place + 1; what = work_at tree.items place; loops = no_values tree }
 
 unfoldable pub own_acts : Tree → ℕ → List Act
 own_acts tree place = instance_acts tree (instance_at tree place)
@@ -28,7 +34,13 @@ phase_at passed = record { place = passed + 1; outer = [] }
 abbrev pub places : Tree → List ℕ
 places tree = range_with_len 0 (works_of tree.items)
 
--- the cells that each statement loads
+-- the cells that a statement loads
+abbrev pub statement_loads : Tree → List ℤ → Statement → List ℕ
+statement_loads tree loops (do_loop head body) = []
+statement_loads tree loops (work w) = work_loads tree loops w
+statement_loads tree loops (continue line) = []
+
+-- the cells that each statement loads, where no loop has a value
 unfoldable pub loads_by_place : Tree → List (List ℕ)
 loads_by_place tree = map (λ n. loads_of tree (instance_at tree n)) (places tree)
 
@@ -42,13 +54,13 @@ abbrev pub longest_items : List Printed → ℕ
 longest_items [] = 1
 longest_items (item ∷ rest) = longest_item item + longest_items rest
 
-abbrev pub longest_line : Statement → ℕ
-longest_line (do_loop n m1 m2 step body line) = 0
-longest_line (assign target e line) = 0
-longest_line (print items line) = longest_items items
-longest_line (continue line) = 0
+abbrev pub longest_line : Work → ℕ
+longest_line (assign a) = 0
+longest_line (print p) = longest_items p.items
 
 -- the same of all its lines together
 abbrev pub longest_lines : Statements → ℕ
 longest_lines done = 0
-longest_lines (next s rest) = longest_line s + longest_lines rest
+longest_lines (next (do_loop head body) rest) = longest_lines rest
+longest_lines (next (work w) rest) = longest_line w + longest_lines rest
+longest_lines (next (continue line) rest) = longest_lines rest

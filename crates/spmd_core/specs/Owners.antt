@@ -3,8 +3,8 @@ use Rattle.std.specs.Prelude.{ℕ, ◌-◌, ℤ, pos, List, Option, Some, None, 
 use Rattle.std.specs.Int.{int_div_euclid, int_rem_euclid}
 use Rattle.nest_tree.specs.Form.{form_value}
 use Rattle.nest_tree.specs.Layout.{count_of}
-use Rattle.nest_tree.specs.Tree.{Tree}
-use Rattle.nest_model.specs.Instances.{Instance, param_values}
+use Rattle.nest_tree.specs.Tree.{Tree, param_values}
+use Rattle.nest_model.specs.Instances.{Instance}
 use Rattle.spmd_core.specs.declared.plan.Dist.{Dist}
 use Rattle.spmd_core.specs.declared.plan.Dist.TheVariants.{Block, Cyclic}
 use Rattle.spmd_core.specs.declared.plan.Anchor.{Anchor}

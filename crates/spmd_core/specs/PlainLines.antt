@@ -1,8 +1,9 @@
 -- The lines of PRINTs where there is no loop, no named constant and no array.
-use Rattle.std.specs.Prelude.{ℕ, ◌+◌, ℤ, Bool, true, false, List, [], ◌∷◌, ◌++◌, drop}
+use Rattle.std.specs.Prelude.{ℕ, ◌+◌, ℤ, Bool, true, false, List, [], ◌∷◌, ◌++◌, drop, length}
 use Rattle.nest_tree.specs.Tree.{Printed, value, whole, text}
-use Rattle.nest_model.specs.Meaning.{has_value, load_count, value_of}
+use Rattle.nest_model.specs.Meaning.{has_value, value_of}
 use Rattle.nest_model.specs.Memory.{number_text}
+use Rattle.nest_tree.specs.Loads.{loads_in}
 
 -- an item has a text
 abbrev pub is_plain : Printed → Bool
@@ -12,7 +13,7 @@ is_plain (text characters) = true
 
 -- how many loads an item has
 abbrev pub item_load_count : Printed → ℕ
-item_load_count (value e) = load_count e
+item_load_count (value e) = length (loads_in e)
 item_load_count (whole variable) = 0
 item_load_count (text characters) = 0
 

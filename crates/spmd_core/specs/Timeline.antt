@@ -1,9 +1,8 @@
 -- Static phases and phases, on one timeline with the instances.
 use Rattle.std.specs.Prelude.{ℕ, ◌+◌, ◌-◌, ℤ, Bool, true, false, List, [], ◌∷◌, ◌++◌, Option, Some, None, slice_get, map, if◌then◌else◌}
 use Rattle.std.specs.List.{flat_map}
-use Rattle.nest_tree.specs.Form.{form_value}
-use Rattle.nest_tree.specs.Tree.{Statement, Statements, do_loop, assign, print, continue, done, next, Tree}
-use Rattle.nest_model.specs.Instances.{Instance, trips, with_loop, instances_in, works_in, param_values, no_values}
+use Rattle.nest_tree.specs.Tree.{Statement, Statements, do_loop, work, continue, done, next, Tree, param_values}
+use Rattle.nest_model.specs.Instances.{Instance, head_trips, with_loop, instances_of, works_in, no_values}
 use Rattle.spmd_core.specs.declared.plan.Mark.{Mark}
 use Rattle.spmd_core.specs.declared.plan.Mark.TheVariants.{Outer, Doall, Single, Inner}
 
@@ -34,9 +33,8 @@ pub data Event : Type 0 where
 -- how many static phases there are: loops that aren't Outer, and statements other than CONTINUE, outside such loops
 abbrev mutual
   pub phases_in : List Mark → Statement → ℕ
-  phases_in marks (do_loop n m1 m2 step body line) = if is_outer (mark_of marks n) then phases_of marks body else 1
-  phases_in marks (assign target e line) = 1
-  phases_in marks (print items line) = 1
+  phases_in marks (do_loop head body) = if is_outer (mark_of marks head.number) then phases_of marks body else 1
+  phases_in marks (work w) = 1
   phases_in marks (continue line) = 0
 
   pub phases_of : List Mark → Statements → ℕ
@@ -47,17 +45,13 @@ abbrev mutual
 abbrev pub one_phase : ℕ → List ℤ → List Instance → List Event
 one_phase place loops is = begins (record { place = place; outer = loops }) ∷ map executes is
 
--- the timeline of a statement whose first static phase is `place` and whose first assignment or PRINT is `first`: an Outer loop has its body's timeline in each trip, any other loop is one phase
+-- the timeline of a statement whose first static phase is `place` and whose first piece of work is `first`: an Outer loop has its body's timeline in each trip, any other loop is one phase, and so is a piece of work
 abbrev mutual
   pub timeline_of : List ℤ → List Mark → Statement → ℕ → ℕ → List ℤ → List Event
-  timeline_of params marks (do_loop n m1 m2 step body line) place first loops =
-      let values = trips (form_value m1 loops params) (form_value m2 loops params) step in
-      if is_outer (mark_of marks n) then flat_map (λ v. timeline_in params marks body place first (with_loop loops n v)) values
-      else one_phase place loops (flat_map (λ v. instances_in params body first (with_loop loops n v)) values)
-  timeline_of params marks (assign target e line) place first loops =
-      one_phase place loops (record { statement = first; what = assign target e line; loops = loops } ∷ [])
-  timeline_of params marks (print items line) place first loops =
-      one_phase place loops (record { statement = first; what = print items line; loops = loops } ∷ [])
+  timeline_of params marks (do_loop head body) place first loops =
+      if is_outer (mark_of marks head.number) then flat_map (λ v. timeline_in params marks body place first (with_loop loops head.number v)) (head_trips params head loops)
+      else one_phase place loops (instances_of params (do_loop head body) first loops)
+  timeline_of params marks (work w) place first loops = one_phase place loops (instances_of params (work w) first loops)
   timeline_of params marks (continue line) place first loops = []
 
   pub timeline_in : List ℤ → List Mark → Statements → ℕ → ℕ → List ℤ → List Event

@@ -1,10 +1,10 @@
 -- What a processor does at a phase, and what it has left to do.
-use Rattle.std.specs.Prelude.{ℕ, ◌+◌, ◌-◌, ◌≡◌, ◌≤◌, ◌<◌, ◌==◌, Bool, true, false, not, ◌||◌, List, [], ◌∷◌, ◌++◌, map, drop, filter, length, if◌then◌else◌}
+use Rattle.std.specs.Prelude.{ℕ, ◌+◌, ◌-◌, ◌≡◌, ◌<◌, ◌==◌, Bool, true, false, not, ◌||◌, List, [], ◌∷◌, ◌++◌, map, drop, filter, length, if◌then◌else◌}
 use Rattle.std.specs.List.{flat_map}
 use Rattle.nest_tree.specs.Tree.{Tree}
 use Rattle.spmd_core.specs.declared.plan.Plan.{Plan}
 use Rattle.spmd_core.specs.Acts.{Act, post, await}
-use Rattle.spmd_core.specs.Numbered.{own_acts, phase_at, places, instance_at}
+use Rattle.spmd_core.specs.Numbered.{phase_at, places, instance_at}
 use Rattle.spmd_core.specs.Owners.{owner_of}
 use Rattle.spmd_core.specs.Waits.{waits_for, posts_at}
 

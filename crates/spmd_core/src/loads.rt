@@ -5,9 +5,10 @@ ghost use Rattle.std.specs.List.{list_all};
 ghost use Rattle.nest_tree.specs.LaidOut.{laid_out};
 ghost use Rattle.nest_tree.specs.Straight.{is_scalar};
 ghost use Rattle.nest_tree.specs.View.{expression_of, expressions_from, printed_of, statement_of};
-ghost use Rattle.nest_tree.specs.WellFormed.{is_good_expression, are_good_expressions, is_good_item, is_good_statement};
-ghost use Rattle.nest_model.specs.Meaning.{loads_in, loads_among};
-ghost use Rattle.nest_model.specs.Accesses.{access_cell, item_loads, statement_loads};
+ghost use Rattle.nest_tree.specs.WellFormed.{scope_of, is_good_expression, are_good_expressions, is_good_item, is_good_statement};
+ghost use Rattle.nest_model.specs.Accesses.{access_cell, item_loads};
+ghost use Rattle.nest_tree.specs.Loads.{loads_in, loads_among};
+ghost use Rattle.spmd_core.specs.Numbered.{statement_loads};
 
 use nest_tree::{Expr, Item, Layout, PrintItem};
 use std::alloc::AllocError;
@@ -16,7 +17,7 @@ use std::alloc::AllocError;
 #[cycle(loads)]
 fn push_loads(layout: &Layout, e: &Expr, cells: &mut Vec<u32>) -> Result<(), AllocError>
     requires scalars { IsTrue (list_all is_scalar (laid_out layout.now).variables) }
-    requires good { IsTrue (is_good_expression (laid_out layout.now) [] (expression_of e.now)) }
+    requires good { IsTrue (is_good_expression (scope_of (laid_out layout.now)) [] (expression_of e.now)) }
     ensures { OnOk result (cells.new.items ≡ cells.old.items ++ map (access_cell (laid_out layout.now) []) (loads_in (expression_of e.now))) }
 {
     match e {
@@ -40,7 +41,7 @@ fn push_all_loads(
     cells: &mut Vec<u32>,
 ) -> Result<(), AllocError>
     requires scalars { IsTrue (list_all is_scalar (laid_out layout.now).variables) }
-    requires good { IsTrue (are_good_expressions (laid_out layout.now) [] (expressions_from arguments.now)) }
+    requires good { IsTrue (are_good_expressions (scope_of (laid_out layout.now)) [] (expressions_from arguments.now)) }
     ensures { OnOk result (cells.new.items ≡ cells.old.items ++ map (access_cell (laid_out layout.now) []) (loads_among (expressions_from arguments.now))) }
 {
     for argument in arguments {
@@ -56,7 +57,7 @@ fn push_item_loads(
     cells: &mut Vec<u32>,
 ) -> Result<(), AllocError>
     requires scalars { IsTrue (list_all is_scalar (laid_out layout.now).variables) }
-    requires good { IsTrue (is_good_item (laid_out layout.now) [] (printed_of item.now)) }
+    requires good { IsTrue (is_good_item (scope_of (laid_out layout.now)) [] (printed_of item.now)) }
     ensures { OnOk result (cells.new.items ≡ cells.old.items ++ item_loads (laid_out layout.now) [] (printed_of item.now)) }
 {
     match item {
@@ -73,11 +74,11 @@ pub(crate) fn push_statement_loads(
     cells: &mut Vec<u32>,
 ) -> Result<(), AllocError>
     requires scalars { IsTrue (list_all is_scalar (laid_out layout.now).variables) }
-    requires good { IsTrue (is_good_statement (laid_out layout.now) [] 1 (statement_of item.now)) }
+    requires good { IsTrue (is_good_statement (scope_of (laid_out layout.now)) [] 1 (statement_of item.now)) }
     ensures { OnOk result (cells.new.items ≡ cells.old.items ++ statement_loads (laid_out layout.now) [] (statement_of item.now)) }
 {
     match item {
-        Item::Assign(_, e, _) => push_loads(layout, e, cells),
+        Item::Assign(_, e, _, _) => push_loads(layout, e, cells),
         Item::Print(items, _) => {
             for item in items {
                 push_item_loads(layout, item, cells)?;

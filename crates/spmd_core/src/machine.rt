@@ -39,7 +39,8 @@ pub struct Machine<'a> {
 }
 
 impl<'a> Machine<'a> {
-    ghost use Rattle.std.specs.Prelude.{ℕ, ◌<◌, false, IsTrue, IfOk, fold, slice_index_or};
+    ghost use Rattle.std.specs.Prelude.{ℕ, ◌<◌, false, IsTrue, IfOk, Option, fold, slice_index_or};
+    ghost use Rattle.nest_tree.specs.declared.tree.Guard.{Guard};
     ghost use Rattle.nest_model.specs.Memory.{last_memory, output_of};
     ghost use Rattle.spmd_core.specs.Progress.{acts_to_go, can_step, has_one_owner, rounds};
     ghost use Rattle.spmd_core.specs.Waits.{processors};
@@ -48,7 +49,7 @@ impl<'a> Machine<'a> {
     ghost use Rattle.nest_tree.specs.Tree.{assign, print};
     ghost use Rattle.nest_tree.specs.View.{expression_of, printed_of};
     ghost use Rattle.spmd_core.specs.Cursors.{IsAtStage};
-    ghost use Rattle.spmd_core.specs.Numbered.{statement_at};
+    ghost use Rattle.spmd_core.specs.Numbered.{work_at};
     ghost use Rattle.spmd_core.specs.Shown.{load_count_at};
     ghost use Rattle.spmd_core.specs.declared.processor.Processor.{Processor};
     ghost use Rattle.spmd_core.specs.Fit.{IsFit};
@@ -142,7 +143,7 @@ impl<'a> Machine<'a> {
             return;
         }
         match &self.program.items[place as usize] {
-            Item::Assign(target, e, _) => self.store(p, place, target, e),
+            Item::Assign(target, e, _, _) => self.store(p, place, target, e),
             Item::Print(items, _) => self.print(p, place, items),
             Item::Loop(_) => unreachable!(),
             Item::Continue(_) => unreachable!(),
@@ -170,7 +171,7 @@ impl<'a> Machine<'a> {
         requires worker { p < length self.old.processors.items }
         requires stage { (d : Processor) → IsAtStage (slice_index_or self.old.processors.items p d).cursor (Stage.Work place) }
         requires loaded { (d : Processor) → length (slice_index_or self.old.processors.items p d).registers.items ≡ load_count_at (tree_in self.old) place }
-        requires statement { (line : ℕ) × (statement_at (tree_in self.old).items place ≡ assign target.now (expression_of e.now) line) }
+        requires statement { (guard : Option Guard) × (line : ℕ) × (work_at (tree_in self.old).items place ≡ assign (record { target = target.now; value = expression_of e.now; guard = guard; line = line })) }
         ensures step { shown self.new ≡ stepped (tree_in self.old) (plan_in self.old) (shown self.old) p }
         ensures answer { step_answer (tree_in self.old) (plan_in self.old) (shown self.old) p ≡ StepAnswer.Stepped }
         ensures program { tree_in self.new ≡ tree_in self.old }
@@ -188,7 +189,7 @@ impl<'a> Machine<'a> {
         requires worker { p < length self.old.processors.items }
         requires stage { (d : Processor) → IsAtStage (slice_index_or self.old.processors.items p d).cursor (Stage.Work place) }
         requires loaded { (d : Processor) → length (slice_index_or self.old.processors.items p d).registers.items ≡ load_count_at (tree_in self.old) place }
-        requires statement { (line : ℕ) × (statement_at (tree_in self.old).items place ≡ print (map printed_of items.now) line) }
+        requires statement { (line : ℕ) × (work_at (tree_in self.old).items place ≡ print (record { items = map printed_of items.now; line = line })) }
         ensures step { shown self.new ≡ stepped (tree_in self.old) (plan_in self.old) (shown self.old) p }
         ensures answer { step_answer (tree_in self.old) (plan_in self.old) (shown self.old) p ≡ StepAnswer.Stepped }
         ensures program { tree_in self.new ≡ tree_in self.old }

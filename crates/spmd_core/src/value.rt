@@ -3,7 +3,8 @@
 ghost use Rattle.std.specs.Prelude.{◌≡◌, ◌+◌, ◌≤◌, ◌<◌, IsTrue, length, drop, ℤ, pos, ◌+ℤ◌, ◌-ℤ◌, ◌*ℤ◌, neg_ℤ, unsigned_abs};
 ghost use Rattle.nest_tree.specs.Values.{wrapped, quotient};
 ghost use Rattle.nest_tree.specs.View.{expression_of, expressions_from};
-ghost use Rattle.nest_model.specs.Meaning.{has_value, have_values, load_count, loads_counted, value_of, values_of, least, greatest};
+ghost use Rattle.nest_model.specs.Meaning.{has_value, have_values, value_of, values_of, least, greatest};
+ghost use Rattle.nest_tree.specs.Loads.{loads_in, loads_among};
 
 use nest_tree::Expr;
 
@@ -15,7 +16,7 @@ use nest_tree::Expr;
 /// what `loaded` begins with, in text order.
 pub fn eval(e: &Expr, loops: &[i64], params: &[i64], loaded: &[i64]) -> i64
     requires valued { IsTrue (has_value (length loops.now) (length params.now) (expression_of e.now)) }
-    requires loads { load_count (expression_of e.now) ≤ length loaded.now }
+    requires loads { length (loads_in (expression_of e.now)) ≤ length loaded.now }
     ensures { result ≡ value_of (expression_of e.now) loops.now params.now loaded.now }
 {
     value_and_rest(e, loops, params, loaded).0
@@ -30,9 +31,9 @@ pub(crate) fn value_and_rest<'a>(
     loaded: &'a [i64],
 ) -> (i64, &'a [i64])
     requires valued { IsTrue (has_value (length loops.now) (length params.now) (expression_of e.now)) }
-    requires loads { load_count (expression_of e.now) ≤ length loaded.now }
+    requires loads { length (loads_in (expression_of e.now)) ≤ length loaded.now }
     ensures value { result.0 ≡ value_of (expression_of e.now) loops.now params.now loaded.now }
-    ensures rest { result.1.now ≡ drop (load_count (expression_of e.now)) loaded.now }
+    ensures rest { result.1.now ≡ drop (length (loads_in (expression_of e.now))) loaded.now }
 {
     match e {
         Expr::Number(n) => (*n, loaded),
@@ -77,9 +78,9 @@ fn least_and_rest<'a>(
 ) -> (i64, &'a [i64])
     requires some { 0 < length arguments.now }
     requires valued { IsTrue (have_values (length loops.now) (length params.now) (expressions_from arguments.now)) }
-    requires loads { loads_counted (expressions_from arguments.now) ≤ length loaded.now }
+    requires loads { length (loads_among (expressions_from arguments.now)) ≤ length loaded.now }
     ensures value { result.0 ≡ least (values_of (expressions_from arguments.now) loops.now params.now loaded.now) }
-    ensures rest { result.1.now ≡ drop (loads_counted (expressions_from arguments.now)) loaded.now }
+    ensures rest { result.1.now ≡ drop (length (loads_among (expressions_from arguments.now))) loaded.now }
 {
     let (mut best, mut rest) = value_and_rest(&arguments[0], loops, params, loaded);
     for e in &arguments[1..] {
@@ -100,9 +101,9 @@ fn greatest_and_rest<'a>(
 ) -> (i64, &'a [i64])
     requires some { 0 < length arguments.now }
     requires valued { IsTrue (have_values (length loops.now) (length params.now) (expressions_from arguments.now)) }
-    requires loads { loads_counted (expressions_from arguments.now) ≤ length loaded.now }
+    requires loads { length (loads_among (expressions_from arguments.now)) ≤ length loaded.now }
     ensures value { result.0 ≡ greatest (values_of (expressions_from arguments.now) loops.now params.now loaded.now) }
-    ensures rest { result.1.now ≡ drop (loads_counted (expressions_from arguments.now)) loaded.now }
+    ensures rest { result.1.now ≡ drop (length (loads_among (expressions_from arguments.now))) loaded.now }
 {
     let (mut best, mut rest) = value_and_rest(&arguments[0], loops, params, loaded);
     for e in &arguments[1..] {

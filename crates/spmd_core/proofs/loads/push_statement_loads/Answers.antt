@@ -1,17 +1,16 @@
-use Rattle.std.proofs.Common.{◌<◌, [], length, map, ap, sym, ◌∙◌, arith}
-use Rattle.std.proofs.lemmas.Bool.{and_parts}
+use Rattle.std.proofs.Common.{◌<◌, [], length, ap, sym, ◌∙◌, arith}
 use Rattle.nest_tree.specs.LaidOut.{laid_out}
 use Rattle.nest_tree.specs.View.{expression_of, statement_of}
-use Rattle.nest_tree.specs.WellFormed.{is_good_access, is_good_expression, is_good_statement}
+use Rattle.nest_tree.specs.WellFormed.{scope_of, is_good_statement}
 use Rattle.spmd_core.proofs.Lines.{items_more}
-use Rattle.spmd_core.proofs.StatementPlaces.{good_item_first, item_loads_more}
+use Rattle.spmd_core.proofs.StatementPlaces.{good_assignment, good_item_first, item_loads_more}
 use Rattle.spmd_core.proofs.loads.push_statement_loads.Goals as goal
 
 pub push_loads-requires-clause-good : goal.push_loads-requires-clause-good
 push_loads-requires-clause-good c =
     let tree = laid_out c.args.layout.now in
-    let good = sym (ap (λ i. is_good_statement tree [] 1 (statement_of i)) c.in-Assign.is) ∙ c.requires.good in
-    (and_parts (is_good_access tree [] c.in-Assign.field-0) (is_good_expression tree [] (expression_of c.in-Assign.e)) good).1
+    let good = sym (ap (λ i. is_good_statement (scope_of tree) [] 1 (statement_of i)) c.in-Assign.is) ∙ c.requires.good in
+    (good_assignment (scope_of tree) [] (record { target = c.in-Assign.field-0; value = expression_of c.in-Assign.e; guard = c.in-Assign.field-2; line = c.in-Assign.field-3 }) good).1
 
 pub push_item_loads-requires-clause-good : goal.push_item_loads-requires-clause-good
 push_item_loads-requires-clause-good c =

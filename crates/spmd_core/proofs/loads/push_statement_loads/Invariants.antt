@@ -2,7 +2,7 @@ use Rattle.std.proofs.Common.{◌≡◌, ◌++◌, [], IsTrue, map, drop}
 use Rattle.std.specs.List.{list_all, flat_map}
 use Rattle.nest_tree.specs.LaidOut.{laid_out}
 use Rattle.nest_tree.specs.View.{printed_of}
-use Rattle.nest_tree.specs.WellFormed.{is_good_item}
+use Rattle.nest_tree.specs.WellFormed.{scope_of, is_good_item}
 use Rattle.nest_model.specs.Accesses.{item_loads}
 use Rattle.spmd_core.proofs.loads.push_statement_loads.Given as goal
 
@@ -11,6 +11,6 @@ invariant-loop-item l =
     let tree = laid_out l.layout in
     let left = drop l.item-index (map printed_of l.item-items) in
     record {
-      good : IsTrue (list_all (is_good_item tree []) left);
+      good : IsTrue (list_all (is_good_item (scope_of tree) []) left);
       cells : l.cells.items ++ flat_map (item_loads tree []) left ≡ l.initial.cells.items ++ flat_map (item_loads tree []) (map printed_of l.item-items);
     }

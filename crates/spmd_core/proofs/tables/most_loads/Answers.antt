@@ -1,4 +1,4 @@
-use Rattle.std.proofs.Common.{◌≡◌, ℕ, ◌+◌, ◌<◌, ◌≤◌, [], List, Vec, Global, length, map, get_or, ap, sym, ◌∙◌, below_more, arith}
+use Rattle.std.proofs.Common.{◌≡◌, ℕ, ◌<◌, [], List, Vec, Global, length, map, get_or, ap, sym, ◌∙◌, below_more, arith}
 use Rattle.std.proofs.lemmas.List.{get_or-map}
 use Rattle.spmd_core.proofs.tables.most_loads.Goals as goal
 use Rattle.spmd_core.proofs.tables.most_loads.Goals.{then-most-len, else-most-len}

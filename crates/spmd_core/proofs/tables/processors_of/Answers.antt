@@ -1,4 +1,4 @@
-use Rattle.std.proofs.Common.{◌≡◌, ◌+◌, ap, ◌∙◌, length, refl, arith}
+use Rattle.std.proofs.Common.{◌+◌, ap, ◌∙◌, length, refl}
 use Rattle.std.proofs.lemmas.List.{length_push}
 use Rattle.nest_tree.specs.View.{tree_of}
 use Rattle.spmd_core.specs.Shown.{IsFresh}

@@ -1,7 +1,6 @@
-use Rattle.std.proofs.Common.{◌≡◌, ◌-◌, ◌<◌, length, get_or, sym, ap, ◌∙◌, inl, inr, [], arith}
+use Rattle.std.proofs.Common.{◌-◌, ◌<◌, length, sym, ap, ◌∙◌, inl, inr, [], arith}
 use Rattle.std.proofs.lemmas.Bool.{ne_eqb}
 use Rattle.nest_tree.specs.View.{tree_of}
-use Rattle.spmd_core.specs.declared.plan.Kind.{Kind}
 use Rattle.spmd_core.specs.declared.plan.Kind.TheVariants.{Nothing, Producer, Left, Right, Both, Barrier, Join}
 use Rattle.spmd_core.specs.Fit.{is_placed_kind}
 use Rattle.spmd_core.proofs.Fits.{works_of-list, works_in_straight}

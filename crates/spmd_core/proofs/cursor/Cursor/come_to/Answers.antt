@@ -1,4 +1,4 @@
-use Rattle.std.proofs.Common.{◌<◌, ap, sym, ◌∙◌, length, refl, arith}
+use Rattle.std.proofs.Common.{◌<◌, length, refl, arith}
 use Rattle.spmd_core.specs.Cursors.{planned_of}
 use Rattle.spmd_core.proofs.TurnActs.{turns_more, begins_whole, begun_here}
 use Rattle.spmd_core.proofs.cursor.Cursor.come_to.Goals as goal

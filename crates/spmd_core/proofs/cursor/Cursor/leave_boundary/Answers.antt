@@ -1,6 +1,6 @@
-use Rattle.std.proofs.Common.{◌≡◌, ◌+◌, ◌<◌, ◌≢◌, ap, sym, ◌∙◌, length, drop, map, ◌^◌, arith}
+use Rattle.std.proofs.Common.{◌<◌, ap, sym, ◌∙◌, length, ◌^◌, arith}
 use Rattle.std.proofs.lemmas.List.{length-map}
-use Rattle.spmd_core.specs.Cursors.{planned_of, planned_turns}
+use Rattle.spmd_core.specs.Cursors.{planned_of}
 use Rattle.spmd_core.specs.Words.{members}
 use Rattle.spmd_core.proofs.TurnActs.{turns_more, ends_turn, begun_part, works_here}
 use Rattle.spmd_core.proofs.Words.{members-zero, some_members}

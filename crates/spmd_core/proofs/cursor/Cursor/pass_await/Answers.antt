@@ -1,7 +1,5 @@
-use Rattle.std.proofs.Common.{◌≡◌, ◌∷◌, ◌<◌, ◌^◌, ap, sym, ◌∙◌, length, refl, arith}
+use Rattle.std.proofs.Common.{◌∷◌, ◌<◌, ◌^◌, ap, sym, ◌∙◌, arith}
 use Rattle.spmd_core.specs.Acts.{await}
-use Rattle.spmd_core.specs.Words.{members}
-use Rattle.spmd_core.specs.Turns.{acts_left}
 use Rattle.spmd_core.proofs.TurnActs.{tail_more, await_first}
 use Rattle.spmd_core.proofs.Words.{first_of_members}
 use Rattle.spmd_core.proofs.cursor.Cursor.pass_await.Goals as goal

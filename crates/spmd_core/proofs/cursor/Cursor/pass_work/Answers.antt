@@ -1,4 +1,4 @@
-use Rattle.std.proofs.Common.{◌≡◌, ◌+◌, ◌++◌, ap, sym, ◌∙◌, drop, length}
+use Rattle.std.proofs.Common.{◌++◌, ap, sym, ◌∙◌, drop, length}
 use Rattle.std.specs.List.{flat_map}
 use Rattle.spmd_core.specs.Cursors.{planned_turns}
 use Rattle.spmd_core.specs.Turns.{turn_acts}

@@ -1,5 +1,4 @@
-use Rattle.std.proofs.Common.{◌≡◌, ◌<◌, ◌^◌, ap, length, refl, ◌∙◌, arith}
-use Rattle.spmd_core.specs.Cursors.{planned_of, IsAtTurn}
+use Rattle.std.proofs.Common.{◌<◌, ◌^◌, ap, length, ◌∙◌, arith}
 use Rattle.spmd_core.specs.Words.{members}
 use Rattle.spmd_core.proofs.TurnActs.{at_turn}
 use Rattle.spmd_core.proofs.Words.{members-zero, members_first}

@@ -1,4 +1,4 @@
-use Rattle.std.proofs.Common.{◌≡◌, ◌+◌, ◌<◌, ◌∷◌, ◌++◌, ◌∙◌, sym, ap, length, map, drop, arith, length-drop}
+use Rattle.std.proofs.Common.{◌+◌, ◌<◌, ◌++◌, ◌∙◌, sym, ap, length, map, drop, arith, length-drop}
 use Rattle.nest_tree.specs.View.{printed_of}
 use Rattle.spmd_core.specs.Numbered.{longest_items}
 use Rattle.spmd_core.specs.PlainLines.{items_load_count, item_load_count, plain_items}

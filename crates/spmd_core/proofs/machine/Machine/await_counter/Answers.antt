@@ -1,4 +1,4 @@
-use Rattle.std.proofs.Common.{◌≡◌, ◌+◌, ◌<◌, ◌≤◌, nat_le, false, Vec, Global, length, map, set, get_or, ap, sym, ◌∙◌, subst, refl, length-set, arith}
+use Rattle.std.proofs.Common.{◌<◌, ◌≤◌, nat_le, Vec, Global, length, map, get_or, ap, sym, ◌∙◌, subst, length-set, arith}
 use Rattle.std.specs.Prelude.{slice_index}
 use Rattle.std.proofs.lemmas.Bool.{le-leb, lt-leb}
 use Rattle.nest_tree.specs.View.{tree_of}
@@ -6,7 +6,7 @@ use Rattle.spmd_core.specs.Acts.{await}
 use Rattle.spmd_core.specs.Cursors.{IsAtStage, planned_of}
 use Rattle.spmd_core.specs.Numbered.{own_acts}
 use Rattle.spmd_core.specs.Shown.{IsKept, state_of}
-use Rattle.spmd_core.specs.Shows.{shown, step_answer}
+use Rattle.spmd_core.specs.Shows.{shown}
 use Rattle.spmd_core.specs.declared.answer.StepAnswer.TheVariants.{Blocked}
 use Rattle.spmd_core.specs.declared.cursor.Stage.TheVariants.{Await}
 use Rattle.spmd_core.specs.declared.cursor.Turn.{Turn}

@@ -1,4 +1,4 @@
-use Rattle.std.proofs.Common.{◌≡◌, ◌+◌, ◌<◌, ◌≤◌, Vec, Global, length, map, set, get_or, ap, sym, ◌∙◌, subst, refl, length-set, if◌then◌else◌, ◌∷◌, ◌++◌, [], ℤ, pos, w64, to_z, of_z, FitsSigned, vec_len, vec_capacity, rules, arith}
+use Rattle.std.proofs.Common.{◌≡◌, ◌+◌, ◌<◌, length, get_or, ap, sym, ◌∙◌, subst, refl, length-set, if◌then◌else◌, ◌∷◌, ◌++◌, [], pos, w64, to_z, of_z, FitsSigned, vec_len, vec_capacity, rules, arith}
 use Rattle.std.proofs.lemmas.Int.{to_z-of_z}
 use Rattle.std.proofs.lemmas.List.{length_push, get_or_read}
 use Rattle.nest_model.specs.Accesses.{loads_of}

@@ -1,8 +1,8 @@
-use Rattle.std.proofs.Common.{◌≡◌, ℕ, ◌+◌, ◌<◌, ◌≤◌, List, [], ℤ, pos, Vec, Global, Option, IfSome, length, map, get_or, replicate, ap, sym, ◌∙◌, subst, refl, vec_len, arith}
+use Rattle.std.proofs.Common.{◌≡◌, ℕ, ◌≤◌, List, [], pos, Vec, Global, Option, IfSome, length, map, get_or, replicate, ap, sym, ◌∙◌, subst, arith}
 use Rattle.std.proofs.lemmas.List.{length-map, length-replicate}
 use Rattle.nest_tree.specs.Layout.{cell_count}
 use Rattle.nest_tree.specs.View.{tree_of, declaration_of}
-use Rattle.spmd_core.specs.Numbered.{longest_lines, loads_by_place}
+use Rattle.spmd_core.specs.Numbered.{longest_lines}
 use Rattle.spmd_core.specs.Shown.{load_count_at}
 use Rattle.spmd_core.specs.Progress.{IsReached}
 use Rattle.spmd_core.specs.Shows.{shown}

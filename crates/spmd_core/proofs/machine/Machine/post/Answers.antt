@@ -1,4 +1,4 @@
-use Rattle.std.proofs.Common.{◌≡◌, ◌+◌, ◌<◌, ◌≤◌, Vec, Global, length, map, set, get_or, ap, sym, ◌∙◌, subst, refl, length-set, arith}
+use Rattle.std.proofs.Common.{Vec, Global, map, ap, sym, ◌∙◌, subst, length-set, arith}
 use Rattle.nest_tree.specs.View.{tree_of}
 use Rattle.spmd_core.specs.Acts.{post}
 use Rattle.spmd_core.specs.Cursors.{IsAtStage, planned_of}

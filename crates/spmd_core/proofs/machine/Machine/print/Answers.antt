@@ -1,10 +1,10 @@
-use Rattle.std.proofs.Common.{◌≡◌, ℕ, ◌+◌, ◌<◌, ◌≤◌, [], ◌∷◌, ◌++◌, ℤ, Vec, Global, length, map, set, get_or, ap, sym, ◌∙◌, subst, refl, length-set, w64, to_z, of_z, FitsSigned, vec_len, vec_capacity, rules, arith}
+use Rattle.std.proofs.Common.{◌≡◌, [], ◌∷◌, ◌++◌, Vec, Global, length, map, ap, sym, ◌∙◌, subst, length-set, arith}
 use Rattle.nest_model.specs.Accesses.{loads_of}
 use Rattle.nest_model.specs.Memory.{line_of}
 use Rattle.spmd_core.specs.PlainLines.{plain_items}
 use Rattle.std.specs.List.{flat_map}
 use Rattle.spmd_core.specs.Turns.{turn_acts}
-use Rattle.nest_tree.specs.View.{tree_of, expression_of, printed_of}
+use Rattle.nest_tree.specs.View.{tree_of, printed_of}
 use Rattle.spmd_core.specs.Acts.{print, last_act}
 use Rattle.spmd_core.specs.Cursors.{IsAtStage, planned_of}
 use Rattle.spmd_core.specs.Numbered.{instance_at, own_acts}
@@ -35,7 +35,7 @@ push_line-requires-clause-plain c =
     let read = c.index_mut-processor.ensures.value in
     let kept : IsKept tree plan p x = subst (IsKept tree plan p) (sym read) (m.kept p x c.requires.worker) in
     let stage = subst (λ (z : Processor). IsAtStage z.cursor (Work place)) (sym read) (c.requires.stage x) in
-    let what = printing tree plan place (map printed_of c.args.items.now) c.requires.statement.0 fit c.requires.statement.1 in
+    let what = printing tree plan place _ fit c.requires.statement.1 in
     let below = place_below tree plan p place x kept stage in
     let loaded : length x.registers.items ≡ load_count_at tree place = subst (λ (z : Processor). length z.registers.items ≡ load_count_at tree place) (sym read) (c.requires.loaded x) in
     let all : length x.registers.items ≡ length (loads_of tree (instance_at tree place)) = loaded ∙ ap length (loads_at tree place below) in
@@ -54,7 +54,7 @@ push_line-requires-clause-loads c =
     let read = c.index_mut-processor.ensures.value in
     let kept : IsKept tree plan p x = subst (IsKept tree plan p) (sym read) (m.kept p x c.requires.worker) in
     let stage = subst (λ (z : Processor). IsAtStage z.cursor (Work place)) (sym read) (c.requires.stage x) in
-    let what = printing tree plan place (map printed_of c.args.items.now) c.requires.statement.0 fit c.requires.statement.1 in
+    let what = printing tree plan place _ fit c.requires.statement.1 in
     let below = place_below tree plan p place x kept stage in
     let loaded : length x.registers.items ≡ load_count_at tree place = subst (λ (z : Processor). length z.registers.items ≡ load_count_at tree place) (sym read) (c.requires.loaded x) in
     let all : length x.registers.items ≡ length (loads_of tree (instance_at tree place)) = loaded ∙ ap length (loads_at tree place below) in
@@ -73,7 +73,7 @@ push_line-requires-clause-room c =
     let read = c.index_mut-processor.ensures.value in
     let kept : IsKept tree plan p x = subst (IsKept tree plan p) (sym read) (m.kept p x c.requires.worker) in
     let stage = subst (λ (z : Processor). IsAtStage z.cursor (Work place)) (sym read) (c.requires.stage x) in
-    let what = printing tree plan place (map printed_of c.args.items.now) c.requires.statement.0 fit c.requires.statement.1 in
+    let what = printing tree plan place _ fit c.requires.statement.1 in
     let below = place_below tree plan p place x kept stage in
     let loaded : length x.registers.items ≡ load_count_at tree place = subst (λ (z : Processor). length z.registers.items ≡ load_count_at tree place) (sym read) (c.requires.loaded x) in
     let all : length x.registers.items ≡ length (loads_of tree (instance_at tree place)) = loaded ∙ ap length (loads_at tree place below) in
@@ -122,7 +122,7 @@ invariant_of-self c =
     let read = c.index_mut-processor.ensures.value in
     let kept : IsKept tree plan p x = subst (IsKept tree plan p) (sym read) (m.kept p x c.requires.worker) in
     let stage = subst (λ (z : Processor). IsAtStage z.cursor (Work place)) (sym read) (c.requires.stage x) in
-    let what = printing tree plan place (map printed_of c.args.items.now) c.requires.statement.0 fit c.requires.statement.1 in
+    let what = printing tree plan place _ fit c.requires.statement.1 in
     let below = place_below tree plan p place x kept stage in
     let loaded : length x.registers.items ≡ load_count_at tree place = subst (λ (z : Processor). length z.registers.items ≡ load_count_at tree place) (sym read) (c.requires.loaded x) in
     let all : length x.registers.items ≡ length (loads_of tree (instance_at tree place)) = loaded ∙ ap length (loads_at tree place below) in
@@ -162,7 +162,7 @@ returns-clause-step c =
     let read = c.index_mut-processor.ensures.value in
     let kept : IsKept tree plan p x = subst (IsKept tree plan p) (sym read) (m.kept p x c.requires.worker) in
     let stage = subst (λ (z : Processor). IsAtStage z.cursor (Work place)) (sym read) (c.requires.stage x) in
-    let what = printing tree plan place (map printed_of c.args.items.now) c.requires.statement.0 fit c.requires.statement.1 in
+    let what = printing tree plan place _ fit c.requires.statement.1 in
     let below = place_below tree plan p place x kept stage in
     let loaded : length x.registers.items ≡ load_count_at tree place = subst (λ (z : Processor). length z.registers.items ≡ load_count_at tree place) (sym read) (c.requires.loaded x) in
     let all : length x.registers.items ≡ length (loads_of tree (instance_at tree place)) = loaded ∙ ap length (loads_at tree place below) in
@@ -192,7 +192,7 @@ returns-clause-answer c =
     let read = c.index_mut-processor.ensures.value in
     let kept : IsKept tree plan p x = subst (IsKept tree plan p) (sym read) (m.kept p x c.requires.worker) in
     let stage = subst (λ (z : Processor). IsAtStage z.cursor (Work place)) (sym read) (c.requires.stage x) in
-    let what = printing tree plan place (map printed_of c.args.items.now) c.requires.statement.0 fit c.requires.statement.1 in
+    let what = printing tree plan place _ fit c.requires.statement.1 in
     let below = place_below tree plan p place x kept stage in
     let loaded : length x.registers.items ≡ load_count_at tree place = subst (λ (z : Processor). length z.registers.items ≡ load_count_at tree place) (sym read) (c.requires.loaded x) in
     let all : length x.registers.items ≡ length (loads_of tree (instance_at tree place)) = loaded ∙ ap length (loads_at tree place below) in

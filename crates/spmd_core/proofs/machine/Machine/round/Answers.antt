@@ -1,13 +1,12 @@
-use Rattle.std.proofs.Common.{◌≡◌, ◌≢◌, ◌+◌, ◌<◌, true, ap, sym, ◌∙◌, subst, fold, arith}
+use Rattle.std.proofs.Common.{◌≡◌, ◌+◌, ◌<◌, ap, sym, ◌∙◌, subst, fold, arith}
 use Rattle.std.specs.List.{range_with_len}
-use Rattle.spmd_core.specs.Machine.{State, stepped}
+use Rattle.spmd_core.specs.Machine.{stepped}
 use Rattle.spmd_core.specs.Progress.{IsLawful}
 use Rattle.spmd_core.specs.Shows.{shown, tree_in, plan_in, step_answer}
-use Rattle.spmd_core.specs.declared.answer.StepAnswer.TheVariants.{Stepped}
 use Rattle.spmd_core.specs.declared.machine.Machine.{Machine}
 use Rattle.spmd_core.specs.declared.plan.Plan.{Plan}
 use Rattle.nest_tree.specs.Tree.{Tree}
-use Rattle.spmd_core.proofs.Rounds.{RoundTo, round_more, round_still, round_as, answered_stepped, answered_other}
+use Rattle.spmd_core.proofs.Rounds.{round_more, round_still, round_as, answered_stepped, answered_other}
 use Rattle.spmd_core.proofs.machine.Machine.round.Goals as goal
 use Rattle.spmd_core.proofs.machine.Machine.round.Goals.{in-Stepped, in_default}
 

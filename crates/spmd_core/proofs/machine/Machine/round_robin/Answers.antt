@@ -1,7 +1,7 @@
-use Rattle.std.proofs.Common.{◌≡◌, ℕ, ◌+◌, ◌<◌, true, false, ap, sym, ◌∙◌, subst, inl, inr, fold}
+use Rattle.std.proofs.Common.{◌≡◌, ℕ, ◌+◌, ◌<◌, false, ap, ◌∙◌, subst, fold}
 use Rattle.nest_tree.specs.Tree.{Tree}
-use Rattle.spmd_core.specs.Machine.{State, stepped, IsEnded}
-use Rattle.spmd_core.specs.Progress.{IsReached, can_step, rounds}
+use Rattle.spmd_core.specs.Machine.{stepped, IsEnded}
+use Rattle.spmd_core.specs.Progress.{IsReached, can_step}
 use Rattle.spmd_core.specs.Shows.{shown, tree_in, plan_in}
 use Rattle.spmd_core.specs.Waits.{processors}
 use Rattle.spmd_core.specs.declared.machine.Machine.{Machine}

@@ -1,4 +1,4 @@
-use Rattle.std.proofs.Common.{◌≡◌, ◌<◌, [], length, ap, sym, ◌∙◌, subst, arith}
+use Rattle.std.proofs.Common.{◌<◌, length, ap, sym, ◌∙◌, arith}
 use Rattle.nest_tree.specs.View.{tree_of}
 use Rattle.spmd_core.specs.Machine.{stepped_by}
 use Rattle.spmd_core.specs.Numbered.{own_acts}

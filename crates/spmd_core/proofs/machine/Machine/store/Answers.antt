@@ -1,14 +1,14 @@
-use Rattle.std.proofs.Common.{◌≡◌, ℕ, ◌+◌, ◌<◌, ◌≤◌, [], ◌∷◌, ◌++◌, ℤ, Vec, Global, length, map, set, get_or, ap, sym, ◌∙◌, subst, refl, length-set, w64, to_z, of_z, FitsSigned, vec_len, vec_capacity, rules, arith}
+use Rattle.std.proofs.Common.{◌≡◌, [], Vec, Global, length, map, set, ap, sym, ◌∙◌, subst, length-set, w64, to_z, of_z, FitsSigned, rules, arith}
 use Rattle.std.proofs.lemmas.Int.{to_z-of_z}
 use Rattle.nest_model.specs.Accesses.{loads_of}
 use Rattle.nest_model.specs.Memory.{assigned_value}
 use Rattle.nest_model.specs.Meaning.{value_of}
 use Rattle.nest_tree.specs.Layout.{cell_of}
-use Rattle.nest_tree.specs.View.{tree_of, expression_of, printed_of}
+use Rattle.nest_tree.specs.View.{tree_of, expression_of}
 use Rattle.spmd_core.specs.Acts.{store, last_act}
 use Rattle.spmd_core.specs.Cursors.{IsAtStage, planned_of}
 use Rattle.spmd_core.specs.Numbered.{instance_at, own_acts}
-use Rattle.spmd_core.specs.Shown.{IsKept, load_count_at, room_of, state_of}
+use Rattle.spmd_core.specs.Shown.{IsKept, load_count_at, state_of}
 use Rattle.spmd_core.specs.Shows.{shown, answer_at}
 use Rattle.spmd_core.specs.declared.cursor.Stage.TheVariants.{Work}
 use Rattle.spmd_core.specs.declared.cursor.Turn.{Turn}
@@ -35,7 +35,7 @@ cell_of-cell-requires-clause-low c =
     let read = c.index_mut-processor.ensures.value in
     let kept : IsKept tree plan p x = subst (IsKept tree plan p) (sym read) (m.kept p x c.requires.worker) in
     let stage = subst (λ (z : Processor). IsAtStage z.cursor (Work place)) (sym read) (c.requires.stage x) in
-    let what = storing tree plan place c.args.target.now (expression_of c.args.e.now) c.requires.statement.0 fit c.requires.statement.1 in
+    let what = storing tree plan place _ fit c.requires.statement.2 in
     let below = place_below tree plan p place x kept stage in
     let loaded : length x.registers.items ≡ load_count_at tree place = subst (λ (z : Processor). length z.registers.items ≡ load_count_at tree place) (sym read) (c.requires.loaded x) in
     let all : length x.registers.items ≡ length (loads_of tree (instance_at tree place)) = loaded ∙ ap length (loads_at tree place below) in
@@ -54,7 +54,7 @@ cell_of-cell-requires-clause-high c =
     let read = c.index_mut-processor.ensures.value in
     let kept : IsKept tree plan p x = subst (IsKept tree plan p) (sym read) (m.kept p x c.requires.worker) in
     let stage = subst (λ (z : Processor). IsAtStage z.cursor (Work place)) (sym read) (c.requires.stage x) in
-    let what = storing tree plan place c.args.target.now (expression_of c.args.e.now) c.requires.statement.0 fit c.requires.statement.1 in
+    let what = storing tree plan place _ fit c.requires.statement.2 in
     let below = place_below tree plan p place x kept stage in
     let loaded : length x.registers.items ≡ load_count_at tree place = subst (λ (z : Processor). length z.registers.items ≡ load_count_at tree place) (sym read) (c.requires.loaded x) in
     let all : length x.registers.items ≡ length (loads_of tree (instance_at tree place)) = loaded ∙ ap length (loads_at tree place below) in
@@ -73,7 +73,7 @@ eval-requires-clause-valued c =
     let read = c.index_mut-processor.ensures.value in
     let kept : IsKept tree plan p x = subst (IsKept tree plan p) (sym read) (m.kept p x c.requires.worker) in
     let stage = subst (λ (z : Processor). IsAtStage z.cursor (Work place)) (sym read) (c.requires.stage x) in
-    let what = storing tree plan place c.args.target.now (expression_of c.args.e.now) c.requires.statement.0 fit c.requires.statement.1 in
+    let what = storing tree plan place _ fit c.requires.statement.2 in
     let below = place_below tree plan p place x kept stage in
     let loaded : length x.registers.items ≡ load_count_at tree place = subst (λ (z : Processor). length z.registers.items ≡ load_count_at tree place) (sym read) (c.requires.loaded x) in
     let all : length x.registers.items ≡ length (loads_of tree (instance_at tree place)) = loaded ∙ ap length (loads_at tree place below) in
@@ -92,7 +92,7 @@ eval-requires-clause-loads c =
     let read = c.index_mut-processor.ensures.value in
     let kept : IsKept tree plan p x = subst (IsKept tree plan p) (sym read) (m.kept p x c.requires.worker) in
     let stage = subst (λ (z : Processor). IsAtStage z.cursor (Work place)) (sym read) (c.requires.stage x) in
-    let what = storing tree plan place c.args.target.now (expression_of c.args.e.now) c.requires.statement.0 fit c.requires.statement.1 in
+    let what = storing tree plan place _ fit c.requires.statement.2 in
     let below = place_below tree plan p place x kept stage in
     let loaded : length x.registers.items ≡ load_count_at tree place = subst (λ (z : Processor). length z.registers.items ≡ load_count_at tree place) (sym read) (c.requires.loaded x) in
     let all : length x.registers.items ≡ length (loads_of tree (instance_at tree place)) = loaded ∙ ap length (loads_at tree place below) in
@@ -111,7 +111,7 @@ index_mut-requires c =
     let read = c.index_mut-processor.ensures.value in
     let kept : IsKept tree plan p x = subst (IsKept tree plan p) (sym read) (m.kept p x c.requires.worker) in
     let stage = subst (λ (z : Processor). IsAtStage z.cursor (Work place)) (sym read) (c.requires.stage x) in
-    let what = storing tree plan place c.args.target.now (expression_of c.args.e.now) c.requires.statement.0 fit c.requires.statement.1 in
+    let what = storing tree plan place _ fit c.requires.statement.2 in
     let below = place_below tree plan p place x kept stage in
     let loaded : length x.registers.items ≡ load_count_at tree place = subst (λ (z : Processor). length z.registers.items ≡ load_count_at tree place) (sym read) (c.requires.loaded x) in
     let all : length x.registers.items ≡ length (loads_of tree (instance_at tree place)) = loaded ∙ ap length (loads_at tree place below) in
@@ -159,7 +159,7 @@ invariant_of-self c =
     let read = c.index_mut-processor.ensures.value in
     let kept : IsKept tree plan p x = subst (IsKept tree plan p) (sym read) (m.kept p x c.requires.worker) in
     let stage = subst (λ (z : Processor). IsAtStage z.cursor (Work place)) (sym read) (c.requires.stage x) in
-    let what = storing tree plan place c.args.target.now (expression_of c.args.e.now) c.requires.statement.0 fit c.requires.statement.1 in
+    let what = storing tree plan place _ fit c.requires.statement.2 in
     let below = place_below tree plan p place x kept stage in
     let loaded : length x.registers.items ≡ load_count_at tree place = subst (λ (z : Processor). length z.registers.items ≡ load_count_at tree place) (sym read) (c.requires.loaded x) in
     let all : length x.registers.items ≡ length (loads_of tree (instance_at tree place)) = loaded ∙ ap length (loads_at tree place below) in
@@ -202,7 +202,7 @@ returns-clause-step c =
     let read = c.index_mut-processor.ensures.value in
     let kept : IsKept tree plan p x = subst (IsKept tree plan p) (sym read) (m.kept p x c.requires.worker) in
     let stage = subst (λ (z : Processor). IsAtStage z.cursor (Work place)) (sym read) (c.requires.stage x) in
-    let what = storing tree plan place c.args.target.now (expression_of c.args.e.now) c.requires.statement.0 fit c.requires.statement.1 in
+    let what = storing tree plan place _ fit c.requires.statement.2 in
     let below = place_below tree plan p place x kept stage in
     let loaded : length x.registers.items ≡ load_count_at tree place = subst (λ (z : Processor). length z.registers.items ≡ load_count_at tree place) (sym read) (c.requires.loaded x) in
     let all : length x.registers.items ≡ length (loads_of tree (instance_at tree place)) = loaded ∙ ap length (loads_at tree place below) in
@@ -235,7 +235,7 @@ returns-clause-answer c =
     let read = c.index_mut-processor.ensures.value in
     let kept : IsKept tree plan p x = subst (IsKept tree plan p) (sym read) (m.kept p x c.requires.worker) in
     let stage = subst (λ (z : Processor). IsAtStage z.cursor (Work place)) (sym read) (c.requires.stage x) in
-    let what = storing tree plan place c.args.target.now (expression_of c.args.e.now) c.requires.statement.0 fit c.requires.statement.1 in
+    let what = storing tree plan place _ fit c.requires.statement.2 in
     let below = place_below tree plan p place x kept stage in
     let loaded : length x.registers.items ≡ load_count_at tree place = subst (λ (z : Processor). length z.registers.items ≡ load_count_at tree place) (sym read) (c.requires.loaded x) in
     let all : length x.registers.items ≡ length (loads_of tree (instance_at tree place)) = loaded ∙ ap length (loads_at tree place below) in

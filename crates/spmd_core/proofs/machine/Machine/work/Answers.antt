@@ -1,13 +1,13 @@
-use Rattle.std.proofs.Common.{◌≡◌, ◌+◌, ◌<◌, ◌≤◌, true, false, length, map, ap, sym, ◌∙◌, subst, arith}
+use Rattle.std.proofs.Common.{◌≡◌, ◌<◌, ◌≤◌, length, map, ap, sym, ◌∙◌, subst, arith}
 use Rattle.std.proofs.lemmas.List.{get_or_default}
-use Rattle.nest_tree.specs.Tree.{assign, print}
-use Rattle.nest_tree.specs.View.{tree_of, expression_of, printed_of, statement_of}
+use Rattle.nest_tree.specs.Tree.{print, work}
+use Rattle.nest_tree.specs.View.{tree_of, printed_of, statement_of}
 use Rattle.spmd_core.specs.Cursors.{IsAtStage}
 use Rattle.spmd_core.specs.Shown.{IsKept, load_count_at}
 use Rattle.spmd_core.specs.declared.cursor.Stage.TheVariants.{Work}
 use Rattle.spmd_core.specs.declared.processor.Processor.{Processor}
 use Rattle.spmd_core.proofs.Fits.{works_of-list}
-use Rattle.spmd_core.proofs.StatementPlaces.{statement_at-list, is_work, works_at}
+use Rattle.spmd_core.proofs.StatementPlaces.{work_at-list, work_read}
 use Rattle.spmd_core.proofs.Suits.{suits}
 use Rattle.spmd_core.proofs.TableReads.{row_length, table_length}
 use Rattle.spmd_core.proofs.WorkActs.{place_below}
@@ -123,7 +123,7 @@ store-requires-clause-statement c =
     let stage = subst (λ (z : Processor). IsAtStage z.cursor (Work place)) (sym read) (c.requires.stage x) in
     let below = place_below tree plan p place x kept stage in
     let lt : place < length m.program.now.items.items = omega (arith, below, works_of-list m.program.now.items.items fit.works) in
-    (_, statement_at-list m.program.now.items.items place c.index-3.result.now lt c.index-3.ensures ∙ ap statement_of c.in-Assign.is)
+    (_, _, work_read m.program.now.items.items place c.index-3.result.now _ fit.works lt c.index-3.ensures (ap statement_of c.in-Assign.is))
 
 pub print-requires-clause-statement : goal.print-requires-clause-statement
 print-requires-clause-statement c =
@@ -140,7 +140,7 @@ print-requires-clause-statement c =
     let stage = subst (λ (z : Processor). IsAtStage z.cursor (Work place)) (sym read) (c.requires.stage x) in
     let below = place_below tree plan p place x kept stage in
     let lt : place < length m.program.now.items.items = omega (arith, below, works_of-list m.program.now.items.items fit.works) in
-    (_, statement_at-list m.program.now.items.items place c.index-3.result.now lt c.index-3.ensures ∙ ap statement_of c.in-Print.is ∙ ap (λ items. print (map printed_of items) c.in-Print.field-1) (sym c.deref.ensures.value))
+    (_, work_read m.program.now.items.items place c.index-3.result.now _ fit.works lt c.index-3.ensures (ap statement_of c.in-Print.is ∙ ap (λ items. work (print (record { items = map printed_of items; line = c.in-Print.field-1 }))) (sym c.deref.ensures.value)))
 
 pub unreachable-requires : goal.unreachable-requires
 unreachable-requires c =
@@ -157,7 +157,7 @@ unreachable-requires c =
     let stage = subst (λ (z : Processor). IsAtStage z.cursor (Work place)) (sym read) (c.requires.stage x) in
     let below = place_below tree plan p place x kept stage in
     let lt : place < length m.program.now.items.items = omega (arith, below, works_of-list m.program.now.items.items fit.works) in
-    let clash : true ≡ false = sym (works_at tree.items place fit.works below) ∙ ap is_work (statement_at-list m.program.now.items.items place c.index-3.result.now lt c.index-3.ensures ∙ ap statement_of c.in-Loop.is) in
+    let clash = sym (work_at-list m.program.now.items.items place c.index-3.result.now fit.works lt c.index-3.ensures) ∙ ap statement_of c.in-Loop.is in
     absurd (cc)
 
 pub unreachable-requires-in-Continue : goal.unreachable-requires-in-Continue
@@ -175,5 +175,5 @@ unreachable-requires-in-Continue c =
     let stage = subst (λ (z : Processor). IsAtStage z.cursor (Work place)) (sym read) (c.requires.stage x) in
     let below = place_below tree plan p place x kept stage in
     let lt : place < length m.program.now.items.items = omega (arith, below, works_of-list m.program.now.items.items fit.works) in
-    let clash : true ≡ false = sym (works_at tree.items place fit.works below) ∙ ap is_work (statement_at-list m.program.now.items.items place c.index-3.result.now lt c.index-3.ensures ∙ ap statement_of c.in-Continue.is) in
+    let clash = sym (work_at-list m.program.now.items.items place c.index-3.result.now fit.works lt c.index-3.ensures) ∙ ap statement_of c.in-Continue.is in
     absurd (cc)
