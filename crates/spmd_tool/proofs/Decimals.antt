@@ -1,8 +1,8 @@
 -- The decimal digits of the numbers from 1 to 64.
-use Rattle.std.proofs.Common.{◌≡◌, ℕ, zero, suc, ◌+◌, ◌/◌, ◌%◌, ◌<◌, ◌≤◌, Bool, true, false, ◌&&◌, nat_lt, List, [], ◌∷◌, refl, sym, ◌∙◌, ap, subst, arith, ⊎_elim}
+use Rattle.std.proofs.Common.{◌≡◌, ℕ, zero, suc, ◌+◌, ◌/◌, ◌%◌, ◌<◌, ◌≤◌, Bool, true, nat_lt, List, [], ◌∷◌, refl, sym, ◌∙◌, ap, subst, arith, ⊎_elim}
 use Rattle.std.proofs.Math.Nat.{eq-or-lt_of_le}
 use Rattle.std.proofs.lemmas.Slice.Eq.{bytes_eq-Decides}
-use Rattle.std.proofs.lemmas.Bool.{lt-ltb, le-ltb}
+use Rattle.std.proofs.lemmas.Bool.{and_parts, lt-ltb, le-ltb}
 use Rattle.std.specs.Prelude.{if◌then◌else◌}
 use Rattle.std.specs.List.{list_all, range_with_len}
 use Rattle.std.specs.Str.{bytes_eq}
@@ -12,21 +12,13 @@ use Rattle.std.specs.Fmt.{decimal, digits}
 abbrev pub small_digits : ℕ → List ℕ
 small_digits n = if nat_lt n 10 then (48 + n) ∷ [] else (48 + n / 10) ∷ (48 + n % 10) ∷ []
 
-left_true : (a b : Bool) → (a && b) ≡ true → a ≡ true
-left_true true b h = refl
-left_true false b h = cc
-
-right_true : (a b : Bool) → (a && b) ≡ true → b ≡ true
-right_true true b h = h
-right_true false b h = cc
-
 -- what passes a test along a range passes it at each number of it
 along : (p : ℕ → Bool) (k a n : ℕ) → list_all p (range_with_len a k) ≡ true → a ≤ n → n < a + k → p n ≡ true
 along p zero a n h low high = absurd (omega arith)
 along p (suc k) a n h low high =
-    let first = left_true (p a) (list_all p (range_with_len (a + 1) k)) h in
-    let later : a + 1 ≤ n → p n ≡ true = λ more. along p k (a + 1) n (right_true (p a) (list_all p (range_with_len (a + 1) k)) h) more (omega arith) in
-    ⊎_elim (λ e. subst (λ m. p m ≡ true) e first) (λ less. later (omega (arith, less))) (eq-or-lt_of_le low)
+    let parts = and_parts (p a) (list_all p (range_with_len (a + 1) k)) h in
+    let later : a + 1 ≤ n → p n ≡ true = λ more. along p k (a + 1) n parts.1 more (omega arith) in
+    ⊎_elim (λ e. subst (λ m. p m ≡ true) e parts.0) (λ less. later (omega (arith, less))) (eq-or-lt_of_le low)
 
 -- each number below 100 has these digits
 small_decimals : list_all (λ n. bytes_eq (decimal n) (small_digits n)) (range_with_len 1 64) ≡ true
