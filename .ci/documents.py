@@ -92,14 +92,20 @@ def calls_in(code, places):
         yield Call(places + within, it[1], contract_at(code, it.end())[0])
 
 
+def sources_of(crate):
+    for at, _, files in os.walk(f"crates/{crate}/src"):
+        yield from (os.path.join(at, it) for it in sorted(files) if it.endswith(".rt"))
+
+
+def code_of(crate):
+    return [text_of(it) for it in sources_of(crate)]
+
+
 def calls_of(crate):
-    folder = f"crates/{crate}/src"
     calls = []
-    for at, _, files in os.walk(folder):
-        for file in sorted(files):
-            if file.endswith(".rt"):
-                modules = os.path.relpath(os.path.join(at, file[:-3]), folder).split(os.sep)
-                calls += calls_in(text_of(os.path.join(at, file)), modules)
+    for file in sources_of(crate):
+        modules = os.path.relpath(file[:-3], f"crates/{crate}/src").split(os.sep)
+        calls += calls_in(text_of(file), modules)
     return calls
 
 
@@ -173,21 +179,29 @@ def crate_of(document):
     return found[1] if found and found[1] in CODE else None
 
 
+def is_type(crate, name):
+    return any(re.search(rf"\b(?:struct|enum|trait|type) {name}\b", it) for it in code_of(crate))
+
+
+def is_carried(call, cell):
+    """Whether the cell names a clause of the call, or says of it what has no name."""
+    if set(re.findall(NAME, cell)) & set(call.clauses) or re.search(r"invariant|see the", cell):
+        return True
+    if re.search(r"\b(its|their) clause", cell):
+        return len(call.clauses) == 1
+    return bool(re.search(r"\ball\b", cell) and call.clauses)
+
+
 def missing_in_row(crate, calls, cell):
     """What a row with these calls in a column of their own says that is not there."""
-    functions = [(it, named_calls(crate, it)) for it in re.findall(NAME, calls)]
-    clauses = re.findall(NAME, cell)
-    for words, found in functions:
-        if not found:
+    functions = {it: named_calls(crate, it) for it in re.findall(NAME, calls)}
+    for words, found in functions.items():
+        if not found and not ("see the" in cell and is_type(crate, words)):
             yield f"{crate}'s call {words}"
-        elif clauses and "invariant" not in cell and not any(set(clauses) & set(it.clauses) for it in found):
-            yield f"a clause of {cell} at {words}"
-        elif not clauses and re.search(r"\b(its|their) clause", cell) and not any(len(it.clauses) == 1 for it in found):
-            yield f"a single clause at {words}"
-        elif not clauses and re.search(r"\ball\b", cell) and not any(it.clauses for it in found):
-            yield f"a clause at {words}"
-    for clause in clauses:
-        if not any(clause in it.clauses for _, found in functions for it in found):
+        elif found and not any(is_carried(it, cell) for it in found):
+            yield f"a clause of {words}, in \"{cell}\","
+    for clause in re.findall(NAME, cell):
+        if not any(clause in it.clauses for found in functions.values() for it in found):
             yield f"the clause {clause} at {calls or 'no call'}"
 
 
