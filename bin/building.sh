@@ -48,6 +48,10 @@ build() {
         say "the command rt of the Rattle kit, which proves and builds the program, is not on the PATH"
         return 127
     fi
+    if [ ! -w "$root/crates/$1" ]; then
+        say "this copy of the repository can only be read, so nothing can be built in it"
+        return 126
+    fi
     exec 9<"$root/crates.txt"
     if command -v flock >/dev/null 2>&1 && ! flock -n 9; then
         say "another run is proving and building; waiting for it"
