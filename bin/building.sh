@@ -11,7 +11,7 @@
 crates_of() {
     local -A needs=() seen=()
     local name below
-    while IFS=: read -r name below; do
+    while IFS=: read -r name below || [ -n "$name" ]; do
         name=${name%%[[:space:]#]*}
         [ -n "$name" ] && needs[$name]=$below
     done <"$root/crates.txt"
