@@ -1,8 +1,7 @@
 -- The system that is being read.
-use Rattle.std.specs.Prelude.{◌-◌, ◌==◌, if◌then◌else◌, IsTrue, [], ◌∷◌, ◌++◌, length, Option, Some, None, Result, Ok, Err}
-use Rattle.std.specs.List.{All}
+use Rattle.std.specs.Prelude.{◌-◌, ◌==◌, if◌then◌else◌, [], ◌∷◌, ◌++◌, length, Option, Some, None, Result, Ok, Err}
 use Rattle.farkas_cert.specs.declared.system.Row.{Row}
-use Rattle.farkas_cert.specs.Combination.{is_narrow}
+use Rattle.farkas_cert.specs.Narrow.{IsNarrowRow}
 use Rattle.elim_bench.specs.declared.line.Head.{Head}
 use Rattle.elim_bench.specs.declared.line.Line.{Line}
 use Rattle.elim_bench.specs.declared.line.Line.TheVariants as lines
@@ -30,4 +29,4 @@ open_behind (Some task) (lines.Row row) = if length row.coefs == task.system.var
 abbrev pub IsNarrowLine : Line → Type 0
 IsNarrowLine lines.Nothing = Unit {0}
 IsNarrowLine (lines.Head head) = Unit {0}
-IsNarrowLine (lines.Row row) = All (λ a. IsTrue (is_narrow a)) row.coefs × IsTrue (is_narrow row.bound)
+IsNarrowLine (lines.Row row) = IsNarrowRow row

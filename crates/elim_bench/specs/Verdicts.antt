@@ -5,7 +5,7 @@ use Rattle.farkas_cert.specs.declared.certificate.Certificate.{Certificate}
 use Rattle.farkas_cert.specs.declared.system.Row.{Row}
 use Rattle.farkas_cert.specs.Inequalities.{Inequalities, HasNoWholeSolution}
 use Rattle.farkas_cert.specs.Good.{IsGood}
-use Rattle.fm_elim.specs.Answers.{HasRationalSolution, IsWideAt, IsManyAt}
+use Rattle.fm_elim.specs.Answers.{IsKept}
 use Rattle.fm_elim.specs.declared.answer.Answer.{Answer}
 use Rattle.fm_elim.specs.declared.answer.Answer.TheVariants as answers
 use Rattle.elim_bench.specs.declared.verdict.Verdict.{Verdict}
@@ -18,19 +18,12 @@ verdict_on answers.Open = Open
 verdict_on (answers.Wide level upper lower) = Wide level
 verdict_on (answers.Many level count) = Many level count
 
--- what the answer of a decision in this order says of the system
-abbrev pub IsSoundAnswer : Inequalities → List ℕ → Answer → Type 0
-IsSoundAnswer system order (answers.Infeasible certificate) = IsGood system certificate
-IsSoundAnswer system order answers.Open = HasRationalSolution system
-IsSoundAnswer system order (answers.Wide level upper lower) = IsWideAt system order level upper lower
-IsSoundAnswer system order (answers.Many level count) = IsManyAt system order level count
-
--- what a verdict says of the system: no whole solution, by a good certificate of so many steps; a rational solution; two rows whose combination is wide at the level; or more than 20,000 rows at it
+-- what a verdict says of the system: no whole solution, by a good certificate of so many steps; or by which answer elimination in this order keeps it
 abbrev pub IsSound : Inequalities → List ℕ → Verdict → Type 0
 IsSound system order (Infeasible steps) = HasNoWholeSolution system × ((certificate : Certificate) × IsGood system certificate × (length certificate.steps ≡ steps))
-IsSound system order Open = HasRationalSolution system
-IsSound system order (Wide level) = (upper : Row) × (lower : Row) × IsWideAt system order level upper lower
-IsSound system order (Many level count) = IsManyAt system order level count
+IsSound system order Open = IsKept system order answers.Open
+IsSound system order (Wide level) = (upper : Row) × (lower : Row) × IsKept system order (answers.Wide level upper lower)
+IsSound system order (Many level count) = IsKept system order (answers.Many level count)
 
 -- what is written of a verdict
 abbrev pub verdict_text : Verdict → List ℕ

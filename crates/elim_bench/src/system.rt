@@ -1,67 +1,14 @@
 // Systems, while their rows are read.
 
 ghost use Rattle.std.specs.Prelude.{◌≡◌, ◌≢◌, ◌↔◌, ◌++◌, [], ◌∷◌, Some, Ok, Err, OnOk, OnErr, IfOk, IfErr, IsTrue, length};
-ghost use Rattle.std.specs.List.{All};
-ghost use Rattle.farkas_cert.specs.Combination.{is_narrow};
+ghost use Rattle.farkas_cert.specs.Narrow.{IsNarrowRow};
 ghost use Rattle.elim_bench.specs.declared.line.Line.TheVariants as lines;
 ghost use Rattle.elim_bench.specs.declared.line.LineFault.TheVariants.{NoMemory};
 ghost use Rattle.elim_bench.specs.Tasks as spec;
 
 use crate::line::{Head, Line, LineFault, Name};
-use farkas_cert::{Row, System};
+use farkas_cert::{NarrowSystem, Row};
 use std::alloc::{AllocError, Global};
-use std::marker::Model;
-
-/// A system whose coefficients and bounds are at most 2 ^ 126 in size. Contracts see the number of
-/// variables and the list of rows.
-#[derive(Drop)]
-pub struct NarrowSystem {
-    system: System,
-}
-
-impl Model for NarrowSystem {
-    ghost use Rattle.farkas_cert.specs.Inequalities.{Inequalities};
-    ghost use Rattle.fm_elim.specs.Answers.{AreNarrow};
-
-    ghost Value = { Inequalities };
-
-    ghost view = { λ s. s.system };
-
-    ghost invariant = { λ s. AreNarrow s.system.rows };
-}
-
-impl NarrowSystem {
-    ghost use Rattle.farkas_cert.specs.Inequalities.{Inequalities};
-    ghost use Rattle.fm_elim.specs.Answers.{AreNarrow};
-
-    /// The system over so many variables with no row.
-    pub fn empty(alloc: Global, variables: u32) -> Self
-        ensures { result ≡ record { vars = variables; rows = [] } }
-    {
-        NarrowSystem {
-            system: System::empty(alloc, variables),
-        }
-    }
-
-    /// One more row at the end. Where memory runs out nothing has changed.
-    pub fn push(&mut self, row: Row) -> Result<(), AllocError>
-        requires full { length row.coefs ≡ self.old.vars }
-        requires coefs { All (λ a. IsTrue (is_narrow a)) row.coefs }
-        requires bound { IsTrue (is_narrow row.bound) }
-        ensures ok { OnOk result (self.new ≡ record { vars = self.old.vars; rows = self.old.rows ++ row ∷ [] }) }
-        ensures err { OnErr result (self.new ≡ self.old) }
-    {
-        self.system.push(row)
-    }
-
-    /// The system.
-    pub fn as_system(&self) -> &System
-        ensures system { result.now ≡ self.now }
-        ensures narrow { AreNarrow self.now.rows }
-    {
-        &self.system
-    }
-}
 
 /// A system that is being read: its name, its rows so far, and how many are missing.
 #[derive(Drop)]
@@ -93,8 +40,7 @@ impl Task {
     /// Adds a row.
     pub fn add(&mut self, row: Row) -> Result<(), AllocError>
         requires full { length row.coefs ≡ self.old.system.vars }
-        requires coefs { All (λ a. IsTrue (is_narrow a)) row.coefs }
-        requires bound { IsTrue (is_narrow row.bound) }
+        requires narrow { IsNarrowRow row }
         ensures ok { OnOk result (self.new ≡ task_with row self.old) }
         ensures err { OnErr result (self.new ≡ self.old) }
     {

@@ -2,7 +2,7 @@
 
 ghost use Rattle.std.specs.Prelude.{◌≡◌, IfOk, IsOkUnless, string_bytes};
 ghost use Rattle.std.specs.List.{range_with_len};
-ghost use Rattle.fm_elim.specs.Answers.{AreNarrow};
+ghost use Rattle.fm_elim.specs.Answers.{AreNarrow, IsDecided};
 ghost use Rattle.elim_bench.specs.Verdicts as spec;
 
 use farkas_cert::{CertRefusal, System, check_cert};
@@ -33,7 +33,7 @@ fn order_of(alloc: Global, variables: u32) -> Result<Vec<u32>, AllocError>
 /// Decides a system, whose numbers are at most 2 ^ 126 in size, in the order of its variables.
 pub fn decided(alloc: Global, system: &System) -> Result<Answer, NoMemory>
     requires { AreNarrow system.now.rows }
-    ensures { IfOk result (spec.IsSoundAnswer system.now (range_with_len 1 system.now.vars)) }
+    ensures { IfOk result (IsDecided system.now (range_with_len 1 system.now.vars)) }
 {
     let order = order_of(alloc, system.vars())?;
     decide(alloc, system, order.as_slice())
@@ -41,7 +41,7 @@ pub fn decided(alloc: Global, system: &System) -> Result<Answer, NoMemory>
 
 // The verdict on an answer: a certificate is checked.
 fn verdict_of(alloc: Global, system: &System, answer: &Answer) -> Result<Verdict, CertRefusal>
-    requires { spec.IsSoundAnswer system.now (range_with_len 1 system.now.vars) answer.now }
+    requires { IsDecided system.now (range_with_len 1 system.now.vars) answer.now }
     ensures verdict { IfOk result (λ verdict. verdict ≡ spec.verdict_on answer.now) }
     ensures sound { IfOk result (spec.IsSound system.now (range_with_len 1 system.now.vars)) }
     ensures told { IsOkUnless result CertRefusal.NoMemory }
@@ -87,7 +87,7 @@ pub fn answer_line(
     system: &System,
     answer: &Answer,
 ) -> Result<Vec<u8>, CertRefusal>
-    requires { spec.IsSoundAnswer system.now (range_with_len 1 system.now.vars) answer.now }
+    requires { IsDecided system.now (range_with_len 1 system.now.vars) answer.now }
     ensures line { IfOk result (λ line. line.items ≡ spec.verdict_line name.now (spec.verdict_on answer.now)) }
     ensures sound { IfOk result (λ _. spec.IsSound system.now (range_with_len 1 system.now.vars) (spec.verdict_on answer.now)) }
     ensures told { IsOkUnless result CertRefusal.NoMemory }

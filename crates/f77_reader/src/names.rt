@@ -45,7 +45,7 @@ impl Names {
     }
 
     /// The number of the scalar of this name, which is a new one where no other has the name.
-    /// Fails only where memory runs out.
+    /// Fails for want of memory alone, as which a number past 2^32 - 1 counts.
     pub fn number(&mut self, alloc: Global, name: &[u8]) -> Result<u32, Fault>
         ensures number { IfOk result (λ n. n ≡ number_of self.old name.now) }
         ensures names { IfOk result (λ n. self.new ≡ with_name self.old name.now) }

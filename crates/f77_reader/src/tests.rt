@@ -2,6 +2,7 @@
 
 use crate::{Refusal, read_straight};
 use nest_tree::{Expr, Item};
+use std::fmt::Write;
 use std::test::Fail;
 
 #[test]
@@ -62,6 +63,24 @@ fn reads_at_most_400_lines(rt: HostRuntime) -> Result<(), Fail> {
     let longer = format!(in rt.alloc(); "      K=1\n{source}")?;
     let refused = read_straight(rt.alloc(), longer.as_bytes()).err();
     assert_eq!(rt; refused, Some(Refusal::NotInProfile(400)));
+    Ok(())
+}
+
+#[test]
+fn reads_398_names(rt: HostRuntime) -> Result<(), Fail> {
+    let mut source = String::from_str(rt.alloc(), "      PROGRAM NAMES\n")?;
+    for number in 1..399 {
+        writeln!(source, "      K{number} = {number}")?;
+    }
+    source.push_str("      END\n")?;
+    let Ok(program) = read_straight(rt.alloc(), source.as_bytes()) else {
+        return Err(Fail::from("refused"));
+    };
+    assert_eq!(rt; program.variables.len(), 398);
+    for (number, variable) in (1..399).zip(program.variables.iter()) {
+        let name = format!(in rt.alloc(); "K{number}")?;
+        assert_eq!(rt; variable.name.as_slice(), name.as_bytes());
+    }
     Ok(())
 }
 

@@ -5,4 +5,5 @@ pub mod Products
 pub mod Quotients
 pub mod Entries
 pub mod Faults
+pub mod Units
 pub mod Verdict

@@ -1,8 +1,10 @@
 -- A certificate is good exactly where it has no fault.
 use Rattle.std.proofs.Common.{◌≡◌, ◌≢◌, ℕ, zero, suc, ◌+◌, ◌-◌, ◌≤◌, ◌<◌, ℤ, pos, ◌≤ℤ◌, int_lt, int_div, int_rem, Bool, true, false, ◌&&◌, not, nat_le, if◌then◌else◌, IsSomeAnd, OnOk, IfErr, IsOkUnless, Result, Ok, Err, Option, Some, None, List, [], ◌∷◌, ◌++◌, length, get_or, slice_get, refl, ◌∙◌, add-one, append_assoc, drop, arith}
+use Rattle.std.specs.Option.{option_or}
 use Rattle.std.specs.Ordering.{int_eq}
 use Rattle.std.specs.List.{All, list_all, range_with_len}
 use Rattle.std.proofs.lemmas.Int.{ints}
+use Rattle.std.proofs.lemmas.Bool.{and_parts}
 use Rattle.std.proofs.lemmas.Bool.Decides.{nat_tests, Decides-int_eq}
 use Rattle.std.proofs.lemmas.List.Folds.{list_any_none}
 use Rattle.std.proofs.lemmas.List.Sums.{AllPass-from_list_all, list_all-from_AllPass}
@@ -17,7 +19,7 @@ use Rattle.farkas_cert.specs.declared.certificate.CertRefusal.TheVariants.{Negat
 use Rattle.farkas_cert.specs.Inequalities.{Inequalities, AreFull, HasNoWholeSolution}
 use Rattle.farkas_cert.specs.Combination.{products_at, sum_at, made_row, stays_narrow}
 use Rattle.farkas_cert.specs.Good.{IsGoodStep, AreGoodSteps, rows_after, IsContradiction, EndInContradiction, IsGood}
-use Rattle.farkas_cert.specs.Fault.{has_negative, names_bad_row, first_wide, divides, number_fault, step_fault, is_contradiction, last_fault, fault_or, fault_from, first_fault}
+use Rattle.farkas_cert.specs.Fault.{has_negative, names_bad_row, first_wide, divides, number_fault, step_fault, is_contradiction, last_fault, fault_from, first_fault}
 use Rattle.farkas_cert.proofs.Products.{list_any-false, named-at}
 use Rattle.farkas_cert.proofs.Exclusion.{good_excludes}
 
@@ -29,10 +31,6 @@ none_from_if false x o h = (refl, h)
 true_from_if : {X : Type 0} (b : Bool) (x : X) → (if b then None else Some x) ≡ None → b ≡ true
 true_from_if true x h = refl
 true_from_if false x h = absurd cc
-
-both : (p q : Bool) → (p && q) ≡ true → (p ≡ true) × (q ≡ true)
-both true q h = (refl, h)
-both false q h = absurd cc
 
 module _ (vars : ℕ) (rows : List Row) (terms : List (ℕ × ℤ)) where
   narrow_from_none : (a n : ℕ) → first_wide vars rows terms (range_with_len a n) ≡ None → (k : ℕ) → a ≤ k → k < a + n → stays_narrow (pos 0) (products_at vars rows terms k) ≡ true
@@ -62,7 +60,7 @@ module _ (vars : ℕ) (rows : List Row) (terms : List (ℕ × ℤ)) where
 -- a step has no fault exactly where it is good
 divides_from_test : (vars : ℕ) (rows : List Row) (step : Step) → divides vars rows step ≡ true → (pos 1 ≤ℤ step.divisor) × ((k : ℕ) → k < vars → int_rem (sum_at vars rows step.terms k) step.divisor ≡ pos 0)
 divides_from_test vars rows step h =
-    let parts = both (int_lt (pos 0) step.divisor) (list_all (λ k. int_eq (int_rem (sum_at vars rows step.terms k) step.divisor) (pos 0)) (range_with_len 0 vars)) h in
+    let parts = and_parts (int_lt (pos 0) step.divisor) (list_all (λ k. int_eq (int_rem (sum_at vars rows step.terms k) step.divisor) (pos 0)) (range_with_len 0 vars)) h in
     let above = parts.0 in
     let each = AllPass-from_list_all (λ k. int_eq (int_rem (sum_at vars rows step.terms k) step.divisor) (pos 0)) (range_with_len 0 vars) parts.1 in (
       grind (arith, ints),
@@ -113,7 +111,7 @@ none_from_good vars rows n step good =
 -- a row passes the test exactly where it is a contradiction
 contradiction_from_test : (row : Row) → is_contradiction row ≡ true → IsContradiction row
 contradiction_from_test row h =
-    let parts = both (list_all (λ a. int_eq a (pos 0)) row.coefs) (int_lt row.bound (pos 0)) h in
+    let parts = and_parts (list_all (λ a. int_eq a (pos 0)) row.coefs) (int_lt row.bound (pos 0)) h in
     let below = parts.1 in
     (λ k d lt. (Decides-int_eq (get_or row.coefs k d) (pos 0)).0 (AllPass-from_list_all (λ a. int_eq a (pos 0)) row.coefs parts.0 k d lt), grind (arith, ints))
 
@@ -130,7 +128,7 @@ none_from_end : (count : ℕ) (last : Option Row) → IsSomeAnd last IsContradic
 none_from_end count None h = absurd h
 none_from_end count (Some row) h = rw (test_from_contradiction row h) refl
 
-first_none : (a b : Option CertRefusal) → fault_or a b ≡ None → (a ≡ None) × (b ≡ None)
+first_none : (a b : Option CertRefusal) → option_or a b ≡ None → (a ≡ None) × (b ≡ None)
 first_none None b h = (refl, h)
 first_none (Some e) b h = absurd cc
 

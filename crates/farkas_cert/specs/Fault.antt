@@ -1,5 +1,6 @@
 -- The first fault of a certificate.
 use Rattle.std.specs.Prelude.{ℕ, ◌+◌, ◌-◌, ℤ, pos, negsuc, int_lt, int_rem, Bool, ◌&&◌, not, nat_le, if◌then◌else◌, List, [], ◌∷◌, ◌++◌, length, Option, Some, None, slice_get, ◌≡◌, refl}
+use Rattle.std.specs.Option.{option_or}
 use Rattle.std.specs.Ordering.{int_eq}
 use Rattle.std.specs.List.{list_any, list_all, range_with_len}
 use Rattle.farkas_cert.specs.declared.system.Row.{Row}
@@ -48,15 +49,10 @@ abbrev pub last_fault : ℕ → Option Row → Option CertRefusal
 last_fault count None = Some (NoContradiction 0)
 last_fault count (Some row) = if is_contradiction row then None else Some (NoContradiction count)
 
--- the fault that is there, or else the other
-abbrev pub fault_or : Option CertRefusal → Option CertRefusal → Option CertRefusal
-fault_or None other = other
-fault_or (Some fault) other = Some fault
-
 -- the first fault of the steps from n on, over the rows before them, and then of the last row
 abbrev pub fault_from : ℕ → List Row → ℕ → List Step → Option CertRefusal
 fault_from vars rows n [] = last_fault (length rows) (slice_get rows (length rows - 1))
-fault_from vars rows n (step ∷ steps) = fault_or (step_fault vars rows n step) (fault_from vars (rows ++ made_row vars rows step ∷ []) (n + 1) steps)
+fault_from vars rows n (step ∷ steps) = option_or (step_fault vars rows n step) (fault_from vars (rows ++ made_row vars rows step ∷ []) (n + 1) steps)
 
 -- the first fault of a certificate, if it has one
 abbrev pub first_fault : Inequalities → Certificate → Option CertRefusal

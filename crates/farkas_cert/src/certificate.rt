@@ -56,11 +56,11 @@ pub struct Step {
 
 /// Steps, numbered from 1. Contracts see the list of them.
 #[derive(Drop)]
-pub struct Steps {
+pub struct StepList {
     items: Vec<Step>,
 }
 
-impl Model for Steps {
+impl Model for StepList {
     ghost use Rattle.std.specs.Prelude.{List};
     ghost use Rattle.farkas_cert.specs.declared.certificate.Step.{Step};
 
@@ -69,19 +69,19 @@ impl Model for Steps {
     ghost view = { λ s. s.items.items };
 }
 
-impl Steps {
+impl StepList {
     /// The steps of a vector. It takes no memory.
     pub fn from_vec(items: Vec<Step>) -> Self
         ensures { result ≡ items.items }
     {
-        Steps { items }
+        StepList { items }
     }
 
     /// The vector of the steps. It takes no memory.
     pub fn into_vec(self) -> Vec<Step>
         ensures { result.items ≡ self }
     {
-        let Steps { items } = self;
+        let StepList { items } = self;
         items
     }
 
@@ -97,7 +97,7 @@ impl Steps {
 /// makes.
 #[derive(Drop)]
 pub struct Certificate {
-    pub steps: Steps,
+    pub steps: StepList,
 }
 
 /// Why a certificate is refused. Steps are numbered from 1, and rows too, those of the system

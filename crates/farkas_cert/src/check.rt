@@ -1,6 +1,6 @@
 // The check of a certificate.
 
-ghost use Rattle.std.specs.Prelude.{◌≡◌, ◌≢◌, ℕ, ◌+◌, ◌*◌, ◌≤◌, ◌^◌, ℤ, pos, ◌+ℤ◌, ◌*ℤ◌, IsSome, IfSome, IfOk, IfErr, OnOk, IsOkUnless, ◌↔◌, ◌++◌, map, length, if◌then◌else◌, nat_le, false, ◌&&◌, true, ◌<ℤ◌, int_div, int_rem, slice_get, ◌-◌};
+ghost use Rattle.std.specs.Prelude.{◌≡◌, ◌≢◌, ℕ, ◌+◌, ◌*◌, ◌≤◌, ◌<◌, [], ◌∷◌, ℤ, pos, ◌+ℤ◌, ◌*ℤ◌, IsSome, IfSome, IfOk, IfErr, OnOk, IsOkUnless, ◌↔◌, ◌++◌, map, length, if◌then◌else◌, false, ◌&&◌, true, ◌<ℤ◌, int_div, int_rem, slice_get, ◌-◌};
 ghost use Rattle.std.specs.Int.{int_div_euclid};
 ghost use Rattle.std.specs.Ordering.{int_eq};
 ghost use Rattle.std.specs.List.{list_all, range_with_len};
@@ -8,57 +8,29 @@ ghost use Rattle.farkas_cert.specs.Inequalities.{AreFull, HasNoWholeSolution};
 ghost use Rattle.farkas_cert.specs.Combination.{is_narrow as narrow, stays_narrow, total, products_at, made_row};
 ghost use Rattle.farkas_cert.specs.Combination.{row_at as row_of, entry_at as entry_of, sum_at as sum_of};
 ghost use Rattle.farkas_cert.specs.Good.{IsGood};
+ghost use Rattle.farkas_cert.specs.Units.{most_units, RoseWithin};
 ghost use Rattle.farkas_cert.specs.Fault.{has_negative as negative, is_contradiction as contradiction, names_bad_row, first_wide, divides, step_fault, last_fault, first_fault};
 
 use crate::certificate::{CertRefusal, Certificate, Step};
+use crate::counting::Steps;
+use crate::division::floor_quotient;
+use crate::narrow::{narrow_product, narrow_sum};
 use crate::system::{Coefs, Row, System};
 use std::alloc::Global;
-
-/// The largest size of a product or a running sum, 2 ^ 126.
-const LIMIT: u128 = 1 << 126;
-
-/// Two factors below this size have a product below 2 ^ 126.
-const SMALL: u128 = 1 << 63;
-
-// The number is at most 2 ^ 126 in size.
-fn is_narrow(number: i128) -> bool
-    ensures { result ≡ narrow number }
-{
-    number.unsigned_abs() <= LIMIT
-}
-
-// Whether the product of two sizes is at most 2 ^ 126: with no division where both are small.
-fn has_narrow_product(size: u128, other: u128) -> bool
-    ensures { result ≡ nat_le (size * other) (2 ^ 126) }
-{
-    if size < SMALL && other < SMALL {
-        return true;
-    }
-    size == 0 || other <= LIMIT / size
-}
-
-// The product, if it is at most 2 ^ 126 in size. That is tested before it is made.
-fn narrow_product(a: i128, b: i128) -> Option<i128>
-    ensures { result ≡ (if narrow (a *ℤ b) then Some (a *ℤ b) else None) }
-{
-    if has_narrow_product(a.unsigned_abs(), b.unsigned_abs()) {
-        Some(a * b)
-    } else {
-        None
-    }
-}
-
-// The sum, if it is at most 2 ^ 126 in size.
-fn narrow_sum(sum: i128, product: i128) -> Option<i128>
-    ensures { result ≡ (if narrow (sum +ℤ product) then Some (sum +ℤ product) else None) }
-{
-    sum.checked_add(product).filter(|s| is_narrow(*s))
-}
+use std::marker::Brand;
+use std::sync::ledger::{Blank, Ledger};
 
 // The sum and one product more, if neither the product nor the new sum passes the limit.
-fn with_product(sum: i128, multiplier: i128, entry: i128) -> Option<i128>
-    ensures { let product = multiplier *ℤ entry in result ≡ (if narrow product && narrow (sum +ℤ product) then Some (sum +ℤ product) else None) }
+fn with_product<L: Ledger>(
+    sum: i128,
+    multiplier: i128,
+    entry: i128,
+    steps: &mut Steps<L>,
+) -> Option<i128>
+    ensures sum { let product = multiplier *ℤ entry in result ≡ (if narrow product && narrow (sum +ℤ product) then Some (sum +ℤ product) else None) }
+    ensures counted { steps.new ≡ steps.old + 1 }
 {
+    steps.tick();
     narrow_sum(sum, narrow_product(multiplier, entry)?)
 }
 
@@ -115,27 +87,36 @@ fn has_bad_row(system: &System, made: &[Row], terms: &[(u64, i128)]) -> bool
 }
 
 // What the terms sum at entry k, where no product and no running sum passes the limit.
-fn sum_at(system: &System, made: &[Row], terms: &[(u64, i128)], k: usize) -> Option<i128>
+fn sum_at<L: Ledger>(
+    system: &System,
+    made: &[Row],
+    terms: &[(u64, i128)],
+    k: usize,
+    steps: &mut Steps<L>,
+) -> Option<i128>
     requires full { AreFull system.now.vars made.now }
     requires named { names_bad_row (length system.now.rows + length made.now) terms.now ≡ false }
-    ensures { let products = products_at system.now.vars (system.now.rows ++ made.now) terms.now k in result ≡ (if stays_narrow (pos 0) products then Some (total products) else None) }
+    ensures sum { let products = products_at system.now.vars (system.now.rows ++ made.now) terms.now k in result ≡ (if stays_narrow (pos 0) products then Some (total products) else None) }
+    ensures units { RoseWithin (length terms.now) steps.old steps.new }
+    ensures all { IsSome result → steps.new ≡ steps.old + length terms.now }
 {
     let vars = system.vars() as usize;
     let mut sum = 0i128;
     for term in terms {
         let row = row_at(system, made, term.0);
-        sum = with_product(sum, term.1, entry_at(row, vars, k))?;
+        sum = with_product(sum, term.1, entry_at(row, vars, k), steps)?;
     }
     Some(sum)
 }
 
 // What the terms of step `number` sum at each entry, if no product and no running sum passes the limit.
-fn summed(
+fn summed<L: Ledger>(
     alloc: Global,
     system: &System,
     made: &[Row],
     number: u64,
     terms: &[(u64, i128)],
+    steps: &mut Steps<L>,
 ) -> Result<Row, CertRefusal>
     requires full { AreFull system.now.vars made.now }
     requires named { names_bad_row (length system.now.rows + length made.now) terms.now ≡ false }
@@ -144,46 +125,54 @@ fn summed(
     ensures coefs { IfOk result (λ row. row.coefs ≡ map (sum_of system.now.vars (system.now.rows ++ made.now) terms.now) (range_with_len 0 system.now.vars)) }
     ensures bound { IfOk result (λ row. row.bound ≡ sum_of system.now.vars (system.now.rows ++ made.now) terms.now system.now.vars) }
     ensures wide { IfErr result (λ e. e ≢ CertRefusal.NoMemory → (k : ℕ) × (first_wide system.now.vars (system.now.rows ++ made.now) terms.now (range_with_len 0 (system.now.vars + 1)) ≡ Some k) × (e ≡ CertRefusal.Wide number (k + 1))) }
+
+    ensures units { RoseWithin (length terms.now * (system.now.vars + 1)) steps.old steps.new }
+    ensures all { OnOk result (steps.new ≡ steps.old + length terms.now * (system.now.vars + 1)) }
 {
     let vars = system.vars();
     let mut coefs = Coefs::with_capacity(alloc, vars as usize)?;
     for k in 0..vars {
-        match sum_at(system, made, terms, k as usize) {
+        match sum_at(system, made, terms, k as usize, steps) {
             Some(sum) => coefs.push(sum)?,
             None => return Err(CertRefusal::Wide(number, u64::from(k) + 1)),
         }
     }
-    match sum_at(system, made, terms, vars as usize) {
+    match sum_at(system, made, terms, vars as usize, steps) {
         Some(bound) => Ok(Row { coefs, bound }),
         None => Err(CertRefusal::Wide(number, u64::from(vars) + 1)),
     }
 }
 
 // The row divided, its bound rounded down, if the divisor is at least 1 and divides each coefficient.
-fn divided(mut row: Row, divisor: i128) -> Option<Row>
+fn divided<L: Ledger>(mut row: Row, divisor: i128, steps: &mut Steps<L>) -> Option<Row>
     ensures coefs { IfSome result (λ made. made.coefs ≡ map (λ a. int_div a divisor) row.coefs) }
     ensures bound { IfSome result (λ made. made.bound ≡ int_div_euclid row.bound divisor) }
     ensures divides { IsSome result ↔ ((pos 0 <ℤ divisor) × (list_all (λ a. int_eq (int_rem a divisor) (pos 0)) row.coefs ≡ true)) }
+    ensures units { RoseWithin (length row.coefs + 1) steps.old steps.new }
+    ensures all { IsSome result → steps.new ≡ steps.old + length row.coefs + 1 }
 {
-    if divisor < 1 || !row.coefs.divide(divisor) {
+    if divisor < 1 || !row.coefs.divide(divisor, steps) {
         return None;
     }
-    row.bound = row.bound.div_euclid(divisor);
+    row.bound = floor_quotient(row.bound, divisor, steps);
     Some(row)
 }
 
 // The row that step `number` makes of the rows so far, if the step is good.
-fn check_step(
+fn check_step<L: Ledger>(
     alloc: Global,
     system: &System,
     made: &[Row],
     number: u64,
     step: &Step,
+    steps: &mut Steps<L>,
 ) -> Result<Row, CertRefusal>
     requires { AreFull system.now.vars made.now }
     ensures good { OnOk result (step_fault system.now.vars (system.now.rows ++ made.now) number step.now ≡ None) }
     ensures made { IfOk result (λ row. row ≡ made_row system.now.vars (system.now.rows ++ made.now) step.now) }
     ensures refused { IfErr result (λ e. e ≢ CertRefusal.NoMemory → step_fault system.now.vars (system.now.rows ++ made.now) number step.now ≡ Some e) }
+    ensures units { RoseWithin (most_units system.now.vars (step.now ∷ [])) steps.old steps.new }
+    ensures all { OnOk result (steps.new ≡ steps.old + most_units system.now.vars (step.now ∷ [])) }
 {
     let terms = step.terms.as_slice();
     if has_negative(terms) {
@@ -192,8 +181,8 @@ fn check_step(
     if has_bad_row(system, made, terms) {
         return Err(CertRefusal::BadRow(number));
     }
-    let sums = summed(alloc, system, made, number, terms)?;
-    match divided(sums, step.divisor) {
+    let sums = summed(alloc, system, made, number, terms, steps)?;
+    match divided(sums, step.divisor, steps) {
         Some(row) => Ok(row),
         None => Err(CertRefusal::BadDivisor(number)),
     }
@@ -228,38 +217,44 @@ fn check_last(system: &System, made: &[Row]) -> Result<(), CertRefusal>
 }
 
 // The rows that the steps make, if each is good.
-fn check_steps(
+fn check_steps<L: Ledger>(
     alloc: Global,
     system: &System,
     certificate: &Certificate,
+    steps: &mut Steps<L>,
 ) -> Result<Vec<Row>, CertRefusal>
     ensures full { IfOk result (λ made. AreFull system.now.vars made.items) }
     ensures good { IfOk result (λ made. let rows = system.now.rows ++ made.items in first_fault system.now certificate.now ≡ last_fault (length rows) (slice_get rows (length rows - 1))) }
     ensures refused { IfErr result (λ e. e ≢ CertRefusal.NoMemory → first_fault system.now certificate.now ≡ Some e) }
+    ensures units { RoseWithin (most_units system.now.vars certificate.now.steps) steps.old steps.new }
+    ensures all { OnOk result (steps.new ≡ steps.old + most_units system.now.vars certificate.now.steps) }
 {
-    let steps = certificate.steps.as_slice();
-    let mut made = Vec::with_capacity(alloc, steps.len())?;
-    for (index, step) in steps.iter().enumerate() {
+    let taken = certificate.steps.as_slice();
+    let mut made = Vec::with_capacity(alloc, taken.len())?;
+    for (index, step) in taken.iter().enumerate() {
         let number = index as u64 + 1;
-        let row = check_step(alloc, system, made.as_slice(), number, step)?;
+        let row = check_step(alloc, system, made.as_slice(), number, step, steps)?;
         made.push(row)?;
     }
     Ok(made)
 }
 
-/// Checks a certificate for a system. Nothing is assumed of the numbers in either.
+/// Checks a certificate for a system, and counts its work. Nothing is assumed of the numbers in
+/// either.
 ///
 /// The steps are taken in order, and in a step its multipliers come first, then the rows that it
 /// names, then the size of its products and running sums (the least entry that passes 2 ^ 126 in
 /// size), then its divisor. The first fault is told. After the steps the last row of all has to
 /// be a contradiction.
 ///
-/// It makes at most (terms + steps) * (variables + 1) multiplications, each with its addition,
-/// or divisions. It takes memory for one row a step, and gives it back.
-pub fn check_cert(
+/// `steps` rises by one for each multiplication, which has an addition with it, and for each
+/// division: by (terms + steps) * (variables + 1) where the certificate is good, and else by no
+/// more. The check takes memory for one row a step, and gives it back.
+pub fn check_cert_counted<L: Ledger>(
     alloc: Global,
     system: &System,
     certificate: &Certificate,
+    steps: &mut Steps<L>,
 ) -> Result<(), CertRefusal>
     ensures good { OnOk result (IsGood system.now certificate.now) }
     ensures no_solution { OnOk result (HasNoWholeSolution system.now) }
@@ -268,7 +263,45 @@ pub fn check_cert(
     ensures taken { IsGood system.now certificate.now → IsOkUnless result CertRefusal.NoMemory }
     ensures no_fault { OnOk result (first_fault system.now certificate.now ≡ None) }
     ensures refused { IfErr result (λ e. e ≢ CertRefusal.NoMemory → first_fault system.now certificate.now ≡ Some e) }
+
+    ensures units { RoseWithin (most_units system.now.vars certificate.now.steps) steps.old steps.new }
+    ensures all { OnOk result (steps.new ≡ steps.old + most_units system.now.vars certificate.now.steps) }
 {
-    let made = check_steps(alloc, system, certificate)?;
+    let made = check_steps(alloc, system, certificate, steps)?;
     check_last(system, made.as_slice())
+}
+
+// The check, with a count of its own.
+fn check_with<L: Ledger>(
+    alloc: Global,
+    system: &System,
+    certificate: &Certificate,
+    blank: Blank,
+) -> Result<(), CertRefusal>
+    requires name { blank.name ≡ L.name }
+    requires parts { blank.parts ≡ L.parts }
+    requires some { 0 < blank.parts }
+    ensures good { OnOk result (IsGood system.now certificate.now) }
+    ensures no_solution { OnOk result (HasNoWholeSolution system.now) }
+    ensures taken { IsGood system.now certificate.now → IsOkUnless result CertRefusal.NoMemory }
+    ensures no_fault { OnOk result (first_fault system.now certificate.now ≡ None) }
+    ensures refused { IfErr result (λ e. e ≢ CertRefusal.NoMemory → first_fault system.now certificate.now ≡ Some e) }
+{
+    check_cert_counted(alloc, system, certificate, &mut Steps::<L>::new(blank))
+}
+
+/// Checks a certificate for a system, as [`check_cert_counted`] does, with the same answer and at
+/// the same cost.
+pub fn check_cert(
+    alloc: Global,
+    system: &System,
+    certificate: &Certificate,
+) -> Result<(), CertRefusal>
+    ensures good { OnOk result (IsGood system.now certificate.now) }
+    ensures no_solution { OnOk result (HasNoWholeSolution system.now) }
+    ensures taken { IsGood system.now certificate.now → IsOkUnless result CertRefusal.NoMemory }
+    ensures no_fault { OnOk result (first_fault system.now certificate.now ≡ None) }
+    ensures refused { IfErr result (λ e. e ≢ CertRefusal.NoMemory → first_fault system.now certificate.now ≡ Some e) }
+{
+    check_with::<Brand>(alloc, system, certificate, Blank::new(1))
 }

@@ -7,19 +7,28 @@
 //! `0 <= bound` with a negative bound, the system has no whole solution.
 //!
 //! A certificate may come from anywhere: [`check_cert`] takes it exactly where it is good, and
-//! else names the first fault. [`good_certificates_exclude_whole_solutions`] is the law that it
-//! rests on.
+//! else names the first fault; [`check_cert_counted`] counts its work too.
+//! [`good_certificates_exclude_whole_solutions`] is the law that they rest on.
+//!
+//! - [`system`] and [`certificate`]: what is checked, and why a certificate is refused.
+//! - [`narrow`] and [`narrow_system`]: what keeps numbers at most 2 ^ 126 in size.
+//! - [`counting`]: units of work, counted.
 #![tactic(auto)]
 
 pub mod certificate;
 mod check;
+pub mod counting;
 mod division;
 mod law;
+pub mod narrow;
+pub mod narrow_system;
 pub mod system;
 
-pub use certificate::{CertRefusal, Certificate, Step, Steps, Terms};
-pub use check::check_cert;
+pub use certificate::{CertRefusal, Certificate, Step, StepList, Terms};
+pub use check::{check_cert, check_cert_counted};
+pub use counting::Steps;
 pub use law::good_certificates_exclude_whole_solutions;
+pub use narrow_system::NarrowSystem;
 pub use system::{Coefs, Row, Rows, System};
 
 #[cfg(test)]

@@ -1,13 +1,16 @@
 // Systems of linear inequalities.
 
-ghost use Rattle.std.specs.Prelude.{◌≡◌, ◌++◌, [], ◌∷◌, OnOk, OnErr, IfOk, IsTrue, pos, ◌≤ℤ◌, int_div, int_rem, map, length};
+ghost use Rattle.std.specs.Prelude.{◌≡◌, ◌+◌, ◌++◌, [], ◌∷◌, OnOk, OnErr, IfOk, IsTrue, pos, ◌≤ℤ◌, int_div, int_rem, map, length};
 ghost use Rattle.std.specs.Ordering.{int_eq};
 ghost use Rattle.std.specs.List.{list_all};
+ghost use Rattle.farkas_cert.specs.Units.{RoseWithin};
 
+use crate::counting::Steps;
 use crate::division::divide_all;
 use smallvec::SmallVec;
 use std::alloc::{AllocError, Global};
 use std::marker::Model;
+use std::sync::ledger::Ledger;
 
 /// How many coefficients a row keeps with no memory of its own.
 pub const INLINE: usize = 4;
@@ -79,12 +82,14 @@ impl Coefs {
 
     /// Divides each coefficient, if the divisor divides them all. Where it doesn't, some are
     /// divided.
-    pub(crate) fn divide(&mut self, divisor: i128) -> bool
+    pub(crate) fn divide<L: Ledger>(&mut self, divisor: i128, steps: &mut Steps<L>) -> bool
         requires { pos 1 ≤ℤ divisor }
         ensures all { result ≡ list_all (λ a. int_eq (int_rem a divisor) (pos 0)) self.old }
         ensures quotients { IsTrue result → self.new ≡ map (λ a. int_div a divisor) self.old }
+        ensures units { RoseWithin (length self.old) steps.old steps.new }
+        ensures each { IsTrue result → steps.new ≡ steps.old + length self.old }
     {
-        divide_all(self.items.as_mut_slice(), divisor)
+        divide_all(self.items.as_mut_slice(), divisor, steps)
     }
 }
 

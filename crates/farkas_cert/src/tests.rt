@@ -1,6 +1,6 @@
 // Certificates over two variables, each with its answer.
 
-use crate::{CertRefusal, Certificate, Coefs, Row, Step, Steps, System, Terms, check_cert};
+use crate::{CertRefusal, Certificate, Coefs, Row, Step, StepList, System, Terms, check_cert};
 use std::alloc::{AllocError, Global};
 use std::test::Fail;
 
@@ -31,7 +31,7 @@ fn certificate_of(alloc: Global, steps: Told<'_>) -> Result<Certificate, AllocEr
         })?;
     }
     Ok(Certificate {
-        steps: Steps::from_vec(made),
+        steps: StepList::from_vec(made),
     })
 }
 

@@ -9,7 +9,7 @@ use Rattle.farkas_cert.specs.declared.system.Row.{Row}
 use Rattle.farkas_cert.specs.Inequalities.{Inequalities}
 use Rattle.fm_elim.specs.Reduction.{IsReduced, divided}
 use Rattle.fm_elim.specs.Pairs.{coef_of, IsPair}
-use Rattle.fm_elim.specs.Levels.{IsEmpty, IsKept, IsRaw, IsDerived}
+use Rattle.fm_elim.specs.Levels.{IsEmpty, IsLevelRow, IsRaw, IsDerived}
 use Rattle.fm_elim.specs.Forming.{Covers, IsFormed}
 use Rattle.fm_elim.proofs.Combined.{by_lt}
 
@@ -40,7 +40,7 @@ distinct_same rows apart r s a b e =
 
 module _ (raws : Row → Type 0) (rows : List Row) (formed : IsFormed raws rows) where
   -- what the list has, the level keeps
-  pub kept_from_formed : (r : Row) → Contains rows r → IsKept raws r
+  pub kept_from_formed : (r : Row) → Contains rows r → IsLevelRow raws r
   kept_from_formed r there = record {
     reduced = All-contains (λ s. (raw : Row) × raws raw × IsReduced raw s) rows r formed.sound there;
     least = λ raw other has reduced same.
@@ -56,7 +56,7 @@ module _ (raws : Row → Type 0) (rows : List Row) (formed : IsFormed raws rows)
   }
 
   -- what the level keeps, the list has
-  pub formed_has_kept : (r : Row) → IsKept raws r → Contains rows r
+  pub formed_has_kept : (r : Row) → IsLevelRow raws r → Contains rows r
   formed_has_kept r kept =
       let raw = kept.reduced.0 in
       let found = formed.complete raw kept.reduced.1 in
@@ -81,7 +81,7 @@ module _ (v : ℕ) (set other : Row → Type 0) (forth : (r : Row) → set r →
       ⊎_elim (λ alone. inl (forth raw alone.0, alone.1))
       (λ both. inr (record { upper = both.upper; lower = both.lower; m = both.m; n = both.n; has_upper = forth both.upper both.has_upper; has_lower = forth both.lower both.has_lower; pair = both.pair; made = both.made })) h
 
-pub kept_of_other : (raws other : Row → Type 0) → ((r : Row) → raws r → other r) → ((r : Row) → other r → raws r) → (r : Row) → IsKept raws r → IsKept other r
+pub kept_of_other : (raws other : Row → Type 0) → ((r : Row) → raws r → other r) → ((r : Row) → other r → raws r) → (r : Row) → IsLevelRow raws r → IsLevelRow other r
 kept_of_other raws other forth back r kept = record {
   reduced = (kept.reduced.0, forth kept.reduced.0 kept.reduced.1, kept.reduced.2);
   least = λ raw o has reduced same. kept.least raw o (back raw has) reduced same;

@@ -17,7 +17,7 @@ use Rattle.fm_elim.specs.declared.level.Candidate.{Candidate}
 use Rattle.fm_elim.specs.declared.level.Origin.TheVariants.{Numbered}
 use Rattle.fm_elim.specs.Reduction.{IsCommonDivisor, IsReduced, divided}
 use Rattle.fm_elim.specs.Pairs.{coef_of, combination}
-use Rattle.fm_elim.specs.Levels.{IsKept, IsRaw, HasMoreThan}
+use Rattle.fm_elim.specs.Levels.{IsLevelRow, IsRaw, HasMoreThan}
 use Rattle.fm_elim.specs.Logs.{rows_among}
 use Rattle.fm_elim.specs.Gathering.{IsUseful, IsPaired, HasApart, IsSound}
 use Rattle.fm_elim.proofs.Divisors.{IsCommonDivisor-nil}
@@ -191,7 +191,7 @@ least_among coefs (x ∷ list) = ⊎_elim (λ none. first_only none) (λ some. c
         (λ apart. inr (row, keep row h (λ e. absurd (apart e)))) (same_or_not x.coefs coefs)
 
 -- a level keeps a row with the coefficients of each useful reduction
-pub kept_exists : (raws : Row → Type 0) → Listed raws → (row raw : Row) → raws raw → IsReduced raw row → IsUseful row → (kept : Row) × IsKept raws kept × (kept.coefs ≡ row.coefs)
+pub kept_exists : (raws : Row → Type 0) → Listed raws → (row raw : Row) → raws raw → IsReduced raw row → IsUseful row → (kept : Row) × IsLevelRow raws kept × (kept.coefs ≡ row.coefs)
 kept_exists raws listed row raw has reduced useful =
     let found = listed.1.complete raw has in
     let one : found.0 ≡ row = IsReduced-unique raw found.0 row found.1 reduced in
@@ -217,7 +217,7 @@ kept_exists raws listed row raw has reduced useful =
     IsZero coefs = All (λ a. a ≡ pos 0) coefs
 
 -- rows that the level keeps, one for each of these
-kept_for : (raws : Row → Type 0) → Listed raws → (rows : List Row) → All (λ r. IsUseful r × ((raw : Row) × raws raw × IsReduced raw r)) rows → (kept : List Row) × AllZip (λ k r. IsKept raws k × (k.coefs ≡ r.coefs)) kept rows
+kept_for : (raws : Row → Type 0) → Listed raws → (rows : List Row) → All (λ r. IsUseful r × ((raw : Row) × raws raw × IsReduced raw r)) rows → (kept : List Row) × AllZip (λ k r. IsLevelRow raws k × (k.coefs ≡ r.coefs)) kept rows
 kept_for raws listed [] all = ([], tt)
 kept_for raws listed (row ∷ rows) all =
     let first = All-head (λ r. IsUseful r × ((raw : Row) × raws raw × IsReduced raw r)) row rows all in
@@ -226,21 +226,21 @@ kept_for raws listed (row ∷ rows) all =
     (found.0 ∷ rest.0, ((found.1, found.2), rest.1))
 
 -- sound candidates that are apart stand for as many rows of the level
-pub many_from : (limit : ℕ) (raws : Row → Type 0) → Listed raws → HasApart limit (IsSound raws) → HasMoreThan limit (IsKept raws)
+pub many_from : (limit : ℕ) (raws : Row → Type 0) → Listed raws → HasApart limit (IsSound raws) → HasMoreThan limit (IsLevelRow raws)
 many_from limit raws listed h =
     let rows = rows_among h.kept in
     let sound : All (λ r. IsUseful r × ((raw : Row) × raws raw × IsReduced raw r)) rows = All-map (λ r. IsUseful r × ((raw : Row) × raws raw × IsReduced raw r)) (λ (c : Candidate). c.row) h.kept h.all in
     let kept = kept_for raws listed rows sound in
-    let long : length kept.0 ≡ length h.kept = length_all_zip (λ k r. IsKept raws k × (k.coefs ≡ r.coefs)) kept.0 rows kept.1 ∙ length-map h.kept (λ (c : Candidate). c.row) in (
+    let long : length kept.0 ≡ length h.kept = length_all_zip (λ k r. IsLevelRow raws k × (k.coefs ≡ r.coefs)) kept.0 rows kept.1 ∙ length-map h.kept (λ (c : Candidate). c.row) in (
       kept.0,
       omega (arith, long, h.many),
       λ i j d lt within e.
           let c : Candidate = record { row = d; origin = Numbered 0 } in
           let within_c : j < length h.kept = omega (arith, long, within) in
-          let at_i = AllZip-get_or (λ k r. IsKept raws k × (k.coefs ≡ r.coefs)) kept.0 rows i d d kept.1 (omega arith) in
-          let at_j = AllZip-get_or (λ k r. IsKept raws k × (k.coefs ≡ r.coefs)) kept.0 rows j d d kept.1 within in
+          let at_i = AllZip-get_or (λ k r. IsLevelRow raws k × (k.coefs ≡ r.coefs)) kept.0 rows i d d kept.1 (omega arith) in
+          let at_j = AllZip-get_or (λ k r. IsLevelRow raws k × (k.coefs ≡ r.coefs)) kept.0 rows j d d kept.1 within in
           let row_i = get_or-map (λ (c : Candidate). c.row) h.kept i c d (omega arith) in
           let row_j = get_or-map (λ (c : Candidate). c.row) h.kept j c d within_c in
           h.apart i j c lt within_c (ap (λ (r : Row). r.coefs) (sym row_i) ∙ sym at_i.1 ∙ ap (λ (r : Row). r.coefs) e ∙ at_j.1 ∙ ap (λ (r : Row). r.coefs) row_j),
-      λ k d within. (AllZip-get_or (λ k r. IsKept raws k × (k.coefs ≡ r.coefs)) kept.0 rows k d d kept.1 within).0,
+      λ k d within. (AllZip-get_or (λ k r. IsLevelRow raws k × (k.coefs ≡ r.coefs)) kept.0 rows k d d kept.1 within).0,
     )

@@ -1,6 +1,7 @@
 -- A level from its candidates: tightened, they are formed, and where too many are apart it has too many rows.
-use Rattle.std.proofs.Common.{◌≡◌, ℕ, ◌<◌, ℤ, pos, ◌<ℤ◌, ⊎_elim, inl, inr, List, map, length, get_or, ap, sym, ◌∙◌, subst, arith}
+use Rattle.std.proofs.Common.{◌≡◌, ℕ, ◌<◌, ℤ, pos, ◌<ℤ◌, IsTrue, ⊎_elim, inl, inr, List, map, length, get_or, ap, sym, ◌∙◌, subst, arith}
 use Rattle.std.specs.List.{All, Contains}
+use Rattle.std.proofs.lemmas.Bool.{false≢true}
 use Rattle.std.proofs.lemmas.List.{length-map, get_or-map}
 use Rattle.std.proofs.lemmas.List.Elements.{All-map, All-weaker, All-contains}
 use Rattle.farkas_cert.specs.declared.system.Row.{Row}
@@ -11,10 +12,11 @@ use Rattle.fm_elim.specs.declared.level.Candidate.{Candidate}
 use Rattle.fm_elim.specs.declared.level.Origin.TheVariants.{Numbered}
 use Rattle.fm_elim.specs.Reduction.{IsReduced}
 use Rattle.fm_elim.specs.Pairs.{coef_of, IsPair, IsWide}
-use Rattle.fm_elim.specs.Levels.{IsEmpty, IsKept, IsRaw, HasMoreThan}
+use Rattle.fm_elim.specs.Levels.{IsEmpty, IsLevelRow, IsRaw, HasMoreThan}
 use Rattle.fm_elim.specs.Forming.{Covers, IsUpto, IsFormed, IsTightened}
 use Rattle.fm_elim.specs.Logs.{IsFounded, IsHeld, rows_of, rows_among}
-use Rattle.fm_elim.specs.Gathering.{IsPaired, IsMade, candidate_of, CoversPair, HasApart, IsTooWide, IsSource, IsGathered, IsSound, IsCovered}
+use Rattle.fm_elim.specs.Next.{AreNowhereWide, IsNextLevel}
+use Rattle.fm_elim.specs.Gathering.{IsPaired, IsMade, candidate_of, CoversPair, HasApart, IsNarrowPair, IsTooWide, IsSource, IsGathered, IsSound, IsCovered}
 use Rattle.fm_elim.proofs.Lowest.{IsReduced-lowest}
 use Rattle.fm_elim.proofs.Covering.{Contains-map, Contains-unmap, Covers-tightened, HasApart-weaker, HasApart-tightened}
 use Rattle.fm_elim.proofs.Least.{listed_raws, many_from}
@@ -104,8 +106,22 @@ module _ (v : ℕ) (level apart uppers lowers : List Held) (split : IsSplit v le
       let full = (All-contains (IsHeld system log) level u held up).suited.full in
       (Contains-map (λ (h : Held). h.row) level u up, Contains-map (λ (h : Held). h.row) level l low, (wide.0, wide.1, wide.2, subst (λ k. IsWide k wide.0 u.row wide.1 l.row) full wide.3))
 
+  -- where no pair of the two lists is wide, no pair of the level is
+  pub nowhere_wide : All (λ u. All (λ l. IsNarrowPair v u.row l.row) lowers) uppers → AreNowhereWide system.vars v (rows_of level)
+  nowhere_wide narrow upper lower m n has_u has_l pair wide =
+      let up = Contains-unmap (λ (h : Held). h.row) level upper has_u in
+      let low = Contains-unmap (λ (h : Held). h.row) level lower has_l in
+      let there_up = has_upper v level apart uppers lowers split up.0 up.1 (subst (λ r. pos 0 <ℤ coef_of v r) (sym up.2) pair.above) in
+      let there_low = has_lower v level apart uppers lowers split low.0 low.1 (subst (λ r. coef_of v r <ℤ pos 0) (sym low.2) pair.below) in
+      let at_up = All-contains (λ u. All (λ l. IsNarrowPair v u.row l.row) lowers) uppers up.0 narrow there_up in
+      let at_low = All-contains (λ l. IsNarrowPair v up.0.row l.row) lowers low.0 at_up there_low in
+      let pair' : IsPair v up.0.row low.0.row m n = subst (λ u. IsPair v u low.0.row m n) (sym up.2) (subst (λ l. IsPair v upper l m n) (sym low.2) pair) in
+      let full = (All-contains (IsHeld system log) level up.0 held up.1).suited.full in
+      let wide' : IsWide (length up.0.row.coefs) m up.0.row n low.0.row = subst (λ k. IsWide k m up.0.row n low.0.row) (sym full) (subst (λ u. IsWide system.vars m u n low.0.row) (sym up.2) (subst (λ l. IsWide system.vars m upper n l) (sym low.2) wide)) in
+      false≢true (sym wide'.2 ∙ at_low.narrow m n pair' wide'.0 wide'.1)
+
   -- too many sources apart
-  pub many_there : HasApart 20000 (IsSource v apart uppers lowers) → HasMoreThan 20000 (IsKept (IsRaw v (Contains (rows_of level))))
+  pub many_there : HasApart 20000 (IsSource v apart uppers lowers) → HasMoreThan 20000 (IsLevelRow (IsRaw v (Contains (rows_of level))))
   many_there h = many_from 20000 (IsRaw v (Contains (rows_of level))) (listed_raws v (rows_of level)) (HasApart-weaker 20000 (IsSource v apart uppers lowers) (IsSound (IsRaw v (Contains (rows_of level)))) source_sound h)
 
   -- gathered candidates, tightened
@@ -122,5 +138,5 @@ module _ (v : ℕ) (level apart uppers lowers : List Held) (split : IsSplit v le
     pub next_founded : All (IsFounded system log) kept
     next_founded = founded_from system log candidates kept (All-weaker (IsSource v apart uppers lowers) (IsFounded system log) source_founded candidates gathered.only) tight
 
-    pub next_many : 20000 < length kept → HasMoreThan 20000 (IsKept (IsRaw v (Contains (rows_of level))))
+    pub next_many : 20000 < length kept → HasMoreThan 20000 (IsLevelRow (IsRaw v (Contains (rows_of level))))
     next_many many = many_there (HasApart-weaker 20000 (Contains candidates) (IsSource v apart uppers lowers) (λ c there. All-contains (IsSource v apart uppers lowers) candidates c gathered.only there) (HasApart-tightened 20000 candidates kept many tight))

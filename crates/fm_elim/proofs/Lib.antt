@@ -24,3 +24,4 @@ pub mod Splitting
 pub mod Leveling
 pub mod Least
 pub mod Given
+pub mod AtMost

@@ -10,10 +10,12 @@ use Rattle.farkas_cert.specs.Inequalities.{Inequalities, AreFull}
 use Rattle.fm_elim.specs.declared.derivation.Derivation.{Derivation}
 use Rattle.fm_elim.specs.declared.level.Held.{Held}
 use Rattle.fm_elim.specs.Pairs.{coef_of, IsPair, IsWide}
-use Rattle.fm_elim.specs.Levels.{IsEmpty, IsKept, IsRaw, IsDerived, IsClearTo, HasMoreThan}
+use Rattle.fm_elim.specs.Levels.{IsEmpty, IsLevelRow, IsRaw, IsDerived, IsClearTo, HasMoreThan}
 use Rattle.fm_elim.specs.Forming.{IsUpto, IsFormed}
 use Rattle.fm_elim.specs.Logs.{IsLog, IsHeld, rows_of}
-use Rattle.fm_elim.specs.Answers.{NamesEachOnce, HasRationalSolution, IsWidePair, IsWideAt, IsManyAt, IsFreeOfClashes}
+use Rattle.fm_elim.specs.Answers.{NamesEachOnce, HasRationalSolution, IsWidePair, HasNoWidePair, IsPassedTo, IsOpen, IsWideAt, IsManyAt, IsFreeOfClashes}
+use Rattle.fm_elim.specs.Next.{AreNowhereWide, IsNextLevel}
+use Rattle.fm_elim.proofs.AtMost.{at_most}
 use Rattle.fm_elim.proofs.Combined.{by_lt}
 use Rattle.fm_elim.proofs.Removal.{IsSolvable}
 use Rattle.fm_elim.proofs.Exactness.{IsExact, IsExact-first, IsExact-next, raw_of_other, kept_of_other}
@@ -27,6 +29,8 @@ pub record IsReached (system : Inequalities) (order : List ℕ) (k : ℕ) (log :
   pub exact : IsExact (IsDerived system order k) (rows_of level)
   pub rid : IsRid order k (rows_of level)
   pub clear : (j : ℕ) (row : Row) → j < k → IsDerived system order j row → IsEmpty row → ⊥
+  pub few : (j : ℕ) → 1 ≤ j → j ≤ k → HasMoreThan 20000 (IsDerived system order j) → ⊥
+  pub narrow : (j : ℕ) → j < k → HasNoWidePair system order j
   pub useful : All (λ h. IsEmpty h.row → h.row.bound <ℤ pos 0) level
   pub ascending : AllPairs (λ h o. IsUpto h.row.coefs o.row.coefs) level
   pub distinct : AllPairs (λ h o. h.row.coefs ≡ o.row.coefs → ⊥) level
@@ -50,6 +54,8 @@ reached_first system order log level formed good held = record {
   exact = IsExact-first system order (rows_of level) formed;
   rid = IsRid-start order (rows_of level);
   clear = λ j row lt. absurd (omega arith);
+  few = λ j low high. absurd (omega arith);
+  narrow = λ j lt. absurd (omega arith);
   useful = from_rows (λ r. IsEmpty r → r.bound <ℤ pos 0) level formed.useful;
   ascending = pairs_from_rows (λ r s. IsUpto r.coefs s.coefs) level formed.ascending;
   distinct = pairs_from_rows (λ r s. r.coefs ≡ s.coefs → ⊥) level formed.distinct;
@@ -85,6 +91,14 @@ module _ (system : Inequalities) (order : List ℕ) (k : ℕ) (log : List Deriva
       (λ early. reached.clear j row early derived)
       (λ here. let e : j ≡ k = omega arith in none_derived row (subst (λ i. IsDerived system order i row) e derived))
 
+  -- so the levels up to this one are whole
+  pub passed_here : IsPassedTo system order k
+  passed_here = record { clear = clear_here; few = reached.few; narrow = reached.narrow }
+
+  -- no pair of this level is wide, where none of the list is
+  no_wide_pair : (v : ℕ) → v ≡ slice_index order k → AreNowhereWide system.vars v (rows_of level) → HasNoWidePair system order k
+  no_wide_pair v is narrow upper lower p = narrow upper lower p.m p.n (reached.exact.has upper p.has_upper) (reached.exact.has lower p.has_lower) (subst (λ i. IsPair i upper lower p.m p.n) (sym is) p.pair) p.wide
+
   -- nor do two clash, where none of the list do
   pub free_here : (number : ℕ) → number ≡ k + 1 → IsFreeOfClashes (λ r. Contains (rows_of level) r) → IsFreeOfClashes (IsDerived system order (number - 1))
   free_here number e free upper lower hu hl =
@@ -95,20 +109,28 @@ module _ (system : Inequalities) (order : List ℕ) (k : ℕ) (log : List Deriva
   full = All-map (λ r. length r.coefs ≡ system.vars) (λ (h : Held). h.row) level (All-weaker (IsHeld system log) (λ h. length h.row.coefs ≡ system.vars) (λ h held. held.suited.full) level reached.held)
 
   -- the next level
-  pub reached_next : (v : ℕ) (more : List Derivation) (next : List Held) → v ≡ slice_index order k → 1 ≤ v → v ≤ system.vars → IsFormed (IsRaw v (Contains (rows_of level))) (rows_of next) → IsLog system more → All (IsHeld system more) next → IsReached system order (k + 1) more next
-  reached_next v more next is low high formed good held =
-      let formed' = subst (λ i. IsFormed (IsRaw i (Contains (rows_of level))) (rows_of next)) is formed in
+  pub reached_next : (v : ℕ) (more : List Derivation) (next : List Held) → v ≡ slice_index order k → 1 ≤ v → v ≤ system.vars → IsNextLevel system v (rows_of level) more next → IsLog system more → IsReached system order (k + 1) more next
+  reached_next v more next is low high made good =
+      let formed' = subst (λ i. IsFormed (IsRaw i (Contains (rows_of level))) (rows_of next)) is made.formed in
       let e : suc k ≡ k + 1 = omega arith in
+      let exact' : IsExact (IsDerived system order (k + 1)) (rows_of next) = subst (λ i. IsExact (IsDerived system order i) (rows_of next)) e (IsExact-next system order k (rows_of level) (rows_of next) reached.exact formed') in
       record {
         steps = good;
-        held = held;
-        exact = subst (λ i. IsExact (IsDerived system order i) (rows_of next)) e (IsExact-next system order k (rows_of level) (rows_of next) reached.exact formed');
+        held = made.held;
+        exact = exact';
         rid = IsRid-next order k system.vars (rows_of level) (rows_of next) full reached.rid formed';
         clear = λ j row lt. clear_here j row (omega arith);
-        useful = from_rows (λ r. IsEmpty r → r.bound <ℤ pos 0) next formed.useful;
-        ascending = pairs_from_rows (λ r s. IsUpto r.coefs s.coefs) next formed.ascending;
-        distinct = pairs_from_rows (λ r s. r.coefs ≡ s.coefs → ⊥) next formed.distinct;
-        back = λ s. reached.back (solvable_before v system.vars (rows_of level) (rows_of next) low high full formed s);
+        few = λ j low high more. by_lt {P = ⊥} j (k + 1)
+            (λ early. reached.few j low (omega arith) more)
+            (λ here. let at : j ≡ k + 1 = omega arith in
+            let all = All-weaker (IsDerived system order j) (Contains (rows_of next)) (λ r d. exact'.has r (subst (λ i. IsDerived system order i r) at d)) more.0 more.3 in
+            omega (arith, more.1, at_most more.0 (rows_of next) more.2 all, length-map next (λ (h : Held). h.row), made.few));
+        narrow = λ j lt. by_lt {P = HasNoWidePair system order j} j k (reached.narrow j)
+            (λ here. let at : k ≡ j = omega arith in subst (HasNoWidePair system order) at (no_wide_pair v is made.narrow));
+        useful = from_rows (λ r. IsEmpty r → r.bound <ℤ pos 0) next made.formed.useful;
+        ascending = pairs_from_rows (λ r s. IsUpto r.coefs s.coefs) next made.formed.ascending;
+        distinct = pairs_from_rows (λ r s. r.coefs ≡ s.coefs → ⊥) next made.formed.distinct;
+        back = λ s. reached.back (solvable_before v system.vars (rows_of level) (rows_of next) low high full made.formed s);
       }
 
   -- two rows with a wide combination
@@ -118,7 +140,7 @@ module _ (system : Inequalities) (order : List ℕ) (k : ℕ) (log : List Deriva
       record {
         low = omega arith;
         high = omega arith;
-        clear = subst (IsClearTo system order) place clear_here;
+        passed = subst (IsPassedTo system order) place passed_here;
         pair = subst (λ i. IsWidePair system order i upper lower) place (record {
           m = pair.0;
           n = pair.1;
@@ -130,8 +152,8 @@ module _ (system : Inequalities) (order : List ℕ) (k : ℕ) (log : List Deriva
       }
 
   -- too many rows
-  pub many_here : (v number count : ℕ) → v ≡ slice_index order k → number ≡ k + 1 → k < system.vars → count ≡ 20001 → HasMoreThan 20000 (IsKept (IsRaw v (Contains (rows_of level)))) → IsManyAt system order number count
-  many_here v number count is e within counted more =
+  pub many_here : (v number count : ℕ) → v ≡ slice_index order k → number ≡ k + 1 → k < system.vars → count ≡ 20001 → HasMoreThan 20000 (IsLevelRow (IsRaw v (Contains (rows_of level)))) → AreNowhereWide system.vars v (rows_of level) → IsManyAt system order number count
+  many_here v number count is e within counted more narrow =
       let place : k ≡ number - 1 = omega arith in
       let next : suc k ≡ number = omega arith in
       let w = slice_index order k in
@@ -139,17 +161,18 @@ module _ (system : Inequalities) (order : List ℕ) (k : ℕ) (log : List Deriva
       let there : Row → Type 0 = IsRaw w (λ r. IsDerived system order k r) in
       let forth : (r : Row) → here r → there r = raw_of_other w (Contains (rows_of level)) (λ r. IsDerived system order k r) reached.exact.only in
       let back : (r : Row) → there r → here r = raw_of_other w (λ r. IsDerived system order k r) (Contains (rows_of level)) reached.exact.has in
-      let more' : HasMoreThan 20000 (IsKept here) = subst (λ i. HasMoreThan 20000 (IsKept (IsRaw i (Contains (rows_of level))))) is more in
+      let more' : HasMoreThan 20000 (IsLevelRow here) = subst (λ i. HasMoreThan 20000 (IsLevelRow (IsRaw i (Contains (rows_of level))))) is more in
       record {
         low = omega arith;
         high = omega arith;
-        clear = subst (IsClearTo system order) place clear_here;
+        passed = subst (IsPassedTo system order) place passed_here;
+        narrow = subst (HasNoWidePair system order) place (no_wide_pair v is narrow);
         count_is = counted;
-        more = subst (λ i. HasMoreThan 20000 (IsDerived system order i)) next (more'.0, more'.1, more'.2, All-weaker (IsKept here) (IsKept there) (kept_of_other here there forth back) more'.0 more'.3);
+        more = subst (λ i. HasMoreThan 20000 (IsDerived system order i)) next (more'.0, more'.1, more'.2, All-weaker (IsLevelRow here) (IsLevelRow there) (kept_of_other here there forth back) more'.0 more'.3);
       }
 
   -- after the last level nothing is left, and the system has a solution
-  pub solved_here : NamesEachOnce system.vars order → k ≡ length order → HasRationalSolution system
+  solved_here : NamesEachOnce system.vars order → k ≡ length order → HasRationalSolution system
   solved_here names last =
       let nothing : (r : Row) → Contains (rows_of level) r → ⊥ = λ r there.
       let rid = All-contains (λ r. (j : ℕ) → j < k → coef_of (slice_index order j) r ≡ pos 0) (rows_of level) r reached.rid there in
@@ -157,3 +180,8 @@ module _ (system : Inequalities) (order : List ℕ) (k : ℕ) (log : List Deriva
       All-contains (λ r. IsEmpty r → ⊥) (rows_of level) r (All-map (λ r. IsEmpty r → ⊥) (λ (h : Held). h.row) level none) there empty in
       let s = reached.back (solvable_nothing system.vars (rows_of level) nothing) in
       (s.x, s.d, record { values = s.values; divisor = s.divisor; rows = s.holds })
+
+  pub open_here : NamesEachOnce system.vars order → k ≡ length order → IsOpen system order
+  open_here names last =
+      let all : k ≡ system.vars = last ∙ order_length system.vars order names in
+      record { passed = subst (IsPassedTo system order) all passed_here; solved = solved_here names last }

@@ -1,11 +1,12 @@
--- What each answer of elimination rests on.
-use Rattle.std.specs.Prelude.{⊤, ℕ, ◌-◌, ◌≤◌, ℤ, pos, neg_ℤ, ◌+ℤ◌, ◌<ℤ◌, IsTrue, List, map, slice_index, ◌≡◌}
+-- What each answer of elimination rests on, and by which answers a system is kept.
+use Rattle.std.specs.Prelude.{⊤, ℕ, ◌-◌, ◌≤◌, ◌<◌, ℤ, pos, neg_ℤ, ◌+ℤ◌, ◌<ℤ◌, IsTrue, List, map, slice_index, ◌≡◌}
 use Rattle.std.specs.List.{All, range_with_len}
 use Rattle.std.specs.List.Sorted.{IsPermutation}
 use Rattle.farkas_cert.specs.declared.system.Row.{Row}
 use Rattle.farkas_cert.specs.Inequalities.{Inequalities, IsRationalSolution}
 use Rattle.farkas_cert.specs.Combination.{is_narrow}
 use Rattle.farkas_cert.specs.declared.certificate.Certificate.{Certificate}
+use Rattle.farkas_cert.specs.Good.{IsGood}
 use Rattle.fm_elim.specs.declared.answer.Answer.{Answer}
 use Rattle.fm_elim.specs.declared.answer.Answer.TheVariants.{Infeasible, Open, Wide, Many}
 use Rattle.fm_elim.specs.Pairs.{IsPair, IsWide}
@@ -60,20 +61,50 @@ IfMany Open P = ⊤
 IfMany (Wide level upper lower) P = ⊤
 IfMany (Many level count) P = P level count
 
--- level k is one of the levels from 1 on, no level before it keeps a row without coefficients, and these two rows of level k - 1 have a wide combination
+-- none of the pairs that level k + 1 is formed from is wide
+abbrev pub HasNoWidePair : Inequalities → List ℕ → ℕ → Type 0
+HasNoWidePair system order k = (upper lower : Row) → IsWidePair system order k upper lower → ⊥
+
+-- the levels 0 to k are formed whole: none of them has a row without coefficients, each from 1 on has at most 20,000 rows, and none of the pairs that it was formed from is wide
+pub record IsPassedTo (system : Inequalities) (order : List ℕ) (k : ℕ) : Type 0 where
+  pub clear : IsClearTo system order k
+  pub few : (j : ℕ) → 1 ≤ j → j ≤ k → HasMoreThan 20000 (IsDerived system order j) → ⊥
+  pub narrow : (j : ℕ) → j < k → HasNoWidePair system order j
+
+-- kept as Open: each level is formed whole, and the system has a rational solution
+pub record IsOpen (system : Inequalities) (order : List ℕ) : Type 0 where
+  pub passed : IsPassedTo system order system.vars
+  pub solved : HasRationalSolution system
+
+-- kept as Wide at level k, which is one of those from 1 on: the levels before it are formed whole, and these two rows of level k - 1 have a wide combination
 pub record IsWideAt (system : Inequalities) (order : List ℕ) (k : ℕ) (upper lower : Row) : Type 0 where
   pub low : 1 ≤ k
   pub high : k ≤ system.vars
-  pub clear : IsClearTo system order (k - 1)
+  pub passed : IsPassedTo system order (k - 1)
   pub pair : IsWidePair system order (k - 1) upper lower
 
--- level k is one of the levels from 1 on, no level before it keeps a row without coefficients, and it has more than 20,000 rows: so many, and one more, are counted
+-- kept as Many at level k, which is one of those from 1 on: the levels before it are formed whole, none of the pairs that it is formed from is wide, and it has more than 20,000 rows (so many, and one more, are counted)
 pub record IsManyAt (system : Inequalities) (order : List ℕ) (k count : ℕ) : Type 0 where
   pub low : 1 ≤ k
   pub high : k ≤ system.vars
-  pub clear : IsClearTo system order (k - 1)
+  pub passed : IsPassedTo system order (k - 1)
+  pub narrow : HasNoWidePair system order (k - 1)
   pub count_is : count ≡ 20001
   pub more : HasMoreThan 20000 (IsDerived system order k)
+
+-- elimination in this order keeps the system, with this answer: Open, Wide or Many
+abbrev pub IsKept : Inequalities → List ℕ → Answer → Type 0
+IsKept system order (Infeasible certificate) = ⊥
+IsKept system order Open = IsOpen system order
+IsKept system order (Wide k upper lower) = IsWideAt system order k upper lower
+IsKept system order (Many k count) = IsManyAt system order k count
+
+-- what elimination in this order may answer: a good certificate that refutes the system, or by which answer it is kept
+abbrev pub IsDecided : Inequalities → List ℕ → Answer → Type 0
+IsDecided system order (Infeasible certificate) = IsGood system certificate
+IsDecided system order Open = IsKept system order Open
+IsDecided system order (Wide k upper lower) = IsKept system order (Wide k upper lower)
+IsDecided system order (Many k count) = IsKept system order (Many k count)
 
 -- each other's opposites but for the bounds, which add to less than 0 (and to no less than - 2 ^ 126)
 pub record AreClashing (upper lower : Row) : Type 0 where

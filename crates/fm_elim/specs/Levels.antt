@@ -10,8 +10,8 @@ use Rattle.fm_elim.specs.Pairs.{coef_of, IsPair, combination}
 abbrev pub IsEmpty : Row → Type 0
 IsEmpty row = All (λ a. a ≡ pos 0) row.coefs
 
--- what a level keeps of raw rows: each is reduced, of rows with equal coefficients the one with the least bound stays, and a row without coefficients only where its bound is negative
-pub record IsKept (raws : Row → Type 0) (row : Row) : Type 0 where
+-- what a level has of raw rows: each is reduced, of rows with equal coefficients the one with the least bound stays, and a row without coefficients only where its bound is negative
+pub record IsLevelRow (raws : Row → Type 0) (row : Row) : Type 0 where
   pub reduced : (raw : Row) × raws raw × IsReduced raw row
   pub least : (raw other : Row) → raws raw → IsReduced raw other → other.coefs ≡ row.coefs → row.bound ≤ℤ other.bound
   pub useful : IsEmpty row → row.bound <ℤ pos 0
@@ -33,8 +33,8 @@ IsRaw variable rows raw = (rows raw × (coef_of variable raw ≡ pos 0)) ⊎ IsC
 
 -- a derived row of level k: level 0 keeps the system's rows, and level k removes the k-th variable of the order
 abbrev pub IsDerived : Inequalities → List ℕ → ℕ → Row → Type 0
-IsDerived system order zero row = IsKept (λ r. Contains system.rows r) row
-IsDerived system order (suc k) row = IsKept (IsRaw (slice_index order k) (λ r. IsDerived system order k r)) row
+IsDerived system order zero row = IsLevelRow (λ r. Contains system.rows r) row
+IsDerived system order (suc k) row = IsLevelRow (IsRaw (slice_index order k) (λ r. IsDerived system order k r)) row
 
 -- the levels 0 to k keep no row without coefficients
 abbrev pub IsClearTo : Inequalities → List ℕ → ℕ → Type 0

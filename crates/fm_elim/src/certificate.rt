@@ -11,7 +11,7 @@ ghost use Rattle.fm_elim.specs.Logs.{step_of, all_rows, IsLog, IsNumber, IsSuite
 ghost use Rattle.fm_elim.specs.Lean.{IsLean, AreMarkedToo, AreNeeded, renumbered as renumbered_by};
 
 use crate::derivation::Derivation;
-use farkas_cert::{Certificate, Step, Steps, System, Terms};
+use farkas_cert::{Certificate, Step, StepList, System, Terms};
 use std::alloc::{AllocError, Global};
 
 // Marks the rows that the derivation names.
@@ -141,6 +141,6 @@ pub fn certificate_of(
         needed_steps(alloc, system, log, needed.as_slice())?
     };
     Ok(Certificate {
-        steps: Steps::from_vec(steps),
+        steps: StepList::from_vec(steps),
     })
 }

@@ -7,11 +7,11 @@ ghost use Rattle.std.specs.Ordering.{int_cmp};
 ghost use Rattle.farkas_cert.specs.Combination.{is_narrow as narrow};
 ghost use Rattle.farkas_cert.specs.Good.{IsGood};
 ghost use Rattle.fm_elim.specs.declared.level.Held.{Held as HeldRow};
-ghost use Rattle.fm_elim.specs.Levels.{IsEmpty, IsDerived, IsClearTo};
+ghost use Rattle.fm_elim.specs.Levels.{IsEmpty, IsDerived};
 ghost use Rattle.fm_elim.specs.Forming.{IsUpto};
 ghost use Rattle.fm_elim.specs.Logs.{IsLog, IsHeld, rows_of};
 ghost use Rattle.fm_elim.specs.Lean.{IsLean};
-ghost use Rattle.fm_elim.specs.Answers.{NamesEachOnce, AreNarrow, HasRationalSolution, IfInfeasible, IfOpen, IfWide, IfMany, IsWideAt, IsManyAt, AreClashing, IsFreeOfClashes};
+ghost use Rattle.fm_elim.specs.Answers.{NamesEachOnce, AreNarrow, IsDecided, IfInfeasible, IfWide, IfMany, AreClashing, IsFreeOfClashes};
 
 use crate::answer::{Answer, NoMemory};
 use crate::certificate::certificate_of;
@@ -135,13 +135,9 @@ fn refutation(
 pub fn decide(alloc: Global, system: &System, order: &[u32]) -> Result<Answer, NoMemory>
     requires order { NamesEachOnce system.now.vars order.now }
     requires narrow { AreNarrow system.now.rows }
-    ensures infeasible { IfOk result (λ a. IfInfeasible a (λ c. IsGood system.now c)) }
+    ensures decided { IfOk result (IsDecided system.now order.now) }
     ensures lean { IfOk result (λ a. IfInfeasible a (λ c. IsLean system.now c)) }
-    ensures clear { IfOk result (λ a. IfOpen a (IsClearTo system.now order.now (length order.now))) }
-    ensures solved { IfOk result (λ a. IfOpen a (HasRationalSolution system.now)) }
-    ensures wide { IfOk result (λ a. IfWide a (λ k upper lower. IsWideAt system.now order.now k upper lower)) }
     ensures before_wide { IfOk result (λ a. IfWide a (λ k upper lower. IsFreeOfClashes (IsDerived system.now order.now (k - 1)))) }
-    ensures many { IfOk result (λ a. IfMany a (λ k count. IsManyAt system.now order.now k count)) }
     ensures before_many { IfOk result (λ a. IfMany a (λ k count. IsFreeOfClashes (IsDerived system.now order.now (k - 1)))) }
 {
     let mut log = Vec::with_capacity(alloc, system.rows().len())?;

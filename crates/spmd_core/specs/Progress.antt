@@ -59,7 +59,7 @@ alone tree a (print i) = record { registers = []; memory = a.memory; output = a.
 abbrev pub done_alone : Tree → Plan → State → Alone
 done_alone tree plan s = fold (alone tree) (record { registers = []; memory = first_memory tree; output = [] }) (take (slice_index s.positions 0) (acts_of tree plan 0))
 
--- processor 0 owns every statement
+-- each phase's anchor is the form 0, so processor 0 owns every statement
 abbrev pub has_one_owner : Plan → Bool
 has_one_owner plan = list_all is_origin plan.anchors
 

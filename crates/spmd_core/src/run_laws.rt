@@ -17,8 +17,9 @@ pub fn no_state_is_stuck()
         → IsEnded tree plan (run_of tree plan schedule) ⊎ CanGo tree plan (run_of tree plan schedule) }
 {}
 
-/// Where processor 0 owns every statement, a run that has ended, in whatever order its
-/// processors went, has the memory and the output of the sequential program.
+/// Where each phase's anchor is the form 0, so that processor 0 owns every statement, a run that
+/// has ended, in whatever order its processors went, has the memory and the output of the
+/// sequential program.
 pub fn ended_runs_are_sequential()
     ensures memory { (tree : Tree) (plan : Plan) (schedule : List ℕ) → IsWellFormed tree → IsStraight tree → IsFit tree plan → All (λ p. p < plan.workers) schedule
         → IsTrue (has_one_owner plan) → IsEnded tree plan (run_of tree plan schedule) → (run_of tree plan schedule).memory ≡ last_memory tree }

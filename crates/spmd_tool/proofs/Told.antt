@@ -1,8 +1,8 @@
 -- What is told of the bytes of a source.
-use Rattle.std.proofs.Common.{◌≡◌, ℕ, ◌<◌, List, [], ◌++◌, Option, Some, None, length, sym, ap, subst, ◌∙◌, refl, append-nil, arith}
+use Rattle.std.proofs.Common.{◌≡◌, ℕ, ◌≤◌, List, [], ◌++◌, Option, Some, None, length, sym, ap, subst, ◌∙◌, refl, append-nil, arith}
 use Rattle.std.proofs.lemmas.List.{length-append}
 use Rattle.std.specs.Io.KnownBytes.{Consumes, IsAtEnd}
-use Rattle.spmd_tool.specs.Outside.{WhereTold, AreTold}
+use Rattle.spmd_tool.specs.Outside.{WhereTold, AreTold, Takes}
 
 -- some bytes are those of a source
 pub some_told : (told : Option (List ℕ)) → (bytes : List ℕ) × AreTold told bytes
@@ -19,12 +19,12 @@ all_told (Some xs) (Some ys) bytes p q = sym (p ∙ ap (λ l. bytes ++ l) q ∙ 
 pub read_told : (old new : Option (List ℕ)) (bytes those : List ℕ) → Consumes old new bytes → IsAtEnd new → those ≡ bytes → AreTold old those
 read_told old new bytes those p q e = subst (AreTold old) (sym e) (all_told old new bytes p q)
 
--- what was there is more than what was read of it
-pub more_told : (old new : Option (List ℕ)) (bytes : List ℕ) (n : ℕ) → Consumes old new bytes → n < length bytes → (all : List ℕ) × AreTold old all × (n < length all)
-more_told None new bytes n p h = (bytes, tt, h)
-more_told (Some xs) None bytes n p h = absurd p
-more_told (Some xs) (Some ys) bytes n p h =
-    let long : n < length xs = omega (arith, ap length p, length-append bytes ys) in
+-- where so many bytes were taken, at least so many were there
+pub taken_told : (old new : Option (List ℕ)) (n : ℕ) → Takes old new n → (all : List ℕ) × AreTold old all × (n ≤ length all)
+taken_told None new n h = (h.0, tt, omega (arith, h.2))
+taken_told (Some xs) None n h = absurd h.1
+taken_told (Some xs) (Some ys) n h =
+    let long : n ≤ length xs = omega (arith, ap length h.1, length-append h.0 ys, h.2) in
     (xs, refl, long)
 
 -- what holds of these bytes holds where they are told

@@ -1,6 +1,6 @@
 -- What is known of the bytes of a source and a sink, and of their counts.
-use Rattle.std.specs.Prelude.{◌≡◌, ℕ, List, ◌++◌, Option, Some, None, ⊤, ◌⊎◌}
-use Rattle.std.specs.Io.KnownBytes.{Appends}
+use Rattle.std.specs.Prelude.{◌≡◌, ℕ, List, ◌++◌, length, Option, Some, None, ⊤, ◌⊎◌}
+use Rattle.std.specs.Io.KnownBytes.{Appends, Consumes}
 use Rattle.spmd_ports.specs.Counts.{Rose}
 
 -- a fact of the bytes, where they are told
@@ -11,6 +11,10 @@ WhereTold (Some bytes) P = P bytes
 -- these are the bytes, where they are told
 abbrev pub AreTold : Option (List ℕ) → List ℕ → Type 0
 AreTold told bytes = WhereTold told (λ those. bytes ≡ those)
+
+-- so many bytes were taken from the front of a source
+abbrev pub Takes : Option (List ℕ) → Option (List ℕ) → ℕ → Type 0
+Takes old new count = (bytes : List ℕ) × Consumes old new bytes × (length bytes ≡ count)
 
 -- a part from the front of a text was written
 abbrev pub WritesPart : Option (List ℕ) → Option (List ℕ) → List ℕ → Type 0

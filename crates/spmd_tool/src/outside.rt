@@ -1,9 +1,9 @@
 // Reading the whole of a source, and writing a whole text.
 
-ghost use Rattle.std.specs.Prelude.{◌≡◌, ◌++◌, ◌≤◌, ◌<◌, ℕ, List, [], length, IfOk, OnOk, OnErr, IsErrOf, IsOk, take};
+ghost use Rattle.std.specs.Prelude.{◌≡◌, ◌+◌, ◌++◌, ◌≤◌, ◌<◌, ℕ, List, [], length, IfOk, OnOk, OnErr, IsErrOf, IsOk, take};
 ghost use Rattle.std.specs.Io.KnownBytes.{Appends, Consumes, IsAtEnd, Keeps};
 ghost use Rattle.spmd_ports.specs.Counts.{Rose};
-ghost use Rattle.spmd_tool.specs.Outside.{AreTold, WritesPart, RoseOneOf};
+ghost use Rattle.spmd_tool.specs.Outside.{Takes, WritesPart, RoseOneOf};
 
 use spmd_ports::{Failed, Sink, Source};
 use std::alloc::Global;
@@ -25,14 +25,15 @@ pub enum ReadTrouble {
     NoMemory,
 }
 
-/// All bytes of a source, up to its end.
+/// All bytes of a source, up to its end. Of a source that is too long exactly 4,194,305 bytes are
+/// taken.
 pub fn read_all<S: Source>(alloc: Global, source: &mut S) -> Result<Vec<u8>, ReadTrouble>
     ensures read { IfOk result (λ bytes. Consumes (S.left source.old) (S.left source.new) bytes.items) }
     ensures end { OnOk result (IsAtEnd (S.left source.new)) }
     ensures short { IfOk result (λ bytes. length bytes.items ≤ MOST_BYTES) }
     ensures fault { result ≡ Err ReadTrouble.Fault → Rose (S.faults source.old) (S.faults source.new) }
     ensures no_fault { S.faults source.old < S.faults source.new → result ≡ Err ReadTrouble.Fault }
-    ensures long { result ≡ Err ReadTrouble.TooLong → (bytes : List ℕ) × AreTold (S.left source.old) bytes × (MOST_BYTES < length bytes) }
+    ensures long { result ≡ Err ReadTrouble.TooLong → Takes (S.left source.old) (S.left source.new) (MOST_BYTES + 1) }
 {
     let mut bytes: Vec<u8> = Vec::new(alloc);
     let mut chunk = [0u8; CHUNK];
@@ -64,13 +65,13 @@ pub fn write_all<K: Sink>(sink: &mut K, text: &[u8]) -> Result<(), Failed>
 {
     let mut written = 0;
     while written < text.len() {
-        let Ok(count) = sink.write(&text[written..]) else {
+        let Ok(taken) = sink.write(&text[written..]) else {
             return Err(Failed);
         };
-        if count == 0 {
+        if taken == 0 {
             return Err(Failed);
         }
-        written += count;
+        written += taken;
     }
     Ok(())
 }

@@ -5,9 +5,11 @@ ghost use Rattle.std.specs.Prelude.{◌<◌};
 use crate::status::Status;
 use crate::tool::tool;
 use f77_reader::read_straight;
-use spmd_core::{Machine, StepAnswer, all_barriers};
+use nest_tree::{Affine, Pairs};
+use spmd_core::{Anchor, Anchors, Dist, Machine, PlanRefusal, StepAnswer, all_barriers, check_fit};
 use spmd_ports::{MemSink, MemSource};
 use std::alloc::Global;
+use std::fmt::Write;
 use std::test::Fail;
 
 const FIRST: &[u8] =
@@ -46,6 +48,24 @@ fn runs_the_first_program(rt: HostRuntime) -> Result<(), Fail> {
 }
 
 #[test]
+fn runs_398_statements(rt: HostRuntime) -> Result<(), Fail> {
+    let mut source = String::from_str(rt.alloc(), "      PROGRAM LONG\n")?;
+    let mut due = String::from_str(rt.alloc(), "SPMD PLAN 1\nWORKERS 2\nLOOPS 0\nPHASES 398\n")?;
+    for phase in 1..398 {
+        source.push_str("      K = K + 1\n")?;
+        writeln!(due, "{phase} BARRIER AT 0 CYCLIC")?;
+    }
+    source.push_str("      PRINT *, 'K', K\n      END\n")?;
+    due.push_str("398 BARRIER AT 0 CYCLIC\nCERTIFICATES 0\nEND PLAN\n K 397\n")?;
+    let mut from = MemSource::new(rt.alloc(), source.as_bytes(), 1000, &[])?;
+    let mut sink = MemSink::new(rt.alloc(), 20_000, 1000, &[])?;
+    let status = tool(rt.alloc(), &WORDS, &mut from, &mut sink);
+    assert_eq!(rt; status, Status::Done);
+    assert_eq!(rt; sink.written(), due.as_bytes());
+    Ok(())
+}
+
+#[test]
 fn processor_1_waits_for_the_first_statement(rt: HostRuntime) -> Result<(), Fail> {
     let Ok(program) = read_straight(rt.alloc(), FIRST) else {
         return Err(Fail::from("refused"));
@@ -68,6 +88,39 @@ fn processor_1_waits_for_the_first_statement(rt: HostRuntime) -> Result<(), Fail
     assert_eq!(rt; machine.step(1), StepAnswer::Ended);
     assert_eq!(rt; machine.memory(), [42].as_slice());
     assert_eq!(rt; machine.output().as_slice(), b" K 42\n".as_slice());
+    Ok(())
+}
+
+// An anchor with this constant form and a block of so many places.
+fn anchor_at(alloc: Global, place: u8, block: u32) -> Anchor {
+    Anchor {
+        form: Affine::new(i64::from(place), Pairs::new(alloc), Pairs::new(alloc)),
+        dist: Dist::Block(block),
+    }
+}
+
+#[test]
+fn refuses_a_plan_that_does_not_fit(rt: HostRuntime) -> Result<(), Fail> {
+    let Ok(program) = read_straight(rt.alloc(), FIRST) else {
+        return Err(Fail::from("refused"));
+    };
+    for (workers, place, block, refusal) in [
+        (2, 0, 1, None),
+        (0, 0, 1, Some(PlanRefusal::Shape(1))),
+        (65, 0, 1, Some(PlanRefusal::Shape(1))),
+        (2, 0, 0, Some(PlanRefusal::Shape(5))),
+        (2, 3, 2, Some(PlanRefusal::PrintPlace(3))),
+        (2, 4, 2, Some(PlanRefusal::Placement(1, 4, 4))),
+    ] {
+        let mut plan = all_barriers(rt.alloc(), &program, 2)?;
+        plan.workers = workers;
+        let mut anchors = Vec::new(rt.alloc());
+        for _ in 0..3 {
+            anchors.push(anchor_at(rt.alloc(), place, block))?;
+        }
+        plan.anchors = Anchors::new(anchors);
+        assert_eq!(rt; check_fit(&program, &plan).err(), refusal);
+    }
     Ok(())
 }
 
@@ -123,12 +176,16 @@ fn said_to(alloc: Global, words: &[&str]) -> Result<(Status, MemSink), Fail> {
 
 #[test]
 fn takes_1_to_64_workers(rt: HostRuntime) -> Result<(), Fail> {
-    let mut words = WORDS;
-    for workers in ["1", "9", "10", "63", "64"] {
-        words[2] = workers;
-        let (status, _) = said_to(rt.alloc(), &words)?;
+    for workers in 1..65 {
+        let count = format!(in rt.alloc(); "{workers}")?;
+        let mut words = WORDS;
+        words[2] = &count;
+        let (status, sink) = said_to(rt.alloc(), &words)?;
         assert_eq!(rt; status, Status::Done, "{workers}");
+        let head = format!(in rt.alloc(); "SPMD PLAN 1\nWORKERS {workers}\n")?;
+        assert!(rt; sink.written().starts_with(head.as_bytes()), "{workers}");
     }
+    let mut words = WORDS;
     for workers in ["", "0", "02", "65", "100", "+1", "-1", "1 ", "a"] {
         words[2] = workers;
         let (status, _) = said_to(rt.alloc(), &words)?;

@@ -1,12 +1,12 @@
 // The top call: from words and a source to a status and what is written.
 
-ghost use Rattle.std.specs.Prelude.{◌≡◌, ◌≢◌, ◌≤◌, ◌<◌, ◌⊎◌, ℕ, length, IsTrue};
+ghost use Rattle.std.specs.Prelude.{◌≡◌, ◌≢◌, ◌+◌, ◌≤◌, ◌<◌, ◌⊎◌, ℕ, length, IsTrue};
 ghost use Rattle.std.specs.Io.KnownBytes.{Appends, IsAtEnd};
 ghost use Rattle.nest_tree.specs.Tree.{Tree};
 ghost use Rattle.f77_reader.specs.Straight.{Reads, FirstFault};
 ghost use Rattle.spmd_ports.specs.Counts.{Rose};
 ghost use Rattle.spmd_tool.specs.Due.{is_said, most_bytes, IsOrNoMemory};
-ghost use Rattle.spmd_tool.specs.Outside.{WhereTold, WritesPart, RoseOneOf, NoneRose};
+ghost use Rattle.spmd_tool.specs.Outside.{Takes, WhereTold, WritesPart, RoseOneOf, NoneRose};
 ghost use Rattle.spmd_tool.specs.Words.{texts, AreRunWords, AreOthers};
 ghost use Rattle.spmd_tool.specs.Written.{WritesDue, WritesPartOfDue};
 
@@ -56,6 +56,9 @@ pub fn tool<S: Source, K: Sink>(
     // With 0 or 1 the source was read to its end.
     ensures end { result ≡ Status.Done → IsAtEnd (S.left source.new) }
     ensures end_refused { result ≡ Status.SourceRefused → IsAtEnd (S.left source.new) }
+
+    // With 7 the reading stopped one byte behind the most.
+    ensures stops { result ≡ Status.TooLong → Takes (S.left source.old) (S.left source.new) (most_bytes + 1) }
 
     // A read fault comes only where the source's count rose in this call, and wherever it grew; nothing was written.
     ensures read_fault { result ≡ Status.ReadFault → Rose (S.faults source.old) (S.faults source.new) }

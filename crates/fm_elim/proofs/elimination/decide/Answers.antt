@@ -1,11 +1,11 @@
 use Rattle.std.proofs.Common.{◌≡◌, ◌+◌, ◌<◌, IfNone, Fits, w32, length, get_or, subst, refl, arith}
 use Rattle.std.specs.List.{All, Contains}
 use Rattle.fm_elim.specs.declared.level.Held.{Held}
-use Rattle.fm_elim.specs.Levels.{IsEmpty, IsClearTo}
+use Rattle.fm_elim.specs.Levels.{IsEmpty}
 use Rattle.fm_elim.specs.Logs.{rows_of}
 use Rattle.fm_elim.specs.Answers.{IsFreeOfClashes}
 use Rattle.fm_elim.specs.Next.{IsNext}
-use Rattle.fm_elim.proofs.Reached.{reached_first, order_length, order_within, order_names_last, clear_here, reached_next, wide_here, many_here, free_here, solved_here}
+use Rattle.fm_elim.proofs.Reached.{reached_first, order_length, order_within, order_names_last, clear_here, reached_next, wide_here, many_here, free_here, open_here}
 use Rattle.fm_elim.proofs.elimination.decide.Goals as goal
 
 pub loop-index-init : goal.loop-index-init
@@ -32,8 +32,8 @@ overflow_add-number c =
 pub next_level-requires-clause-variable : goal.next_level-requires-clause-variable
 next_level-requires-clause-variable c = order_within c.args.system.now.vars c.args.order.now c.loop-index.index c.requires.order c.loop-index-test.true
 
-pub returns-in-Wide-clause-wide : goal.returns-in-Wide-clause-wide
-returns-in-Wide-clause-wide c =
+pub returns-in-Wide-clause-decided : goal.returns-in-Wide-clause-decided
+returns-in-Wide-clause-decided c =
     let system = c.args.system.now in
     let order = c.args.order.now in
     let k = c.loop-index.index in
@@ -45,8 +45,8 @@ returns-in-Wide-clause-wide c =
     let within : k < system.vars = omega (arith, order_length system.vars order c.requires.order, c.loop-index-test.true) in
     wide_here system order k c.loop-index.log.items level c.loop-index.invariant none v (k + 1) c.in-Wide.upper c.in-Wide.lower refl refl within next.0 next.1 next.2
 
-pub returns-in-Many-clause-many : goal.returns-in-Many-clause-many
-returns-in-Many-clause-many c =
+pub returns-in-Many-clause-decided : goal.returns-in-Many-clause-decided
+returns-in-Many-clause-decided c =
     let system = c.args.system.now in
     let order = c.args.order.now in
     let k = c.loop-index.index in
@@ -56,7 +56,7 @@ returns-in-Many-clause-many c =
     let none = subst (All (λ (h : Held). IsEmpty h.row → ⊥)) c.as_slice.ensures.value here in
     let next = subst (IsNext system v (rows_of level) c.next_level.new.log.items) c.in-Many.is c.in_ok-next.ensures.next in
     let within : k < system.vars = omega (arith, order_length system.vars order c.requires.order, c.loop-index-test.true) in
-    many_here system order k c.loop-index.log.items level c.loop-index.invariant none v (k + 1) 20001 refl refl within refl next
+    many_here system order k c.loop-index.log.items level c.loop-index.invariant none v (k + 1) 20001 refl refl within refl next.0 next.1
 
 pub loop-index-preserved : goal.loop-index-preserved
 loop-index-preserved c =
@@ -69,21 +69,14 @@ loop-index-preserved c =
     let none = subst (All (λ (h : Held). IsEmpty h.row → ⊥)) c.as_slice.ensures.value here in
     let next = subst (IsNext system v (rows_of level) c.next_level.new.log.items) c.in-Level.is c.in_ok-next.ensures.next in
     let within = order_within system.vars order k c.requires.order c.loop-index-test.true in
-    reached_next system order k c.loop-index.log.items level c.loop-index.invariant none v c.next_level.new.log.items c.in-Level.next.items refl within.0 within.1 next.0 c.in_ok-next.ensures.log next.1
+    reached_next system order k c.loop-index.log.items level c.loop-index.invariant none v c.next_level.new.log.items c.in-Level.next.items refl within.0 within.1 next c.in_ok-next.ensures.log
 
-pub returns-clause-clear : goal.returns-clause-clear
-returns-clause-clear c =
+pub returns-clause-decided : goal.returns-clause-decided
+returns-clause-decided c =
     let last : c.loop-index.index ≡ length c.args.order.now = omega arith in
     let here = subst (λ o. IfNone o (All (λ h. IsEmpty h.row → ⊥) c.as_slice-2.result.now)) c.in-None.is c.in_ok-certificate-2.ensures.clear in
     let none = subst (All (λ (h : Held). IsEmpty h.row → ⊥)) c.as_slice-2.ensures.value here in
-    subst (IsClearTo c.args.system.now c.args.order.now) last (clear_here c.args.system.now c.args.order.now c.loop-index.index c.loop-index.log.items c.loop-index.level.items c.loop-index.invariant none)
-
-pub returns-clause-solved : goal.returns-clause-solved
-returns-clause-solved c =
-    let last : c.loop-index.index ≡ length c.args.order.now = omega arith in
-    let here = subst (λ o. IfNone o (All (λ h. IsEmpty h.row → ⊥) c.as_slice-2.result.now)) c.in-None.is c.in_ok-certificate-2.ensures.clear in
-    let none = subst (All (λ (h : Held). IsEmpty h.row → ⊥)) c.as_slice-2.ensures.value here in
-    solved_here c.args.system.now c.args.order.now c.loop-index.index c.loop-index.log.items c.loop-index.level.items c.loop-index.invariant none c.requires.order last
+    open_here c.args.system.now c.args.order.now c.loop-index.index c.loop-index.log.items c.loop-index.level.items c.loop-index.invariant none c.requires.order last
 
 pub returns-in-Wide-clause-before_wide : goal.returns-in-Wide-clause-before_wide
 returns-in-Wide-clause-before_wide c =

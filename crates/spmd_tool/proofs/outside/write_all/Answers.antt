@@ -5,9 +5,9 @@ use Rattle.spmd_tool.proofs.outside.write_all.Goals as goal
 pub returns-in_default-clause-part : goal.returns-in_default-clause-part
 returns-in_default-clause-part g c = part_kept _ _ _ _ _ c.loop-written.invariant.front c.in_default.ensures.fault_writes_nothing
 
-pub returns-then-count-eq0-clause-part : goal.returns-then-count-eq0-clause-part
-returns-then-count-eq0-clause-part g c =
-    part_none _ _ _ _ _ _ c.in-Ok.count (omega arith) c.loop-written.invariant.front c.in-Ok.ensures.appended
+pub returns-then-taken-eq0-clause-part : goal.returns-then-taken-eq0-clause-part
+returns-then-taken-eq0-clause-part g c =
+    part_none _ _ _ _ _ _ c.in-Ok.taken (omega arith) c.loop-written.invariant.front c.in-Ok.ensures.appended
 
 pub loop-written-preserved : goal.loop-written-preserved
 loop-written-preserved g c = record {

@@ -4,7 +4,7 @@ use Rattle.spmd_tool.specs.Words.{texts}
 use Rattle.spmd_tool.specs.declared.status.Status.TheVariants.{BadWords, TooLong}
 use Rattle.spmd_tool.proofs.Endings.{run-due, said-due, part-due}
 use Rattle.spmd_tool.proofs.Lengths.{reads-short}
-use Rattle.spmd_tool.proofs.Told.{some_told, read_told, at_told}
+use Rattle.spmd_tool.proofs.Told.{some_told, read_told, at_told, taken_told}
 use Rattle.spmd_tool.proofs.tool.tool.Goals as goal
 
 -- ---- other words
@@ -45,15 +45,15 @@ returns-in-Ok-answer_of-clause-complete g c =
 
 pub returns-in-Err-TooLong-clause-due : goal.returns-in-Err-TooLong-clause-due
 returns-in-Err-TooLong-clause-due g c =
-    let long = c.in-Err-TooLong.ensures.long (ap Err c.in-Err-TooLong.field-0-is) in
+    let long = taken_told _ _ _ (c.in-Err-TooLong.ensures.long (ap Err c.in-Err-TooLong.field-0-is)) in
     said-due _ _ long.0 TooLong c.say-in-Err-TooLong.result _ _ _ long.1 (run c.in-Some.workers c.in-Some.ensures (long.2, refl)) c.say-in-Err-TooLong.ensures.outcome c.say-in-Err-TooLong.ensures.said
 
 pub returns-in-Err-TooLong-clause-part : goal.returns-in-Err-TooLong-clause-part
 returns-in-Err-TooLong-clause-part g c =
-    let long = c.in-Err-TooLong.ensures.long (ap Err c.in-Err-TooLong.field-0-is) in
+    let long = taken_told _ _ _ (c.in-Err-TooLong.ensures.long (ap Err c.in-Err-TooLong.field-0-is)) in
     part-due _ _ long.0 TooLong c.say-in-Err-TooLong.result _ _ _ long.1 (run c.in-Some.workers c.in-Some.ensures (long.2, refl)) c.say-in-Err-TooLong.ensures.part
 
 pub returns-in-Err-TooLong-clause-complete : goal.returns-in-Err-TooLong-clause-complete
 returns-in-Err-TooLong-clause-complete g c =
-    let long = c.in-Err-TooLong.ensures.long (ap Err c.in-Err-TooLong.field-0-is) in
+    let long = taken_told _ _ _ (c.in-Err-TooLong.ensures.long (ap Err c.in-Err-TooLong.field-0-is)) in
     λ none. at_told _ long.0 _ long.1 (λ workers tree are reads. absurd (let short = reads-short long.0 tree reads in let more = long.2 in omega arith))

@@ -1,0 +1,5 @@
+pub mod Cuts
+pub mod Characters
+pub mod Labels
+pub mod Entries
+pub mod Refused

@@ -1,0 +1,45 @@
+// Units of work, counted.
+
+ghost use Rattle.std.specs.Prelude.{◌≡◌, ◌<◌, ◌+◌};
+
+use std::marker::Model;
+use std::sync::ledger::{Blank, Book, Ledger, Share};
+
+/// How many units of work this crate did: a multiplication with its addition is a unit, and so is
+/// a division. Contracts see the number, which nothing outside this crate changes. It takes no
+/// bytes, and counting takes no time.
+#[derive(Drop)]
+pub struct Steps<L: Ledger> {
+    book: Book<L>,
+    share: Share<L>,
+}
+
+impl<L: Ledger> Model for Steps<L> {
+    ghost use Rattle.std.specs.Prelude.{ℕ, ◌<◌};
+
+    ghost Value = { ℕ };
+
+    ghost view = { λ s. s.book.total };
+
+    ghost invariant = { λ s. 0 < s.share.parts };
+}
+
+impl<L: Ledger> Steps<L> {
+    /// No unit yet, of a new ledger of one part or more.
+    pub fn new(blank: Blank) -> Self
+        requires name { blank.name ≡ L.name }
+        requires parts { blank.parts ≡ L.parts }
+        requires some { 0 < blank.parts }
+        ensures { result ≡ 0 }
+    {
+        let (book, share) = blank.open::<L>();
+        Steps { book, share }
+    }
+
+    /// One unit more.
+    pub(crate) fn tick(&mut self)
+        ensures { self.new ≡ self.old + 1 }
+    {
+        self.book.add(&mut self.share, 1);
+    }
+}

@@ -1,0 +1,53 @@
+// What keeps numbers at most 2 ^ 126 in size.
+
+ghost use Rattle.std.specs.Prelude.{◌≡◌, ◌↔◌, ◌+ℤ◌, ◌*ℤ◌, IsTrue, if◌then◌else◌, Some, None};
+ghost use Rattle.std.specs.List.{All};
+ghost use Rattle.farkas_cert.specs.Combination.{is_narrow as narrow};
+ghost use Rattle.farkas_cert.specs.Narrow.{IsNarrowRow, AreNarrow};
+
+use crate::system::Row;
+
+/// The greatest size of a narrow number, 2 ^ 126.
+pub const LIMIT: u128 = 1 << 126;
+
+/// Whether the number is at most 2 ^ 126 in size.
+pub fn is_narrow(number: i128) -> bool
+    ensures { result ≡ narrow number }
+{
+    number.unsigned_abs() <= LIMIT
+}
+
+/// Whether these numbers are all at most 2 ^ 126 in size.
+pub fn are_narrow(numbers: &[i128]) -> bool
+    ensures { IsTrue result ↔ All (λ a. IsTrue (narrow a)) numbers.now }
+{
+    numbers.iter().all(|number| is_narrow(*number))
+}
+
+/// The product, if it is at most 2 ^ 126 in size.
+pub fn narrow_product(a: i128, b: i128) -> Option<i128>
+    ensures { result ≡ (if narrow (a *ℤ b) then Some (a *ℤ b) else None) }
+{
+    a.checked_mul(b).filter(|product| is_narrow(*product))
+}
+
+/// The sum, if it is at most 2 ^ 126 in size.
+pub fn narrow_sum(a: i128, b: i128) -> Option<i128>
+    ensures { result ≡ (if narrow (a +ℤ b) then Some (a +ℤ b) else None) }
+{
+    a.checked_add(b).filter(|sum| is_narrow(*sum))
+}
+
+/// Whether the coefficients and the bound of the row are at most 2 ^ 126 in size.
+pub fn is_narrow_row(row: &Row) -> bool
+    ensures { IsTrue result ↔ IsNarrowRow row.now }
+{
+    are_narrow(row.coefs.as_slice()) && is_narrow(row.bound)
+}
+
+/// Whether the coefficients and the bounds of these rows are at most 2 ^ 126 in size.
+pub fn are_narrow_rows(rows: &[Row]) -> bool
+    ensures { IsTrue result ↔ AreNarrow rows.now }
+{
+    rows.iter().all(|row| is_narrow_row(row))
+}
