@@ -1,2 +1,4 @@
-pub mod Layouts
 pub mod Sums
+pub mod Places
+pub mod Cells
+pub mod Layouts
