@@ -1,5 +1,5 @@
 -- The instances of a program: its assignments and PRINTs at the values of the loops round them, an assignment behind a logical IF only where its comparison holds, in sequential order.
-use Rattle.std.specs.Prelude.{ℕ, ◌+◌, ◌-◌, ℤ, pos, negsuc, ◌+ℤ◌, ◌-ℤ◌, ◌*ℤ◌, int_div, Bool, true, if◌then◌else◌, Option, Some, None, List, [], ◌∷◌, ◌++◌, map, slice_set, replicate, ◌≡◌, refl}
+use Rattle.std.specs.Prelude.{ℕ, ◌+◌, ◌-◌, ℤ, pos, negsuc, ◌+ℤ◌, ◌-ℤ◌, ◌*ℤ◌, int_div, Bool, true, if◌then◌else◌, Some, List, [], ◌∷◌, ◌++◌, map, slice_set, replicate, ◌≡◌, refl}
 use Rattle.std.specs.List.{flat_map, range_with_len}
 use Rattle.nest_tree.specs.declared.tree.Compare.TheVariants.{Eq}
 use Rattle.nest_tree.specs.Form.{Form, form_value}
