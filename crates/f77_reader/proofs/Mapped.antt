@@ -17,9 +17,7 @@ use Rattle.nest_tree.specs.declared.tree.Variable.{Variable}
 use Rattle.f77_reader.specs.Meaning.{number_of, is_known, scalar_named}
 use Rattle.f77_reader.specs.Variables.{names_of, number_under, AreNumbered, AreScalars}
 use Rattle.f77_reader.proofs.Numbered.{unknown-number}
-
-same : (xs ys : List ℕ) → bytes_eq xs ys ≡ true → xs ≡ ys
-same xs ys h = search (rules, bytes_eq-Decides xs ys)
+use Rattle.f77_reader.proofs.Told.{same_bytes}
 
 differ : (xs ys : List ℕ) → bytes_eq xs ys ≡ false → xs ≢ ys
 differ xs ys h = search (rules, bytes_eq-Decides xs ys)
@@ -31,7 +29,7 @@ flipped : (xs ys : List ℕ) → bytes_eq xs ys ≡ false → bytes_eq ys xs ≡
 flipped xs ys h = by_test (bytes_eq ys xs) refl
   where
     by_test : (b : Bool) → bytes_eq ys xs ≡ b → bytes_eq ys xs ≡ false
-    by_test true e = absurd (differ xs ys h (sym (same ys xs e)))
+    by_test true e = absurd (differ xs ys h (sym (same_bytes ys xs e)))
     by_test false e = e
 
 abbrev key_cmp : Vec ℕ → Vec ℕ → Ordering
@@ -56,7 +54,7 @@ inserted_behind name key other n v found rest g f = by_test (bytes_eq name other
     apart = sym (is_eq-slice_cmp key other) ∙ ap is_eq g
 
     by_key : (b : Bool) → bytes_eq name key ≡ b → bytes_eq name other ≡ true → bytes_eq name key ≡ false
-    by_key true e o = absurd (differ key other apart (sym (same name key e) ∙ same name other o))
+    by_key true e o = absurd (differ key other apart (sym (same_bytes name key e) ∙ same_bytes name other o))
     by_key false e o = e
 
     by_test : (b : Bool) → bytes_eq name other ≡ b → cond (is_eq (slice_cmp nat_cmp name other)) (Some v) found ≡ (if bytes_eq name key then Some n else cond (is_eq (slice_cmp nat_cmp name other)) (Some v) rest)
@@ -119,7 +117,7 @@ AreNumbered-more old new n known name numbered m none made q =
 
     by_test : (b : Bool) → bytes_eq q name ≡ b → is_known known name ≡ false → (if bytes_eq q name then Some n else number_under old q) ≡ (if is_known (known ++ name ∷ []) q then Some (number_of (known ++ name ∷ []) q) else None)
     by_test true e u =
-        let is_name : q ≡ name = same q name e in
+        let is_name : q ≡ name = same_bytes q name e in
         let here : bytes_eq name q ≡ true = ap (bytes_eq name) is_name ∙ same_itself name in
         let before : is_known known q ≡ false = ap (is_known known) is_name ∙ u in
         let more : is_known (known ++ name ∷ []) q ≡ true = known-more known name q ∙ ap (λ b. b || bytes_eq name q) before ∙ here in

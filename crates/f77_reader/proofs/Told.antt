@@ -124,7 +124,7 @@ pub record IsWrittenText (text : List ℕ) : Type 0 where
   pub good : is_written written ≡ true
   pub spelled : text ≡ written_text written
 
-same_bytes : (a b : List ℕ) → bytes_eq a b ≡ true → a ≡ b
+pub same_bytes : (a b : List ℕ) → bytes_eq a b ≡ true → a ≡ b
 same_bytes a b h = (bytes_eq-Decides a b).0 h
 
 -- a text that begins with a word

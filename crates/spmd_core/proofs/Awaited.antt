@@ -12,8 +12,8 @@ use Rattle.spmd_core.specs.declared.plan.Kind.TheVariants.{Nothing, Producer, Le
 use Rattle.spmd_core.specs.declared.plan.Plan.{Plan}
 use Rattle.spmd_core.specs.Owners.{anchor_owner}
 use Rattle.spmd_core.specs.Waits.{waits_at, posts_at, waits_for}
-use Rattle.spmd_core.specs.Words.{members}
-use Rattle.spmd_core.proofs.Words.{any_from, any_none, members_masked, digit, bit_of_lower, bit_of_higher, max_digits}
+use Rattle.spmd_core.specs.ProcessorSets.{members}
+use Rattle.spmd_core.proofs.ProcessorSets.{any_from, any_none, members_masked, digit, bit_of_lower, bit_of_higher, max_digits}
 
 passes : (p q : ℕ) (b : Bool) → (p ≡ q → ⊥) → b ≡ true → (not (p == q) && b) ≡ true
 passes p q b ne h = ap (λ x. not x && b) (ne_eqb p q ne) ∙ h

@@ -10,7 +10,7 @@ use Rattle.spmd_core.specs.Cursors.{planned_turns, rest_of, cursor_left, IsBegun
 use Rattle.spmd_core.specs.Numbered.{own_acts}
 use Rattle.spmd_core.specs.Shown.{IsKept, left_of}
 use Rattle.spmd_core.specs.Turns.{is_busy, acts_left}
-use Rattle.spmd_core.specs.Words.{members}
+use Rattle.spmd_core.specs.ProcessorSets.{members}
 use Rattle.spmd_core.proofs.PlannedTurns.{turn_planned, awaited_below}
 use Rattle.spmd_core.proofs.Steps.{Passes}
 use Rattle.spmd_core.proofs.TurnActs.{busy_turns, await_first}

@@ -3,7 +3,7 @@ pub mod Fits
 pub mod Lines
 pub mod Suits
 pub mod Awaited
-pub mod Words
+pub mod ProcessorSets
 pub mod TurnActs
 pub mod LoadLists
 pub mod Lawful

@@ -17,7 +17,7 @@ use Rattle.spmd_core.specs.Shows.{answer_at, step_answer}
 use Rattle.spmd_core.specs.Waits.{processors}
 use Rattle.spmd_core.proofs.Lawful.{next_inside}
 use Rattle.spmd_core.proofs.Unstuck.{ended_or_goes}
-use Rattle.spmd_core.proofs.Words.{range_split}
+use Rattle.spmd_core.proofs.ProcessorSets.{range_split}
 use Rattle.nest_tree.specs.Straight.{are_works}
 
 -- a sum over a range in which one term is one less

@@ -18,7 +18,7 @@ use Rattle.spmd_core.specs.Numbered.{own_acts}
 use Rattle.spmd_core.specs.Shown.{left_of, position_of, state_of, IsKept, act_room, room_of}
 use Rattle.spmd_core.specs.Shows.{answer_at, step_answer}
 use Rattle.spmd_core.specs.Turns.{turn_acts}
-use Rattle.spmd_core.specs.Words.{members}
+use Rattle.spmd_core.specs.ProcessorSets.{members}
 use Rattle.spmd_core.proofs.MachineActs.{turns_acts}
 use Rattle.spmd_core.proofs.Suffixes.{Suffix, left_suffix, slice_get-left, head, head-cons, place_more}
 

@@ -7,7 +7,7 @@ use Rattle.std.proofs.lemmas.List.{take-append-le, get_or_append_left}
 use Rattle.std.proofs.lemmas.List.Elements.{All-nil, All-cons, All-append, All-map, All-get_or, All-weaker, All-from_get_or, All-head, All-tail, All-take}
 use Rattle.std.proofs.lemmas.List.FromFn.{get_or-range_with_len, length-range_with_len}
 use Rattle.std.proofs.lemmas.Option.{slice_get-get_or}
-use Rattle.spmd_core.proofs.Words.{any_from}
+use Rattle.spmd_core.proofs.ProcessorSets.{any_from}
 use Rattle.nest_tree.specs.Straight.{are_works}
 use Rattle.nest_tree.specs.Tree.{Tree}
 use Rattle.nest_model.specs.Instances.{works_of, Instance}

@@ -14,7 +14,7 @@ use Rattle.spmd_core.specs.Cursors.{planned_turns, rest_of, cursor_left, IsBegun
 use Rattle.spmd_core.specs.Numbered.{own_acts, instance_at, loads_by_place}
 use Rattle.spmd_core.specs.Shown.{IsKept, left_of, load_count_at}
 use Rattle.spmd_core.specs.Turns.{Planned, turn_acts, IsBegun}
-use Rattle.spmd_core.specs.Words.{members}
+use Rattle.spmd_core.specs.ProcessorSets.{members}
 use Rattle.spmd_core.proofs.PlannedTurns.{turn_planned}
 use Rattle.spmd_core.proofs.Steps.{Passes}
 use Rattle.spmd_core.proofs.TurnActs.{work_first}

@@ -6,7 +6,7 @@ use Rattle.spmd_core.specs.declared.cursor.Stage.{Stage}
 use Rattle.spmd_core.specs.declared.cursor.Stage.TheVariants.{Post, Await, Work, End}
 use Rattle.spmd_core.specs.Acts.{Act}
 use Rattle.spmd_core.specs.Turns.{Planned, acts_left, IsBegun}
-use Rattle.spmd_core.specs.Words.{members}
+use Rattle.spmd_core.specs.ProcessorSets.{members}
 
 -- a turn as plain data
 abbrev pub planned_of : Turn → Planned

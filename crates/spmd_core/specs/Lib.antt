@@ -6,7 +6,7 @@ pub mod Fit
 pub mod Acts
 pub mod Machine
 pub mod FirstRun
-pub mod Words
+pub mod ProcessorSets
 pub mod Numbered
 pub mod Suited
 pub mod Turns

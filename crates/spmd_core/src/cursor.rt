@@ -4,7 +4,7 @@ ghost use Rattle.std.specs.Prelude.{◌≡◌, ℕ, ◌+◌, ◌-◌, ◌<◌, �
 ghost use Rattle.std.specs.List.{list_all, flat_map};
 ghost use Rattle.nest_tree.specs.View.{tree_of};
 ghost use Rattle.spmd_core.specs.Acts.{Act, post, await};
-ghost use Rattle.spmd_core.specs.Words.{members};
+ghost use Rattle.spmd_core.specs.ProcessorSets.{members};
 ghost use Rattle.spmd_core.specs.Turns.{turns_of, planned, is_busy, turn_acts};
 ghost use Rattle.spmd_core.specs.Cursors.{planned_of, planned_turns, rest_of, cursor_left, IsAtStage, IsBegunAt, IsTailAt};
 ghost use Rattle.spmd_core.specs.Suited.{IsSuited};

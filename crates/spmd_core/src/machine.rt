@@ -12,6 +12,7 @@ ghost use Rattle.spmd_core.specs.Suited.{IsSuited};
 use crate::answer::{NoMemory, StepAnswer};
 use crate::cursor::Stage;
 use crate::line::Output;
+use crate::loads::scalar_cell;
 use crate::plan::Plan;
 use crate::processor::Processor;
 use crate::tables::{loads_of, longest_output, most_loads, processors_of};
@@ -178,7 +179,7 @@ impl<'a> Machine<'a> {
         ensures plan { plan_in self.new ≡ plan_in self.old }
     {
         let processor = &mut self.processors[p];
-        let cell = self.program.layout().cell_of(target.variable);
+        let cell = scalar_cell(self.program, target.variable);
         self.memory[cell as usize] = eval(e, &[], &[], processor.registers.as_slice());
         processor.registers.clear();
         processor.cursor.pass_work(place);

@@ -23,11 +23,10 @@ pub(crate) fn loads_of(alloc: Global, program: &Program) -> Result<Vec<Vec<u32>>
     requires straight { IsStraight (tree_of program.now) }
     ensures { IfOk result (λ v. map (λ cells. cells.items) v.items ≡ loads_by_place (tree_of program.now)) }
 {
-    let layout = program.layout();
     let mut loads = Vec::new(alloc);
     for item in &program.items {
         let mut cells = Vec::new(alloc);
-        push_statement_loads(&layout, item, &mut cells)?;
+        push_statement_loads(program, item, &mut cells)?;
         loads.push(cells)?;
     }
     Ok(loads)

@@ -9,7 +9,7 @@ ghost use Rattle.nest_model.specs.Instances.{works_of};
 ghost use Rattle.spmd_core.specs.Fit.{IsFit, is_good_anchor, is_placed};
 ghost use Rattle.spmd_core.specs.Owners.{anchor_owner};
 ghost use Rattle.spmd_core.specs.Waits.{waits_for, posts_at};
-ghost use Rattle.spmd_core.specs.Words.{members};
+ghost use Rattle.spmd_core.specs.ProcessorSets.{members};
 
 use crate::plan::{Anchor, Dist, Kind, Plan};
 use nest_tree::Program;

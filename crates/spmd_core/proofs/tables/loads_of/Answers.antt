@@ -2,7 +2,6 @@ use Rattle.std.proofs.Common.{◌≡◌, ◌<◌, ◌∷◌, ◌++◌, [], ℕ, 
 use Rattle.std.specs.List.{range_with_len}
 use Rattle.std.proofs.lemmas.List.{map_push}
 use Rattle.std.proofs.lemmas.List.FromFn.{map-range_with_len_more}
-use Rattle.nest_tree.specs.LaidOut.{laid_out}
 use Rattle.nest_tree.specs.View.{tree_of, statement_of}
 use Rattle.nest_tree.specs.WellFormed.{scope_of, is_good_statement}
 use Rattle.nest_model.specs.Accesses.{work_loads, loads_of}
@@ -20,8 +19,7 @@ push_statement_loads-requires-clause-good c =
     let lt : n < length items = omega (arith, ap length c.deref-item-items.ensures.value) in
     let is : c.item-item.result ≡ get_or items n c.item-item.result = c.item-item.is ∙ ap (λ xs. get_or xs n c.item-item.result) c.deref-item-items.ensures.value in
     let works = works_in_straight tree c.requires.straight in
-    ap (λ t. is_good_statement (scope_of t) [] 1 (statement_of c.item-item.result)) c.layout-layout.ensures
-    ∙ ap (is_good_statement (scope_of tree) [] 1) (work_at-list items n c.item-item.result works lt is)
+    ap (is_good_statement (scope_of tree) [] 1) (work_at-list items n c.item-item.result works lt is)
     ∙ good_work_at (scope_of tree) 1 tree.items n works (good_program tree c.requires.formed)
 
 pub loop-item-preserved : goal.loop-item-preserved
@@ -31,12 +29,11 @@ loop-item-preserved c =
     let n = c.loop-item.item-index in
     let lt : n < length items = omega (arith, ap length c.deref-item-items.ensures.value) in
     let is : c.item-item.result ≡ get_or items n c.item-item.result = c.item-item.is ∙ ap (λ xs. get_or xs n c.item-item.result) c.deref-item-items.ensures.value in
-    let here : statement_loads (laid_out c.layout-layout.result) [] (statement_of c.item-item.result) ≡ loads_of tree (instance_at tree n) =
-    ap (λ t. statement_loads t [] (statement_of c.item-item.result)) c.layout-layout.ensures
-    ∙ ap (λ s. statement_loads tree [] s) (work_at-list items n c.item-item.result (works_in_straight tree c.requires.straight) lt is)
+    let here : statement_loads tree [] (statement_of c.item-item.result) ≡ loads_of tree (instance_at tree n) =
+    ap (λ s. statement_loads tree [] s) (work_at-list items n c.item-item.result (works_in_straight tree c.requires.straight) lt is)
     ∙ ap (λ loops. work_loads tree loops (work_at tree.items n)) (sym (no_values-straight tree (works_in_straight tree c.requires.straight))) in
     let cells : c.push_statement_loads.new.cells.items ≡ loads_of tree (instance_at tree n) =
-    c.in_ok-push_statement_loads.ensures ∙ ap (λ old. old ++ statement_loads (laid_out c.layout-layout.result) [] (statement_of c.item-item.result)) c.new-cells.ensures.items ∙ here in
+    c.in_ok-push_statement_loads.ensures ∙ ap (λ old. old ++ statement_loads tree [] (statement_of c.item-item.result)) c.new-cells.ensures.items ∙ here in
     ap (map (λ (v : Vec ℕ Global). v.items)) c.in_ok-push.ensures.items ∙ map_push (λ (v : Vec ℕ Global). v.items) c.loop-item.loads.items c.push_statement_loads.new.cells
     ∙ ap (λ rest. rest ++ c.push_statement_loads.new.cells.items ∷ []) c.loop-item.invariant
     ∙ ap (λ x. map (λ k. loads_of tree (instance_at tree k)) (range_with_len 0 n) ++ x ∷ []) cells

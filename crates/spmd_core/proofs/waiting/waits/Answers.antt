@@ -5,7 +5,7 @@ use Rattle.spmd_core.specs.declared.plan.Kind.TheVariants.{Nothing, Producer, Le
 use Rattle.spmd_core.specs.Fit.{is_placed_kind}
 use Rattle.spmd_core.proofs.Fits.{works_of-list, works_in_straight}
 use Rattle.spmd_core.proofs.Suits.{suits_from}
-use Rattle.spmd_core.proofs.Words.{digit, bit_of_one, bit_of_lower, bit_of_higher}
+use Rattle.spmd_core.proofs.ProcessorSets.{digit, bit_of_one, bit_of_lower, bit_of_higher}
 use Rattle.spmd_core.proofs.Awaited.{waits_by, kind_is, bits-nothing, bits-all, bits-both}
 use Rattle.spmd_core.proofs.waiting.waits.Goals as goal
 use Rattle.spmd_core.proofs.waiting.waits.Goals.{in-Nothing, in-Producer, in-Left, in-Right, in-Both, in-Barrier, in-Barrier-2}

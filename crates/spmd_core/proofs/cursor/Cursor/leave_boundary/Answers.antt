@@ -1,9 +1,9 @@
 use Rattle.std.proofs.Common.{◌<◌, ap, sym, ◌∙◌, length, ◌^◌, arith}
 use Rattle.std.proofs.lemmas.List.{length-map}
 use Rattle.spmd_core.specs.Cursors.{planned_of}
-use Rattle.spmd_core.specs.Words.{members}
+use Rattle.spmd_core.specs.ProcessorSets.{members}
 use Rattle.spmd_core.proofs.TurnActs.{turns_more, ends_turn, begun_part, works_here}
-use Rattle.spmd_core.proofs.Words.{members-zero, some_members}
+use Rattle.spmd_core.proofs.ProcessorSets.{members-zero, some_members}
 use Rattle.spmd_core.proofs.cursor.Cursor.leave_boundary.Goals as goal
 use Rattle.spmd_core.proofs.cursor.Cursor.leave_boundary.Goals.{else-self-eq0-via-then-self-eq0+else-not-index, else-self-eq0-via-else-self-eq0}
 

@@ -1,7 +1,7 @@
 use Rattle.std.proofs.Common.{◌∷◌, ◌<◌, ◌^◌, ap, sym, ◌∙◌, arith}
 use Rattle.spmd_core.specs.Acts.{await}
 use Rattle.spmd_core.proofs.TurnActs.{tail_more, await_first}
-use Rattle.spmd_core.proofs.Words.{first_of_members}
+use Rattle.spmd_core.proofs.ProcessorSets.{first_of_members}
 use Rattle.spmd_core.proofs.cursor.Cursor.pass_await.Goals as goal
 
 pub overflow_shl-self : goal.overflow_shl-self

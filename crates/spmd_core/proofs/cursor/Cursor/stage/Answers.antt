@@ -1,7 +1,7 @@
 use Rattle.std.proofs.Common.{◌<◌, ◌^◌, ap, length, ◌∙◌, arith}
-use Rattle.spmd_core.specs.Words.{members}
+use Rattle.spmd_core.specs.ProcessorSets.{members}
 use Rattle.spmd_core.proofs.TurnActs.{at_turn}
-use Rattle.spmd_core.proofs.Words.{members-zero, members_first}
+use Rattle.spmd_core.proofs.ProcessorSets.{members-zero, members_first}
 use Rattle.spmd_core.proofs.cursor.Cursor.stage.Goals as goal
 
 pub returns-then-not-self : goal.returns-then-not-self

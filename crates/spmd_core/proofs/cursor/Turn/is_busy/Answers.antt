@@ -1,7 +1,7 @@
 use Rattle.std.proofs.Common.{◌≡◌, ◌<◌, ◌^◌, ◌==◌, ◌||◌, not, true, false, length, ap, sym, ◌∙◌, arith}
 use Rattle.std.proofs.lemmas.Bool.{not-true, not-false}
-use Rattle.spmd_core.specs.Words.{members}
-use Rattle.spmd_core.proofs.Words.{empty_members}
+use Rattle.spmd_core.specs.ProcessorSets.{members}
+use Rattle.spmd_core.proofs.ProcessorSets.{empty_members}
 use Rattle.spmd_core.proofs.cursor.Turn.is_busy.Goals as goal
 use Rattle.spmd_core.proofs.cursor.Turn.is_busy.Goals.{then-self, else-self}
 

@@ -5,7 +5,7 @@ use Rattle.spmd_core.specs.Numbered.{own_acts}
 use Rattle.spmd_core.specs.Shown.{left_of}
 use Rattle.spmd_core.specs.Shows.{shown, answer_at}
 use Rattle.spmd_core.specs.Turns.{acts_left}
-use Rattle.spmd_core.specs.Words.{members}
+use Rattle.spmd_core.specs.ProcessorSets.{members}
 use Rattle.spmd_core.specs.declared.processor.Processor.{Processor}
 use Rattle.spmd_core.proofs.Steps.{next_is}
 use Rattle.spmd_core.proofs.Suffixes.{head, head-nil}

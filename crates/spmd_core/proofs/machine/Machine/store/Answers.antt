@@ -22,61 +22,34 @@ use Rattle.spmd_core.proofs.Suits.{suits}
 use Rattle.spmd_core.proofs.WorkActs.{place_below, loads_at, passes_last}
 use Rattle.spmd_core.proofs.machine.Machine.store.Goals as goal
 
-pub cell_of-cell-requires-clause-low : goal.cell_of-cell-requires-clause-low
-cell_of-cell-requires-clause-low c =
+pub scalar_cell-cell-requires-clause-low : goal.scalar_cell-cell-requires-clause-low
+scalar_cell-cell-requires-clause-low c =
     let m = c.args.self.now in
     let tree = tree_of m.program.now in
     let plan = m.plan.now in
-    let ps = m.processors.items in
-    let p = c.args.p in
     let place = c.args.place in
     let fit = suits tree plan m.suited in
-    let x = c.index_mut-processor.result.now in
-    let read = c.index_mut-processor.ensures.value in
-    let kept : IsKept tree plan p x = subst (IsKept tree plan p) (sym read) (m.kept p x c.requires.worker) in
-    let stage = subst (λ (z : Processor). IsAtStage z.cursor (Work place)) (sym read) (c.requires.stage x) in
     let what = storing tree plan place _ fit c.requires.statement.2 in
-    let below = place_below tree plan p place x kept stage in
-    let loaded : length x.registers.items ≡ load_count_at tree place = subst (λ (z : Processor). length z.registers.items ≡ load_count_at tree place) (sym read) (c.requires.loaded x) in
-    let all : length x.registers.items ≡ length (loads_of tree (instance_at tree place)) = loaded ∙ ap length (loads_at tree place below) in
     what.access.low
 
-pub cell_of-cell-requires-clause-high : goal.cell_of-cell-requires-clause-high
-cell_of-cell-requires-clause-high c =
+pub scalar_cell-cell-requires-clause-high : goal.scalar_cell-cell-requires-clause-high
+scalar_cell-cell-requires-clause-high c =
     let m = c.args.self.now in
     let tree = tree_of m.program.now in
     let plan = m.plan.now in
-    let ps = m.processors.items in
-    let p = c.args.p in
     let place = c.args.place in
     let fit = suits tree plan m.suited in
-    let x = c.index_mut-processor.result.now in
-    let read = c.index_mut-processor.ensures.value in
-    let kept : IsKept tree plan p x = subst (IsKept tree plan p) (sym read) (m.kept p x c.requires.worker) in
-    let stage = subst (λ (z : Processor). IsAtStage z.cursor (Work place)) (sym read) (c.requires.stage x) in
     let what = storing tree plan place _ fit c.requires.statement.2 in
-    let below = place_below tree plan p place x kept stage in
-    let loaded : length x.registers.items ≡ load_count_at tree place = subst (λ (z : Processor). length z.registers.items ≡ load_count_at tree place) (sym read) (c.requires.loaded x) in
-    let all : length x.registers.items ≡ length (loads_of tree (instance_at tree place)) = loaded ∙ ap length (loads_at tree place below) in
-    omega (arith, what.access.high, ap (λ t. length t.variables) c.layout.ensures)
+    what.access.high
 
 pub eval-requires-clause-valued : goal.eval-requires-clause-valued
 eval-requires-clause-valued c =
     let m = c.args.self.now in
     let tree = tree_of m.program.now in
     let plan = m.plan.now in
-    let ps = m.processors.items in
-    let p = c.args.p in
     let place = c.args.place in
     let fit = suits tree plan m.suited in
-    let x = c.index_mut-processor.result.now in
-    let read = c.index_mut-processor.ensures.value in
-    let kept : IsKept tree plan p x = subst (IsKept tree plan p) (sym read) (m.kept p x c.requires.worker) in
-    let stage = subst (λ (z : Processor). IsAtStage z.cursor (Work place)) (sym read) (c.requires.stage x) in
     let what = storing tree plan place _ fit c.requires.statement.2 in
-    let below = place_below tree plan p place x kept stage in
-    let loaded : length x.registers.items ≡ load_count_at tree place = subst (λ (z : Processor). length z.registers.items ≡ load_count_at tree place) (sym read) (c.requires.loaded x) in
-    let all : length x.registers.items ≡ length (loads_of tree (instance_at tree place)) = loaded ∙ ap length (loads_at tree place below) in
     what.valued
 
 pub eval-requires-clause-loads : goal.eval-requires-clause-loads
@@ -84,7 +57,6 @@ eval-requires-clause-loads c =
     let m = c.args.self.now in
     let tree = tree_of m.program.now in
     let plan = m.plan.now in
-    let ps = m.processors.items in
     let p = c.args.p in
     let place = c.args.place in
     let fit = suits tree plan m.suited in
@@ -103,19 +75,10 @@ index_mut-requires c =
     let m = c.args.self.now in
     let tree = tree_of m.program.now in
     let plan = m.plan.now in
-    let ps = m.processors.items in
-    let p = c.args.p in
     let place = c.args.place in
     let fit = suits tree plan m.suited in
-    let x = c.index_mut-processor.result.now in
-    let read = c.index_mut-processor.ensures.value in
-    let kept : IsKept tree plan p x = subst (IsKept tree plan p) (sym read) (m.kept p x c.requires.worker) in
-    let stage = subst (λ (z : Processor). IsAtStage z.cursor (Work place)) (sym read) (c.requires.stage x) in
     let what = storing tree plan place _ fit c.requires.statement.2 in
-    let below = place_below tree plan p place x kept stage in
-    let loaded : length x.registers.items ≡ load_count_at tree place = subst (λ (z : Processor). length z.registers.items ≡ load_count_at tree place) (sym read) (c.requires.loaded x) in
-    let all : length x.registers.items ≡ length (loads_of tree (instance_at tree place)) = loaded ∙ ap length (loads_at tree place below) in
-    let cell = c.cell_of-cell.ensures ∙ ap (λ t. cell_of t c.args.target.now.variable []) c.layout.ensures in
+    let cell = c.scalar_cell-cell.ensures in
     omega (arith, cell, what.inside, m.cells, m.memory.ok.0)
 
 pub pass_work-requires-clause-begun : goal.pass_work-requires-clause-begun
@@ -123,10 +86,7 @@ pass_work-requires-clause-begun c =
     let m = c.args.self.now in
     let tree = tree_of m.program.now in
     let plan = m.plan.now in
-    let ps = m.processors.items in
     let p = c.args.p in
-    let place = c.args.place in
-    let fit = suits tree plan m.suited in
     let x = c.index_mut-processor.result.now in
     let read = c.index_mut-processor.ensures.value in
     let kept : IsKept tree plan p x = subst (IsKept tree plan p) (sym read) (m.kept p x c.requires.worker) in
@@ -137,10 +97,7 @@ pass_work-requires-clause-busy c =
     let m = c.args.self.now in
     let tree = tree_of m.program.now in
     let plan = m.plan.now in
-    let ps = m.processors.items in
     let p = c.args.p in
-    let place = c.args.place in
-    let fit = suits tree plan m.suited in
     let x = c.index_mut-processor.result.now in
     let read = c.index_mut-processor.ensures.value in
     let kept : IsKept tree plan p x = subst (IsKept tree plan p) (sym read) (m.kept p x c.requires.worker) in
@@ -170,7 +127,7 @@ invariant_of-self c =
     let passes = subst (Passes tree x y) (ap (last_act (instance_at tree place)) what.store)
     (passes_last tree plan p place x y kept stage turns all (c.pass_work.ensures.acts (own_acts tree) (length x.registers.items)) none) in
     let passed = subst (λ z. Passes tree z y act) read passes in
-    let cell = c.cell_of-cell.ensures ∙ ap (λ t. cell_of t c.args.target.now.variable []) c.layout.ensures in
+    let cell = c.scalar_cell-cell.ensures in
     let fits : FitsSigned w64 c.eval.result = search rules in
     let stored : c.eval.result ≡ assigned_value tree (instance_at tree place) x.registers.items =
     c.eval.ensures ∙ ap (value_of (expression_of c.args.e.now) [] []) c.as_slice.ensures.value ∙ sym (what.value x.registers.items) in
@@ -180,7 +137,7 @@ invariant_of-self c =
       listed = m.listed;
       counted = length-set ps p y ∙ m.counted;
       kept = written_all (IsKept tree plan) ps p y m.kept (kept_boundary tree plan p x y kept turns none c.pass_work.ensures.begun (omega (arith, c.clear.ensures.capacity)));
-      cells = length-set m.memory.items c.cell_of-cell.result _ ∙ m.cells;
+      cells = length-set m.memory.items c.scalar_cell-cell.result _ ∙ m.cells;
       room = omega (arith, room, m.room);
       reached = reached_by tree plan (state_of tree ps m.memory.items m.output.bytes.items) _ p fit (omega (arith, m.counted, c.requires.worker)) m.reached
           (steps_store tree plan ps m.memory.items _ m.output.bytes.items p x y (instance_at tree place) (cell_of tree c.args.target.now.variable []) fit.works c.requires.worker (m.kept p x c.requires.worker) passed
@@ -213,7 +170,7 @@ returns-clause-step c =
     let passes = subst (Passes tree x y) (ap (last_act (instance_at tree place)) what.store)
     (passes_last tree plan p place x y kept stage turns all (c.pass_work.ensures.acts (own_acts tree) (length x.registers.items)) none) in
     let passed = subst (λ z. Passes tree z y act) read passes in
-    let cell = c.cell_of-cell.ensures ∙ ap (λ t. cell_of t c.args.target.now.variable []) c.layout.ensures in
+    let cell = c.scalar_cell-cell.ensures in
     let fits : FitsSigned w64 c.eval.result = search rules in
     let stored : c.eval.result ≡ assigned_value tree (instance_at tree place) x.registers.items =
     c.eval.ensures ∙ ap (value_of (expression_of c.args.e.now) [] []) c.as_slice.ensures.value ∙ sym (what.value x.registers.items) in

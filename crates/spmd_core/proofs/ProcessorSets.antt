@@ -5,7 +5,7 @@ use Rattle.std.specs.Int.{bit_at, trailing_zeros}
 use Rattle.std.proofs.lemmas.Bool.{eq-eqb, ne_eqb, cases_eq, cases_lt}
 use Rattle.std.proofs.lemmas.List.Elements.{filter-append}
 use Rattle.std.proofs.lemmas.Nat.Bits.{bit_at-suc, bit_at-zero, bit_at_and, bit_at-pow_same, bit_at-pow_other, bit_at_ones, bit_at_not, bit_at_ones_above, bit_at_cat_low, bit_at_cat_high, bit_at_above, ones_shr, bit_at-trailing_zeros, bit_at_clear_same, bit_at_clear_other}
-use Rattle.spmd_core.specs.Words.{is_member, members}
+use Rattle.spmd_core.specs.ProcessorSets.{is_member, members}
 
 -- a range in two parts
 pub range_split : (a n m : ℕ) → range_with_len a (n + m) ≡ range_with_len a n ++ range_with_len (a + n) m
