@@ -1,5 +1,6 @@
 -- A sink over memory, as its callers see it.
-use Rattle.std.specs.Prelude.{ℕ, ◌-◌, List, [], ◌++◌, length, take, min}
+use Rattle.std.specs.Prelude.{ℕ, ◌-◌, ◌==◌, Bool, if◌then◌else◌, List, [], ◌++◌, length, take, min}
+use Rattle.std.specs.List.{list_any}
 use Rattle.spmd_ports.specs.Counts.{raised, empties_after}
 
 pub record MemorySink : Type 0 where
@@ -11,6 +12,8 @@ pub record MemorySink : Type 0 where
   pub piece : ℕ
   -- the calls that fail, counted from 1
   pub failing : List ℕ
+  -- the calls that take nothing, counted from 1
+  pub empty : List ℕ
   -- the calls so far
   pub calls : ℕ
   -- the faults so far
@@ -19,13 +22,17 @@ pub record MemorySink : Type 0 where
   pub empties : ℕ
 
 -- the sink before its first call
-abbrev pub fresh : ℕ → ℕ → List ℕ → MemorySink
-fresh room piece failing =
-    record { written = []; room = room; piece = piece; failing = failing; calls = 0; faults = 0; empties = 0 }
+abbrev pub fresh : ℕ → ℕ → List ℕ → List ℕ → MemorySink
+fresh room piece failing empty =
+    record { written = []; room = room; piece = piece; failing = failing; empty = empty; calls = 0; faults = 0; empties = 0 }
 
--- how many bytes a call takes of so many
+-- the next call takes nothing, whatever room there is
+abbrev pub takes_nothing : MemorySink → Bool
+takes_nothing s = list_any (λ call. call == raised s.calls) s.empty
+
+-- how many bytes the next call takes of so many
 abbrev pub taken : MemorySink → ℕ → ℕ
-taken s offered = min (min s.piece offered) (s.room - length s.written)
+taken s offered = if takes_nothing s then 0 else min (min s.piece offered) (s.room - length s.written)
 
 -- the sink behind a call that took the first n of these bytes
 abbrev pub written_on : MemorySink → ℕ → List ℕ → MemorySink

@@ -15,6 +15,7 @@ pub struct MemSink {
     room: usize,
     piece: usize,
     failing: Vec<u64>,
+    empty: Vec<u64>,
     calls: u64,
     faults: u64,
     empties: u64,
@@ -28,6 +29,7 @@ impl Model for MemSink {
       room = s.room;
       piece = s.piece;
       failing = s.failing.items;
+      empty = s.empty.items;
       calls = s.calls;
       faults = s.faults;
       empties = s.empties;
@@ -40,30 +42,44 @@ impl MemSink {
     /// A sink with room for `room` bytes, which takes at most `piece` of them in one call. A piece
     /// past the room is cut, and where no room is left 0 bytes are taken.
     ///
-    /// `failing` lists the calls that fail, counted from 1, in any order; past call 2^64 - 1 every
-    /// call counts as that one.
+    /// `failing` lists the calls that fail, and `empty` those that take 0 bytes whatever room there
+    /// is, both counted from 1, in any order; past call 2^64 - 1 every call counts as that one. A
+    /// call in both lists fails.
     ///
     /// # Errors
     ///
-    /// [`NoMemory`] where there is no memory for the room.
+    /// [`NoMemory`] where there is no memory for the room or the lists.
     pub fn new(
         alloc: Global,
         room: usize,
         piece: usize,
         failing: &[u64],
+        empty: &[u64],
     ) -> Result<MemSink, NoMemory>
         requires { 0 < piece }
-        ensures { IfOk result (λ sink. sink ≡ fresh room piece failing.now) }
+        ensures { IfOk result (λ sink. sink ≡ fresh room piece failing.now empty.now) }
     {
         Ok(MemSink {
             bytes: Vec::with_capacity(alloc, room)?,
             room,
             piece,
             failing: failing.to_vec(alloc)?,
+            empty: empty.to_vec(alloc)?,
             calls: 0,
             faults: 0,
             empties: 0,
         })
+    }
+
+    // How many bytes the next call takes of so many.
+    fn next_count(&self, offered: usize) -> usize
+        ensures { result ≡ taken self.now offered }
+    {
+        if self.empty.contains(&self.calls.saturating_add(1)) {
+            return 0;
+        }
+        let free = self.room - self.bytes.len();
+        self.piece.min(offered).min(free)
     }
 
     /// What was written.
@@ -88,13 +104,12 @@ impl Sink for MemSink {
         ensures count { IfOk result (λ n. n ≡ taken self.old (length from.now)) }
         ensures written { IfOk result (λ n. self.new ≡ written_on self.old n from.now) }
     {
+        let count = self.next_count(from.len());
         self.calls = self.calls.saturating_add(1);
         if self.failing.contains(&self.calls) {
             self.faults = self.faults.saturating_add(1);
             return Err(Failed);
         }
-        let free = self.room - self.bytes.len();
-        let count = self.piece.min(from.len()).min(free);
         self.bytes.extend_from_slice(&from[..count]).unwrap();
         if count == 0 && !from.is_empty() {
             self.empties = self.empties.saturating_add(1);

@@ -45,7 +45,7 @@ fn a_source_gives_one_byte_a_call(rt: HostRuntime) -> Result<(), Fail> {
 
 #[test]
 fn a_sink_takes_one_byte_a_call_and_fails_at_the_listed_one(rt: HostRuntime) -> Result<(), Fail> {
-    let mut sink = MemSink::new(rt.alloc(), 9, 1, &[3])?;
+    let mut sink = MemSink::new(rt.alloc(), 9, 1, &[3], &[])?;
     for answer in [Ok(1), Ok(1), Err(Failed), Ok(1)] {
         assert_eq!(rt; write(&mut sink, b"SP"), answer);
     }
@@ -55,7 +55,7 @@ fn a_sink_takes_one_byte_a_call_and_fails_at_the_listed_one(rt: HostRuntime) -> 
 
 #[test]
 fn a_full_sink_takes_nothing(rt: HostRuntime) -> Result<(), Fail> {
-    let mut sink = MemSink::new(rt.alloc(), 5, 100, &[])?;
+    let mut sink = MemSink::new(rt.alloc(), 5, 100, &[], &[])?;
     for (answer, held) in [(Ok(5), b"SPMD "), (Ok(0), b"SPMD ")] {
         assert_eq!(rt; write(&mut sink, b"SPMD PLAN 1"), answer);
         assert_eq!(rt; sink.written(), held.as_slice());

@@ -20,18 +20,21 @@ const FIRST_RUN: &[u8] =
 
 const WORDS: [&str; 7] = ["run", "--workers", "2", "--plan", "barrier", "--by", "core"];
 
+// The calls that the source fails, that the sink fails, and that the sink takes nothing at.
+type Calls<'a> = (&'a [u64], &'a [u64], &'a [u64]);
+
 // What a run with the usual words writes, and its status.
 fn run_of(
     alloc: Global,
     bytes: &[u8],
     pieces: (usize, usize),
-    failing: (&[u64], &[u64]),
+    calls: Calls<'_>,
 ) -> Result<(Status, MemSink), Fail>
     requires source { 0 < pieces.0 }
     requires sink { 0 < pieces.1 }
 {
-    let mut source = MemSource::new(alloc, bytes, pieces.0, failing.0)?;
-    let mut sink = MemSink::new(alloc, 1000, pieces.1, failing.1)?;
+    let mut source = MemSource::new(alloc, bytes, pieces.0, calls.0)?;
+    let mut sink = MemSink::new(alloc, 1000, pieces.1, calls.1, calls.2)?;
     let status = tool(alloc, &WORDS, &mut source, &mut sink);
     Ok((status, sink))
 }
@@ -40,7 +43,7 @@ fn run_of(
 fn runs_the_first_program(rt: HostRuntime) -> Result<(), Fail> {
     for pieces in [(1000, 1000), (1, 1), (7, 3)] {
         prove!(pieces.0 > 0 && pieces.1 > 0);
-        let (status, sink) = run_of(rt.alloc(), FIRST, pieces, (&[], &[]))?;
+        let (status, sink) = run_of(rt.alloc(), FIRST, pieces, (&[], &[], &[]))?;
         assert_eq!(rt; status, Status::Done);
         assert_eq!(rt; sink.written(), FIRST_RUN);
     }
@@ -58,7 +61,7 @@ fn runs_398_statements(rt: HostRuntime) -> Result<(), Fail> {
     source.push_str("      PRINT *, 'K', K\n      END\n")?;
     due.push_str("398 BARRIER AT 0 CYCLIC\nCERTIFICATES 0\nEND PLAN\n K 397\n")?;
     let mut from = MemSource::new(rt.alloc(), source.as_bytes(), 1000, &[])?;
-    let mut sink = MemSink::new(rt.alloc(), 20_000, 1000, &[])?;
+    let mut sink = MemSink::new(rt.alloc(), 20_000, 1000, &[], &[])?;
     let status = tool(rt.alloc(), &WORDS, &mut from, &mut sink);
     assert_eq!(rt; status, Status::Done);
     assert_eq!(rt; sink.written(), due.as_bytes());
@@ -124,26 +127,49 @@ fn refuses_a_plan_that_does_not_fit(rt: HostRuntime) -> Result<(), Fail> {
     Ok(())
 }
 
+// 81 bytes, one a call, and a call for the end.
 #[test]
-fn a_failed_read_writes_nothing(rt: HostRuntime) -> Result<(), Fail> {
-    let (status, sink) = run_of(rt.alloc(), FIRST, (20, 1000), (&[2], &[]))?;
-    assert_eq!(rt; status, Status::ReadFault);
-    assert!(rt; sink.written().is_empty());
+fn a_read_that_fails_writes_nothing(rt: HostRuntime) -> Result<(), Fail> {
+    for call in 1..83 {
+        let (status, sink) = run_of(rt.alloc(), FIRST, (1, 1000), (&[call], &[], &[]))?;
+        assert_eq!(rt; status, Status::ReadFault, "{call}");
+        assert!(rt; sink.written().is_empty(), "{call}");
+    }
+    let (status, sink) = run_of(rt.alloc(), FIRST, (1, 1000), (&[83], &[], &[]))?;
+    assert_eq!(rt; status, Status::Done);
+    assert_eq!(rt; sink.written(), FIRST_RUN);
     Ok(())
 }
 
+// What the first run writes 1 byte a call where this call of the sink fails, or takes nothing.
+fn run_to(alloc: Global, call: u64, fails: bool) -> Result<(Status, MemSink), Fail> {
+    if fails {
+        run_of(alloc, FIRST, (1000, 1), (&[], &[call], &[]))
+    } else {
+        run_of(alloc, FIRST, (1000, 1), (&[], &[], &[call]))
+    }
+}
+
 #[test]
-fn a_failed_write_leaves_a_front(rt: HostRuntime) -> Result<(), Fail> {
-    let (status, sink) = run_of(rt.alloc(), FIRST, (1000, 5), (&[], &[2]))?;
-    assert_eq!(rt; status, Status::WriteFault);
-    assert_eq!(rt; sink.written(), b"SPMD ".as_slice());
+fn a_write_that_fails_or_takes_nothing_leaves_a_front(rt: HostRuntime) -> Result<(), Fail> {
+    for fails in [true, false] {
+        for call in 1..136 {
+            let (status, sink) = run_to(rt.alloc(), call, fails)?;
+            assert_eq!(rt; status, Status::WriteFault, "{call}");
+            assert_eq!(rt; sink.written().len() as u64, call - 1);
+            assert!(rt; FIRST_RUN.starts_with(sink.written()), "{call}");
+        }
+        let (status, sink) = run_to(rt.alloc(), 136, fails)?;
+        assert_eq!(rt; status, Status::Done);
+        assert_eq!(rt; sink.written(), FIRST_RUN);
+    }
     Ok(())
 }
 
 #[test]
 fn refuses_a_line(rt: HostRuntime) -> Result<(), Fail> {
     let source = b"      K = 1\n      K = K/2\n      END\n";
-    let (status, sink) = run_of(rt.alloc(), source, (1000, 1000), (&[], &[]))?;
+    let (status, sink) = run_of(rt.alloc(), source, (1000, 1000), (&[], &[], &[]))?;
     assert_eq!(rt; status, Status::SourceRefused);
     assert_eq!(rt; sink.written(), b"REFUSED F2 LINE 2\n".as_slice());
     Ok(())
@@ -158,7 +184,7 @@ fn refuses_a_source_that_is_too_long(rt: HostRuntime) -> Result<(), Fail> {
     ] {
         prove!(piece > 0);
         let long = vec![in rt.alloc(); b' '; length]?;
-        let (ended, sink) = run_of(rt.alloc(), &long, (piece, 1000), (&[], &[]))?;
+        let (ended, sink) = run_of(rt.alloc(), &long, (piece, 1000), (&[], &[], &[]))?;
         assert_eq!(rt; ended, status);
         let line = sink.written() == b"TOO LONG\n".as_slice();
         assert_eq!(rt; line, status == Status::TooLong);
@@ -169,7 +195,7 @@ fn refuses_a_source_that_is_too_long(rt: HostRuntime) -> Result<(), Fail> {
 // The status and what is written with these words.
 fn said_to(alloc: Global, words: &[&str]) -> Result<(Status, MemSink), Fail> {
     let mut source = MemSource::new(alloc, FIRST, 1000, &[])?;
-    let mut sink = MemSink::new(alloc, 1000, 1000, &[])?;
+    let mut sink = MemSink::new(alloc, 1000, 1000, &[], &[])?;
     let status = tool(alloc, words, &mut source, &mut sink);
     Ok((status, sink))
 }
