@@ -1,0 +1,9 @@
+pub mod Trees
+pub mod PathLists
+pub mod Sums
+pub mod Steps
+pub mod WalkMoves
+pub mod FormValues
+pub mod Levels
+pub mod CursorMoves
+pub mod Walks

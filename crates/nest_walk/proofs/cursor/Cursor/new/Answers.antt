@@ -1,0 +1,26 @@
+use Rattle.std.proofs.Common.{[], ap, ◌∙◌}
+use Rattle.nest_tree.specs.View.{tree_of, statements_from}
+use Rattle.nest_walk.specs.Cursors.{left_of}
+use Rattle.nest_walk.specs.Frames.{levels_to}
+use Rattle.nest_walk.specs.Walks.{is_sound, left, walk_in}
+use Rattle.nest_walk.proofs.Walks.{start_sound}
+use Rattle.nest_walk.proofs.cursor.Cursor.new.Goals as goal
+
+pub invariant_of-result : goal.invariant_of-result
+invariant_of-result c =
+    let tree = tree_of c.args.program.now in
+    let marks = c.args.marks.now in
+    let levels = levels_to c.new-2.result.all c.new.result.depth in record {
+      sound = ap (λ rounds. is_sound (walk_in tree marks) rounds levels (record { statements = statements_from c.deref.result.now; place = 1; first = 1 })) c.new.ensures
+          ∙ ap (λ items. is_sound (walk_in tree marks) [] levels (record { statements = statements_from items; place = 1; first = 1 })) c.deref.ensures.value
+          ∙ start_sound tree marks levels c.requires.formed c.requires.limits;
+    }
+
+pub returns-clause-visits : goal.returns-clause-visits
+unfolding left_of
+returns-clause-visits c =
+    let tree = tree_of c.args.program.now in
+    let marks = c.args.marks.now in
+    let levels = levels_to c.new-2.result.all c.new.result.depth in
+    ap (λ rounds. left (walk_in tree marks) rounds levels (record { statements = statements_from c.deref.result.now; place = 1; first = 1 })) c.new.ensures
+    ∙ ap (λ items. left (walk_in tree marks) [] levels (record { statements = statements_from items; place = 1; first = 1 })) c.deref.ensures.value

@@ -1,0 +1,25 @@
+-- The loops that a cursor is in, as plain data.
+use Rattle.std.specs.Prelude.{ℕ, zero, suc, List, [], ◌++◌, map, slice_get}
+use Rattle.std.specs.Option.{option_to_list}
+use Rattle.nest_tree.specs.Tree.{Head}
+use Rattle.nest_tree.specs.View.{statements_from}
+use Rattle.nest_tree.specs.declared.tree.Nest.{Nest}
+use Rattle.nest_walk.specs.Walks.{Stretch, Level}
+use Rattle.nest_walk.specs.TripsLeft.{trips_left}
+use Rattle.nest_walk.specs.declared.frame.Part.{Part}
+use Rattle.nest_walk.specs.declared.frame.Frame.{Frame}
+
+-- the head of a loop
+abbrev pub head_of : Nest → Head
+head_of nest = record { number = nest.number; m1 = nest.m1; m2 = nest.m2; step = nest.step; line = nest.line }
+
+abbrev pub stretch_of : Part → Stretch
+stretch_of p = record { statements = statements_from p.items.now; place = p.place; first = p.first }
+
+abbrev pub level_of : Frame → Level
+level_of f = record { body = stretch_of f.body; later = trips_left f.later; behind = statements_from f.behind.now }
+
+-- the first so many frames, the innermost first
+abbrev pub levels_to : List Frame → ℕ → List Level
+levels_to frames zero = []
+levels_to frames (suc k) = map level_of (option_to_list (slice_get frames k)) ++ levels_to frames k

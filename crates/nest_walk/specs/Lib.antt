@@ -1,0 +1,9 @@
+pub mod Paths
+pub mod Progressions
+pub mod Walkable
+pub mod Walks
+pub mod Moves
+pub mod RoundsOf
+pub mod TripsLeft
+pub mod Frames
+pub mod Cursors

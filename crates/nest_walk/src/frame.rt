@@ -1,0 +1,78 @@
+// The loops that a walk is in.
+
+ghost use Rattle.std.specs.Prelude.{◌≡◌, ◌<◌, Some, length, slice_get, slice_set};
+
+use crate::path::MOST_LOOPS;
+use crate::trips::Trips;
+use nest_tree::Item;
+
+/// Statements one behind another, with the numbers of their first stop and of their first piece of
+/// work.
+#[derive(Clone, Copy)]
+pub struct Part<'a> {
+    pub(crate) items: &'a [Item],
+    pub(crate) place: u32,
+    pub(crate) first: u32,
+}
+
+/// A loop that a walk is in: its body, its later trips, and the statements behind it.
+#[derive(Clone, Copy)]
+pub struct Frame<'a> {
+    pub(crate) body: Part<'a>,
+    pub(crate) later: Trips,
+    pub(crate) behind: &'a [Item],
+}
+
+/// The loops that a walk is in, by depth from the outermost.
+#[derive(Clone, Copy)]
+pub struct Frames<'a> {
+    pub(crate) all: [Frame<'a>; MOST_LOOPS],
+}
+
+impl<'a> Frames<'a> {
+    // Places for six loops.
+    pub(crate) fn new() -> Self {
+        let nothing = Part {
+            items: &[],
+            place: 0,
+            first: 0,
+        };
+        let frame = Frame {
+            body: nothing,
+            later: Trips::new(0, 1, 0),
+            behind: &[],
+        };
+        Frames {
+            all: [frame; MOST_LOOPS],
+        }
+    }
+
+    // The frame at this depth, from 0.
+    pub(crate) fn at(&self, depth: usize) -> Frame<'a>
+        requires { depth < 6 }
+        ensures { slice_get self.now.all depth ≡ Some result }
+    {
+        let all = &self.all[..];
+        all[depth]
+    }
+
+    // Another frame at this depth, from 0.
+    pub(crate) fn put(&mut self, depth: usize, frame: Frame<'a>)
+        requires { depth < 6 }
+        ensures room { depth < length self.old.all }
+        ensures all { self.new.all ≡ slice_set self.old.all depth frame.entry }
+    {
+        let all = &mut self.all[..];
+        all[depth] = frame;
+    }
+
+    // Other later trips of the frame at this depth, from 0.
+    pub(crate) fn put_later(&mut self, depth: usize, later: Trips)
+        requires { depth < 6 }
+        ensures room { depth < length self.old.all }
+        ensures all { (f : Frame) → slice_get self.old.all depth ≡ Some f → self.new.all ≡ slice_set self.old.all depth (record f { later = later }) }
+    {
+        let all = &mut self.all[..];
+        all[depth].later = later;
+    }
+}

@@ -1,0 +1,22 @@
+//! What every walk of a program shares.
+//!
+//! A [`Cursor`] goes through a program's statements in sequential order: into each loop that isn't
+//! marked, in each trip, and it stops at every other statement but a CONTINUE. It takes no memory,
+//! and a stop in the innermost loop costs the same however long the program is.
+//!
+//! - [`cursor`]: the walk, stop by stop.
+//! - [`path`]: the loops round a stop with the values of their DO variables, by depth.
+//! - [`trips`]: the values of a loop's trips, as a progression.
+//! - [`frame`]: the loops that a walk is in.
+#![tactic(auto)]
+
+mod count;
+pub mod cursor;
+mod form;
+pub mod frame;
+pub mod path;
+pub mod trips;
+
+pub use cursor::{Cursor, Stop};
+pub use path::{MOST_LOOPS, Path};
+pub use trips::Trips;
