@@ -93,6 +93,7 @@ unplaced_kind workers phase (k ∷ rest) =
 abbrev pub is_origin : Anchor → Bool
 is_origin a = is_constant a.form && int_eq a.form.constant (pos 0)
 
+-- a piece of work is a PRINT, and so is a statement
 abbrev pub prints : Work → Bool
 prints (assign a) = false
 prints (print p) = true

@@ -11,7 +11,7 @@ use Rattle.spmd_core.specs.Acts.{Act, instance_acts}
 abbrev pub no_work : Work
 no_work = print (record { items = []; line = 0 })
 
--- the piece of work at this place, from 0; past the last one there is none
+-- the piece of work at this place, from 0, outside loops; past the last one a PRINT of nothing
 abbrev pub work_at : Statements → ℕ → Work
 work_at done n = no_work
 work_at (next (do_loop head body) rest) n = work_at rest n
@@ -40,7 +40,7 @@ statement_loads tree loops (do_loop head body) = []
 statement_loads tree loops (work w) = work_loads tree loops w
 statement_loads tree loops (continue line) = []
 
--- the cells that each statement loads, where no loop has a value
+-- the cells that the piece of work at each place loads
 unfoldable pub loads_by_place : Tree → List (List ℕ)
 loads_by_place tree = map (λ n. loads_of tree (instance_at tree n)) (places tree)
 

@@ -1,7 +1,10 @@
 -- Static phases and phases, on one timeline with the instances.
-use Rattle.std.specs.Prelude.{ℕ, ◌+◌, ◌-◌, ℤ, Bool, true, false, List, [], ◌∷◌, ◌++◌, Option, Some, None, slice_get, map, if◌then◌else◌}
+use Rattle.std.specs.Prelude.{ℕ, ◌+◌, ◌-◌, ℤ, Bool, true, false, List, [], ◌∷◌, ◌++◌, Option, Some, None, slice_get, map, if◌then◌else◌, pos, ◌≡◌, refl}
 use Rattle.std.specs.List.{flat_map}
-use Rattle.nest_tree.specs.Tree.{Statement, Statements, do_loop, work, continue, done, next, Tree, param_values}
+use Rattle.nest_tree.specs.declared.tree.Access.{Access}
+use Rattle.nest_tree.specs.declared.tree.Compare.TheVariants.{Lt}
+use Rattle.nest_tree.specs.Form.{Form}
+use Rattle.nest_tree.specs.Tree.{Expression, assign, Statement, Statements, do_loop, work, continue, done, next, Tree, param_values}
 use Rattle.nest_model.specs.Instances.{Instance, head_trips, with_loop, instances_of, works_in, no_values}
 use Rattle.spmd_core.specs.declared.plan.Mark.{Mark}
 use Rattle.spmd_core.specs.declared.plan.Mark.TheVariants.{Outer, Doall, Single, Inner}
@@ -58,6 +61,15 @@ abbrev mutual
   timeline_in params marks done place first loops = []
   timeline_in params marks (next s rest) place first loops =
       timeline_of params marks s place first loops ++ timeline_in params marks rest (place + phases_in marks s) (first + works_in s) loops
+
+-- behind IF (0.LT.0) the phase of an assignment begins, and nothing is executed in it
+abbrev zero_form : Form
+zero_form = record { constant = pos 0; loops = []; params = [] }
+
+pub timeline-left_out : (target : Access) (value : Expression)
+    → timeline_of [] [] (work (assign (record { target = target; value = value; guard = Some (record { left = zero_form; op = Lt; right = zero_form }); line = 1 }))) 1 1 []
+    ≡ begins (record { place = 1; outer = [] }) ∷ []
+timeline-left_out target value = refl
 
 -- the timeline of a program
 abbrev pub timeline : Tree → List Mark → List Event
