@@ -124,6 +124,7 @@ fn summed<L: Ledger>(
     ensures narrow { OnOk result (first_wide system.now.vars (system.now.rows ++ made.now) terms.now (range_with_len 0 (system.now.vars + 1)) ≡ None) }
     ensures coefs { IfOk result (λ row. row.coefs ≡ map (sum_of system.now.vars (system.now.rows ++ made.now) terms.now) (range_with_len 0 system.now.vars)) }
     ensures bound { IfOk result (λ row. row.bound ≡ sum_of system.now.vars (system.now.rows ++ made.now) terms.now system.now.vars) }
+    ensures full { IfOk result (λ row. length row.coefs ≡ system.now.vars) }
     ensures wide { IfErr result (λ e. e ≢ CertRefusal.NoMemory → (k : ℕ) × (first_wide system.now.vars (system.now.rows ++ made.now) terms.now (range_with_len 0 (system.now.vars + 1)) ≡ Some k) × (e ≡ CertRefusal.Wide number (k + 1))) }
 
     ensures units { RoseWithin (length terms.now * (system.now.vars + 1)) steps.old steps.new }
@@ -217,6 +218,7 @@ fn check_last(system: &System, made: &[Row]) -> Result<(), CertRefusal>
 }
 
 // The rows that the steps make, if each is good.
+#[tactic(auto, using(crate::proofs::Units::most_units_step))]
 fn check_steps<L: Ledger>(
     alloc: Global,
     system: &System,

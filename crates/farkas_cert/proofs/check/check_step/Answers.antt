@@ -1,4 +1,4 @@
-use Rattle.std.proofs.Common.{rules, FitsSigned, to_z, of_z, refl, ◌≡◌, pos, ◌<ℤ◌, int_rem, true, false, None, ◌++◌, ◌+◌, ◌*◌, length, length-append, map, ◌∙◌, arith}
+use Rattle.std.proofs.Common.{rules, FitsSigned, to_z, of_z, refl, ◌≡◌, pos, ◌<ℤ◌, int_rem, true, false, None, ◌++◌, ◌+◌, length, length-append, map, ◌∙◌}
 use Rattle.std.specs.Int.{w128}
 use Rattle.std.proofs.lemmas.Int.{to_z-of_z}
 use Rattle.std.specs.Ordering.{int_eq}
@@ -6,7 +6,6 @@ use Rattle.std.specs.List.{list_all, range_with_len}
 use Rattle.farkas_cert.specs.Combination.{sum_at}
 use Rattle.farkas_cert.specs.Fault.{has_negative, names_bad_row, first_wide}
 use Rattle.farkas_cert.proofs.Faults.{step_fault-divisor, divides-true, divides-false, made_row-sums}
-use Rattle.farkas_cert.proofs.Units.{one_step}
 use Rattle.farkas_cert.proofs.check.check_step.Goals as goal
 
 pub returns-in-Some-clause-good : goal.returns-in-Some-clause-good
@@ -47,33 +46,3 @@ returns-in-None-clause-refused g c =
     let back : to_z w128 (of_z w128 step.divisor) ≡ step.divisor = to_z-of_z w128 step.divisor fits in
     let fails : (pos 0 <ℤ step.divisor) × (list_all (λ a. int_eq (int_rem a step.divisor) (pos 0)) c.in_ok-sums.sums.coefs ≡ true) → ⊥ = λ both. absurd (let clash = (rw back at c.in-None.ensures.divides.1) both in cc) in
     λ _. step_fault-divisor vars rows c.args.number (length c.args.system.now.rows + length c.args.made.now) step signs named (length-append c.args.system.now.rows c.args.made.now) narrow ∙ rw (divides-false vars rows step c.in_ok-sums.sums.coefs sums fails) refl
-
-pub returns-in-Some-clause-all : goal.returns-in-Some-clause-all
-returns-in-Some-clause-all g c =
-    let vars = c.args.system.now.vars in
-    let rows = c.args.system.now.rows ++ c.args.made.now in
-    let step = c.args.step.now in
-    let sums : c.in_ok-sums.sums.coefs ≡ map (sum_at vars rows step.terms) (range_with_len 0 vars) = rw (← c.as_slice-terms.ensures) c.in_ok-sums.ensures.coefs in
-    let summed : c.summed.new.steps ≡ c.args.steps.now + length step.terms * (vars + 1) = rw (← c.as_slice-terms.ensures) c.in_ok-sums.ensures.all in
-    let units = one_step vars (sum_at vars rows step.terms) step c.in_ok-sums.sums.coefs c.args.steps.now c.summed.new.steps sums summed in
-    omega (arith, units, c.in-Some.ensures.all refl)
-
-pub returns-in-Some-clause-units : goal.returns-in-Some-clause-units
-returns-in-Some-clause-units g c =
-    let vars = c.args.system.now.vars in
-    let rows = c.args.system.now.rows ++ c.args.made.now in
-    let step = c.args.step.now in
-    let sums : c.in_ok-sums.sums.coefs ≡ map (sum_at vars rows step.terms) (range_with_len 0 vars) = rw (← c.as_slice-terms.ensures) c.in_ok-sums.ensures.coefs in
-    let summed : c.summed.new.steps ≡ c.args.steps.now + length step.terms * (vars + 1) = rw (← c.as_slice-terms.ensures) c.in_ok-sums.ensures.all in
-    let units = one_step vars (sum_at vars rows step.terms) step c.in_ok-sums.sums.coefs c.args.steps.now c.summed.new.steps sums summed in
-    omega (arith, units, summed, c.in-Some.ensures.all refl)
-
-pub returns-in-None-clause-units : goal.returns-in-None-clause-units
-returns-in-None-clause-units g c =
-    let vars = c.args.system.now.vars in
-    let rows = c.args.system.now.rows ++ c.args.made.now in
-    let step = c.args.step.now in
-    let sums : c.in_ok-sums.sums.coefs ≡ map (sum_at vars rows step.terms) (range_with_len 0 vars) = rw (← c.as_slice-terms.ensures) c.in_ok-sums.ensures.coefs in
-    let summed : c.summed.new.steps ≡ c.args.steps.now + length step.terms * (vars + 1) = rw (← c.as_slice-terms.ensures) c.in_ok-sums.ensures.all in
-    let units = one_step vars (sum_at vars rows step.terms) step c.in_ok-sums.sums.coefs c.args.steps.now c.summed.new.steps sums summed in
-    (omega (arith, units, summed, c.in-None.ensures.units.0), omega (arith, units, c.in-None.ensures.units.1))

@@ -2,7 +2,7 @@ use Rattle.std.proofs.Common.{◌≡◌, ◌+◌, ◌<◌, ◌++◌, None, lengt
 use Rattle.farkas_cert.specs.Combination.{made_row}
 use Rattle.farkas_cert.specs.Fault.{step_fault}
 use Rattle.farkas_cert.proofs.Verdict.{fault_from-step, AreFull-step}
-use Rattle.farkas_cert.proofs.Units.{most_units-step}
+use Rattle.farkas_cert.proofs.Units.{most_units_step}
 use Rattle.farkas_cert.proofs.check.check_steps.Goals as goal
 
 pub loop-index-preserved : goal.loop-index-preserved
@@ -20,24 +20,6 @@ loop-index-preserved g c =
     rw c.in_ok-push.ensures.items (record {
       full = AreFull-step vars rows made step row c.loop-index.invariant.full is_made;
       fault = c.loop-index.invariant.fault ∙ fault_from-step vars rows made (c.loop-index.index + 1) c.loop-index.index steps step row within at good is_made;
-      counted = omega (arith, c.loop-index.invariant.counted, c.in_ok-row.ensures.all, c.loop-index.invariant.rose, most_units-step vars c.loop-index.index steps step within at);
+      counted = omega (arith, c.loop-index.invariant.counted, c.in_ok-row.ensures.all, c.loop-index.invariant.rose, most_units_step vars c.loop-index.index steps step within at);
       rose = omega (arith, c.loop-index.invariant.rose, c.in_ok-row.ensures.all);
     })
-
-pub returns-in_err-row-clause-units : goal.returns-in_err-row-clause-units
-returns-in_err-row-clause-units g c =
-    let steps = c.args.certificate.now.steps in
-    let step = c.index-taken-index.result in
-    let within : c.loop-index.index < length steps = rw (← c.as_slice-taken.ensures) c.loop-index-test.true in
-    let at : step ≡ get_or steps c.loop-index.index step = rw (← c.as_slice-taken.ensures) c.index-taken-index.is in
-    let left = most_units-step c.args.system.now.vars c.loop-index.index steps step within at in
-    (omega (arith, c.loop-index.invariant.rose, c.in_err-row.ensures.units.0), omega (arith, c.loop-index.invariant.counted, c.in_err-row.ensures.units.1, left))
-
-pub returns-in_err-push-clause-units : goal.returns-in_err-push-clause-units
-returns-in_err-push-clause-units g c =
-    let steps = c.args.certificate.now.steps in
-    let step = c.index-taken-index.result in
-    let within : c.loop-index.index < length steps = rw (← c.as_slice-taken.ensures) c.loop-index-test.true in
-    let at : step ≡ get_or steps c.loop-index.index step = rw (← c.as_slice-taken.ensures) c.index-taken-index.is in
-    let left = most_units-step c.args.system.now.vars c.loop-index.index steps step within at in
-    (omega (arith, c.loop-index.invariant.rose, c.in_ok-row.ensures.units.0), omega (arith, c.loop-index.invariant.counted, c.in_ok-row.ensures.units.1, left))

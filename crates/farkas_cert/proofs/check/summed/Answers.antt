@@ -1,4 +1,4 @@
-use Rattle.std.proofs.Common.{rules, ◌≡◌, ◌+◌, ◌-◌, ◌++◌, FitsSigned, to_z, of_z, refl, ap, ◌∙◌, arith}
+use Rattle.std.proofs.Common.{rules, ◌≡◌, ◌+◌, ◌-◌, ◌++◌, [], ◌∷◌, length-append, FitsSigned, to_z, of_z, refl, ap, ◌∙◌, arith}
 use Rattle.std.specs.Int.{w128}
 use Rattle.std.proofs.lemmas.Int.{to_z-of_z}
 use Rattle.std.proofs.lemmas.List.FromFn.{map-range_with_len_more}
@@ -24,4 +24,4 @@ loop-k-preserved g c =
     let fits : FitsSigned w128 c.in-Some.sum = search rules in
     let sum : to_z w128 (of_z w128 c.in-Some.sum) ≡ c.in-Some.sum = to_z-of_z w128 c.in-Some.sum fits in
     let more = map-range_with_len_more (sum_at vars rows c.args.terms.now) 0 c.loop-k.k c.loop-k.k (omega arith) in
-    record { sums = rw (c.in_ok-push-in-Some.ensures.ok, more, step.1, sum, c.loop-k.invariant.sums) refl; narrow = c.loop-k.invariant.narrow ∙ step.0; counted = omega (arith, c.loop-k.invariant.counted, c.in-Some.ensures.all refl) }
+    record { full = rw (c.in_ok-push-in-Some.ensures.ok, sum) (omega (arith, length-append c.loop-k.coefs (c.in-Some.sum ∷ []), c.loop-k.invariant.full)); sums = rw (c.in_ok-push-in-Some.ensures.ok, more, step.1, sum, c.loop-k.invariant.sums) refl; narrow = c.loop-k.invariant.narrow ∙ step.0; counted = omega (arith, c.loop-k.invariant.counted, c.in-Some.ensures.all refl) }
