@@ -1,6 +1,6 @@
 -- Texts of characters that stand behind one another.
-use Rattle.std.proofs.Common.{◌≡◌, ℕ, zero, suc, Bool, true, false, List, [], ◌∷◌, ◌++◌, ◌-◌, drop, length, replicate, refl, sym, ap, ◌∙◌, append_assoc}
-use Rattle.std.proofs.lemmas.List.{append-nil}
+use Rattle.std.proofs.Common.{◌≡◌, ℕ, zero, suc, Bool, true, false, List, [], ◌∷◌, ◌++◌, ◌+◌, ◌-◌, arith, take, drop, length, replicate, refl, sym, ap, ◌∙◌, append_assoc}
+use Rattle.std.proofs.lemmas.List.{append-nil, take_all}
 use Rattle.f77_lines.specs.Columns.{body_of}
 use Rattle.f77_lines.specs.Texts.{quoted_after, counted, text_from}
 use Rattle.f77_lines.specs.Walk.{quoted_behind}
@@ -48,4 +48,12 @@ pub line-pushed : (old one new columns body : List ℕ) (quoted after : Bool) (n
 line-pushed old one new columns body quoted after n is front behind count filled =
     let joined = text_from-append quoted body (replicate n 32) in
     let grouped = append_assoc old (text_from quoted body) (text_from (quoted_behind quoted body) (replicate n 32)) in
+    cc
+
+-- so many blanks behind an open constant
+pub blanks-filled : (old new : List ℕ) (quoted : Bool) (size count : ℕ) → size ≡ length old → quoted ≡ true → new ≡ take (size + count) old ++ replicate (size + count - size) 32 → new ≡ old ++ text_from quoted (replicate count 32)
+blanks-filled old new quoted size count sized inside filled =
+    let front : take (size + count) old ≡ old = take_all (size + count) old (omega arith) in
+    let blanks = text_from-quoted_blanks quoted count inside in
+    let more : size + count - size ≡ count = omega arith in
     cc

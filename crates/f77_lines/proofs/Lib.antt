@@ -3,3 +3,4 @@ pub mod Characters
 pub mod Labels
 pub mod Entries
 pub mod Refused
+pub mod Ended

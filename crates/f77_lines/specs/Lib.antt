@@ -5,3 +5,4 @@ pub mod Faults
 pub mod Listing
 pub mod Walk
 pub mod RefusalText
+pub mod Examples

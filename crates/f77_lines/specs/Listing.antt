@@ -1,5 +1,5 @@
 -- What bytes list, and their first fault.
-use Rattle.std.specs.Prelude.{ℕ, suc, ◌+◌, if◌then◌else◌, List, [], ◌∷◌, length, take, drop, Option, Some, None, ◌≡◌}
+use Rattle.std.specs.Prelude.{ℕ, suc, ◌+◌, if◌then◌else◌, List, [], ◌∷◌, length, take, drop, Option, Some, None, ◌≡◌, ◌++◌, codes}
 use Rattle.f77_lines.specs.declared.line.Line.{Line}
 use Rattle.f77_lines.specs.declared.line.Line.TheVariants as declared
 use Rattle.f77_lines.specs.declared.refusal.LineRefusal.{LineRefusal}
@@ -26,6 +26,10 @@ pub record Lists (bytes : List ℕ) (entries : List Entry) (rest : ℕ) : Type 0
   pub faultless : first_line_fault bytes ≡ None
   pub listed : entries ≡ entries_of bytes
   pub behind : rest ≡ size_to_end (lines_of bytes)
+
+-- the last entry is END
+abbrev pub EndsWithEnd : List Entry → Type 0
+EndsWithEnd entries = (front : List Entry) × (line : ℕ) × (label : ℕ) × (entries ≡ front ++ statement line label (codes "END") ∷ [])
 
 -- Bytes are refused with their first fault, or for want of memory where they have none.
 abbrev pub Refuses : List ℕ → LineRefusal → Type 0

@@ -65,7 +65,7 @@ pub fn length_to_end(bytes: &[u8]) -> Result<usize, LineRefusal>
         if let Some(fault) = fault_of(kind, room, number, columns) {
             return Err(fault);
         }
-        if is_end(columns) {
+        if is_end(kind, columns) {
             return Ok(bytes.len() - behind.len());
         }
         room = room_after(kind, room);

@@ -3,7 +3,7 @@
 ghost use Rattle.std.specs.Prelude.{ℕ, List, Some, ◌≡◌, ◌⊎◌};
 ghost use Rattle.f77_lines.specs.declared.refusal.LineRefusal.{LineRefusal};
 ghost use Rattle.f77_lines.specs.Statements.{Entry};
-ghost use Rattle.f77_lines.specs.Listing.{Lists, first_line_fault};
+ghost use Rattle.f77_lines.specs.Listing.{Lists, EndsWithEnd, first_line_fault};
 
 /// Bytes list at most one list of statements and directives, with one place of the rest.
 pub fn one_listing()
@@ -14,4 +14,9 @@ pub fn one_listing()
 pub fn listing_or_fault()
     ensures either { (bytes : List ℕ) → ((entries : List Entry) × (rest : ℕ) × Lists bytes entries rest) ⊎ ((fault : LineRefusal) × (first_line_fault bytes ≡ Some fault)) }
     ensures not_both { (bytes : List ℕ) (entries : List Entry) (rest : ℕ) (fault : LineRefusal) → Lists bytes entries rest → first_line_fault bytes ≡ Some fault → ⊥ }
+{}
+
+/// The last entry of a list is END.
+pub fn end_is_listed_last()
+    ensures { (bytes : List ℕ) (entries : List Entry) (rest : ℕ) → Lists bytes entries rest → EndsWithEnd entries }
 {}

@@ -17,7 +17,10 @@ mod row;
 mod texts;
 
 pub use behind::first_behind;
-pub use laws::{listing_or_fault, one_listing};
+pub use laws::{end_is_listed_last, listing_or_fault, one_listing};
 pub use line::Line;
 pub use list::statements;
 pub use refusal::{LineRefusal, MOST_BYTES};
+
+#[cfg(test)]
+mod tests;

@@ -3,7 +3,6 @@
 ghost use Rattle.std.specs.Prelude.{◌≡◌, ◌≤◌, ◌<◌, ◌+◌, ◌++◌, None, Some, Ok, Err, length, map, codes, IfOk, IfErr};
 ghost use Rattle.std.specs.Option.{option_to_list};
 ghost use Rattle.f77_lines.specs.Columns.{lines_of, body_of};
-ghost use Rattle.f77_lines.specs.Columns as rows;
 ghost use Rattle.f77_lines.specs.Texts.{text_of};
 ghost use Rattle.f77_lines.specs.Statements as spec;
 ghost use Rattle.f77_lines.specs.Listing.{Lists, Refuses, first_line_fault, entry_of, entries_of};
@@ -42,11 +41,12 @@ fn entries(alloc: Global, bytes: &[u8]) -> Result<Vec<Line>, AllocError>
     while !rest.is_empty() {
         let (line, behind) = first_line(rest);
         let columns = columns_of(line);
-        if is_end(columns) {
+        let kind = kind_of(columns);
+        if is_end(kind, columns) {
             entries.push(ending(alloc, number, columns)?)?;
             return Ok(entries);
         }
-        if let Some(entry) = begun(alloc, number, columns, behind)? {
+        if let Some(entry) = begun(alloc, kind, number, columns, behind)? {
             entries.push(entry)?;
         }
         number += 1;
@@ -84,16 +84,17 @@ fn label_of(columns: &[u8]) -> u32
     label_at(field_of(columns)).unwrap_or(0)
 }
 
-/// What a line that is not END begins.
+/// What a line of this kind begins that is not END.
 fn begun(
     alloc: Global,
+    kind: Kind,
     number: u32,
     columns: &[u8],
     behind: &[u8],
 ) -> Result<Option<Line>, AllocError>
-    ensures { IfOk result (λ r. map entry_of (option_to_list r) ≡ spec.begun (rows.kind_of columns.now) number columns.now (lines_of behind.now)) }
+    ensures { IfOk result (λ r. map entry_of (option_to_list r) ≡ spec.begun kind number columns.now (lines_of behind.now)) }
 {
-    match kind_of(columns) {
+    match kind {
         Kind::Comment | Kind::Continuation => Ok(None),
         Kind::Directive => Ok(Some(Line::Directive {
             line: number,

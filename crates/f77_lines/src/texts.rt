@@ -61,13 +61,13 @@ impl Text {
     /// Appends so many blanks that fill a line: inside a constant they count.
     #[tactic(auto, using(crate::proofs::Characters::filling))]
     fn fill(&mut self, count: usize) -> Result<(), AllocError>
+        requires { count ≤ BODY_COLUMNS }
         ensures characters { OnOk result (self.new.characters.items ≡ self.old.characters.items ++ spec.text_from self.old.quoted (replicate count 32)) }
         ensures quoted { OnOk result (self.new.quoted ≡ self.old.quoted) }
     {
         if self.quoted {
-            for _ in 0..count {
-                self.characters.push(b' ')?;
-            }
+            let length = self.characters.len();
+            self.characters.resize(length + count, b' ')?;
         }
         Ok(())
     }
@@ -138,12 +138,13 @@ pub fn label_at(field: &[u8]) -> Option<u32>
     (is_blank || label > 0).then_some(label)
 }
 
-/// Whether a line is END.
+/// Whether a line of this kind is END.
 #[tactic(auto, unfolding(crate::specs::Statements::is_end))]
-pub fn is_end(columns: &[u8]) -> bool
+pub fn is_end(kind: Kind, columns: &[u8]) -> bool
+    requires { kind ≡ rows.kind_of columns.now }
     ensures { result ≡ is_end columns.now }
 {
-    kind_of(columns) == Kind::Initial && reads_end(columns)
+    kind == Kind::Initial && reads_end(columns)
 }
 
 /// Whether columns 7 to 72 hold E, N and D in this order and nothing else.

@@ -31,7 +31,7 @@ loop-rest-preserved c =
     let here = begun (kind_of columns) number columns behind in
     let more = entries_from (number + 1) behind in
     let cut : entries_from number (lines_of rest) ≡ here ++ more = (let listed = entries_from-on rest columns some first goes_on number in cc) in
-    let made : map entry_of (option_to_list c.in_ok-entry.field-0) ≡ here = c.in_ok-entry.ensures in
+    let made : map entry_of (option_to_list c.in_ok-entry.field-0) ≡ here = (let made = c.in_ok-entry.ensures in let kind = c.kind_of-kind.ensures in cc) in
     let front = c.loop-rest.entries.items in
     let o = c.in_ok-entry.field-0 in
     record {
