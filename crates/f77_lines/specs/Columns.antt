@@ -36,7 +36,7 @@ body_of columns = drop 6 columns ++ replicate (66 - length (drop 6 columns)) 32
 abbrev pub is_blank : ℕ → Bool
 is_blank c = c == 32
 
--- columns 1 to 6 are C$DIST, in capitals or small letters
+-- columns 1 to 6 are C$DIST, each letter a capital or a small one
 abbrev pub is_directive : List ℕ → Bool
 is_directive columns = bytes_eq (map to_ascii_lowercase (take 6 columns)) (codes "c$dist")
 
@@ -49,13 +49,13 @@ is_marked (c ∷ columns) = c == 67 || c == 99 || c == 42
 abbrev pub begins_statement : List ℕ → Bool
 begins_statement columns = slice_index_or columns 5 32 == 32 || slice_index_or columns 5 32 == 48
 
--- What a line is by its columns. A directive is a comment, too.
+-- what a line is by its columns: the first of these four that fits
 unfoldable pub kind_of : List ℕ → Kind
 kind_of columns =
     if is_directive columns then Directive
     else (if is_marked columns || list_all is_blank columns then Comment else (if begins_statement columns then Initial else Continuation))
 
--- comments and directives
+-- a directive is a comment, too
 abbrev pub is_comment : Kind → Bool
 is_comment Comment = true
 is_comment Directive = true

@@ -1,4 +1,4 @@
--- The first fault of lines.
+-- The fault of a line, and the first of lines (ANSI X3.9-1978, 3.1, 3.2 and 3.4).
 use Rattle.std.specs.Prelude.{ℕ, suc, ◌-◌, ◌==◌, nat_le, Bool, ◌&&◌, ◌||◌, not, is_none, if◌then◌else◌, List, [], ◌∷◌, take, Option, Some, None}
 use Rattle.std.specs.List.{list_all}
 use Rattle.f77_lines.specs.declared.row.Kind.{Kind}
@@ -29,11 +29,12 @@ room_after Directive room = room
 room_after Initial room = 19
 room_after Continuation room = room - 1
 
+-- the first of two faults
 abbrev pub or_else : Option LineRefusal → Option LineRefusal → Option LineRefusal
 or_else None later = later
 or_else (Some fault) later = Some fault
 
--- the first fault of lines up to END, where the first line has number n: an END that is missing counts as the line behind the last
+-- the first fault of lines up to END, where the first line has number n; a missing END is at fault in the line behind the last
 unfoldable pub fault_from : ℕ → ℕ → List (List ℕ) → Option LineRefusal
 fault_from room n [] = Some (NoEnd n)
 fault_from room n (line ∷ lines) =

@@ -8,11 +8,11 @@ use Rattle.f77_lines.specs.Columns.{lines_of, columns_of, kind_of, is_comment}
 use Rattle.f77_lines.specs.Statements.{Entry, statement, directive, is_end, entries_from}
 use Rattle.f77_lines.specs.Faults.{fault_from}
 
--- the first fault of bytes by line, in one line in the order of the definition: none before the first initial line may continue
+-- the first fault of bytes by line: in front of the first initial line no continuation line may come
 abbrev pub first_line_fault : List ℕ → Option LineRefusal
 first_line_fault bytes = fault_from 0 1 (lines_of bytes)
 
--- the statements and directives of bytes, by their first lines
+-- the statements and directives of bytes, in the order of their first lines
 abbrev pub entries_of : List ℕ → List Entry
 entries_of bytes = entries_from 1 (lines_of bytes)
 
@@ -21,7 +21,7 @@ unfoldable pub size_to_end : List (List ℕ) → ℕ
 size_to_end [] = 0
 size_to_end (line ∷ lines) = length line + (if is_end (columns_of line) then 0 else size_to_end lines)
 
--- Bytes without a fault list these statements and directives, and the rest begins at this place, behind the line end of END.
+-- Bytes without a fault list these statements and directives, and the rest begins behind so many bytes, behind the line end of END.
 pub record Lists (bytes : List ℕ) (entries : List Entry) (rest : ℕ) : Type 0 where
   pub faultless : first_line_fault bytes ≡ None
   pub listed : entries ≡ entries_of bytes

@@ -15,6 +15,7 @@ pub data Entry : Type 0 where
 abbrev pub label_of : List ℕ → ℕ
 label_of columns = unwrap_or (label_at (label_field columns)) 0
 
+-- a line that begins a statement
 abbrev pub is_initial : Kind → Bool
 is_initial Comment = false
 is_initial Directive = false

@@ -5,6 +5,7 @@ ghost use Rattle.f77_lines.specs.declared.refusal.LineRefusal.TheVariants.{NoMem
 ghost use Rattle.f77_lines.specs.RefusalText.{text_of_refusal};
 
 use std::alloc::AllocError;
+use std::error::Error;
 use std::fmt;
 
 /// The most bytes that a source may have.
@@ -52,3 +53,5 @@ impl fmt::Display for LineRefusal {
         }
     }
 }
+
+impl Error for LineRefusal {}
