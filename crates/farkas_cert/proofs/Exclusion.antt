@@ -8,11 +8,11 @@ use Rattle.std.proofs.Math.IntN.{zero-*ℤ}
 use Rattle.farkas_cert.specs.declared.system.Row.{Row}
 use Rattle.farkas_cert.specs.declared.certificate.Step.{Step}
 use Rattle.farkas_cert.specs.declared.certificate.Certificate.{Certificate}
-use Rattle.farkas_cert.specs.Inequalities.{Inequalities, dot, Holds, IsWholeSolution}
+use Rattle.farkas_cert.specs.Inequalities.{Inequalities, left_side, Holds, IsWholeSolution}
 use Rattle.farkas_cert.specs.Combination.{sum_at, made_row}
 use Rattle.farkas_cert.specs.Good.{IsGoodStep, AreGoodSteps, rows_after, IsContradiction, EndInContradiction, IsGood}
 use Rattle.farkas_cert.proofs.Integers.{div_exact, le_div_euclid}
-use Rattle.farkas_cert.proofs.Sums.{weighted, dot-map-range, weighted-same, weighted-mul, sum-holds}
+use Rattle.farkas_cert.proofs.Sums.{weighted, left_side-map-range, weighted-same, weighted-mul, sum-holds}
 
 -- division by a divisor of all coefficients, the bound rounded down, keeps whole solutions
 pub made_row-holds : (rows : List Row) (step : Step) (xs : List ℤ) → All (λ r. Holds r xs) rows → IsGoodStep (length xs) rows step → Holds (made_row (length xs) rows step) xs
@@ -22,7 +22,7 @@ made_row-holds rows step xs holds good =
     let scaled = sym (weighted-mul step.divisor quotient 0 xs) ∙ weighted-same (λ k. step.divisor *ℤ quotient k) sum 0 xs (λ k h. div_exact (sum k) step.divisor (good.divides k (omega arith))) in
     let summed : weighted sum 0 xs ≤ℤ sum (length xs) = sum-holds rows step.terms xs holds good.multipliers good.named in
     let rounded : weighted quotient 0 xs ≤ℤ int_div_euclid (sum (length xs)) step.divisor = le_div_euclid step.divisor (weighted quotient 0 xs) (sum (length xs)) good.divisor (omega (arith, ints, scaled, summed)) in
-    omega (arith, ints, rounded, dot-map-range quotient 0 xs)
+    omega (arith, ints, rounded, left_side-map-range quotient 0 xs)
 
 -- every row that good steps make holds at a whole solution
 pub rows_after-hold : (rows : List Row) (steps : List Step) (xs : List ℤ) → All (λ r. Holds r xs) rows → AreGoodSteps (length xs) rows steps → All (λ r. Holds r xs) (rows_after (length xs) rows steps)
@@ -32,17 +32,17 @@ rows_after-hold rows (step ∷ steps) xs holds good =
     (All-push (λ r. Holds r xs) rows (made_row (length xs) rows step) holds (made_row-holds rows step xs holds good.0)) good.1
 
 -- zero coefficients give 0
-dot-zero : (coefs xs : List ℤ) → All (λ a. a ≡ pos 0) coefs → dot coefs xs ≡ pos 0
-dot-zero [] xs h = refl
-dot-zero (a ∷ coefs) [] h = refl
-dot-zero (a ∷ coefs) (x ∷ xs) h =
+left_side-zero : (coefs xs : List ℤ) → All (λ a. a ≡ pos 0) coefs → left_side coefs xs ≡ pos 0
+left_side-zero [] xs h = refl
+left_side-zero (a ∷ coefs) [] h = refl
+left_side-zero (a ∷ coefs) (x ∷ xs) h =
     let first : a ≡ pos 0 = h 0 a (omega arith) in
     let none = ap (λ z. z *ℤ x) first ∙ zero-*ℤ x in
-    omega (arith, ints, none, dot-zero coefs xs (λ k d lt. h (suc k) d (omega arith)))
+    omega (arith, ints, none, left_side-zero coefs xs (λ k d lt. h (suc k) d (omega arith)))
 
 -- a contradiction holds nowhere
 pub contradiction-fails : (row : Row) (xs : List ℤ) → IsContradiction row → Holds row xs → ⊥
-contradiction-fails row xs clash holds = omega (arith, ints, dot-zero row.coefs xs clash.0, clash.1, holds)
+contradiction-fails row xs clash holds = omega (arith, ints, left_side-zero row.coefs xs clash.0, clash.1, holds)
 
 -- what holds of each element holds of one that is there
 at_one : {X : Type 0} (P Q : X → Type 0) (rows : List X) (i : ℕ) → All P rows → ((x : X) → P x → Q x → ⊥) → IsSomeAnd (slice_get rows i) Q → ⊥

@@ -5,7 +5,7 @@ use Rattle.std.proofs.lemmas.Int.{ints}
 use Rattle.std.proofs.Math.IntN.{*ℤ_comm, *ℤ-zero}
 use Rattle.std.proofs.lemmas.Bool.Decides.{nat_tests}
 use Rattle.farkas_cert.specs.declared.system.Row.{Row}
-use Rattle.farkas_cert.specs.Inequalities.{dot, Holds}
+use Rattle.farkas_cert.specs.Inequalities.{left_side, Holds}
 use Rattle.farkas_cert.specs.Combination.{row_at, no_row, entry_at, sum_at}
 use Rattle.farkas_cert.proofs.Integers.{add-mul, mul_assoc_ℤ, mul_le_ℤ}
 
@@ -14,9 +14,9 @@ abbrev pub weighted : (ℕ → ℤ) → ℕ → List ℤ → ℤ
 weighted f a [] = pos 0
 weighted f a (x ∷ xs) = f a *ℤ x +ℤ weighted f (a + 1) xs
 
-pub dot-map-range : (f : ℕ → ℤ) (a : ℕ) (xs : List ℤ) → dot (map f (range_with_len a (length xs))) xs ≡ weighted f a xs
-dot-map-range f a [] = refl
-dot-map-range f a (x ∷ xs) = ap (λ z. f a *ℤ x +ℤ z) (dot-map-range f (a + 1) xs)
+pub left_side-map-range : (f : ℕ → ℤ) (a : ℕ) (xs : List ℤ) → left_side (map f (range_with_len a (length xs))) xs ≡ weighted f a xs
+left_side-map-range f a [] = refl
+left_side-map-range f a (x ∷ xs) = ap (λ z. f a *ℤ x +ℤ z) (left_side-map-range f (a + 1) xs)
 
 -- sums of equal weights
 pub weighted-same : (f g : ℕ → ℤ) (a : ℕ) (xs : List ℤ) → ((k : ℕ) → k < a + length xs → f k ≡ g k) → weighted f a xs ≡ weighted g a xs
@@ -48,13 +48,13 @@ weighted-mul m f a (x ∷ xs) =
     omega (arith, ints, mul_assoc_ℤ m (f a) x, weighted-mul m f (a + 1) xs, mul-add m (f a *ℤ x) (weighted f (a + 1) xs))
 
 -- a . x as a weighted sum
-pub dot-weighted : (coefs xs : List ℤ) → weighted (λ k. slice_index_or coefs k (pos 0)) 0 xs ≡ dot coefs xs
-dot-weighted [] xs = weighted-zero (λ k. pos 0) 0 xs (λ k. refl)
-dot-weighted (a ∷ coefs) [] = refl
-dot-weighted (a ∷ coefs) (x ∷ xs) =
+pub left_side-weighted : (coefs xs : List ℤ) → weighted (λ k. slice_index_or coefs k (pos 0)) 0 xs ≡ left_side coefs xs
+left_side-weighted [] xs = weighted-zero (λ k. pos 0) 0 xs (λ k. refl)
+left_side-weighted (a ∷ coefs) [] = refl
+left_side-weighted (a ∷ coefs) (x ∷ xs) =
     ap (λ z. a *ℤ x +ℤ z)
     (weighted-shift (λ k. slice_index_or (a ∷ coefs) k (pos 0)) (λ k. slice_index_or coefs k (pos 0)) 0 xs
-    (λ k. let one : k + 1 ≡ suc k = omega arith in ap (λ n. slice_index_or (a ∷ coefs) n (pos 0)) one) ∙ dot-weighted coefs xs)
+    (λ k. let one : k + 1 ≡ suc k = omega arith in ap (λ n. slice_index_or (a ∷ coefs) n (pos 0)) one) ∙ left_side-weighted coefs xs)
 
 -- the coefficient of a row at an entry below the number of variables
 entry_at-below : (vars : ℕ) (row : Row) (k : ℕ) → k < vars → entry_at vars row k ≡ slice_index_or row.coefs k (pos 0)
@@ -64,10 +64,10 @@ pub entry_at-last : (vars : ℕ) (row : Row) → entry_at vars row vars ≡ row.
 entry_at-last vars row = grind (arith, nat_tests)
 
 -- a . x by the entries of a row
-pub weighted-entries : (row : Row) (xs : List ℤ) → weighted (entry_at (length xs) row) 0 xs ≡ dot row.coefs xs
+pub weighted-entries : (row : Row) (xs : List ℤ) → weighted (entry_at (length xs) row) 0 xs ≡ left_side row.coefs xs
 weighted-entries row xs =
     weighted-same (entry_at (length xs) row) (λ k. slice_index_or row.coefs k (pos 0)) 0 xs
-    (λ k h. entry_at-below (length xs) row k (omega arith)) ∙ dot-weighted row.coefs xs
+    (λ k h. entry_at-below (length xs) row k (omega arith)) ∙ left_side-weighted row.coefs xs
 
 -- a sum of rows that hold, with multipliers of at least 0, holds
 pub sum-holds : (rows : List Row) (terms : List (ℕ × ℤ)) (xs : List ℤ) → All (λ r. Holds r xs) rows → All (λ t. pos 0 ≤ℤ t.1) terms → All (λ t. (1 ≤ t.0) × (t.0 ≤ length rows)) terms → weighted (sum_at (length xs) rows terms) 0 xs ≤ℤ sum_at (length xs) rows terms (length xs)
@@ -76,8 +76,8 @@ sum-holds rows (t ∷ terms) xs holds signs named =
     let row = row_at rows t.0 in
     let at : ℕ → ℤ = entry_at (length xs) row in
     let number : (1 ≤ t.0) × (t.0 ≤ length rows) = named 0 t (omega arith) in
-    let holds_here : dot row.coefs xs ≤ℤ row.bound = holds (t.0 - 1) no_row (omega arith) in
-    let here : (t.1 *ℤ dot row.coefs xs) ≤ℤ (t.1 *ℤ row.bound) = mul_le_ℤ t.1 (dot row.coefs xs) row.bound (signs 0 t (omega arith)) holds_here in
+    let holds_here : left_side row.coefs xs ≤ℤ row.bound = holds (t.0 - 1) no_row (omega arith) in
+    let here : (t.1 *ℤ left_side row.coefs xs) ≤ℤ (t.1 *ℤ row.bound) = mul_le_ℤ t.1 (left_side row.coefs xs) row.bound (signs 0 t (omega arith)) holds_here in
     let rest : weighted (sum_at (length xs) rows terms) 0 xs ≤ℤ sum_at (length xs) rows terms (length xs) =
     sum-holds rows terms xs holds (λ k d h. signs (suc k) d (omega arith)) (λ k d h. named (suc k) d (omega arith)) in
     let split = weighted-add (λ k. t.1 *ℤ at k) (sum_at (length xs) rows terms) 0 xs in

@@ -8,7 +8,7 @@ use Rattle.std.proofs.lemmas.Nat.Gcd.{IsGcd-from_zero, IsGcd-from_mod}
 use Rattle.std.proofs.lemmas.List.Elements.{All-contains, Contains-get_or}
 use Rattle.std.proofs.Math.IntN.{*ℤ_comm, *ℤ-zero, pos-*ℤ-pos}
 use Rattle.farkas_cert.specs.declared.system.Row.{Row}
-use Rattle.farkas_cert.specs.Inequalities.{dot, AreFull}
+use Rattle.farkas_cert.specs.Inequalities.{left_side as dot, AreFull}
 use Rattle.fm_elim.specs.Reduction.{DividesEach, IsReduced}
 use Rattle.fm_elim.specs.Pairs.{coef_of, IsPair, combination}
 use Rattle.fm_elim.specs.Levels.{IsRaw}

@@ -6,7 +6,7 @@ use Rattle.std.proofs.lemmas.List.Elements.{All-cons, All-nil, All-weaker, Conta
 use Rattle.std.proofs.Math.IntN.{*ℤ_comm, zero-*ℤ}
 use lib.Signed.{≤ℤ_refl}
 use Rattle.farkas_cert.specs.declared.system.Row.{Row}
-use Rattle.farkas_cert.specs.Inequalities.{dot}
+use Rattle.farkas_cert.specs.Inequalities.{left_side as dot}
 use Rattle.fm_elim.specs.Pairs.{coef_of}
 use Rattle.fm_elim.proofs.Integers.{mul-add, mul-neg, mul_assoc_ℤ, mul_swap, mul_le_ℤ, mul_le_cancel}
 use Rattle.fm_elim.proofs.Values.{moved, dot-moved, length-moved}

@@ -7,7 +7,7 @@ use Rattle.std.proofs.lemmas.List.{length-map}
 use Rattle.std.proofs.lemmas.Nat.Gcd.{mod-eq-zero_of_dvd}
 use Rattle.std.proofs.lemmas.List.Elements.{All-head, All-tail}
 use Rattle.std.proofs.Math.IntN.{*ℤ_comm, *ℤ-zero, zero-*ℤ}
-use Rattle.farkas_cert.specs.Inequalities.{dot}
+use Rattle.farkas_cert.specs.Inequalities.{left_side as dot}
 use Rattle.fm_elim.specs.Reduction.{DividesEach}
 use Rattle.fm_elim.specs.Pairs.{combined}
 use Rattle.fm_elim.proofs.Integers.{add-mul, mul-add, mul_assoc_ℤ, mul_swap}
