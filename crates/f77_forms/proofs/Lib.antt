@@ -1,0 +1,9 @@
+pub mod Digits
+pub mod Called
+pub mod Read
+pub mod Written
+pub mod Pieces
+pub mod Listed
+pub mod Told
+pub mod Recognized
+pub mod Answered

@@ -1,0 +1,10 @@
+pub mod Characters
+pub mod Form
+pub mod Text
+pub mod View
+pub mod Reading
+pub mod State
+pub mod StateView
+pub mod Statements
+pub mod Marks
+pub mod Answer
