@@ -97,10 +97,6 @@ def sources_of(crate):
         yield from (os.path.join(at, it) for it in sorted(files) if it.endswith(".rt"))
 
 
-def code_of(crate):
-    return [text_of(it) for it in sources_of(crate)]
-
-
 def calls_of(crate):
     calls = []
     for file in sources_of(crate):
@@ -179,28 +175,28 @@ def crate_of(document):
     return found[1] if found and found[1] in CODE else None
 
 
-def is_type(crate, name):
-    return any(re.search(rf"\b(?:struct|enum|trait|type) {name}\b", it) for it in code_of(crate))
-
-
 def is_carried(call, cell):
     """Whether the cell names a clause of the call, or says of it what has no name."""
     if set(re.findall(NAME, cell)) & set(call.clauses) or re.search(r"invariant|see the", cell):
         return True
-    if re.search(r"\b(its|their) clause", cell):
+    if not cell or re.search(r"\b(its|their) clause", cell):
         return len(call.clauses) == 1
     return bool(re.search(r"\ball\b", cell) and call.clauses)
 
 
 def missing_in_row(crate, calls, cell):
-    """What a row with these calls in a column of their own says that is not there."""
+    """What a row with these calls in a column of their own says that is not there.
+
+    Where the cell names no clause, a word in capitals among the calls may be a type or a trait.
+    """
+    clauses = re.findall(NAME, cell)
     functions = {it: named_calls(crate, it) for it in re.findall(NAME, calls)}
     for words, found in functions.items():
-        if not found and not ("see the" in cell and is_type(crate, words)):
+        if not found and (clauses or not re.fullmatch(r"[A-Z]\w*", words)):
             yield f"{crate}'s call {words}"
         elif found and not any(is_carried(it, cell) for it in found):
             yield f"a clause of {words}, in \"{cell}\","
-    for clause in re.findall(NAME, cell):
+    for clause in clauses:
         if not any(clause in it.clauses for found in functions.values() for it in found):
             yield f"the clause {clause} at {calls or 'no call'}"
 
@@ -235,7 +231,7 @@ def columns_of(cells):
 
 
 def missing_in_tables(document):
-    columns, reading = {}, None
+    columns, reading, calls = {}, None, ""
     for number, line in lines_of(document):
         if line.startswith("#"):
             reading = Reading(crate_of(document))
@@ -246,11 +242,13 @@ def missing_in_tables(document):
         if not columns:
             columns = columns_of(cells) or {"": 0}
         elif "clause" in columns and not set(line) <= set("|-: ") and len(cells) > max(columns.values()):
-            for what in missing_in_cells(document, columns, cells, reading):
+            # an empty cell stands for the calls of the row above
+            calls = "call" in columns and cells[columns["call"]] or calls
+            for what in missing_in_cells(document, columns, cells, calls, reading):
                 yield number, what
 
 
-def missing_in_cells(document, columns, cells, reading):
+def missing_in_cells(document, columns, cells, calls, reading):
     clause = cells[columns["clause"]]
     if "call" not in columns:
         yield from reading.missing_in(clause)
@@ -259,7 +257,7 @@ def missing_in_cells(document, columns, cells, reading):
     if crate not in CODE:
         yield f"the crate {crate}"
     else:
-        yield from missing_in_row(crate, cells[columns["call"]], clause)
+        yield from missing_in_row(crate, calls, clause)
 
 
 def missing_in_text(document):
