@@ -1,10 +1,13 @@
 -- Bytes that are cut behind their first line.
 use Rattle.std.proofs.Common.{◌≡◌, ℕ, ◌+◌, ◌<◌, Bool, true, false, cond, eqb, List, [], ◌∷◌, ◌++◌, length, Some, None, refl, ap, ◌∙◌, arith, add-one}
-use Rattle.std.specs.Prelude.{codes}
+use Rattle.std.specs.Prelude.{codes, drop}
+use Rattle.std.specs.Str.{bytes_eq}
+use Rattle.f77_lines.specs.Texts.{squeezed}
+use Rattle.f77_lines.specs.declared.row.Kind.{Kind}
 use Rattle.f77_lines.specs.declared.row.Kind.TheVariants.{Initial, Continuation}
 use Rattle.f77_lines.specs.declared.refusal.LineRefusal.TheVariants.{NoEnd}
 use Rattle.f77_lines.specs.Columns.{lines_of, columns_of, kind_of, is_comment, body_of}
-use Rattle.f77_lines.specs.Statements.{is_end, added, continued, begun, label_of, entries_from, statement}
+use Rattle.f77_lines.specs.Statements.{is_initial, is_end, added, continued, begun, label_of, entries_from, statement}
 use Rattle.f77_lines.specs.Faults.{fault_with, room_after, or_else, fault_from}
 use Rattle.f77_lines.specs.Listing.{size_to_end, first_kept}
 use Rattle.f77_lines.specs.Walk.{first_of, after_first}
@@ -81,6 +84,15 @@ pub entries_from-cut : (n : ℕ) (bytes : List ℕ) → 0 < length bytes
     (begun (kind_of (columns_of (first_of bytes))) n (columns_of (first_of bytes)) (lines_of (after_first bytes)) ++ entries_from (n + 1) (lines_of (after_first bytes)))
 unfolding entries_from
 entries_from-cut n bytes h = rw (lines_of-cut bytes h, add-one) refl
+
+-- END is looked for in initial lines alone
+pub is_end-initial : (columns : List ℕ) → kind_of columns ≡ Initial → is_end columns ≡ bytes_eq (squeezed (drop 6 columns)) (codes "END")
+unfolding is_end
+is_end-initial columns kind = rw kind refl
+
+pub is_end-other : (columns : List ℕ) (kind : Kind) → kind_of columns ≡ kind → is_initial kind ≡ false → is_end columns ≡ false
+unfolding is_end
+is_end-other columns kind e other = rw (e, other) refl
 
 -- a line that is not END, where the columns are those of the first line
 module _ (bytes columns : List ℕ) (some : 0 < length bytes) (first : columns ≡ columns_of (first_of bytes)) (goes_on : is_end columns ≡ false) where

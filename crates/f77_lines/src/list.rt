@@ -1,9 +1,8 @@
 // The statements and directives of a source.
 
-ghost use Rattle.std.specs.Prelude.{◌≡◌, ◌≤◌, ◌<◌, ◌+◌, ◌++◌, None, Some, Ok, Err, length, map, codes, IfOk, IfErr};
-ghost use Rattle.std.specs.Option.{option_to_list};
+ghost use Rattle.std.specs.Prelude.{◌≡◌, ◌≤◌, ◌<◌, ◌+◌, ◌++◌, Some, Ok, Err, length, drop, map, codes, IfOk, IfErr};
 ghost use Rattle.f77_lines.specs.Columns.{lines_of, body_of};
-ghost use Rattle.f77_lines.specs.Texts.{text_of};
+ghost use Rattle.f77_lines.specs.Texts.{text_of, squeezed};
 ghost use Rattle.f77_lines.specs.Statements as spec;
 ghost use Rattle.f77_lines.specs.Listing.{Lists, Refuses, first_line_fault, entry_of, entries_of};
 
@@ -11,7 +10,7 @@ use crate::faults::length_to_end;
 use crate::line::Line;
 use crate::refusal::{LineRefusal, MOST_BYTES};
 use crate::row::{Kind, columns_of, field_of, first_line, kind_of};
-use crate::texts::{directive_text, is_end, label_at, statement_text};
+use crate::texts::{directive_text, label_at, reads_end, statement_text};
 use std::alloc::{AllocError, Global};
 
 /// The statements and directives of a source, END among them, by their first lines; and where the
@@ -41,13 +40,14 @@ fn entries(alloc: Global, bytes: &[u8]) -> Result<Vec<Line>, AllocError>
     while !rest.is_empty() {
         let (line, behind) = first_line(rest);
         let columns = columns_of(line);
-        let kind = kind_of(columns);
-        if is_end(kind, columns) {
-            entries.push(ending(alloc, number, columns)?)?;
-            return Ok(entries);
-        }
-        if let Some(entry) = begun(alloc, kind, number, columns, behind)? {
-            entries.push(entry)?;
+        match kind_of(columns) {
+            Kind::Initial if reads_end(columns) => {
+                entries.push(ending(alloc, number, columns)?)?;
+                return Ok(entries);
+            }
+            Kind::Initial => entries.push(statement(alloc, number, columns, behind)?)?,
+            Kind::Directive => entries.push(directive(alloc, number, columns)?)?,
+            Kind::Comment | Kind::Continuation => {}
         }
         number += 1;
         rest = behind;
@@ -84,22 +84,12 @@ fn label_of(columns: &[u8]) -> u32
     label_at(field_of(columns)).unwrap_or(0)
 }
 
-/// What a line of this kind begins that is not END.
-fn begun(
-    alloc: Global,
-    kind: Kind,
-    number: u32,
-    columns: &[u8],
-    behind: &[u8],
-) -> Result<Option<Line>, AllocError>
-    ensures { IfOk result (λ r. map entry_of (option_to_list r) ≡ spec.begun kind number columns.now (lines_of behind.now)) }
+/// The directive of a line.
+fn directive(alloc: Global, number: u32, columns: &[u8]) -> Result<Line, AllocError>
+    ensures { IfOk result (λ line. entry_of line ≡ spec.directive number (squeezed (drop 6 columns.now))) }
 {
-    match kind {
-        Kind::Comment | Kind::Continuation => Ok(None),
-        Kind::Directive => Ok(Some(Line::Directive {
-            line: number,
-            text: directive_text(alloc, columns)?,
-        })),
-        Kind::Initial => Ok(Some(statement(alloc, number, columns, behind)?)),
-    }
+    Ok(Line::Directive {
+        line: number,
+        text: directive_text(alloc, columns)?,
+    })
 }

@@ -148,7 +148,7 @@ pub fn is_end(kind: Kind, columns: &[u8]) -> bool
 }
 
 /// Whether columns 7 to 72 hold E, N and D in this order and nothing else.
-fn reads_end(columns: &[u8]) -> bool
+pub fn reads_end(columns: &[u8]) -> bool
     ensures { result ≡ bytes_eq (spec.squeezed (drop 6 columns.now)) (codes "END") }
 {
     let mut left: &[u8] = b"END";
