@@ -7,3 +7,4 @@ pub mod FormValues
 pub mod Levels
 pub mod CursorMoves
 pub mod Walks
+pub mod InstanceLists

@@ -7,3 +7,5 @@ pub mod RoundsOf
 pub mod TripsLeft
 pub mod Frames
 pub mod Cursors
+pub mod Executed
+pub mod InstancesLeft
