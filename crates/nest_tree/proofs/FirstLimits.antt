@@ -1,5 +1,5 @@
 -- Which limit is the first.
-use Rattle.std.proofs.Common.{◌≡◌, ℕ, ◌≤◌, ◌<◌, ◌^◌, ℤ, true, false, nat_lt, List, [], ◌∷◌, length, map, IsTrue, Some, None, if◌then◌else◌, refl, ap, sym, ◌∙◌, arith}
+use Rattle.std.proofs.Common.{◌≡◌, ℕ, zero, suc, pos, get_or, replicate, ◌≤◌, ◌<◌, ◌^◌, ℤ, true, false, nat_lt, List, [], ◌∷◌, length, map, IsTrue, Some, None, if◌then◌else◌, refl, ap, sym, ◌∙◌, arith}
 use Rattle.std.specs.Option.{option_or}
 use Rattle.std.proofs.lemmas.Bool.Decides.{nat_tests}
 use Rattle.std.proofs.lemmas.List.{length-map}
@@ -32,9 +32,19 @@ under most total shown make small is h =
     let within : nat_lt most total ≡ false = grind (arith, nat_tests) in
     sym (ap (λ b. if b then Some (make (capped total)) else None) within)
 
-no_ends-length : length no_ends ≡ 400
+at_replicate : {X : Type 0} (n k : ℕ) (d : X) → get_or (replicate n d) k d ≡ d
+at_replicate zero k d = refl
+at_replicate (suc n) zero d = refl
+at_replicate (suc n) (suc k) d = at_replicate n k d
+
+-- 400 loops have no interval yet
+pub no_ends-length : length no_ends ≡ 400
 unfolding no_ends
 no_ends-length = refl
+
+pub no_ends-at : (n : ℕ) → get_or no_ends n (pos 0, pos 0) ≡ (pos 0, pos 0)
+unfolding no_ends
+no_ends-at n = at_replicate 400 n (pos 0, pos 0)
 
 module _ (tree : Tree) where
   pub limit-wide : (limit : Limit) → Some limit ≡ too_wide tree → Some limit ≡ first_limit tree
