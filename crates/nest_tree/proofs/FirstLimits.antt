@@ -1,5 +1,5 @@
 -- Which limit is the first.
-use Rattle.std.proofs.Common.{◌≡◌, ℕ, zero, suc, pos, get_or, replicate, ◌≤◌, ◌<◌, ◌^◌, ℤ, true, false, nat_lt, List, [], ◌∷◌, length, map, IsTrue, Some, None, if◌then◌else◌, refl, ap, sym, ◌∙◌, arith}
+use Rattle.std.proofs.Common.{◌≡◌, ℕ, zero, suc, pos, get_or, replicate, ◌≤◌, ◌<◌, ◌^◌, ℤ, true, false, nat_lt, List, [], ◌∷◌, length, map, IsTrue, Option, Some, None, if◌then◌else◌, refl, ap, sym, ◌∙◌, arith}
 use Rattle.std.specs.Option.{option_or}
 use Rattle.std.proofs.lemmas.Bool.Decides.{nat_tests}
 use Rattle.std.proofs.lemmas.List.{length-map}
@@ -10,7 +10,7 @@ use Rattle.nest_tree.specs.declared.tree.Parameter.{Parameter}
 use Rattle.nest_tree.specs.declared.tree.Program.{Program}
 use Rattle.nest_tree.specs.Given.{are_all_given}
 use Rattle.nest_tree.specs.Layout.{cell_count}
-use Rattle.nest_tree.specs.Limits.{capped, first_limit, most_cells, most_work, no_ends, too_many_cells, too_much_work, too_wide, wide_of, work_estimate, work_of}
+use Rattle.nest_tree.specs.Limits.{IsWithinLimits, capped, first_limit, most_cells, most_work, no_ends, too_many_cells, too_much_work, too_wide, wide_of, work_estimate, work_of}
 use Rattle.nest_tree.specs.Tree.{Tree, Constant, param_values}
 use Rattle.nest_tree.specs.View.{constant_of, statements_from, tree_of}
 use Rattle.nest_tree.specs.WellFormed.{IsWellFormed}
@@ -67,6 +67,32 @@ module _ (tree : Tree) where
 
       pub limit-none : cells ≤ most_cells → None ≡ first_limit tree
       limit-none h = under most_cells (cell_count tree) cells TooManyCells (omega arith) counted h ∙ sym past_work
+
+-- what a program within its limits keeps
+pub record Kept (tree : Tree) : Type 0 where
+  pub forms : too_wide tree ≡ None
+  pub most_worked : work_estimate tree ≤ most_work
+  pub most_counted : cell_count tree ≤ most_cells
+
+neither : {X : Type 0} (a b : Option X) → option_or a b ≡ None → (a ≡ None) × (b ≡ None)
+neither None b h = (refl, h)
+neither (Some x) b h = cc
+
+at_most : {X : Type 0} (most total : ℕ) (x : X) → (if nat_lt most total then Some x else None) ≡ None → total ≤ most
+at_most most total x h =
+    elim (nat_lt most total) as (λ b. nat_lt most total ≡ b → (if b then Some x else None) ≡ None → total ≤ most) [
+      | true ↦ λ e k. absurd (let no : Some x ≡ None = k in cc)
+      | false ↦ λ e k. grind (arith, nat_tests)
+    ] refl h
+
+pub kept : (tree : Tree) → IsWithinLimits tree → Kept tree
+kept tree h =
+    let first = neither (too_wide tree) (option_or (too_much_work tree) (too_many_cells tree)) h in
+    let second = neither (too_much_work tree) (too_many_cells tree) first.1 in record {
+      forms = first.0;
+      most_worked = at_most most_work (work_estimate tree) (TooMuchWork (capped (work_estimate tree))) second.0;
+      most_counted = at_most most_cells (cell_count tree) (TooManyCells (capped (cell_count tree))) second.1;
+    }
 
 -- the same as the code reads a program
 module _ (p : Program) (ends : List (ℤ × ℤ)) (constants : List Parameter) (items : List Item) (none : ends ≡ no_ends) (params : constants ≡ p.params.items) (statements : items ≡ p.items.items) where

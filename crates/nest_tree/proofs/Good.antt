@@ -1,7 +1,7 @@
 -- What a well-formed program names is there.
-use Rattle.std.proofs.Common.{◌≡◌, ℕ, ◌+◌, ◌≤◌, ◌<◌, ℤ, Bool, true, false, ◌&&◌, ◌||◌, ◌==◌, nat_lt, nat_le, unsigned_abs, List, [], ◌∷◌, ◌++◌, length, IsTrue, Option, Some, None, refl, ap, sym, ◌∙◌, arith}
+use Rattle.std.proofs.Common.{◌≡◌, ℕ, ◌+◌, ◌≤◌, ◌<◌, ℤ, true, false, ◌&&◌, ◌||◌, ◌==◌, nat_lt, nat_le, unsigned_abs, List, [], ◌∷◌, ◌++◌, length, IsTrue, Option, Some, None, refl, ap, sym, ◌∙◌, arith}
 use Rattle.std.specs.List.{flat_map, list_all, list_any}
-use Rattle.std.proofs.lemmas.Bool.{and_parts, eqb-true}
+use Rattle.std.proofs.lemmas.Bool.{and_from, and_parts, eqb-true}
 use Rattle.std.proofs.lemmas.Bool.Decides.{nat_tests}
 use Rattle.std.proofs.lemmas.Grind.{flat_map-append}
 use Rattle.std.proofs.lemmas.List.Folds.{list_all-append}
@@ -13,11 +13,6 @@ use Rattle.nest_tree.specs.Loads.{guard_forms, loads_among, loads_in, loads_in_i
 use Rattle.nest_tree.specs.Tree.{Expression, Expressions, number, loop_value, param, load, neg, add, sub, mul, div, least_of, greatest_of, no_more, one_more, Printed, value, whole, text, Work, assign, print, Head, Statement, Statements, do_loop, work, continue, done, next, Tree}
 use Rattle.nest_tree.specs.WellFormed.{IsWellFormed, Scope, are_good_expressions, are_good_statements, is_good_access, is_good_expression, is_good_guard, is_good_head, is_good_item, is_good_statement, is_good_work, is_number_of, is_value, loops_in, loops_of, names_only, rank_of, scope_of, statement_count, statements_in}
 use Rattle.nest_tree.proofs.Cells.{well_formed_parts}
-
-pub and_true : (a b : Bool) → IsTrue a → IsTrue b → IsTrue (a && b)
-and_true true true h k = refl
-and_true true false h k = k
-and_true false b h k = h
 
 -- the loops round a place have numbers up to this one
 abbrev pub AreWithin : ℕ → List ℕ → Type 0
@@ -36,13 +31,13 @@ loops-within : (loops : ℕ) (around : List ℕ) (pairs : List (ℕ × ℤ)) →
 loops-within loops around [] h named = refl
 loops-within loops around (p ∷ pairs) h named =
     let parts = and_parts (list_any (λ l. l == p.0) around) (list_all (λ (p : ℕ × ℤ). list_any (λ l. l == p.0) around) pairs) named in
-    and_true (nat_le p.0 loops) (reach_within loops pairs) (named-within loops p.0 around h parts.0) (loops-within loops around pairs h parts.1)
+    and_from (nat_le p.0 loops) (reach_within loops pairs) (named-within loops p.0 around h parts.0) (loops-within loops around pairs h parts.1)
 
 constants-within : (constants : ℕ) (pairs : List (ℕ × ℤ)) → IsTrue (list_all (λ p. is_number_of constants p.0) pairs) → IsTrue (reach_within constants pairs)
 constants-within constants [] named = refl
 constants-within constants (p ∷ pairs) named =
     let parts = and_parts (is_number_of constants p.0) (list_all (λ (p : ℕ × ℤ). is_number_of constants p.0) pairs) named in
-    and_true (nat_le p.0 constants) (reach_within constants pairs) (and_parts (nat_le 1 p.0) (nat_le p.0 constants) parts.0).1 (constants-within constants pairs parts.1)
+    and_from (nat_le p.0 constants) (reach_within constants pairs) (and_parts (nat_le 1 p.0) (nat_le p.0 constants) parts.0).1 (constants-within constants pairs parts.1)
 
 pub form-given : (loops constants : ℕ) (around : List ℕ) (f : Form) → AreWithin loops around → IsTrue (names_only constants around f) → IsTrue (is_given f loops constants)
 form-given loops constants around f h named =
@@ -50,17 +45,17 @@ form-given loops constants around f h named =
     let numbers = list_all (λ (p : ℕ × ℤ). is_number_of constants p.0) f.params in
     let last = and_parts (is_form f && all) numbers named in
     let first = and_parts (is_form f) all last.0 in
-    and_true (reach_within loops f.loops) (reach_within constants f.params) (loops-within loops around f.loops h first.1) (constants-within constants f.params last.1)
+    and_from (reach_within loops f.loops) (reach_within constants f.params) (loops-within loops around f.loops h first.1) (constants-within constants f.params last.1)
 
 forms-given : (loops constants : ℕ) (around : List ℕ) (fs : List Form) → AreWithin loops around → IsTrue (list_all (names_only constants around) fs) → IsTrue (are_given loops constants fs)
 forms-given loops constants around [] h named = refl
 forms-given loops constants around (f ∷ fs) h named =
     let parts = and_parts (names_only constants around f) (list_all (names_only constants around) fs) named in
-    and_true (is_given f loops constants) (are_given loops constants fs) (form-given loops constants around f h parts.0) (forms-given loops constants around fs h parts.1)
+    and_from (is_given f loops constants) (are_given loops constants fs) (form-given loops constants around f h parts.0) (forms-given loops constants around fs h parts.1)
 
 given-both : (loops constants : ℕ) (xs ys : List Form) → IsTrue (are_given loops constants xs) → IsTrue (are_given loops constants ys) → IsTrue (are_given loops constants (xs ++ ys))
 given-both loops constants xs ys h k =
-    list_all-append (λ f. is_given f loops constants) xs ys ∙ and_true (are_given loops constants xs) (are_given loops constants ys) h k
+    list_all-append (λ f. is_given f loops constants) xs ys ∙ and_from (are_given loops constants xs) (are_given loops constants ys) h k
 
 loads-both : (loops constants : ℕ) (xs ys : List Access) → IsTrue (are_loads_given loops constants xs) → IsTrue (are_loads_given loops constants ys) → IsTrue (are_loads_given loops constants (xs ++ ys))
 loads-both loops constants xs ys h k =
@@ -126,7 +121,7 @@ module _ (loops : ℕ) (scope : Scope) (around : List ℕ) (within : AreWithin l
   guard-given None good = refl
   guard-given (Some g) good =
       let parts = and_parts (names_only scope.constants around g.left) (names_only scope.constants around g.right) good in
-      forms-given loops scope.constants around (g.left ∷ g.right ∷ []) within (and_true (names_only scope.constants around g.left) (names_only scope.constants around g.right && true) parts.0 (and_true (names_only scope.constants around g.right) true parts.1 refl))
+      forms-given loops scope.constants around (g.left ∷ g.right ∷ []) within (and_from (names_only scope.constants around g.left) (names_only scope.constants around g.right && true) parts.0 (and_from (names_only scope.constants around g.right) true parts.1 refl))
 
   work-given : (w : Work) → IsTrue (is_good_work scope around w) → IsTrue (are_given loops scope.constants (work_forms w))
   work-given (assign a) good =
@@ -144,7 +139,7 @@ module _ (loops : ℕ) (scope : Scope) (around : List ℕ) (within : AreWithin l
       let last = and_parts (m1 && m2 && step) (is_small head.step) good in
       let third = and_parts (m1 && m2) step last.0 in
       let first = and_parts m1 m2 third.0 in
-      forms-given loops scope.constants around (head.m1 ∷ head.m2 ∷ []) within (and_true m1 (m2 && true) first.0 (and_true m2 true first.1 refl))
+      forms-given loops scope.constants around (head.m1 ∷ head.m2 ∷ []) within (and_from m1 (m2 && true) first.0 (and_from m2 true first.1 refl))
 
 -- the parts of a good loop whose number is `first`
 pub record GoodLoop (scope : Scope) (around : List ℕ) (first : ℕ) (head : Head) (body : Statements) : Type 0 where
@@ -168,11 +163,11 @@ mutual
   statement-given loops scope around first (do_loop head body) within low high good =
       let g = good_loop scope around first head body good in
       let reach : IsTrue (nat_le head.number loops) = grind (arith, nat_tests, g.number, high) in
-      let number : IsTrue (is_number_of loops head.number) = and_true (nat_le 1 head.number) (nat_le head.number loops) (grind (arith, nat_tests, g.number, low)) reach in
-      let inner = and_true (nat_le head.number loops) (list_all (λ l. nat_le l loops) around) reach within in
+      let number : IsTrue (is_number_of loops head.number) = and_from (nat_le 1 head.number) (nat_le head.number loops) (grind (arith, nat_tests, g.number, low)) reach in
+      let inner = and_from (nat_le head.number loops) (list_all (λ l. nat_le l loops) around) reach within in
       let forms = are_given loops scope.constants (head.m1 ∷ head.m2 ∷ []) in
-      and_true (is_number_of loops head.number && forms) (are_all_given loops scope.constants body)
-      (and_true (is_number_of loops head.number) forms number (head-given loops scope around within head g.bounds))
+      and_from (is_number_of loops head.number && forms) (are_all_given loops scope.constants body)
+      (and_from (is_number_of loops head.number) forms number (head-given loops scope around within head g.bounds))
       (statements-given loops scope (head.number ∷ around) (first + 1) body inner (omega arith) (omega (arith, high)) g.inside)
   statement-given loops scope around first (work w) within low high good = work-given loops scope around within w good
   statement-given loops scope around first (continue line) within low high good = refl
@@ -182,7 +177,7 @@ mutual
   statements-given loops scope around first done within low high good = refl
   statements-given loops scope around first (next s rest) within low high good =
       let g = and_parts (is_good_statement scope around first s) (are_good_statements scope around (first + loops_in s) rest) good in
-      and_true (is_all_given loops scope.constants s) (are_all_given loops scope.constants rest)
+      and_from (is_all_given loops scope.constants s) (are_all_given loops scope.constants rest)
       (statement-given loops scope around first s within low (omega (arith, high)) g.0)
       (statements-given loops scope around (first + loops_in s) rest within (omega (arith, low)) (omega (arith, high)) g.1)
 
