@@ -8,3 +8,7 @@ pub mod Levels
 pub mod CursorMoves
 pub mod Walks
 pub mod InstanceLists
+pub mod Affine
+pub mod CellPlaces
+pub mod CellSums
+pub mod Products

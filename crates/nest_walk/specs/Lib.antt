@@ -9,3 +9,5 @@ pub mod Frames
 pub mod Cursors
 pub mod Executed
 pub mod InstancesLeft
+pub mod Places
+pub mod CellForms

@@ -9,9 +9,11 @@
 //! - [`laws`]: the instances as stops.
 //! - [`path`]: the loops round a stop with the values of their DO variables, by depth.
 //! - [`trips`]: the values of a loop's trips, as a progression.
+//! - [`cells`]: the cell of an access as a form of the loops' values by depth.
 //! - [`frame`]: the loops that a walk is in.
 #![tactic(auto)]
 
+pub mod cells;
 mod count;
 pub mod cursor;
 mod form;
@@ -21,6 +23,7 @@ pub mod laws;
 pub mod path;
 pub mod trips;
 
+pub use cells::CellForm;
 pub use cursor::{Cursor, Stop};
 pub use instances::Instances;
 pub use path::{MOST_LOOPS, Path};
