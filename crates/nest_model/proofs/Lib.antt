@@ -1,2 +1,4 @@
 pub mod Spans
 pub mod Within
+pub mod Stops
+pub mod Small

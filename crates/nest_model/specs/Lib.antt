@@ -5,3 +5,4 @@ pub mod Memory
 pub mod Visits
 pub mod Ranges
 pub mod FirstRun
+pub mod Computed

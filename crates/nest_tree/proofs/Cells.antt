@@ -1,6 +1,7 @@
 -- The cells of variables one behind another, and the parts of a well-formed program.
 use Rattle.std.proofs.Common.{◌≡◌, ℕ, zero, suc, ◌+◌, ◌-◌, ◌≤◌, ◌<◌, ◌&&◌, nat_lt, List, [], ◌∷◌, length, length-take, map, get_or, take, IsTrue, refl, ap, sym, ◌∙◌, arith}
 use Rattle.std.specs.List.{list_all}
+use Rattle.std.proofs.lemmas.Bool.{and_parts}
 use Rattle.std.proofs.lemmas.Bool.Decides.{nat_tests}
 use Rattle.std.proofs.Math.Seq.{get_or-take}
 use Rattle.std.proofs.lemmas.List.{get_or-map, length-map}
@@ -11,7 +12,6 @@ use Rattle.nest_tree.specs.Tree.{Declaration, Tree}
 use Rattle.nest_tree.specs.Layout.{bounds_at, cells_in, element_count}
 use Rattle.nest_tree.specs.View.{declaration_of, tree_of}
 use Rattle.nest_tree.specs.WellFormed.{IsWellFormed, are_good_statements, is_good_constant, is_good_declaration, scope_of, statement_count}
-use Rattle.nest_tree.proofs.Places.{both}
 
 pub record WellFormedParts (tree : Tree) : Type 0 where
   pub constants : IsTrue (list_all is_good_constant tree.params)
@@ -24,9 +24,9 @@ well_formed_parts tree w =
     let constants = list_all is_good_constant tree.params in
     let variables = list_all is_good_declaration tree.variables in
     let few = nat_lt (statement_count tree.items) 400 in
-    let last = both (constants && variables && few) (are_good_statements (scope_of tree) [] 1 tree.items) w in
-    let third = both (constants && variables) few last.0 in
-    let first = both constants variables third.0 in
+    let last = and_parts (constants && variables && few) (are_good_statements (scope_of tree) [] 1 tree.items) w in
+    let third = and_parts (constants && variables) few last.0 in
+    let first = and_parts constants variables third.0 in
     record { constants = first.0; variables = first.1; few = grind (arith, nat_tests, third.1); statements = last.1 }
 
 pub cells-take : (vs : List Declaration) (i : ℕ) (d : Declaration) → i < length vs → cells_in (take (i + 1) vs) ≡ cells_in (take i vs) + element_count (get_or vs i d).bounds

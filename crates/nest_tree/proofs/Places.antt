@@ -1,9 +1,9 @@
 -- The places of elements.
-use Rattle.std.proofs.Common.{◌≡◌, ℕ, suc, ◌+◌, ◌*◌, ◌^◌, ◌≤◌, ◌<◌, ℤ, pos, negsuc, ◌+ℤ◌, ◌-ℤ◌, ◌≤ℤ◌, Bool, true, false, ◌&&◌, List, [], ◌∷◌, length, get_or, add-one, drop, IsTrue, nat_le, unsigned_abs, refl, ap, ◌∙◌, arith}
+use Rattle.std.proofs.Common.{◌≡◌, ℕ, suc, ◌+◌, ◌*◌, ◌^◌, ◌≤◌, ◌<◌, ℤ, pos, negsuc, ◌+ℤ◌, ◌-ℤ◌, ◌≤ℤ◌, List, [], ◌∷◌, length, get_or, add-one, drop, IsTrue, nat_le, unsigned_abs, refl, ap, ◌∙◌, arith}
 use Rattle.std.specs.List.{list_all}
 use Rattle.std.proofs.lemmas.Bool.Decides.{nat_tests}
 use Rattle.std.proofs.lemmas.Int.{ints}
-use Rattle.std.proofs.lemmas.Bool.{false≢true}
+use Rattle.std.proofs.lemmas.Bool.{and_parts}
 use Rattle.std.proofs.lemmas.Nat.{mul-add-lt, mul-le, pow-add}
 use Rattle.std.proofs.Math.Seq.{drop-cons}
 use Rattle.std.proofs.Math.Nat.{one-le-mul, le-mul_of_pos_right, mul-add, mul_assoc, mul_comm}
@@ -35,16 +35,11 @@ extent-is bounds d = count_of-some (bounds.1 -ℤ bounds.0 +ℤ pos 1) (omega (a
 pub inside-ends : (bounds : ℤ × ℤ) (s : ℤ) → IsTrue (is_inside bounds s) → (bounds.0 ≤ℤ s) × (s ≤ℤ bounds.1)
 inside-ends bounds s h = (grind (arith, ints), grind (arith, ints))
 
--- both sides of a test
-pub both : (a b : Bool) → IsTrue (a && b) → IsTrue a × IsTrue b
-both true b h = (refl, h)
-both false b h = absurd (false≢true h)
-
 -- an array whose dimensions have places has elements
 pub element_count-some : (bounds : List (ℤ × ℤ)) → IsTrue (list_all is_good_dimension bounds) → 1 ≤ element_count bounds
 element_count-some [] good = omega arith
 element_count-some (b ∷ bounds) good =
-    let g = both (is_good_dimension b) (list_all is_good_dimension bounds) good in
+    let g = and_parts (is_good_dimension b) (list_all is_good_dimension bounds) good in
     let d = good_dimension b g.0 in
     let here : 1 ≤ extent b = omega (arith, ints, extent-is b d, d.ordered) in
     one-le-mul here (element_count-some bounds g.1)
@@ -67,8 +62,8 @@ placing-next place stride o b bounds s subscripts whole count p is below = recor
       omega (arith, mul_comm o stride, mul_assoc stride (extent b) rest, mul-add stride o (extent b * rest), p.reached, ap (λ n. stride * (n + extent b * rest)) is);
   counted = mul_assoc stride (extent b) (element_count bounds) ∙ p.counted;
   below = omega (arith, mul-add-lt o stride place (extent b) below p.below);
-  inside = (both (is_inside b s) (are_inside bounds subscripts) p.inside).1;
-  good = (both (is_good_dimension b) (list_all is_good_dimension bounds) p.good).1;
+  inside = (and_parts (is_inside b s) (are_inside bounds subscripts) p.inside).1;
+  good = (and_parts (is_good_dimension b) (list_all is_good_dimension bounds) p.good).1;
 }
 
 -- what is known of the next dimension
@@ -80,10 +75,10 @@ pub record Next (b : ℤ × ℤ) (s : ℤ) (stride count : ℕ) : Type 0 where
 placing-head : (place stride : ℕ) (b : ℤ × ℤ) (bounds : List (ℤ × ℤ)) (s : ℤ) (subscripts : List ℤ) (whole count : ℕ) →
     Placing place stride (b ∷ bounds) (s ∷ subscripts) whole count → Next b s stride count
 placing-head place stride b bounds s subscripts whole count p =
-    let g = both (is_good_dimension b) (list_all is_good_dimension bounds) p.good in
+    let g = and_parts (is_good_dimension b) (list_all is_good_dimension bounds) p.good in
     let next = mul_assoc stride (extent b) (element_count bounds) ∙ p.counted in record {
       good = g.0;
-      inside = (both (is_inside b s) (are_inside bounds subscripts) p.inside).0;
+      inside = (and_parts (is_inside b s) (are_inside bounds subscripts) p.inside).0;
       within = omega (arith, next, le-mul_of_pos_right (stride * extent b) (element_count-some bounds g.1));
     }
 
@@ -101,7 +96,7 @@ module _ (bounds : List (ℤ × ℤ)) (subscripts : List ℤ) (i : ℕ) (d : ℤ
 few : (bounds : List (ℤ × ℤ)) (axis : ℕ) (spread : Spread) → IsTrue (is_good_placing bounds axis spread) → length bounds ≤ 3
 few [] axis spread h = omega arith
 few (b ∷ bounds) axis spread h =
-    let g = both (is_number_of (length (b ∷ bounds)) axis) (nat_le (length (b ∷ bounds)) 3) h in grind (arith, nat_tests, g.1)
+    let g = and_parts (is_number_of (length (b ∷ bounds)) axis) (nat_le (length (b ∷ bounds)) 3) h in grind (arith, nat_tests, g.1)
 
 -- the elements, dimension by dimension: `count` of the first i, and what is left
 pub record Counting (count i : ℕ) (left : List (ℤ × ℤ)) (whole : ℕ) : Type 0 where
@@ -111,7 +106,7 @@ pub record Counting (count i : ℕ) (left : List (ℤ × ℤ)) (whole : ℕ) : T
 
 counting-next : (count i : ℕ) (b : ℤ × ℤ) (left : List (ℤ × ℤ)) (whole : ℕ) → Counting count i (b ∷ left) whole → Counting (count * extent b) (i + 1) left whole
 counting-next count i b left whole c =
-    let g = both (is_good_dimension b) (list_all is_good_dimension left) c.good in
+    let g = and_parts (is_good_dimension b) (list_all is_good_dimension left) c.good in
     let d = good_dimension b g.0 in
     let small : extent b ≤ 2 ^ 32 = omega (arith, ints, extent-is b d, d.low, d.high) in
     let power : 2 ^ (32 * (i + 1)) ≡ 2 ^ (32 * i) * 2 ^ 32 = ap (λ n. 2 ^ n) (mul-add 32 i 1) ∙ pow-add 2 (32 * i) 32 in record {
@@ -125,7 +120,7 @@ module _ (bounds : List (ℤ × ℤ)) (i : ℕ) (d : ℤ × ℤ) (count whole : 
   first = rw (← drop-cons bounds i d h) c
 
   pub counting-good : IsTrue (is_good_dimension (get_or bounds i d))
-  counting-good = (both (is_good_dimension (get_or bounds i d)) (list_all is_good_dimension (drop (suc i) bounds)) first.good).0
+  counting-good = (and_parts (is_good_dimension (get_or bounds i d)) (list_all is_good_dimension (drop (suc i) bounds)) first.good).0
 
   pub counting-step : Counting (count * extent (get_or bounds i d)) (i + 1) (drop (i + 1) bounds) whole
   counting-step =
@@ -135,5 +130,5 @@ module _ (bounds : List (ℤ × ℤ)) (i : ℕ) (d : ℤ × ℤ) (count whole : 
 -- a variable of a program has at most three dimensions
 pub good_declaration : (v : Declaration) → IsTrue (is_good_declaration v) → IsTrue (list_all is_good_dimension v.bounds) × (length v.bounds ≤ 3)
 good_declaration v h =
-    let g = both (list_all is_good_dimension v.bounds) (is_good_placing v.bounds v.axis v.spread) h in
+    let g = and_parts (list_all is_good_dimension v.bounds) (is_good_placing v.bounds v.axis v.spread) h in
     (g.0, few v.bounds v.axis v.spread g.1)

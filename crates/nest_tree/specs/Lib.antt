@@ -6,6 +6,7 @@ pub mod Guards
 pub mod Layout
 pub mod WellFormed
 pub mod Loads
+pub mod Given
 pub mod Intervals
 pub mod Limits
 pub mod Straight

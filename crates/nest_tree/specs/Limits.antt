@@ -1,14 +1,15 @@
 -- The limits of a program: how far forms reach, how much work there is, and how many cells.
 use Rattle.std.specs.Prelude.{ℕ, ◌+◌, ◌*◌, ◌^◌, ◌≡◌, ℤ, pos, int_lt, Bool, not, nat_lt, min, List, [], ◌∷◌, Option, Some, None, replicate, if◌then◌else◌, refl}
 use Rattle.std.specs.Option.{option_or}
+use Rattle.nest_tree.specs.declared.tree.Access.{Access}
 use Rattle.nest_tree.specs.declared.limits.Limit.{Limit}
 use Rattle.nest_tree.specs.declared.limits.Limit.TheVariants.{TooWide, TooMuchWork, TooManyCells}
 use Rattle.nest_tree.specs.Form.{Form, is_small}
 use Rattle.nest_tree.specs.Intervals.{form_interval, head_interval, with_ends}
 use Rattle.nest_tree.specs.Layout.{cell_count, extent}
-use Rattle.nest_tree.specs.Loads.{work_forms}
+use Rattle.nest_tree.specs.Loads.{subscript_forms, work_forms}
 use Rattle.nest_tree.specs.Tree.{Work, assign, print, Statement, Statements, do_loop, work, continue, done, next, Tree, param_values}
-use Rattle.nest_tree.specs.WellFormed.{loops_of}
+use Rattle.nest_tree.specs.WellFormed.{most_statements}
 
 -- the most work and the most cells that a program may have, and the number as which greater ones count
 abbrev pub most_work : ℕ
@@ -20,9 +21,9 @@ most_cells = 1048576
 abbrev pub capped : ℕ → ℕ
 capped n = min n (2 ^ 64)
 
--- no loop has an interval yet
-abbrev pub no_ends : Tree → List (ℤ × ℤ)
-no_ends tree = replicate (loops_of tree.items) (pos 0, pos 0)
+-- no loop has an interval yet, by number; a program has fewer loops
+unfoldable pub no_ends : List (ℤ × ℤ)
+no_ends = replicate most_statements (pos 0, pos 0)
 
 -- the work of an assignment or another statement inside loops whose widths multiply to `width` is that product, and so is that of a DO statement; a loop is as wide as its interval
 abbrev mutual
@@ -39,7 +40,7 @@ abbrev mutual
 
 -- the work estimate of a program
 abbrev pub work_estimate : Tree → ℕ
-work_estimate tree = work_of (param_values tree) (no_ends tree) 1 tree.items
+work_estimate tree = work_of (param_values tree) no_ends 1 tree.items
 
 -- the first end of an interval that is past plus or minus 2147483647, the low one first
 abbrev pub wide_end : ℤ × ℤ → Option ℤ
@@ -49,6 +50,10 @@ wide_end (low, high) = if not (is_small low) then Some low else if not (is_small
 abbrev pub wide_forms : List ℤ → List (ℤ × ℤ) → List Form → Option ℤ
 wide_forms params ends [] = None
 wide_forms params ends (f ∷ rest) = option_or (wide_end (form_interval f ends params)) (wide_forms params ends rest)
+
+-- of these accesses' subscripts
+abbrev pub wide_loads : List ℤ → List (ℤ × ℤ) → List Access → Option ℤ
+wide_loads params ends accesses = wide_forms params ends (subscript_forms accesses)
 
 -- such an end as the limit that the statement of this line passes
 abbrev pub wide_at : ℕ → Option ℤ → Option Limit
@@ -78,7 +83,7 @@ abbrev mutual
   wide_of params ends (next s rest) = option_or (wide_in params ends s) (wide_of params ends rest)
 
 abbrev pub too_wide : Tree → Option Limit
-too_wide tree = wide_of (param_values tree) (no_ends tree) tree.items
+too_wide tree = wide_of (param_values tree) no_ends tree.items
 
 abbrev pub too_much_work : Tree → Option Limit
 too_much_work tree = if nat_lt most_work (work_estimate tree) then Some (TooMuchWork (capped (work_estimate tree))) else None

@@ -1,10 +1,11 @@
 -- From the declared types to the tree as plain data.
 use Rattle.std.specs.Prelude.{List, [], ◌∷◌, map}
-use Rattle.nest_tree.specs.Tree.{Expression, Expressions, number, loop_value, param, load, neg, add, sub, mul, div, least_of, greatest_of, no_more, one_more, Printed, value, whole, text, assign, print, Statement, Statements, do_loop, work, continue, done, next, Constant, Declaration, Tree}
+use Rattle.nest_tree.specs.Tree.{Expression, Expressions, number, loop_value, param, load, neg, add, sub, mul, div, least_of, greatest_of, no_more, one_more, Printed, value, whole, text, assign, print, Head, Statement, Statements, do_loop, work, continue, done, next, Constant, Declaration, Tree}
 use Rattle.nest_tree.specs.declared.tree.Expr.{Expr, Number, LoopValue, Param, Load, Neg', Add', Sub', Mul', Div', Min', Max', Row_of-Expr, end_of-Expr, more_of-Expr}
 use Rattle.nest_tree.specs.declared.tree.PrintItem.{PrintItem}
 use Rattle.nest_tree.specs.declared.tree.PrintItem.TheVariants.{Value, Whole, Text}
 use Rattle.nest_tree.specs.declared.tree.Item.{Item, Loop', Assign, Print, Continue, Row_of-Item, end_of-Item, more_of-Item}
+use Rattle.nest_tree.specs.declared.tree.Nest.{Nest}
 use Rattle.nest_tree.specs.declared.tree.Parameter.{Parameter}
 use Rattle.nest_tree.specs.declared.tree.Variable.{Variable}
 use Rattle.nest_tree.specs.declared.tree.Program.{Program}
@@ -52,6 +53,13 @@ abbrev mutual
 abbrev pub statements_from : List Item → Statements
 statements_from [] = done
 statements_from (s ∷ rest) = next (statement_of s) (statements_from rest)
+
+-- a loop's head, and the loop
+abbrev pub head_of : Nest → Head
+head_of nest = record { number = nest.number; m1 = nest.m1; m2 = nest.m2; step = nest.step; line = nest.line }
+
+abbrev pub loop_of : Nest → Statement
+loop_of nest = do_loop (head_of nest) (statements_from nest.items.items)
 
 abbrev pub constant_of : Parameter → Constant
 constant_of p = record { name = p.name.items; value = p.value }

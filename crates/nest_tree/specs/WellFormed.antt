@@ -132,10 +132,13 @@ is_good_declaration v = list_all is_good_dimension v.bounds && is_good_placing v
 abbrev pub is_good_constant : Constant → Bool
 is_good_constant c = is_value c.value
 
--- a program with at most 400 statements, END among them
+-- a program has at most so many statements, END among them
+abbrev pub most_statements : ℕ
+most_statements = 400
+
 abbrev pub is_well_formed : Tree → Bool
 is_well_formed tree =
-    list_all is_good_constant tree.params && list_all is_good_declaration tree.variables && nat_lt (statement_count tree.items) 400 && are_good_statements (scope_of tree) [] 1 tree.items
+    list_all is_good_constant tree.params && list_all is_good_declaration tree.variables && nat_lt (statement_count tree.items) most_statements && are_good_statements (scope_of tree) [] 1 tree.items
 
 abbrev pub IsWellFormed : Tree → Type 0
 IsWellFormed tree = IsTrue (is_well_formed tree)

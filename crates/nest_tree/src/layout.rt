@@ -73,7 +73,7 @@ impl Layout<'_> {
 }
 
 // How many places a dimension has.
-fn extent(bounds: (i64, i64)) -> u32
+pub(crate) fn extent(bounds: (i64, i64)) -> u32
     requires { IsTrue (is_good_dimension bounds) }
     ensures extent { result ≡ extent bounds }
     ensures some { 1 ≤ result }

@@ -7,3 +7,8 @@ pub mod FormValues
 pub mod Levels
 pub mod CursorMoves
 pub mod Walks
+pub mod InstanceLists
+pub mod Affine
+pub mod CellPlaces
+pub mod CellSums
+pub mod Products

@@ -1,10 +1,11 @@
 -- The loops of a path, by depth.
-use Rattle.std.proofs.Common.{◌≡◌, ℕ, zero, suc, ◌-◌, ◌<◌, ◌≤◌, ◌==◌, ℤ, pos, true, List, [], ◌∷◌, ◌++◌, map, length, reverse, replicate, take, drop, set, get_or, add-one, ⊎_elim, if◌then◌else◌, refl, ap, sym, ◌∙◌, arith}
+use Rattle.std.proofs.Common.{◌≡◌, ℕ, zero, suc, ◌+◌, ◌-◌, ◌<◌, ◌≤◌, ◌==◌, ℤ, pos, true, List, [], ◌∷◌, ◌++◌, map, length, reverse, replicate, take, drop, set, get_or, add-one, ⊎_elim, if◌then◌else◌, refl, ap, sym, ◌∙◌, arith}
 use Rattle.std.specs.List.{list_all}
 use Rattle.std.proofs.lemmas.Bool.{and_parts, cases_lt}
 use Rattle.std.proofs.lemmas.Bool.Decides.{Decides-int_eq}
-use Rattle.std.proofs.lemmas.List.{get_or-replicate, get_or-set_same, get_or-set_other, get_or_past, length-replicate, reverse-append, take_more, take-append-drop, length-drop}
-use Rattle.nest_walk.specs.Paths.{Round, rounds_to, by_depth, value_among, is_zero}
+use Rattle.std.proofs.lemmas.List.{drop-replicate, drop-set-lt, get_or-drop, get_or-replicate, get_or-set_same, get_or-set_other, get_or_past, length-replicate, reverse-append, take_more, take-append-drop, length-drop}
+use Rattle.nest_walk.specs.Places.{numbers_of}
+use Rattle.nest_walk.specs.Paths.{Round, rounds_to, by_depth, origin, value_among, is_zero}
 
 -- an element of a list of equal ones, also past its end
 pub at_replicate : {A : Type 0} (count i : ℕ) (a : A) → get_or (replicate count a) i a ≡ a
@@ -70,3 +71,29 @@ value_among-last ns vs zero n h = absurd (omega arith)
 value_among-last ns vs (suc k) n h =
     let before : k ≡ suc k - 1 = omega arith in
     ap (λ j. if get_or ns j 0 == n then get_or vs j (pos 0) else value_among (rounds_to ns vs j) n) before
+
+-- behind the depth all is 0, also where a value before it is not
+all_zeros : (n : ℕ) → list_all is_zero (replicate n (pos 0)) ≡ true
+all_zeros zero = refl
+all_zeros (suc n) = all_zeros n
+
+pub zero_behind : (depth : ℕ) → list_all is_zero (drop depth origin) ≡ true
+zero_behind depth = ap (list_all is_zero) (drop-replicate depth 6 (pos 0)) ∙ all_zeros (6 - depth)
+
+pub zero_past : (depth k : ℕ) (v : ℤ) → k < depth → list_all is_zero (drop depth (set origin k v)) ≡ true
+zero_past depth k v h = ap (list_all is_zero) (drop-set-lt depth origin k v h) ∙ zero_behind depth
+
+-- loops with the same numbers
+pub same_numbers : (ns ns' : List ℕ) (vs vs' : List ℤ) (k : ℕ) → numbers_of (rounds_to ns' vs' k) ≡ numbers_of (rounds_to ns vs k) → rounds_to ns' vs' k ≡ rounds_to ns vs' k
+same_numbers ns ns' vs vs' zero h = refl
+same_numbers ns ns' vs vs' (suc k) h =
+    let first : get_or ns' k 0 ≡ get_or ns k 0 = cc in
+    let rest : numbers_of (rounds_to ns' vs' k) ≡ numbers_of (rounds_to ns vs k) = cc in
+    ap (λ n. record { number = n; value = get_or vs' k (pos 0) } ∷ rounds_to ns' vs' k) first
+    ∙ ap (λ xs. record { number = get_or ns k 0; value = get_or vs' k (pos 0) } ∷ xs) (same_numbers ns ns' vs vs' k rest)
+
+-- a value in a place left over
+pub left_over-at : (vs : List ℤ) (depth d : ℕ) → list_all is_zero (drop depth vs) ≡ true → depth ≤ d → get_or vs d (pos 0) ≡ pos 0
+left_over-at vs depth d h le =
+    let at : d ≡ depth + (d - depth) = omega (arith, le) in
+    ap (λ n. get_or vs n (pos 0)) at ∙ sym (get_or-drop depth vs (d - depth) (pos 0)) ∙ ap (λ xs. get_or xs (d - depth) (pos 0)) (zeros (drop depth vs) h) ∙ at_replicate (length (drop depth vs)) (d - depth) (pos 0)

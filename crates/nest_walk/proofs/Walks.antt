@@ -11,6 +11,8 @@ use Rattle.nest_tree.specs.Limits.{IsWithinLimits, is_empty, line_of_work, no_en
 use Rattle.std.specs.Option.{option_or}
 use Rattle.nest_tree.specs.Loads.{guard_forms, loads_in, subscript_forms, work_forms}
 use Rattle.nest_tree.specs.Tree.{Work, assign, print, Statement, Statements, do_loop, work, continue, done, next, Tree, param_values}
+use Rattle.nest_tree.proofs.FirstLimits.{no_ends-at, no_ends-length}
+use Rattle.nest_tree.proofs.Good.{loops-few}
 use Rattle.nest_tree.specs.WellFormed.{IsWellFormed, Scope, are_good_statements, is_good_head, is_good_statement, is_number_of, loops_in, loops_of, scope_of, statement_count, statements_in}
 use Rattle.nest_model.specs.Instances.{no_values, trip_count, with_loop, works_in, works_of}
 use Rattle.nest_model.specs.Visits.{stops_in, stops_of}
@@ -109,12 +111,12 @@ mutual
   works_of-most (next s rest) = omega (arith, works-most s, works_of-most rest)
 
 -- before the first statement
-at_start : (tree : Tree) → IsInEnds (no_ends tree) (no_values tree)
-at_start tree =
+at_start : (tree : Tree) → IsWellFormed tree → IsInEnds no_ends (no_values tree)
+at_start tree formed =
     let count = loops_of tree.items in record {
-      long = omega (arith, length-replicate count (pos 0), length-replicate {A = ℤ × ℤ} count (pos 0, pos 0));
+      long = omega (arith, length-replicate count (pos 0), no_ends-length, loops-few tree formed);
       inside = λ n.
-          subst (λ x. Between x (get_or (no_values tree) n (pos 0))) (sym (at_replicate count n (pos 0, pos 0)))
+          subst (λ x. Between x (get_or (no_values tree) n (pos 0))) (sym (no_ends-at n))
           (subst (λ x. Between (pos 0, pos 0) x) (sym (at_replicate count n (pos 0))) (record { low = omega (arith, ints); high = omega (arith, ints) }));
     }
 
@@ -123,7 +125,7 @@ pub walkable : (tree : Tree) → IsWellFormed tree → IsWithinLimits tree → a
 walkable tree formed limits =
     let good = and_parts _ (are_good_statements (scope_of tree) [] 1 tree.items) formed in
     let wide = none_parts (too_wide tree) (option_or (too_much_work tree) (too_many_cells tree)) limits in
-    statements_walkable (param_values tree) (no_ends tree) (no_values tree) (scope_of tree) [] 1 tree.items (at_start tree) wide.0 good.1 (omega arith)
+    statements_walkable (param_values tree) no_ends (no_values tree) (scope_of tree) [] 1 tree.items (at_start tree formed) wide.0 good.1 (omega arith)
     (omega (arith, length-replicate (loops_of tree.items) (pos 0)))
 
 pub few_statements : (tree : Tree) → IsWellFormed tree → statement_count tree.items < 400

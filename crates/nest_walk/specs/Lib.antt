@@ -7,3 +7,7 @@ pub mod RoundsOf
 pub mod TripsLeft
 pub mod Frames
 pub mod Cursors
+pub mod Executed
+pub mod InstancesLeft
+pub mod Places
+pub mod CellForms

@@ -26,6 +26,10 @@ by_number loops (r ∷ rounds) = with_loop (by_number loops rounds) r.number r.v
 abbrev pub by_depth : List Round → List ℤ
 by_depth rounds = reverse (map (λ (r : Round). r.value) rounds) ++ replicate (6 - length rounds) (pos 0)
 
+-- the values by depth of loops that are all at 0
+abbrev pub origin : List ℤ
+origin = replicate 6 (pos 0)
+
 -- the value of the loop with this number, 0 where it isn't among these
 abbrev pub value_among : List Round → ℕ → ℤ
 value_among [] n = pos 0

@@ -11,7 +11,7 @@ use crate::form::value_at;
 use crate::frame::{Frame, Frames, Part};
 use crate::path::Path;
 use crate::trips::Trips;
-use nest_tree::{Item, Nest, Program};
+use nest_tree::{Guard, Item, Nest, Program};
 
 /// A stop of a walk: a statement, its number among the stops in the text and the number of its
 /// first piece of work, both from 1.
@@ -35,14 +35,20 @@ pub struct Cursor<'a> {
 }
 
 impl<'a> Cursor<'a> {
-    ghost use Rattle.std.specs.Prelude.{◌≡◌, ◌<◌, [], ◌∷◌, ◌++◌, length, MatchOption, true, false};
+    ghost use Rattle.std.specs.Prelude.{◌≡◌, ◌<◌, [], ◌∷◌, ◌++◌, length, IfSome, MatchOption, true, false};
     ghost use Rattle.nest_tree.specs.Tree.{param_values};
     ghost use Rattle.nest_model.specs.Instances.{head_trips, works_in};
+    ghost use Rattle.std.specs.Prelude.{Some};
+    ghost use Rattle.std.specs.List.{list_all};
+    ghost use Rattle.nest_tree.specs.Guards.{holds};
+    ghost use Rattle.nest_tree.specs.Loads.{guard_forms};
+    ghost use Rattle.nest_walk.specs.Paths.{Round};
+    ghost use Rattle.nest_walk.specs.Walkable.{is_small_at};
     ghost use Rattle.nest_tree.specs.Limits.{IsWithinLimits};
     ghost use Rattle.nest_tree.specs.View.{statement_of};
-    ghost use Rattle.nest_tree.specs.WellFormed.{IsWellFormed};
+    ghost use Rattle.nest_tree.specs.WellFormed.{IsWellFormed, is_number_of, loops_of};
     ghost use Rattle.nest_model.specs.Visits.{stops_in, visits};
-    ghost use Rattle.nest_walk.specs.Cursors.{left_of, loops_in, marks_in, moves_to_go, rounds_in, tree_in, visit_at, visits_at};
+    ghost use Rattle.nest_walk.specs.Cursors.{is_reached, left_of, loops_in, marks_in, moves_to_go, rounds_in, tree_in, visit_at, visits_at};
     ghost use Rattle.nest_walk.specs.Frames.{head_of};
     ghost use Rattle.nest_walk.specs.TripsLeft.{trips_left};
     ghost use Rattle.nest_walk.specs.Walks.{enters_but};
@@ -79,6 +85,7 @@ impl<'a> Cursor<'a> {
     pub fn next(&mut self) -> Option<Stop<'a>>
         ensures stop { MatchOption result (left_of self.old ≡ []) (λ s. left_of self.old ≡ visit_at (tree_in self.new) (rounds_in self.new) s ∷ left_of self.new) }
         ensures end { MatchOption result (left_of self.new ≡ []) (λ s. Unit) }
+        ensures reached { IfSome result (λ s. IsTrue (is_reached (tree_in self.new) (rounds_in self.new) s)) }
         ensures program { tree_in self.new ≡ tree_in self.old }
         ensures marks { marks_in self.new ≡ marks_in self.old }
     {
@@ -97,6 +104,7 @@ impl<'a> Cursor<'a> {
     fn pass(&mut self, item: &'a Item, behind: &'a [Item]) -> Option<Stop<'a>>
         requires { self.old.rest.items.now ≡ item.now ∷ behind.now }
         ensures stop { MatchOption result (left_of self.new ≡ left_of self.old) (λ s. left_of self.old ≡ visit_at (tree_in self.new) (rounds_in self.new) s ∷ left_of self.new) }
+        ensures reached { IfSome result (λ s. IsTrue (is_reached (tree_in self.new) (rounds_in self.new) s)) }
         ensures moved { moves_to_go self.new < moves_to_go self.old }
         ensures program { tree_in self.new ≡ tree_in self.old }
         ensures marks { marks_in self.new ≡ marks_in self.old }
@@ -126,6 +134,7 @@ impl<'a> Cursor<'a> {
         requires works { works ≡ works_in (statement_of item.now) }
         ensures left { left_of self.old ≡ visits_at (tree_in self.old) (marks_in self.old) (rounds_in self.old) result ++ left_of self.new }
         ensures rounds { rounds_in self.new ≡ rounds_in self.old }
+        ensures reached { IsTrue (is_reached (tree_in self.old) (rounds_in self.old) result) }
         ensures item { result.item.now ≡ item.now }
         ensures moved { moves_to_go self.new < moves_to_go self.old }
         ensures program { tree_in self.new ≡ tree_in self.old }
@@ -213,5 +222,16 @@ impl<'a> Cursor<'a> {
             self.rest = frame.body;
         }
         true
+    }
+
+    // Whether a comparison with small sides holds at the stop that was given last.
+    pub(crate) fn holds(&self, guard: &Guard) -> bool
+        requires numbered { IsTrue (list_all (λ (r : Round). is_number_of (loops_of (tree_in self.now).items) r.number) (rounds_in self.now)) }
+        requires small { IsTrue (list_all (is_small_at (param_values (tree_in self.now)) (loops_in (tree_in self.now) (rounds_in self.now))) (guard_forms (Some guard.now))) }
+        ensures { result ≡ holds (Some guard.now) (loops_in (tree_in self.now) (rounds_in self.now)) (param_values (tree_in self.now)) }
+    {
+        let left = value_at(&guard.left, &self.path, &self.program.params);
+        let right = value_at(&guard.right, &self.path, &self.program.params);
+        guard.op.holds(left, right)
     }
 }

@@ -5,18 +5,26 @@
 //! and a stop in the innermost loop costs the same however long the program is.
 //!
 //! - [`cursor`]: the walk, stop by stop.
+//! - [`instances`]: the instances, one by one.
+//! - [`laws`]: the instances as stops.
 //! - [`path`]: the loops round a stop with the values of their DO variables, by depth.
 //! - [`trips`]: the values of a loop's trips, as a progression.
+//! - [`cells`]: the cell of an access as a form of the loops' values by depth.
 //! - [`frame`]: the loops that a walk is in.
 #![tactic(auto)]
 
+pub mod cells;
 mod count;
 pub mod cursor;
 mod form;
 pub mod frame;
+pub mod instances;
+pub mod laws;
 pub mod path;
 pub mod trips;
 
+pub use cells::CellForm;
 pub use cursor::{Cursor, Stop};
+pub use instances::Instances;
 pub use path::{MOST_LOOPS, Path};
 pub use trips::Trips;

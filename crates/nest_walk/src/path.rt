@@ -1,8 +1,8 @@
 // The loops round a place.
 
-ghost use Rattle.std.specs.Prelude.{◌≡◌, ◌+◌, ◌<◌, ◌≤◌, [], ◌∷◌, IsTrue, List, drop, length};
+ghost use Rattle.std.specs.Prelude.{◌≡◌, ◌+◌, ◌<◌, ◌≤◌, [], ◌∷◌, IsTrue, List, drop, length, pos, slice_set};
 ghost use Rattle.std.specs.List.{list_all};
-ghost use Rattle.nest_walk.specs.Paths.{Round, by_depth, is_zero, value_among};
+ghost use Rattle.nest_walk.specs.Paths.{Round, by_depth, is_zero, origin, rounds_to, value_among};
 
 /// The most loops that lie in one another.
 pub const MOST_LOOPS: usize = 6;
@@ -15,6 +15,7 @@ pub struct Path {
     pub(crate) numbers: [u32; MOST_LOOPS],
     pub(crate) values: [i64; MOST_LOOPS],
     ghost within: { depth ≤ 6 },
+    ghost six: { length values ≡ 6 },
     ghost left_over: { IsTrue (list_all is_zero (drop depth values)) },
 }
 
@@ -84,5 +85,30 @@ impl Path {
             }
         }
         0
+    }
+
+    // The same loops, each at 0.
+    pub(crate) fn at_origin(&self) -> Self
+        ensures { rounds_of result ≡ rounds_to self.now.numbers origin self.now.depth }
+    {
+        Path {
+            depth: self.depth,
+            numbers: self.numbers,
+            values: [0; MOST_LOOPS],
+        }
+    }
+
+    // The same loops, each at 0 but the one at this depth, from 0, which is at 1.
+    pub(crate) fn one_along(&self, depth: usize) -> Self
+        requires { depth < self.now.depth }
+        ensures { rounds_of result ≡ rounds_to self.now.numbers (slice_set origin depth (pos 1)) self.now.depth }
+    {
+        let mut values = [0; MOST_LOOPS];
+        values[depth] = 1;
+        Path {
+            depth: self.depth,
+            numbers: self.numbers,
+            values,
+        }
     }
 }

@@ -1,14 +1,16 @@
-use Rattle.std.proofs.Common.{ℕ, ◌+◌, ◌++◌, ap, sym, ◌∙◌, arith}
+use Rattle.std.proofs.Common.{ℕ, ◌+◌, ◌^◌, ◌++◌, ap, sym, ◌∙◌, arith}
+use Rattle.std.proofs.lemmas.Bool.{and_from, lt-ltb}
 use Rattle.nest_tree.specs.View.{statement_of, statements_from}
 use Rattle.nest_model.specs.Instances.{works_in}
 use Rattle.nest_model.specs.Visits.{visits_of}
 use Rattle.nest_walk.specs.Cursors.{left_of, moves_to_go}
+use Rattle.nest_walk.specs.Frames.{stretch_of}
 use Rattle.nest_walk.specs.Moves.{moves_left}
 use Rattle.nest_walk.specs.Paths.{by_number}
 use Rattle.nest_walk.specs.RoundsOf.{rounds_of}
 use Rattle.nest_walk.specs.Walks.{Stretch, left}
 use Rattle.nest_walk.proofs.CursorMoves.{walk_of, levels_of, passes}
-use Rattle.nest_walk.proofs.WalkMoves.{moves_some}
+use Rattle.nest_walk.proofs.WalkMoves.{are_numbered, moves_some}
 use Rattle.nest_walk.proofs.cursor.Cursor.advance.Goals as goal
 
 pub returns-clause-left : goal.returns-clause-left
@@ -29,3 +31,10 @@ returns-clause-moved c =
     let same = ap (λ m. stretch m (works_in (statement_of c.args.item.now))) (sym c.requires.stops) ∙ ap (stretch c.args.stops) (sym c.requires.works) in
     let moves = ap (λ s. moves_left (walk_of old) (rounds_of old.path) (levels_of old) s) same in
     omega (arith, p.moves_are, moves, moves_some (walk_of old).params (walk_of old).enters (statement_of c.args.item.now) (by_number (walk_of old).loops (rounds_of old.path)))
+
+pub returns-clause-reached : goal.returns-clause-reached
+returns-clause-reached c =
+    let old = c.args.self.now in
+    let p = passes old c.args.item.now c.args.behind.now c.requires.rest in
+    and_from _ _ (and_from _ _ (are_numbered (walk_of old) (rounds_of old.path) (levels_of old) (stretch_of old.rest) old.sound) p.walkable)
+    (lt-ltb (old.rest.first + works_in (statement_of c.args.item.now)) (2 ^ 32) p.work)
