@@ -13,15 +13,15 @@ use crate::form::{Bound, Declarator, Expression, Operator, Printed, Sign};
 use crate::number::number_of;
 use crate::state::{Item, Level, Opener, Operand, Pending, Piece};
 use std::alloc::Global;
+use std::mem;
 
-/// What is known of a text in front of one of its characters: the levels round the innermost,
-/// the innermost level, and the operand.
+/// Where a text stands in front of one of its characters: in the levels round the innermost, and
+/// in that one.
 #[derive(Drop)]
-pub struct State {
+pub struct Place {
     /// From the outermost.
     pub outer: Vec<Level>,
     pub level: Level,
-    pub operand: Operand,
 }
 
 /// An operand behind what waits for it.
@@ -299,157 +299,110 @@ fn bare(opener: Opener) -> Level
 
 /// A step by a sign.
 #[tactic(auto, unfolding(crate::specs::Reading::add_step))]
-fn add_step(alloc: Global, state: State, sign: Sign) -> Result<State, Fault>
-    ensures { Gives state_of result (reading.add_step (state_of state) sign) }
+fn add_step(
+    alloc: Global,
+    place: &mut Place,
+    operand: Operand,
+    sign: Sign,
+) -> Result<Operand, Fault>
+    ensures { Gives (state_of place.new) result (reading.add_step (state_of place.old operand) sign) }
 {
-    let State {
-        outer,
-        level,
-        operand,
-    } = state;
-    let Level {
-        opener,
-        sum,
-        product,
-    } = level;
-    let sum = pending_sum(alloc, sum, product, operand, sign)?;
-    Ok(State {
-        outer,
-        level: Level {
-            opener,
-            sum,
-            product: Pending::Nothing,
-        },
-        operand: Operand::Missing,
-    })
+    let sum = mem::replace(&mut place.level.sum, Pending::Nothing);
+    let product = mem::replace(&mut place.level.product, Pending::Nothing);
+    place.level.sum = pending_sum(alloc, sum, product, operand, sign)?;
+    Ok(Operand::Missing)
 }
 
 /// A step by `*` or `/`.
 #[tactic(auto, unfolding(crate::specs::Reading::multiply_step))]
-fn multiply_step(alloc: Global, state: State, operator: Operator) -> Result<State, Fault>
-    ensures { Gives state_of result (reading.multiply_step (state_of state) operator) }
+fn multiply_step(
+    alloc: Global,
+    place: &mut Place,
+    operand: Operand,
+    operator: Operator,
+) -> Result<Operand, Fault>
+    ensures { Gives (state_of place.new) result (reading.multiply_step (state_of place.old operand) operator) }
 {
-    let State {
-        outer,
-        level,
-        operand,
-    } = state;
-    let Level {
-        opener,
-        sum,
-        product,
-    } = level;
+    let product = mem::replace(&mut place.level.product, Pending::Nothing);
     let left = term_value(alloc, product, operand)?;
-    Ok(State {
-        outer,
-        level: Level {
-            opener,
-            sum,
-            product: Pending::Left(left, operator),
-        },
-        operand: Operand::Missing,
-    })
+    place.level.product = Pending::Left(left, operator);
+    Ok(Operand::Missing)
 }
 
 /// A step by an opening parenthesis.
 #[tactic(auto, unfolding(crate::specs::Reading::open_step))]
-fn open_step(alloc: Global, state: State) -> Result<State, Fault>
-    ensures { Gives state_of result (reading.open_step (state_of state)) }
+fn open_step(alloc: Global, place: &mut Place, operand: Operand) -> Result<Operand, Fault>
+    ensures { Gives (state_of place.new) result (reading.open_step (state_of place.old operand)) }
 {
-    let State {
-        mut outer,
-        level,
-        operand,
-    } = state;
-    let opener = opener_at(alloc, &level.opener, operand)?;
-    outer.push(level)?;
-    Ok(State {
-        outer,
-        level: bare(opener),
-        operand: Operand::Missing,
-    })
+    let opener = opener_at(alloc, &place.level.opener, operand)?;
+    let outside = mem::replace(&mut place.level, bare(opener));
+    place.outer.push(outside)?;
+    Ok(Operand::Missing)
 }
 
 /// A step by a separator.
 #[tactic(auto, unfolding(crate::specs::Reading::separate_step))]
-fn separate_step(alloc: Global, state: State, byte: u8) -> Result<State, Fault>
-    ensures { Gives state_of result (reading.separate_step (state_of state) byte) }
+fn separate_step(
+    alloc: Global,
+    place: &mut Place,
+    operand: Operand,
+    byte: u8,
+) -> Result<Operand, Fault>
+    ensures { Gives (state_of place.new) result (reading.separate_step (state_of place.old operand) byte) }
 {
-    let State {
-        outer,
-        level,
-        operand,
-    } = state;
     let Level {
         opener,
         sum,
         product,
-    } = level;
+    } = mem::replace(&mut place.level, bare(Opener::Group));
     let opener = opener_behind(alloc, opener, sum, product, operand, byte)?;
-    Ok(State {
-        outer,
-        level: bare(opener),
-        operand: Operand::Missing,
-    })
+    place.level = bare(opener);
+    Ok(Operand::Missing)
 }
 
-/// The state in the next outer level.
+/// Leaves the innermost level, which this operand ends.
 #[tactic(auto, unfolding(crate::specs::Reading::left_to))]
-fn left_to(mut outer: Vec<Level>, operand: Operand) -> Result<State, Fault>
-    ensures { Gives state_of result (reading.left_to (levels_of outer.items) (operand_of operand)) }
+fn leave(place: &mut Place, operand: Operand) -> Result<Operand, Fault>
+    ensures { Gives (state_of place.new) result (reading.left_to (levels_of place.old.outer.items) (operand_of operand)) }
 {
-    match outer.pop() {
-        Some(level) => Ok(State {
-            outer,
-            level,
-            operand,
-        }),
+    match place.outer.pop() {
+        Some(level) => {
+            place.level = level;
+            Ok(operand)
+        }
         None => Err(Fault::NoForm),
     }
 }
 
 /// A step by a closing parenthesis.
 #[tactic(auto, unfolding(crate::specs::Reading::close_step))]
-fn close_step(alloc: Global, state: State) -> Result<State, Fault>
-    ensures { Gives state_of result (reading.close_step (state_of state)) }
+fn close_step(alloc: Global, place: &mut Place, operand: Operand) -> Result<Operand, Fault>
+    ensures { Gives (state_of place.new) result (reading.close_step (state_of place.old operand)) }
 {
-    if is_outermost(&state.level.opener) {
-        return separate_step(alloc, state, b')');
+    if is_outermost(&place.level.opener) {
+        return separate_step(alloc, place, operand, b')');
     }
-    let State {
-        outer,
-        level,
-        operand,
-    } = state;
     let Level {
         opener,
         sum,
         product,
-    } = level;
+    } = mem::replace(&mut place.level, bare(Opener::Group));
     let e = sum_value(alloc, sum, product, operand)?;
-    left_to(outer, enclosed(alloc, opener, e)?)
+    let operand = enclosed(alloc, opener, e)?;
+    leave(place, operand)
 }
 
 /// A step by an apostrophe in front of a constant.
 #[tactic(auto, unfolding(crate::specs::Reading::quote_step))]
-fn quote_step(alloc: Global, state: State) -> Result<State, Fault>
-    ensures { Gives state_of result (reading.quote_step (state_of state)) }
+fn quote_step(alloc: Global, place: &Place, operand: Operand) -> Result<Operand, Fault>
+    ensures { Gives (state_of place.now) result (reading.quote_step (state_of place.now operand)) }
 {
-    let State {
-        outer,
-        level,
-        operand,
-    } = state;
-    if is_outermost(&level.opener)
+    if is_outermost(&place.level.opener)
         && is_missing(&operand)
-        && is_nothing(&level.sum)
-        && is_nothing(&level.product)
+        && is_nothing(&place.level.sum)
+        && is_nothing(&place.level.product)
     {
-        Ok(State {
-            outer,
-            level,
-            operand: Operand::Quoted(Vec::new(alloc)),
-        })
+        Ok(Operand::Quoted(Vec::new(alloc)))
     } else {
         Err(Fault::NoForm)
     }
@@ -457,18 +410,23 @@ fn quote_step(alloc: Global, state: State) -> Result<State, Fault>
 
 /// A step by a character that is no capital and no digit.
 #[tactic(auto, unfolding(crate::specs::Reading::symbol_step))]
-fn symbol_step(alloc: Global, state: State, byte: u8) -> Result<State, Fault>
-    ensures { Gives state_of result (reading.symbol_step (state_of state) byte) }
+fn symbol_step(
+    alloc: Global,
+    place: &mut Place,
+    operand: Operand,
+    byte: u8,
+) -> Result<Operand, Fault>
+    ensures { Gives (state_of place.new) result (reading.symbol_step (state_of place.old operand) byte) }
 {
     match byte {
-        b'+' => add_step(alloc, state, Sign::Plus),
-        b'-' => add_step(alloc, state, Sign::Minus),
-        b'*' => multiply_step(alloc, state, Operator::Multiply),
-        b'/' => multiply_step(alloc, state, Operator::Divide),
-        b'(' => open_step(alloc, state),
-        b')' => close_step(alloc, state),
-        b'\'' => quote_step(alloc, state),
-        _ => separate_step(alloc, state, byte),
+        b'+' => add_step(alloc, place, operand, Sign::Plus),
+        b'-' => add_step(alloc, place, operand, Sign::Minus),
+        b'*' => multiply_step(alloc, place, operand, Operator::Multiply),
+        b'/' => multiply_step(alloc, place, operand, Operator::Divide),
+        b'(' => open_step(alloc, place, operand),
+        b')' => close_step(alloc, place, operand),
+        b'\'' => quote_step(alloc, place, operand),
+        _ => separate_step(alloc, place, operand, byte),
     }
 }
 
@@ -493,23 +451,19 @@ fn letter_at(alloc: Global, operand: Operand, byte: u8) -> Result<Operand, Fault
 
 /// A step outside constants.
 #[tactic(auto, unfolding(crate::specs::Reading::plain_step))]
-fn plain_step(alloc: Global, state: State, byte: u8) -> Result<State, Fault>
-    ensures { Gives state_of result (reading.plain_step (state_of state) byte) }
+fn plain_step(
+    alloc: Global,
+    place: &mut Place,
+    operand: Operand,
+    byte: u8,
+) -> Result<Operand, Fault>
+    ensures { Gives (state_of place.new) result (reading.plain_step (state_of place.old operand) byte) }
 {
-    if !is_capital_or_digit(byte) {
-        return symbol_step(alloc, state, byte);
+    if is_capital_or_digit(byte) {
+        letter_at(alloc, operand, byte)
+    } else {
+        symbol_step(alloc, place, operand, byte)
     }
-    let State {
-        outer,
-        level,
-        operand,
-    } = state;
-    let operand = letter_at(alloc, operand, byte)?;
-    Ok(State {
-        outer,
-        level,
-        operand,
-    })
 }
 
 /// A character behind those of a constant.
@@ -524,51 +478,27 @@ fn quoted_at(mut characters: Vec<u8>, byte: u8) -> Result<Operand, Fault>
     Ok(Operand::Quoted(characters))
 }
 
-/// A step.
+/// A step: the operand behind a character.
 #[tactic(auto, unfolding(crate::specs::Reading::step, crate::specs::Reading::step_at))]
-fn step(alloc: Global, state: State, byte: u8) -> Result<State, Fault>
-    ensures { Gives state_of result (reading.step (state_of state) byte) }
+fn step(alloc: Global, place: &mut Place, operand: Operand, byte: u8) -> Result<Operand, Fault>
+    ensures { Gives (state_of place.new) result (reading.step (state_of place.old operand) byte) }
 {
-    let State {
-        outer,
-        level,
-        operand,
-    } = state;
-    let operand = match operand {
-        Operand::Quoted(characters) => quoted_at(characters, byte)?,
+    match operand {
+        Operand::Quoted(characters) => quoted_at(characters, byte),
         Operand::Closed(mut characters) if byte == b'\'' => {
             characters.push(byte)?;
-            Operand::Quoted(characters)
+            Ok(Operand::Quoted(characters))
         }
-        operand => {
-            return plain_step(
-                alloc,
-                State {
-                    outer,
-                    level,
-                    operand,
-                },
-                byte,
-            );
-        }
-    };
-    Ok(State {
-        outer,
-        level,
-        operand,
-    })
+        operand => plain_step(alloc, place, operand, byte),
+    }
 }
 
 /// The pieces at the end of a text.
 #[tactic(auto, unfolding(crate::specs::Reading::finished, crate::specs::Reading::ended))]
-fn finished(alloc: Global, state: State) -> Result<Vec<Piece>, Fault>
-    ensures { Gives (λ ps. map piece_of ps.items) result (reading.finished (state_of state)) }
+fn finished(alloc: Global, place: Place, operand: Operand) -> Result<Vec<Piece>, Fault>
+    ensures { Gives (λ ps. map piece_of ps.items) result (reading.finished (state_of place operand)) }
 {
-    let State {
-        outer,
-        level,
-        operand,
-    } = state;
+    let Place { outer, level } = place;
     let Level {
         opener,
         sum,
@@ -593,13 +523,13 @@ fn finished(alloc: Global, state: State) -> Result<Vec<Piece>, Fault>
 pub fn pieces(alloc: Global, declares: bool, text: &[u8]) -> Result<Vec<Piece>, Fault>
     ensures { Gives (λ ps. map piece_of ps.items) result (reading.pieces_at declares text.now) }
 {
-    let mut state = State {
+    let mut place = Place {
         outer: Vec::new(alloc),
         level: bare(Opener::Pieces(declares, Vec::new(alloc), b',')),
-        operand: Operand::Missing,
     };
+    let mut operand = Operand::Missing;
     for byte in text {
-        state = step(alloc, state, *byte)?;
+        operand = step(alloc, &mut place, operand, *byte)?;
     }
-    finished(alloc, state)
+    finished(alloc, place, operand)
 }

@@ -5,4 +5,4 @@ use Rattle.f77_forms.proofs.reader.pieces.Given as goal
 
 -- the state so far, and the characters to come
 abbrev pub invariant-loop-byte : goal.invariant-loop-byte
-invariant-loop-byte l = run (state_of l.state) (drop l.byte-index l.text) ≡ pieces_at l.declares l.text
+invariant-loop-byte l = run (state_of l.place l.operand) (drop l.byte-index l.text) ≡ pieces_at l.declares l.text
