@@ -63,7 +63,8 @@ def contract_at(code, at):
     """The clauses of the function whose parameters begin here, and where its contract ends."""
     clauses = []
     while True:
-        stop = re.compile(r"[{;]").search(code, at)
+        # a semicolon before a closing bracket is an array's
+        stop = re.compile(r"\{|;(?![^\[\]{};]*\])").search(code, at)
         if not stop or stop[0] == ";":
             return clauses, stop.end() if stop else len(code)
         clause = re.search(r"\b(ensures|requires)\*?(?:\s+(\w+))?\s*$", code[at : stop.start()])
