@@ -1,6 +1,6 @@
 -- The system's rows as candidates of level 0.
-use Rattle.std.proofs.Common.{◌≡◌, ℕ, ◌+◌, ◌-◌, ◌<◌, IsTrue, List, [], ◌∷◌, ◌++◌, length, get_or, take, ap, sym, ◌∙◌, subst, arith}
-use Rattle.std.specs.List.{All, Contains}
+use Rattle.std.proofs.Common.{◌≡◌, ℕ, ◌+◌, ◌-◌, ◌<◌, IsTrue, ◌⊎◌, ⊎_elim, List, [], ◌∷◌, ◌++◌, length, get_or, take, ap, sym, ◌∙◌, subst, arith}
+use Rattle.std.specs.List.{All, AllPairs, Contains}
 use Rattle.std.proofs.lemmas.List.{take_more, get_or_default}
 use Rattle.std.proofs.lemmas.List.Elements.{All-nil, All-push, All-weaker, All-contains, Contains-get_or}
 use Rattle.farkas_cert.specs.declared.system.Row.{Row}
@@ -8,12 +8,12 @@ use Rattle.farkas_cert.specs.Inequalities.{Inequalities, AreFull}
 use Rattle.farkas_cert.specs.Combination.{no_row, is_narrow}
 use Rattle.fm_elim.specs.declared.level.Candidate.{Candidate}
 use Rattle.fm_elim.specs.Reduction.{IsReduced}
-use Rattle.fm_elim.specs.Forming.{IsAdded, IsFormed, IsTightened}
+use Rattle.fm_elim.specs.Forming.{IsFormed}
+use Rattle.fm_elim.specs.Table.{IsPut}
 use Rattle.fm_elim.specs.Logs.{IsNumber, IsSuited, IsFounded, rows_among}
 use Rattle.fm_elim.specs.Answers.{AreNarrow}
-use Rattle.fm_elim.specs.Gathering.{IsSound, IsCovered, AreGiven}
-use Rattle.fm_elim.proofs.Covering.{All-added, Covers-added, Covers-kept}
-use Rattle.fm_elim.proofs.Leveling.{formed_from, lowest_from, founded_from}
+use Rattle.fm_elim.specs.Gathering.{IsUseful, IsSound, IsCovered, AreGiven}
+use Rattle.fm_elim.proofs.Leveling.{formed_from, lowest_from}
 
 pub given_suited : (vars : ℕ) (rows : List Row) (raw : Row) → AreFull vars rows → AreNarrow rows → Contains rows raw → IsSuited vars raw
 given_suited vars rows raw full narrow there =
@@ -33,24 +33,23 @@ AreGiven-start system = record {
 }
 
 -- one row more
-pub AreGiven-more : (system : Inequalities) (i : ℕ) (raw : Row) (old new : List Candidate) (c : Candidate) → i < length system.rows → raw ≡ get_or system.rows i raw → AreGiven system (take i system.rows) old → IsReduced raw c.row → IsFounded system [] c → IsAdded old c new → AreGiven system (take (i + 1) system.rows) new
-AreGiven-more system i raw old new c within at given reduced founded added =
+pub AreGiven-more : (system : Inequalities) (i : ℕ) (raw : Row) (old new : List Candidate) (c : Candidate) → i < length system.rows → raw ≡ get_or system.rows i raw → AreGiven system (take i system.rows) old → IsReduced raw c.row → IsFounded system [] c → IsPut old c new → AreGiven system (take (i + 1) system.rows) new
+AreGiven-more system i raw old new c within at given reduced founded put =
     let there : Contains system.rows raw = subst (Contains system.rows) (sym at) (Contains-get_or system.rows i raw within) in
     let more : take (i + 1) system.rows ≡ take i system.rows ++ raw ∷ [] = take_more system.rows i raw within ∙ ap (λ r. take i system.rows ++ r ∷ []) (sym at) in
     record {
-      sound = All-added (IsSound (Contains system.rows)) old new c added given.sound (λ useful. (useful, (raw, there, reduced)));
-      founded = All-added (IsFounded system []) old new c added given.founded (λ useful. founded);
+      sound = All-weaker (λ b. Contains old b ⊎ ((b ≡ c) × IsUseful c.row)) (IsSound (Contains system.rows))
+          (λ b h. ⊎_elim (λ was. All-contains (IsSound (Contains system.rows)) old b given.sound was) (λ is. subst (IsSound (Contains system.rows)) (sym is.0) (is.1, (raw, there, reduced))) h) new put.only;
+      founded = All-weaker (λ b. Contains old b ⊎ ((b ≡ c) × IsUseful c.row)) (IsFounded system [])
+          (λ b h. ⊎_elim (λ was. All-contains (IsFounded system []) old b given.founded was) (λ is. subst (IsFounded system []) (sym is.0) founded) h) new put.only;
       covered = subst (All (IsCovered new)) (sym more)
-          (All-push (IsCovered new) (take i system.rows) raw (All-weaker (IsCovered old) (IsCovered new) (λ r h. (h.0, h.1, Covers-kept old new c added h.0 h.2)) (take i system.rows) given.covered) (c.row, reduced, Covers-added old new c added));
+          (All-push (IsCovered new) (take i system.rows) raw (All-weaker (IsCovered old) (IsCovered new) (λ r h. (h.0, h.1, put.keeps h.0 h.2)) (take i system.rows) given.covered) (c.row, reduced, put.has));
     }
 
--- all rows, tightened
-module _ (system : Inequalities) (candidates kept : List Candidate) (given : AreGiven system system.rows candidates) (tight : IsTightened candidates kept) where
-  pub first_formed : IsFormed (λ r. Contains system.rows r) (rows_among kept)
-  first_formed = formed_from (Contains system.rows) candidates kept given.sound (λ raw there. All-contains (IsCovered candidates) system.rows raw given.covered there) tight
+-- all rows
+module _ (system : Inequalities) (candidates : List Candidate) (given : AreGiven system system.rows candidates) where
+  pub first_formed : AllPairs (λ r s. r.coefs ≡ s.coefs → ⊥) (rows_among candidates) → IsFormed (λ r. Contains system.rows r) (rows_among candidates)
+  first_formed distinct = formed_from (Contains system.rows) candidates given.sound (λ raw there. All-contains (IsCovered candidates) system.rows raw given.covered there) distinct
 
-  pub first_lowest : All (λ c. IsReduced c.row c.row) kept
-  first_lowest = lowest_from (Contains system.rows) candidates kept given.sound tight
-
-  pub first_founded : All (IsFounded system []) kept
-  first_founded = founded_from system [] candidates kept given.founded tight
+  pub first_lowest : All (λ c. IsReduced c.row c.row) candidates
+  first_lowest = lowest_from (Contains system.rows) candidates given.sound

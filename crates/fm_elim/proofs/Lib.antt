@@ -9,14 +9,12 @@ pub mod Columns
 pub mod Steps
 pub mod Lowest
 pub mod Origins
-pub mod Tightening
 pub mod Marks
 pub mod Copies
 pub mod Walks
 pub mod Endings
 pub mod Opposites
 pub mod Reached
-pub mod Ends
 pub mod Continuing
 pub mod Covering
 pub mod Sizes
@@ -24,4 +22,6 @@ pub mod Splitting
 pub mod Leveling
 pub mod Least
 pub mod Given
+pub mod Hashing
+pub mod Putting
 pub mod AtMost

@@ -1,12 +1,13 @@
 -- Reduced rows are in their lowest terms, and stay narrow.
 use Rattle.std.proofs.Common.{◌≡◌, ℕ, zero, suc, ◌*◌, ◌/◌, ◌≤◌, ◌<◌, max, ℤ, pos, negsuc, neg_ℤ, ◌+ℤ◌, ◌*ℤ◌, int_div, unsigned_abs, Bool, true, false, ◌&&◌, IsTrue, List, [], ◌∷◌, map, length, get_or, refl, ap, sym, ◌∙◌, subst, arith}
 use Rattle.std.specs.Int.{int_div_euclid, ◌∣◌}
+use Rattle.std.specs.List.{All}
 use Rattle.std.proofs.Math.Nat.{dvd_of_mul-dvd-mul_right, mul-dvd-mul_right, one-dvd, div-le_self, mul-div_cancel'}
 use Rattle.std.proofs.lemmas.List.{length-map, get_or_default}
 use Rattle.std.proofs.lemmas.List.Elements.{All-head, All-tail, All-cons, All-nil, All-map}
 use Rattle.farkas_cert.specs.declared.system.Row.{Row}
 use Rattle.farkas_cert.specs.Combination.{entry_at, is_narrow, stays_narrow}
-use Rattle.fm_elim.specs.Reduction.{DividesEach, IsCommonDivisor, IsReduced, divided}
+use Rattle.fm_elim.specs.Reduction.{DividesEach, IsCommonDivisor, IsReducedBy, IsReduced, divided}
 use Rattle.fm_elim.specs.Pairs.{combined, combination, IsNarrow}
 use Rattle.fm_elim.specs.Logs.{IsSuited}
 use Rattle.fm_elim.proofs.Divisors.{divided-one, le_from_narrow, narrow_from_le}
@@ -93,3 +94,11 @@ IsSuited-combination vars m n upper lower hu hl narrow =
           subst (λ z. IsTrue (is_narrow z)) (entry_at-coef vars (combination m upper n lower) k within ∙ get_or_default (combined m upper.coefs n lower.coefs) k (pos 0) d h) (at k (omega arith));
       bound = subst (λ z. IsTrue (is_narrow z)) (entry_at-bound vars (combination m upper n lower)) (at vars (omega arith));
     }
+
+-- and so is what it is reduced to
+pub IsSuited-reduced : (vars g : ℕ) (raw row : Row) → IsSuited vars raw → IsReducedBy g raw row → IsSuited vars row
+IsSuited-reduced vars g raw row suited reduced = subst (IsSuited vars) (sym reduced.1) (IsSuited-divided vars (max g 1) raw suited)
+
+-- its coefficients stay narrow
+pub narrow_reduced : (g : ℕ) (raw row : Row) → All (λ a. IsTrue (is_narrow a)) raw.coefs → IsReducedBy g raw row → All (λ a. IsTrue (is_narrow a)) row.coefs
+narrow_reduced g raw row narrow reduced = subst (λ r. All (λ a. IsTrue (is_narrow a)) r.coefs) (sym reduced.1) (All-map (λ a. IsTrue (is_narrow a)) (λ a. int_div a (pos (max g 1))) raw.coefs (λ k d h. quotient_narrow (get_or raw.coefs k d) (max g 1) (narrow k d h)))

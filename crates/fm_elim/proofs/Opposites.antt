@@ -1,12 +1,8 @@
 -- Rows that are each other's opposites but for the bounds make a contradiction.
 use Rattle.std.proofs.Common.{◌≡◌, ℕ, ◌+◌, ◌-◌, ℤ, pos, neg_ℤ, ◌+ℤ◌, ◌*ℤ◌, IsTrue, Bool, true, false, ◌&&◌, Some, List, [], ◌∷◌, ◌++◌, map, length, get_or, refl, ap, sym, ◌∙◌, subst, arith}
 use Rattle.std.specs.List.{All, Contains}
-use Rattle.std.specs.Cmp.Lexicographic.{slice_cmp}
-use Rattle.std.specs.Ordering.{int_cmp, ordering_reverse, is_gt}
-use Rattle.std.specs.declared.cmp.Ordering.TheVariants.{Equal}
 use Rattle.std.proofs.Math.Nat.{one-dvd}
 use Rattle.std.proofs.lemmas.Int.{ints}
-use Rattle.std.proofs.lemmas.Cmp.{int_cmp_total, lists_total}
 use Rattle.std.proofs.lemmas.List.{get_or-map, get_or_push, length_push, map_push}
 use Rattle.std.proofs.lemmas.List.Elements.{All-cons, All-nil, All-contains}
 use Rattle.farkas_cert.specs.declared.system.Row.{Row}
@@ -23,12 +19,7 @@ use Rattle.fm_elim.proofs.Divisors.{divided-one}
 use Rattle.fm_elim.proofs.Combined.{by_lt, both_narrow, entry_at-coef, entry_at-bound}
 use Rattle.fm_elim.proofs.Steps.{AreGoodSteps-push, rows_after-push, narrow-entry, once, good_combination, combination_makes}
 use Rattle.fm_elim.proofs.Lowest.{IsSuited-combination}
-use Rattle.fm_elim.proofs.Tightening.{upto_same}
 use Rattle.fm_elim.proofs.Endings.{length-all_rows}
-
--- lists that compare as equal are the same
-pub same_from_equal : (xs ys : List ℤ) → slice_cmp int_cmp xs ys ≡ Equal → xs ≡ ys
-same_from_equal xs ys e = upto_same xs ys (ap is_gt e) (ap is_gt ((lists_total int_cmp_total).antisymm ys xs) ∙ ap (λ o. is_gt (ordering_reverse o)) e)
 
 -- opposites add to 0
 combined-opposite : (us : List ℤ) → All (λ a. a ≡ pos 0) (combined (pos 1) us (pos 1) (map neg_ℤ us))

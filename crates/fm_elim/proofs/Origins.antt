@@ -1,5 +1,9 @@
 -- Candidates are founded: their rows have numbers, or are what their derivations make.
-use Rattle.std.proofs.Common.{◌≡◌, ℕ, max, ℤ, pos, ◌≤ℤ◌, List, Some, None, length, refl, ap, sym, ◌∙◌, subst, arith}
+use Rattle.std.proofs.Common.{◌≡◌, ℕ, max, ℤ, pos, ◌≤ℤ◌, List, ⊎_elim, if◌then◌else◌, Some, None, length, refl, ap, sym, ◌∙◌, subst, arith}
+use Rattle.std.specs.Ordering.{int_eq}
+use Rattle.std.proofs.lemmas.Bool.{cases_Bool}
+use Rattle.std.proofs.lemmas.Bool.Decides.{Decides-int_eq}
+use Rattle.fm_elim.specs.Table.{origin_of}
 use Rattle.std.proofs.lemmas.Int.{ints}
 use Rattle.farkas_cert.specs.declared.system.Row.{Row}
 use Rattle.farkas_cert.specs.Inequalities.{Inequalities}
@@ -55,3 +59,11 @@ made_from v upper lower row m n d g pair narrow reduced e = record {
       (subst (λ z. pos 0 ≤ℤ z) (sym pair.upper_times) (omega (arith, ints))) (subst (λ z. pos 0 ≤ℤ z) (sym pair.lower_times) (omega (arith, ints)))
       (subst (λ k. IsNarrow k m upper.row n lower.row) hu.suited.full narrow) reduced e;
 }
+
+-- a given row, reduced
+pub given_founded : (system : Inequalities) (log : List Derivation) (raw row : Row) (number g : ℕ) (divisor : ℤ) → IsReducedBy g raw row → IsSuited system.vars raw → IsNumber (all_rows system log) number raw → divisor ≡ pos (max g 1) → IsFounded system log (record { row = row; origin = origin_of number divisor })
+given_founded system log raw row number g divisor reduced suited numbered by =
+    ⊎_elim (λ yes. subst (λ b. IsFounded system log (record { row = row; origin = if b then Numbered number else Made (record { divisor = divisor; first = (number, pos 1); second = None }) })) (sym yes)
+    (founded_by_one system log raw row number g reduced suited numbered (sym by ∙ (Decides-int_eq divisor (pos 1)).0 yes)))
+    (λ no. subst (λ b. IsFounded system log (record { row = row; origin = if b then Numbered number else Made (record { divisor = divisor; first = (number, pos 1); second = None }) })) (sym no)
+    (founded_by_more system log raw row number g reduced suited numbered divisor by)) (cases_Bool (int_eq divisor (pos 1)))

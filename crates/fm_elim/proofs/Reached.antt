@@ -1,6 +1,6 @@
 -- What a level that elimination has reached is known to be, and what its answers rest on.
 use Rattle.std.proofs.Common.{◌≡◌, ℕ, suc, ◌+◌, ◌-◌, ◌≤◌, ◌<◌, ℤ, pos, ◌<ℤ◌, List, length, get_or, slice_index, sym, ◌∙◌, subst, arith}
-use Rattle.std.specs.List.{All, AllPairs, Contains, range_with_len}
+use Rattle.std.specs.List.{All, Contains, range_with_len}
 use Rattle.std.proofs.lemmas.List.{get_or_default, get_or-map, length-map}
 use Rattle.std.proofs.lemmas.List.FromFn.{length-range_with_len, get_or-range_with_len}
 use Rattle.std.proofs.lemmas.List.Elements.{All-contains, All-map, All-weaker, Contains-get_or}
@@ -9,9 +9,11 @@ use Rattle.farkas_cert.specs.declared.system.Row.{Row}
 use Rattle.farkas_cert.specs.Inequalities.{Inequalities, AreFull}
 use Rattle.fm_elim.specs.declared.derivation.Derivation.{Derivation}
 use Rattle.fm_elim.specs.declared.level.Held.{Held}
+use Rattle.fm_elim.specs.declared.level.Level.{Level}
 use Rattle.fm_elim.specs.Pairs.{coef_of, IsPair, IsWide}
 use Rattle.fm_elim.specs.Levels.{IsEmpty, IsLevelRow, IsRaw, IsDerived, IsClearTo, HasMoreThan}
-use Rattle.fm_elim.specs.Forming.{IsUpto, IsFormed}
+use Rattle.fm_elim.specs.Forming.{IsFormed}
+use Rattle.fm_elim.specs.Table.{IsTable}
 use Rattle.fm_elim.specs.Logs.{IsLog, IsHeld, rows_of}
 use Rattle.fm_elim.specs.Answers.{NamesEachOnce, HasRationalSolution, IsWidePair, HasNoWidePair, IsPassedTo, IsOpen, IsWideAt, IsManyAt, IsFreeOfClashes}
 use Rattle.fm_elim.specs.Next.{AreNowhereWide, IsNextLevel}
@@ -23,43 +25,35 @@ use Rattle.fm_elim.proofs.Back.{solvable_before, solvable_system}
 use Rattle.fm_elim.proofs.Columns.{IsRid, IsRid-start, IsRid-next, empty_from_rid, solvable_nothing}
 
 -- the list is level k, no level before it keeps a row without coefficients, its rows have their numbers, and what satisfies it can be moved to satisfy the system
-pub record IsReached (system : Inequalities) (order : List ℕ) (k : ℕ) (log : List Derivation) (level : List Held) : Type 0 where
+pub record IsReached (system : Inequalities) (order : List ℕ) (k : ℕ) (log : List Derivation) (level : Level) : Type 0 where
   pub steps : IsLog system log
-  pub held : All (IsHeld system log) level
-  pub exact : IsExact (IsDerived system order k) (rows_of level)
-  pub rid : IsRid order k (rows_of level)
+  pub held : All (IsHeld system log) level.rows.items
+  pub exact : IsExact (IsDerived system order k) (rows_of level.rows.items)
+  pub rid : IsRid order k (rows_of level.rows.items)
   pub clear : (j : ℕ) (row : Row) → j < k → IsDerived system order j row → IsEmpty row → ⊥
   pub few : (j : ℕ) → 1 ≤ j → j ≤ k → HasMoreThan 20000 (IsDerived system order j) → ⊥
   pub narrow : (j : ℕ) → j < k → HasNoWidePair system order j
-  pub useful : All (λ h. IsEmpty h.row → h.row.bound <ℤ pos 0) level
-  pub ascending : AllPairs (λ h o. IsUpto h.row.coefs o.row.coefs) level
-  pub distinct : AllPairs (λ h o. h.row.coefs ≡ o.row.coefs → ⊥) level
-  pub back : IsSolvable system.vars (rows_of level) → IsSolvable system.vars system.rows
+  pub useful : All (λ h. IsEmpty h.row → h.row.bound <ℤ pos 0) level.rows.items
+  pub table : IsTable (rows_of level.rows.items) level.chains.links.items level.chains.latest.items
+  pub back : IsSolvable system.vars (rows_of level.rows.items) → IsSolvable system.vars system.rows
 
 -- what holds of the rows holds of the held ones
 from_rows : (P : Row → Type 0) (level : List Held) → All P (rows_of level) → All (λ h. P h.row) level
 from_rows P level all k d h = subst P (get_or-map (λ h. h.row) level k d d.row h) (all k d.row (omega (arith, length-map level (λ h. h.row))))
 
-pairs_from_rows : (R : Row → Row → Type 0) (level : List Held) → AllPairs R (rows_of level) → AllPairs (λ h o. R h.row o.row) level
-pairs_from_rows R level all i j d lt h =
-    let at : (k : ℕ) → k < length level → get_or (rows_of level) k d.row ≡ (get_or level k d).row = λ k below. get_or-map (λ h. h.row) level k d d.row below in
-    let both : R (get_or (rows_of level) i d.row) (get_or (rows_of level) j d.row) = all i j d.row lt (omega (arith, length-map level (λ h. h.row))) in
-    subst (λ r. R r (get_or level j d).row) (at i (omega arith)) (subst (R (get_or (rows_of level) i d.row)) (at j h) both)
-
 -- level 0
-pub reached_first : (system : Inequalities) (order : List ℕ) (log : List Derivation) (level : List Held) → IsFormed (λ r. Contains system.rows r) (rows_of level) → IsLog system log → All (IsHeld system log) level → IsReached system order 0 log level
-reached_first system order log level formed good held = record {
+pub reached_first : (system : Inequalities) (order : List ℕ) (log : List Derivation) (level : Level) → IsFormed (λ r. Contains system.rows r) (rows_of level.rows.items) → IsTable (rows_of level.rows.items) level.chains.links.items level.chains.latest.items → IsLog system log → All (IsHeld system log) level.rows.items → IsReached system order 0 log level
+reached_first system order log level formed table good held = record {
   steps = good;
   held = held;
-  exact = IsExact-first system order (rows_of level) formed;
-  rid = IsRid-start order (rows_of level);
+  exact = IsExact-first system order (rows_of level.rows.items) formed;
+  rid = IsRid-start order (rows_of level.rows.items);
   clear = λ j row lt. absurd (omega arith);
   few = λ j low high. absurd (omega arith);
   narrow = λ j lt. absurd (omega arith);
-  useful = from_rows (λ r. IsEmpty r → r.bound <ℤ pos 0) level formed.useful;
-  ascending = pairs_from_rows (λ r s. IsUpto r.coefs s.coefs) level formed.ascending;
-  distinct = pairs_from_rows (λ r s. r.coefs ≡ s.coefs → ⊥) level formed.distinct;
-  back = solvable_system system.vars system.rows (rows_of level) formed;
+  useful = from_rows (λ r. IsEmpty r → r.bound <ℤ pos 0) level.rows.items formed.useful;
+  table = table;
+  back = solvable_system system.vars system.rows (rows_of level.rows.items) formed;
 }
 
 -- how many variables the order has, and which
@@ -81,10 +75,10 @@ order_names_last vars order names some =
     let there = Contains-permutation (range_with_len 1 vars) order vars names listed in
     (there.0, get_or_default order there.0 0 vars there.1 ∙ there.2)
 
-module _ (system : Inequalities) (order : List ℕ) (k : ℕ) (log : List Derivation) (level : List Held) (reached : IsReached system order k log level) (none : All (λ h. IsEmpty h.row → ⊥) level) where
+module _ (system : Inequalities) (order : List ℕ) (k : ℕ) (log : List Derivation) (level : Level) (reached : IsReached system order k log level) (none : All (λ h. IsEmpty h.row → ⊥) level.rows.items) where
   -- no row of this level is without coefficients
   none_derived : (row : Row) → IsDerived system order k row → IsEmpty row → ⊥
-  none_derived row derived = All-contains (λ r. IsEmpty r → ⊥) (rows_of level) row (All-map (λ r. IsEmpty r → ⊥) (λ (h : Held). h.row) level none) (reached.exact.has row derived)
+  none_derived row derived = All-contains (λ r. IsEmpty r → ⊥) (rows_of level.rows.items) row (All-map (λ r. IsEmpty r → ⊥) (λ (h : Held). h.row) level.rows.items none) (reached.exact.has row derived)
 
   pub clear_here : IsClearTo system order k
   clear_here j row lt derived = by_lt {P = IsEmpty row → ⊥} j k
@@ -96,45 +90,44 @@ module _ (system : Inequalities) (order : List ℕ) (k : ℕ) (log : List Deriva
   passed_here = record { clear = clear_here; few = reached.few; narrow = reached.narrow }
 
   -- no pair of this level is wide, where none of the list is
-  no_wide_pair : (v : ℕ) → v ≡ slice_index order k → AreNowhereWide system.vars v (rows_of level) → HasNoWidePair system order k
+  no_wide_pair : (v : ℕ) → v ≡ slice_index order k → AreNowhereWide system.vars v (rows_of level.rows.items) → HasNoWidePair system order k
   no_wide_pair v is narrow upper lower p = narrow upper lower p.m p.n (reached.exact.has upper p.has_upper) (reached.exact.has lower p.has_lower) (subst (λ i. IsPair i upper lower p.m p.n) (sym is) p.pair) p.wide
 
   -- nor do two clash, where none of the list do
-  pub free_here : (number : ℕ) → number ≡ k + 1 → IsFreeOfClashes (λ r. Contains (rows_of level) r) → IsFreeOfClashes (IsDerived system order (number - 1))
+  pub free_here : (number : ℕ) → number ≡ k + 1 → IsFreeOfClashes (λ r. Contains (rows_of level.rows.items) r) → IsFreeOfClashes (IsDerived system order (number - 1))
   free_here number e free upper lower hu hl =
       let place : number - 1 ≡ k = omega arith in
       free upper lower (reached.exact.has upper (subst (λ i. IsDerived system order i upper) place hu)) (reached.exact.has lower (subst (λ i. IsDerived system order i lower) place hl))
 
-  full : AreFull system.vars (rows_of level)
-  full = All-map (λ r. length r.coefs ≡ system.vars) (λ (h : Held). h.row) level (All-weaker (IsHeld system log) (λ h. length h.row.coefs ≡ system.vars) (λ h held. held.suited.full) level reached.held)
+  full : AreFull system.vars (rows_of level.rows.items)
+  full = All-map (λ r. length r.coefs ≡ system.vars) (λ (h : Held). h.row) level.rows.items (All-weaker (IsHeld system log) (λ h. length h.row.coefs ≡ system.vars) (λ h held. held.suited.full) level.rows.items reached.held)
 
   -- the next level
-  pub reached_next : (v : ℕ) (more : List Derivation) (next : List Held) → v ≡ slice_index order k → 1 ≤ v → v ≤ system.vars → IsNextLevel system v (rows_of level) more next → IsLog system more → IsReached system order (k + 1) more next
-  reached_next v more next is low high made good =
-      let formed' = subst (λ i. IsFormed (IsRaw i (Contains (rows_of level))) (rows_of next)) is made.formed in
+  pub reached_next : (v : ℕ) (more : List Derivation) (next : Level) → v ≡ slice_index order k → 1 ≤ v → v ≤ system.vars → IsNextLevel system v (rows_of level.rows.items) more next.rows.items → IsTable (rows_of next.rows.items) next.chains.links.items next.chains.latest.items → IsLog system more → IsReached system order (k + 1) more next
+  reached_next v more next is low high made table good =
+      let formed' = subst (λ i. IsFormed (IsRaw i (Contains (rows_of level.rows.items))) (rows_of next.rows.items)) is made.formed in
       let e : suc k ≡ k + 1 = omega arith in
-      let exact' : IsExact (IsDerived system order (k + 1)) (rows_of next) = subst (λ i. IsExact (IsDerived system order i) (rows_of next)) e (IsExact-next system order k (rows_of level) (rows_of next) reached.exact formed') in
+      let exact' : IsExact (IsDerived system order (k + 1)) (rows_of next.rows.items) = subst (λ i. IsExact (IsDerived system order i) (rows_of next.rows.items)) e (IsExact-next system order k (rows_of level.rows.items) (rows_of next.rows.items) reached.exact formed') in
       record {
         steps = good;
         held = made.held;
         exact = exact';
-        rid = IsRid-next order k system.vars (rows_of level) (rows_of next) full reached.rid formed';
+        rid = IsRid-next order k system.vars (rows_of level.rows.items) (rows_of next.rows.items) full reached.rid formed';
         clear = λ j row lt. clear_here j row (omega arith);
         few = λ j low high more. by_lt {P = ⊥} j (k + 1)
             (λ early. reached.few j low (omega arith) more)
             (λ here. let at : j ≡ k + 1 = omega arith in
-            let all = All-weaker (IsDerived system order j) (Contains (rows_of next)) (λ r d. exact'.has r (subst (λ i. IsDerived system order i r) at d)) more.0 more.3 in
-            omega (arith, more.1, at_most more.0 (rows_of next) more.2 all, length-map next (λ (h : Held). h.row), made.few));
+            let all = All-weaker (IsDerived system order j) (Contains (rows_of next.rows.items)) (λ r d. exact'.has r (subst (λ i. IsDerived system order i r) at d)) more.0 more.3 in
+            omega (arith, more.1, at_most more.0 (rows_of next.rows.items) more.2 all, length-map next.rows.items (λ (h : Held). h.row), made.few));
         narrow = λ j lt. by_lt {P = HasNoWidePair system order j} j k (reached.narrow j)
             (λ here. let at : k ≡ j = omega arith in subst (HasNoWidePair system order) at (no_wide_pair v is made.narrow));
-        useful = from_rows (λ r. IsEmpty r → r.bound <ℤ pos 0) next made.formed.useful;
-        ascending = pairs_from_rows (λ r s. IsUpto r.coefs s.coefs) next made.formed.ascending;
-        distinct = pairs_from_rows (λ r s. r.coefs ≡ s.coefs → ⊥) next made.formed.distinct;
-        back = λ s. reached.back (solvable_before v system.vars (rows_of level) (rows_of next) low high full made.formed s);
+        useful = from_rows (λ r. IsEmpty r → r.bound <ℤ pos 0) next.rows.items made.formed.useful;
+        table = table;
+        back = λ s. reached.back (solvable_before v system.vars (rows_of level.rows.items) (rows_of next.rows.items) low high full made.formed s);
       }
 
   -- two rows with a wide combination
-  pub wide_here : (v number : ℕ) (upper lower : Row) → v ≡ slice_index order k → number ≡ k + 1 → k < system.vars → Contains (rows_of level) upper → Contains (rows_of level) lower → ((m : ℤ) × (n : ℤ) × IsPair v upper lower m n × IsWide system.vars m upper n lower) → IsWideAt system order number upper lower
+  pub wide_here : (v number : ℕ) (upper lower : Row) → v ≡ slice_index order k → number ≡ k + 1 → k < system.vars → Contains (rows_of level.rows.items) upper → Contains (rows_of level.rows.items) lower → ((m : ℤ) × (n : ℤ) × IsPair v upper lower m n × IsWide system.vars m upper n lower) → IsWideAt system order number upper lower
   wide_here v number upper lower is e within has_upper has_lower pair =
       let place : k ≡ number - 1 = omega arith in
       record {
@@ -152,16 +145,16 @@ module _ (system : Inequalities) (order : List ℕ) (k : ℕ) (log : List Deriva
       }
 
   -- too many rows
-  pub many_here : (v number count : ℕ) → v ≡ slice_index order k → number ≡ k + 1 → k < system.vars → count ≡ 20001 → HasMoreThan 20000 (IsLevelRow (IsRaw v (Contains (rows_of level)))) → AreNowhereWide system.vars v (rows_of level) → IsManyAt system order number count
+  pub many_here : (v number count : ℕ) → v ≡ slice_index order k → number ≡ k + 1 → k < system.vars → count ≡ 20001 → HasMoreThan 20000 (IsLevelRow (IsRaw v (Contains (rows_of level.rows.items)))) → AreNowhereWide system.vars v (rows_of level.rows.items) → IsManyAt system order number count
   many_here v number count is e within counted more narrow =
       let place : k ≡ number - 1 = omega arith in
       let next : suc k ≡ number = omega arith in
       let w = slice_index order k in
-      let here : Row → Type 0 = IsRaw w (Contains (rows_of level)) in
+      let here : Row → Type 0 = IsRaw w (Contains (rows_of level.rows.items)) in
       let there : Row → Type 0 = IsRaw w (λ r. IsDerived system order k r) in
-      let forth : (r : Row) → here r → there r = raw_of_other w (Contains (rows_of level)) (λ r. IsDerived system order k r) reached.exact.only in
-      let back : (r : Row) → there r → here r = raw_of_other w (λ r. IsDerived system order k r) (Contains (rows_of level)) reached.exact.has in
-      let more' : HasMoreThan 20000 (IsLevelRow here) = subst (λ i. HasMoreThan 20000 (IsLevelRow (IsRaw i (Contains (rows_of level))))) is more in
+      let forth : (r : Row) → here r → there r = raw_of_other w (Contains (rows_of level.rows.items)) (λ r. IsDerived system order k r) reached.exact.only in
+      let back : (r : Row) → there r → here r = raw_of_other w (λ r. IsDerived system order k r) (Contains (rows_of level.rows.items)) reached.exact.has in
+      let more' : HasMoreThan 20000 (IsLevelRow here) = subst (λ i. HasMoreThan 20000 (IsLevelRow (IsRaw i (Contains (rows_of level.rows.items))))) is more in
       record {
         low = omega arith;
         high = omega arith;
@@ -174,11 +167,11 @@ module _ (system : Inequalities) (order : List ℕ) (k : ℕ) (log : List Deriva
   -- after the last level nothing is left, and the system has a solution
   solved_here : NamesEachOnce system.vars order → k ≡ length order → HasRationalSolution system
   solved_here names last =
-      let nothing : (r : Row) → Contains (rows_of level) r → ⊥ = λ r there.
-      let rid = All-contains (λ r. (j : ℕ) → j < k → coef_of (slice_index order j) r ≡ pos 0) (rows_of level) r reached.rid there in
-      let empty = empty_from_rid order system.vars r names (All-contains (λ r. length r.coefs ≡ system.vars) (rows_of level) r full there) (λ j lt. rid j (omega arith)) in
-      All-contains (λ r. IsEmpty r → ⊥) (rows_of level) r (All-map (λ r. IsEmpty r → ⊥) (λ (h : Held). h.row) level none) there empty in
-      let s = reached.back (solvable_nothing system.vars (rows_of level) nothing) in
+      let nothing : (r : Row) → Contains (rows_of level.rows.items) r → ⊥ = λ r there.
+      let rid = All-contains (λ r. (j : ℕ) → j < k → coef_of (slice_index order j) r ≡ pos 0) (rows_of level.rows.items) r reached.rid there in
+      let empty = empty_from_rid order system.vars r names (All-contains (λ r. length r.coefs ≡ system.vars) (rows_of level.rows.items) r full there) (λ j lt. rid j (omega arith)) in
+      All-contains (λ r. IsEmpty r → ⊥) (rows_of level.rows.items) r (All-map (λ r. IsEmpty r → ⊥) (λ (h : Held). h.row) level.rows.items none) there empty in
+      let s = reached.back (solvable_nothing system.vars (rows_of level.rows.items) nothing) in
       (s.x, s.d, record { values = s.values; divisor = s.divisor; rows = s.holds })
 
   pub open_here : NamesEachOnce system.vars order → k ≡ length order → IsOpen system order

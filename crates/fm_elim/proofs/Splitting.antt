@@ -1,17 +1,21 @@
 -- The rows of a level by the sign of a variable's coefficient.
-use Rattle.std.proofs.Common.{◌≡◌, ℕ, zero, suc, ◌-◌, ◌≤◌, ◌<◌, ℤ, pos, ◌<ℤ◌, Bool, true, false, cond, List, [], ◌∷◌, length, get_or, refl, ap, sym, ◌∙◌, subst, arith}
+use Rattle.std.proofs.Common.{◌≡◌, ℕ, zero, suc, ◌-◌, ◌≤◌, ◌<◌, ℤ, pos, ◌<ℤ◌, Bool, true, false, cond, List, [], ◌∷◌, ◌++◌, map, length, get_or, refl, ap, sym, ◌∙◌, subst, arith}
 use Rattle.std.specs.Prelude.{int_lt}
 use Rattle.std.specs.Ordering.{int_eq}
 use Rattle.std.specs.List.{All, Contains, filter}
 use lib.Dec.{T}
 use Rattle.std.proofs.lemmas.Bool.Decides.{Decides-int_eq}
 use Rattle.std.proofs.lemmas.List.Elements.{All-filter, All-contains, All-contains_itself, Contains-get_or, Contains-append_right, filter_passes}
+use Rattle.std.proofs.lemmas.List.{map-append, append-nil}
+use Rattle.std.proofs.lemmas.List.Elements.{All-push}
+use Rattle.farkas_cert.specs.declared.system.Row.{Row}
 use Rattle.farkas_cert.specs.Inequalities.{Inequalities}
+use Rattle.fm_elim.specs.declared.level.Candidate.{Candidate}
 use Rattle.fm_elim.specs.declared.derivation.Derivation.{Derivation}
 use Rattle.fm_elim.specs.declared.level.Held.{Held}
 use Rattle.fm_elim.specs.Pairs.{coef_of}
-use Rattle.fm_elim.specs.Logs.{IsHeld}
-use Rattle.fm_elim.specs.Gathering.{IsOpposed}
+use Rattle.fm_elim.specs.Logs.{IsHeld, rows_among}
+use Rattle.fm_elim.specs.Gathering.{IsOpposed, candidate_of, apart_of, IsSplit}
 
 -- an element that passes is in the filtered list
 pub Contains-filter : {X : Type 0} (test : X → Bool) (xs : List X) (x : X) → Contains xs x → test x ≡ true → Contains (filter test xs) x
@@ -34,6 +38,11 @@ pub filter_has : {X : Type 0} (test : X → Bool) (xs : List X) (x : X) → Cont
 filter_has {X} test xs x h =
     (All-contains (Contains xs) (filter test xs) x (All-filter test (Contains xs) xs (All-contains_itself xs)) h, All-contains (λ y. test y ≡ true) (filter test xs) x (filter_passes test xs) h)
 
+-- what holds of the rows so far and of one more holds where that one was kept, or left out
+pub All-kept : (P : Row → Type 0) (old : List Candidate) (held : Held) (test : Bool) → All P (rows_among old) → P held.row → All P (rows_among (old ++ map candidate_of (cond test (held ∷ []) [])))
+All-kept P old held true all here = subst (All P) (sym (map-append (λ (c : Candidate). c.row) old (candidate_of held ∷ []))) (All-push P (rows_among old) held.row all here)
+All-kept P old held false all here = subst (λ cs. All P (rows_among cs)) (sym (append-nil old)) all
+
 true_from_T : (b : Bool) → T b → b ≡ true
 true_from_T true t = refl
 true_from_T false t = absurd t
@@ -44,20 +53,14 @@ int_lt-true a b h = record { lt = subst T (sym h) tt }
 pub true-int_lt : (a b : ℤ) → a <ℤ b → int_lt a b ≡ true
 true-int_lt a b h = true_from_T (int_lt a b) h.lt
 
--- the three lists of a level
-pub record IsSplit (v : ℕ) (level apart uppers lowers : List Held) : Type 0 where
-  pub apart_from : apart ≡ filter (λ h. int_eq (coef_of v h.row) (pos 0)) level
-  pub uppers_from : uppers ≡ filter (λ h. int_lt (pos 0) (coef_of v h.row)) level
-  pub lowers_from : lowers ≡ filter (λ h. int_lt (coef_of v h.row) (pos 0)) level
-
-module _ (v : ℕ) (level apart uppers lowers : List Held) (split : IsSplit v level apart uppers lowers) where
-  pub apart_has : (h : Held) → Contains apart h → Contains level h × (coef_of v h.row ≡ pos 0)
+module _ (v : ℕ) (level uppers lowers : List Held) (split : IsSplit v level uppers lowers) where
+  pub apart_has : (h : Held) → Contains (apart_of v level) h → Contains level h × (coef_of v h.row ≡ pos 0)
   apart_has h there =
-      let found = filter_has (λ (h : Held). int_eq (coef_of v h.row) (pos 0)) level h (subst (λ hs. Contains hs h) split.apart_from there) in
+      let found = filter_has (λ (h : Held). int_eq (coef_of v h.row) (pos 0)) level h there in
       (found.0, (Decides-int_eq (coef_of v h.row) (pos 0)).0 found.1)
 
-  pub has_apart : (h : Held) → Contains level h → coef_of v h.row ≡ pos 0 → Contains apart h
-  has_apart h there e = subst (λ hs. Contains hs h) (sym split.apart_from) (Contains-filter (λ (h : Held). int_eq (coef_of v h.row) (pos 0)) level h there ((Decides-int_eq (coef_of v h.row) (pos 0)).1 e))
+  pub has_apart : (h : Held) → Contains level h → coef_of v h.row ≡ pos 0 → Contains (apart_of v level) h
+  has_apart h there e = Contains-filter (λ (h : Held). int_eq (coef_of v h.row) (pos 0)) level h there ((Decides-int_eq (coef_of v h.row) (pos 0)).1 e)
 
   pub uppers_have : (h : Held) → Contains uppers h → Contains level h × (pos 0 <ℤ coef_of v h.row)
   uppers_have h there =

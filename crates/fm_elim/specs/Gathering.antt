@@ -1,6 +1,7 @@
 -- Candidates of the next level: where they come from, and what they cover.
-use Rattle.std.specs.Prelude.{ℕ, ◌≤◌, ◌<◌, ℤ, pos, ◌<ℤ◌, unsigned_abs, IsTrue, List, [], map, length, ◌⊎◌, ◌≡◌}
-use Rattle.std.specs.List.{All, AllPairs, Contains}
+use Rattle.std.specs.Prelude.{ℕ, ◌≤◌, ◌<◌, ℤ, pos, ◌<ℤ◌, int_lt, unsigned_abs, IsTrue, List, [], map, length, ◌⊎◌, ◌≡◌}
+use Rattle.std.specs.List.{All, AllPairs, Contains, filter}
+use Rattle.std.specs.Ordering.{int_eq}
 use Rattle.farkas_cert.specs.declared.system.Row.{Row}
 use Rattle.farkas_cert.specs.Inequalities.{Inequalities}
 use Rattle.farkas_cert.specs.Combination.{is_narrow}
@@ -59,6 +60,15 @@ pub record IsMade (variable : ℕ) (upper lower : Held) (candidate : Candidate) 
 abbrev pub candidate_of : Held → Candidate
 candidate_of held = record { row = held.row; origin = Numbered held.number }
 
+-- the rows of a level without the variable
+abbrev pub apart_of : ℕ → List Held → List Held
+apart_of variable level = filter (λ h. int_eq (coef_of variable h.row) (pos 0)) level
+
+-- the rows that bound the variable from above, and those that bound it from below
+pub record IsSplit (variable : ℕ) (level uppers lowers : List Held) : Type 0 where
+  pub uppers_from : uppers ≡ filter (λ h. int_lt (pos 0) (coef_of variable h.row)) level
+  pub lowers_from : lowers ≡ filter (λ h. int_lt (coef_of variable h.row) (pos 0)) level
+
 -- the rows have what the pair makes
 abbrev pub CoversPair : ℕ → List Row → Row → Row → Type 0
 CoversPair variable rows upper lower = (raw : Row) → IsPaired variable upper lower raw → (row : Row) × IsReduced raw row × Covers rows row
@@ -69,11 +79,6 @@ pub record HasApart (limit : ℕ) (set : Candidate → Type 0) : Type 0 where
   pub many : limit < length kept
   pub all : All set kept
   pub apart : AllPairs (λ a b. a.row.coefs ≡ b.row.coefs → ⊥) kept
-
--- some candidates were left out, and the others still cover what all did
-pub record IsThinned (old new : List Candidate) : Type 0 where
-  pub subset : All (Contains old) new
-  pub keeps : (row : Row) → Covers (rows_among old) row → Covers (rows_among new) row
 
 -- an old candidate, or made of the upper row and one of the lower ones
 abbrev pub IsJoint : ℕ → Held → List Held → List Candidate → Candidate → Type 0

@@ -7,3 +7,5 @@ pub mod Gathering
 pub mod Next
 pub mod Answers
 pub mod Lean
+pub mod Chains
+pub mod Table

@@ -10,6 +10,7 @@ use Rattle.fm_elim.specs.declared.level.Formed.TheVariants.{Level, Wide, Many}
 use Rattle.fm_elim.specs.Pairs.{IsPair, IsWide}
 use Rattle.fm_elim.specs.Levels.{IsLevelRow, IsRaw, HasMoreThan}
 use Rattle.fm_elim.specs.Forming.{IsFormed}
+use Rattle.fm_elim.specs.Table.{IsTable}
 use Rattle.fm_elim.specs.Logs.{IsHeld, rows_of}
 
 -- no two of the rows have a wide combination
@@ -25,6 +26,6 @@ pub record IsNextLevel (system : Inequalities) (v : ℕ) (rows : List Row) (log 
 
 -- what forming the level that removes a variable from these rows comes to
 abbrev pub IsNext : Inequalities → ℕ → List Row → List Derivation → Formed → Type 0
-IsNext system v rows log (Level next) = IsNextLevel system v rows log next.items
+IsNext system v rows log (Level next) = IsNextLevel system v rows log next.rows.items × IsTable (rows_of next.rows.items) next.chains.links.items next.chains.latest.items
 IsNext system v rows log (Wide upper lower) = Contains rows upper × Contains rows lower × ((m : ℤ) × (n : ℤ) × IsPair v upper lower m n × IsWide system.vars m upper n lower)
 IsNext system v rows log Many = HasMoreThan 20000 (IsLevelRow (IsRaw v (Contains rows))) × AreNowhereWide system.vars v rows

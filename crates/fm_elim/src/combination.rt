@@ -8,8 +8,8 @@ ghost use Rattle.farkas_cert.specs.Combination.{is_narrow as narrow, stays_narro
 ghost use Rattle.fm_elim.specs.Pairs.{combination as combination_of, IsWide, IsNarrow};
 
 use crate::reduction::greatest_common_divisor;
-use farkas_cert::{Coefs, Row};
-use std::alloc::{AllocError, Global};
+use farkas_cert::Row;
+use std::alloc::AllocError;
 
 /// The largest size of a product or a sum, 2 ^ 126.
 const LIMIT: u128 = 1 << 126;
@@ -107,19 +107,25 @@ fn narrow_weighted_sum(m: i128, a: i128, n: i128, b: i128) -> i128
     m * a + n * b
 }
 
-/// m times the first row and n times the other, where no product and no sum passes 2 ^ 126 in size.
-/// An error says that memory ran out.
+/// Makes the coefficients of m times the first row and n times the other, where no product and no sum
+/// passes 2 ^ 126 in size, and gives the bound. An error says that memory ran out.
 #[inline(always)]
-pub fn combine(alloc: Global, m: i128, upper: &Row, n: i128, lower: &Row) -> Result<Row, AllocError>
+pub fn combine(
+    m: i128,
+    upper: &Row,
+    n: i128,
+    lower: &Row,
+    coefs: &mut Vec<i128>,
+) -> Result<i128, AllocError>
     requires same { length lower.now.coefs ≡ length upper.now.coefs }
     requires narrow { IsNarrow (length upper.now.coefs) m upper.now n lower.now }
-    ensures { IfOk result (λ row. row ≡ combination_of m upper.now n lower.now) }
+    ensures { IfOk result (λ bound. (record { coefs = coefs.new.items; bound = bound }) ≡ combination_of m upper.now n lower.now) }
 {
     let others = lower.coefs.as_slice();
-    let mut coefs = Coefs::with_capacity(alloc, others.len())?;
+    coefs.clear();
     for (k, coef) in upper.coefs.as_slice().iter().enumerate() {
         coefs.push(narrow_weighted_sum(m, *coef, n, others[k]))?;
     }
     let bound = narrow_weighted_sum(m, upper.bound, n, lower.bound);
-    Ok(Row { coefs, bound })
+    Ok(bound)
 }

@@ -1,4 +1,4 @@
-// Worked decisions, each answer as a text. A level is in the order of its coefficients, so the rows below 0 come first.
+// Worked decisions, each answer as a text. A level begins with the rows that it keeps, and the given ones are in their order.
 
 ghost use Rattle.std.specs.Prelude.{◌≡◌, ◌↔◌, IfOk, IsTrue, [], ◌∷◌};
 ghost use Rattle.std.specs.List.{range_with_len};
@@ -121,7 +121,7 @@ fn rounding_refutes(rt: HostRuntime) -> Result<(), Fail> {
     assert_eq!(rt; told(alloc, 1, &[(&[1], 1), (&[-1], -1)])?.as_str(), "open");
     assert_eq!(rt;
         told(alloc, 1, &[(&[2], 1), (&[-2], -1)])?.as_str(),
-        "infeasible, good true, 2 2*1, 2 1*1, 1 3*1 4*1"
+        "infeasible, good true, 2 1*1, 2 2*1, 1 3*1 4*1"
     );
     Ok(())
 }
@@ -131,7 +131,7 @@ fn rounding_refutes(rt: HostRuntime) -> Result<(), Fail> {
 fn the_least_bound_counts(rt: HostRuntime) -> Result<(), Fail> {
     assert_eq!(rt;
         told(rt.alloc(), 1, &[(&[1], 5), (&[1], 3), (&[-1], -4)])?.as_str(),
-        "infeasible, good true, 1 3*1 2*1"
+        "infeasible, good true, 1 2*1 3*1"
     );
     Ok(())
 }

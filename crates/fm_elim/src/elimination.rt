@@ -1,14 +1,12 @@
 // Elimination, level by level.
 
-ghost use Rattle.std.specs.Prelude.{◌≡◌, ◌↔◌, ◌<◌, ◌-◌, ℤ, pos, neg_ℤ, ◌+ℤ◌, ◌<ℤ◌, IsTrue, IfOk, IfNone, IfSome, MatchOption, List, map, length};
-ghost use Rattle.std.specs.List.{All, AllPairs, Contains};
-ghost use Rattle.std.specs.Cmp.Lexicographic.{slice_cmp};
-ghost use Rattle.std.specs.Ordering.{int_cmp};
-ghost use Rattle.farkas_cert.specs.Combination.{is_narrow as narrow};
+ghost use Rattle.std.specs.Prelude.{◌≡◌, ◌↔◌, ◌<◌, ◌-◌, ℤ, pos, neg_ℤ, ◌+ℤ◌, ◌<ℤ◌, IsTrue, IfOk, IfNone, IfSome, MatchOption, List, map, length, slice_index_or};
+ghost use Rattle.std.specs.List.{All, Contains};
+ghost use Rattle.farkas_cert.specs.Combination.{is_narrow as narrow, no_row};
 ghost use Rattle.farkas_cert.specs.Good.{IsGood};
 ghost use Rattle.fm_elim.specs.declared.level.Held.{Held as HeldRow};
 ghost use Rattle.fm_elim.specs.Levels.{IsEmpty, IsDerived};
-ghost use Rattle.fm_elim.specs.Forming.{IsUpto};
+ghost use Rattle.fm_elim.specs.Table.{IsTable};
 ghost use Rattle.fm_elim.specs.Logs.{IsLog, IsHeld, rows_of};
 ghost use Rattle.fm_elim.specs.Lean.{IsLean};
 ghost use Rattle.fm_elim.specs.Answers.{NamesEachOnce, AreNarrow, IsDecided, IfInfeasible, IfWide, IfMany, AreClashing, IsFreeOfClashes};
@@ -17,10 +15,9 @@ use crate::answer::{Answer, NoMemory};
 use crate::certificate::certificate_of;
 use crate::combination::narrow_sum;
 use crate::derivation::{Derivation, derive};
-use crate::level::{Formed, Held, MOST_ROWS, first_level, is_empty, next_level};
-use farkas_cert::{Certificate, System};
+use crate::level::{Formed, Held, Level, MOST_ROWS, first_level, is_empty, next_level};
+use farkas_cert::{Certificate, Row, System};
 use std::alloc::{AllocError, Global};
-use std::cmp::Ordering;
 
 // The number of a row without coefficients.
 fn contradiction(level: &[Held]) -> Option<u64>
@@ -34,19 +31,18 @@ fn contradiction(level: &[Held]) -> Option<u64>
     None
 }
 
-// Compares the negated numbers with the others.
-fn compare_negated(numbers: &[i128], others: &[i128]) -> Ordering
+// Whether the others are the numbers, each with the other sign.
+fn are_opposite(numbers: &[i128], others: &[i128]) -> bool
     requires narrow { All (λ a. IsTrue (narrow a)) numbers.now }
-    requires same { length numbers.now ≡ length others.now }
-    ensures { result ≡ slice_cmp int_cmp (map neg_ℤ numbers.now) others.now }
+    requires same { length others.now ≡ length numbers.now }
+    ensures { IsTrue result ↔ (others.now ≡ map neg_ℤ numbers.now) }
 {
     for (k, number) in numbers.iter().enumerate() {
-        let order = (-*number).cmp(&others[k]);
-        if order != Ordering::Equal {
-            return order;
+        if -*number != others[k] {
+            return false;
         }
     }
-    Ordering::Equal
+    true
 }
 
 // The bounds of two opposite rows add to less than 0, and within the limit.
@@ -59,30 +55,49 @@ fn bounds_clash(bound: i128, other: i128) -> bool
     }
 }
 
-// Two rows that are each other's opposites but for the bound, and whose bounds add to less than 0.
-// The level is in the order of the coefficients, so two ends walk inward.
-fn clash(level: &[Held]) -> Option<(u64, u64)>
-    requires full { (h : HeldRow) (o : HeldRow) → Contains level.now h → Contains level.now o → length h.row.coefs ≡ length o.row.coefs }
-    requires narrow { All (λ h. All (λ a. IsTrue (narrow a)) h.row.coefs) level.now }
-    requires ascending { AllPairs (λ h o. IsUpto h.row.coefs o.row.coefs) level.now }
-    requires distinct { AllPairs (λ h o. h.row.coefs ≡ o.row.coefs → ⊥) level.now }
-    ensures found { IfSome result (λ p. (upper : HeldRow) × (lower : HeldRow) × Contains level.now upper × Contains level.now lower × (upper.number ≡ p.0) × (lower.number ≡ p.1) × AreClashing upper.row lower.row) }
-    ensures none { IfNone result (IsFreeOfClashes (λ r. Contains (rows_of level.now) r)) }
+// Whether the rows are each other's opposites but for the bounds, which add to less than 0.
+fn are_clashing(upper: &Row, lower: &Row) -> bool
+    requires narrow { All (λ a. IsTrue (narrow a)) upper.now.coefs }
+    requires same { length lower.now.coefs ≡ length upper.now.coefs }
+    ensures { IsTrue result ↔ AreClashing upper.now lower.now }
 {
-    let mut low = 0;
-    let mut high = level.len();
-    while low < high {
-        let first = &level[low];
-        let last = &level[high - 1];
-        match compare_negated(first.row.coefs.as_slice(), last.row.coefs.as_slice()) {
-            Ordering::Greater => low += 1,
-            Ordering::Less => high -= 1,
-            Ordering::Equal => {
-                if bounds_clash(first.row.bound, last.row.bound) {
-                    return Some((first.number, last.number));
-                }
-                low += 1;
-            }
+    bounds_clash(upper.bound, lower.bound)
+        && are_opposite(upper.coefs.as_slice(), lower.coefs.as_slice())
+}
+
+// The number, from 0, of a row with which the row of this number clashes.
+fn opponent(level: &Level, number: usize) -> Option<usize>
+    requires number { number < length level.now.rows.items }
+    requires full { (h : HeldRow) (o : HeldRow) → Contains level.now.rows.items h → Contains level.now.rows.items o → length h.row.coefs ≡ length o.row.coefs }
+    requires narrow { All (λ h. All (λ a. IsTrue (narrow a)) h.row.coefs) level.now.rows.items }
+    requires table { IsTable (rows_of level.now.rows.items) level.now.chains.links.items level.now.chains.latest.items }
+    ensures { MatchOption result (All (λ r. AreClashing (slice_index_or (rows_of level.now.rows.items) number no_row) r → ⊥) (rows_of level.now.rows.items))
+        (λ k. (k < length level.now.rows.items) × AreClashing (slice_index_or (rows_of level.now.rows.items) number no_row) (slice_index_or (rows_of level.now.rows.items) k no_row)) }
+{
+    let hash = level.chains.links[number].opposite;
+    let row = &level.rows[number].row;
+    let mut end = level.chains.last(hash);
+    while end > 0 {
+        let link = level.chains.links[end - 1];
+        if link.hash == hash && are_clashing(row, &level.rows[end - 1].row) {
+            return Some(end - 1);
+        }
+        end = link.earlier;
+    }
+    None
+}
+
+// Two rows that are each other's opposites but for the bound, and whose bounds add to less than 0.
+fn clash(level: &Level) -> Option<(u64, u64)>
+    requires full { (h : HeldRow) (o : HeldRow) → Contains level.now.rows.items h → Contains level.now.rows.items o → length h.row.coefs ≡ length o.row.coefs }
+    requires narrow { All (λ h. All (λ a. IsTrue (narrow a)) h.row.coefs) level.now.rows.items }
+    requires table { IsTable (rows_of level.now.rows.items) level.now.chains.links.items level.now.chains.latest.items }
+    ensures found { IfSome result (λ p. (upper : HeldRow) × (lower : HeldRow) × Contains level.now.rows.items upper × Contains level.now.rows.items lower × (upper.number ≡ p.0) × (lower.number ≡ p.1) × AreClashing upper.row lower.row) }
+    ensures none { IfNone result (IsFreeOfClashes (λ r. Contains (rows_of level.now.rows.items) r)) }
+{
+    for number in 0..level.rows.len() {
+        if let Some(other) = opponent(level, number) {
+            return Some((level.rows[number].number, level.rows[other].number));
         }
     }
     None
@@ -92,21 +107,20 @@ fn clash(level: &[Held]) -> Option<(u64, u64)>
 fn refutation(
     alloc: Global,
     system: &System,
-    level: &[Held],
+    level: &Level,
     log: &mut Vec<Derivation>,
 ) -> Result<Option<Certificate>, AllocError>
     requires log { IsLog system.now log.old.items }
-    requires held { All (IsHeld system.now log.old.items) level.now }
-    requires useful { All (λ h. IsEmpty h.row → h.row.bound <ℤ pos 0) level.now }
-    requires ascending { AllPairs (λ h o. IsUpto h.row.coefs o.row.coefs) level.now }
-    requires distinct { AllPairs (λ h o. h.row.coefs ≡ o.row.coefs → ⊥) level.now }
+    requires held { All (IsHeld system.now log.old.items) level.now.rows.items }
+    requires useful { All (λ h. IsEmpty h.row → h.row.bound <ℤ pos 0) level.now.rows.items }
+    requires table { IsTable (rows_of level.now.rows.items) level.now.chains.links.items level.now.chains.latest.items }
     ensures good { IfOk result (λ o. IfSome o (λ c. IsGood system.now c)) }
     ensures lean { IfOk result (λ o. IfSome o (λ c. IsLean system.now c)) }
-    ensures clear { IfOk result (λ o. IfNone o (All (λ h. IsEmpty h.row → ⊥) level.now)) }
-    ensures apart { IfOk result (λ o. IfNone o (IsFreeOfClashes (λ r. Contains (rows_of level.now) r))) }
+    ensures clear { IfOk result (λ o. IfNone o (All (λ h. IsEmpty h.row → ⊥) level.now.rows.items)) }
+    ensures apart { IfOk result (λ o. IfNone o (IsFreeOfClashes (λ r. Contains (rows_of level.now.rows.items) r))) }
     ensures log { IfOk result (λ o. IfNone o (log.new.items ≡ log.old.items)) }
 {
-    if let Some(number) = contradiction(level) {
+    if let Some(number) = contradiction(level.rows.as_slice()) {
         let certificate = certificate_of(alloc, system, log.as_slice(), number)?;
         return Ok(Some(certificate));
     }
@@ -143,7 +157,7 @@ pub fn decide(alloc: Global, system: &System, order: &[u32]) -> Result<Answer, N
     let mut log = Vec::with_capacity(alloc, system.rows().len())?;
     let mut level = first_level(alloc, system, &mut log)?;
     for (index, variable) in order.iter().enumerate() {
-        if let Some(certificate) = refutation(alloc, system, level.as_slice(), &mut log)? {
+        if let Some(certificate) = refutation(alloc, system, &level, &mut log)? {
             return Ok(Answer::Infeasible(certificate));
         }
         let number = index as u32 + 1;
@@ -164,7 +178,7 @@ pub fn decide(alloc: Global, system: &System, order: &[u32]) -> Result<Answer, N
             }
         }
     }
-    match refutation(alloc, system, level.as_slice(), &mut log)? {
+    match refutation(alloc, system, &level, &mut log)? {
         Some(certificate) => Ok(Answer::Infeasible(certificate)),
         None => Ok(Answer::Open),
     }

@@ -1,39 +1,56 @@
 // The candidates of the next level.
 
-ghost use Rattle.std.specs.Prelude.{◌≡◌, ◌≤◌, ℕ, pos, int_lt, IfOk, OnOk, MatchOption, List, [], ◌∷◌, ◌++◌, length};
+ghost use Rattle.std.specs.Prelude.{◌≡◌, ◌≤◌, ◌<◌, ℕ, neg_ℤ, pos, int_lt, IsTrue, IfOk, OnOk, MatchOption, List, [], ◌∷◌, ◌++◌, map, length};
+ghost use Rattle.std.specs.Bool.{MatchBool};
 ghost use Rattle.std.specs.List.{All, filter};
 ghost use Rattle.std.specs.Ordering.{int_eq};
-ghost use Rattle.fm_elim.specs.declared.level.Held.{Held};
+ghost use Rattle.farkas_cert.specs.Combination.{is_narrow as narrow};
+ghost use Rattle.fm_elim.specs.declared.level.Held.{Held as HeldRow};
 ghost use Rattle.fm_elim.specs.Pairs.{coef_of as coef};
-ghost use Rattle.fm_elim.specs.Gathering.{IsOpposed, IsNarrowPair, IsMade, HasApart, IsJoint, IsJoined, IsSource, IsGathered};
+ghost use Rattle.fm_elim.specs.Chains.{hash_of as hash_by};
+ghost use Rattle.fm_elim.specs.Table.{IsTable, candidate_with};
+ghost use Rattle.fm_elim.specs.Logs.{rows_of, rows_among};
+ghost use Rattle.fm_elim.specs.Gathering.{IsOpposed, IsNarrowPair, IsMade, HasApart, IsJoint, IsJoined, IsSource, IsGathered, candidate_of, apart_of, IsSplit};
 
-use crate::combination::{combine, multipliers};
+use crate::chains::{Chains, Link};
+use crate::combination::combine;
 use crate::derivation::Derivation;
-use crate::level::{Candidate, Held, Origin, add, coef_of};
-use crate::reduction::reduced;
-use crate::tighten::{Batch, thinned};
+use crate::level::{Candidate, Held, MOST_ROWS, Origin, coef_of};
+use crate::pairs::multipliers_of;
+use crate::reduction::reduce;
+use crate::table::{Table, places_for};
 use std::alloc::{AllocError, Global};
 
 /// The rows of a level by the sign of a variable's coefficient.
 #[derive(Drop)]
 pub struct BySign {
-    pub apart: Vec<Held>,
+    /// Those without it, which the next level has too.
+    pub apart: Table,
     pub uppers: Vec<Held>,
     pub lowers: Vec<Held>,
 }
 
 // Puts a row with the others of its sign.
 #[inline(always)]
-fn place(split: &mut BySign, held: Held, variable: u32) -> Result<(), AllocError>
+fn place(split: &mut BySign, held: Held, link: Link, variable: u32) -> Result<(), AllocError>
     requires from_one { 1 ≤ variable }
     requires known { variable ≤ length held.row.coefs }
-    ensures apart { OnOk result (split.new.apart.items ≡ split.old.apart.items ++ filter (λ h. int_eq (coef variable h.row) (pos 0)) (held ∷ [])) }
+    requires table { IsTable (rows_among split.old.apart.rows.items) split.old.apart.chains.links.items split.old.apart.chains.latest.items }
+    requires hash { link.hash ≡ hash_by held.row.coefs }
+    requires opposite { link.opposite ≡ hash_by (map neg_ℤ held.row.coefs) }
+    requires distinct { All (λ r. r.coefs ≡ held.row.coefs → ⊥) (rows_among split.old.apart.rows.items) }
+    ensures table { OnOk result (IsTable (rows_among split.new.apart.rows.items) split.new.apart.chains.links.items split.new.apart.chains.latest.items) }
+    ensures apart { OnOk result (split.new.apart.rows.items ≡ split.old.apart.rows.items ++ map candidate_of (filter (λ h. int_eq (coef variable h.row) (pos 0)) (held ∷ []))) }
     ensures uppers { OnOk result (split.new.uppers.items ≡ split.old.uppers.items ++ filter (λ h. int_lt (pos 0) (coef variable h.row)) (held ∷ [])) }
     ensures lowers { OnOk result (split.new.lowers.items ≡ split.old.lowers.items ++ filter (λ h. int_lt (coef variable h.row) (pos 0)) (held ∷ [])) }
 {
     let coef = coef_of(&held.row, variable);
     if coef == 0 {
-        split.apart.push(held)?;
+        let Held { row, number } = held;
+        let origin = Origin::Numbered(number);
+        split
+            .apart
+            .push(Candidate { row, origin }, link.hash, link.opposite)?;
     } else if coef > 0 {
         split.uppers.push(held)?;
     } else {
@@ -42,126 +59,134 @@ fn place(split: &mut BySign, held: Held, variable: u32) -> Result<(), AllocError
     Ok(())
 }
 
+// As many places as the next level of a level with so many rows wants, which has more than 20,000 rows in
+// no case that matters.
+fn places_after(rows: usize) -> usize
+    ensures { 0 < result }
+{
+    places_for(rows.saturating_mul(rows / 4 + 1).min(MOST_ROWS))
+}
+
 /// The rows without the variable, those that bound it from above, and those that bound it from below.
 /// An error says that memory ran out.
-pub fn split_by_sign(alloc: Global, level: Vec<Held>, variable: u32) -> Result<BySign, AllocError>
+pub fn split_by_sign(
+    alloc: Global,
+    level: Vec<Held>,
+    chains: &Chains,
+    variable: u32,
+) -> Result<BySign, AllocError>
     requires from_one { 1 ≤ variable }
     requires known { All (λ h. variable ≤ length h.row.coefs) level.items }
-    ensures apart { IfOk result (λ split. split.apart.items ≡ filter (λ h. int_eq (coef variable h.row) (pos 0)) level.items) }
-    ensures uppers { IfOk result (λ split. split.uppers.items ≡ filter (λ h. int_lt (pos 0) (coef variable h.row)) level.items) }
-    ensures lowers { IfOk result (λ split. split.lowers.items ≡ filter (λ h. int_lt (coef variable h.row) (pos 0)) level.items) }
+    requires table { IsTable (rows_of level.items) chains.now.links.items chains.now.latest.items }
+    ensures table { IfOk result (λ split. IsTable (rows_among split.apart.rows.items) split.apart.chains.links.items split.apart.chains.latest.items) }
+    ensures apart { IfOk result (λ split. split.apart.rows.items ≡ map candidate_of (apart_of variable level.items)) }
+    ensures split { IfOk result (λ split. IsSplit variable level.items split.uppers.items split.lowers.items) }
 {
     let mut split = BySign {
-        apart: Vec::with_capacity(alloc, level.len())?,
-        uppers: Vec::with_capacity(alloc, level.len())?,
-        lowers: Vec::with_capacity(alloc, level.len())?,
+        apart: Table::new(alloc, places_after(level.len()))?,
+        uppers: Vec::new(alloc),
+        lowers: Vec::new(alloc),
     };
+    let mut index = 0;
     for held in level {
-        place(&mut split, held, variable)?;
+        place(&mut split, held, chains.links[index], variable)?;
+        index += 1;
     }
     Ok(split)
 }
 
-// The least combination of a pair, reduced.
+// The least combination of a pair, reduced: its coefficients are made in place, and its bound is given.
 #[inline(always)]
-fn paired(alloc: Global, upper: &Held, lower: &Held, variable: u32) -> Result<Candidate, AllocError>
+fn paired(
+    upper: &Held,
+    lower: &Held,
+    variable: u32,
+    coefs: &mut Vec<i128>,
+) -> Result<(i128, Origin), AllocError>
     requires opposed { IsOpposed variable upper.now.row lower.now.row }
     requires narrow { IsNarrowPair variable upper.now.row lower.now.row }
-    ensures { IfOk result (λ candidate. IsMade variable upper.now lower.now candidate) }
+    ensures made { IfOk result (λ p. IsMade variable upper.now lower.now (candidate_with coefs.new.items p.0 p.1)) }
+    ensures narrow { OnOk result (All (λ a. IsTrue (narrow a)) coefs.new.items) }
 {
-    let (m, n) = multipliers(coef_of(&upper.row, variable), coef_of(&lower.row, variable));
-    let sum = combine(alloc, m, &upper.row, n, &lower.row)?;
-    let (row, divisor) = reduced(alloc, sum)?;
+    let (m, n) = multipliers_of(&upper.row, &lower.row, variable);
+    let sum = combine(m, &upper.row, n, &lower.row, coefs)?;
+    let (bound, divisor) = reduce(coefs, sum);
     let origin = Origin::Made(Derivation {
         divisor,
         first: (upper.number, m),
         second: Some((lower.number, n)),
     });
-    Ok(Candidate { row, origin })
+    Ok((bound, origin))
 }
 
-// Joins the candidate of a pair to the others, or is None where they come to too many.
+// Puts what a pair makes among the others.
 #[inline(always)]
-fn with_pair(
+fn join_pair(
     alloc: Global,
-    batch: Batch,
+    table: &mut Table,
+    coefs: &mut Vec<i128>,
     upper: &Held,
     lower: &Held,
     variable: u32,
-) -> Result<Option<Batch>, AllocError>
+) -> Result<(), AllocError>
+    requires table { IsTable (rows_among table.old.rows.items) table.old.chains.links.items table.old.chains.latest.items }
     requires opposed { IsOpposed variable upper.now.row lower.now.row }
     requires narrow { IsNarrowPair variable upper.now.row lower.now.row }
-    ensures { IfOk result (λ o. MatchOption o (HasApart 20000 (IsJoint variable upper.now (lower.now ∷ []) batch.candidates.items))
-        (λ joined. IsJoined variable upper.now (lower.now ∷ []) batch.candidates.items joined.candidates.items)) }
+    ensures table { OnOk result (IsTable (rows_among table.new.rows.items) table.new.chains.links.items table.new.chains.latest.items) }
+    ensures joined { OnOk result (IsJoined variable upper.now (lower.now ∷ []) table.old.rows.items table.new.rows.items) }
 {
-    let mut joined = batch;
-    let candidate = paired(alloc, upper, lower, variable)?;
-    add(&mut joined.candidates, candidate)?;
-    thinned(alloc, joined)
+    let (bound, origin) = paired(upper, lower, variable, coefs)?;
+    table.put(alloc, coefs.as_slice(), bound, origin)?;
+    Ok(())
 }
 
-// Joins the candidates of one upper row and each lower one to the others, or is None where they come to
-// too many.
-fn with_pairs(
+// Puts what one upper row and each lower one make among the others, and tells whether that was all: it
+// ends where there are too many rows.
+fn join_pairs(
     alloc: Global,
-    batch: Batch,
+    table: &mut Table,
+    coefs: &mut Vec<i128>,
     upper: &Held,
     lowers: &[Held],
     variable: u32,
-) -> Result<Option<Batch>, AllocError>
+) -> Result<bool, AllocError>
+    requires table { IsTable (rows_among table.old.rows.items) table.old.chains.links.items table.old.chains.latest.items }
     requires opposed { All (λ l. IsOpposed variable upper.now.row l.row) lowers.now }
     requires narrow { All (λ l. IsNarrowPair variable upper.now.row l.row) lowers.now }
-    ensures { IfOk result (λ o. MatchOption o (HasApart 20000 (IsJoint variable upper.now lowers.now batch.candidates.items))
-        (λ joined. IsJoined variable upper.now lowers.now batch.candidates.items joined.candidates.items)) }
+    ensures table { OnOk result (IsTable (rows_among table.new.rows.items) table.new.chains.links.items table.new.chains.latest.items) }
+    ensures joined { IfOk result (λ whole. MatchBool whole (IsJoined variable upper.now lowers.now table.old.rows.items table.new.rows.items)
+        (HasApart 20000 (IsJoint variable upper.now lowers.now table.old.rows.items))) }
 {
-    let mut joined = batch;
     for lower in lowers {
-        let Some(more) = with_pair(alloc, joined, upper, lower, variable)? else {
-            return Ok(None);
-        };
-        joined = more;
+        join_pair(alloc, table, coefs, upper, lower, variable)?;
+        if table.rows.len() > MOST_ROWS {
+            return Ok(false);
+        }
     }
-    Ok(Some(joined))
+    Ok(true)
 }
 
-// The rows without the variable, as candidates.
-fn carried(alloc: Global, apart: Vec<Held>) -> Result<Vec<Candidate>, AllocError>
-    ensures { (variable : ℕ) (lowers : List Held) → IfOk result (λ candidates. IsGathered variable apart.items [] lowers candidates.items) }
-{
-    let mut candidates = Vec::with_capacity(alloc, apart.len())?;
-    for held in apart {
-        let Held { row, number } = held;
-        add(
-            &mut candidates,
-            Candidate {
-                row,
-                origin: Origin::Numbered(number),
-            },
-        )?;
-    }
-    Ok(candidates)
-}
-
-/// The candidates of the next level, of which none that is needed was left out, or None where the level has
-/// too many rows. No pair is wide. An error says that memory ran out.
-pub fn gathered(
+/// Puts what each pair makes among the rows without the variable, and tells whether that was all: it ends
+/// where there are too many rows. No pair is wide. An error says that memory ran out.
+pub fn join_all(
     alloc: Global,
-    apart: Vec<Held>,
+    table: &mut Table,
     uppers: &[Held],
     lowers: &[Held],
     variable: u32,
-) -> Result<Option<Vec<Candidate>>, AllocError>
+) -> Result<bool, AllocError>
+    requires table { IsTable (rows_among table.old.rows.items) table.old.chains.links.items table.old.chains.latest.items }
     requires opposed { All (λ u. All (λ l. IsOpposed variable u.row l.row) lowers.now) uppers.now }
     requires narrow { All (λ u. All (λ l. IsNarrowPair variable u.row l.row) lowers.now) uppers.now }
-    ensures { IfOk result (λ o. MatchOption o (HasApart 20000 (IsSource variable apart.items uppers.now lowers.now))
-        (λ candidates. IsGathered variable apart.items uppers.now lowers.now candidates.items)) }
+    ensures table { OnOk result (IsTable (rows_among table.new.rows.items) table.new.chains.links.items table.new.chains.latest.items) }
+    ensures joined { IfOk result (λ whole. (apart : List HeldRow) → IsGathered variable apart [] lowers.now table.old.rows.items →
+        MatchBool whole (IsGathered variable apart uppers.now lowers.now table.new.rows.items) (HasApart 20000 (IsSource variable apart uppers.now lowers.now))) }
 {
-    let mut batch = Batch::new(carried(alloc, apart)?);
+    let mut coefs = Vec::new(alloc);
     for upper in uppers {
-        let Some(more) = with_pairs(alloc, batch, upper, lowers, variable)? else {
-            return Ok(None);
-        };
-        batch = more;
+        if !join_pairs(alloc, table, &mut coefs, upper, lowers, variable)? {
+            return Ok(false);
+        }
     }
-    Ok(Some(batch.candidates))
+    Ok(true)
 }

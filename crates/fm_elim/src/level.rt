@@ -8,17 +8,20 @@ ghost use Rattle.fm_elim.specs.declared.derivation.Derivation.{Derivation as Ste
 ghost use Rattle.fm_elim.specs.Reduction.{IsReduced};
 ghost use Rattle.fm_elim.specs.Pairs.{coef_of as coef};
 ghost use Rattle.fm_elim.specs.Levels.{IsEmpty};
-ghost use Rattle.fm_elim.specs.Forming.{IsAdded, IsFormed};
+ghost use Rattle.fm_elim.specs.Forming.{IsFormed};
 ghost use Rattle.fm_elim.specs.Logs.{all_rows, IsLog, IsContinued, IsNumber, IsSuited, IsFounded, IsHeld, rows_of, rows_among};
-ghost use Rattle.fm_elim.specs.Gathering.{AreGiven};
+ghost use Rattle.fm_elim.specs.declared.level.Candidate.{Candidate as CandidateOf};
+ghost use Rattle.fm_elim.specs.Gathering.{IsUseful, AreGiven};
+ghost use Rattle.fm_elim.specs.Table.{IsTable, IsPut, origin_of};
 ghost use Rattle.fm_elim.specs.Next.{IsNext};
 ghost use Rattle.fm_elim.specs.Answers.{AreNarrow};
 
+use crate::chains::Chains;
 use crate::derivation::Derivation;
-use crate::forming::{BySign, gathered, split_by_sign};
+use crate::forming::{BySign, join_all, split_by_sign};
 use crate::pairs::wide_pair;
-use crate::reduction::reduced;
-use crate::tighten::tightest;
+use crate::reduction::reduce;
+use crate::table::{Table, are_zero, places_for};
 use farkas_cert::{Coefs, Row, System};
 use std::alloc::{AllocError, Global};
 
@@ -46,11 +49,19 @@ pub struct Candidate {
     pub origin: Origin,
 }
 
+/// The rows of a level, no two with equal coefficients.
+#[derive(Drop)]
+pub struct Level {
+    pub rows: Vec<Held>,
+    /// Where they are found.
+    pub chains: Chains,
+}
+
 /// What forming a level comes to.
 #[derive(Drop)]
 pub enum Formed {
-    /// The rows of the level, by their coefficients.
-    Level(Vec<Held>),
+    /// The level.
+    Level(Level),
     /// Two rows of the level before, one that bounds the variable from above and one from below, whose
     /// least combination has a product or a sum past 2 ^ 126 in size.
     Wide(Row, Row),
@@ -72,7 +83,7 @@ pub fn coef_of(row: &Row, variable: u32) -> i128
 pub fn is_empty(row: &Row) -> bool
     ensures { IsTrue result ↔ IsEmpty row.now }
 {
-    row.coefs.as_slice().iter().all(|coef| *coef == 0)
+    are_zero(row.coefs.as_slice())
 }
 
 fn copy_of(alloc: Global, row: &Row) -> Result<Row, AllocError>
@@ -84,33 +95,43 @@ fn copy_of(alloc: Global, row: &Row) -> Result<Row, AllocError>
     })
 }
 
-/// A given row, with its number, reduced. Its coefficients are at most 2 ^ 126 in size. An error says that memory ran out.
-pub fn given_candidate(alloc: Global, row: &Row, number: u64) -> Result<Candidate, AllocError>
-    requires { All (λ a. IsTrue (narrow a)) row.now.coefs }
-    ensures reduced { IfOk result (λ candidate. IsReduced row.now candidate.row) }
-    ensures founded { IfOk result (λ candidate. (system : Inequalities) (log : List Steps) → IsSuited system.vars row.now → IsNumber (all_rows system log) number row.now → IsFounded system log candidate) }
+// Where a given row, with its number, comes from when it is divided.
+fn given_origin(number: u64, divisor: i128) -> Origin
+    ensures { result ≡ origin_of number divisor }
 {
-    let (row, divisor) = reduced(alloc, copy_of(alloc, row)?)?;
-    let origin = if divisor == 1 {
-        Origin::Numbered(number)
-    } else {
-        Origin::Made(Derivation {
-            divisor,
-            first: (number, 1),
-            second: None,
-        })
-    };
-    Ok(Candidate { row, origin })
+    if divisor == 1 {
+        return Origin::Numbered(number);
+    }
+    Origin::Made(Derivation {
+        divisor,
+        first: (number, 1),
+        second: None,
+    })
 }
 
-/// Adds a candidate, unless it is a row `0 <= bound` that holds. An error says that memory ran out.
-#[inline(always)]
-pub fn add(candidates: &mut Vec<Candidate>, candidate: Candidate) -> Result<(), AllocError>
-    ensures { OnOk result (IsAdded candidates.old.items candidate candidates.new.items) }
+// Puts a given row, with its number, among the others. Its coefficients are at most 2 ^ 126 in size.
+fn put_given(
+    alloc: Global,
+    table: &mut Table,
+    coefs: &mut Vec<i128>,
+    row: &Row,
+    number: u64,
+) -> Result<(), AllocError>
+    requires table { IsTable (rows_among table.old.rows.items) table.old.chains.links.items table.old.chains.latest.items }
+    requires narrow { All (λ a. IsTrue (narrow a)) row.now.coefs }
+    ensures table { OnOk result (IsTable (rows_among table.new.rows.items) table.new.chains.links.items table.new.chains.latest.items) }
+    ensures put { OnOk result ((candidate : CandidateOf) × IsPut table.old.rows.items candidate table.new.rows.items × IsReduced row.now candidate.row
+        × ((system : Inequalities) (log : List Steps) → IsSuited system.vars row.now → IsNumber (all_rows system log) number row.now → IsFounded system log candidate)) }
 {
-    if candidate.row.bound < 0 || !is_empty(&candidate.row) {
-        candidates.push(candidate)?;
-    }
+    coefs.clear();
+    coefs.extend_from_slice(row.coefs.as_slice())?;
+    let (bound, divisor) = reduce(coefs, row.bound);
+    table.put(
+        alloc,
+        coefs.as_slice(),
+        bound,
+        given_origin(number, divisor),
+    )?;
     Ok(())
 }
 
@@ -158,66 +179,76 @@ fn numbered(
     Ok(level)
 }
 
-// The system's rows, reduced, as candidates.
-fn given_candidates(alloc: Global, system: &System) -> Result<Vec<Candidate>, AllocError>
+// The system's rows, reduced.
+fn given_rows(alloc: Global, system: &System) -> Result<Table, AllocError>
     requires { AreNarrow system.now.rows }
-    ensures { IfOk result (λ candidates. AreGiven system.now system.now.rows candidates.items) }
+    ensures given { IfOk result (λ table. AreGiven system.now system.now.rows table.rows.items) }
+    ensures table { IfOk result (λ table. IsTable (rows_among table.rows.items) table.chains.links.items table.chains.latest.items) }
 {
-    let mut candidates = Vec::with_capacity(alloc, system.rows().len())?;
+    let mut table = Table::new(alloc, places_for(system.rows().len()))?;
+    let mut coefs = Vec::with_capacity(alloc, system.vars() as usize)?;
     for (index, row) in system.rows().iter().enumerate() {
-        let candidate = given_candidate(alloc, row, index as u64 + 1)?;
-        add(&mut candidates, candidate)?;
+        put_given(alloc, &mut table, &mut coefs, row, index as u64 + 1)?;
     }
-    Ok(candidates)
+    Ok(table)
 }
 
-/// Level 0: the given rows, reduced, by their coefficients. An error says that memory ran out.
+/// Level 0: the given rows, reduced. An error says that memory ran out.
 pub fn first_level(
     alloc: Global,
     system: &System,
     log: &mut Vec<Derivation>,
-) -> Result<Vec<Held>, AllocError>
+) -> Result<Level, AllocError>
     requires fresh { log.old.items ≡ [] }
     requires narrow { AreNarrow system.now.rows }
-    ensures formed { IfOk result (λ level. IsFormed (λ r. Contains system.now.rows r) (rows_of level.items)) }
+    ensures formed { IfOk result (λ level. IsFormed (λ r. Contains system.now.rows r) (rows_of level.rows.items)) }
+    ensures table { IfOk result (λ level. IsTable (rows_of level.rows.items) level.chains.links.items level.chains.latest.items) }
     ensures log { OnOk result (IsLog system.now log.new.items) }
-    ensures held { IfOk result (λ level. All (IsHeld system.now log.new.items) level.items) }
+    ensures held { IfOk result (λ level. All (IsHeld system.now log.new.items) level.rows.items) }
 {
-    let kept = tightest(alloc, given_candidates(alloc, system)?)?;
-    numbered(alloc, system, kept, log)
+    let Table { rows, chains } = given_rows(alloc, system)?;
+    let rows = numbered(alloc, system, rows, log)?;
+    Ok(Level { rows, chains })
 }
 
 /// Removes the variable, numbered from 1, from the rows of a level. An error says that memory ran out.
 pub fn next_level(
     alloc: Global,
     system: &System,
-    level: Vec<Held>,
+    level: Level,
     variable: u32,
     log: &mut Vec<Derivation>,
 ) -> Result<Formed, AllocError>
     requires variable { (1 ≤ variable) × (variable ≤ system.now.vars) }
     requires log { IsLog system.now log.old.items }
-    requires held { All (IsHeld system.now log.old.items) level.items }
-    ensures next { IfOk result (λ f. IsNext system.now variable (rows_of level.items) log.new.items f) }
+    requires held { All (IsHeld system.now log.old.items) level.rows.items }
+    requires useful { All (λ h. IsUseful h.row) level.rows.items }
+    requires table { IsTable (rows_of level.rows.items) level.chains.links.items level.chains.latest.items }
+    ensures next { IfOk result (λ f. IsNext system.now variable (rows_of level.rows.items) log.new.items f) }
     ensures log { OnOk result (IsLog system.now log.new.items) }
 {
+    let Level { rows, chains } = level;
     let BySign {
         apart,
         uppers,
         lowers,
-    } = split_by_sign(alloc, level, variable)?;
-    if let Some((upper, lower)) = wide_pair(uppers.as_slice(), lowers.as_slice(), variable) {
+    } = split_by_sign(alloc, rows, &chains, variable)?;
+    let above = uppers.as_slice();
+    let below = lowers.as_slice();
+    if let Some((upper, lower)) = wide_pair(above, below, variable) {
         let upper = copy_of(alloc, &upper.row)?;
         let lower = copy_of(alloc, &lower.row)?;
         return Ok(Formed::Wide(upper, lower));
     }
-    let Some(candidates) = gathered(alloc, apart, uppers.as_slice(), lowers.as_slice(), variable)?
-    else {
-        return Ok(Formed::Many);
-    };
-    let kept = tightest(alloc, candidates)?;
-    if kept.len() > MOST_ROWS {
+    let mut table = apart;
+    let whole = join_all(alloc, &mut table, above, below, variable)?;
+    if !whole {
         return Ok(Formed::Many);
     }
-    Ok(Formed::Level(numbered(alloc, system, kept, log)?))
+    if table.rows.len() > MOST_ROWS {
+        return Ok(Formed::Many);
+    }
+    let Table { rows, chains } = table;
+    let rows = numbered(alloc, system, rows, log)?;
+    Ok(Formed::Level(Level { rows, chains }))
 }

@@ -17,6 +17,7 @@
 
 pub mod answer;
 pub mod certificate;
+pub mod chains;
 pub mod combination;
 pub mod derivation;
 pub mod elimination;
@@ -24,7 +25,7 @@ pub mod forming;
 pub mod level;
 pub mod pairs;
 pub mod reduction;
-pub mod tighten;
+pub mod table;
 
 pub use answer::{Answer, NoMemory};
 pub use elimination::decide;

@@ -4,7 +4,7 @@ ghost use Rattle.std.specs.Prelude.{◌≡◌, ◌*◌, ◌≤◌, ◌^◌, nat_
 ghost use Rattle.std.specs.Bool.{MatchBool};
 ghost use Rattle.std.specs.List.{All, Contains};
 ghost use Rattle.farkas_cert.specs.declared.system.Row.{Row};
-ghost use Rattle.fm_elim.specs.Pairs.{coef_of as coef};
+ghost use Rattle.fm_elim.specs.Pairs.{coef_of as coef, IsPair};
 ghost use Rattle.fm_elim.specs.Gathering.{IsWithin, IsOpposed, IsNarrowPair, IsTooWide};
 
 use crate::combination::{is_narrow_combination, multipliers};
@@ -63,12 +63,20 @@ fn largest_coef(rows: &[Held], variable: u32) -> u128
     largest
 }
 
+/// The least multipliers by which the variable cancels in a pair.
+pub fn multipliers_of(upper: &Row, lower: &Row, variable: u32) -> (i128, i128)
+    requires { IsOpposed variable upper.now lower.now }
+    ensures { IsPair variable upper.now lower.now result.0 result.1 }
+{
+    multipliers(coef_of(upper, variable), coef_of(lower, variable))
+}
+
 // Whether the pair's least combination is nowhere wide.
 fn is_narrow_pair(upper: &Row, lower: &Row, variable: u32) -> bool
     requires { IsOpposed variable upper.now lower.now }
     ensures { MatchBool result (IsNarrowPair variable upper.now lower.now) (IsTooWide variable upper.now lower.now) }
 {
-    let (m, n) = multipliers(coef_of(upper, variable), coef_of(lower, variable));
+    let (m, n) = multipliers_of(upper, lower, variable);
     is_narrow_combination(m, upper, n, lower)
 }
 

@@ -6,9 +6,6 @@ ghost use Rattle.std.specs.List.{All};
 ghost use Rattle.farkas_cert.specs.Combination.{is_narrow as narrow};
 ghost use Rattle.fm_elim.specs.Reduction.{IsCommonDivisor, IsReducedBy};
 
-use farkas_cert::{Coefs, Row};
-use std::alloc::{AllocError, Global};
-
 /// The greatest common divisor, by Euclid's algorithm. That of 0 and a number is the number.
 pub fn greatest_common_divisor(a: u128, b: u128) -> u128
     ensures common { IsGcd a b result }
@@ -40,32 +37,35 @@ fn common_divisor(coefs: &[i128]) -> u128
     divisor
 }
 
-// The coefficients, each divided, with the remainder dropped.
-fn quotients(alloc: Global, coefs: &[i128], divisor: i128) -> Result<Coefs, AllocError>
+// Divides each number, with the remainder dropped.
+fn divide(numbers: &mut [i128], divisor: i128)
     requires { pos 1 ≤ℤ divisor }
-    ensures { IfOk result (λ divided. divided ≡ map (λ a. int_div a divisor) coefs.now) }
+    ensures { numbers.new ≡ map (λ a. int_div a divisor) numbers.old }
 {
-    let mut divided = Coefs::with_capacity(alloc, coefs.len())?;
-    for coef in coefs {
-        divided.push(*coef / divisor)?;
+    for number in numbers.iter_mut() {
+        *number = *number / divisor;
     }
-    Ok(divided)
 }
 
-/// The row divided by the greatest common divisor of its coefficients, the bound rounded down, and that
-/// divisor: 1 where all are 0. The coefficients are at most 2 ^ 126 in size. An error says that memory
-/// ran out.
-#[inline(always)]
-pub fn reduced(alloc: Global, row: Row) -> Result<(Row, i128), AllocError>
-    requires { All (λ a. IsTrue (narrow a)) row.coefs }
-    ensures { IfOk result (λ p. (g : ℕ) × (p.1 ≡ pos (max g 1)) × IsReducedBy g row p.0) }
+fn divide_all(numbers: &mut Vec<i128>, divisor: i128)
+    requires { pos 1 ≤ℤ divisor }
+    ensures { numbers.new.items ≡ map (λ a. int_div a divisor) numbers.old.items }
 {
-    let divisor = common_divisor(row.coefs.as_slice());
+    divide(numbers.as_mut_slice(), divisor)
+}
+
+/// Divides the coefficients by their greatest common divisor, and gives the bound divided and rounded
+/// down, and that divisor: 1 where all are 0. The coefficients are at most 2 ^ 126 in size.
+#[inline(always)]
+pub fn reduce(coefs: &mut Vec<i128>, bound: i128) -> (i128, i128)
+    requires { All (λ a. IsTrue (narrow a)) coefs.old.items }
+    ensures { (g : ℕ) × (result.1 ≡ pos (max g 1)) × IsReducedBy g (record { coefs = coefs.old.items; bound = bound }) (record { coefs = coefs.new.items; bound = result.0 }) }
+{
+    let divisor = common_divisor(coefs.as_slice());
     if divisor <= 1 {
-        return Ok((row, 1));
+        return (bound, 1);
     }
     let divisor = divisor as i128;
-    let coefs = quotients(alloc, row.coefs.as_slice(), divisor)?;
-    let bound = row.bound.div_euclid(divisor);
-    Ok((Row { coefs, bound }, divisor))
+    divide_all(coefs, divisor);
+    (bound.div_euclid(divisor), divisor)
 }

@@ -3,12 +3,9 @@
 ghost use Rattle.std.specs.Prelude.{◌≡◌, IfOk};
 
 use crate::combination::{are_narrow, combine, is_narrow_combination, multipliers};
-use crate::level::{Candidate, add, given_candidate};
-use crate::reduction::reduced;
-use crate::tighten::compare;
+use crate::reduction::reduce;
 use farkas_cert::{Coefs, Row};
 use std::alloc::{AllocError, Global};
-use std::cmp::Ordering;
 use std::test::Fail;
 
 // A row's coefficients and its bound.
@@ -30,12 +27,12 @@ fn reduces_to(
     lowest: Given<'_>,
     by: i128,
 ) -> Result<bool, AllocError> {
-    let row = row_of(alloc, given.0, given.1)?;
-    if !are_narrow(row.coefs.as_slice()) {
+    let mut coefs = Vec::from_slice(alloc, given.0)?;
+    if !are_narrow(coefs.as_slice()) {
         return Ok(false);
     }
-    let (row, divisor) = reduced(alloc, row)?;
-    Ok(row.coefs.as_slice() == lowest.0 && row.bound == lowest.1 && divisor == by)
+    let (bound, divisor) = reduce(&mut coefs, given.1);
+    Ok(coefs.as_slice() == lowest.0 && bound == lowest.1 && divisor == by)
 }
 
 #[test]
@@ -47,14 +44,15 @@ fn bounds_are_rounded_down(rt: HostRuntime) -> Result<(), Fail> {
     Ok(())
 }
 
-// The combination with these multipliers, None where it is wide or the rows differ in length.
+// The coefficients and the bound of the combination with these multipliers, None where it is wide or the
+// rows differ in length.
 fn combination(
     alloc: Global,
     m: i128,
     upper: Given<'_>,
     n: i128,
     lower: Given<'_>,
-) -> Result<Option<Row>, AllocError> {
+) -> Result<Option<(Vec<i128>, i128)>, AllocError> {
     let upper = row_of(alloc, upper.0, upper.1)?;
     let lower = row_of(alloc, lower.0, lower.1)?;
     if lower.coefs.as_slice().len() != upper.coefs.as_slice().len()
@@ -62,7 +60,9 @@ fn combination(
     {
         return Ok(None);
     }
-    Ok(Some(combine(alloc, m, &upper, n, &lower)?))
+    let mut coefs = Vec::new(alloc);
+    let bound = combine(m, &upper, n, &lower, &mut coefs)?;
+    Ok(Some((coefs, bound)))
 }
 
 // 6i + j <= 3 and -4i <= 5: twice the first and three times the other is 2j <= 21.
@@ -71,9 +71,7 @@ fn the_least_combination_cancels(rt: HostRuntime) -> Result<(), Fail> {
     let (m, n) = multipliers(6, -4);
     assert_eq!(rt; (m, n), (2, 3));
     let sum = combination(rt.alloc(), m, (&[6, 1], 3), n, (&[-4, 0], 5))?;
-    assert!(rt;
-        sum.is_some_and(|sum| sum.coefs.as_slice() == [0, 2].as_slice() && sum.bound == 21)
-    );
+    assert!(rt; sum.is_some_and(|sum| sum.0.as_slice() == [0, 2].as_slice() && sum.1 == 21));
     Ok(())
 }
 
@@ -84,54 +82,5 @@ fn a_large_combination_is_wide(rt: HostRuntime) -> Result<(), Fail> {
     let alloc = rt.alloc();
     assert!(rt; combination(alloc, half, (&[half], 0), half, (&[-half], 0))?.is_some());
     assert!(rt; combination(alloc, half, (&[half], 0), half, (&[half], 0))?.is_none());
-    Ok(())
-}
-
-fn candidate_of(
-    alloc: Global,
-    given: Given<'_>,
-    number: u64,
-) -> Result<Option<Candidate>, AllocError> {
-    let row = row_of(alloc, given.0, given.1)?;
-    if !are_narrow(row.coefs.as_slice()) {
-        return Ok(None);
-    }
-    Ok(Some(given_candidate(alloc, &row, number)?))
-}
-
-// How the candidates of two rows compare, and whether each is worth adding.
-fn compared(
-    alloc: Global,
-    first: Given<'_>,
-    other: Given<'_>,
-) -> Result<(Option<Ordering>, usize), AllocError> {
-    let mut candidates = Vec::new(alloc);
-    let first = candidate_of(alloc, first, 1)?;
-    let other = candidate_of(alloc, other, 2)?;
-    let order = match (&first, &other) {
-        (Some(first), Some(other)) => Some(compare(first, other)),
-        _ => None,
-    };
-    if let Some(candidate) = first {
-        add(&mut candidates, candidate)?;
-    }
-    if let Some(candidate) = other {
-        add(&mut candidates, candidate)?;
-    }
-    Ok((order, candidates.len()))
-}
-
-// 2i <= 5 is i <= 2, and comes after i <= 1; 0 <= 0 says nothing and is left out.
-#[test]
-fn candidates_are_ordered(rt: HostRuntime) -> Result<(), Fail> {
-    let alloc = rt.alloc();
-    assert_eq!(rt;
-        compared(alloc, (&[2], 5), (&[1], 1))?,
-        (Some(Ordering::Greater), 2)
-    );
-    assert_eq!(rt;
-        compared(alloc, (&[0], 0), (&[0], -1))?,
-        (Some(Ordering::Greater), 1)
-    );
     Ok(())
 }

@@ -48,12 +48,12 @@ loop-k-preserved c =
     let fits_s : FitsSigned w128 s = search rules in
     let sum = rw (c.as_slice-coef-items.ensures, c.as_slice-others.ensures) at (simp to_z-of_z at c.narrow_weighted_sum.ensures) in
     let entries = simp to_z-of_z at c.loop-k.invariant in
-    let pushed = simp to_z-of_z at c.in_ok-push.ensures.ok in
+    let pushed = simp to_z-of_z at c.in_ok-push.ensures.items in
     let next = combined-drop c.args.m c.args.n u.coefs l.coefs k (pos 0) below c.requires.same in
     let rest = combined c.args.m (drop (k + 1) u.coefs) c.args.n (drop (k + 1) l.coefs) in
     let back_m : to_z w128 (of_z w128 c.args.m) ≡ c.args.m = to_z-of_z w128 c.args.m fits_m in
     let back_n : to_z w128 (of_z w128 c.args.n) ≡ c.args.n = to_z-of_z w128 c.args.n fits_n in
-    rw (back_m, back_n) (ap (λ xs. xs ++ rest) pushed ∙ append_assoc c.loop-k.coefs (s ∷ []) rest ∙ ap (λ z. c.loop-k.coefs ++ z ∷ rest) sum ∙ ap (λ xs. c.loop-k.coefs ++ xs) (sym next) ∙ entries)
+    rw (back_m, back_n) (ap (λ xs. xs ++ rest) pushed ∙ append_assoc c.loop-k.coefs.items (s ∷ []) rest ∙ ap (λ z. c.loop-k.coefs.items ++ z ∷ rest) sum ∙ ap (λ xs. c.loop-k.coefs.items ++ xs) (sym next) ∙ entries)
 
 pub returns : goal.returns
 returns c =
@@ -71,5 +71,5 @@ returns c =
     let sum = simp to_z-of_z at c.narrow_weighted_sum-bound.ensures in
     let entries = simp to_z-of_z at c.loop-k.invariant in
     let back : to_z w128 (of_z w128 b) ≡ b = to_z-of_z w128 b fits_b in
-    let coefs : c.loop-k.coefs ≡ combined c.args.m u.coefs c.args.n l.coefs = sym (append-nil c.loop-k.coefs) ∙ ap (λ xs. c.loop-k.coefs ++ xs) (sym (combined-done c.args.m c.args.n u.coefs l.coefs k whole)) ∙ entries in
+    let coefs : c.loop-k.coefs.items ≡ combined c.args.m u.coefs c.args.n l.coefs = sym (append-nil c.loop-k.coefs.items) ∙ ap (λ xs. c.loop-k.coefs.items ++ xs) (sym (combined-done c.args.m c.args.n u.coefs l.coefs k whole)) ∙ entries in
     ap (λ xs. record { coefs = xs; bound = to_z w128 (of_z w128 b) }) coefs ∙ ap (λ z. record { coefs = combined c.args.m u.coefs c.args.n l.coefs; bound = z }) (back ∙ sum)

@@ -1,13 +1,10 @@
-use Rattle.std.proofs.Common.{◌-◌, ◌≤◌, length}
-use Rattle.fm_elim.proofs.Ends.{AreInside}
+use Rattle.std.proofs.Common.{ℕ, ◌<◌, get_or}
+use Rattle.std.specs.List.{All}
+use Rattle.farkas_cert.specs.Combination.{no_row}
+use Rattle.fm_elim.specs.Logs.{rows_of}
+use Rattle.fm_elim.specs.Answers.{AreClashing}
 use Rattle.fm_elim.proofs.elimination.clash.Given as goal
 
--- the rows between the ends are of the level, and only they may clash
-abbrev pub invariant-loop-low : goal.invariant-loop-low
-invariant-loop-low l = record {
-  within : l.high ≤ length l.level;
-  inside : AreInside l.level l.low l.high;
-}
-
-abbrev pub decreases-loop-low : goal.decreases-loop-low
-decreases-loop-low l = l.high - l.low
+-- no row so far clashes with one
+abbrev pub invariant-loop-number : goal.invariant-loop-number
+invariant-loop-number l = (k : ℕ) → k < l.number → All (λ r. AreClashing (get_or (rows_of l.level.rows.items) k no_row) r → ⊥) (rows_of l.level.rows.items)

@@ -1,73 +1,73 @@
-use Rattle.std.proofs.Common.{rules, ◌≡◌, ℤ, IsTrue, FitsSigned, to_z, of_z, refl, sym, ◌∙◌, subst, length}
+use Rattle.std.proofs.Common.{rules, ◌≡◌, ℤ, IsTrue, FitsSigned, to_z, of_z, refl, sym, subst, length}
 use Rattle.std.specs.Int.{w128}
 use Rattle.std.specs.List.{All}
 use Rattle.std.proofs.lemmas.Int.{to_z-of_z}
+use Rattle.farkas_cert.specs.declared.system.Row.{Row}
 use Rattle.farkas_cert.specs.Combination.{is_narrow}
-use Rattle.fm_elim.specs.Pairs.{coef_of, combination}
+use Rattle.fm_elim.specs.Pairs.{combination}
 use Rattle.fm_elim.specs.Reduction.{IsReducedBy}
-use Rattle.fm_elim.proofs.Lowest.{IsSuited-combination}
-use Rattle.fm_elim.proofs.Sizes.{pair_from}
+use Rattle.fm_elim.specs.Logs.{IsSuited}
+use Rattle.fm_elim.proofs.Lowest.{IsSuited-combination, IsSuited-reduced}
 use Rattle.fm_elim.proofs.Origins.{made_from}
 use Rattle.fm_elim.proofs.forming.paired.Goals as goal
 
 pub combine-requires-clause-narrow : goal.combine-requires-clause-narrow
 combine-requires-clause-narrow c =
-    let v = c.args.variable in
-    let u = c.args.upper.now.row in
-    let l = c.args.lower.now.row in
-    let fits_a : FitsSigned w128 c.coef_of.result = search rules in
-    let fits_b : FitsSigned w128 c.coef_of-2.result = search rules in
-    let fits_m : FitsSigned w128 c.multipliers-m.result.0 = search rules in
-    let fits_n : FitsSigned w128 c.multipliers-m.result.1 = search rules in
-    let a : ℤ = to_z w128 (of_z w128 c.coef_of.result) in
-    let b : ℤ = to_z w128 (of_z w128 c.coef_of-2.result) in
-    let m : ℤ = to_z w128 (of_z w128 c.multipliers-m.result.0) in
-    let n : ℤ = to_z w128 (of_z w128 c.multipliers-m.result.1) in
-    let ea : a ≡ coef_of v u = to_z-of_z w128 c.coef_of.result fits_a ∙ c.coef_of.ensures in
-    let eb : b ≡ coef_of v l = to_z-of_z w128 c.coef_of-2.result fits_b ∙ c.coef_of-2.ensures in
-    let found = c.multipliers-m.ensures in
-    let pair = pair_from v u l a b m n ea eb c.requires.opposed.above c.requires.opposed.below (found.0, found.1, to_z-of_z w128 c.multipliers-m.result.0 fits_m ∙ found.2, to_z-of_z w128 c.multipliers-m.result.1 fits_n ∙ found.3) in
-    c.requires.narrow.narrow m n pair
+    let m : ℤ = c.multipliers_of-m.result.0 in
+    let n : ℤ = c.multipliers_of-m.result.1 in
+    let fits_m : FitsSigned w128 m = search rules in
+    let fits_n : FitsSigned w128 n = search rules in
+    let back_m : to_z w128 (of_z w128 m) ≡ m = to_z-of_z w128 m fits_m in
+    let back_n : to_z w128 (of_z w128 n) ≡ n = to_z-of_z w128 n fits_n in
+    rw (back_m, back_n) (c.requires.narrow.narrow m n c.multipliers_of-m.ensures)
 
-pub reduced-requires : goal.reduced-requires
-reduced-requires c =
-    let v = c.args.variable in
+pub reduce-bound-requires : goal.reduce-bound-requires
+reduce-bound-requires c =
+    let m : ℤ = c.multipliers_of-m.result.0 in
+    let n : ℤ = c.multipliers_of-m.result.1 in
+    let fits_m : FitsSigned w128 m = search rules in
+    let fits_n : FitsSigned w128 n = search rules in
+    let back_m : to_z w128 (of_z w128 m) ≡ m = to_z-of_z w128 m fits_m in
+    let back_n : to_z w128 (of_z w128 n) ≡ n = to_z-of_z w128 n fits_n in
+    let sum = rw (back_m, back_n) at c.in_ok-sum.ensures in
     let u = c.args.upper.now.row in
-    let l = c.args.lower.now.row in
-    let fits_a : FitsSigned w128 c.coef_of.result = search rules in
-    let fits_b : FitsSigned w128 c.coef_of-2.result = search rules in
-    let fits_m : FitsSigned w128 c.multipliers-m.result.0 = search rules in
-    let fits_n : FitsSigned w128 c.multipliers-m.result.1 = search rules in
-    let a : ℤ = to_z w128 (of_z w128 c.coef_of.result) in
-    let b : ℤ = to_z w128 (of_z w128 c.coef_of-2.result) in
-    let m : ℤ = to_z w128 (of_z w128 c.multipliers-m.result.0) in
-    let n : ℤ = to_z w128 (of_z w128 c.multipliers-m.result.1) in
-    let ea : a ≡ coef_of v u = to_z-of_z w128 c.coef_of.result fits_a ∙ c.coef_of.ensures in
-    let eb : b ≡ coef_of v l = to_z-of_z w128 c.coef_of-2.result fits_b ∙ c.coef_of-2.ensures in
-    let found = c.multipliers-m.ensures in
-    let pair = pair_from v u l a b m n ea eb c.requires.opposed.above c.requires.opposed.below (found.0, found.1, to_z-of_z w128 c.multipliers-m.result.0 fits_m ∙ found.2, to_z-of_z w128 c.multipliers-m.result.1 fits_n ∙ found.3) in
-    let suited = IsSuited-combination (length u.coefs) m n u l refl c.requires.opposed.same (c.requires.narrow.narrow m n pair) in
-    subst (λ r. All (λ a. IsTrue (is_narrow a)) r.coefs) (sym c.in_ok-sum.ensures) suited.coefs
+    let suited = IsSuited-combination (length u.coefs) m n u c.args.lower.now.row refl c.requires.opposed.same (c.requires.narrow.narrow m n c.multipliers_of-m.ensures) in
+    subst (λ (r : Row). All (λ a. IsTrue (is_narrow a)) r.coefs) (sym sum) suited.coefs
 
-pub returns : goal.returns
-returns c =
-    let v = c.args.variable in
+pub returns-clause-made : goal.returns-clause-made
+returns-clause-made c =
+    let m : ℤ = c.multipliers_of-m.result.0 in
+    let n : ℤ = c.multipliers_of-m.result.1 in
     let u = c.args.upper.now.row in
     let l = c.args.lower.now.row in
-    let vars = length u.coefs in
-    let fits_a : FitsSigned w128 c.coef_of.result = search rules in
-    let fits_b : FitsSigned w128 c.coef_of-2.result = search rules in
-    let fits_m : FitsSigned w128 c.multipliers-m.result.0 = search rules in
-    let fits_n : FitsSigned w128 c.multipliers-m.result.1 = search rules in
-    let fits_d : FitsSigned w128 c.in_ok-row.divisor = search rules in
-    let a : ℤ = to_z w128 (of_z w128 c.coef_of.result) in
-    let b : ℤ = to_z w128 (of_z w128 c.coef_of-2.result) in
-    let m : ℤ = to_z w128 (of_z w128 c.multipliers-m.result.0) in
-    let n : ℤ = to_z w128 (of_z w128 c.multipliers-m.result.1) in
-    let ea : a ≡ coef_of v u = to_z-of_z w128 c.coef_of.result fits_a ∙ c.coef_of.ensures in
-    let eb : b ≡ coef_of v l = to_z-of_z w128 c.coef_of-2.result fits_b ∙ c.coef_of-2.ensures in
-    let found = c.multipliers-m.ensures in
-    let pair = pair_from v u l a b m n ea eb c.requires.opposed.above c.requires.opposed.below (found.0, found.1, to_z-of_z w128 c.multipliers-m.result.0 fits_m ∙ found.2, to_z-of_z w128 c.multipliers-m.result.1 fits_n ∙ found.3) in
-    let by = c.in_ok-row.ensures in
-    let reduced : IsReducedBy by.0 (combination m u n l) c.in_ok-row.row = subst (λ r. IsReducedBy by.0 r c.in_ok-row.row) c.in_ok-sum.ensures by.2 in
-    made_from v c.args.upper.now c.args.lower.now c.in_ok-row.row m n (to_z w128 (of_z w128 c.in_ok-row.divisor)) by.0 pair (c.requires.narrow.narrow m n pair) reduced (to_z-of_z w128 c.in_ok-row.divisor fits_d ∙ by.1)
+    let fits_m : FitsSigned w128 m = search rules in
+    let fits_n : FitsSigned w128 n = search rules in
+    let fits_s : FitsSigned w128 c.in_ok-sum.sum = search rules in
+    let fits_b : FitsSigned w128 c.reduce-bound.result.0 = search rules in
+    let fits_d : FitsSigned w128 c.reduce-bound.result.1 = search rules in
+    let back_m : to_z w128 (of_z w128 m) ≡ m = to_z-of_z w128 m fits_m in
+    let back_n : to_z w128 (of_z w128 n) ≡ n = to_z-of_z w128 n fits_n in
+    let back_s : to_z w128 (of_z w128 c.in_ok-sum.sum) ≡ c.in_ok-sum.sum = to_z-of_z w128 c.in_ok-sum.sum fits_s in
+    let back_b : to_z w128 (of_z w128 c.reduce-bound.result.0) ≡ c.reduce-bound.result.0 = to_z-of_z w128 c.reduce-bound.result.0 fits_b in
+    let back_d : to_z w128 (of_z w128 c.reduce-bound.result.1) ≡ c.reduce-bound.result.1 = to_z-of_z w128 c.reduce-bound.result.1 fits_d in
+    let sum = rw (back_m, back_n) at c.in_ok-sum.ensures in
+    let by = rw back_s at c.reduce-bound.ensures in
+    let row : Row = record { coefs = c.reduce-bound.new.coefs.items; bound = c.reduce-bound.result.0 } in
+    let reduced : IsReducedBy by.0 (combination m u n l) row = subst (λ (r : Row). IsReducedBy by.0 r row) sum by.2 in
+    rw (back_m, back_n, back_b, back_d) (made_from c.args.variable c.args.upper.now c.args.lower.now row m n c.reduce-bound.result.1 by.0 c.multipliers_of-m.ensures (c.requires.narrow.narrow m n c.multipliers_of-m.ensures) reduced by.1)
+
+pub returns-clause-narrow : goal.returns-clause-narrow
+returns-clause-narrow c =
+    let m : ℤ = c.multipliers_of-m.result.0 in
+    let n : ℤ = c.multipliers_of-m.result.1 in
+    let u = c.args.upper.now.row in
+    let fits_m : FitsSigned w128 m = search rules in
+    let fits_n : FitsSigned w128 n = search rules in
+    let fits_s : FitsSigned w128 c.in_ok-sum.sum = search rules in
+    let back_m : to_z w128 (of_z w128 m) ≡ m = to_z-of_z w128 m fits_m in
+    let back_n : to_z w128 (of_z w128 n) ≡ n = to_z-of_z w128 n fits_n in
+    let back_s : to_z w128 (of_z w128 c.in_ok-sum.sum) ≡ c.in_ok-sum.sum = to_z-of_z w128 c.in_ok-sum.sum fits_s in
+    let sum = rw (back_m, back_n) at c.in_ok-sum.ensures in
+    let by = rw back_s at c.reduce-bound.ensures in
+    let suited = IsSuited-combination (length u.coefs) m n u c.args.lower.now.row refl c.requires.opposed.same (c.requires.narrow.narrow m n c.multipliers_of-m.ensures) in
+    (IsSuited-reduced (length u.coefs) by.0 (record { coefs = c.combine.new.coefs.items; bound = c.in_ok-sum.sum }) (record { coefs = c.reduce-bound.new.coefs.items; bound = c.reduce-bound.result.0 }) (subst (IsSuited (length u.coefs)) (sym sum) suited) by.2).coefs
