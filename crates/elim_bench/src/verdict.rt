@@ -2,7 +2,8 @@
 
 ghost use Rattle.std.specs.Prelude.{◌≡◌, IfOk, IsOkUnless, string_bytes};
 ghost use Rattle.std.specs.List.{range_with_len};
-ghost use Rattle.fm_elim.specs.Answers.{AreNarrow, IsDecided};
+ghost use Rattle.farkas_cert.specs.Narrow.{AreNarrow};
+ghost use Rattle.fm_elim.specs.Answers.{IsDecided};
 ghost use Rattle.elim_bench.specs.Verdicts as spec;
 
 use farkas_cert::{CertRefusal, System, check_cert};

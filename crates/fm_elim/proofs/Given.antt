@@ -11,7 +11,7 @@ use Rattle.fm_elim.specs.Reduction.{IsReduced}
 use Rattle.fm_elim.specs.Forming.{IsFormed}
 use Rattle.fm_elim.specs.Table.{IsPut}
 use Rattle.fm_elim.specs.Logs.{IsNumber, IsSuited, IsFounded, rows_among}
-use Rattle.fm_elim.specs.Answers.{AreNarrow}
+use Rattle.farkas_cert.specs.Narrow.{AreNarrow}
 use Rattle.fm_elim.specs.Gathering.{IsUseful, IsSound, IsCovered, AreGiven}
 use Rattle.fm_elim.proofs.Leveling.{formed_from, lowest_from}
 

@@ -16,10 +16,6 @@ use Rattle.fm_elim.specs.Levels.{IsDerived, IsClearTo, HasMoreThan}
 abbrev pub NamesEachOnce : ℕ → List ℕ → Type 0
 NamesEachOnce vars order = IsPermutation (range_with_len 1 vars) order
 
--- each coefficient and each bound is at most 2 ^ 126 in size
-abbrev pub AreNarrow : List Row → Type 0
-AreNarrow rows = All (λ r. All (λ a. IsTrue (is_narrow a)) r.coefs × IsTrue (is_narrow r.bound)) rows
-
 -- some x / d is a rational solution
 abbrev pub HasRationalSolution : Inequalities → Type 0
 HasRationalSolution system = (x : List ℤ) × (d : ℤ) × IsRationalSolution system x d

@@ -9,55 +9,8 @@ ghost use Rattle.fm_elim.specs.Pairs.{combination as combination_of, IsWide, IsN
 
 use crate::reduction::greatest_common_divisor;
 use farkas_cert::Row;
+use farkas_cert::narrow::{narrow_product, narrow_sum};
 use std::alloc::AllocError;
-
-/// The largest size of a product or a sum, 2 ^ 126.
-const LIMIT: u128 = 1 << 126;
-
-/// Two factors below this size have a product below 2 ^ 126.
-const SMALL: u128 = 1 << 63;
-
-/// Whether the number is at most 2 ^ 126 in size.
-pub fn is_narrow(number: i128) -> bool
-    ensures { result ≡ narrow number }
-{
-    number.unsigned_abs() <= LIMIT
-}
-
-/// Whether these numbers are all at most 2 ^ 126 in size.
-pub fn are_narrow(numbers: &[i128]) -> bool
-    ensures { IsTrue result ↔ All (λ a. IsTrue (narrow a)) numbers.now }
-{
-    numbers.iter().all(|number| is_narrow(*number))
-}
-
-// Whether the product of two sizes is at most 2 ^ 126: with no division where both are small.
-fn has_narrow_product(size: u128, other: u128) -> bool
-    ensures { result ≡ nat_le (size * other) (2 ^ 126) }
-{
-    if size < SMALL && other < SMALL {
-        return true;
-    }
-    size == 0 || other <= LIMIT / size
-}
-
-// The product, if it is at most 2 ^ 126 in size. That is tested before it is made.
-fn narrow_product(a: i128, b: i128) -> Option<i128>
-    ensures { result ≡ (if narrow (a *ℤ b) then Some (a *ℤ b) else None) }
-{
-    if has_narrow_product(a.unsigned_abs(), b.unsigned_abs()) {
-        Some(a * b)
-    } else {
-        None
-    }
-}
-
-// The sum, if it is at most 2 ^ 126 in size.
-pub(crate) fn narrow_sum(a: i128, b: i128) -> Option<i128>
-    ensures { result ≡ (if narrow (a +ℤ b) then Some (a +ℤ b) else None) }
-{
-    a.checked_add(b).filter(|sum| is_narrow(*sum))
-}
 
 // m * a + n * b, if both products and their sum are at most 2 ^ 126 in size.
 fn weighted_sum(m: i128, a: i128, n: i128, b: i128) -> Option<i128>
@@ -77,6 +30,9 @@ pub fn multipliers(upper: i128, lower: i128) -> (i128, i128)
     let above = upper.unsigned_abs();
     let below = lower.unsigned_abs();
     let divisor = greatest_common_divisor(above, below);
+    if divisor == 1 {
+        return (below as i128, above as i128);
+    }
     ((below / divisor) as i128, (above / divisor) as i128)
 }
 

@@ -1,13 +1,13 @@
 // Worked decisions, each answer as a text. A level begins with the rows that it keeps, and the given ones are in their order.
 
-ghost use Rattle.std.specs.Prelude.{◌≡◌, ◌↔◌, IfOk, IsTrue, [], ◌∷◌};
+ghost use Rattle.std.specs.Prelude.{◌≡◌, IfOk};
 ghost use Rattle.std.specs.List.{range_with_len};
-ghost use Rattle.fm_elim.specs.Answers.{AreNarrow, NamesEachOnce};
+ghost use Rattle.fm_elim.specs.Answers.{NamesEachOnce};
 
 use crate::answer::{Answer, NoMemory};
-use crate::combination::{are_narrow, is_narrow};
 use crate::elimination::decide;
 use crate::tests::{Given, row_of};
+use farkas_cert::narrow::are_narrow_rows;
 use farkas_cert::{Certificate, Row, System, check_cert};
 use std::alloc::{AllocError, Global};
 use std::test::Fail;
@@ -21,18 +21,6 @@ fn system_of(alloc: Global, vars: u32, rows: &[Given<'_>]) -> Result<System, All
         }
     }
     Ok(system)
-}
-
-fn is_narrow_row(row: &Row) -> bool
-    ensures { IsTrue result ↔ AreNarrow (row.now ∷ []) }
-{
-    are_narrow(row.coefs.as_slice()) && is_narrow(row.bound)
-}
-
-fn are_narrow_rows(rows: &[Row]) -> bool
-    ensures { IsTrue result ↔ AreNarrow rows.now }
-{
-    rows.iter().all(|row| is_narrow_row(row))
 }
 
 fn in_order(alloc: Global, vars: u32) -> Result<Vec<u32>, AllocError>

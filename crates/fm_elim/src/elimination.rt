@@ -3,19 +3,20 @@
 ghost use Rattle.std.specs.Prelude.{◌≡◌, ◌↔◌, ◌<◌, ◌-◌, ℤ, pos, neg_ℤ, ◌+ℤ◌, ◌<ℤ◌, IsTrue, IfOk, IfNone, IfSome, MatchOption, List, map, length, slice_index_or};
 ghost use Rattle.std.specs.List.{All, Contains};
 ghost use Rattle.farkas_cert.specs.Combination.{is_narrow as narrow, no_row};
+ghost use Rattle.farkas_cert.specs.Narrow.{AreNarrow};
 ghost use Rattle.farkas_cert.specs.Good.{IsGood};
 ghost use Rattle.fm_elim.specs.declared.level.Held.{Held as HeldRow};
 ghost use Rattle.fm_elim.specs.Levels.{IsEmpty, IsDerived};
 ghost use Rattle.fm_elim.specs.Table.{IsTable};
 ghost use Rattle.fm_elim.specs.Logs.{IsLog, IsHeld, rows_of};
 ghost use Rattle.fm_elim.specs.Lean.{IsLean};
-ghost use Rattle.fm_elim.specs.Answers.{NamesEachOnce, AreNarrow, IsDecided, IfInfeasible, IfWide, IfMany, AreClashing, IsFreeOfClashes};
+ghost use Rattle.fm_elim.specs.Answers.{NamesEachOnce, IsDecided, IfInfeasible, IfWide, IfMany, AreClashing, IsFreeOfClashes};
 
 use crate::answer::{Answer, NoMemory};
 use crate::certificate::certificate_of;
-use crate::combination::narrow_sum;
 use crate::derivation::{Derivation, derive};
 use crate::level::{Formed, Held, Level, MOST_ROWS, first_level, is_empty, next_level};
+use farkas_cert::narrow::narrow_sum;
 use farkas_cert::{Certificate, Row, System};
 use std::alloc::{AllocError, Global};
 

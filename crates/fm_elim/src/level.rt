@@ -14,7 +14,7 @@ ghost use Rattle.fm_elim.specs.declared.level.Candidate.{Candidate as CandidateO
 ghost use Rattle.fm_elim.specs.Gathering.{IsUseful, AreGiven};
 ghost use Rattle.fm_elim.specs.Table.{IsTable, IsPut, origin_of};
 ghost use Rattle.fm_elim.specs.Next.{IsNext};
-ghost use Rattle.fm_elim.specs.Answers.{AreNarrow};
+ghost use Rattle.farkas_cert.specs.Narrow.{AreNarrow};
 
 use crate::chains::Chains;
 use crate::derivation::Derivation;

@@ -14,10 +14,16 @@ use farkas_cert::Row;
 /// Two products of at most this size, 2 ^ 125, have a narrow sum.
 const HALF: u128 = 1 << 125;
 
-// Whether the product of two sizes is at most 2 ^ 125.
+/// Two sizes below this have a product of at most 2 ^ 125.
+const SMALL: u128 = 1 << 62;
+
+// Whether the product of two sizes is at most 2 ^ 125: with no division where both are small.
 fn has_half_product(size: u128, other: u128) -> bool
     ensures { result ≡ nat_le (size * other) (2 ^ 125) }
 {
+    if size < SMALL && other < SMALL {
+        return true;
+    }
     size == 0 || other <= HALF / size
 }
 

@@ -6,8 +6,11 @@ ghost use Rattle.std.specs.List.{All};
 ghost use Rattle.farkas_cert.specs.Combination.{is_narrow as narrow};
 ghost use Rattle.fm_elim.specs.Reduction.{IsCommonDivisor, IsReducedBy};
 
-/// The greatest common divisor, by Euclid's algorithm. That of 0 and a number is the number.
-pub fn greatest_common_divisor(a: u128, b: u128) -> u128
+/// Numbers below this have 64 bits.
+const WORD: u128 = 1 << 64;
+
+// The greatest common divisor of numbers of 64 bits, by Euclid's algorithm.
+fn small_common_divisor(a: u64, b: u64) -> u64
     ensures common { IsGcd a b result }
     ensures size { result ≤ max a b }
 {
@@ -19,6 +22,33 @@ pub fn greatest_common_divisor(a: u128, b: u128) -> u128
         y = rest;
     }
     x
+}
+
+// The greatest common divisor of any two numbers, by Euclid's algorithm.
+fn wide_common_divisor(a: u128, b: u128) -> u128
+    ensures common { IsGcd a b result }
+    ensures size { result ≤ max a b }
+{
+    let mut x = a;
+    let mut y = b;
+    while y != 0 {
+        let rest = x % y;
+        x = y;
+        y = rest;
+    }
+    x
+}
+
+/// The greatest common divisor. That of 0 and a number is the number.
+#[inline(always)]
+pub fn greatest_common_divisor(a: u128, b: u128) -> u128
+    ensures common { IsGcd a b result }
+    ensures size { result ≤ max a b }
+{
+    if a.max(b) < WORD {
+        return small_common_divisor(a as u64, b as u64) as u128;
+    }
+    wide_common_divisor(a, b)
 }
 
 // The greatest common divisor of the coefficients, 0 where all are 0.

@@ -2,8 +2,9 @@
 
 ghost use Rattle.std.specs.Prelude.{◌≡◌, IfOk};
 
-use crate::combination::{are_narrow, combine, is_narrow_combination, multipliers};
+use crate::combination::{combine, is_narrow_combination, multipliers};
 use crate::reduction::reduce;
+use farkas_cert::narrow::are_narrow;
 use farkas_cert::{Coefs, Row};
 use std::alloc::{AllocError, Global};
 use std::test::Fail;

@@ -1,6 +1,6 @@
 use Rattle.std.proofs.Common.{ℕ, ◌≤◌, max}
 use Rattle.std.specs.Int.{IsGcd}
-use Rattle.fm_elim.proofs.reduction.greatest_common_divisor.Given as goal
+use Rattle.fm_elim.proofs.reduction.wide_common_divisor.Given as goal
 
 abbrev pub invariant-loop-y : goal.invariant-loop-y
 invariant-loop-y l = record {
