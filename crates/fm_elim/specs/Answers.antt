@@ -1,6 +1,6 @@
 -- What each answer of elimination rests on, and by which answers a system is kept.
 use Rattle.std.specs.Prelude.{⊤, ℕ, ◌-◌, ◌≤◌, ◌<◌, ℤ, pos, neg_ℤ, ◌+ℤ◌, ◌<ℤ◌, IsTrue, List, map, slice_index, ◌≡◌}
-use Rattle.std.specs.List.{All, range_with_len}
+use Rattle.std.specs.List.{range_with_len}
 use Rattle.std.specs.List.Sorted.{IsPermutation}
 use Rattle.farkas_cert.specs.declared.system.Row.{Row}
 use Rattle.farkas_cert.specs.Inequalities.{Inequalities, IsRationalSolution}

@@ -81,14 +81,14 @@ fn place_of(hash: u128, places: usize) -> usize
 }
 
 impl Chains {
-    /// No row, and so many places.
-    pub fn new(alloc: Global, places: usize) -> Result<Self, AllocError>
+    /// No row, with so many places and room for so many rows.
+    pub fn new(alloc: Global, places: usize, room: usize) -> Result<Self, AllocError>
         requires { 0 < places }
         ensures none { IfOk result (λ chains. chains.links.items ≡ []) }
         ensures chained { IfOk result (λ chains. AreChained chains.links.items chains.latest.items) }
     {
         Ok(Chains {
-            links: Vec::new(alloc),
+            links: Vec::with_capacity(alloc, room)?,
             latest: vec![in alloc; 0; places]?,
         })
     }

@@ -4,7 +4,7 @@ ghost use Rattle.std.specs.Prelude.{◌≡◌, ◌↔◌, ◌<◌, ◌-◌, ℤ,
 ghost use Rattle.std.specs.List.{All, Contains};
 ghost use Rattle.farkas_cert.specs.Combination.{is_narrow as narrow, no_row};
 ghost use Rattle.farkas_cert.specs.Narrow.{AreNarrow};
-ghost use Rattle.farkas_cert.specs.Good.{IsGood};
+ghost use Rattle.farkas_cert.specs.Good.{IsContradiction, IsGood};
 ghost use Rattle.fm_elim.specs.declared.level.Held.{Held as HeldRow};
 ghost use Rattle.fm_elim.specs.Levels.{IsEmpty, IsDerived};
 ghost use Rattle.fm_elim.specs.Table.{IsTable};
@@ -20,12 +20,20 @@ use farkas_cert::narrow::narrow_sum;
 use farkas_cert::{Certificate, Row, System};
 use std::alloc::{AllocError, Global};
 
-// The number of a row without coefficients.
+// Whether the row is a contradiction: its bound is looked at first.
+fn is_contradiction(row: &Row) -> bool
+    ensures { IsTrue result ↔ IsContradiction row.now }
+{
+    row.bound < 0 && is_empty(row)
+}
+
+// The number of a row without coefficients, which has a bound below 0.
 fn contradiction(level: &[Held]) -> Option<u64>
+    requires { All (λ h. IsEmpty h.row → h.row.bound <ℤ pos 0) level.now }
     ensures { MatchOption result (All (λ h. IsEmpty h.row → ⊥) level.now) (λ number. (h : HeldRow) × Contains level.now h × IsEmpty h.row × (h.number ≡ number)) }
 {
     for held in level {
-        if is_empty(&held.row) {
+        if is_contradiction(&held.row) {
             return Some(held.number);
         }
     }

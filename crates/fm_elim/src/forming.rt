@@ -59,12 +59,11 @@ fn place(split: &mut BySign, held: Held, link: Link, variable: u32) -> Result<()
     Ok(())
 }
 
-// As many places as the next level of a level with so many rows wants, which has more than 20,000 rows in
-// no case that matters.
+// As many places as the next level of a level with so many rows wants: many rows make many more.
 fn places_after(rows: usize) -> usize
     ensures { 0 < result }
 {
-    places_for(rows.saturating_mul(rows / 4 + 1).min(MOST_ROWS))
+    places_for(rows.saturating_mul(rows / 16 + 1).min(MOST_ROWS))
 }
 
 /// The rows without the variable, those that bound it from above, and those that bound it from below.
@@ -83,9 +82,9 @@ pub fn split_by_sign(
     ensures split { IfOk result (λ split. IsSplit variable level.items split.uppers.items split.lowers.items) }
 {
     let mut split = BySign {
-        apart: Table::new(alloc, places_after(level.len()))?,
-        uppers: Vec::new(alloc),
-        lowers: Vec::new(alloc),
+        apart: Table::new(alloc, places_after(level.len()), level.len())?,
+        uppers: Vec::with_capacity(alloc, level.len())?,
+        lowers: Vec::with_capacity(alloc, level.len())?,
     };
     let mut index = 0;
     for held in level {

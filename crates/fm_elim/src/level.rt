@@ -185,7 +185,8 @@ fn given_rows(alloc: Global, system: &System) -> Result<Table, AllocError>
     ensures given { IfOk result (λ table. AreGiven system.now system.now.rows table.rows.items) }
     ensures table { IfOk result (λ table. IsTable (rows_among table.rows.items) table.chains.links.items table.chains.latest.items) }
 {
-    let mut table = Table::new(alloc, places_for(system.rows().len()))?;
+    let count = system.rows().len();
+    let mut table = Table::new(alloc, places_for(count), count)?;
     let mut coefs = Vec::with_capacity(alloc, system.vars() as usize)?;
     for (index, row) in system.rows().iter().enumerate() {
         put_given(alloc, &mut table, &mut coefs, row, index as u64 + 1)?;

@@ -50,15 +50,15 @@ fn is_idle(coefs: &[i128], bound: i128) -> bool
 }
 
 impl Table {
-    /// No row, and so many places.
-    pub fn new(alloc: Global, places: usize) -> Result<Self, AllocError>
+    /// No row, with so many places and room for so many rows.
+    pub fn new(alloc: Global, places: usize, room: usize) -> Result<Self, AllocError>
         requires { 0 < places }
         ensures none { IfOk result (λ table. table.rows.items ≡ []) }
         ensures table { IfOk result (λ table. IsTable (rows_among table.rows.items) table.chains.links.items table.chains.latest.items) }
     {
         Ok(Table {
-            rows: Vec::new(alloc),
-            chains: Chains::new(alloc, places)?,
+            rows: Vec::with_capacity(alloc, room)?,
+            chains: Chains::new(alloc, places, room)?,
         })
     }
 
