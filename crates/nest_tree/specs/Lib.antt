@@ -9,5 +9,7 @@ pub mod Loads
 pub mod Given
 pub mod Intervals
 pub mod Limits
+pub mod LimitText
+pub mod LimitRows
 pub mod Straight
 pub mod LaidOut

@@ -14,29 +14,11 @@ pub mod tree;
 
 pub use form::{Affine, Pairs};
 pub use layout::Layout;
-pub use limits::Limit;
+pub use limits::{Limit, program_limits};
 pub use tree::{
     Access, Compare, Expr, Guard, Item, Nest, Parameter, PrintItem, Program, Spread, Subscripts,
     Variable,
 };
 
 #[cfg(test)]
-mod tests {
-    use crate::{Affine, Pairs, Subscripts};
-    use std::test::Fail;
-
-    #[test]
-    fn keeps_what_is_pushed(rt: HostRuntime) -> Result<(), Fail> {
-        let mut pairs = Pairs::new(rt.alloc());
-        for number in 1..7u32 {
-            pairs.push(number, 2 - 2 * i64::from(number % 2))?;
-        }
-        let pushed = [(1, 0), (2, 2), (3, 0), (4, 2), (5, 0), (6, 2)];
-        assert_eq!(rt; pairs.as_slice(), pushed.as_slice());
-        let none = Affine::new(7, Pairs::new(rt.alloc()), Pairs::new(rt.alloc()));
-        let mut subscripts = Subscripts::new(rt.alloc());
-        subscripts.push(none)?;
-        assert_eq!(rt; subscripts.as_slice().len(), 1);
-        Ok(())
-    }
-}
+mod tests;

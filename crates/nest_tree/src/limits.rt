@@ -8,6 +8,7 @@ ghost use Rattle.nest_tree.specs.Given.{are_all_given, are_given, are_loads_give
 ghost use Rattle.nest_tree.specs.Intervals.{form_interval, head_interval};
 ghost use Rattle.nest_tree.specs.Layout.{cell_count};
 ghost use Rattle.nest_tree.specs.Limits.{capped, first_limit, no_ends, wide_at, wide_end, wide_forms, wide_in, wide_loads, wide_of, work_in, work_of};
+ghost use Rattle.nest_tree.specs.LimitText.{text_of_limit};
 ghost use Rattle.nest_tree.specs.Loads.{guard_forms, loads_in, loads_among, loads_in_item, subscript_forms};
 ghost use Rattle.nest_tree.specs.View.{expression_of, expressions_from, head_of, loop_of, printed_of, statement_of, statements_from, tree_of};
 ghost use Rattle.nest_tree.specs.WellFormed.{IsWellFormed};
@@ -30,6 +31,8 @@ pub enum Limit {
 
 /// One line without its end, as `REFUSED X1 LINE 3 END 2147483648`.
 impl fmt::Display for Limit {
+    ghost output = { λ limit. Some (text_of_limit limit) };
+
     fn fmt<W: fmt::Write>(&self, f: &mut fmt::Formatter<W>) -> fmt::Result {
         match self {
             Limit::TooWide(line, end) => write!(f, "REFUSED X1 LINE {line} END {end}"),
