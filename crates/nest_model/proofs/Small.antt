@@ -27,7 +27,7 @@ are_small values = list_all is_small values
 abbrev is_small_stop : List ℤ → Visit → Bool
 is_small_stop params v = are_small (computed_at params v)
 
-list_all-flat_map : {X Y : Type 0} (p : Y → Bool) (f : X → List Y) (xs : List X) → list_all (λ x. list_all p (f x)) xs ≡ true → list_all p (flat_map f xs) ≡ true
+pub list_all-flat_map : {X Y : Type 0} (p : Y → Bool) (f : X → List Y) (xs : List X) → list_all (λ x. list_all p (f x)) xs ≡ true → list_all p (flat_map f xs) ≡ true
 list_all-flat_map p f [] h = refl
 list_all-flat_map p f (x ∷ xs) h =
     let parts = and_parts (list_all p (f x)) (list_all (λ x. list_all p (f x)) xs) h in

@@ -6,3 +6,4 @@ pub mod Visits
 pub mod Ranges
 pub mod FirstRun
 pub mod Computed
+pub mod StopEnds

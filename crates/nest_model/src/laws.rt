@@ -9,6 +9,7 @@ ghost use Rattle.nest_tree.specs.Tree.{Tree, param_values};
 ghost use Rattle.nest_tree.specs.WellFormed.{IsWellFormed};
 ghost use Rattle.nest_model.specs.Computed.{computed_at};
 ghost use Rattle.nest_model.specs.Instances.{instances};
+ghost use Rattle.nest_model.specs.StopEnds.{is_in_its_ends, stop_ends};
 ghost use Rattle.nest_model.specs.Visits.{visits};
 
 /// A well-formed program has at most as many instances as it has work, and a walk of it,
@@ -22,6 +23,12 @@ pub fn no_more_stops_than_work()
 pub fn limits_bound_work_and_cells()
     ensures work { (tree : Tree) → IsWithinLimits tree → work_estimate tree ≤ most_work }
     ensures cells { (tree : Tree) → IsWithinLimits tree → cell_count tree ≤ most_cells }
+{}
+
+/// At each stop of a walk of a well-formed program, whichever loops it enters, the value of each
+/// loop round the stop lies in the interval that the bounds give the loop inside those round it.
+pub fn values_lie_in_intervals()
+    ensures { (tree : Tree) → (enters : ℕ → Bool) → IsWellFormed tree → IsTrue (list_all (is_in_its_ends (stop_ends tree enters)) (visits tree enters)) }
 {}
 
 /// In a well-formed program within its limits, wherever a walk stops, whichever loops it enters,
