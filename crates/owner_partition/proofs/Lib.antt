@@ -1,0 +1,2 @@
+mod Instances
+mod Places

@@ -1,0 +1,4 @@
+pub mod Marks
+pub mod Owners
+pub mod Phases
+pub mod Placement

@@ -1,0 +1,39 @@
+// Anchors, and the owners that they name.
+
+ghost use Rattle.std.specs.Prelude.{◌≡◌, ◌<◌, ◌≤◌, IsTrue, length};
+ghost use Rattle.nest_tree.specs.Form.{form_value, is_given};
+ghost use Rattle.owner_partition.specs.Owners.{anchor_owner, reaches};
+
+use nest_tree::Affine;
+
+/// How owners are dealt: blocks of so many neighbouring places, or places in turn.
+#[derive(Clone, Copy, Debug, PartialEq, Eq)]
+pub enum Dist {
+    /// The length of a block, from 1.
+    Block(u32),
+    Cyclic,
+}
+
+/// A form with its distribution: it says which processor owns what stands at the form's value.
+#[derive(Drop)]
+pub struct Anchor {
+    pub form: Affine,
+    pub dist: Dist,
+}
+
+/// The processor that the anchor names where the loops and the named constants, by number from 1,
+/// have these values: the value divided by the block's length, or its remainder by the workers,
+/// which is never negative. A block's value lies within its blocks; a cyclic one may lie anywhere.
+pub fn owner(anchor: &Anchor, loops: &[i64], params: &[i64], workers: u32) -> u32
+    requires given { IsTrue (is_given anchor.now.form (length loops.now) (length params.now)) }
+    requires workers { 1 ≤ workers }
+    requires placed { IsTrue (reaches anchor.now.dist workers (form_value anchor.now.form loops.now params.now, form_value anchor.now.form loops.now params.now)) }
+    ensures owner { result ≡ anchor_owner anchor.now workers loops.now params.now }
+    ensures worker { result < workers }
+{
+    let value = anchor.form.exact_value(loops, params);
+    match anchor.dist {
+        Dist::Block(length) => value.div_euclid(i128::from(length)) as u32,
+        Dist::Cyclic => value.rem_euclid(i128::from(workers)) as u32,
+    }
+}

@@ -1,0 +1,17 @@
+//! Who owns what in a parallel run: which loops are what, the phases, and the processor that an
+//! anchor names.
+//!
+//! - [`cut`]: the marks of a program's loops.
+//! - [`anchor`]: anchors, and the owner that one names.
+//! - [`placement`]: whether each block anchor keeps within its blocks.
+//! - [`laws`]: the phases' instances are the program's.
+#![tactic(auto)]
+
+pub mod anchor;
+pub mod cut;
+pub mod laws;
+pub mod placement;
+
+pub use anchor::{Anchor, Dist, owner};
+pub use cut::{Cut, Mark};
+pub use placement::{Placement, check_placement};
