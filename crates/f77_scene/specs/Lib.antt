@@ -1,0 +1,11 @@
+pub mod Fault
+pub mod Scene
+pub mod Expressions
+pub mod Affine
+pub mod Statements
+pub mod Tests
+pub mod Limits
+pub mod Behind
+pub mod Directives
+pub mod Reading
+pub mod Examples

@@ -1,0 +1,154 @@
+-- Which program bytes and settings stand for, and their first fault.
+use Rattle.std.specs.Prelude.{ℕ, suc, ℤ, Bool, ◌||◌, if◌then◌else◌, List, [], ◌∷◌, ◌++◌, length, map, filter, Option, Some, None, ◌≡◌}
+use Rattle.std.specs.Option.{option_or}
+use Rattle.f77_lines.specs.declared.refusal.LineRefusal.{LineRefusal}
+use Rattle.f77_lines.specs.Statements.{Entry, statement, directive}
+use Rattle.f77_lines.specs.Listing.{entries_of, first_line_fault}
+use Rattle.f77_forms.specs.declared.fault.TextFault.{TextFault}
+use Rattle.f77_forms.specs.declared.fault.TextFault.TheVariants.{LeftOut, NumberTooLarge, NoForm, NoMemory}
+use Rattle.f77_forms.specs.Form.{StatementForm}
+use Rattle.f77_forms.specs.Statements.{statement_at}
+use Rattle.f77_forms.specs.Marks.{text_fault}
+use Rattle.nest_tree.specs.declared.tree.Spread.TheVariants.{Block}
+use Rattle.nest_tree.specs.Tree.{Declaration, Tree}
+use Rattle.f77_scene.specs.Fault.{Fault, left_out, number_too_large, syntax, unknown, not_integer, loop_variable, rank, bad_divisor, not_affine, zero_step, do_label, past_limit, Refusal, bad_line, bad_statement, bad_setting}
+use Rattle.f77_scene.specs.Scene.{Name, Given, Scene, first_scene, is_among, is_array, constant_names, bounds_named}
+use Rattle.f77_scene.specs.Statements.{integers_in}
+use Rattle.f77_scene.specs.Tests.{has_bad_syntax, has_unknown, has_other_type, misuses_loop_variable, has_bad_rank, has_bad_divisor, is_not_affine, has_zero_step, has_bad_label}
+use Rattle.f77_scene.specs.Limits.{limits_past}
+use Rattle.f77_scene.specs.Behind.{behind, in_a_row}
+use Rattle.f77_scene.specs.Directives.{placed}
+
+-- ---- the fault of a statement
+
+-- F2, F11 or F1 of a text without form
+abbrev pub fault_of_text : TextFault → Fault
+fault_of_text LeftOut = left_out
+fault_of_text NumberTooLarge = number_too_large
+fault_of_text NoForm = syntax
+fault_of_text NoMemory = syntax
+
+-- the first fault whose test holds
+abbrev pub first_of : List (Bool × Fault) → Option Fault
+first_of [] = None
+first_of (test ∷ tests) = if test.0 then Some test.1 else first_of tests
+
+-- the first number that passes a limit
+abbrev pub first_past : List ℤ → Option Fault
+first_past [] = None
+first_past (z ∷ zs) = Some (past_limit z)
+
+-- the first fault of a statement with this form and this label, with so many statements behind it
+abbrev pub fault_of_form : Given → Scene → ℕ → ℕ → StatementForm → Option Fault
+fault_of_form given s after label f =
+    option_or
+    (first_of
+    ((has_bad_syntax given s after f, syntax) ∷ (has_unknown given s f, unknown) ∷ (has_other_type given s f, not_integer) ∷ (misuses_loop_variable given s f, loop_variable)
+    ∷ (has_bad_rank given s f, rank) ∷ (has_bad_divisor given s f, bad_divisor) ∷ (is_not_affine s f, not_affine) ∷ (has_zero_step s f, zero_step) ∷ (has_bad_label s label f, do_label) ∷ []))
+    (first_past (limits_past s f))
+
+-- the first fault of a statement by the form that its text has, if any
+abbrev pub fault_with : Given → Scene → ℕ → ℕ → List ℕ → Option StatementForm → Option Fault
+fault_with given s after label text None = Some (fault_of_text (text_fault text))
+fault_with given s after label text (Some f) = fault_of_form given s after label f
+
+-- what is known behind a statement; behind a text without form nothing is read any more
+abbrev pub scene_with : Given → Scene → ℕ → ℕ → Option StatementForm → Scene
+scene_with given s line label None = s
+scene_with given s line label (Some f) = behind given s line label f
+
+-- ---- all statements
+
+-- how many statements are listed
+abbrev pub statement_count : List Entry → ℕ
+statement_count [] = 0
+statement_count (statement line label text ∷ entries) = suc (statement_count entries)
+statement_count (directive line text ∷ entries) = statement_count entries
+
+-- a fault with the line where its statement begins
+abbrev pub at_line : ℕ → Option Fault → Option Refusal
+at_line line None = None
+at_line line (Some fault) = Some (bad_statement fault line)
+
+-- the first fault of statements, and what is known behind them
+unfoldable pub fault_from : Given → Scene → List Entry → Option Refusal
+fault_from given s [] = None
+fault_from given s (directive line text ∷ entries) = fault_from given s entries
+fault_from given s (statement line label text ∷ entries) =
+    let form : Option StatementForm = statement_at text in
+    option_or (at_line line (fault_with given s (statement_count entries) label text form)) (fault_from given (scene_with given s line label form) entries)
+
+unfoldable pub scene_from : Given → Scene → List Entry → Scene
+scene_from given s [] = s
+scene_from given s (directive line text ∷ entries) = scene_from given s entries
+scene_from given s (statement line label text ∷ entries) = scene_from given (scene_with given s line label (statement_at text)) entries
+
+-- ---- what holds of the whole source
+
+abbrev pub integers_with : Option StatementForm → List Name
+integers_with None = []
+integers_with (Some f) = integers_in f
+
+-- the names in INTEGER statements, wherever they stand
+unfoldable pub integers_among : List Entry → List Name
+integers_among [] = []
+integers_among (directive line text ∷ entries) = integers_among entries
+integers_among (statement line label text ∷ entries) = integers_with (statement_at text) ++ integers_among entries
+
+-- variables are arrays, and scalars that are stored or read; they are numbered as their names first appear
+abbrev pub variables_of : Scene → List Name
+variables_of s = filter (λ n. is_array s n || is_among s.scalars n) s.names
+
+-- where the variables have these numbers
+abbrev pub given_with : List Entry → List (Name × ℤ) → List Name → Given
+given_with entries settings variables = record { settings = settings; integers = integers_among entries; variables = variables }
+
+-- what is known behind the last statement, with the whole tree
+unfoldable pub last_scene : List Entry → List (Name × ℤ) → Scene
+last_scene entries settings =
+    let numbered : List Name = variables_of (scene_from (given_with entries settings []) first_scene entries) in
+    scene_from (given_with entries settings numbered) first_scene entries
+
+-- the texts of the directives
+abbrev pub directives_of : List Entry → List (List ℕ)
+directives_of [] = []
+directives_of (statement line label text ∷ entries) = directives_of entries
+directives_of (directive line text ∷ entries) = text ∷ directives_of entries
+
+-- a variable with its bounds, if any, and how it is distributed
+abbrev pub declaration : List (List ℕ) → Scene → Name → Declaration
+declaration texts s n =
+    if is_array s n then record { name = n; bounds = bounds_named s.arrays n; axis = (placed texts n (length (bounds_named s.arrays n))).0; spread = (placed texts n (length (bounds_named s.arrays n))).1 }
+    else record { name = n; bounds = []; axis = 0; spread = Block }
+
+abbrev pub tree_from : List Entry → Scene → Tree
+tree_from entries s = record { items = in_a_row s.items; params = s.constants; variables = map (declaration (directives_of entries) s) (variables_of s) }
+
+-- the program that bytes without a fault stand for
+abbrev pub program_of : List ℕ → List (Name × ℤ) → Tree
+program_of bytes settings = tree_from (entries_of bytes) (last_scene (entries_of bytes) settings)
+
+-- ---- the first fault
+
+-- the first of settings, from this number on, that names none of these
+abbrev pub bad_setting_from : ℕ → List Name → List (Name × ℤ) → Option Refusal
+bad_setting_from index names [] = None
+bad_setting_from index names (setting ∷ settings) = if is_among names setting.0 then bad_setting_from (suc index) names settings else Some (bad_setting index)
+
+abbrev pub as_refusal : Option LineRefusal → Option Refusal
+as_refusal None = None
+as_refusal (Some refusal) = Some (bad_line refusal)
+
+-- the first fault of statements, or else the first setting that names no PARAMETER
+abbrev pub first_fault_in : List Entry → List (Name × ℤ) → Option Refusal
+first_fault_in entries settings =
+    option_or (fault_from (given_with entries settings []) first_scene entries) (bad_setting_from 1 (constant_names (last_scene entries settings)) settings)
+
+-- the first fault of bytes and settings: of lines, of statements, of settings
+abbrev pub first_fault : List ℕ → List (Name × ℤ) → Option Refusal
+first_fault bytes settings = option_or (as_refusal (first_line_fault bytes)) (first_fault_in (entries_of bytes) settings)
+
+-- Bytes and settings without a fault stand for this program.
+pub record Reads (bytes : List ℕ) (settings : List (Name × ℤ)) (program : Tree) : Type 0 where
+  pub faultless : first_fault bytes settings ≡ None
+  pub stands : program ≡ program_of bytes settings

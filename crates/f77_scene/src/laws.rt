@@ -1,0 +1,17 @@
+// What holds of programs and faults themselves.
+
+ghost use Rattle.std.specs.Prelude.{ℕ, ℤ, List, Some, ◌≡◌, ◌⊎◌};
+ghost use Rattle.nest_tree.specs.Tree.{Tree};
+ghost use Rattle.f77_scene.specs.Fault.{Refusal};
+ghost use Rattle.f77_scene.specs.Reading.{Reads, first_fault};
+
+/// Bytes and settings stand for at most one program.
+pub fn one_program()
+    ensures { (bytes : List ℕ) (settings : List (List ℕ × ℤ)) (p q : Tree) → Reads bytes settings p → Reads bytes settings q → p ≡ q }
+{}
+
+/// Bytes and settings that stand for a program have no first fault, and any others have one.
+pub fn program_or_fault()
+    ensures either { (bytes : List ℕ) (settings : List (List ℕ × ℤ)) → ((program : Tree) × Reads bytes settings program) ⊎ ((refusal : Refusal) × (first_fault bytes settings ≡ Some refusal)) }
+    ensures not_both { (bytes : List ℕ) (settings : List (List ℕ × ℤ)) (program : Tree) (refusal : Refusal) → Reads bytes settings program → first_fault bytes settings ≡ Some refusal → ⊥ }
+{}
