@@ -25,13 +25,13 @@ bytes_of lines = flat_map (λ line. line ++ 10 ∷ []) lines
 
 -- ---- a program
 
--- comments, small letters, a continuation line, a directive, two loops that share a label, a logical IF and a whole array
+-- comments, small letters, a continuation line, a directive, two loops that share a label, a logical IF, a whole array, and M that is never used
 abbrev pub source : List (List ℕ)
 source =
     codes "C heat"
     ∷ codes "      program heat"
     ∷ codes "      parameter (n = 4)"
-    ∷ codes "      integer a(0:n),"
+    ∷ codes "      integer m, a(0:n),"
     ∷ codes "C in between"
     ∷ codes "     &  b(n, 2)"
     ∷ codes "c$dist b(*,cyclic)"
@@ -77,7 +77,7 @@ program-is_well_formed = refl
 
 -- ---- first faults
 
--- sources with settings, and their first faults: a power; a number past the limit; a declaration behind an executable statement; a named constant that is stored to; X is not INTEGER;
+-- sources with settings, and their first faults: a power; a number past the limit; a declaration behind an executable statement; a named constant that is stored to; X that is no array, before that it is not INTEGER; X that is not INTEGER;
 -- a DO variable in its own bounds, which stand outside the loop; one subscript of two; a divisor of 0, also where a setting replaces the value; a product of two loop variables; a step of 0;
 -- an outer loop that would end in front of the inner one; an extent of -1; a sum past the limit of forms; a second setting that names no PARAMETER; no END line, which comes before the fault of a statement
 abbrev pub refused : List (List (List ℕ) × List (Name × ℤ) × Refusal)
@@ -86,6 +86,7 @@ refused =
     ∷ (codes "      K = 1" ∷ codes "      K = 9223372036854775808" ∷ codes "      END" ∷ [], [], bad_statement number_too_large 2)
     ∷ (codes "      K = 1" ∷ codes "      INTEGER A(5)" ∷ codes "      END" ∷ [], [], bad_statement syntax 2)
     ∷ (codes "      PARAMETER (N = 1)" ∷ codes "      N = 2" ∷ codes "      END" ∷ [], [], bad_statement unknown 2)
+    ∷ (codes "      X(1) = 2" ∷ codes "      END" ∷ [], [], bad_statement unknown 1)
     ∷ (codes "      DIMENSION A(5)" ∷ codes "      INTEGER A" ∷ codes "      X = 1" ∷ codes "      END" ∷ [], [], bad_statement not_integer 3)
     ∷ (codes "      DO 10 I = I, 5" ∷ codes "   10 CONTINUE" ∷ codes "      END" ∷ [], [], bad_statement loop_variable 1)
     ∷ (codes "      INTEGER A(2, 2)" ∷ codes "      A(1) = 0" ∷ codes "      END" ∷ [], [], bad_statement rank 2)

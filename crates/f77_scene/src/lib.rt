@@ -8,4 +8,4 @@
 
 mod laws;
 
-pub use laws::{one_program, program_or_fault};
+pub use laws::{form_is_its_own, one_program, program_or_fault};
