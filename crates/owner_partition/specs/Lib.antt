@@ -2,3 +2,4 @@ pub mod Marks
 pub mod Owners
 pub mod Phases
 pub mod Placement
+pub mod PhasesLeft

@@ -4,14 +4,17 @@
 //! - [`cut`]: the marks of a program's loops.
 //! - [`anchor`]: anchors, and the owner that one names.
 //! - [`placement`]: whether each block anchor keeps within its blocks.
+//! - [`phases`]: the phases of a program, one by one.
 //! - [`laws`]: the phases' instances are the program's.
 #![tactic(auto)]
 
 pub mod anchor;
 pub mod cut;
 pub mod laws;
+pub mod phases;
 pub mod placement;
 
 pub use anchor::{Anchor, Dist, owner};
 pub use cut::{Cut, Mark};
+pub use phases::{Phase, PhaseCursor};
 pub use placement::{Placement, check_placement};

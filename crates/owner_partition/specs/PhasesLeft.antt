@@ -1,0 +1,29 @@
+-- The phases that are left.
+use Rattle.std.specs.Prelude.{ℕ, ◌≡◌, List}
+use Rattle.nest_tree.specs.Tree.{Tree}
+use Rattle.nest_model.specs.Visits.{Visit}
+use Rattle.nest_walk.specs.Cursors.{left_of, loops_in, rounds_in, tree_in}
+use Rattle.nest_walk.specs.Paths.{Round, by_depth}
+use Rattle.owner_partition.specs.declared.phases.Phase.{Phase}
+use Rattle.owner_partition.specs.declared.phases.PhaseCursor.{PhaseCursor}
+
+abbrev pub phases_tree : PhaseCursor → Tree
+phases_tree c = tree_in c.cursor
+
+abbrev pub phases_left : PhaseCursor → List Visit
+phases_left c = left_of c.cursor
+
+-- how many phases have been given
+abbrev pub phases_passed : PhaseCursor → ℕ
+phases_passed c = c.passed
+
+-- the Outer loops round the phase that was given last, with their values
+abbrev pub phases_rounds : PhaseCursor → List Round
+phases_rounds c = rounds_in c.cursor
+
+-- a phase with this number, where these are the Outer loops round it: it is that stop, with the loops' values by depth
+pub record IsPhase (tree : Tree) (rounds : List Round) (number : ℕ) (v : Visit) (p : Phase) : Type 0 where
+  pub number_is : p.number ≡ number
+  pub place_is : p.place ≡ v.place
+  pub loops_are : v.loops ≡ loops_in tree rounds
+  pub outer_is : p.outer ≡ by_depth rounds
