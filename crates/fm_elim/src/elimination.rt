@@ -149,9 +149,13 @@ fn refutation(
 /// Decides a system by Fourier's elimination, which removes the variables in the order that is given.
 ///
 /// Infeasible comes with a certificate that is good for the system, and in which each step but the
-/// last is needed by a later one. Open comes only where no level keeps a row without coefficients,
-/// so that the system has a rational solution. Wide and Many at a level come only where no level
-/// before it keeps one, and no two rows of the level before it add to one (within the limit of 2 ^ 126).
+/// last is needed by a later one. With any other answer the system is kept: each level before the
+/// answer was formed whole, with no row without coefficients, no pair whose least combination passes
+/// 2 ^ 126 in size, and at most 20,000 rows; and Open says that the system has a rational solution.
+///
+/// Opposites whose bounds add to less than 0 are looked up among all rows of a level, those without
+/// the variable that is removed too. So Infeasible may come a level earlier than a row without
+/// coefficients does, and in place of a Wide or Many of that level.
 ///
 /// The order names each variable, from 1, once. The coefficients and the bounds are at most 2 ^ 126
 /// in size. An error says that memory ran out, and nothing of the system.
