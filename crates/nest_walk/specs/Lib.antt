@@ -10,4 +10,5 @@ pub mod Cursors
 pub mod Executed
 pub mod InstancesLeft
 pub mod Places
+pub mod Texts
 pub mod CellForms
