@@ -39,6 +39,13 @@ levels_of c = levels_to c.frames.all c.path.depth
 abbrev pub after : Cursor → Item → List Item → Stretch
 after c item behind = record { statements = statements_from behind; place = c.rest.place + stops_in (enters_but c.marks.now) (statement_of item); first = c.rest.first + works_in (statement_of item) }
 
+-- the same by counted stops and pieces of work
+pub after_is : (c : Cursor) (item : Item) (behind : List Item) (stops works : ℕ) → stops ≡ stops_in (enters_but c.marks.now) (statement_of item) → works ≡ works_in (statement_of item) →
+    after c item behind ≡ record { statements = statements_from behind; place = c.rest.place + stops; first = c.rest.first + works }
+after_is c item behind stops works s w =
+    let stretch : ℕ → ℕ → Stretch = λ m n. record { statements = statements_from behind; place = c.rest.place + m; first = c.rest.first + n } in
+    ap (λ m. stretch m (works_in (statement_of item))) (sym s) ∙ ap (stretch stops) (sym w)
+
 pub passes : (c : Cursor) (item : Item) (behind : List Item) → c.rest.items.now ≡ item ∷ behind →
     Passed (walk_of c) (rounds_of c.path) (levels_of c) (stretch_of c.rest) (statement_of item) (after c item behind)
 passes c item behind at =

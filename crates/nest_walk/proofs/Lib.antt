@@ -2,6 +2,7 @@ pub mod Trees
 pub mod PathLists
 pub mod Sums
 pub mod Steps
+pub mod TextMoves
 pub mod WalkMoves
 pub mod FormValues
 pub mod Levels

@@ -5,14 +5,18 @@ use Rattle.std.proofs.lemmas.Bool.{and_parts, and_from, eq-eqb, eqb-true, lt-ltb
 use Rattle.std.proofs.lemmas.List.{append-nil, length-replicate, length-set}
 use Rattle.std.proofs.lemmas.List.Sums.{sum_by-cons}
 use Rattle.nest_tree.specs.Form.{is_small}
-use Rattle.nest_tree.specs.Tree.{Head, Statement, Statements, do_loop, work, continue, done, next}
+use Rattle.nest_tree.specs.Tree.{Head, Statement, Statements, do_loop, work, continue, done, next, Tree}
 use Rattle.nest_tree.specs.WellFormed.{is_number_of}
 use Rattle.nest_model.specs.Instances.{head_trips, with_loop, works_in, works_of}
 use Rattle.nest_model.specs.Visits.{Visit, stops_in, stops_of, visits_of, visits_in}
+use Rattle.nest_walk.specs.InText.{AreInText}
 use Rattle.nest_walk.specs.Moves.{moves_of, moves_in, stretch_moves, moves_left}
 use Rattle.nest_walk.specs.Paths.{Round, by_number}
+use Rattle.nest_walk.specs.Places.{numbers_of}
+use Rattle.nest_walk.specs.Texts.{IsInText}
 use Rattle.nest_walk.specs.Walkable.{is_walkable, are_walkable, is_small_at, is_small_head}
 use Rattle.nest_walk.specs.Walks.{Walk, Stretch, Level, last_place, last_work, stretch_behind, stretch_visits, left, is_numbered, is_sound_stretch, ends_with, is_sound_trip, is_sound}
+use Rattle.nest_walk.proofs.TextMoves.{after_text, body_text, replace_text, rest_text, statement_text}
 
 pub by_number-length : (loops : ℕ) (rounds : List Round) → length (by_number loops rounds) ≡ loops
 by_number-length loops [] = length-replicate loops (pos 0)
@@ -105,6 +109,8 @@ pub record Passed (walk : Walk) (rounds : List Round) (levels : List Level) (res
   pub left_is : left walk rounds levels rest ≡ visits_of walk.params walk.enters s rest.place rest.first (by_number walk.loops rounds) ++ left walk rounds levels after
   pub moves_are : moves_left walk rounds levels rest ≡ moves_of walk.params walk.enters s (by_number walk.loops rounds) + moves_left walk rounds levels after
   pub walkable : is_walkable walk.params (length rounds) s (by_number walk.loops rounds) ≡ true
+  pub placed : (tree : Tree) → AreInText tree walk rounds levels rest → IsInText tree walk.enters (numbers_of rounds) s rest.place rest.first
+  pub texts : (tree : Tree) → AreInText tree walk rounds levels rest → AreInText tree walk rounds levels after
 
 pub passed : (walk : Walk) (rounds : List Round) (levels : List Level) (rest : Stretch) (s : Statement) (ss : Statements) → rest.statements ≡ next s ss → is_sound walk rounds levels rest ≡ true →
     Passed walk rounds levels rest s (record { statements = ss; place = rest.place + stops_in walk.enters s; first = rest.first + works_in s })
@@ -132,6 +138,8 @@ passed walk rounds levels rest s ss at h =
           ∙ ap (λ xs. visits_of walk.params walk.enters s rest.place rest.first loops ++ xs) (sym (known.left_is after));
       moves_are = omega (arith, known.moves_is rest, known.moves_is after, moved);
       walkable = both.0;
+      placed = λ tree text. statement_text tree walk (numbers_of rounds) rest s ss at (rest_text tree walk rounds levels rest text);
+      texts = λ tree text. replace_text tree walk rounds levels rest after text (after_text tree walk (numbers_of rounds) rest s ss at (rest_text tree walk rounds levels rest text));
     }
 
 -- a move: what is left is the same, with fewer moves, and can be walked
@@ -139,6 +147,7 @@ pub record Kept (walk : Walk) (rounds : List Round) (levels : List Level) (rest 
   pub sound : is_sound walk rounds' levels' rest' ≡ true
   pub left_is : left walk rounds' levels' rest' ≡ left walk rounds levels rest
   pub moves_are : moves_left walk rounds' levels' rest' < moves_left walk rounds levels rest
+  pub texts : (tree : Tree) → AreInText tree walk rounds levels rest → AreInText tree walk rounds' levels' rest'
 
 -- the same at equal loops and statements
 pub along : (walk : Walk) (rounds : List Round) (levels : List Level) (rest : Stretch) (rounds' : List Round) (levels' : List Level) (rest' : Stretch)
@@ -224,6 +233,9 @@ entered walk rounds levels rest head body ss v vs at enters_it trips h =
       left_is = sym (p.left_is ∙ ap (λ xs. xs ++ left walk rounds levels (after (stops_in walk.enters s))) visited
           ∙ append_assoc (trip v) (flat_map trip vs) (left walk rounds levels (after (stops_in walk.enters s))) ∙ ap (λ xs. trip v ++ (flat_map trip vs ++ xs)) behind);
       moves_are = omega (arith, p.moves_are, moved, moves_behind);
+      texts = λ tree text.
+          let inner_text = body_text tree walk.enters (numbers_of rounds) head body rest.place rest.first enters_it (p.placed tree text) in
+          (inner_text, inner_text, subst (λ n. AreInText tree walk rounds levels (after n)) stops (p.texts tree text));
     }
 
 -- the next trip of the innermost loop
@@ -255,6 +267,7 @@ again walk r rounds l levels rest v vs at values h =
       left_is = sym (ap (λ all. visits_in walk.params walk.enters all rest.place rest.first loops ++ (flat_map trip l.later ++ outer)) at
           ∙ ap (λ us. flat_map trip us ++ outer) values ∙ append_assoc (trip v) (flat_map trip vs) outer);
       moves_are = omega (arith, moved, summed);
+      texts = λ tree text. (text.1, text.1, text.2);
     }
 
 -- out of the innermost loop
@@ -278,6 +291,7 @@ leaves walk r rounds l levels rest at values h =
       sound = i.outer;
       left_is = sym (ap (λ all. visits_in walk.params walk.enters all rest.place rest.first loops ++ (flat_map trip l.later ++ outer)) at ∙ ap (λ us. flat_map trip us ++ outer) values);
       moves_are = omega (arith, moved, summed);
+      texts = λ tree text. text.2;
     })
 
 pub are_numbered : (walk : Walk) (rounds : List Round) (levels : List Level) (rest : Stretch) → is_sound walk rounds levels rest ≡ true →

@@ -11,4 +11,5 @@ pub mod Executed
 pub mod InstancesLeft
 pub mod Places
 pub mod Texts
+pub mod InText
 pub mod CellForms

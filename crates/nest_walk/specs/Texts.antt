@@ -1,5 +1,5 @@
 -- The text of a program as a walk sees it: its stops in text order, each with the loops round it.
-use Rattle.std.specs.Prelude.{ℕ, ◌-◌, ℤ, pos, Bool, true, not, ◌==◌, List, [], ◌∷◌, ◌++◌, map, take, drop, slice_index_or, None, if◌then◌else◌, ◌≡◌, refl}
+use Rattle.std.specs.Prelude.{ℕ, suc, ◌-◌, pos, Bool, not, ◌==◌, List, [], ◌∷◌, ◌++◌, map, length, slice_index_or, if◌then◌else◌, ◌≡◌, refl}
 use Rattle.nest_tree.specs.Form.{Form}
 use Rattle.nest_tree.specs.Tree.{Statement, Statements, print, do_loop, work, continue, done, next, Tree}
 use Rattle.nest_model.specs.Visits.{every}
@@ -33,9 +33,20 @@ works tree = placed tree every
 abbrev pub loops_round : Tree → ℕ → List ℕ
 loops_round tree n = slice_index_or (map (λ (p : Placed). p.around) (works tree)) (n - 1) []
 
--- these statements stand in a list one behind another, from this number on
+-- these statements stand in a list one behind another, and the first of them has this number, from 1
+pub record Standing (all : List Placed) (number : ℕ) (part : List Placed) : Type 0 where
+  pub before : List Placed
+  pub behind : List Placed
+  pub all_is : all ≡ before ++ (part ++ behind)
+  pub number_is : number ≡ suc (length before)
+
 abbrev pub StandFrom : List Placed → ℕ → List Placed → Type 0
-StandFrom all n part = (more : List Placed) × (drop (n - 1) all ≡ part ++ more)
+StandFrom all number part = ∥ Standing all number part ∥₁
+
+-- a statement with these loops round it stands in the text: among the stops of a walk, and among the pieces of work, at these numbers
+pub record IsInText (tree : Tree) (enters : ℕ → Bool) (around : List ℕ) (s : Statement) (place first : ℕ) : Type 0 where
+  pub stops : StandFrom (placed tree enters) place (placed_in enters around s)
+  pub works : StandFrom (works tree) first (placed_in every around s)
 
 -- a PRINT, and behind it DO 20 I round DO 10 J with a PRINT: loop 2 and loop 1 are round the second; a walk that stops at loop 2 has loop 1 round that stop
 abbrev fixed : Form

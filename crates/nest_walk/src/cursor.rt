@@ -3,6 +3,7 @@
 ghost use Rattle.std.specs.Prelude.{IsTrue};
 ghost use Rattle.nest_tree.specs.View.{tree_of};
 ghost use Rattle.nest_walk.specs.Frames.{levels_to, stretch_of};
+ghost use Rattle.nest_walk.specs.InText.{AreInText, AreInText-prop};
 ghost use Rattle.nest_walk.specs.RoundsOf.{rounds_of};
 ghost use Rattle.nest_walk.specs.Walks.{walk_in, is_sound};
 
@@ -32,6 +33,7 @@ pub struct Cursor<'a> {
     pub(crate) frames: Frames<'a>,
     pub(crate) rest: Part<'a>,
     ghost sound: { IsTrue (is_sound (walk_in (tree_of program.now) marks.now) (rounds_of path) (levels_to frames.all path.depth) (stretch_of rest)) },
+    ghost texts: { AreInText (tree_of program.now) (walk_in (tree_of program.now) marks.now) (rounds_of path) (levels_to frames.all path.depth) (stretch_of rest) } by { AreInText-prop (tree_of program.now) (walk_in (tree_of program.now) marks.now) (rounds_of path) (levels_to frames.all path.depth) (stretch_of rest) },
 }
 
 impl<'a> Cursor<'a> {
@@ -50,6 +52,8 @@ impl<'a> Cursor<'a> {
     ghost use Rattle.nest_model.specs.Visits.{stops_in, visits};
     ghost use Rattle.nest_walk.specs.Cursors.{is_reached, left_of, loops_in, marks_in, moves_to_go, rounds_in, tree_in, visit_at, visits_at};
     ghost use Rattle.nest_walk.specs.Frames.{head_of};
+    ghost use Rattle.nest_walk.specs.Places.{numbers_of};
+    ghost use Rattle.nest_walk.specs.Texts.{IsInText};
     ghost use Rattle.nest_walk.specs.TripsLeft.{trips_left};
     ghost use Rattle.nest_walk.specs.Walks.{enters_but};
 
@@ -86,6 +90,7 @@ impl<'a> Cursor<'a> {
         ensures stop { MatchOption result (left_of self.old ≡ []) (λ s. left_of self.old ≡ visit_at (tree_in self.new) (rounds_in self.new) s ∷ left_of self.new) }
         ensures end { MatchOption result (left_of self.new ≡ []) (λ s. Unit) }
         ensures reached { IfSome result (λ s. IsTrue (is_reached (tree_in self.new) (rounds_in self.new) s)) }
+        ensures text { IfSome result (λ s. IsInText (tree_in self.new) (enters_but (marks_in self.new)) (numbers_of (rounds_in self.new)) (statement_of s.item.now) s.place s.first) }
         ensures program { tree_in self.new ≡ tree_in self.old }
         ensures marks { marks_in self.new ≡ marks_in self.old }
     {
@@ -105,6 +110,7 @@ impl<'a> Cursor<'a> {
         requires { self.old.rest.items.now ≡ item.now ∷ behind.now }
         ensures stop { MatchOption result (left_of self.new ≡ left_of self.old) (λ s. left_of self.old ≡ visit_at (tree_in self.new) (rounds_in self.new) s ∷ left_of self.new) }
         ensures reached { IfSome result (λ s. IsTrue (is_reached (tree_in self.new) (rounds_in self.new) s)) }
+        ensures text { IfSome result (λ s. IsInText (tree_in self.new) (enters_but (marks_in self.new)) (numbers_of (rounds_in self.new)) (statement_of s.item.now) s.place s.first) }
         ensures moved { moves_to_go self.new < moves_to_go self.old }
         ensures program { tree_in self.new ≡ tree_in self.old }
         ensures marks { marks_in self.new ≡ marks_in self.old }
@@ -135,6 +141,7 @@ impl<'a> Cursor<'a> {
         ensures left { left_of self.old ≡ visits_at (tree_in self.old) (marks_in self.old) (rounds_in self.old) result ++ left_of self.new }
         ensures rounds { rounds_in self.new ≡ rounds_in self.old }
         ensures reached { IsTrue (is_reached (tree_in self.old) (rounds_in self.old) result) }
+        ensures text { IsInText (tree_in self.old) (enters_but (marks_in self.old)) (numbers_of (rounds_in self.old)) (statement_of result.item.now) result.place result.first }
         ensures item { result.item.now ≡ item.now }
         ensures moved { moves_to_go self.new < moves_to_go self.old }
         ensures program { tree_in self.new ≡ tree_in self.old }

@@ -1,15 +1,17 @@
 // The instances of a program.
 
-ghost use Rattle.std.specs.Prelude.{◌≡◌, [], ◌∷◌, IsTrue, MatchOption};
+ghost use Rattle.std.specs.Prelude.{◌≡◌, [], ◌∷◌, IfSome, IsTrue, MatchOption};
 ghost use Rattle.nest_tree.specs.Limits.{IsWithinLimits};
 ghost use Rattle.nest_tree.specs.Tree.{param_values};
 ghost use Rattle.nest_tree.specs.View.{tree_of, statement_of};
 ghost use Rattle.nest_tree.specs.WellFormed.{IsWellFormed};
 ghost use Rattle.nest_model.specs.Instances.{Instance, instances};
-ghost use Rattle.nest_model.specs.Visits.{instances_at};
+ghost use Rattle.nest_model.specs.Visits.{every, instances_at};
 ghost use Rattle.nest_walk.specs.Cursors.{is_reached, loops_in, rounds_in, tree_in, visit_at};
 ghost use Rattle.nest_walk.specs.Executed.{is_executed_at};
+ghost use Rattle.nest_walk.specs.Places.{numbers_of};
 ghost use Rattle.nest_walk.specs.RoundsOf.{rounds_of};
+ghost use Rattle.nest_walk.specs.Texts.{StandFrom, placed_in, works};
 
 use crate::cursor::{Cursor, Stop};
 use crate::path::Path;
@@ -49,6 +51,8 @@ impl<'a> Instances<'a> {
     pub fn next(&mut self) -> Option<Stop<'a>>
         ensures instance { MatchOption result (instances_left self.old ≡ []) (λ s. (i : Instance) × (instances_at (param_values (instances_tree self.new)) (visit_at (instances_tree self.new) (instances_rounds self.new) s) ≡ i ∷ []) × (instances_left self.old ≡ i ∷ instances_left self.new)) }
         ensures end { MatchOption result (instances_left self.new ≡ []) (λ s. Unit) }
+        ensures reached { IfSome result (λ s. IsTrue (is_reached (instances_tree self.new) (instances_rounds self.new) s)) }
+        ensures text { IfSome result (λ s. StandFrom (works (instances_tree self.new)) s.first (placed_in every (numbers_of (instances_rounds self.new)) (statement_of s.item.now))) }
         ensures program { instances_tree self.new ≡ instances_tree self.old }
     {
         while let Some(stop) = self.cursor.next() {

@@ -2,7 +2,7 @@ use Rattle.std.proofs.Common.{◌≡◌, ◌∷◌, ap, sym, ◌∙◌, suc, rul
 use Rattle.std.specs.List.{list_all}
 use Rattle.std.proofs.lemmas.Int.{to_z-of_z}
 use Rattle.nest_tree.specs.Form.{is_small}
-use Rattle.nest_tree.specs.View.{statements_from}
+use Rattle.nest_tree.specs.View.{statements_from, tree_of}
 use Rattle.nest_walk.specs.Cursors.{left_of, moves_to_go}
 use Rattle.nest_walk.specs.Frames.{levels_to, stretch_of}
 use Rattle.nest_walk.specs.RoundsOf.{rounds_of}
@@ -54,7 +54,7 @@ kept c =
     (rounds_of c.push.new.self) (levels_to c.put.new.self.all c.push.new.self.depth) (stretch_of frame.body) pushed levels same
 
 pub invariant_of-self : goal.invariant_of-self
-invariant_of-self c = record { sound = (kept c).sound }
+invariant_of-self c = record { sound = (kept c).sound; texts = (kept c).texts (tree_of c.args.self.now.program.now) c.args.self.now.texts }
 
 pub returns-clause-left : goal.returns-clause-left
 unfolding left_of

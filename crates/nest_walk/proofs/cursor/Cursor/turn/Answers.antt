@@ -3,7 +3,7 @@ use Rattle.std.specs.List.{list_all}
 use Rattle.std.proofs.lemmas.Int.{to_z-of_z}
 use Rattle.std.proofs.lemmas.List.{nil_from_length}
 use Rattle.nest_tree.specs.Form.{is_small}
-use Rattle.nest_tree.specs.View.{statements_from}
+use Rattle.nest_tree.specs.View.{statements_from, tree_of}
 use Rattle.nest_walk.specs.Cursors.{left_of, moves_to_go}
 use Rattle.nest_walk.specs.Frames.{level_of, levels_to, stretch_of}
 use Rattle.nest_walk.specs.Paths.{Round}
@@ -40,7 +40,7 @@ out c =
     (rounds_of c.pop.new.self) (levels_to old.frames.all c.pop.new.self.depth) popped (ap (levels_to old.frames.all) outer)
 
 pub invariant_of-self : goal.invariant_of-self
-invariant_of-self c = record { sound = (out c).sound }
+invariant_of-self c = record { sound = (out c).sound; texts = (out c).texts (tree_of c.args.self.now.program.now) c.args.self.now.texts }
 
 pub returns-then-is_empty-clause-kept : goal.returns-then-is_empty-clause-kept
 unfolding left_of
@@ -84,7 +84,7 @@ next c =
     (rounds_of c.set.new.self) (levels_to c.put_later.new.self.all c.set.new.self.depth) (stretch_of f.body) pushed levels refl
 
 pub invariant_of-self-else-is_empty : goal.invariant_of-self-else-is_empty
-invariant_of-self-else-is_empty c = record { sound = (next c).sound }
+invariant_of-self-else-is_empty c = record { sound = (next c).sound; texts = (next c).texts (tree_of c.args.self.now.program.now) c.args.self.now.texts }
 
 pub returns-else-is_empty-clause-kept : goal.returns-else-is_empty-clause-kept
 unfolding left_of
