@@ -17,7 +17,7 @@ use Rattle.f77_forms.specs.Marks.{masked, is_exponent, ends_dotted, is_dotted, b
 use Rattle.f77_scene.specs.Fault.{left_out, number_too_large, syntax, unknown, not_integer, loop_variable, rank, bad_divisor, not_affine, zero_step, do_label, past_limit, Refusal, bad_line, bad_statement, bad_setting}
 use Rattle.f77_scene.specs.Scene.{Name}
 use Rattle.f77_scene.specs.Affine.{fixed}
-use Rattle.f77_scene.specs.Reading.{Reads, first_fault, fault_from, scene_from, integers_among, last_scene}
+use Rattle.f77_scene.specs.Reading.{Reads, first_fault, statements_in, fault_from, scene_from, body_from}
 
 -- the bytes of lines
 abbrev pub bytes_of : List (List ℕ) → List ℕ
@@ -68,7 +68,7 @@ program =
     }
 
 pub reads-example : Reads (bytes_of source) ((codes "N", pos 5) ∷ []) program
-unfolding number_from word_value combined operand_value term_value sum_value item_value pending_sum add_step multiply_step opened opener_at open_step is_separator bounds_behind opener_behind separate_step enclosed left_to close_step quote_step symbol_step letter_at plain_step step_at step ended finished run pieces_at declarator_in compare_from item_next value_next name_next compare_next assignment_next comparison_next step_next all_taken listed_from declarator_next printed_next definition_next program_at declarators_at before_parenthesis parameter_at print_at assign_at if_at digits_in behind_digits label_at has_comma behind_comma loop_at do_at branch_at executed_at declared_at statement_at masked is_exponent ends_dotted is_dotted begins_mark holds_mark has_comma_outside behind_group word_in behind_word begins_equals tail behind_parentheses before_compare from_compare is_marked holds_large is_left_out text_fault kind_of lines_texts.label_at is_end continued entries_from lines_faults.fault_from fault_from scene_from integers_among last_scene int_wrap
+unfolding number_from word_value combined operand_value term_value sum_value item_value pending_sum add_step multiply_step opened opener_at open_step is_separator bounds_behind opener_behind separate_step enclosed left_to close_step quote_step symbol_step letter_at plain_step step_at step ended finished run pieces_at declarator_in compare_from item_next value_next name_next compare_next assignment_next comparison_next step_next all_taken listed_from declarator_next printed_next definition_next program_at declarators_at before_parenthesis parameter_at print_at assign_at if_at digits_in behind_digits label_at has_comma behind_comma loop_at do_at branch_at executed_at declared_at statement_at masked is_exponent ends_dotted is_dotted begins_mark holds_mark has_comma_outside behind_group word_in behind_word begins_equals tail behind_parentheses before_compare from_compare is_marked holds_large is_left_out text_fault kind_of lines_texts.label_at is_end continued entries_from lines_faults.fault_from statements_in fault_from scene_from body_from int_wrap
 reads-example = record { faultless = refl; stands = refl }
 
 -- it is well formed
@@ -101,5 +101,5 @@ refused =
     ∷ []
 
 pub refused-example : map (λ (row : List (List ℕ) × List (Name × ℤ) × Refusal). first_fault (bytes_of row.0) row.1) refused ≡ map (λ (row : List (List ℕ) × List (Name × ℤ) × Refusal). Some row.2) refused
-unfolding number_from word_value combined operand_value term_value sum_value item_value pending_sum add_step multiply_step opened opener_at open_step is_separator bounds_behind opener_behind separate_step enclosed left_to close_step quote_step symbol_step letter_at plain_step step_at step ended finished run pieces_at declarator_in compare_from item_next value_next name_next compare_next assignment_next comparison_next step_next all_taken listed_from declarator_next printed_next definition_next program_at declarators_at before_parenthesis parameter_at print_at assign_at if_at digits_in behind_digits label_at has_comma behind_comma loop_at do_at branch_at executed_at declared_at statement_at masked is_exponent ends_dotted is_dotted begins_mark holds_mark has_comma_outside behind_group word_in behind_word begins_equals tail behind_parentheses before_compare from_compare is_marked holds_large is_left_out text_fault kind_of lines_texts.label_at is_end continued entries_from lines_faults.fault_from fault_from scene_from integers_among last_scene int_wrap
+unfolding number_from word_value combined operand_value term_value sum_value item_value pending_sum add_step multiply_step opened opener_at open_step is_separator bounds_behind opener_behind separate_step enclosed left_to close_step quote_step symbol_step letter_at plain_step step_at step ended finished run pieces_at declarator_in compare_from item_next value_next name_next compare_next assignment_next comparison_next step_next all_taken listed_from declarator_next printed_next definition_next program_at declarators_at before_parenthesis parameter_at print_at assign_at if_at digits_in behind_digits label_at has_comma behind_comma loop_at do_at branch_at executed_at declared_at statement_at masked is_exponent ends_dotted is_dotted begins_mark holds_mark has_comma_outside behind_group word_in behind_word begins_equals tail behind_parentheses before_compare from_compare is_marked holds_large is_left_out text_fault kind_of lines_texts.label_at is_end continued entries_from lines_faults.fault_from statements_in fault_from scene_from body_from int_wrap
 refused-example = refl

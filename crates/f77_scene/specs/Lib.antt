@@ -6,6 +6,7 @@ pub mod Statements
 pub mod Tests
 pub mod Limits
 pub mod Behind
+pub mod Trees
 pub mod Directives
 pub mod Reading
 pub mod Examples

@@ -1,5 +1,5 @@
 -- Which program bytes and settings stand for, and their first fault.
-use Rattle.std.specs.Prelude.{ℕ, suc, ℤ, Bool, ◌||◌, if◌then◌else◌, List, [], ◌∷◌, ◌++◌, length, map, filter, Option, Some, None, ◌≡◌}
+use Rattle.std.specs.Prelude.{ℕ, suc, ℤ, Bool, ◌||◌, if◌then◌else◌, List, [], ◌∷◌, length, map, filter, flat_map, Option, Some, None, Result, Ok, Err, ◌≡◌}
 use Rattle.std.specs.Option.{option_or}
 use Rattle.f77_lines.specs.declared.refusal.LineRefusal.{LineRefusal}
 use Rattle.f77_lines.specs.Statements.{Entry, statement, directive}
@@ -16,7 +16,8 @@ use Rattle.f77_scene.specs.Scene.{Name, Given, Scene, first_scene, is_among, is_
 use Rattle.f77_scene.specs.Statements.{integers_in}
 use Rattle.f77_scene.specs.Tests.{has_bad_syntax, has_unknown, has_other_type, misuses_loop_variable, has_bad_rank, has_bad_divisor, is_not_affine, has_zero_step, has_bad_label}
 use Rattle.f77_scene.specs.Limits.{limits_past}
-use Rattle.f77_scene.specs.Behind.{behind, in_a_row}
+use Rattle.f77_scene.specs.Behind.{behind}
+use Rattle.f77_scene.specs.Trees.{Body, first_body, body_behind, in_a_row}
 use Rattle.f77_scene.specs.Directives.{placed}
 
 -- ---- the fault of a statement
@@ -47,23 +48,41 @@ fault_of_form given s after label f =
     ∷ (has_bad_rank given s f, rank) ∷ (has_bad_divisor given s f, bad_divisor) ∷ (is_not_affine s f, not_affine) ∷ (has_zero_step s f, zero_step) ∷ (has_bad_label s label f, do_label) ∷ []))
     (first_past (limits_past s f))
 
--- the first fault of a statement by the form that its text has, if any
-abbrev pub fault_with : Given → Scene → ℕ → ℕ → List ℕ → Option StatementForm → Option Fault
-fault_with given s after label text None = Some (fault_of_text (text_fault text))
-fault_with given s after label text (Some f) = fault_of_form given s after label f
-
--- what is known behind a statement; behind a text without form nothing is read any more
-abbrev pub scene_with : Given → Scene → ℕ → ℕ → Option StatementForm → Scene
-scene_with given s line label None = s
-scene_with given s line label (Some f) = behind given s line label f
-
 -- ---- all statements
 
--- how many statements are listed
-abbrev pub statement_count : List Entry → ℕ
-statement_count [] = 0
-statement_count (statement line label text ∷ entries) = suc (statement_count entries)
-statement_count (directive line text ∷ entries) = statement_count entries
+-- a statement of the source: its line, its label, and the form of its text or the fault of a text without form
+pub record SourceStatement : Type 0 where
+  pub line : ℕ
+  pub label : ℕ
+  pub reading : Result StatementForm TextFault
+
+abbrev pub reading_with : List ℕ → Option StatementForm → Result StatementForm TextFault
+reading_with text None = Err (text_fault text)
+reading_with text (Some f) = Ok f
+
+abbrev pub reading_of : List ℕ → Result StatementForm TextFault
+reading_of text = reading_with text (statement_at text)
+
+-- the statements that are listed
+unfoldable pub statements_in : List Entry → List SourceStatement
+statements_in [] = []
+statements_in (directive line text ∷ entries) = statements_in entries
+statements_in (statement line label text ∷ entries) = record { line = line; label = label; reading = reading_of text } ∷ statements_in entries
+
+-- the first fault of a statement with so many statements behind it, if any
+abbrev pub fault_with : Given → Scene → ℕ → ℕ → Result StatementForm TextFault → Option Fault
+fault_with given s after label (Err fault) = Some (fault_of_text fault)
+fault_with given s after label (Ok f) = fault_of_form given s after label f
+
+-- what is known behind a statement; behind a text without form nothing is read any more
+abbrev pub scene_with : Given → Scene → ℕ → Result StatementForm TextFault → Scene
+scene_with given s label (Err fault) = s
+scene_with given s label (Ok f) = behind given s label f
+
+-- the tree behind a statement
+abbrev pub body_with : List Name → Scene → ℕ → ℕ → Result StatementForm TextFault → Body → Body
+body_with variables s line label (Err fault) body = body
+body_with variables s line label (Ok f) body = body_behind variables s line label f body
 
 -- a fault with the line where its statement begins
 abbrev pub at_line : ℕ → Option Fault → Option Refusal
@@ -71,43 +90,43 @@ at_line line None = None
 at_line line (Some fault) = Some (bad_statement fault line)
 
 -- the first fault of statements, and what is known behind them
-unfoldable pub fault_from : Given → Scene → List Entry → Option Refusal
+unfoldable pub fault_from : Given → Scene → List SourceStatement → Option Refusal
 fault_from given s [] = None
-fault_from given s (directive line text ∷ entries) = fault_from given s entries
-fault_from given s (statement line label text ∷ entries) =
-    let form : Option StatementForm = statement_at text in
-    option_or (at_line line (fault_with given s (statement_count entries) label text form)) (fault_from given (scene_with given s line label form) entries)
+fault_from given s (p ∷ ps) = option_or (at_line p.line (fault_with given s (length ps) p.label p.reading)) (fault_from given (scene_with given s p.label p.reading) ps)
 
-unfoldable pub scene_from : Given → Scene → List Entry → Scene
+unfoldable pub scene_from : Given → Scene → List SourceStatement → Scene
 scene_from given s [] = s
-scene_from given s (directive line text ∷ entries) = scene_from given s entries
-scene_from given s (statement line label text ∷ entries) = scene_from given (scene_with given s line label (statement_at text)) entries
+scene_from given s (p ∷ ps) = scene_from given (scene_with given s p.label p.reading) ps
+
+-- the tree of statements, where the variables are numbered as they stand here
+unfoldable pub body_from : List Name → Given → Scene → List SourceStatement → Body → Body
+body_from variables given s [] body = body
+body_from variables given s (p ∷ ps) body = body_from variables given (scene_with given s p.label p.reading) ps (body_with variables s p.line p.label p.reading body)
 
 -- ---- what holds of the whole source
 
-abbrev pub integers_with : Option StatementForm → List Name
-integers_with None = []
-integers_with (Some f) = integers_in f
+abbrev pub integers_with : Result StatementForm TextFault → List Name
+integers_with (Err fault) = []
+integers_with (Ok f) = integers_in f
 
 -- the names in INTEGER statements, wherever they stand
-unfoldable pub integers_among : List Entry → List Name
-integers_among [] = []
-integers_among (directive line text ∷ entries) = integers_among entries
-integers_among (statement line label text ∷ entries) = integers_with (statement_at text) ++ integers_among entries
+abbrev pub integers_among : List SourceStatement → List Name
+integers_among ps = flat_map (λ (p : SourceStatement). integers_with p.reading) ps
 
 -- variables are arrays, and scalars that are stored or read; they are numbered as their names first appear
 abbrev pub variables_of : Scene → List Name
 variables_of s = filter (λ n. is_array s n || is_among s.scalars n) s.names
 
--- where the variables have these numbers
-abbrev pub given_with : List Entry → List (Name × ℤ) → List Name → Given
-given_with entries settings variables = record { settings = settings; integers = integers_among entries; variables = variables }
+abbrev pub given_with : List SourceStatement → List (Name × ℤ) → Given
+given_with ps settings = record { settings = settings; integers = integers_among ps }
 
--- what is known behind the last statement, with the whole tree
-unfoldable pub last_scene : List Entry → List (Name × ℤ) → Scene
-last_scene entries settings =
-    let numbered : List Name = variables_of (scene_from (given_with entries settings []) first_scene entries) in
-    scene_from (given_with entries settings numbered) first_scene entries
+-- what is known behind the last statement
+abbrev pub last_scene : List SourceStatement → List (Name × ℤ) → Scene
+last_scene ps settings = scene_from (given_with ps settings) first_scene ps
+
+-- the whole tree
+abbrev pub last_body : List SourceStatement → List (Name × ℤ) → Body
+last_body ps settings = body_from (variables_of (last_scene ps settings)) (given_with ps settings) first_scene ps first_body
 
 -- the texts of the directives
 abbrev pub directives_of : List Entry → List (List ℕ)
@@ -121,12 +140,17 @@ declaration texts s n =
     if is_array s n then record { name = n; bounds = bounds_named s.arrays n; axis = (placed texts n (length (bounds_named s.arrays n))).0; spread = (placed texts n (length (bounds_named s.arrays n))).1 }
     else record { name = n; bounds = []; axis = 0; spread = Block }
 
-abbrev pub tree_from : List Entry → Scene → Tree
-tree_from entries s = record { items = in_a_row s.items; params = s.constants; variables = map (declaration (directives_of entries) s) (variables_of s) }
+-- the program of statements with these directives, by what is known behind the last of them and by their tree
+abbrev pub tree_from : List (List ℕ) → Scene → Body → Tree
+tree_from directives s body = record { items = in_a_row body.items; params = s.constants; variables = map (declaration directives s) (variables_of s) }
+
+-- the program of what is listed
+abbrev pub program_in : List Entry → List (Name × ℤ) → Tree
+program_in entries settings = tree_from (directives_of entries) (last_scene (statements_in entries) settings) (last_body (statements_in entries) settings)
 
 -- the program that bytes without a fault stand for
 abbrev pub program_of : List ℕ → List (Name × ℤ) → Tree
-program_of bytes settings = tree_from (entries_of bytes) (last_scene (entries_of bytes) settings)
+program_of bytes settings = program_in (entries_of bytes) settings
 
 -- ---- the first fault
 
@@ -140,9 +164,12 @@ as_refusal None = None
 as_refusal (Some refusal) = Some (bad_line refusal)
 
 -- the first fault of statements, or else the first setting that names no PARAMETER
+abbrev pub first_fault_of : List SourceStatement → List (Name × ℤ) → Option Refusal
+first_fault_of ps settings = option_or (fault_from (given_with ps settings) first_scene ps) (bad_setting_from 1 (constant_names (last_scene ps settings)) settings)
+
+-- the first fault of what is listed
 abbrev pub first_fault_in : List Entry → List (Name × ℤ) → Option Refusal
-first_fault_in entries settings =
-    option_or (fault_from (given_with entries settings []) first_scene entries) (bad_setting_from 1 (constant_names (last_scene entries settings)) settings)
+first_fault_in entries settings = first_fault_of (statements_in entries) settings
 
 -- the first fault of bytes and settings: of lines, of statements, of settings
 abbrev pub first_fault : List ℕ → List (Name × ℤ) → Option Refusal

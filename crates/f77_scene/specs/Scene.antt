@@ -2,28 +2,26 @@
 use Rattle.std.specs.Prelude.{ℕ, suc, ℤ, pos, Bool, false, ◌&&◌, ◌||◌, not, if◌then◌else◌, List, [], ◌∷◌, ◌++◌, map, codes, ◌≡◌, refl}
 use Rattle.std.specs.List.{list_any}
 use Rattle.std.specs.Str.{bytes_eq}
-use Rattle.nest_tree.specs.Tree.{Head, Statement, Constant}
+use Rattle.nest_tree.specs.Tree.{Constant}
 
 abbrev pub Name : Type 0
 Name = List ℕ
 
--- what holds of the whole source: the settings, the names in its INTEGER statements, and the names of its variables in the order of their numbers
+-- what holds of the whole source: the settings, and the names in its INTEGER statements
 pub record Given : Type 0 where
   pub settings : List (Name × ℤ)
   pub integers : List Name
-  pub variables : List Name
 
 -- an array with the lower and the upper bound of each dimension
 pub record Array : Type 0 where
   pub name : Name
   pub bounds : List (ℤ × ℤ)
 
--- a loop whose terminal statement is still to come, with what stands in front of it in the body of the loop round it
+-- a loop whose terminal statement is still to come, with its number
 pub record Open : Type 0 where
   pub variable : Name
   pub label : ℕ
-  pub head : Head
-  pub front : List Statement
+  pub number : ℕ
 
 pub record Scene : Type 0 where
   -- how many statements stand in front
@@ -46,13 +44,11 @@ pub record Scene : Type 0 where
   pub loops : ℕ
   -- the loops that are open, the innermost first
   pub opened : List Open
-  -- the body of the innermost open loop so far, or the program's outermost statements
-  pub items : List Statement
 
 -- in front of the first statement
 abbrev pub first_scene : Scene
 first_scene =
-    record { count = 0; executes = false; labels = []; names = []; integers = []; constants = []; arrays = []; scalars = []; loop_variables = []; loops = 0; opened = []; items = [] }
+    record { count = 0; executes = false; labels = []; names = []; integers = []; constants = []; arrays = []; scalars = []; loop_variables = []; loops = 0; opened = [] }
 
 -- ---- lists of names
 
@@ -109,7 +105,7 @@ is_open s n = list_any (λ (o : Open). bytes_eq o.variable n) s.opened
 -- the number of that loop, 0 where there is none
 abbrev pub loop_named : List Open → Name → ℕ
 loop_named [] n = 0
-loop_named (o ∷ opened) n = if bytes_eq o.variable n then o.head.number else loop_named opened n
+loop_named (o ∷ opened) n = if bytes_eq o.variable n then o.number else loop_named opened n
 
 -- ---- examples
 
