@@ -13,3 +13,4 @@ pub mod Affine
 pub mod CellPlaces
 pub mod CellSums
 pub mod Products
+pub mod GoodAccesses

@@ -1,5 +1,5 @@
 -- Cells as whole numbers, where these loops are round an access.
-use Rattle.std.specs.Prelude.{ℕ, ℤ, pos, ◌+ℤ◌, ◌-ℤ◌, ◌*ℤ◌, List, [], ◌∷◌, map}
+use Rattle.std.specs.Prelude.{ℕ, ◌≤◌, ◌≡◌, ℤ, pos, ◌+ℤ◌, ◌-ℤ◌, ◌*ℤ◌, List, [], ◌∷◌, length, map}
 use Rattle.nest_tree.specs.Form.{Form}
 use Rattle.nest_tree.specs.Layout.{bounds_of, first_cell}
 use Rattle.nest_tree.specs.Tree.{Tree, param_values}
@@ -20,3 +20,9 @@ cell_among tree a rounds = pos (first_cell tree a.variable) +ℤ place_among (bo
 -- the loops' numbers
 abbrev pub numbers_of : List Round → List ℕ
 numbers_of rounds = map (λ (r : Round). r.number) rounds
+
+-- an access to a variable that is there, with as many subscripts as it has dimensions
+pub record IsThere (tree : Tree) (a : Access) : Type 0 where
+  pub low : 1 ≤ a.variable
+  pub high : a.variable ≤ length tree.variables
+  pub as_many : length a.subscripts ≡ length (bounds_of tree a.variable)

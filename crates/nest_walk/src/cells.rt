@@ -1,15 +1,13 @@
 // Cells as forms of the loops' values by depth.
 
-ghost use Rattle.std.specs.Prelude.{◌≡◌, ◌<◌, ◌≤◌, ◌-◌, ◌+ℤ◌, ◌-ℤ◌, ◌*ℤ◌, IsTrue, length, map, pos};
+ghost use Rattle.std.specs.Prelude.{◌≡◌, ◌<◌, ◌-◌, ◌+ℤ◌, ◌-ℤ◌, ◌*ℤ◌, IsTrue, length, map, pos};
 ghost use Rattle.std.specs.List.{list_all};
-ghost use Rattle.nest_tree.specs.Form.{is_form};
-ghost use Rattle.nest_tree.specs.Layout.{bounds_of};
 ghost use Rattle.nest_tree.specs.Limits.{IsWithinLimits};
 ghost use Rattle.nest_tree.specs.Values.{wrapped};
 ghost use Rattle.nest_tree.specs.View.{tree_of};
-ghost use Rattle.nest_tree.specs.WellFormed.{IsWellFormed, is_good_dimension};
+ghost use Rattle.nest_tree.specs.WellFormed.{IsWellFormed, is_good_access, is_good_dimension, scope_of};
 ghost use Rattle.nest_tree.specs.declared.tree.Parameter.{Parameter};
-ghost use Rattle.nest_walk.specs.Places.{cell_among, place_among};
+ghost use Rattle.nest_walk.specs.Places.{IsThere, cell_among, numbers_of, place_among};
 ghost use Rattle.nest_walk.specs.RoundsOf.{rounds_of};
 
 use crate::form::{value_at, with_product};
@@ -31,11 +29,8 @@ impl CellForm {
     pub fn of_access(program: &Program, access: &Access, path: &Path) -> Self
         requires formed { IsWellFormed (tree_of program.now) }
         requires limits { IsWithinLimits (tree_of program.now) }
-        requires low { 1 ≤ access.now.variable }
-        requires high { access.now.variable ≤ length (tree_of program.now).variables }
-        requires as_many { length access.now.subscripts ≡ length (bounds_of (tree_of program.now) access.now.variable) }
-        requires forms { IsTrue (list_all is_form access.now.subscripts) }
-        ensures { IsCellForm (tree_of program.now) access.now (rounds_of path.now) result }
+        requires good { IsTrue (is_good_access (scope_of (tree_of program.now)) (numbers_of (rounds_of path.now)) access.now) }
+        ensures { IsCellForm (tree_of program.now) access.now (numbers_of (rounds_of path.now)) result }
     {
         let base = cell_on(program, access, &path.at_origin());
         let mut steps = [0; MOST_LOOPS];
@@ -61,9 +56,7 @@ impl CellForm {
 fn cell_on(program: &Program, access: &Access, path: &Path) -> i64
     requires formed { IsWellFormed (tree_of program.now) }
     requires limits { IsWithinLimits (tree_of program.now) }
-    requires low { 1 ≤ access.now.variable }
-    requires high { access.now.variable ≤ length (tree_of program.now).variables }
-    requires as_many { length access.now.subscripts ≡ length (bounds_of (tree_of program.now) access.now.variable) }
+    requires there { IsThere (tree_of program.now) access.now }
     ensures { result ≡ wrapped (cell_among (tree_of program.now) access.now (rounds_of path.now)) }
 {
     let first = i64::from(program.layout().first_cell(access.variable));
