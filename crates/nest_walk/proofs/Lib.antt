@@ -14,3 +14,5 @@ pub mod CellPlaces
 pub mod CellSums
 pub mod Products
 pub mod GoodAccesses
+pub mod Grown
+pub mod TableParts

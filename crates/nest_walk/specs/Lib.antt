@@ -13,3 +13,5 @@ pub mod Places
 pub mod Texts
 pub mod InText
 pub mod CellForms
+pub mod Grown
+pub mod Tables

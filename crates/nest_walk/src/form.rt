@@ -10,8 +10,9 @@ ghost use Rattle.nest_walk.specs.RoundsOf.{rounds_of};
 use crate::path::Path;
 use nest_tree::{Affine, Parameter};
 
-// The value of a form, modulo 2^64.
-pub(crate) fn value_at(form: &Affine, path: &Path, params: &[Parameter]) -> i64
+/// The value of a form where the loops of a path and the named constants have their values, modulo
+/// 2^64; a loop that isn't on the path is at 0.
+pub fn value_at(form: &Affine, path: &Path, params: &[Parameter]) -> i64
     ensures form { IsForm form.now }
     ensures value { result ≡ wrapped (form_among form.now (rounds_of path.now) (map (λ (p : Parameter). p.value) params.now)) }
 {

@@ -10,6 +10,7 @@
 //! - [`path`]: the loops round a stop with the values of their DO variables, by depth.
 //! - [`trips`]: the values of a loop's trips, as a progression.
 //! - [`cells`]: the cell of an access as a form of the loops' values by depth.
+//! - [`table`]: the cells of all accesses of a program, made once.
 //! - [`frame`]: the loops that a walk is in.
 #![tactic(auto)]
 
@@ -21,10 +22,13 @@ pub mod frame;
 pub mod instances;
 pub mod laws;
 pub mod path;
+pub mod table;
 pub mod trips;
 
 pub use cells::CellForm;
 pub use cursor::{Cursor, Stop};
+pub use form::value_at;
 pub use instances::Instances;
 pub use path::{MOST_LOOPS, Path};
+pub use table::{CellTable, WholeCells, WorkCells};
 pub use trips::Trips;
