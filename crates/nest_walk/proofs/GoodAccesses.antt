@@ -1,10 +1,10 @@
 -- What is known of a good access.
-use Rattle.std.proofs.Common.{◌≡◌, ℕ, zero, suc, ◌-◌, ◌==◌, ◌&&◌, nat_le, true, List, [], ◌∷◌, length, map, get_or, refl, ap, sym, ◌∙◌, arith}
+use Rattle.std.proofs.Common.{◌≡◌, ℕ, zero, suc, ◌-◌, ◌==◌, ◌&&◌, nat_le, true, List, [], ◌∷◌, length, map, get_or, refl, ◌∙◌, arith}
 use Rattle.std.specs.List.{list_all, list_any}
 use Rattle.std.proofs.lemmas.Bool.{and_from, and_parts, eqb-true, leb-true}
 use Rattle.std.proofs.lemmas.List.{length-map}
 use Rattle.nest_tree.specs.Form.{Form, is_form}
-use Rattle.nest_tree.specs.Layout.{bounds_at, bounds_of}
+use Rattle.nest_tree.specs.Layout.{bounds_at}
 use Rattle.nest_tree.specs.Tree.{Declaration, Tree}
 use Rattle.nest_tree.specs.WellFormed.{Scope, is_good_access, is_number_of, names_only, rank, rank_of, scope_of}
 use Rattle.nest_tree.specs.declared.tree.Access.{Access}

@@ -1,19 +1,18 @@
 -- Accesses and pieces of work in text order, one expression, item or statement after another.
-use Rattle.std.proofs.Common.{◌≡◌, ℕ, ◌+◌, ◌<◌, ◌&&◌, ◌==◌, nat_lt, true, List, [], ◌∷◌, ◌++◌, length, map, take, drop, get_or, refl, ap, sym, ◌∙◌, arith, append_assoc, append-nil, zero, suc}
+use Rattle.std.proofs.Common.{◌≡◌, ℕ, ◌+◌, ◌<◌, ◌&&◌, ◌==◌, nat_lt, true, List, [], ◌∷◌, ◌++◌, length, map, take, get_or, refl, ap, sym, ◌∙◌, arith, append-nil, zero, suc}
 use Rattle.std.specs.List.{flat_map, list_all}
 use Rattle.std.proofs.lemmas.Bool.{and_parts, ltb-true}
 use Rattle.std.proofs.lemmas.Grind.{flat_map-append}
 use Rattle.std.proofs.lemmas.List.{take_more, map-append}
-use Rattle.nest_tree.specs.Loads.{loads_among, loads_in, loads_in_item}
-use Rattle.nest_tree.specs.Tree.{Head, Expression, Expressions, least_of, greatest_of, no_more, one_more, Printed, Statement, Statements, do_loop, next, done}
+use Rattle.nest_tree.specs.Loads.{loads_among, loads_in}
+use Rattle.nest_tree.specs.Tree.{Head, Expressions, least_of, greatest_of, no_more, one_more, Printed, Statements, do_loop}
 use Rattle.nest_tree.specs.View.{expression_of, expressions_from, printed_of, statement_of, statements_from}
 use Rattle.nest_tree.specs.WellFormed.{Scope, are_good_expressions, are_good_statements, is_good_expression, is_good_head, is_good_item, is_good_statement, loops_in}
-use Rattle.nest_tree.specs.declared.tree.Access.{Access}
 use Rattle.nest_tree.specs.declared.tree.Expr.{Expr}
 use Rattle.nest_tree.specs.declared.tree.Item.{Item}
 use Rattle.nest_tree.specs.declared.tree.PrintItem.{PrintItem}
 use Rattle.nest_model.specs.Visits.{every}
-use Rattle.nest_walk.specs.Texts.{Placed, placed_in, placed_of}
+use Rattle.nest_walk.specs.Texts.{placed_in, placed_of}
 
 -- of a list made piece by piece, the pieces of one item more
 pub pieces_taken : {X Y : Type 0} (f : X → List Y) (xs : List X) (i : ℕ) (x : X) → i < length xs → x ≡ get_or xs i x → flat_map f (take (i + 1) xs) ≡ flat_map f (take i xs) ++ f x

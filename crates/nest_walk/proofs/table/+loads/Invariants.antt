@@ -1,4 +1,4 @@
-use Rattle.std.proofs.Common.{ℕ, take}
+use Rattle.std.proofs.Common.{take}
 use Rattle.nest_tree.specs.Loads.{loads_among}
 use Rattle.nest_tree.specs.View.{expressions_from, tree_of}
 use Rattle.nest_tree.specs.declared.tree.Access.{Access}

@@ -1,4 +1,4 @@
-use Rattle.std.proofs.Common.{◌≡◌, ◌<◌, ◌+◌, ℕ, List, [], ◌∷◌, length, OnOk, ap, sym, ◌∙◌, subst, rules, arith}
+use Rattle.std.proofs.Common.{◌≡◌, ◌+◌, ℕ, List, ◌∷◌, OnOk, ap, sym, ◌∙◌, subst, rules}
 use Rattle.nest_tree.specs.View.{statement_of, statements_from, tree_of}
 use Rattle.nest_tree.specs.WellFormed.{are_good_statements, is_good_statement, scope_of}
 use Rattle.nest_tree.specs.declared.tree.Item.{the_lemmas}
@@ -7,7 +7,6 @@ use Rattle.nest_tree.proofs.Rows.{statement_of-Loop}
 use Rattle.nest_tree.specs.View.{head_of}
 use Rattle.nest_model.specs.Visits.{every}
 use Rattle.nest_walk.specs.Grown.{GrewBy}
-use Rattle.nest_walk.specs.Paths.{Round}
 use Rattle.nest_walk.specs.Places.{numbers_of}
 use Rattle.nest_walk.specs.RoundsOf.{rounds_of}
 use Rattle.nest_walk.specs.Tables.{ArePlacedCells}

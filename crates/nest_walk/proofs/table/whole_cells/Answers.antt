@@ -1,5 +1,5 @@
-use Rattle.std.proofs.Common.{◌≡◌, ap, sym, ◌∙◌, arith}
-use Rattle.nest_tree.specs.Layout.{bounds_of, cell_count, cells_in, element_count, first_cell}
+use Rattle.std.proofs.Common.{ap, sym, ◌∙◌, arith}
+use Rattle.nest_tree.specs.Layout.{element_count, first_cell}
 use Rattle.nest_tree.specs.Tree.{Tree}
 use Rattle.nest_tree.specs.View.{tree_of}
 use Rattle.nest_tree.proofs.Cells.{declared-numbered}

@@ -1,9 +1,8 @@
-use Rattle.std.proofs.Common.{[], ap, sym, ◌∙◌}
+use Rattle.std.proofs.Common.{[], ap, ◌∙◌}
 use Rattle.nest_tree.specs.View.{statements_from, tree_of}
 use Rattle.nest_tree.specs.WellFormed.{are_good_statements, scope_of}
 use Rattle.nest_tree.proofs.Cells.{well_formed_parts}
 use Rattle.nest_walk.specs.Places.{numbers_of}
-use Rattle.nest_walk.specs.RoundsOf.{rounds_of}
 use Rattle.nest_walk.proofs.table.CellTable.new.Goals as goal
 
 pub push_works-requires-clause-good : goal.push_works-requires-clause-good
