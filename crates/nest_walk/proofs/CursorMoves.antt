@@ -1,5 +1,5 @@
 -- The moves of a cursor.
-use Rattle.std.proofs.Common.{◌≡◌, ℕ, suc, ◌+◌, ◌-◌, ℤ, true, List, [], ◌∷◌, length, map, Some, pos, get_or, refl, ap, sym, subst, ◌∙◌, arith}
+use Rattle.std.proofs.Common.{◌≡◌, ℕ, suc, ◌+◌, ◌-◌, ◌<◌, ℤ, true, List, [], ◌∷◌, length, map, Some, pos, get_or, set, refl, ap, sym, subst, ◌∙◌, arith}
 use Rattle.std.specs.List.{slice_get}
 use Rattle.nest_tree.specs.Form.{Form, form_value, is_form}
 use Rattle.nest_tree.specs.Tree.{Constant, do_loop, next}
@@ -19,7 +19,7 @@ use Rattle.nest_walk.specs.declared.cursor.Cursor.{Cursor}
 use Rattle.nest_walk.specs.declared.frame.Frame.{Frame}
 use Rattle.nest_walk.specs.declared.path.Path.{Path}
 use Rattle.nest_walk.proofs.FormValues.{exact}
-use Rattle.nest_walk.proofs.Levels.{levels_to-at}
+use Rattle.nest_walk.proofs.Levels.{levels_to-at, levels_to-put}
 use Rattle.nest_walk.proofs.PathLists.{rounds_to-length}
 use Rattle.nest_walk.proofs.Trees.{statement_of-Loop}
 use Rattle.nest_walk.proofs.WalkMoves.{LoopAt, Passed, are_numbered, loop_facts, passed, Kept, along, entered, again, leaves}
@@ -137,3 +137,11 @@ deeper p q r e = omega (arith, rounds_to-length p.numbers p.values p.depth, roun
 
 pub depth_of : (q : Path) (rounds : List Round) (n : ℕ) → rounds_of q ≡ rounds → length rounds ≡ n → q.depth ≡ n
 depth_of q rounds n e h = sym (rounds_to-length q.numbers q.values q.depth) ∙ ap (λ (rs : List Round). length rs) e ∙ h
+
+-- one frame more at that depth
+pub put_level : (p q : Path) (r : Round) (frames all : List Frame) (depth : ℕ) (f : Frame) (l : Level) (outer : List Level) → depth ≡ length (rounds_of p) → rounds_of q ≡ r ∷ rounds_of p →
+    all ≡ set frames depth f → depth < length frames → level_of f ≡ l → levels_to frames p.depth ≡ outer → levels_to all q.depth ≡ l ∷ outer
+put_level p q r frames all depth f l outer count pushed put room is round =
+    let at : depth ≡ p.depth = count ∙ rounds_to-length p.numbers p.values p.depth in
+    let deep : q.depth ≡ suc depth = deeper p q r pushed ∙ ap suc (sym at) in
+    ap (levels_to all) deep ∙ ap (λ xs. levels_to xs (suc depth)) put ∙ levels_to-put frames depth f room ∙ ap (λ x. x ∷ levels_to frames depth) is ∙ ap (λ n. l ∷ levels_to frames n) at ∙ ap (λ ls. l ∷ ls) round

@@ -12,7 +12,7 @@ use Rattle.nest_walk.specs.Paths.{Round}
 use Rattle.nest_walk.specs.declared.cursor.Cursor.{Cursor}
 use Rattle.nest_walk.specs.declared.cursor.Stop.{Stop}
 
-trips_same : (params : List ℤ) (body : Statements) (place first n : ℕ) (loops : List ℤ) (same : (l : List ℤ) → flat_map (instances_at params) (visits_in params every body place first l) ≡ instances_in params body first l) (vs : List ℤ) →
+pub trips_same : (params : List ℤ) (body : Statements) (place first n : ℕ) (loops : List ℤ) (same : (l : List ℤ) → flat_map (instances_at params) (visits_in params every body place first l) ≡ instances_in params body first l) (vs : List ℤ) →
     flat_map (instances_at params) (flat_map (λ v. visits_in params every body place first (with_loop loops n v)) vs) ≡ flat_map (λ v. instances_in params body first (with_loop loops n v)) vs
 trips_same params body place first n loops same [] = refl
 trips_same params body place first n loops same (v ∷ vs) =
@@ -22,7 +22,7 @@ trips_same params body place first n loops same (v ∷ vs) =
     ∙ ap (λ b. instances_in params body first (with_loop loops n v) ++ b) (trips_same params body place first n loops same vs)
 
 mutual
-  one_same : (params : List ℤ) (s : Statement) (place first : ℕ) (loops : List ℤ) → flat_map (instances_at params) (visits_of params every s place first loops) ≡ instances_of params s first loops
+  pub one_same : (params : List ℤ) (s : Statement) (place first : ℕ) (loops : List ℤ) → flat_map (instances_at params) (visits_of params every s place first loops) ≡ instances_of params s first loops
   one_same params (do_loop head body) place first loops = trips_same params body place first head.number loops (λ l. all_same params body place first l) (head_trips params head loops)
   one_same params (work w) place first loops = append-nil (executed_at params first (work w) loops)
   one_same params (continue line) place first loops = refl

@@ -8,6 +8,7 @@ pub mod FormValues
 pub mod Levels
 pub mod CursorMoves
 pub mod Walks
+pub mod Alone
 pub mod InstanceLists
 pub mod Affine
 pub mod CellPlaces

@@ -35,7 +35,7 @@ mutual
   works-all (work w) = refl
   works-all (continue line) = refl
 
-  works_of-all : (ss : Statements) → stops_of every ss ≡ works_of ss
+  pub works_of-all : (ss : Statements) → stops_of every ss ≡ works_of ss
   works_of-all done = refl
   works_of-all (next s rest) = omega (arith, works-all s, works_of-all rest)
 

@@ -1,7 +1,7 @@
 -- The loops that a cursor is in, as plain data.
 use Rattle.std.specs.Prelude.{ℕ, zero, suc, List, [], ◌++◌, map, slice_get}
 use Rattle.std.specs.Option.{option_to_list}
-use Rattle.nest_tree.specs.Tree.{Head}
+use Rattle.nest_tree.specs.Tree.{Head, done}
 use Rattle.nest_tree.specs.View.{statements_from}
 use Rattle.nest_tree.specs.declared.tree.Nest.{Nest}
 use Rattle.nest_walk.specs.Walks.{Stretch, Level}
@@ -23,3 +23,7 @@ level_of f = record { body = stretch_of f.body; later = trips_left f.later; behi
 abbrev pub levels_to : List Frame → ℕ → List Level
 levels_to frames zero = []
 levels_to frames (suc k) = map level_of (option_to_list (slice_get frames k)) ++ levels_to frames k
+
+-- a loop that is left, where its body ended with this number
+abbrev pub ended : ℕ → Level
+ended n = record { body = record { statements = done; place = n; first = n }; later = []; behind = done }

@@ -61,7 +61,7 @@ pub(crate) fn work_count(items: &[Item]) -> u32
 }
 
 #[cycle(works)]
-fn works_in_item(item: &Item) -> u32
+pub(crate) fn works_in_item(item: &Item) -> u32
     requires { works_in (statement_of item.now) < 2 ^ 32 }
     ensures { result ≡ works_in (statement_of item.now) }
 {

@@ -7,12 +7,13 @@ ghost use Rattle.nest_walk.specs.InText.{AreInText, AreInText-prop};
 ghost use Rattle.nest_walk.specs.RoundsOf.{rounds_of};
 ghost use Rattle.nest_walk.specs.Walks.{walk_in, is_sound};
 
-use crate::count::{is_marked, stop_count, work_count};
+use crate::count::{is_marked, stop_count, work_count, works_in_item};
 use crate::form::value_at;
 use crate::frame::{Frame, Frames, Part};
 use crate::path::Path;
 use crate::trips::Trips;
 use nest_tree::{Guard, Item, Nest, Program};
+use std::slice::from_ref;
 
 /// A stop of a walk: a statement, its number among the stops in the text and the number of its
 /// first piece of work, both from 1.
@@ -39,21 +40,21 @@ pub struct Cursor<'a> {
 impl<'a> Cursor<'a> {
     ghost use Rattle.std.specs.Prelude.{◌≡◌, ◌<◌, [], ◌∷◌, ◌++◌, length, IfSome, MatchOption, true, false};
     ghost use Rattle.nest_tree.specs.Tree.{param_values};
-    ghost use Rattle.nest_model.specs.Instances.{head_trips, works_in};
+    ghost use Rattle.nest_model.specs.Instances.{head_trips, with_loop, works_in};
     ghost use Rattle.std.specs.Prelude.{Some};
-    ghost use Rattle.std.specs.List.{list_all};
+    ghost use Rattle.std.specs.List.{All, Contains, flat_map, list_all};
     ghost use Rattle.nest_tree.specs.Guards.{holds};
     ghost use Rattle.nest_tree.specs.Loads.{guard_forms};
     ghost use Rattle.nest_walk.specs.Paths.{Round};
     ghost use Rattle.nest_walk.specs.Walkable.{is_small_at};
     ghost use Rattle.nest_tree.specs.Limits.{IsWithinLimits};
-    ghost use Rattle.nest_tree.specs.View.{statement_of};
+    ghost use Rattle.nest_tree.specs.View.{statement_of, statements_from};
     ghost use Rattle.nest_tree.specs.WellFormed.{IsWellFormed, is_number_of, loops_of};
-    ghost use Rattle.nest_model.specs.Visits.{stops_in, visits};
+    ghost use Rattle.nest_model.specs.Visits.{every, stops_in, visits, visits_in, visits_of};
     ghost use Rattle.nest_walk.specs.Cursors.{is_reached, left_of, loops_in, marks_in, moves_to_go, rounds_in, tree_in, visit_at, visits_at};
     ghost use Rattle.nest_walk.specs.Frames.{head_of};
     ghost use Rattle.nest_walk.specs.Places.{numbers_of};
-    ghost use Rattle.nest_walk.specs.Texts.{IsInText};
+    ghost use Rattle.nest_walk.specs.Texts.{IsInText, StandFrom, placed_in, works};
     ghost use Rattle.nest_walk.specs.TripsLeft.{trips_left};
     ghost use Rattle.nest_walk.specs.Walks.{enters_but};
 
@@ -69,11 +70,82 @@ impl<'a> Cursor<'a> {
             program,
             marks,
             path: Path::new(),
-            frames: Frames::new(),
+            frames: Frames::ended(1),
             rest: Part {
                 items: &program.items,
                 place: 1,
                 first: 1,
+            },
+        }
+    }
+
+    /// The walk over the statement of a stop alone, where these loops are round it. It goes into
+    /// every loop, and its stops are numbered as the pieces of work are.
+    pub fn over(program: &'a Program, path: &Path, stop: Stop<'a>) -> Self
+        requires reached { IsTrue (is_reached (tree_of program.now) (rounds_of path.now) stop) }
+        requires text { StandFrom (works (tree_of program.now)) stop.first (placed_in every (numbers_of (rounds_of path.now)) (statement_of stop.item.now)) }
+        ensures visits { left_of result ≡ visits_of (param_values (tree_of program.now)) every (statement_of stop.entry.item.now) stop.entry.first stop.entry.first (loops_in (tree_of program.now) (rounds_of path.now)) }
+        ensures program { tree_in result ≡ tree_of program.now }
+        ensures marks { marks_in result ≡ [] }
+    {
+        let Stop { item, first, .. } = stop;
+        Cursor {
+            program,
+            marks: &[],
+            path: *path,
+            frames: Frames::ended(first + works_in_item(item)),
+            rest: Part {
+                items: from_ref(item),
+                place: first,
+                first,
+            },
+        }
+    }
+
+    /// The walk over the body of a loop alone, once for each of these values of its DO variable,
+    /// which are among those of its trips, where these loops are round it.
+    pub fn over_trips(
+        program: &'a Program,
+        path: &Path,
+        stop: Stop<'a>,
+        nest: &'a Nest,
+        trips: Trips,
+    ) -> Self
+        requires reached { IsTrue (is_reached (tree_of program.now) (rounds_of path.now) stop) }
+        requires text { StandFrom (works (tree_of program.now)) stop.first (placed_in every (numbers_of (rounds_of path.now)) (statement_of stop.item.now)) }
+        requires nest { stop.item.now ≡ Item.Loop nest.now }
+        requires trips { All (Contains (head_trips (param_values (tree_of program.now)) (head_of nest.now) (loops_in (tree_of program.now) (rounds_of path.now)))) (trips_left trips) }
+        ensures visits { left_of result ≡ flat_map (λ v. visits_in (param_values (tree_of program.now)) every (statements_from nest.now.items.items) stop.entry.first stop.entry.first (with_loop (loops_in (tree_of program.now) (rounds_of path.now)) nest.now.number v)) (trips_left trips) }
+        ensures program { tree_in result ≡ tree_of program.now }
+        ensures marks { marks_in result ≡ [] }
+    {
+        let first = stop.first;
+        let end = first + work_count(&nest.items);
+        let body = Part {
+            items: &nest.items,
+            place: first,
+            first,
+        };
+        let mut inner = *path;
+        let mut frames = Frames::ended(end);
+        frames.put(
+            path.depth(),
+            Frame {
+                body,
+                later: trips,
+                behind: &[],
+            },
+        );
+        inner.push(nest.number, 0);
+        Cursor {
+            program,
+            marks: &[],
+            path: inner,
+            frames,
+            rest: Part {
+                items: &[],
+                place: end,
+                first: end,
             },
         }
     }

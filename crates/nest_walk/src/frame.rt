@@ -1,6 +1,6 @@
 // The loops that a walk is in.
 
-ghost use Rattle.std.specs.Prelude.{◌≡◌, ◌<◌, Some, length, slice_get, slice_set};
+ghost use Rattle.std.specs.Prelude.{◌≡◌, ◌<◌, ◌≤◌, ℕ, Some, length, replicate, slice_get, slice_set};
 
 use crate::path::MOST_LOOPS;
 use crate::trips::Trips;
@@ -30,15 +30,19 @@ pub struct Frames<'a> {
 }
 
 impl<'a> Frames<'a> {
-    // Places for six loops.
-    pub(crate) fn new() -> Self {
-        let nothing = Part {
+    ghost use Rattle.nest_walk.specs.Frames.{ended, levels_to};
+
+    // Six loops that are left, where their bodies ended with this number.
+    pub(crate) fn ended(end: u32) -> Self
+        ensures { (k : ℕ) → k ≤ 6 → levels_to result.all k ≡ replicate k (ended end) }
+    {
+        let body = Part {
             items: &[],
-            place: 0,
-            first: 0,
+            place: end,
+            first: end,
         };
         let frame = Frame {
-            body: nothing,
+            body,
             later: Trips::new(0, 1, 0),
             behind: &[],
         };

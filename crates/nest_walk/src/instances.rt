@@ -1,21 +1,25 @@
 // The instances of a program.
 
 ghost use Rattle.std.specs.Prelude.{◌≡◌, [], ◌∷◌, IfSome, IsTrue, MatchOption};
+ghost use Rattle.std.specs.List.{All, Contains, flat_map};
 ghost use Rattle.nest_tree.specs.Limits.{IsWithinLimits};
 ghost use Rattle.nest_tree.specs.Tree.{param_values};
-ghost use Rattle.nest_tree.specs.View.{tree_of, statement_of};
+ghost use Rattle.nest_tree.specs.View.{tree_of, statement_of, statements_from};
 ghost use Rattle.nest_tree.specs.WellFormed.{IsWellFormed};
-ghost use Rattle.nest_model.specs.Instances.{Instance, instances};
+ghost use Rattle.nest_model.specs.Instances.{Instance, head_trips, instances, instances_in, instances_of, with_loop};
 ghost use Rattle.nest_model.specs.Visits.{every, instances_at};
 ghost use Rattle.nest_walk.specs.Cursors.{is_reached, loops_in, rounds_in, tree_in, visit_at};
 ghost use Rattle.nest_walk.specs.Executed.{is_executed_at};
+ghost use Rattle.nest_walk.specs.Frames.{head_of};
 ghost use Rattle.nest_walk.specs.Places.{numbers_of};
 ghost use Rattle.nest_walk.specs.RoundsOf.{rounds_of};
 ghost use Rattle.nest_walk.specs.Texts.{StandFrom, placed_in, works};
+ghost use Rattle.nest_walk.specs.TripsLeft.{trips_left};
 
 use crate::cursor::{Cursor, Stop};
 use crate::path::Path;
-use nest_tree::{Item, Program};
+use crate::trips::Trips;
+use nest_tree::{Item, Nest, Program};
 
 /// The instances of a program that are left, in sequential order: the stops of the walk that
 /// enters every loop, an assignment behind a logical IF only where its comparison holds. It takes
@@ -37,6 +41,39 @@ impl<'a> Instances<'a> {
     {
         Instances {
             cursor: Cursor::new(program, &[]),
+        }
+    }
+
+    /// The instances of the statement of a stop alone, where these loops are round it.
+    pub fn over(program: &'a Program, path: &Path, stop: Stop<'a>) -> Self
+        requires reached { IsTrue (is_reached (tree_of program.now) (rounds_of path.now) stop) }
+        requires text { StandFrom (works (tree_of program.now)) stop.first (placed_in every (numbers_of (rounds_of path.now)) (statement_of stop.item.now)) }
+        ensures instances { instances_left result ≡ instances_of (param_values (tree_of program.now)) (statement_of stop.entry.item.now) stop.entry.first (loops_in (tree_of program.now) (rounds_of path.now)) }
+        ensures program { instances_tree result ≡ tree_of program.now }
+    {
+        Instances {
+            cursor: Cursor::over(program, path, stop),
+        }
+    }
+
+    /// The instances of the body of a loop alone, once for each of these values of its DO
+    /// variable, which are among those of its trips, where these loops are round it.
+    pub fn over_trips(
+        program: &'a Program,
+        path: &Path,
+        stop: Stop<'a>,
+        nest: &'a Nest,
+        trips: Trips,
+    ) -> Self
+        requires reached { IsTrue (is_reached (tree_of program.now) (rounds_of path.now) stop) }
+        requires text { StandFrom (works (tree_of program.now)) stop.first (placed_in every (numbers_of (rounds_of path.now)) (statement_of stop.item.now)) }
+        requires nest { stop.item.now ≡ Item.Loop nest.now }
+        requires trips { All (Contains (head_trips (param_values (tree_of program.now)) (head_of nest.now) (loops_in (tree_of program.now) (rounds_of path.now)))) (trips_left trips) }
+        ensures instances { instances_left result ≡ flat_map (λ v. instances_in (param_values (tree_of program.now)) (statements_from nest.now.items.items) stop.entry.first (with_loop (loops_in (tree_of program.now) (rounds_of path.now)) nest.now.number v)) (trips_left trips) }
+        ensures program { instances_tree result ≡ tree_of program.now }
+    {
+        Instances {
+            cursor: Cursor::over_trips(program, path, stop, nest, trips),
         }
     }
 

@@ -1,4 +1,4 @@
-use Rattle.std.proofs.Common.{◌≡◌, ◌∷◌, ap, sym, ◌∙◌, suc, rules, arith, w64, FitsSigned}
+use Rattle.std.proofs.Common.{◌≡◌, ◌∷◌, ap, sym, ◌∙◌, refl, rules, arith, w64, FitsSigned}
 use Rattle.std.specs.List.{list_all}
 use Rattle.std.proofs.lemmas.Int.{to_z-of_z}
 use Rattle.nest_tree.specs.Form.{is_small}
@@ -10,9 +10,7 @@ use Rattle.nest_walk.specs.TripsLeft.{trips_left}
 use Rattle.nest_walk.specs.Paths.{Round}
 use Rattle.nest_walk.specs.Walks.{Stretch, Level}
 use Rattle.nest_walk.specs.declared.frame.Frame.{Frame}
-use Rattle.nest_walk.proofs.CursorMoves.{KeptBy, deeper, enters, levels_of, loop_known}
-use Rattle.nest_walk.proofs.Levels.{levels_to-put}
-use Rattle.nest_walk.proofs.PathLists.{rounds_to-length}
+use Rattle.nest_walk.proofs.CursorMoves.{KeptBy, enters, levels_of, loop_known, put_level}
 use Rattle.nest_walk.proofs.cursor.Cursor.enter.Goals as goal
 use Rattle.nest_walk.proofs.cursor.Cursor.enter.Goals.{After-push}
 
@@ -43,13 +41,10 @@ kept c =
     c.push.ensures ∙ ap (λ v. record { number = nest.number; value = v } ∷ rounds_of old.path) (to_z-of_z w64 c.take-value.result fits) in
     let body : Stretch = record { statements = statements_from nest.items.items; place = old.rest.place; first = old.rest.first } in
     let same : stretch_of frame.body ≡ body = ap (λ items. record { statements = statements_from items; place = old.rest.place; first = old.rest.first }) c.deref.ensures.value in
-    let at : depth ≡ old.path.depth = c.depth-depth.ensures.count ∙ rounds_to-length old.path.numbers old.path.values old.path.depth in
-    let deep : c.push.new.self.depth ≡ suc depth = deeper old.path c.push.new.self inner pushed ∙ ap suc (sym at) in
     let level : Level = record { body = body; later = trips_left c.take-value.new.self; behind = statements_from c.args.behind.now } in
     let levels : levels_to c.put.new.self.all c.push.new.self.depth ≡ level ∷ levels_of old =
-    ap (levels_to c.put.new.self.all) deep ∙ ap (λ all. levels_to all (suc depth)) c.put.ensures.all ∙ levels_to-put old.frames.all depth frame c.put.ensures.room
-    ∙ ap (λ b. record { body = b; later = trips_left c.take-value.new.self; behind = statements_from c.args.behind.now } ∷ levels_to old.frames.all depth) same
-    ∙ ap (λ n. level ∷ levels_to old.frames.all n) at in
+    put_level old.path c.push.new.self inner old.frames.all c.put.new.self.all depth frame level (levels_of old) c.depth-depth.ensures.count pushed c.put.ensures.all c.put.ensures.room
+    (ap (λ b. record { body = b; later = trips_left c.take-value.new.self; behind = statements_from c.args.behind.now }) same) refl in
     enters old nest c.args.behind.now c.take-value.result (trips_left c.take-value.new.self) c.requires.rest c.requires.entered (sym c.requires.trips ∙ c.take-value.ensures)
     (rounds_of c.push.new.self) (levels_to c.put.new.self.all c.push.new.self.depth) (stretch_of frame.body) pushed levels same
 

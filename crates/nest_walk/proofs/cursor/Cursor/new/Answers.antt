@@ -13,7 +13,7 @@ pub invariant_of-result : goal.invariant_of-result
 invariant_of-result c =
     let tree = tree_of c.args.program.now in
     let marks = c.args.marks.now in
-    let levels = levels_to c.new-2.result.all c.new.result.depth in record {
+    let levels = levels_to c.ended.result.all c.new.result.depth in record {
       sound = ap (λ rounds. is_sound (walk_in tree marks) rounds levels (record { statements = statements_from c.deref.result.now; place = 1; first = 1 })) c.new.ensures
           ∙ ap (λ items. is_sound (walk_in tree marks) [] levels (record { statements = statements_from items; place = 1; first = 1 })) c.deref.ensures.value
           ∙ start_sound tree marks levels c.requires.formed c.requires.limits;
@@ -28,6 +28,6 @@ unfolding left_of
 returns-clause-visits c =
     let tree = tree_of c.args.program.now in
     let marks = c.args.marks.now in
-    let levels = levels_to c.new-2.result.all c.new.result.depth in
+    let levels = levels_to c.ended.result.all c.new.result.depth in
     ap (λ rounds. left (walk_in tree marks) rounds levels (record { statements = statements_from c.deref.result.now; place = 1; first = 1 })) c.new.ensures
     ∙ ap (λ items. left (walk_in tree marks) [] levels (record { statements = statements_from items; place = 1; first = 1 })) c.deref.ensures.value
