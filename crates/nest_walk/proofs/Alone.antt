@@ -1,5 +1,5 @@
 -- A walk over one statement: nothing is left of the loops round it.
-use Rattle.std.proofs.Common.{◌≡◌, ℕ, zero, suc, ◌+◌, ◌<◌, ◌≤◌, ◌^◌, ℤ, pos, Bool, true, ◌&&◌, nat_lt, List, [], ◌∷◌, ◌++◌, map, length, replicate, get_or, Some, refl, ap, sym, subst, ◌∙◌, arith}
+use Rattle.std.proofs.Common.{◌≡◌, ℕ, zero, suc, ◌+◌, ◌<◌, ◌≤◌, ◌^◌, ℤ, pos, Bool, true, nat_lt, List, [], ◌∷◌, ◌++◌, map, length, replicate, get_or, Some, refl, ap, sym, subst, ◌∙◌, arith}
 use Rattle.std.specs.List.{Contains, All, flat_map, list_all, slice_get}
 use Rattle.std.specs.Option.{option_to_list}
 use Rattle.std.proofs.lemmas.Bool.{and_from, and_parts, eq-eqb, lt-ltb, ltb-true}
@@ -19,7 +19,7 @@ use Rattle.nest_walk.specs.Places.{numbers_of}
 use Rattle.nest_walk.specs.RoundsOf.{rounds_of}
 use Rattle.nest_walk.specs.Texts.{StandFrom, placed, placed_in, placed_of, works}
 use Rattle.nest_walk.specs.Walkable.{are_walkable, is_walkable}
-use Rattle.nest_walk.specs.Walks.{Level, Stretch, Walk, ends_with, is_numbered, is_sound, is_sound_trip, last_place, last_work, left, stretch_behind, stretch_visits, walk_in}
+use Rattle.nest_walk.specs.Walks.{Level, Stretch, Walk, is_numbered, is_sound, is_sound_trip, last_place, last_work, left, stretch_behind, stretch_visits, walk_in}
 use Rattle.nest_walk.specs.declared.cursor.Stop.{Stop}
 use Rattle.nest_walk.specs.declared.frame.Frame.{Frame}
 use Rattle.nest_walk.specs.declared.path.Path.{Path}
@@ -35,7 +35,7 @@ same_frames f (suc n) (suc k) h = same_frames f n k (omega arith)
 
 pub levels_same : (f : Frame) (n k : ℕ) → k ≤ n → levels_to (replicate n f) k ≡ replicate k (level_of f)
 levels_same f n zero h = refl
-levels_same f n (suc k) h = 
+levels_same f n (suc k) h =
     let lt : k < n = omega arith in
     let le : k ≤ n = omega arith in
     ap (λ o. map level_of (option_to_list o) ++ levels_to (replicate n f) k) (same_frames f n k lt) ∙ ap (λ ls. level_of f ∷ ls) (levels_same f n k le)
@@ -90,10 +90,12 @@ pub alone_text : (tree : Tree) (walk : Walk) (end : ℕ) (rounds : List Round) (
     StretchInText tree walk.enters (numbers_of rounds) rest → AreInText tree walk rounds (ended_round rounds end) rest
 alone_text tree walk end [] rest stops pieces h = h
 alone_text tree walk end (r ∷ rounds) rest stops pieces h =
-    let around = r.number ∷ numbers_of rounds in
-    (h, stands_nowhere tree walk around end end end refl refl stops pieces,
-     alone_text tree walk end rounds (stretch_behind walk (ended end)) stops pieces
-     (stands_nowhere tree walk (numbers_of rounds) end (last_place walk (ended end).body) (last_work (ended end).body) (omega arith) (omega arith) stops pieces))
+    let around = r.number ∷ numbers_of rounds in (
+      h,
+      stands_nowhere tree walk around end end end refl refl stops pieces,
+      alone_text tree walk end rounds (stretch_behind walk (ended end)) stops pieces
+          (stands_nowhere tree walk (numbers_of rounds) end (last_place walk (ended end).body) (last_work (ended end).body) (omega arith) (omega arith) stops pieces),
+    )
 
 -- what holds of each of some values holds of those among them
 pub each_among : (p : ℤ → Bool) (all some : List ℤ) → list_all p all ≡ true → All (Contains all) some → list_all p some ≡ true
@@ -179,8 +181,9 @@ module _ (tree : Tree) (rounds : List Round) (head : Head) (body : Statements) (
   trips_text end at =
       let walk = whole_walk tree in
       let around = head.number ∷ numbers_of rounds in
-      let stands : StandFrom (works tree) end [] = subst (λ n. StandFrom (works tree) n []) (sym at) (behind_text tree every (numbers_of rounds) (do_loop head body) first first (record { stops = text; works = text })).works in
-      (stands_nowhere tree walk around end end end refl refl stands stands,
-       record { stops = text; works = text },
-       alone_text tree walk end rounds (stretch_behind walk level) stands stands
-       (stands_nowhere tree walk (numbers_of rounds) end (last_place walk level.body) (last_work level.body) (omega (arith, at, works_of-all body)) at stands stands))
+      let stands : StandFrom (works tree) end [] = subst (λ n. StandFrom (works tree) n []) (sym at) (behind_text tree every (numbers_of rounds) (do_loop head body) first first (record { stops = text; works = text })).works in (
+        stands_nowhere tree walk around end end end refl refl stands stands,
+        record { stops = text; works = text },
+        alone_text tree walk end rounds (stretch_behind walk level) stands stands
+            (stands_nowhere tree walk (numbers_of rounds) end (last_place walk level.body) (last_work level.body) (omega (arith, at, works_of-all body)) at stands stands),
+      )

@@ -1,11 +1,11 @@
-use Rattle.std.proofs.Common.{◌≡◌, List, [], ◌∷◌, ◌+◌, ap, sym, subst, ◌∙◌}
+use Rattle.std.proofs.Common.{◌≡◌, List, ◌+◌, ap, sym, subst, ◌∙◌}
 use Rattle.nest_tree.specs.View.{statement_of, statements_from, tree_of}
 use Rattle.nest_tree.specs.declared.tree.Item.{Item}
 use Rattle.nest_walk.specs.Cursors.{left_of}
 use Rattle.nest_walk.specs.Frames.{levels_to}
 use Rattle.nest_walk.specs.InText.{AreInText}
 use Rattle.nest_walk.specs.RoundsOf.{rounds_of}
-use Rattle.nest_walk.specs.Walks.{Level, Stretch, is_sound, left}
+use Rattle.nest_walk.specs.Walks.{Stretch, is_sound, left}
 use Rattle.nest_walk.proofs.Alone.{ended_round, levels_round, one_left, one_sound, one_text, reached, whole_walk}
 use Rattle.nest_walk.proofs.cursor.Cursor.over.Goals as goal
 
