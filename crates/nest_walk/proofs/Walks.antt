@@ -1,8 +1,7 @@
 -- A well-formed program within its limits can be walked.
-use Rattle.std.proofs.Common.{◌≡◌, ℕ, suc, ◌+◌, ◌-◌, ◌<◌, ◌≤◌, ◌^◌, ◌==◌, ℤ, pos, ◌+ℤ◌, ◌*ℤ◌, Bool, true, false, ◌&&◌, nat_lt, List, [], ◌∷◌, ◌++◌, length, subst, get_or, Option, Some, None, unsigned_abs, if◌then◌else◌, refl, ap, sym, ◌∙◌, arith}
+use Rattle.std.proofs.Common.{◌≡◌, ℕ, suc, ◌+◌, ◌-◌, ◌<◌, ◌≤◌, ◌^◌, ◌==◌, ℤ, pos, ◌+ℤ◌, ◌*ℤ◌, Bool, true, false, ◌&&◌, nat_lt, List, [], ◌∷◌, ◌++◌, length, Option, Some, None, unsigned_abs, if◌then◌else◌, refl, ap, sym, ◌∙◌, arith}
 use Rattle.std.specs.List.{list_all}
 use Rattle.std.proofs.lemmas.Bool.{and_parts, and_from, eqb-true, le-leb, lt-ltb, ltb-true}
-use Rattle.std.proofs.lemmas.Int.{ints}
 use Rattle.std.proofs.lemmas.List.{length-replicate, length-set}
 use Rattle.nest_tree.specs.declared.tree.Guard.{Guard}
 use Rattle.nest_tree.specs.Form.{form_value, is_small}
@@ -11,24 +10,15 @@ use Rattle.nest_tree.specs.Limits.{IsWithinLimits, is_empty, line_of_work, no_en
 use Rattle.std.specs.Option.{option_or}
 use Rattle.nest_tree.specs.Loads.{guard_forms, loads_in, subscript_forms, work_forms}
 use Rattle.nest_tree.specs.Tree.{Work, assign, print, Statement, Statements, do_loop, work, continue, done, next, Tree, param_values}
-use Rattle.nest_tree.proofs.FirstLimits.{no_ends-at, no_ends-length}
-use Rattle.nest_tree.proofs.Good.{loops-few}
 use Rattle.nest_tree.specs.WellFormed.{IsWellFormed, Scope, are_good_statements, is_good_head, is_good_statement, is_number_of, loops_in, loops_of, scope_of, statement_count, statements_in}
 use Rattle.nest_model.specs.Instances.{no_values, trip_count, with_loop, works_in, works_of}
 use Rattle.nest_model.specs.Visits.{stops_in, stops_of}
+use Rattle.nest_model.proofs.Small.{no_line, not_empty}
 use Rattle.nest_model.proofs.Spans.{all_trips}
-use Rattle.nest_model.proofs.Within.{Between, IsInEnds, form_between, head_between, head_small, in_ends-step, none_parts, small_between, wide_first}
+use Rattle.nest_model.proofs.Stops.{at_start}
+use Rattle.nest_model.proofs.Within.{IsInEnds, form_between, head_between, head_small, in_ends-step, none_parts, small_between, wide_first}
 use Rattle.nest_walk.specs.Walks.{Level, enters_but, is_sound, walk_in}
-use Rattle.nest_walk.proofs.PathLists.{at_replicate}
 use Rattle.nest_walk.specs.Walkable.{are_walkable, is_small_at, is_walkable, sides_of}
-
--- no interval: no wide end
-no_line : (line : ℕ) (end : Option ℤ) → wide_at line end ≡ None → end ≡ None
-no_line line None h = refl
-no_line line (Some end) h = cc
-
-not_empty : (interval : ℤ × ℤ) (v : ℤ) → Between interval v → is_empty interval ≡ false
-not_empty interval v b = let low = b.low in let high = b.high in grind (arith, ints)
 
 -- the sides of a comparison are small
 work_small : (params : List ℤ) (ends : List (ℤ × ℤ)) (loops : List ℤ) (w : Work) → IsInEnds ends loops → wide_forms params ends (work_forms w) ≡ None → list_all (is_small_at params loops) (sides_of w) ≡ true
@@ -109,16 +99,6 @@ mutual
   works_of-most : (ss : Statements) → works_of ss ≤ statement_count ss
   works_of-most done = omega arith
   works_of-most (next s rest) = omega (arith, works-most s, works_of-most rest)
-
--- before the first statement
-at_start : (tree : Tree) → IsWellFormed tree → IsInEnds no_ends (no_values tree)
-at_start tree formed =
-    let count = loops_of tree.items in record {
-      long = omega (arith, length-replicate count (pos 0), no_ends-length, loops-few tree formed);
-      inside = λ n.
-          subst (λ x. Between x (get_or (no_values tree) n (pos 0))) (sym (no_ends-at n))
-          (subst (λ x. Between (pos 0, pos 0) x) (sym (at_replicate count n (pos 0))) (record { low = omega (arith, ints); high = omega (arith, ints) }));
-    }
 
 -- what the walk of a program asks for
 pub walkable : (tree : Tree) → IsWellFormed tree → IsWithinLimits tree → are_walkable (param_values tree) 0 tree.items (no_values tree) ≡ true
