@@ -1,0 +1,2 @@
+pub mod ProcessorSets
+pub mod KindBits

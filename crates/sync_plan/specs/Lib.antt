@@ -1,0 +1,8 @@
+pub mod ProcessorSets
+pub mod PhaseLoops
+pub mod Waits
+pub mod Conflicts
+pub mod Ordered
+pub mod Shape
+pub mod Fit
+pub mod Barriers

@@ -1,0 +1,103 @@
+-- Plans that fit a program: their shape, where their anchors lie, who prints, and their conditions.
+use Rattle.std.specs.Prelude.{ℕ, suc, ◌≡◌, ℤ, pos, int_le, Bool, true, false, not, ◌&&◌, ◌||◌, ◌==◌, List, [], ◌∷◌, ◌++◌, length, Option, Some, None, if◌then◌else◌}
+use Rattle.std.specs.Option.{option_or}
+use Rattle.std.specs.Ordering.{int_eq}
+use Rattle.nest_tree.specs.Form.{Form, dot}
+use Rattle.nest_tree.specs.Tree.{assign, print, Statement, Statements, do_loop, work, continue, done, next, Tree, param_values}
+use Rattle.nest_walk.specs.Texts.{Placed}
+use Rattle.owner_partition.specs.declared.anchor.Anchor.{Anchor}
+use Rattle.owner_partition.specs.declared.cut.Mark.{Mark}
+use Rattle.owner_partition.specs.declared.placement.Placement.{Placement}
+use Rattle.owner_partition.specs.Placement.{unplaced}
+use Rattle.sync_plan.specs.declared.plan.ConditionRow.{ConditionRow}
+use Rattle.sync_plan.specs.declared.plan.Conditions.{Conditions}
+use Rattle.sync_plan.specs.declared.plan.Conditions.TheVariants.{Values, Rows}
+use Rattle.sync_plan.specs.declared.plan.Kind.{Kind}
+use Rattle.sync_plan.specs.declared.plan.Kind.TheVariants.{Nothing, Producer, Left, Right, Both, Barrier, Join}
+use Rattle.sync_plan.specs.declared.plan.Plan.{Plan}
+use Rattle.sync_plan.specs.Shape.{is_doall, mark_of, static_phases, wrong_field}
+
+-- why a plan doesn't fit: a field of its shape, a block anchor that leaves its blocks, a phase with a PRINT that processor 0 doesn't run alone, or a row of conditions that isn't met
+pub data Misfit : Type 0 where
+  shape : (field : ℕ) → Misfit
+  placement : (where_to : Placement) → Misfit
+  print_place : (phase : ℕ) → Misfit
+  condition : (row : ℕ) → Misfit
+
+-- the anchors of the static phases, from the one with this number on, and those of the kinds in front of them
+abbrev pub numbered_anchors : ℕ → List Anchor → List (ℕ × Anchor)
+numbered_anchors n [] = []
+numbered_anchors n (a ∷ rest) = (n, a) ∷ numbered_anchors (suc n) rest
+
+abbrev pub kind_anchors : ℕ → List Kind → List (ℕ × Anchor)
+kind_anchors n [] = []
+kind_anchors n (Nothing ∷ rest) = kind_anchors (suc n) rest
+kind_anchors n (Producer a ∷ rest) = (n, a) ∷ kind_anchors (suc n) rest
+kind_anchors n (Left ∷ rest) = kind_anchors (suc n) rest
+kind_anchors n (Right ∷ rest) = kind_anchors (suc n) rest
+kind_anchors n (Both ∷ rest) = kind_anchors (suc n) rest
+kind_anchors n (Barrier ∷ rest) = kind_anchors (suc n) rest
+kind_anchors n (Join ∷ rest) = kind_anchors (suc n) rest
+
+-- the phases' anchors are placed first, then the kinds'
+abbrev pub placed_anchors : Plan → List (ℕ × Anchor)
+placed_anchors plan = numbered_anchors 1 plan.anchors ++ kind_anchors 1 plan.kinds
+
+-- a PRINT stands in a statement
+abbrev mutual
+  pub has_print : Statement → Bool
+  has_print (do_loop head body) = have_print body
+  has_print (work (assign a)) = false
+  has_print (work (print p)) = true
+  has_print (continue line) = false
+
+  pub have_print : Statements → Bool
+  have_print done = false
+  have_print (next s rest) = has_print s || have_print rest
+
+-- a static phase is a Doall loop
+abbrev pub is_dealt : List Mark → Statement → Bool
+is_dealt marks (do_loop head body) = is_doall (mark_of marks head.number)
+is_dealt marks (work w) = false
+is_dealt marks (continue line) = false
+
+-- the constant form 0
+abbrev pub is_zero_form : Form → Bool
+is_zero_form f = int_eq f.constant (pos 0) && length f.loops == 0 && length f.params == 0
+
+-- the first static phase, from the one with this number on, with a PRINT that is Doall or has another form than the constant 0
+abbrev pub misplaced_print : ℕ → List Mark → List Placed → List Anchor → Option ℕ
+misplaced_print n marks [] anchors = None
+misplaced_print n marks (s ∷ rest) [] = None
+misplaced_print n marks (s ∷ rest) (a ∷ anchors) =
+    if has_print s.what && (is_dealt marks s.what || not (is_zero_form a.form)) then Some n
+    else misplaced_print (suc n) marks rest anchors
+
+-- values of the named constants meet a row of conditions
+abbrev pub meets : List ℤ → ConditionRow → Bool
+meets params row = int_le (dot row.coefs params) row.bound
+
+-- the first row, from the one with this number on, that they don't meet
+abbrev pub unmet_among : ℕ → List ℤ → List ConditionRow → Option ℕ
+unmet_among n params [] = None
+unmet_among n params (row ∷ rest) = if meets params row then unmet_among (suc n) params rest else Some n
+
+abbrev pub unmet : List ℤ → Conditions → Option ℕ
+unmet params Values = None
+unmet params (Rows rows) = unmet_among 1 params rows
+
+abbrev as_misfit : {A : Type 0} → (A → Misfit) → Option A → Option Misfit
+as_misfit why None = None
+as_misfit why (Some a) = Some (why a)
+
+-- the first reason why a plan doesn't fit: its shape, then the placement of its anchors, then the PRINTs, then the conditions
+abbrev pub first_misfit : Tree → Plan → Option Misfit
+first_misfit tree plan =
+    option_or (as_misfit shape (wrong_field tree plan))
+    (option_or (as_misfit placement (unplaced tree plan.cut plan.workers (placed_anchors plan)))
+    (option_or (as_misfit print_place (misplaced_print 1 plan.cut (static_phases tree plan.cut) plan.anchors))
+    (as_misfit condition (unmet (param_values tree) plan.conditions))))
+
+-- there is none
+abbrev pub IsFit : Tree → Plan → Type 0
+IsFit tree plan = first_misfit tree plan ≡ None
