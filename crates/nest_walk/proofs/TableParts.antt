@@ -12,6 +12,7 @@ use Rattle.nest_tree.specs.declared.tree.Expr.{Expr}
 use Rattle.nest_tree.specs.declared.tree.Item.{Item}
 use Rattle.nest_tree.specs.declared.tree.PrintItem.{PrintItem}
 use Rattle.nest_model.specs.Visits.{every}
+use Rattle.nest_walk.specs.Tables.{element}
 use Rattle.nest_walk.specs.Texts.{placed_in, placed_of}
 
 -- of a list made piece by piece, the pieces of one item more
@@ -25,10 +26,15 @@ loads_among-pieces : (es : List Expr) → loads_among (expressions_from es) ≡ 
 loads_among-pieces [] = refl
 loads_among-pieces (e ∷ es) = ap (λ xs. loads_in (expression_of e) ++ xs) (loads_among-pieces es)
 
-pub loads_taken : (es : List Expr) (i : ℕ) (e : Expr) → i < length es → e ≡ get_or es i e →
+all_loads_taken : (es : List Expr) (i : ℕ) (e : Expr) → i < length es → e ≡ get_or es i e →
     loads_among (expressions_from (take (i + 1) es)) ≡ loads_among (expressions_from (take i es)) ++ loads_in (expression_of e)
-loads_taken es i e lt is =
+all_loads_taken es i e lt is =
     loads_among-pieces (take (i + 1) es) ∙ pieces_taken (λ (x : Expr). loads_in (expression_of x)) es i e lt is ∙ ap (λ xs. xs ++ loads_in (expression_of e)) (sym (loads_among-pieces (take i es)))
+
+pub loads_taken : (es : List Expr) (i : ℕ) (e : Expr) → i < length es → e ≡ get_or es i e →
+    map element (loads_among (expressions_from (take (i + 1) es))) ≡ map element (loads_among (expressions_from (take i es))) ++ map element (loads_in (expression_of e))
+loads_taken es i e lt is =
+    ap (map element) (all_loads_taken es i e lt is) ∙ map-append element (loads_among (expressions_from (take i es))) (loads_in (expression_of e))
 
 pub good_argument : (scope : Scope) (around : List ℕ) (es : List Expr) (i : ℕ) (e : Expr) → i < length es → e ≡ get_or es i e → are_good_expressions scope around (expressions_from es) ≡ true → is_good_expression scope around (expression_of e) ≡ true
 good_argument scope around [] i e lt is good = absurd (omega arith)

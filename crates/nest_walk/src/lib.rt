@@ -30,5 +30,5 @@ pub use cursor::{Cursor, Stop};
 pub use form::value_at;
 pub use instances::Instances;
 pub use path::{MOST_LOOPS, Path};
-pub use table::{CellTable, WholeCells, WorkCells};
+pub use table::{CellTable, LoadCells, WorkCells};
 pub use trips::Trips;

@@ -1,39 +1,36 @@
 // The cells of all accesses of a program, made once.
 
-ghost use Rattle.std.specs.Prelude.{◌≡◌, ℕ, ◌-◌, ◌≤◌, [], ◌∷◌, IfOk, IsTrue, OnOk, Some, length, map, slice_get};
+ghost use Rattle.std.specs.Prelude.{◌≡◌, ℕ, ◌-◌, ◌≤◌, [], ◌∷◌, IfOk, IsTrue, List, OnOk, Some, length, map, slice_get};
 ghost use Rattle.std.specs.List.{flat_map, list_all};
 ghost use Rattle.nest_tree.specs.Limits.{IsWithinLimits};
-ghost use Rattle.nest_tree.specs.Loads.{loads_among, loads_in, loads_in_item};
+ghost use Rattle.nest_tree.specs.Loads.{loads_among, loads_in};
 ghost use Rattle.nest_tree.specs.View.{expression_of, expressions_from, printed_of, statement_of, statements_from, tree_of};
 ghost use Rattle.nest_tree.specs.WellFormed.{IsWellFormed, are_good_expressions, are_good_statements, is_good_access, is_good_expression, is_good_item, is_good_statement, scope_of};
-ghost use Rattle.nest_tree.specs.declared.tree.Access.{Access};
 ghost use Rattle.nest_model.specs.Visits.{every};
-ghost use Rattle.nest_walk.specs.CellForms.{IsCellForm};
 ghost use Rattle.nest_walk.specs.Grown.{GrewBy};
 ghost use Rattle.nest_walk.specs.Places.{numbers_of};
 ghost use Rattle.nest_walk.specs.RoundsOf.{rounds_of};
-ghost use Rattle.nest_walk.specs.Tables.{AreCells, ArePlacedCells, IsCellTable, IsWhole, entries, wholes_in_item};
+ghost use Rattle.nest_walk.specs.Tables.{AreCells, AreLoadCells, ArePlacedCells, IsCellTable, array, element, entries, loaded_in_item};
 ghost use Rattle.nest_walk.specs.Texts.{placed_in, placed_of};
-ghost use Rattle.nest_walk.specs.declared.cells.CellForm.{CellForm};
 
 use crate::cells::CellForm;
 use crate::path::Path;
 use nest_tree::{Access, Expr, Item, PrintItem, Program};
 use std::alloc::{AllocError, Global};
 
-/// The cells of an array that a PRINT prints whole: the first, from 0, and how many there are.
+/// The cells of a load.
 #[derive(Clone, Copy, Debug, PartialEq, Eq)]
-pub struct WholeCells {
-    pub first: u32,
-    pub count: u32,
+pub enum LoadCells {
+    /// That of a scalar or an element.
+    Element(CellForm),
+    /// Those of an array that is printed whole: the first, from 0, and how many there are.
+    Array { first: u32, count: u32 },
 }
 
-/// The cells of a piece of work: those of its loads of scalars and elements and of the arrays that
-/// it prints whole, each in text order, and that of what it stores.
+/// The cells of a piece of work: those of its loads, in text order, and that of what it stores.
 #[derive(Drop)]
 pub struct WorkCells {
-    pub loads: Vec<CellForm>,
-    pub wholes: Vec<WholeCells>,
+    pub loads: Vec<LoadCells>,
     pub store: Option<CellForm>,
 }
 
@@ -128,14 +125,13 @@ fn assigned_cells(
     requires limits { IsWithinLimits (tree_of program.now) }
     requires target { IsTrue (is_good_access (scope_of (tree_of program.now)) (numbers_of (rounds_of path.now)) target.now) }
     requires value { IsTrue (is_good_expression (scope_of (tree_of program.now)) (numbers_of (rounds_of path.now)) (expression_of value.now)) }
-    ensures { IfOk result (λ cells. AreCells (tree_of program.now) (numbers_of (rounds_of path.now)) (loads_in (expression_of value.now)) [] (target.now ∷ []) cells) }
+    ensures { IfOk result (λ cells. AreCells (tree_of program.now) (numbers_of (rounds_of path.now)) (map element (loads_in (expression_of value.now))) (target.now ∷ []) cells) }
 {
     let mut loads = Vec::new(alloc);
     push_loads(program, value, path, &mut loads)?;
     let store = CellForm::of_access(program, target, path);
     Ok(WorkCells {
         loads,
-        wholes: Vec::new(alloc),
         store: Some(store),
     })
 }
@@ -150,38 +146,31 @@ fn printed_cells(
     requires formed { IsWellFormed (tree_of program.now) }
     requires limits { IsWithinLimits (tree_of program.now) }
     requires good { IsTrue (list_all (is_good_item (scope_of (tree_of program.now)) (numbers_of (rounds_of path.now))) (map printed_of items.now)) }
-    ensures { IfOk result (λ cells. AreCells (tree_of program.now) (numbers_of (rounds_of path.now)) (flat_map loads_in_item (map printed_of items.now)) (flat_map wholes_in_item (map printed_of items.now)) [] cells) }
+    ensures { IfOk result (λ cells. AreCells (tree_of program.now) (numbers_of (rounds_of path.now)) (flat_map loaded_in_item (map printed_of items.now)) [] cells) }
 {
     let mut loads = Vec::new(alloc);
-    let mut wholes = Vec::new(alloc);
     for item in items {
-        push_item_cells(program, item, path, &mut loads, &mut wholes)?;
+        push_item_cells(program, item, path, &mut loads)?;
     }
-    Ok(WorkCells {
-        loads,
-        wholes,
-        store: None,
-    })
+    Ok(WorkCells { loads, store: None })
 }
 
-// The cells of an item of a PRINT, behind those in the lists.
+// The cells that an item of a PRINT loads, behind those in the list.
 fn push_item_cells(
     program: &Program,
     item: &PrintItem,
     path: &Path,
-    loads: &mut Vec<CellForm>,
-    wholes: &mut Vec<WholeCells>,
+    loads: &mut Vec<LoadCells>,
 ) -> Result<(), AllocError>
     requires formed { IsWellFormed (tree_of program.now) }
     requires limits { IsWithinLimits (tree_of program.now) }
     requires good { IsTrue (is_good_item (scope_of (tree_of program.now)) (numbers_of (rounds_of path.now)) (printed_of item.now)) }
-    ensures loads { OnOk result (GrewBy (λ (a : Access) (f : CellForm). IsCellForm (tree_of program.now) a (numbers_of (rounds_of path.now)) f) (loads_in_item (printed_of item.now)) loads.old.items loads.new.items) }
-    ensures wholes { OnOk result (GrewBy (IsWhole (tree_of program.now)) (wholes_in_item (printed_of item.now)) wholes.old.items wholes.new.items) }
+    ensures { OnOk result (GrewBy (AreLoadCells (tree_of program.now) (numbers_of (rounds_of path.now))) (loaded_in_item (printed_of item.now)) loads.old.items loads.new.items) }
 {
     match item {
         PrintItem::Value(e) => push_loads(program, e, path, loads),
         PrintItem::Whole(variable) => {
-            wholes.push(whole_cells(program, *variable))?;
+            loads.push(whole_cells(program, *variable))?;
             Ok(())
         }
         PrintItem::Text(_) => Ok(()),
@@ -189,16 +178,16 @@ fn push_item_cells(
 }
 
 // The cells of the variable with this number, from 1.
-fn whole_cells(program: &Program, variable: u32) -> WholeCells
+fn whole_cells(program: &Program, variable: u32) -> LoadCells
     requires formed { IsWellFormed (tree_of program.now) }
     requires limits { IsWithinLimits (tree_of program.now) }
     requires low { 1 ≤ variable }
     requires high { variable ≤ length (tree_of program.now).variables }
-    ensures { IsWhole (tree_of program.now) variable result }
+    ensures { (around : List ℕ) → AreLoadCells (tree_of program.now) around (array variable) result }
 {
     let first = program.layout().first_cell(variable);
     let count = program.variables[variable as usize - 1].element_count();
-    WholeCells {
+    LoadCells::Array {
         first,
         count: count as u32,
     }
@@ -210,26 +199,27 @@ fn push_loads(
     program: &Program,
     e: &Expr,
     path: &Path,
-    forms: &mut Vec<CellForm>,
+    loads: &mut Vec<LoadCells>,
 ) -> Result<(), AllocError>
     requires formed { IsWellFormed (tree_of program.now) }
     requires limits { IsWithinLimits (tree_of program.now) }
     requires good { IsTrue (is_good_expression (scope_of (tree_of program.now)) (numbers_of (rounds_of path.now)) (expression_of e.now)) }
-    ensures { OnOk result (GrewBy (λ (a : Access) (f : CellForm). IsCellForm (tree_of program.now) a (numbers_of (rounds_of path.now)) f) (loads_in (expression_of e.now)) forms.old.items forms.new.items) }
+    ensures { OnOk result (GrewBy (AreLoadCells (tree_of program.now) (numbers_of (rounds_of path.now))) (map element (loads_in (expression_of e.now))) loads.old.items loads.new.items) }
 {
     match e {
         Expr::Number(_) | Expr::LoopValue(_) | Expr::Param(_) => Ok(()),
         Expr::Load(access) => {
-            forms.push(CellForm::of_access(program, access, path))?;
+            let form = CellForm::of_access(program, access, path);
+            loads.push(LoadCells::Element(form))?;
             Ok(())
         }
-        Expr::Neg(a) | Expr::Div(a, _) => push_loads(program, a, path, forms),
+        Expr::Neg(a) | Expr::Div(a, _) => push_loads(program, a, path, loads),
         Expr::Add(a, b) | Expr::Sub(a, b) | Expr::Mul(a, b) => {
-            push_loads(program, a, path, forms)?;
-            push_loads(program, b, path, forms)
+            push_loads(program, a, path, loads)?;
+            push_loads(program, b, path, loads)
         }
-        Expr::Min(arguments) => push_all_loads(program, arguments, path, forms),
-        Expr::Max(arguments) => push_all_loads(program, arguments, path, forms),
+        Expr::Min(arguments) => push_all_loads(program, arguments, path, loads),
+        Expr::Max(arguments) => push_all_loads(program, arguments, path, loads),
     }
 }
 
@@ -239,15 +229,15 @@ fn push_all_loads(
     program: &Program,
     arguments: &[Expr],
     path: &Path,
-    forms: &mut Vec<CellForm>,
+    loads: &mut Vec<LoadCells>,
 ) -> Result<(), AllocError>
     requires formed { IsWellFormed (tree_of program.now) }
     requires limits { IsWithinLimits (tree_of program.now) }
     requires good { IsTrue (are_good_expressions (scope_of (tree_of program.now)) (numbers_of (rounds_of path.now)) (expressions_from arguments.now)) }
-    ensures { OnOk result (GrewBy (λ (a : Access) (f : CellForm). IsCellForm (tree_of program.now) a (numbers_of (rounds_of path.now)) f) (loads_among (expressions_from arguments.now)) forms.old.items forms.new.items) }
+    ensures { OnOk result (GrewBy (AreLoadCells (tree_of program.now) (numbers_of (rounds_of path.now))) (map element (loads_among (expressions_from arguments.now))) loads.old.items loads.new.items) }
 {
     for argument in arguments {
-        push_loads(program, argument, path, forms)?;
+        push_loads(program, argument, path, loads)?;
     }
     Ok(())
 }

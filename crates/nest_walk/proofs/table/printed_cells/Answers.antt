@@ -1,16 +1,12 @@
-use Rattle.std.proofs.Common.{◌≡◌, ℕ, List, map, take, sym, subst}
+use Rattle.std.proofs.Common.{◌≡◌, List, map, take, sym, subst}
 use Rattle.std.specs.List.{flat_map}
 use Rattle.std.proofs.lemmas.List.{take_all}
-use Rattle.nest_tree.specs.Loads.{loads_in_item}
 use Rattle.nest_tree.specs.View.{printed_of, tree_of}
 use Rattle.nest_tree.specs.WellFormed.{scope_of}
-use Rattle.nest_tree.specs.declared.tree.Access.{Access}
-use Rattle.nest_walk.specs.CellForms.{IsCellForm}
 use Rattle.nest_walk.specs.Grown.{GrewBy}
 use Rattle.nest_walk.specs.Places.{numbers_of}
 use Rattle.nest_walk.specs.RoundsOf.{rounds_of}
-use Rattle.nest_walk.specs.Tables.{IsWhole, wholes_in_item}
-use Rattle.nest_walk.specs.declared.cells.CellForm.{CellForm}
+use Rattle.nest_walk.specs.Tables.{AreLoadCells, Loaded, loaded_in_item}
 use Rattle.nest_walk.proofs.Grown.{grew-both, grew-from_none}
 use Rattle.nest_walk.proofs.TableParts.{good_item, items_taken}
 use Rattle.nest_walk.proofs.table.printed_cells.Goals as goal
@@ -21,24 +17,13 @@ push_item_cells-requires-clause-good c =
 
 pub loop-item-preserved : goal.loop-item-preserved
 loop-item-preserved c =
-    let tree = tree_of c.args.program.now in
-    let R = λ (a : Access) (f : CellForm). IsCellForm tree a (numbers_of (rounds_of c.args.path.now)) f in
-    let loads = items_taken loads_in_item c.args.items.now c.loop-item.item-index c.item-item.result c.loop-item-test.true c.item-item.is in
-    let wholes = items_taken wholes_in_item c.args.items.now c.loop-item.item-index c.item-item.result c.loop-item-test.true c.item-item.is in
-    record {
-      loaded = subst (λ (xs : List Access). GrewBy R xs c.new-loads.result.items c.push_item_cells.new.loads.items) (sym loads) (grew-both R _ _ _ _ _ c.loop-item.invariant.loaded c.in_ok-push_item_cells.ensures.loads);
-      printed = subst (λ (xs : List ℕ). GrewBy (IsWhole tree) xs c.new-wholes.result.items c.push_item_cells.new.wholes.items) (sym wholes) (grew-both (IsWhole tree) _ _ _ _ _ c.loop-item.invariant.printed c.in_ok-push_item_cells.ensures.wholes);
-    }
+    let R = AreLoadCells (tree_of c.args.program.now) (numbers_of (rounds_of c.args.path.now)) in
+    let more = items_taken loaded_in_item c.args.items.now c.loop-item.item-index c.item-item.result c.loop-item-test.true c.item-item.is in
+    subst (λ (xs : List Loaded). GrewBy R xs c.new-loads.result.items c.push_item_cells.new.loads.items) (sym more) (grew-both R _ _ _ _ _ c.loop-item.invariant c.in_ok-push_item_cells.ensures)
 
 pub returns : goal.returns
 returns c =
-    let tree = tree_of c.args.program.now in
-    let R = λ (a : Access) (f : CellForm). IsCellForm tree a (numbers_of (rounds_of c.args.path.now)) f in
+    let R = AreLoadCells (tree_of c.args.program.now) (numbers_of (rounds_of c.args.path.now)) in
     let all : take c.loop-item.item-index c.args.items.now ≡ c.args.items.now = take_all c.loop-item.item-index c.args.items.now c.loop-item-test.false in
-    let loads = subst (λ xs. GrewBy R (flat_map loads_in_item (map printed_of xs)) c.new-loads.result.items c.loop-item.loads.items) all c.loop-item.invariant.loaded in
-    let wholes = subst (λ xs. GrewBy (IsWhole tree) (flat_map wholes_in_item (map printed_of xs)) c.new-wholes.result.items c.loop-item.wholes.items) all c.loop-item.invariant.printed in
-    record {
-      loaded = grew-from_none R _ _ _ c.new-loads.ensures.items loads;
-      printed = grew-from_none (IsWhole tree) _ _ _ c.new-wholes.ensures.items wholes;
-      stored = tt;
-    }
+    let loads = subst (λ xs. GrewBy R (flat_map loaded_in_item (map printed_of xs)) c.new-loads.result.items c.loop-item.loads.items) all c.loop-item.invariant in
+    record { loaded = grew-from_none R _ _ _ c.new-loads.ensures.items loads; stored = tt }

@@ -18,7 +18,4 @@ overflow_cast-result c =
 pub returns : goal.returns
 returns c =
     let v = declared-numbered c.args.program.now c.args.variable c.index.result.now c.requires.formed c.requires.low c.requires.high c.index.ensures in
-    record {
-      first = c.first_cell-first.ensures ∙ ap (λ (t : Tree). first_cell t c.args.variable) c.layout.ensures;
-      count = c.element_count-count.ensures.count ∙ ap element_count (sym v.bounds);
-    }
+    λ around. (c.first_cell-first.ensures ∙ ap (λ (t : Tree). first_cell t c.args.variable) c.layout.ensures, c.element_count-count.ensures.count ∙ ap element_count (sym v.bounds))
