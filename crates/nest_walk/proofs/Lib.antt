@@ -17,3 +17,4 @@ pub mod Products
 pub mod GoodAccesses
 pub mod Grown
 pub mod TableParts
+pub mod ByNumberLists

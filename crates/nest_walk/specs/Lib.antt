@@ -15,3 +15,4 @@ pub mod InText
 pub mod CellForms
 pub mod Grown
 pub mod Tables
+pub mod ByNumber

@@ -8,12 +8,14 @@
 //! - [`instances`]: the instances, one by one.
 //! - [`laws`]: the instances as stops.
 //! - [`path`]: the loops round a stop with the values of their DO variables, by depth.
+//! - [`by_number`]: the values of DO variables by the loops' numbers.
 //! - [`trips`]: the values of a loop's trips, as a progression.
 //! - [`cells`]: the cell of an access as a form of the loops' values by depth.
 //! - [`table`]: the cells of all accesses of a program, made once.
 //! - [`frame`]: the loops that a walk is in.
 #![tactic(auto)]
 
+pub mod by_number;
 pub mod cells;
 mod count;
 pub mod cursor;
