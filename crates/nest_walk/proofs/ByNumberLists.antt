@@ -1,5 +1,5 @@
 -- Values of loops by number, where some of them are written anew.
-use Rattle.std.proofs.Common.{◌≡◌, ℕ, zero, suc, ◌+◌, ◌-◌, ◌<◌, ◌≤◌, ◌==◌, ◌||◌, ℤ, pos, Bool, true, false, nat_le, List, [], ◌∷◌, length, length-set, set, get_or, ⊎_elim, refl, ap, sym, ◌∙◌, arith}
+use Rattle.std.proofs.Common.{◌≡◌, ℕ, zero, suc, ◌-◌, ◌<◌, ◌≤◌, ◌==◌, ◌||◌, ℤ, pos, true, false, nat_le, List, [], ◌∷◌, length, length-set, get_or, ⊎_elim, refl, ap, sym, ◌∙◌, arith}
 use Rattle.std.specs.List.{list_all, list_any}
 use Rattle.std.proofs.lemmas.Bool.{and_parts, cases_Bool, cases_lt, eqb-false, eqb-true, leb-true}
 use Rattle.std.proofs.lemmas.List.{get_or-set_other, get_or-set_same}

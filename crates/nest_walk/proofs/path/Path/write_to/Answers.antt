@@ -1,6 +1,5 @@
-use Rattle.std.proofs.Common.{length, ap, arith}
-use Rattle.nest_walk.specs.Paths.{rounds_to}
-use Rattle.nest_walk.proofs.ByNumberLists.{rounds_to-numbered, with_rounds-length}
+use Rattle.std.proofs.Common.{length, arith}
+use Rattle.nest_walk.proofs.ByNumberLists.{rounds_to-numbered}
 use Rattle.nest_walk.proofs.path.Path.write_to.Goals as goal
 
 pub overflow_sub-self : goal.overflow_sub-self
