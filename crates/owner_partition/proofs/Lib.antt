@@ -1,2 +1,5 @@
 mod Instances
 mod Places
+mod Congruences
+mod Limits
+mod Strides

@@ -3,3 +3,4 @@ pub mod Owners
 pub mod Phases
 pub mod Placement
 pub mod PhasesLeft
+pub mod OwnTrips

@@ -11,6 +11,7 @@
 pub mod anchor;
 pub mod cut;
 pub mod laws;
+mod own_trips;
 pub mod phases;
 pub mod placement;
 
