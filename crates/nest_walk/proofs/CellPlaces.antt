@@ -91,6 +91,7 @@ few_cells tree limits =
 -- what is known of an access in range
 pub record Exact (tree : Tree) (a : Access) (rounds : List Round) : Type 0 where
   pub cell : pos (access_cell tree (by_number (loops_of tree.items) rounds) a) ≡ cell_among tree a rounds
+  pub within : access_cell tree (by_number (loops_of tree.items) rounds) a < cell_count tree
   pub small : access_cell tree (by_number (loops_of tree.items) rounds) a < 1048576
 
 pub exact_cell : (tree : Tree) (a : Access) (rounds : List Round) → IsWellFormed tree → IsWithinLimits tree → 1 ≤ a.variable → a.variable ≤ length tree.variables →
@@ -105,7 +106,7 @@ exact_cell tree a rounds formed limits low high as_many forms numbers inside =
     let place = place_exact count rounds params bounds a.subscripts numbers good forms inside in
     let below = place_below bounds values good inside (length-map a.subscripts (λ f. form_value f (by_number count rounds) params) ∙ as_many) in
     let own = cells_below tree.variables (a.variable - 1) (omega (arith, low, high)) in
-    record { cell = omega (arith, ints, place); small = omega (arith, below, own, few_cells tree limits) }
+    record { cell = omega (arith, ints, place); within = omega (arith, below, own); small = omega (arith, below, own, few_cells tree limits) }
 
 -- a small cell is itself in 64 bits
 pub cell_in_64_bits : (n : ℕ) → n < 1048576 → count_of (wrapped (pos n)) ≡ n

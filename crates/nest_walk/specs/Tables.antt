@@ -1,8 +1,8 @@
 -- The cells of all accesses of a program, by the number of the piece of work.
-use Rattle.std.specs.Prelude.{ℕ, List, [], ◌∷◌, map, ◌≡◌}
+use Rattle.std.specs.Prelude.{ℕ, ◌+◌, ◌≤◌, List, [], ◌∷◌, map, ◌≡◌}
 use Rattle.std.specs.List.{AllZip, flat_map}
 use Rattle.std.specs.Option.{option_to_list}
-use Rattle.nest_tree.specs.Layout.{bounds_of, element_count, first_cell}
+use Rattle.nest_tree.specs.Layout.{bounds_of, cell_count, element_count, first_cell}
 use Rattle.nest_tree.specs.Loads.{loads_in}
 use Rattle.nest_tree.specs.Tree.{Printed, value, whole, text, Work, assign, print, Statement, do_loop, work, continue, Tree}
 use Rattle.nest_tree.specs.declared.tree.Access.{Access}
@@ -35,12 +35,12 @@ abbrev pub stores_in : Work → List Access
 stores_in (assign a) = a.target ∷ []
 stores_in (print p) = []
 
--- the cells of a load, inside the loops with these numbers
+-- the cells of a load, which are the program's, inside the loops with these numbers
 abbrev pub AreLoadCells : Tree → List ℕ → Loaded → LoadCells → Type 0
 AreLoadCells tree around (element a) (Element form) = IsCellForm tree a around form
 AreLoadCells tree around (element a) (Array first count) = ⊥
 AreLoadCells tree around (array variable) (Element form) = ⊥
-AreLoadCells tree around (array variable) (Array first count) = (first ≡ first_cell tree variable) × (count ≡ element_count (bounds_of tree variable))
+AreLoadCells tree around (array variable) (Array first count) = (first ≡ first_cell tree variable) × (count ≡ element_count (bounds_of tree variable)) × (first + count ≤ cell_count tree)
 
 -- the cells of these loads and stores
 pub record AreCells (tree : Tree) (around : List ℕ) (loads : List Loaded) (stores : List Access) (cells : WorkCells) : Type 0 where

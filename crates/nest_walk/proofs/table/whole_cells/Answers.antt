@@ -18,4 +18,6 @@ overflow_cast-result c =
 pub returns : goal.returns
 returns c =
     let v = declared-numbered c.args.program.now c.args.variable c.index.result.now c.requires.formed c.requires.low c.requires.high c.index.ensures in
-    λ around. (c.first_cell-first.ensures ∙ ap (λ (t : Tree). first_cell t c.args.variable) c.layout.ensures, c.element_count-count.ensures.count ∙ ap element_count (sym v.bounds))
+    let first = c.first_cell-first.ensures ∙ ap (λ (t : Tree). first_cell t c.args.variable) c.layout.ensures in
+    let count = c.element_count-count.ensures.count ∙ ap element_count (sym v.bounds) in
+    λ around. (first, count, omega (arith, first, c.element_count-count.ensures.count, v.within))

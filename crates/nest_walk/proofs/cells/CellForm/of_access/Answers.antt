@@ -1,7 +1,7 @@
-use Rattle.std.proofs.Common.{◌≡◌, ℕ, ℤ, List, length, pos, set, ap, sym, ◌∙◌, ◌-ℤ◌, ◌+ℤ◌, w64, rules, arith, FitsSigned, to_z, of_z}
+use Rattle.std.proofs.Common.{◌≡◌, ◌<◌, ℕ, subst, ℤ, List, length, pos, set, ap, sym, ◌∙◌, ◌-ℤ◌, ◌+ℤ◌, w64, rules, arith, FitsSigned, to_z, of_z}
 use Rattle.std.proofs.lemmas.Int.{to_z-of_z}
 use Rattle.std.proofs.lemmas.List.{length-map}
-use Rattle.nest_tree.specs.Layout.{bounds_of, count_of, first_cell}
+use Rattle.nest_tree.specs.Layout.{bounds_of, cell_count, count_of, first_cell}
 use Rattle.nest_tree.specs.Tree.{param_values}
 use Rattle.nest_tree.specs.Values.{wrapped}
 use Rattle.nest_tree.specs.View.{tree_of}
@@ -57,5 +57,6 @@ returns c = λ p same numbers inside.
     let there = good_access-there tree around a c.requires.good in
     let exact = exact_cell tree a (rounds_of p) c.requires.formed c.requires.limits there.low there.high there.as_many (good_access-forms (scope_of tree) around a c.requires.good) numbers inside in
     let sum = form_is g path.depth base steps p.values affine are c.loop-depth.invariant.six p.six (λ d le. left_over-at p.values p.depth d p.left_over (omega (arith, le, deep))) in
-    ap (λ vs. count_of (wrapped (base +ℤ dot_by_depth steps vs))) values ∙ ap count_of sum ∙ ap (λ rs. count_of (wrapped (cell_among tree a rs))) (sym rounds) ∙ ap (λ z. count_of (wrapped z)) (sym exact.cell)
-    ∙ cell_in_64_bits (access_cell tree (by_number (loops_of tree.items) (rounds_of p)) a) exact.small
+    let value = ap (λ vs. count_of (wrapped (base +ℤ dot_by_depth steps vs))) values ∙ ap count_of sum ∙ ap (λ rs. count_of (wrapped (cell_among tree a rs))) (sym rounds) ∙ ap (λ z. count_of (wrapped z)) (sym exact.cell)
+    ∙ cell_in_64_bits (access_cell tree (by_number (loops_of tree.items) (rounds_of p)) a) exact.small in
+    (value, subst (λ n. n < cell_count tree) (sym value) exact.within)
