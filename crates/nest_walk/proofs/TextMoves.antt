@@ -66,6 +66,12 @@ whole all = ∣ record { before = []; behind = []; all_is = sym (append-nil all)
 pub start_text : (tree : Tree) (enters : ℕ → Bool) → StretchInText tree enters [] (record { statements = tree.items; place = 1; first = 1 })
 start_text tree enters = record { stops = whole (placed tree enters); works = whole (works tree) }
 
+-- nothing, in front of all
+pub start_stands : (tree : Tree) → StretchInText tree every [] (record { statements = done; place = 1; first = 1 })
+start_stands tree =
+    let none : StandFrom (works tree) 1 [] = ∣ record { before = []; behind = works tree; all_is = refl; number_is = refl } ∣₁ in
+    record { stops = none; works = none }
+
 -- behind a statement
 pub behind_text : (tree : Tree) (enters : ℕ → Bool) (around : List ℕ) (s : Statement) (place first : ℕ) → IsInText tree enters around s place first →
     StretchInText tree enters around (record { statements = done; place = place + stops_in enters s; first = first + works_in s })

@@ -14,7 +14,7 @@ use Rattle.nest_walk.specs.Moves.{moves_of, moves_in, stretch_moves, moves_left}
 use Rattle.nest_walk.specs.Paths.{Round, by_number}
 use Rattle.nest_walk.specs.Places.{numbers_of}
 use Rattle.nest_walk.specs.Texts.{IsInText}
-use Rattle.nest_walk.specs.Walkable.{is_walkable, are_walkable, is_small_at, is_small_head}
+use Rattle.nest_walk.specs.Walkable.{are_above, is_walkable, are_walkable, is_small_at, is_small_head}
 use Rattle.nest_walk.specs.Walks.{Walk, Stretch, Level, last_place, last_work, stretch_behind, stretch_visits, left, is_numbered, is_sound_stretch, ends_with, is_sound_trip, is_sound}
 use Rattle.nest_walk.proofs.TextMoves.{after_text, body_text, replace_text, rest_text, statement_text}
 
@@ -160,6 +160,7 @@ along walk rounds levels rest rounds' levels' rest' rounds'' levels'' rest'' r l
 pub record LoopAt (walk : Walk) (rounds : List Round) (head : Head) (body : Statements) : Type 0 where
   pub number : is_number_of walk.loops head.number ≡ true
   pub room : length rounds < 6
+  pub above : are_above head.number body ≡ true
   pub first : is_small_at walk.params (by_number walk.loops rounds) head.m1 ≡ true
   pub last : is_small_at walk.params (by_number walk.loops rounds) head.m2 ≡ true
   pub moves : nat_lt 0 (unsigned_abs head.step) ≡ true
@@ -179,13 +180,15 @@ loop_facts walk rounds head body h =
     let loops = by_number walk.loops rounds in
     let test = is_sound_trip walk rounds head.number body in
     let parts = and_parts _ (list_all test (head_trips walk.params head loops)) h in
-    let a = and_parts (is_number_of (length loops) head.number && nat_lt (length rounds) 6) (is_small_head walk.params loops head) parts.0 in
-    let b = and_parts (is_number_of (length loops) head.number) (nat_lt (length rounds) 6) a.0 in
+    let a = and_parts _ (is_small_head walk.params loops head) parts.0 in
+    let above = and_parts _ (are_above head.number body) a.0 in
+    let b = and_parts (is_number_of (length loops) head.number) (nat_lt (length rounds) 6) above.0 in
     let c = and_parts _ (is_small head.step) a.1 in
     let d = and_parts _ (nat_lt 0 (unsigned_abs head.step)) c.0 in
     let e = and_parts (is_small_at walk.params loops head.m1) (is_small_at walk.params loops head.m2) d.0 in record {
       number = ap (λ n. is_number_of n head.number) (sym (by_number-length walk.loops rounds)) ∙ b.0;
       room = ltb-true (length rounds) 6 b.1;
+      above = above.1;
       first = e.0;
       last = e.1;
       moves = d.1;

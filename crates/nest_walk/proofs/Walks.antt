@@ -18,7 +18,7 @@ use Rattle.nest_model.proofs.Spans.{all_trips}
 use Rattle.nest_model.proofs.Stops.{at_start}
 use Rattle.nest_model.proofs.Within.{IsInEnds, form_between, head_between, head_small, in_ends-step, none_parts, small_between, wide_first}
 use Rattle.nest_walk.specs.Walks.{Level, enters_but, is_sound, walk_in}
-use Rattle.nest_walk.specs.Walkable.{are_walkable, is_small_at, is_walkable, sides_of}
+use Rattle.nest_walk.specs.Walkable.{are_above, are_walkable, is_above, is_small_at, is_walkable, sides_of}
 
 -- the sides of a comparison are small
 work_small : (params : List ℤ) (ends : List (ℤ × ℤ)) (loops : List ℤ) (w : Work) → IsInEnds ends loops → wide_forms params ends (work_forms w) ≡ None → list_all (is_small_at params loops) (sides_of w) ≡ true
@@ -33,6 +33,24 @@ work_small params ends loops (assign a) h none =
           (and_from _ _ (small_between (form_interval g.right ends params) _ second.0 (form_between g.right ends loops params h)) refl)
     ]) none
 work_small params ends loops (print p) h none = refl
+
+-- loops are numbered in text order
+mutual
+  good_above_in : (scope : Scope) (around : List ℕ) (n first : ℕ) (s : Statement) → n < first → is_good_statement scope around first s ≡ true → is_above n s ≡ true
+  good_above_in scope around n first (do_loop head body) below good =
+      let a = and_parts _ (are_good_statements scope (head.number ∷ around) (first + 1) body) good in
+      let b = and_parts _ (is_good_head scope around head) a.0 in
+      let c = and_parts (head.number == first) (nat_lt (length around) 6) b.0 in
+      let number = eqb-true head.number first c.0 in
+      and_from _ _ (lt-ltb n head.number (omega (arith, number, below))) (good_above scope (head.number ∷ around) n (first + 1) body (omega (arith, below)) a.1)
+  good_above_in scope around n first (work w) below good = refl
+  good_above_in scope around n first (continue line) below good = refl
+
+  good_above : (scope : Scope) (around : List ℕ) (n first : ℕ) (ss : Statements) → n < first → are_good_statements scope around first ss ≡ true → are_above n ss ≡ true
+  good_above scope around n first done below good = refl
+  good_above scope around n first (next s rest) below good =
+      let both = and_parts (is_good_statement scope around first s) (are_good_statements scope around (first + loops_in s) rest) good in
+      and_from _ _ (good_above_in scope around n first s below both.0) (good_above scope around n (first + loops_in s) rest (omega (arith, below)) both.1)
 
 mutual
   statement_walkable : (params : List ℤ) (ends : List (ℤ × ℤ)) (loops : List ℤ) (scope : Scope) (around : List ℕ) (first : ℕ) (s : Statement) → IsInEnds ends loops → wide_in params ends s ≡ None →
@@ -62,7 +80,8 @@ mutual
       and_from _ _ (small_between interval v (head_small head ends params m1.0 m2.0) between)
       (statements_walkable params (with_ends ends head.number interval) (with_loop loops head.number v) scope (head.number ∷ around) (first + 1) body inner wide a.1 (omega (arith, low))
       (omega (arith, count, length-set loops (head.number - 1) v))) in
-      and_from _ _ (and_from _ _ (and_from _ _ number c.1) (and_from _ _ (and_from _ _ (and_from _ _ small_m1 small_m2) e.1) d.1))
+      let above = good_above scope (head.number ∷ around) head.number (first + 1) body (omega (arith, number_is)) a.1 in
+      and_from _ _ (and_from _ _ (and_from _ _ (and_from _ _ number c.1) above) (and_from _ _ (and_from _ _ (and_from _ _ small_m1 small_m2) e.1) d.1))
       (all_trips (λ v. is_small v && are_walkable params (suc (length around)) body (with_loop loops head.number v)) (form_value head.m1 loops params) (form_value head.m2 loops params) head.step trip)
   statement_walkable params ends loops scope around first (work w) h none good low count =
       work_small params ends loops w h (no_line (line_of_work w) (wide_forms params ends (work_forms w)) none)

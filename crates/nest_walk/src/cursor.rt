@@ -79,6 +79,24 @@ impl<'a> Cursor<'a> {
         }
     }
 
+    /// A walk with no stop.
+    pub fn none(program: &'a Program) -> Self
+        ensures visits { left_of result ≡ [] }
+        ensures program { tree_in result ≡ tree_of program.now }
+    {
+        Cursor {
+            program,
+            marks: &[],
+            path: Path::new(),
+            frames: Frames::ended(1),
+            rest: Part {
+                items: &[],
+                place: 1,
+                first: 1,
+            },
+        }
+    }
+
     /// The walk over the statement of a stop alone, where these loops are round it. It goes into
     /// every loop, and its stops are numbered as the pieces of work are.
     pub fn over(program: &'a Program, path: &Path, stop: Stop<'a>) -> Self

@@ -44,6 +44,16 @@ impl<'a> Instances<'a> {
         }
     }
 
+    /// No instance.
+    pub fn none(program: &'a Program) -> Self
+        ensures instances { instances_left result ≡ [] }
+        ensures program { instances_tree result ≡ tree_of program.now }
+    {
+        Instances {
+            cursor: Cursor::none(program),
+        }
+    }
+
     /// The instances of the statement of a stop alone, where these loops are round it.
     pub fn over(program: &'a Program, path: &Path, stop: Stop<'a>) -> Self
         requires reached { IsTrue (is_reached (tree_of program.now) (rounds_of path.now) stop) }

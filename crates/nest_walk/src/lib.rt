@@ -33,4 +33,4 @@ pub use form::value_at;
 pub use instances::Instances;
 pub use path::{MOST_LOOPS, Path};
 pub use table::{CellTable, LoadCells, WorkCells};
-pub use trips::Trips;
+pub use trips::{Trips, trip_count};

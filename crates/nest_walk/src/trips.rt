@@ -61,8 +61,8 @@ impl Trips {
     }
 }
 
-// How many trips a DO loop makes.
-fn trip_count(m1: i64, m2: i64, m3: i64) -> u64
+/// How many trips a DO loop with these bounds and this step makes.
+pub fn trip_count(m1: i64, m2: i64, m3: i64) -> u64
     requires first { IsTrue (is_small m1) }
     requires last { IsTrue (is_small m2) }
     requires step { IsTrue (is_small m3) }
