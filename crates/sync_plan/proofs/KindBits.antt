@@ -1,15 +1,18 @@
 -- Who posts at a kind, and the bits of those whom a processor awaits there, kind by kind.
-use Rattle.std.proofs.Common.{◌≡◌, ℕ, zero, suc, ◌+◌, ◌-◌, ◌*◌, ◌/◌, ◌%◌, ◌^◌, ◌<◌, ◌≤◌, Bool, true, false, ◌&&◌, ◌||◌, ◌==◌, not, nat_lt, refl, sym, ◌∙◌, ap, inl, inr, bit_and, bit_or, max, arith}
+use Rattle.std.proofs.Common.{◌≡◌, ℕ, zero, suc, min, ◌+◌, ◌-◌, ◌*◌, ◌/◌, ◌%◌, ◌^◌, ◌<◌, ◌≤◌, Bool, true, false, ◌&&◌, ◌||◌, ◌==◌, not, nat_lt, List, [], ◌∷◌, refl, sym, ◌∙◌, ap, inl, inr, bit_and, bit_or, max, arith}
 use Rattle.std.specs.List.{list_any, range_with_len}
+use Rattle.std.proofs.Common.{get_or, length, Some, None}
+use Rattle.std.specs.Prelude.{slice_get}
+use Rattle.std.proofs.lemmas.Option.{slice_get-get_or, slice_get_past}
 use Rattle.std.specs.Int.{bit_at}
 use Rattle.std.proofs.lemmas.Bool.{eq-eqb, ne_eqb, cases_lt, lt-ltb, le-ltb, and_right}
 use Rattle.std.proofs.lemmas.Nat.Bits.{bit_at_or, bit_at-zero, bit_at_ones}
 use Rattle.owner_partition.specs.declared.anchor.Anchor.{Anchor}
 use Rattle.sync_plan.specs.declared.plan.Kind.{Kind}
 use Rattle.sync_plan.specs.declared.plan.Kind.TheVariants.{Nothing, Producer, Left, Right, Both, Barrier, Join}
-use Rattle.sync_plan.specs.Waits.{waits_at, is_awaited_at, awaited_at}
+use Rattle.sync_plan.specs.Waits.{waits_at, does_wait_at, is_awaited_at, awaited_at}
 use Rattle.sync_plan.specs.ProcessorSets.{members}
-use Rattle.sync_plan.proofs.ProcessorSets.{any_from, any_none, members_masked, digit, bit_of_lower, bit_of_higher, max_digits}
+use Rattle.sync_plan.proofs.ProcessorSets.{any_from, any_none, filter_range, members_masked, digit, bit_of_lower, bit_of_higher, max_digits}
 
 passes : (p q : ℕ) (b : Bool) → (p ≡ q → ⊥) → b ≡ true → (not (p == q) && b) ≡ true
 passes p q b ne h = ap (λ x. not x && b) (ne_eqb p q ne) ∙ h
@@ -84,3 +87,40 @@ bits-both p q pl ql =
     ∙ ap (λ b. max b (bit_at (1 * 2 ^ p % 18446744073709551616 * 2 % 18446744073709551616) q)) (bit_of_lower p q pl)
     ∙ ap (λ b. max (digit (q + 1 == p)) b) (bit_of_higher p q ql pl)
     ∙ max_digits (q + 1 == p) (p + 1 == q)
+
+-- an owner past the workers may stand for any other one past them
+capped : (owner workers q : ℕ) → q < workers → (min owner workers == q) ≡ (owner == q)
+capped owner workers q lt = elim (cases_lt owner workers) [
+  | inl low ↦ let e : min owner workers ≡ owner = omega arith in ap (λ o. o == q) e
+  | inr high ↦ ne_eqb (min owner workers) q (λ e. omega arith) ∙ sym (ne_eqb owner q (λ e. omega arith))
+]
+
+same_waits : (kind : Kind) (owner workers p q : ℕ) → q < workers → waits_at kind (min owner workers) p q ≡ waits_at kind owner p q
+same_waits Nothing owner workers p q lt = refl
+same_waits (Producer a) owner workers p q lt = capped owner workers q lt
+same_waits Left owner workers p q lt = refl
+same_waits Right owner workers p q lt = refl
+same_waits Both owner workers p q lt = refl
+same_waits Barrier owner workers p q lt = refl
+same_waits Join owner workers p q lt = refl
+
+pub awaited-capped : (kind : Kind) (owner workers p : ℕ) → awaited_at kind (min owner workers) workers p ≡ awaited_at kind owner workers p
+awaited-capped kind owner workers p =
+    filter_range (does_wait_at kind (min owner workers) p) (does_wait_at kind owner p) 0 workers (λ q low high. ap (λ b. not (p == q) && b) (same_waits kind owner workers p q (omega arith)))
+
+pub is_awaited-capped : (kind : Kind) (owner workers q : ℕ) → q < workers → is_awaited_at kind (min owner workers) workers q ≡ is_awaited_at kind owner workers q
+is_awaited-capped kind owner workers q lt = any_same (range_with_len 0 workers)
+  where
+    any_same : (ps : List ℕ) → list_any (λ p. does_wait_at kind (min owner workers) p q) ps ≡ list_any (λ p. does_wait_at kind owner p q) ps
+    any_same [] = refl
+    any_same (p ∷ ps) =
+        ap (λ b. not (p == q) && b || list_any (λ r. does_wait_at kind (min owner workers) r q) ps) (same_waits kind owner workers p q lt)
+        ∙ ap (λ b. does_wait_at kind owner p q || b) (any_same ps)
+
+-- the kind that is looked up in a list, as the code reads it
+pub looked_up : (kinds read : List Kind) (place i : ℕ) (kind : Kind) → read ≡ kinds → i ≡ place - 1 → i < length read → kind ≡ get_or read i kind → slice_get kinds (place - 1) ≡ Some kind
+looked_up kinds read place i kind all at lt is =
+    ap (λ ks. slice_get ks (place - 1)) (sym all) ∙ ap (slice_get read) (sym at) ∙ slice_get-get_or read i kind lt ∙ ap Some (sym is)
+
+pub none_there : (kinds read : List Kind) (place i : ℕ) → read ≡ kinds → i ≡ place - 1 → length read ≤ i → slice_get kinds (place - 1) ≡ None
+none_there kinds read place i all at past = ap (λ ks. slice_get ks (place - 1)) (sym all) ∙ ap (slice_get read) (sym at) ∙ slice_get_past read i past

@@ -1,2 +1,5 @@
 pub mod ProcessorSets
 pub mod KindBits
+pub mod PointForms
+pub mod Fits
+pub mod PhaseValues

@@ -86,7 +86,7 @@ abbrev pub unmet : List ℤ → Conditions → Option ℕ
 unmet params Values = None
 unmet params (Rows rows) = unmet_among 1 params rows
 
-abbrev as_misfit : {A : Type 0} → (A → Misfit) → Option A → Option Misfit
+abbrev pub as_misfit : {A : Type 0} → (A → Misfit) → Option A → Option Misfit
 as_misfit why None = None
 as_misfit why (Some a) = Some (why a)
 

@@ -6,3 +6,4 @@ pub mod Ordered
 pub mod Shape
 pub mod Fit
 pub mod Barriers
+pub mod Points

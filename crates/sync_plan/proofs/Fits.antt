@@ -1,0 +1,121 @@
+-- What a plan that fits a well-formed program has.
+use Rattle.std.proofs.Common.{◌≡◌, ℕ, zero, suc, ◌+◌, ◌<◌, ◌≤◌, Bool, true, false, ◌&&◌, ◌==◌, not, nat_le, nat_lt, List, [], ◌∷◌, length, get_or, Option, Some, None, IsTrue, refl, sym, ap, ◌∙◌, arith}
+use Rattle.std.specs.Prelude.{if◌then◌else◌}
+use Rattle.std.specs.List.{list_all}
+use Rattle.std.proofs.lemmas.Bool.{and_parts, and_from, eqb-true, leb-true}
+use Rattle.std.proofs.lemmas.Bool.Decides.{nat_tests}
+use Rattle.std.proofs.lemmas.List.Folds.{list_all-append}
+use Rattle.nest_tree.specs.Form.{is_given}
+use Rattle.nest_tree.specs.Tree.{Statement, Statements, do_loop, work, continue, done, next, Tree}
+use Rattle.nest_tree.specs.WellFormed.{IsWellFormed, Scope, scope_of, are_good_statements, is_good_head, is_good_statement, loops_in, loops_of, names_only}
+use Rattle.nest_tree.proofs.Cells.{well_formed_parts}
+use Rattle.nest_tree.proofs.Good.{form-given}
+use Rattle.nest_model.proofs.Within.{none_parts}
+use Rattle.nest_walk.specs.Texts.{Placed, placed_in, placed_of}
+use Rattle.owner_partition.specs.declared.anchor.Anchor.{Anchor}
+use Rattle.owner_partition.specs.Marks.{enters_outer}
+use Rattle.sync_plan.specs.declared.plan.Kind.{Kind}
+use Rattle.sync_plan.specs.declared.plan.Kind.TheVariants.{Producer}
+use Rattle.sync_plan.specs.declared.plan.Plan.{Plan}
+use Rattle.sync_plan.specs.Fit.{IsFit, shape, as_misfit}
+use Rattle.sync_plan.specs.Shape.{are_good_anchors, are_good_kinds, are_marked_well, has_places, is_good_anchor, is_good_kind, static_phases, wrong_field}
+
+-- the loops round a place have numbers up to this one
+abbrev all_within : ℕ → List ℕ → Bool
+all_within n around = list_all (λ l. nat_le l n) around
+
+abbrev is_within : ℕ → Placed → Bool
+is_within n s = all_within n s.around
+
+-- the loops round the stops of a well-formed text are the program's
+module _ (enters : ℕ → Bool) (scope : Scope) (n : ℕ) where
+  mutual
+    placed_in-within : (around : List ℕ) (first : ℕ) (s : Statement) → is_good_statement scope around first s ≡ true → first + loops_in s ≤ n + 1 → all_within n around ≡ true → list_all (is_within n) (placed_in enters around s) ≡ true
+    placed_in-within around first (do_loop head body) good few within =
+        let parts = and_parts (head.number == first && nat_lt (length around) 6 && is_good_head scope around head) (are_good_statements scope (head.number ∷ around) (first + 1) body) good in
+        let number = (and_parts (head.number == first) (nat_lt (length around) 6) (and_parts (head.number == first && nat_lt (length around) 6) (is_good_head scope around head) parts.0).0).0 in
+        let low : head.number ≤ n = omega (arith, eqb-true head.number first number) in
+        let here : nat_le head.number n ≡ true = grind (arith, nat_tests) in
+        let inside = placed_of-within (head.number ∷ around) (first + 1) body parts.1 (omega arith) (and_from (nat_le head.number n) (all_within n around) here within) in
+        elim (enters head.number) as (λ b. list_all (is_within n) (if b then placed_of enters (head.number ∷ around) body else record { what = do_loop head body; around = around } ∷ []) ≡ true)
+        [ true ↦ inside | false ↦ and_from (all_within n around) true within refl ]
+    placed_in-within around first (work w) good few within = and_from (all_within n around) true within refl
+    placed_in-within around first (continue line) good few within = refl
+
+    placed_of-within : (around : List ℕ) (first : ℕ) (ss : Statements) → are_good_statements scope around first ss ≡ true → first + loops_of ss ≤ n + 1 → all_within n around ≡ true → list_all (is_within n) (placed_of enters around ss) ≡ true
+    placed_of-within around first done good few within = refl
+    placed_of-within around first (next s rest) good few within =
+        let parts = and_parts (is_good_statement scope around first s) (are_good_statements scope around (first + loops_in s) rest) good in
+        list_all-append (is_within n) (placed_in enters around s) (placed_of enters around rest)
+        ∙ and_from (list_all (is_within n) (placed_in enters around s)) (list_all (is_within n) (placed_of enters around rest))
+        (placed_in-within around first s parts.0 (omega arith) within) (placed_of-within around (first + loops_in s) rest parts.1 (omega arith) within)
+
+-- a field that isn't wrong
+field_right : (b : Bool) (n : ℕ) (rest : Option ℕ) → (if not b then Some n else rest) ≡ None → (b ≡ true) × (rest ≡ None)
+field_right true n rest e = (refl, e)
+field_right false n rest e = absurd (cc)
+
+no_shape : (field : Option ℕ) → as_misfit shape field ≡ None → field ≡ None
+no_shape None e = refl
+no_shape (Some n) e = absurd (cc)
+
+pub record FitParts (tree : Tree) (plan : Plan) : Type 0 where
+  pub some : 1 ≤ plan.workers
+  pub few : plan.workers ≤ 64
+  pub marks : length plan.cut ≡ loops_of tree.items
+  pub kinds : length plan.kinds ≡ length (static_phases tree plan.cut)
+  pub good_kinds : are_good_kinds (length tree.params) (static_phases tree plan.cut) plan.kinds ≡ true
+
+pub fit_parts : (tree : Tree) (plan : Plan) → IsFit tree plan → FitParts tree plan
+fit_parts tree plan fits =
+    let text = static_phases tree plan.cut in
+    let constants = length tree.params in
+    let none = no_shape (wrong_field tree plan) (none_parts (as_misfit shape (wrong_field tree plan)) _ fits).0 in
+    let workers = field_right (nat_le 1 plan.workers && nat_le plan.workers 64) 1 _ none in
+    let marks = field_right (length plan.cut == loops_of tree.items) 2 _ workers.1 in
+    let marked = field_right (are_marked_well plan.cut false tree.items) 3 _ marks.1 in
+    let counts = field_right (length plan.anchors == length text && length plan.kinds == length text) 4 _ marked.1 in
+    let anchors = field_right (are_good_anchors constants plan.cut text plan.anchors) 5 _ counts.1 in
+    let kinds = field_right (are_good_kinds constants text plan.kinds) 6 _ anchors.1 in
+    let range = and_parts (nat_le 1 plan.workers) (nat_le plan.workers 64) workers.0 in
+    record {
+      some = leb-true 1 plan.workers range.0;
+      few = leb-true plan.workers 64 range.1;
+      marks = eqb-true (length plan.cut) (loops_of tree.items) marks.0;
+      kinds = eqb-true (length plan.kinds) (length text) (and_parts (length plan.anchors == length text) (length plan.kinds == length text) counts.0).1;
+      good_kinds = kinds.0;
+    }
+
+-- a kind of the list names only loops and named constants that are there
+pub record IsGivenKind (loops constants : ℕ) (kind : Kind) : Type 0 where
+  pub around : List ℕ
+  pub within : all_within loops around ≡ true
+  pub good : is_good_kind constants around kind ≡ true
+
+kind_given : (n constants : ℕ) (text : List Placed) (kinds : List Kind) (i : ℕ) (d : Kind) → list_all (is_within n) text ≡ true → are_good_kinds constants text kinds ≡ true → length kinds ≡ length text → i < length kinds → IsGivenKind n constants (get_or kinds i d)
+kind_given n constants [] [] i d within good long lt = absurd (omega arith)
+kind_given n constants [] (k ∷ kinds) i d within good long lt = absurd (omega arith)
+kind_given n constants (s ∷ text) [] i d within good long lt = absurd (omega arith)
+kind_given n constants (s ∷ text) (k ∷ kinds) zero d within good long lt = record {
+  around = s.around;
+  within = (and_parts (is_within n s) (list_all (is_within n) text) within).0;
+  good = (and_parts (is_good_kind constants s.around k) (are_good_kinds constants text kinds) good).0;
+}
+kind_given n constants (s ∷ text) (k ∷ kinds) (suc i) d within good long lt =
+    kind_given n constants text kinds i d (and_parts (is_within n s) (list_all (is_within n) text) within).1 (and_parts (is_good_kind constants s.around k) (are_good_kinds constants text kinds) good).1 (omega arith) (omega arith)
+
+pub record IsGivenAnchor (loops constants : ℕ) (a : Anchor) : Type 0 where
+  pub given : IsTrue (is_given a.form loops constants)
+  pub places : IsTrue (has_places a.dist)
+
+-- the anchor of the kind with this place, from 0
+pub producer_given : (tree : Tree) (plan : Plan) (i : ℕ) (d : Kind) (a : Anchor) → IsWellFormed tree → IsFit tree plan → i < length plan.kinds → get_or plan.kinds i d ≡ Producer a → IsGivenAnchor (loops_of tree.items) (length tree.params) a
+producer_given tree plan i d a formed fits lt is =
+    let n = loops_of tree.items in
+    let constants = length tree.params in
+    let parts = fit_parts tree plan fits in
+    let within = placed_of-within (enters_outer plan.cut) (scope_of tree) n [] 1 tree.items (well_formed_parts tree formed).statements (omega arith) refl in
+    let kind = kind_given n constants (static_phases tree plan.cut) plan.kinds i d within parts.good_kinds parts.kinds lt in
+    let good : is_good_anchor constants kind.around a ≡ true = sym (ap (is_good_kind constants kind.around) is) ∙ kind.good in
+    let named = and_parts (names_only constants kind.around a.form) (has_places a.dist) good in
+    record { given = form-given n constants kind.around a.form kind.within named.0; places = named.1 }
