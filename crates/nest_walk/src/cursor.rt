@@ -168,6 +168,13 @@ impl<'a> Cursor<'a> {
         }
     }
 
+    /// The program that it walks.
+    pub fn program(&self) -> &'a Program
+        ensures { tree_of result.now ≡ tree_in self.now }
+    {
+        self.program
+    }
+
     /// The loops round the stop that was given last, with their values.
     pub fn path(&self) -> &Path
         ensures { rounds_of result.now ≡ rounds_in self.now }
