@@ -1,0 +1,5 @@
+pub mod Mapped
+pub mod Parted
+pub mod Quotients
+pub mod Summed
+pub mod Looked

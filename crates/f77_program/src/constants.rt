@@ -1,0 +1,82 @@
+// Named constants and arrays.
+
+ghost use Rattle.std.specs.Prelude.{◌≡◌, ◌++◌, [], ◌∷◌, OnOk, OnErr};
+
+use crate::names::Names;
+use std::alloc::{AllocError, Global};
+use std::marker::Model;
+
+/// The names of PARAMETER statements with their values, in the order in which they came.
+/// Contracts see the list.
+#[derive(Drop)]
+pub struct Constants {
+    names: Names,
+    values: Vec<i64>,
+}
+
+impl Model for Constants {
+    ghost use Rattle.std.specs.Prelude.{◌≡◌, List, length};
+    ghost use Rattle.nest_tree.specs.Tree.{Constant};
+    ghost use Rattle.f77_program.specs.Known.{constants_from};
+
+    ghost Value = { List Constant };
+
+    ghost view = { λ c. constants_from c.names c.values.items };
+
+    ghost invariant = { λ c. length c.names ≡ length c.values.items };
+}
+
+impl Constants {
+    ghost use Rattle.f77_scene.specs.Scene.{is_among, value_named};
+    ghost use Rattle.f77_program.specs.Known.{names_of_constants};
+    ghost use Rattle.f77_program.specs.Numbered.{numbered};
+
+    /// No constant yet.
+    pub fn new(alloc: Global) -> Self
+        ensures { result ≡ [] }
+    {
+        Constants {
+            names: Names::new(alloc),
+            values: Vec::new(alloc),
+        }
+    }
+
+    /// Whether a constant has this name.
+    pub fn contains(&self, name: &[u8]) -> bool
+        ensures { result ≡ is_among (names_of_constants self.now) name.now }
+    {
+        self.names.contains(name)
+    }
+
+    /// The number of the constant of this name, from 1.
+    pub fn number(&self, name: &[u8]) -> Option<usize>
+        ensures { result ≡ numbered (names_of_constants self.now) name.now }
+    {
+        self.names.number(name)
+    }
+
+    /// The value of the constant of this name, 0 where there is none.
+    pub fn value(&self, name: &[u8]) -> i64
+        ensures { result ≡ value_named self.now name.now }
+    {
+        match self.names.number(name) {
+            Some(number) => self.values[number - 1],
+            None => 0,
+        }
+    }
+
+    /// One more constant. Where memory runs out nothing has changed.
+    pub fn push(&mut self, alloc: Global, name: &[u8], value: i64) -> Result<(), AllocError>
+        ensures ok { OnOk result (self.new ≡ self.old ++ record { name = name.now; value = value } ∷ []) }
+        ensures err { OnErr result (self.new ≡ self.old) }
+    {
+        self.values.push(value)?;
+        match self.names.push(alloc, name) {
+            Ok(()) => Ok(()),
+            Err(err) => {
+                self.values.pop();
+                Err(err)
+            }
+        }
+    }
+}

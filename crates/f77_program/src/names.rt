@@ -1,0 +1,121 @@
+// Lists of names that are looked up.
+
+ghost use Rattle.std.specs.Prelude.{◌≡◌, ◌++◌, [], ◌∷◌, OnOk, OnErr};
+
+use std::alloc::{AllocError, Global};
+use std::collections::BTreeMap;
+use std::marker::Model;
+
+/// Names, numbered from 1 in the order in which they came. A name may come again; its number is
+/// that of its first place. A look-up takes logarithmic time. Contracts see the list.
+#[derive(Drop)]
+pub struct Names {
+    names: Vec<Vec<u8>>,
+    // The number of each name.
+    numbers: BTreeMap<Vec<u8>, usize>,
+}
+
+impl Model for Names {
+    ghost use Rattle.std.specs.Prelude.{ℕ, List};
+    ghost use Rattle.f77_program.specs.Numbered.{texts_of, AreNumbered};
+
+    ghost Value = { List (List ℕ) };
+
+    ghost view = { λ n. texts_of n.names.items };
+
+    ghost invariant = { λ n. AreNumbered n.numbers (texts_of n.names.items) };
+}
+
+impl Names {
+    ghost use Rattle.std.specs.Prelude.{length};
+    ghost use Rattle.f77_scene.specs.Scene.{is_among, with_names};
+    ghost use Rattle.f77_program.specs.Numbered.{numbered, texts_of};
+
+    /// No name yet.
+    pub fn new(alloc: Global) -> Self
+        ensures { result ≡ [] }
+    {
+        Names {
+            names: Vec::new(alloc),
+            numbers: BTreeMap::new(alloc),
+        }
+    }
+
+    /// The names, in order.
+    pub fn as_slice(&self) -> &[Vec<u8>]
+        ensures { texts_of result.now ≡ self.now }
+    {
+        self.names.as_slice()
+    }
+
+    /// The number of this name, from 1, if it is among these.
+    pub fn number(&self, name: &[u8]) -> Option<usize>
+        ensures { result ≡ numbered self.now name.now }
+    {
+        number_under(&self.numbers, name)
+    }
+
+    /// Whether this name is among these.
+    pub fn contains(&self, name: &[u8]) -> bool
+        ensures { result ≡ is_among self.now name.now }
+    {
+        self.number(name).is_some()
+    }
+
+    /// One more name at the end. Where memory runs out nothing has changed.
+    pub fn push(&mut self, alloc: Global, name: &[u8]) -> Result<(), AllocError>
+        ensures ok { OnOk result (self.new ≡ self.old ++ name.now ∷ []) }
+        ensures err { OnErr result (self.new ≡ self.old) }
+    {
+        self.names.push(Vec::from_slice(alloc, name)?)?;
+        if number_under(&self.numbers, name).is_some() {
+            return Ok(());
+        }
+        let number = self.names.len();
+        match put(alloc, &mut self.numbers, name, number) {
+            Ok(()) => Ok(()),
+            Err(err) => {
+                self.names.pop();
+                Err(err)
+            }
+        }
+    }
+
+    /// This name among these, if it is not there yet. Where memory runs out nothing has changed.
+    pub fn add(&mut self, alloc: Global, name: &[u8]) -> Result<(), AllocError>
+        ensures ok { OnOk result (self.new ≡ with_names self.old (name.now ∷ [])) }
+        ensures err { OnErr result (self.new ≡ self.old) }
+    {
+        if self.contains(name) {
+            return Ok(());
+        }
+        self.push(alloc, name)
+    }
+}
+
+ghost use Rattle.std.specs.Prelude.{ℕ, List, Some, None, if◌then◌else◌};
+ghost use Rattle.std.specs.Str.{bytes_eq};
+ghost use Rattle.f77_program.specs.Numbered.{number_under};
+
+// The number under this name, where it has one.
+fn number_under(numbers: &BTreeMap<Vec<u8>, usize>, name: &[u8]) -> Option<usize>
+    ensures { result ≡ number_under numbers.now name.now }
+{
+    numbers.get(name).copied()
+}
+
+// Puts a new name's number into the map, which stays as it was where memory runs out.
+fn put(
+    alloc: Global,
+    numbers: &mut BTreeMap<Vec<u8>, usize>,
+    name: &[u8],
+    number: usize,
+) -> Result<(), AllocError>
+    requires { number_under numbers.old name.now ≡ None }
+    ensures there { OnOk result ((other : List ℕ) → number_under numbers.new other ≡ (if bytes_eq other name.now then Some number else number_under numbers.old other)) }
+    ensures unchanged { OnErr result ((other : List ℕ) → number_under numbers.new other ≡ number_under numbers.old other) }
+{
+    let name = Vec::from_slice(alloc, name)?;
+    numbers.insert(name, number)?;
+    Ok(())
+}

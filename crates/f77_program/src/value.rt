@@ -1,0 +1,65 @@
+// Values of constants: whole numbers of 64 bits that wrap (ANSI X3.9-1978, 6.1.5).
+
+ghost use Rattle.std.specs.Prelude.{◌≡◌, ℕ, List, pos, ◌+ℤ◌, ◌-ℤ◌, ◌*ℤ◌, ◌<◌, unsigned_abs};
+ghost use Rattle.nest_tree.specs.Values.{wrapped, quotient};
+ghost use Rattle.f77_scene.specs.Expressions.{sign_value, operator_value, chosen};
+ghost use Rattle.f77_program.specs.Functions.{is_minimum};
+
+use f77_forms::{Operator, Sign};
+
+/// The value behind a leading sign.
+pub fn sign_value(sign: Sign, a: i64) -> i64
+    ensures { result ≡ sign_value sign a }
+{
+    match sign {
+        Sign::Plus => a,
+        Sign::Minus => difference(0, a),
+    }
+}
+
+/// The value of an operator's operands. A quotient by 0, which is a fault of its statement, counts as 0.
+pub fn operator_value(operator: Operator, a: i64, b: i64) -> i64
+    ensures { result ≡ operator_value operator a b }
+{
+    match operator {
+        Operator::Add => sum(a, b),
+        Operator::Subtract => difference(a, b),
+        Operator::Multiply => product(a, b),
+        Operator::Divide => truncated_quotient(a, b),
+    }
+}
+
+/// MIN or MAX of two values.
+pub fn chosen(minimum: bool, a: i64, b: i64) -> i64
+    ensures { (n : List ℕ) → minimum ≡ is_minimum n → result ≡ chosen n a b }
+{
+    if minimum { a.min(b) } else { a.max(b) }
+}
+
+fn sum(a: i64, b: i64) -> i64
+    ensures { result ≡ wrapped (a +ℤ b) }
+{
+    a.wrapping_add(b)
+}
+
+fn difference(a: i64, b: i64) -> i64
+    ensures { result ≡ wrapped (a -ℤ b) }
+{
+    a.wrapping_sub(b)
+}
+
+fn product(a: i64, b: i64) -> i64
+    ensures { result ≡ wrapped (a *ℤ b) }
+{
+    a.wrapping_mul(b)
+}
+
+fn truncated_quotient(a: i64, divisor: i64) -> i64
+    ensures { result ≡ quotient a divisor }
+{
+    if divisor == 0 {
+        0
+    } else {
+        a.wrapping_div(divisor)
+    }
+}
