@@ -1,5 +1,5 @@
 -- Trips in equal steps up to a limit, and those in a block.
-use Rattle.std.proofs.Common.{◌≡◌, ◌≢◌, ◌↔◌, ℕ, zero, suc, ◌+◌, ◌*◌, ◌-◌, ◌/◌, ◌^◌, ◌<◌, ◌≤◌, ℤ, pos, negsuc, ◌+ℤ◌, ◌-ℤ◌, ◌*ℤ◌, ◌≤ℤ◌, FitsSigned, unsigned_abs, int_div, int_lt, true, false, IsTrue, ◌==◌, refl, ap, sym, subst, ◌∙◌, arith}
+use Rattle.std.proofs.Common.{◌≡◌, ◌≢◌, ◌↔◌, ℕ, zero, suc, ◌+◌, ◌*◌, ◌/◌, ◌^◌, ◌<◌, ◌≤◌, ℤ, pos, negsuc, ◌+ℤ◌, ◌-ℤ◌, ◌*ℤ◌, ◌≤ℤ◌, FitsSigned, unsigned_abs, int_div, int_lt, false, IsTrue, ◌==◌, refl, ap, sym, subst, ◌∙◌, arith}
 use Rattle.std.specs.Int.{int_div_euclid, w128}
 use Rattle.std.proofs.Math.Nat.{div-le_self, div-lt_iff_lt-mul, le-div_iff_mul-le}
 use Rattle.std.proofs.lemmas.Bool.{eqb-true, eq-eqb}
@@ -9,7 +9,7 @@ use Rattle.std.proofs.lemmas.Int.{ints, fits_signed_from_abs, unsigned_abs-mul}
 use Rattle.nest_walk.proofs.Products.{mul-less}
 use Rattle.nest_tree.specs.Layout.{count_of}
 use Rattle.owner_partition.specs.declared.anchor.Dist.TheVariants.{Block}
-use Rattle.owner_partition.specs.OwnTrips.{AreBetween, IsInBlock, trip_owner}
+use Rattle.owner_partition.specs.OwnTrips.{trip_owner}
 
 -- how many trips of a positive rise lie up to a limit that the first one keeps
 up_to : (d r n : ℕ) → 0 < r → (n < d / r + 1) ↔ (n * r ≤ d)

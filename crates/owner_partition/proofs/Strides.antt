@@ -1,5 +1,5 @@
 -- Numbers in equal strides among the first so many.
-use Rattle.std.proofs.Common.{◌≡◌, ◌≢◌, ◌↔◌, ℕ, zero, suc, ◌+◌, ◌*◌, ◌-◌, ◌<◌, ◌≤◌, min, Bool, true, false, true≢false, Option, Some, None, cond, ◌==◌, ℤ, List, [], ◌∷◌, ◌++◌, map, ⊎_elim, refl, ap, sym, subst, ◌∙◌, arith}
+use Rattle.std.proofs.Common.{◌≡◌, ◌≢◌, ◌↔◌, ℕ, zero, suc, ◌+◌, ◌*◌, ◌-◌, ◌<◌, ◌≤◌, min, Bool, true, false, true≢false, Option, Some, None, cond, ◌==◌, ℤ, [], ◌∷◌, ◌++◌, map, ⊎_elim, refl, ap, sym, subst, ◌∙◌, arith}
 use Rattle.std.specs.Int.{div_ceil}
 use Rattle.std.specs.List.{filter, range_with_len}
 use Rattle.owner_partition.specs.declared.anchor.Dist.{Dist}

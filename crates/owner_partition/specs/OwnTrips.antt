@@ -1,5 +1,5 @@
 -- The trips of a loop that a processor owns, where the anchor's form has the value `start` at the first trip and rises by `rise` with each.
-use Rattle.std.specs.Prelude.{ℕ, ◌+◌, ◌*◌, ◌%◌, ◌<◌, ◌≤◌, ◌==◌, ℤ, pos, negsuc, ◌+ℤ◌, ◌*ℤ◌, ◌≤ℤ◌, ◌≡◌, ◌≢◌, ◌↔◌, refl, Bool, false, IsTrue, List, [], ◌∷◌, map, Option, Some, None}
+use Rattle.std.specs.Prelude.{ℕ, ◌+◌, ◌*◌, ◌%◌, ◌<◌, ◌≤◌, ◌==◌, ℤ, pos, negsuc, ◌+ℤ◌, ◌*ℤ◌, ◌≤ℤ◌, ◌≡◌, ◌≢◌, ◌↔◌, refl, false, IsTrue, List, map, Option, Some, None}
 use Rattle.std.specs.List.{filter, range_with_len}
 use Rattle.nest_tree.specs.Layout.{count_of}
 use Rattle.owner_partition.specs.declared.anchor.Dist.{Dist}

@@ -1,4 +1,4 @@
-use Rattle.std.proofs.Common.{◌≡◌, ◌<◌, ◌≤◌, ◌^◌, ◌-ℤ◌, ◌≤ℤ◌, ℤ, pos, unsigned_abs, FitsSigned, to_z, of_z, to_z-of_z, arith}
+use Rattle.std.proofs.Common.{◌-ℤ◌, pos, FitsSigned, to_z-of_z, arith}
 use Rattle.std.specs.Int.{w128}
 use Rattle.std.proofs.lemmas.Int.{ints, fits_signed_from_abs}
 use Rattle.owner_partition.proofs.Limits.{between_limits}

@@ -1,4 +1,4 @@
-use Rattle.std.proofs.Common.{◌≡◌, ◌≢◌, ◌↔◌, ◌<◌, ◌≤◌, ◌+◌, ◌-ℤ◌, ◌≤ℤ◌, ℤ, pos, unsigned_abs, int_div, int_lt, false, FitsSigned, to_z, of_z, to_z-of_z, ap, ◌∙◌, arith}
+use Rattle.std.proofs.Common.{◌-ℤ◌, int_div, FitsSigned, of_z, to_z-of_z, ap, arith}
 use Rattle.std.specs.Int.{w128}
 use Rattle.std.proofs.lemmas.Int.{ints}
 use Rattle.owner_partition.proofs.Limits.{difference_fits, not_below, not_past, quotient_fits, up_to_limit}

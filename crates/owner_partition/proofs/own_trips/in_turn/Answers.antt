@@ -1,4 +1,4 @@
-use Rattle.std.proofs.Common.{◌≡◌, ℕ, ◌+◌, ◌-◌, ◌%◌, ◌<◌, pos, unsigned_abs, to_z, of_z, subst, ap, arith}
+use Rattle.std.proofs.Common.{◌+◌, ◌-◌, ◌%◌, ◌<◌, unsigned_abs, to_z, of_z, subst, arith}
 use Rattle.std.specs.Int.{w128}
 use Rattle.owner_partition.specs.OwnTrips.{IsSolved}
 use Rattle.owner_partition.proofs.Congruences.{cast_residue, in_turn_by, residue_of}

@@ -1,4 +1,4 @@
-use Rattle.std.proofs.Common.{◌≡◌, to_z-of_z, ap, sym, ◌∙◌}
+use Rattle.std.proofs.Common.{to_z-of_z, ap, sym, ◌∙◌}
 use Rattle.std.specs.Int.{div_ceil}
 use Rattle.owner_partition.specs.OwnTrips.{strided}
 use Rattle.owner_partition.proofs.Strides.{own_strides}

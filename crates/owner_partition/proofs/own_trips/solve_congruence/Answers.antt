@@ -1,4 +1,4 @@
-use Rattle.std.proofs.Common.{◌<◌, arith}
+use Rattle.std.proofs.Common.{arith}
 use Rattle.std.proofs.Math.Nat.{pos_of_dvd_of_pos}
 use Rattle.owner_partition.proofs.Congruences.{no_solution, solutions}
 use Rattle.owner_partition.proofs.own_trips.solve_congruence.Goals as goal

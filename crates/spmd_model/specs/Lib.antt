@@ -1,0 +1,5 @@
+pub mod Timelines
+pub mod States
+pub mod Sequential
+pub mod Ordered
+pub mod Lawful

@@ -1,0 +1,78 @@
+-- The states of a machine, one step of one processor, and the run of a schedule.
+use Rattle.std.specs.Prelude.{ℕ, ◌+◌, ◌≡◌, ◌<◌, ℤ, pos, Bool, true, nat_le, List, [], ◌∷◌, ◌++◌, Option, Some, None, length, fold, replicate, slice_get, slice_index, slice_index_or, slice_set, if◌then◌else◌}
+use Rattle.nest_model.specs.Memory.{cell_value}
+use Rattle.spmd_model.specs.Timelines.{Act, post, await, load, store, print, Job, Machine, Moment, boundary, job, act_at, acts_of}
+
+-- per processor how many of its acts are done, what its loads gave since its last store or PRINT, and its counter; one memory; one output
+pub record State : Type 0 where
+  pub positions : List ℕ
+  pub registers : List (List ℤ)
+  pub counters : List ℕ
+  pub memory : List ℤ
+  pub output : List ℕ
+
+-- nothing is done, and all is 0 or empty
+abbrev pub first_state : Machine → State
+first_state m = record {
+  positions = replicate m.workers 0;
+  registers = replicate m.workers [];
+  counters = replicate m.workers 0;
+  memory = replicate m.cells (pos 0);
+  output = [];
+}
+
+-- processor p's next act, where it has one
+abbrev pub next_act : Machine → State → ℕ → Option Act
+next_act m s p = act_at m p (slice_index s.positions p)
+
+-- an act is possible, but an await only where the awaited counter is at least the number
+abbrev pub is_possible : State → Act → Bool
+is_possible s (post number) = true
+is_possible s (await on wanted) = nat_le wanted (slice_index s.counters on)
+is_possible s (load place cell) = true
+is_possible s (store place cell) = true
+is_possible s (print place) = true
+
+-- the value that the job at a place of the timeline computes, and the line that it prints, from what its loads gave
+abbrev pub assigned_by : Option Moment → List ℤ → ℤ
+assigned_by None given = pos 0
+assigned_by (Some (boundary number posts awaits)) given = pos 0
+assigned_by (Some (job j)) given = j.assigned given
+
+abbrev pub line_by : Option Moment → List ℤ → List ℕ
+line_by None given = []
+line_by (Some (boundary number posts awaits)) given = []
+line_by (Some (job j)) given = j.line given
+
+-- what p's loads gave so far
+abbrev pub registers_of : State → ℕ → List ℤ
+registers_of s p = slice_index_or s.registers p []
+
+-- p has done one more act
+abbrev pub moved : State → ℕ → State
+moved s p = record s { positions = slice_set s.positions p (slice_index s.positions p + 1) }
+
+-- the state behind an act of p
+abbrev pub acted : Machine → State → ℕ → Act → State
+acted m s p (post number) = record s { counters = slice_set s.counters p number }
+acted m s p (await on wanted) = s
+acted m s p (load place cell) = record s { registers = slice_set s.registers p (registers_of s p ++ cell_value s.memory cell ∷ []) }
+acted m s p (store place cell) =
+    record s { registers = slice_set s.registers p []; memory = slice_set s.memory cell (assigned_by (slice_get m.timeline place) (registers_of s p)) }
+acted m s p (print place) = record s { registers = slice_set s.registers p []; output = s.output ++ line_by (slice_get m.timeline place) (registers_of s p) }
+
+-- the state behind a step of p: nothing changes where it has no act or its act isn't possible
+abbrev pub stepped_by : Machine → State → ℕ → Option Act → State
+stepped_by m s p None = s
+stepped_by m s p (Some act) = if is_possible s act then moved (acted m s p act) p else s
+
+abbrev pub stepped : Machine → State → ℕ → State
+stepped m s p = stepped_by m s p (next_act m s p)
+
+-- the state behind a schedule, a list of processor numbers
+abbrev pub run_of : Machine → List ℕ → State
+run_of m schedule = fold (stepped m) (first_state m) schedule
+
+-- each processor has done all its acts
+abbrev pub IsEnded : Machine → State → Type 0
+IsEnded m s = (p : ℕ) → p < m.workers → slice_index s.positions p ≡ length (acts_of m p)

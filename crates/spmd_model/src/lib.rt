@@ -1,0 +1,9 @@
+//! What a run of several processors is, and what holds of every run: definitions and laws, with
+//! nothing to call.
+//!
+//! - `specs/Timelines.antt`: what stands on the timeline of a run, and each processor's acts.
+//! - `specs/States.antt`: the machine's states, its step, and the run of a schedule.
+//! - `specs/Sequential.antt`: what one processor alone would compute.
+//! - `specs/Ordered.antt`: ordered timelines, by chains of waits.
+//! - `specs/Lawful.antt`: what holds of memory wherever the processors have come to.
+#![tactic(auto)]
