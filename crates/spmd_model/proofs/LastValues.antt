@@ -13,13 +13,13 @@ use Rattle.spmd_model.specs.Lawful.{last_value_from, last_value_where, stores_to
 use Rattle.spmd_model.proofs.Lists.{take-more}
 
 -- the moments of a list stand on the timeline from a place on
-abbrev StandsFrom : Machine → ℕ → List Moment → Type 0
+abbrev pub StandsFrom : Machine → ℕ → List Moment → Type 0
 StandsFrom m place xs = (k : ℕ) (x : Moment) → slice_get xs k ≡ Some x → slice_get m.timeline (place + k) ≡ Some x
 
-stands_later : (m : Machine) (place : ℕ) (y : Moment) (ys : List Moment) → StandsFrom m place (y ∷ ys) → StandsFrom m (suc place) ys
+pub stands_later : (m : Machine) (place : ℕ) (y : Moment) (ys : List Moment) → StandsFrom m place (y ∷ ys) → StandsFrom m (suc place) ys
 stands_later m place y ys h k x e = let next : place + suc k ≡ suc place + k = omega arith in ap (slice_get m.timeline) (sym next) ∙ h (suc k) x e
 
-stands_here : (m : Machine) (place : ℕ) (y : Moment) (ys : List Moment) → StandsFrom m place (y ∷ ys) → slice_get m.timeline place ≡ Some y
+pub stands_here : (m : Machine) (place : ℕ) (y : Moment) (ys : List Moment) → StandsFrom m place (y ∷ ys) → slice_get m.timeline place ≡ Some y
 stands_here m place y ys h = let same : place ≡ place + 0 = omega arith in ap (slice_get m.timeline) same ∙ h 0 y refl
 
 -- two ways to say which jobs are done that agree on those that store to a cell
@@ -81,7 +81,7 @@ length_behind memory (job j) = by j.store (j.assigned (map (cell_value memory) j
 pub memory_more : (m : Machine) (t : ℕ) (x : Moment) → slice_get m.timeline t ≡ Some x → memory_at m (suc t) ≡ memory_behind (memory_at m t) x
 memory_more m t x e = ap (fold memory_behind (replicate m.cells (pos 0))) (take-more m.timeline t x e) ∙ fold-append memory_behind (replicate m.cells (pos 0)) (take t m.timeline) (x ∷ [])
 
-folded_size : (memory : List ℤ) (xs : List Moment) → length (fold memory_behind memory xs) ≡ length memory
+pub folded_size : (memory : List ℤ) (xs : List Moment) → length (fold memory_behind memory xs) ≡ length memory
 folded_size memory [] = refl
 folded_size memory (x ∷ xs) = folded_size (memory_behind memory x) xs ∙ length_behind memory x
 

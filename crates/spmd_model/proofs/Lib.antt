@@ -5,4 +5,8 @@ mod Registers
 mod Chains
 mod LastValues
 mod Keeps
-mod Laws
+mod ActLaws
+mod Counters
+mod Unstuck
+mod Runs
+mod Ends

@@ -3,3 +3,4 @@ pub mod States
 pub mod Sequential
 pub mod Ordered
 pub mod Lawful
+pub mod Reached

@@ -7,3 +7,7 @@
 //! - `specs/Ordered.antt`: ordered timelines, by chains of waits.
 //! - `specs/Lawful.antt`: what holds of memory wherever the processors have come to.
 #![tactic(auto)]
+
+mod laws;
+
+pub use laws::{every_load_is_sequential, no_state_is_stuck, runs_are_sequential};

@@ -1,0 +1,79 @@
+-- Outputs, and the states in which a run has ended.
+use Rattle.std.proofs.Common.{◌≡◌, ◌≢◌, ◌==◌, ℕ, zero, suc, ◌+◌, ◌<◌, ◌≤◌, ℤ, pos, Bool, true, false, true≢false, List, [], ◌∷◌, ◌++◌, length, map, take, drop, fold, replicate, Option, Some, None, refl, ap, sym, subst, ◌∙◌, inl, inr, ⊎_elim, arith, if◌then◌else◌, zero-add}
+use Rattle.std.specs.Prelude.{slice_get, slice_index}
+use Rattle.std.specs.List.{flat_map}
+use Rattle.std.proofs.lemmas.Bool.{cases_Bool, eq-eqb}
+use Rattle.nest_model.specs.Memory.{cell_value}
+use Rattle.std.proofs.lemmas.Grind.{flat_map-append}
+use Rattle.std.proofs.lemmas.List.{append-nil, ext_get_or, length-replicate, take-append-drop, take_all}
+use Rattle.spmd_model.specs.Timelines.{Act, post, await, load, store, print, Job, Machine, Moment, boundary, job, boundary_acts, job_acts, last_act, moment_acts, acts_from, acts_of}
+use Rattle.spmd_model.specs.States.{State, IsEnded, line_by}
+use Rattle.spmd_model.specs.Sequential.{given_at, last_memory, loads_by, memory_at, memory_behind, moment_line, output_along, printed_line, whole_output}
+use Rattle.spmd_model.specs.Ordered.{IsSound}
+use Rattle.spmd_model.specs.Lawful.{act_line, printed_at}
+use Rattle.spmd_model.specs.Reached.{HasCome, IsSequential, positions_of}
+use Rattle.spmd_model.proofs.LastValues.{StandsFrom, folded_size, memory_more, stands_here, stands_later}
+use Rattle.spmd_model.proofs.ActLaws.{ended}
+
+-- ---- output along the timeline
+
+silent_loads : (m : Machine) (t : ℕ) (loads : List ℕ) → flat_map (act_line m) (map (load t) loads) ≡ []
+silent_loads m t [] = refl
+silent_loads m t (c ∷ rest) = silent_loads m t rest
+
+silent_awaits : (m : Machine) (n : ℕ) (awaited : List ℕ) → flat_map (act_line m) (map (λ q. await q n) awaited) ≡ []
+silent_awaits m n [] = refl
+silent_awaits m n (q ∷ rest) = silent_awaits m n rest
+
+silent_boundary : (m : Machine) (n : ℕ) (posts : Bool) (awaited : List ℕ) → flat_map (act_line m) (boundary_acts 0 n posts awaited) ≡ []
+silent_boundary m n true awaited = silent_awaits m n awaited
+silent_boundary m n false awaited = silent_awaits m n awaited
+
+last_line : (m : Machine) (t : ℕ) (j : Job) (o : Option ℕ) → slice_get m.timeline t ≡ Some (job j) → flat_map (act_line m) (last_act t o ∷ []) ≡ printed_line j o (given_at m t)
+last_line m t j (Some cell) at = refl
+last_line m t j None at = append-nil (line_by (slice_get m.timeline t) (given_at m t)) ∙ ap (λ o. line_by o (given_at m t)) at
+
+-- what processor 0 prints for a moment is its line
+moment_prints : (m : Machine) (t : ℕ) (x : Moment) → IsSound m → slice_get m.timeline t ≡ Some x → flat_map (act_line m) (moment_acts 0 t x) ≡ moment_line (memory_at m t) x
+moment_prints m t (boundary n posts awaits) sound at = silent_boundary m n (posts 0) (awaits 0)
+moment_prints m t (job j) sound at = elim (cases_Bool (j.owner == 0)) [
+  | inl own ↦
+    ap (λ b. flat_map (act_line m) (if b then job_acts t j else [])) own
+    ∙ flat_map-append (act_line m) (map (load t) j.loads) (last_act t j.store ∷ [])
+    ∙ ap (λ l. l ++ flat_map (act_line m) (last_act t j.store ∷ [])) (silent_loads m t j.loads)
+    ∙ last_line m t j j.store at
+    ∙ ap (λ o. printed_line j j.store (map (cell_value (memory_at m t)) (loads_by o))) at
+  | inr other ↦ ap (λ b. flat_map (act_line m) (if b then job_acts t j else [])) other ∙ sym (silent other j.store refl)
+]
+  where
+    silent : (j.owner == 0) ≡ false → (o : Option ℕ) → j.store ≡ o → printed_line j j.store (map (cell_value (memory_at m t)) j.loads) ≡ []
+    silent other (Some cell) stores = ap (λ s. printed_line j s (map (cell_value (memory_at m t)) j.loads)) stores
+    silent other None stores = absurd (true≢false (sym (eq-eqb j.owner 0 (sound.printed t j at stores)) ∙ other))
+
+prints_from : (m : Machine) (place : ℕ) (xs : List Moment) → IsSound m → StandsFrom m place xs → flat_map (act_line m) (acts_from 0 place xs) ≡ output_along (memory_at m place) xs
+prints_from m place [] sound stands = refl
+prints_from m place (x ∷ xs) sound stands =
+    flat_map-append (act_line m) (moment_acts 0 place x) (acts_from 0 (suc place) xs)
+    ∙ ap (λ l. l ++ flat_map (act_line m) (acts_from 0 (suc place) xs)) (moment_prints m place x sound (stands_here m place x xs stands))
+    ∙ ap (λ l. moment_line (memory_at m place) x ++ l) (prints_from m (suc place) xs sound (stands_later m place x xs stands) ∙ ap (λ memory. output_along memory xs) (memory_more m place x (stands_here m place x xs stands)))
+
+pub prints_whole : (m : Machine) → IsSound m → flat_map (act_line m) (acts_of m 0) ≡ whole_output m
+prints_whole m sound = prints_from m 0 m.timeline sound (λ k x at. ap (slice_get m.timeline) (zero-add k) ∙ at)
+
+-- output so far is a front of the whole
+pub output_front : (m : Machine) (s : State) → IsSound m → IsSequential m s → (rest : List ℕ) × (s.output ++ rest ≡ whole_output m)
+output_front m s sound seq =
+    let n = slice_index s.positions 0 in
+    let rest = flat_map (act_line m) (drop n (acts_of m 0)) in
+    (rest, ap (λ l. l ++ rest) seq.output ∙ sym (flat_map-append (act_line m) (take n (acts_of m 0)) (drop n (acts_of m 0))) ∙ ap (flat_map (act_line m)) (take-append-drop n (acts_of m 0)) ∙ prints_whole m sound)
+
+-- ---- ended states
+
+pub ended_output : (m : Machine) (s : State) → 0 < m.workers → IsSound m → IsSequential m s → IsEnded m s → s.output ≡ whole_output m
+ended_output m s some sound seq end =
+    seq.output ∙ ap (printed_at m 0) (end 0 some) ∙ ap (flat_map (act_line m)) (take_all (length (acts_of m 0)) (acts_of m 0) (omega arith)) ∙ prints_whole m sound
+
+pub ended_memory : (m : Machine) (s : State) → IsSound m → IsSequential m s → IsEnded m s → s.memory ≡ last_memory m
+ended_memory m s sound seq end =
+    let size : length (last_memory m) ≡ m.cells = folded_size (replicate m.cells (pos 0)) m.timeline ∙ length-replicate m.cells (pos 0) in
+    ext_get_or (pos 0) s.memory (last_memory m) (seq.lawful.size ∙ sym size) (λ i lt. ended m s.memory (positions_of s) sound seq.lawful end i (omega (arith, lt, seq.lawful.size)))
