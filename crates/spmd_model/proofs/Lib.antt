@@ -10,3 +10,5 @@ mod Counters
 mod Unstuck
 mod Runs
 mod Ends
+mod PlannedMoments
+mod PlannedOrder

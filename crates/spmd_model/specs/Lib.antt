@@ -4,3 +4,4 @@ pub mod Sequential
 pub mod Ordered
 pub mod Lawful
 pub mod Reached
+pub mod Planned

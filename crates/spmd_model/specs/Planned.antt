@@ -1,0 +1,42 @@
+-- The timeline of a program under a plan: in front of each phase its boundary, and behind that the phase's instances.
+use Rattle.std.specs.Prelude.{ℕ, suc, ◌-◌, List, [], ◌∷◌, ◌++◌, map}
+use Rattle.nest_tree.specs.Layout.{cell_count}
+use Rattle.nest_tree.specs.Tree.{Tree, param_values}
+use Rattle.nest_model.specs.Instances.{Instance}
+use Rattle.nest_model.specs.Memory.{assigned_value, line_of}
+use Rattle.nest_model.specs.Visits.{Visit}
+use Rattle.owner_partition.specs.Phases.{Execution, phase_instances, phases}
+use Rattle.sync_plan.specs.declared.plan.Plan.{Plan}
+use Rattle.sync_plan.specs.Conflicts.{loads_under, store_under}
+use Rattle.sync_plan.specs.Ordered.{owner_under}
+use Rattle.sync_plan.specs.Waits.{posts_at, waits_for}
+use Rattle.spmd_model.specs.Timelines.{Job, Machine, Moment, boundary, job}
+
+-- an instance as a job of its owner
+abbrev pub job_of : Tree → Plan → Execution → Job
+job_of tree plan x = record {
+  owner = owner_under tree plan x;
+  loads = loads_under tree plan x;
+  store = store_under tree plan x;
+  assigned = assigned_value tree x.instance;
+  line = line_of tree x.instance;
+}
+
+-- in front of phase number e, from 1, the number e - 1 is posted
+abbrev pub boundary_of : Tree → Plan → ℕ → Visit → Moment
+boundary_of tree plan e v = boundary (e - 1) (λ q. posts_at tree plan q v.place v.loops) (λ p. waits_for tree plan p v.place v.loops)
+
+abbrev pub jobs_of : Tree → Plan → ℕ → Visit → List Moment
+jobs_of tree plan e v = map (λ (i : Instance). job (job_of tree plan (record { phase = e; place = v.place; instance = i }))) (phase_instances (param_values tree) v)
+
+-- phases of which the first has this number
+abbrev pub timeline_from : Tree → Plan → ℕ → List Visit → List Moment
+timeline_from tree plan e [] = []
+timeline_from tree plan e (v ∷ rest) = boundary_of tree plan e v ∷ (jobs_of tree plan e v ++ timeline_from tree plan (suc e) rest)
+
+abbrev pub timeline_of : Tree → Plan → List Moment
+timeline_of tree plan = timeline_from tree plan 1 (phases tree plan.cut)
+
+-- the machine of a program under a plan
+abbrev pub machine_of : Tree → Plan → Machine
+machine_of tree plan = record { workers = plan.workers; cells = cell_count tree; timeline = timeline_of tree plan }
