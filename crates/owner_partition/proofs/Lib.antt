@@ -1,4 +1,4 @@
-mod Instances
+pub mod Instances
 mod Places
 mod Congruences
 mod Limits

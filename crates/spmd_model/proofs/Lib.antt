@@ -12,3 +12,5 @@ mod Runs
 mod Ends
 mod PlannedMoments
 mod PlannedOrder
+mod PlannedMemory
+mod PlannedSound

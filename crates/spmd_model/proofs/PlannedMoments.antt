@@ -11,7 +11,7 @@ use Rattle.nest_model.specs.Visits.{Visit}
 use Rattle.owner_partition.specs.Phases.{Execution, executions, executions_from, phase_instances, phases}
 use Rattle.sync_plan.specs.declared.plan.Plan.{Plan}
 use Rattle.spmd_model.specs.Timelines.{Job, Machine, Moment, boundary, job}
-use Rattle.spmd_model.specs.Planned.{boundary_of, job_of, jobs_of, timeline_from, timeline_of}
+use Rattle.spmd_model.specs.Planned.{boundary_of, is_job, job_count, job_of, jobs_of, timeline_from, timeline_of}
 use Rattle.spmd_model.proofs.Lists.{get-behind, get-front, take-behind}
 
 -- where the boundary of a phase stands, by how many phases are in front of it
@@ -41,15 +41,6 @@ boundary_rises tree plan e (y ∷ ys) (suc k) (suc l) le =
     omega (arith, rest, length-append jobs (timeline_from tree plan (suc e) (take k ys)), length-append jobs (timeline_from tree plan (suc e) (take l ys)))
 
 -- ---- an instance on the timeline
-
--- how many jobs stand among moments
-abbrev pub is_job : Moment → ℕ
-is_job (boundary n posts awaits) = 0
-is_job (job j) = 1
-
-abbrev pub job_count : List Moment → ℕ
-job_count [] = 0
-job_count (x ∷ xs) = is_job x + job_count xs
 
 -- the job at place t is that of an instance: it has the number of the jobs in front of it, and stands behind the boundary of its phase and in front of the next one
 pub record IsExecuted (tree : Tree) (plan : Plan) (e : ℕ) (vs : List Visit) (t : ℕ) (j : Job) : Type 0 where

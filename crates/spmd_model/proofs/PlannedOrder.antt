@@ -13,9 +13,9 @@ use Rattle.sync_plan.specs.Ordered.{IsOrdered as IsOrderedPlan, IsChain as IsPla
 use Rattle.sync_plan.specs.Waits.{awaited_behind, does_wait_at, kind_owner, waits_for}
 use Rattle.spmd_model.specs.Timelines.{Job, Machine, Moment, boundary, job}
 use Rattle.spmd_model.specs.Ordered.{Conflict, Hop, IsChain, IsOrdered, awaited_in, number_in}
-use Rattle.spmd_model.specs.Planned.{boundary_of, job_of, machine_of, timeline_from, timeline_of}
+use Rattle.spmd_model.specs.Planned.{boundary_of, job_count, job_of, machine_of, timeline_from, timeline_of}
 use Rattle.spmd_model.proofs.Lists.{contains_at, place_of}
-use Rattle.spmd_model.proofs.PlannedMoments.{IsExecuted, boundary_place_from, boundary_rises, boundary_step, boundary_there, counts_rise, executed, job_count}
+use Rattle.spmd_model.proofs.PlannedMoments.{IsExecuted, boundary_place_from, boundary_rises, boundary_step, boundary_there, counts_rise, executed}
 
 -- ---- an awaited processor is one of the workers
 

@@ -1,5 +1,5 @@
 -- The timeline of a program under a plan: in front of each phase its boundary, and behind that the phase's instances.
-use Rattle.std.specs.Prelude.{ℕ, suc, ◌-◌, List, [], ◌∷◌, ◌++◌, map}
+use Rattle.std.specs.Prelude.{ℕ, suc, ◌+◌, ◌-◌, List, [], ◌∷◌, ◌++◌, map, take}
 use Rattle.nest_tree.specs.Layout.{cell_count}
 use Rattle.nest_tree.specs.Tree.{Tree, param_values}
 use Rattle.nest_model.specs.Instances.{Instance}
@@ -40,3 +40,15 @@ timeline_of tree plan = timeline_from tree plan 1 (phases tree plan.cut)
 -- the machine of a program under a plan
 abbrev pub machine_of : Tree → Plan → Machine
 machine_of tree plan = record { workers = plan.workers; cells = cell_count tree; timeline = timeline_of tree plan }
+
+-- how many jobs stand among moments: in front of a job, the number of its instance, from 0
+abbrev pub is_job : Moment → ℕ
+is_job (boundary number posts awaits) = 0
+is_job (job j) = 1
+
+abbrev pub job_count : List Moment → ℕ
+job_count [] = 0
+job_count (x ∷ xs) = is_job x + job_count xs
+
+abbrev pub jobs_in_front : Tree → Plan → ℕ → ℕ
+jobs_in_front tree plan place = job_count (take place (timeline_of tree plan))

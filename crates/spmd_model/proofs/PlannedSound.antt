@@ -1,0 +1,124 @@
+-- The boundaries of a plan's timeline: their numbers rise, and whoever is awaited there posts.
+use Rattle.std.proofs.Common.{◌≡◌, ◌≢◌, ◌==◌, ℕ, zero, suc, ◌+◌, ◌-◌, ◌<◌, ◌≤◌, ◌⊎◌, Bool, true, false, true≢false, cond, not, ◌&&◌, ◌||◌, List, [], ◌∷◌, ◌++◌, length, map, take, Option, Some, None, refl, ap, sym, subst, ◌∙◌, inl, inr, ⊎_elim, arith, length-append}
+use Rattle.std.specs.Prelude.{slice_get}
+use Rattle.std.specs.List.{Contains, filter, list_any, range_with_len}
+use Rattle.std.proofs.lemmas.Bool.{cases_Bool, cases_eq, cases_lt}
+use Rattle.std.proofs.lemmas.List.{length-map}
+use Rattle.nest_tree.specs.Tree.{Tree, param_values}
+use Rattle.nest_model.specs.Instances.{Instance}
+use Rattle.nest_model.specs.Visits.{Visit}
+use Rattle.owner_partition.specs.Phases.{Execution, phase_instances, phases}
+use Rattle.sync_plan.specs.declared.plan.Kind.{Kind}
+use Rattle.sync_plan.specs.declared.plan.Plan.{Plan}
+use Rattle.sync_plan.specs.Waits.{awaited_behind, does_wait_at, is_awaited_behind, kind_owner, posts_at, waits_for}
+use Rattle.spmd_model.specs.Timelines.{Job, Machine, Moment, boundary, job}
+use Rattle.spmd_model.specs.Planned.{boundary_of, job_of, jobs_of, timeline_from, timeline_of}
+use Rattle.spmd_model.proofs.Lists.{get-behind, get-front}
+use Rattle.spmd_model.proofs.PlannedMoments.{boundary_place_from, boundary_rises, boundary_step}
+
+-- a boundary on the timeline is that of a phase
+pub record IsBoundary (tree : Tree) (plan : Plan) (e : ℕ) (vs : List Visit) (t n : ℕ) (posts : ℕ → Bool) (awaits : ℕ → List ℕ) : Type 0 where
+  pub phase : ℕ
+  pub visit : Visit
+  pub at : slice_get vs phase ≡ Some visit
+  pub is : boundary n posts awaits ≡ boundary_of tree plan (e + phase) visit
+  pub place : t ≡ boundary_place_from tree plan e vs phase
+
+no_boundary : (f : Instance → Job) (is : List Instance) (k n : ℕ) (posts : ℕ → Bool) (awaits : ℕ → List ℕ) → slice_get (map (λ i. job (f i)) is) k ≡ Some (boundary n posts awaits) → ⊥
+no_boundary f [] k n posts awaits e = let clash : None ≡ Some (boundary n posts awaits) = e in cc
+no_boundary f (i ∷ is) zero n posts awaits e = let clash : Some (job (f i)) ≡ Some (boundary n posts awaits) = e in cc
+no_boundary f (i ∷ is) (suc k) n posts awaits e = no_boundary f is k n posts awaits e
+
+pub boundary_is : (tree : Tree) (plan : Plan) (e : ℕ) (vs : List Visit) (t n : ℕ) (posts : ℕ → Bool) (awaits : ℕ → List ℕ) → slice_get (timeline_from tree plan e vs) t ≡ Some (boundary n posts awaits) → IsBoundary tree plan e vs t n posts awaits
+boundary_is tree plan e [] t n posts awaits at = let clash : None ≡ Some (boundary n posts awaits) = at in absurd (cc)
+boundary_is tree plan e (v ∷ vs) zero n posts awaits at =
+    let same : Some (boundary_of tree plan e v) ≡ Some (boundary n posts awaits) = at in
+    let equal : boundary_of tree plan e v ≡ boundary n posts awaits = cc in
+    let here : e ≡ e + 0 = omega arith in
+    record { phase = 0; visit = v; at = refl; is = sym equal ∙ ap (λ k. boundary_of tree plan k v) here; place = refl }
+boundary_is tree plan e (v ∷ vs) (suc t) n posts awaits at =
+    let jobs = jobs_of tree plan e v in
+    let later = timeline_from tree plan (suc e) vs in
+    elim (cases_lt t (length jobs)) [
+      | inl inside ↦ absurd (no_boundary (λ i. job_of tree plan (record { phase = e; place = v.place; instance = i })) (phase_instances (param_values tree) v) t n posts awaits (sym (get-front jobs later t inside) ∙ at))
+      | inr past ↦
+          let more : length jobs + (t - length jobs) ≡ t = omega (arith, past) in
+          let rest = boundary_is tree plan (suc e) vs (t - length jobs) n posts awaits (sym (ap (slice_get (jobs ++ later)) (sym more) ∙ get-behind jobs later (t - length jobs)) ∙ at) in
+          let number : suc e + rest.phase ≡ e + suc rest.phase = omega arith in
+          record {
+            phase = suc rest.phase;
+            visit = rest.visit;
+            at = rest.at;
+            is = rest.is ∙ ap (λ k. boundary_of tree plan k rest.visit) number;
+            place = omega (arith, rest.place, more, length-append jobs (timeline_from tree plan (suc e) (take rest.phase vs)));
+          }
+    ]
+
+-- its number
+number_is : (tree : Tree) (plan : Plan) (e n : ℕ) (v : Visit) (posts : ℕ → Bool) (awaits : ℕ → List ℕ) → boundary n posts awaits ≡ boundary_of tree plan e v → n ≡ e - 1
+number_is tree plan e n v posts awaits same = cc
+
+pub numbers_rise : (tree : Tree) (plan : Plan) (s t n k : ℕ) (f g : ℕ → Bool) (a b : ℕ → List ℕ) → s < t → slice_get (timeline_of tree plan) s ≡ Some (boundary n f a) → slice_get (timeline_of tree plan) t ≡ Some (boundary k g b) → n < k
+numbers_rise tree plan s t n k f g a b lt at at' =
+    let vs = phases tree plan.cut in
+    let x = boundary_is tree plan 1 vs s n f a at in
+    let y = boundary_is tree plan 1 vs t k g b at' in
+    let nx = number_is tree plan (1 + x.phase) n x.visit f a x.is in
+    let ny = number_is tree plan (1 + y.phase) k y.visit g b y.is in
+    let less : x.phase < y.phase = ⊎_elim (λ l. l) (λ le. let rise = boundary_rises tree plan 1 vs y.phase x.phase le in absurd (omega (arith, rise, x.place, y.place, lt))) (cases_lt x.phase y.phase) in
+    omega (arith, nx, ny, less)
+
+-- ---- whoever is awaited posts
+
+-- what is among the filtered numbers of a range
+filtered : (test : ℕ → Bool) (a n q : ℕ) → Contains (filter test (range_with_len a n)) q → (test q ≡ true) × (q < a + n)
+filtered test a zero q (k, lt, e) = absurd (omega (arith, lt))
+filtered test a (suc n) q among = by (filtered test (a + 1) n q) (test a) refl among
+  where
+    later : List ℕ
+    later = filter test (range_with_len (a + 1) n)
+
+    by : (Contains later q → (test q ≡ true) × (q < a + 1 + n)) → (b : Bool) → test a ≡ b → Contains (filter test (range_with_len a (suc n))) q → (test q ≡ true) × (q < a + suc n)
+    by rest false h found = let r = rest (subst (λ xs. Contains xs q) (ap (λ b. cond b (a ∷ later) later) h) found) in (r.0, omega (arith, r.1))
+    by rest true h found = in_first (subst (λ xs. Contains xs q) (ap (λ b. cond b (a ∷ later) later) h) found)
+      where
+        in_first : Contains (a ∷ later) q → (test q ≡ true) × (q < a + suc n)
+        in_first (zero, lt, e) = (ap test (sym e) ∙ h, omega (arith, e))
+        in_first (suc k, lt, e) = let r = rest (k, omega (arith, lt), e) in (r.0, omega (arith, r.1))
+
+-- a test that holds of one of a range holds of some
+any_of : (test : ℕ → Bool) (a n p : ℕ) → a ≤ p → p < a + n → test p ≡ true → list_any test (range_with_len a n) ≡ true
+any_of test a zero p low high h = absurd (omega (arith, low, high))
+any_of test a (suc n) p low high h = elim (cases_eq p a) [
+  | inl same ↦ ap (λ b. b || list_any test (range_with_len (a + 1) n)) (ap test (sym same) ∙ h)
+  | inr other ↦ ap (λ b. test a || b) (any_of test (a + 1) n p (omega (arith, low, other)) (omega (arith, high)) h) ∙ or_true (test a)
+]
+  where
+    or_true : (b : Bool) → (b || true) ≡ true
+    or_true true = refl
+    or_true false = refl
+
+pub awaited_posts : (tree : Tree) (plan : Plan) (v : Visit) (p q : ℕ) → p < plan.workers → Contains (waits_for tree plan p v.place v.loops) q → (q < plan.workers) × (posts_at tree plan q v.place v.loops ≡ true)
+awaited_posts tree plan v p q inside among = by (slice_get plan.kinds (v.place - 1)) among
+  where
+    by : (o : Option Kind) → Contains (awaited_behind o plan.workers v.loops (param_values tree) p) q → (q < plan.workers) × (is_awaited_behind o plan.workers v.loops (param_values tree) q ≡ true)
+    by None (k, lt, e) = absurd (omega (arith, lt))
+    by (Some kind) found =
+        let owner = kind_owner kind plan.workers v.loops (param_values tree) in
+        let f = filtered (does_wait_at kind owner p) 0 plan.workers q found in
+        (omega (arith, f.1), any_of (λ o. does_wait_at kind owner o q) 0 plan.workers p (omega arith) (omega (arith, inside)) f.0)
+
+pub awaited_on : (tree : Tree) (plan : Plan) (t n p q : ℕ) (posts : ℕ → Bool) (awaits : ℕ → List ℕ) → slice_get (timeline_of tree plan) t ≡ Some (boundary n posts awaits) → p < plan.workers → Contains (awaits p) q → (q < plan.workers) × (posts q ≡ true)
+awaited_on tree plan t n p q posts awaits at inside among =
+    let x = boundary_is tree plan 1 (phases tree plan.cut) t n posts awaits at in
+    let v = x.visit in
+    let same_posts : posts ≡ (λ o. posts_at tree plan o v.place v.loops) = posts_are (1 + x.phase) v x.is in
+    let same_awaits : awaits ≡ (λ o. waits_for tree plan o v.place v.loops) = awaits_are (1 + x.phase) v x.is in
+    let a = awaited_posts tree plan v p q inside (subst (λ f. Contains (f p) q) same_awaits among) in
+    (a.0, ap (λ f. f q) same_posts ∙ a.1)
+  where
+    posts_are : (e : ℕ) (v : Visit) → boundary n posts awaits ≡ boundary_of tree plan e v → posts ≡ (λ o. posts_at tree plan o v.place v.loops)
+    posts_are e v same = cc
+
+    awaits_are : (e : ℕ) (v : Visit) → boundary n posts awaits ≡ boundary_of tree plan e v → awaits ≡ (λ o. waits_for tree plan o v.place v.loops)
+    awaits_are e v same = cc
