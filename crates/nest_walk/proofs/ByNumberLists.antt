@@ -27,7 +27,7 @@ rounds_to-numbered count ns vs (suc k) d lt all =
     (cases_lt d k)
 
 -- a loop that is written has the value that it has among these loops alone
-pub with_rounds-numbered : (count : ℕ) (loops : List ℤ) (rounds : List Round) (n : ℕ) → length loops ≡ count → list_all (λ (r : Round). is_number_of count r.number) rounds ≡ true → 0 < n →
+pub with_rounds-numbered : (count : ℕ) (loops : List ℤ) (rounds : List Round) (n : ℕ) → count ≤ length loops → list_all (λ (r : Round). is_number_of count r.number) rounds ≡ true → 0 < n →
     list_any (λ k. k == n) (numbers_of rounds) ≡ true → numbered (with_rounds loops rounds) n ≡ numbered (by_number count rounds) n
 with_rounds-numbered count loops [] n same all some named = absurd (let no : false ≡ true = named in cc)
 with_rounds-numbered count loops (r ∷ rounds) n same all some named =

@@ -1,0 +1,4 @@
+pub mod ValueLaws
+pub mod Lines
+pub mod Loads
+pub mod Executions

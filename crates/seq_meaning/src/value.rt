@@ -1,0 +1,138 @@
+// The value of an expression.
+
+ghost use Rattle.std.specs.Prelude.{◌≡◌, ◌+◌, ◌≤◌, ◌<◌, IsTrue, drop, length, ℤ, pos, ◌+ℤ◌, ◌-ℤ◌, ◌*ℤ◌, neg_ℤ, unsigned_abs};
+ghost use Rattle.nest_tree.specs.Loads.{loads_among, loads_in};
+ghost use Rattle.nest_tree.specs.Values.{quotient, wrapped};
+ghost use Rattle.nest_tree.specs.View.{expression_of, expressions_from};
+ghost use Rattle.nest_model.specs.Meaning.{greatest, has_value, have_values, least, value_of, values_of};
+
+use nest_tree::Expr;
+
+/// The value of an expression, in whole numbers of 64 bits: sums, differences, negatives and
+/// products wrap (modulo 2^64), and a quotient is truncated toward zero (ANSI X3.9-1978, 6.1.5),
+/// where -2^63 divided by -1 is itself.
+///
+/// Loops and named constants have these values by number, from 1; the expression's loads gave
+/// what `loaded` begins with, in text order.
+pub fn eval(e: &Expr, loops: &[i64], params: &[i64], loaded: &[i64]) -> i64
+    requires valued { IsTrue (has_value (length loops.now) (length params.now) (expression_of e.now)) }
+    requires loads { length (loads_in (expression_of e.now)) ≤ length loaded.now }
+    ensures { result ≡ value_of (expression_of e.now) loops.now params.now loaded.now }
+{
+    let given = Given {
+        loops,
+        params,
+        loaded,
+    };
+    given.value(e, &mut 0)
+}
+
+/// What expressions are evaluated from: the values of loops and of named constants by number, and
+/// those that loads gave, in text order.
+#[derive(Clone, Copy)]
+pub(crate) struct Given<'a> {
+    pub(crate) loops: &'a [i64],
+    pub(crate) params: &'a [i64],
+    pub(crate) loaded: &'a [i64],
+}
+
+impl Given<'_> {
+    // The value of an expression whose loads gave what stands from `at` on, which moves past them.
+    #[cycle(value)]
+    pub(crate) fn value(&self, e: &Expr, at: &mut usize) -> i64
+        requires valued { IsTrue (has_value (length self.now.loops.now) (length self.now.params.now) (expression_of e.now)) }
+        requires loads { length (loads_in (expression_of e.now)) ≤ length (drop at.old self.now.loaded.now) }
+        ensures value { result ≡ value_of (expression_of e.now) self.now.loops.now self.now.params.now (drop at.old self.now.loaded.now) }
+        ensures rest { drop at.new self.now.loaded.now ≡ drop (length (loads_in (expression_of e.now))) (drop at.old self.now.loaded.now) }
+    {
+        match e {
+            Expr::Number(n) => *n,
+            Expr::LoopValue(l) => self.loops[*l as usize - 1],
+            Expr::Param(p) => self.params[*p as usize - 1],
+            Expr::Load(_) => {
+                let value = self.loaded[*at];
+                *at += 1;
+                value
+            }
+            Expr::Neg(a) => negated(self.value(a, at)),
+            Expr::Add(a, b) => {
+                let x = self.value(a, at);
+                sum(x, self.value(b, at))
+            }
+            Expr::Sub(a, b) => {
+                let x = self.value(a, at);
+                difference(x, self.value(b, at))
+            }
+            Expr::Mul(a, b) => {
+                let x = self.value(a, at);
+                product(x, self.value(b, at))
+            }
+            Expr::Div(a, divisor) => truncated_quotient(self.value(a, at), *divisor),
+            Expr::Min(arguments) => self.least(arguments, at),
+            Expr::Max(arguments) => self.greatest(arguments, at),
+        }
+    }
+
+    // The least of the arguments' values.
+    #[cycle(value)]
+    fn least(&self, arguments: &[Expr], at: &mut usize) -> i64
+        requires some { 0 < length arguments.now }
+        requires valued { IsTrue (have_values (length self.now.loops.now) (length self.now.params.now) (expressions_from arguments.now)) }
+        requires loads { length (loads_among (expressions_from arguments.now)) ≤ length (drop at.old self.now.loaded.now) }
+        ensures value { result ≡ least (values_of (expressions_from arguments.now) self.now.loops.now self.now.params.now (drop at.old self.now.loaded.now)) }
+        ensures rest { drop at.new self.now.loaded.now ≡ drop (length (loads_among (expressions_from arguments.now))) (drop at.old self.now.loaded.now) }
+    {
+        let mut best = self.value(&arguments[0], at);
+        for e in &arguments[1..] {
+            best = best.min(self.value(e, at));
+        }
+        best
+    }
+
+    // The greatest of the arguments' values.
+    #[cycle(value)]
+    fn greatest(&self, arguments: &[Expr], at: &mut usize) -> i64
+        requires some { 0 < length arguments.now }
+        requires valued { IsTrue (have_values (length self.now.loops.now) (length self.now.params.now) (expressions_from arguments.now)) }
+        requires loads { length (loads_among (expressions_from arguments.now)) ≤ length (drop at.old self.now.loaded.now) }
+        ensures value { result ≡ greatest (values_of (expressions_from arguments.now) self.now.loops.now self.now.params.now (drop at.old self.now.loaded.now)) }
+        ensures rest { drop at.new self.now.loaded.now ≡ drop (length (loads_among (expressions_from arguments.now))) (drop at.old self.now.loaded.now) }
+    {
+        let mut best = self.value(&arguments[0], at);
+        for e in &arguments[1..] {
+            best = best.max(self.value(e, at));
+        }
+        best
+    }
+}
+
+fn negated(a: i64) -> i64
+    ensures { result ≡ wrapped (neg_ℤ a) }
+{
+    a.wrapping_neg()
+}
+
+fn sum(a: i64, b: i64) -> i64
+    ensures { result ≡ wrapped (a +ℤ b) }
+{
+    a.wrapping_add(b)
+}
+
+fn difference(a: i64, b: i64) -> i64
+    ensures { result ≡ wrapped (a -ℤ b) }
+{
+    a.wrapping_sub(b)
+}
+
+fn product(a: i64, b: i64) -> i64
+    ensures { result ≡ wrapped (a *ℤ b) }
+{
+    a.wrapping_mul(b)
+}
+
+fn truncated_quotient(a: i64, divisor: i64) -> i64
+    requires { 0 < unsigned_abs divisor }
+    ensures { result ≡ quotient a divisor }
+{
+    a.wrapping_div(divisor)
+}
