@@ -146,16 +146,18 @@ solutions m r w g x some below dm dr fx dw =
     let er : r ≡ g * d = exact g r dr in
     let ew : w ≡ g * t = omega (arith, dw) in
     let cs : 0 < c = positive g c m em some in
-    let factor : IsSame m (g * d * x) g = subst (λ y. IsSame m (y * x) g) er fx in
-    (cs, λ n. (
-      (λ e.
-        let same : IsSame m (g * d * n) (g * t) = subst (λ y. IsSame m (y * n) (g * t)) er (subst (IsSame m (r * n)) ew (mod_same m (r * n) w some e)) in
-        (n / c, same_strided c n (t * x) cs (divided_same m g c d x n t gs em factor same))),
-      λ (k, e).
-        let same : IsSame c n (t * x) = subst (λ y. IsSame c y (t * x)) (sym e) (strided_same c (t * x) k cs) in
-        let (u, v, f) = same_divided m g c d x n t em factor same in
-        same_mod m (r * n) w u v some below (subst (λ y. y * n + u * m ≡ w + v * m) (sym er) (subst (λ y. g * d * n + u * m ≡ y + v * m) (sym ew) f))
-    ))
+    let factor : IsSame m (g * d * x) g = subst (λ y. IsSame m (y * x) g) er fx in (
+      cs,
+      λ n. (
+        (λ e.
+            let same : IsSame m (g * d * n) (g * t) = subst (λ y. IsSame m (y * n) (g * t)) er (subst (IsSame m (r * n)) ew (mod_same m (r * n) w some e)) in
+            (n / c, same_strided c n (t * x) cs (divided_same m g c d x n t gs em factor same))),
+        λ (k, e).
+            let same : IsSame c n (t * x) = subst (λ y. IsSame c y (t * x)) (sym e) (strided_same c (t * x) k cs) in
+            let (u, v, f) = same_divided m g c d x n t em factor same in
+            same_mod m (r * n) w u v some below (subst (λ y. y * n + u * m ≡ w + v * m) (sym er) (subst (λ y. g * d * n + u * m ≡ y + v * m) (sym ew) f)),
+      ),
+    )
 
 not_equal : (a b : ℕ) → a ≢ b → eqb a b ≡ false
 not_equal a b apart = ⊎_elim (λ equal. absurd (apart equal.1)) (λ other. other.0) (eqb_tells a b)

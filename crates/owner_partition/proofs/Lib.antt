@@ -3,3 +3,7 @@ mod Places
 mod Congruences
 mod Limits
 mod Strides
+pub mod Sums
+pub mod Dealt
+pub mod Trips
+pub mod Near

@@ -49,9 +49,9 @@ block_is b p (pos a) some =
     let high : a < b * (a / b) + b = omega (arith, some) in (
       (λ e. let s : b * (a / b) ≡ b * p = ap (λ q. b * q) e in ((λ h. omega (arith, ints, low, s)), omega (arith, ints, high, s))),
       λ (from, to).
-        let less : a / b < p + 1 = (div-lt_iff_lt-mul some).1 (omega (arith, ints, to, some)) in
-        let reached : p ≤ a / b = reaches p from in
-        omega (arith, less, reached)
+          let less : a / b < p + 1 = (div-lt_iff_lt-mul some).1 (omega (arith, ints, to, some)) in
+          let reached : p ≤ a / b = reaches p from in
+          omega (arith, less, reached),
     )
   where
     reaches : (q : ℕ) → (q ≢ 0 → pos (b * q) ≤ℤ pos a) → q ≤ a / b
@@ -94,18 +94,16 @@ pub block_trip : (b workers p : ℕ) (start rise low high : ℤ) (n first end : 
     ((low ≤ℤ (start +ℤ (pos n *ℤ rise))) × ((start +ℤ (pos n *ℤ rise)) ≤ℤ high)) ↔ ((first ≤ n) × (n < end)) → IsTrue (trip_owner (Block b) workers start rise n == p) ↔ ((first ≤ n) × (n < end))
 block_trip b workers p start rise low high n first end some lower top reached =
     let w = start +ℤ (pos n *ℤ rise) in
-    let block = block_is b p w some in
-    (
+    let block = block_is b p w some in (
       (λ h. let parts = block.0 (eqb-true _ _ h) in reached.0 (lower.1 parts.0, subst (λ z. w ≤ℤ z) (sym top) parts.1)),
-      λ h. let parts = reached.1 h in eq-eqb _ _ (block.1 (lower.0 parts.0, subst (λ z. w ≤ℤ z) top parts.1))
+      λ h. let parts = reached.1 h in eq-eqb _ _ (block.1 (lower.0 parts.0, subst (λ z. w ≤ℤ z) top parts.1)),
     )
 
 -- the same by the places with the other sign
 pub turned_round : (start rise low high : ℤ) (n first end : ℕ) → (((pos 0 -ℤ high) ≤ℤ ((pos 0 -ℤ start) +ℤ (pos n *ℤ (pos 0 -ℤ rise)))) × (((pos 0 -ℤ start) +ℤ (pos n *ℤ (pos 0 -ℤ rise))) ≤ℤ (pos 0 -ℤ low))) ↔ ((first ≤ n) × (n < end)) →
     ((low ≤ℤ (start +ℤ (pos n *ℤ rise))) × ((start +ℤ (pos n *ℤ rise)) ≤ℤ high)) ↔ ((first ≤ n) × (n < end))
 turned_round start rise low high n first end turned =
-    let product : pos n *ℤ (pos 0 -ℤ rise) ≡ pos 0 -ℤ pos n *ℤ rise = mul-less (pos n) (pos 0) rise ∙ ap (λ z. z -ℤ pos n *ℤ rise) (*ℤ-zero (pos n)) in
-    (
+    let product : pos n *ℤ (pos 0 -ℤ rise) ≡ pos 0 -ℤ pos n *ℤ rise = mul-less (pos n) (pos 0) rise ∙ ap (λ z. z -ℤ pos n *ℤ rise) (*ℤ-zero (pos n)) in (
       (λ (from, to). turned.0 (omega (arith, ints, product, to), omega (arith, ints, product, from))),
-      λ h. let parts = turned.1 h in (omega (arith, ints, product, parts.1), omega (arith, ints, product, parts.0))
+      λ h. let parts = turned.1 h in (omega (arith, ints, product, parts.1), omega (arith, ints, product, parts.0)),
     )

@@ -4,3 +4,4 @@ pub mod Phases
 pub mod Placement
 pub mod PhasesLeft
 pub mod OwnTrips
+pub mod OwnInstances

@@ -5,17 +5,21 @@
 //! - [`anchor`]: anchors, and the owner that one names.
 //! - [`placement`]: whether each block anchor keeps within its blocks.
 //! - [`phases`]: the phases of a program, one by one.
+//! - [`own`]: the instances of a phase that a processor owns.
 //! - [`laws`]: the phases' instances are the program's.
 #![tactic(auto)]
 
 pub mod anchor;
 pub mod cut;
+mod exact;
 pub mod laws;
+pub mod own;
 mod own_trips;
 pub mod phases;
 pub mod placement;
 
 pub use anchor::{Anchor, Dist, owner};
 pub use cut::{Cut, Mark};
+pub use own::{OwnCursor, own_iterations};
 pub use phases::{Phase, PhaseCursor};
 pub use placement::{Placement, check_placement};

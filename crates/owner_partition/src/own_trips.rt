@@ -88,7 +88,11 @@ fn count_up_to(start: i128, rise: i128, limit: i128, count: u64) -> u64
         return count;
     }
     let last = (limit - start) / rise;
-    if last < i128::from(count) { last as u64 + 1 } else { count }
+    if last < i128::from(count) {
+        last as u64 + 1
+    } else {
+        count
+    }
 }
 
 // The trips, whose place never falls, from a place to another: the first one, and the first one behind them.
@@ -99,7 +103,10 @@ fn between(start: i128, rise: i128, low: i128, high: i128, count: u64) -> (u64, 
     requires high { unsigned_abs high ≤ 2 ^ 126 }
     ensures { AreBetween start rise low high count result }
 {
-    (count_up_to(start, rise, low - 1, count), count_up_to(start, rise, high, count))
+    (
+        count_up_to(start, rise, low - 1, count),
+        count_up_to(start, rise, high, count),
+    )
 }
 
 // The least and the greatest place of the block of processor `p`, where 0 also has all that lies below its block.
@@ -132,10 +139,17 @@ fn in_block(start: i128, rise: i128, length: u32, p: u32, count: u64) -> (u64, u
 }
 
 // The first of a processor's trips, how far each is from the next, and the number that all are below.
-fn own_range(dist: Dist, workers: u32, p: u32, start: i128, rise: i128, count: u64) -> (u64, u64, u64)
+fn own_range(
+    dist: Dist,
+    workers: u32,
+    p: u32,
+    start: i128,
+    rise: i128,
+    count: u64,
+) -> (u64, u64, u64)
     requires worker { p < workers }
     requires block { (length : ℕ) → dist ≡ Block length → 1 ≤ length }
-    requires start { unsigned_abs start ≤ 2 ^ 125 }
+    requires start { (length : ℕ) → dist ≡ Block length → unsigned_abs start ≤ 2 ^ 125 }
     requires rise { unsigned_abs rise ≤ 2 ^ 62 }
     requires count { count ≤ 2 ^ 32 }
     ensures { IsOwnRange dist workers p start rise count result }
@@ -157,7 +171,7 @@ fn own_range(dist: Dist, workers: u32, p: u32, start: i128, rise: i128, count: u
 pub fn own_trips(dist: Dist, workers: u32, p: u32, start: i128, rise: i128, count: u64) -> Strided
     requires worker { p < workers }
     requires block { (length : ℕ) → dist ≡ Block length → 1 ≤ length }
-    requires start { unsigned_abs start ≤ 2 ^ 125 }
+    requires start { (length : ℕ) → dist ≡ Block length → unsigned_abs start ≤ 2 ^ 125 }
     requires rise { unsigned_abs rise ≤ 2 ^ 62 }
     requires count { count ≤ 2 ^ 32 }
     ensures own { own_numbers dist workers p start rise count ≡ strided result.first result.stride result.count }
@@ -165,5 +179,9 @@ pub fn own_trips(dist: Dist, workers: u32, p: u32, start: i128, rise: i128, coun
 {
     let (first, stride, end) = own_range(dist, workers, p, start, rise, count);
     let count = end.saturating_sub(first).div_ceil(stride);
-    Strided { first, stride, count }
+    Strided {
+        first,
+        stride,
+        count,
+    }
 }
