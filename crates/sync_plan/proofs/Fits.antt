@@ -17,7 +17,8 @@ use Rattle.owner_partition.specs.Marks.{enters_outer}
 use Rattle.sync_plan.specs.declared.plan.Kind.{Kind}
 use Rattle.sync_plan.specs.declared.plan.Kind.TheVariants.{Producer}
 use Rattle.sync_plan.specs.declared.plan.Plan.{Plan}
-use Rattle.sync_plan.specs.Fit.{IsFit, shape, as_misfit}
+use Rattle.owner_partition.specs.Placement.{unplaced}
+use Rattle.sync_plan.specs.Fit.{IsFit, Misfit, shape, placement, print_place, as_misfit, misplaced_print, placed_anchors}
 use Rattle.sync_plan.specs.Shape.{are_good_anchors, are_good_kinds, are_marked_well, has_places, is_good_anchor, is_good_kind, static_phases, wrong_field}
 
 -- the loops round a place have numbers up to this one
@@ -55,22 +56,28 @@ field_right : (b : Bool) (n : ℕ) (rest : Option ℕ) → (if not b then Some n
 field_right true n rest e = (refl, e)
 field_right false n rest e = absurd (cc)
 
-no_shape : (field : Option ℕ) → as_misfit shape field ≡ None → field ≡ None
-no_shape None e = refl
-no_shape (Some n) e = absurd (cc)
-
 pub record FitParts (tree : Tree) (plan : Plan) : Type 0 where
   pub some : 1 ≤ plan.workers
   pub few : plan.workers ≤ 64
   pub marks : length plan.cut ≡ loops_of tree.items
   pub kinds : length plan.kinds ≡ length (static_phases tree plan.cut)
   pub good_kinds : are_good_kinds (length tree.params) (static_phases tree plan.cut) plan.kinds ≡ true
+  pub good_anchors : are_good_anchors (length tree.params) plan.cut (static_phases tree plan.cut) plan.anchors ≡ true
+  pub placed : unplaced tree plan.cut plan.workers (placed_anchors plan) ≡ None
+  pub prints : misplaced_print 1 plan.cut (static_phases tree plan.cut) plan.anchors ≡ None
+
+nothing_misfits : {A : Type 0} (why : A → Misfit) (found : Option A) → as_misfit why found ≡ None → found ≡ None
+nothing_misfits why None e = refl
+nothing_misfits why (Some a) e = absurd (cc)
 
 pub fit_parts : (tree : Tree) (plan : Plan) → IsFit tree plan → FitParts tree plan
 fit_parts tree plan fits =
     let text = static_phases tree plan.cut in
     let constants = length tree.params in
-    let none = no_shape (wrong_field tree plan) (none_parts (as_misfit shape (wrong_field tree plan)) _ fits).0 in
+    let first = none_parts (as_misfit shape (wrong_field tree plan)) _ fits in
+    let second = none_parts (as_misfit placement (unplaced tree plan.cut plan.workers (placed_anchors plan))) _ first.1 in
+    let third = none_parts (as_misfit print_place (misplaced_print 1 plan.cut text plan.anchors)) _ second.1 in
+    let none = nothing_misfits shape (wrong_field tree plan) first.0 in
     let workers = field_right (nat_le 1 plan.workers && nat_le plan.workers 64) 1 _ none in
     let marks = field_right (length plan.cut == loops_of tree.items) 2 _ workers.1 in
     let marked = field_right (are_marked_well plan.cut false tree.items) 3 _ marks.1 in
@@ -84,6 +91,9 @@ fit_parts tree plan fits =
       marks = eqb-true (length plan.cut) (loops_of tree.items) marks.0;
       kinds = eqb-true (length plan.kinds) (length text) (and_parts (length plan.anchors == length text) (length plan.kinds == length text) counts.0).1;
       good_kinds = kinds.0;
+      good_anchors = anchors.0;
+      placed = nothing_misfits placement (unplaced tree plan.cut plan.workers (placed_anchors plan)) second.0;
+      prints = nothing_misfits print_place (misplaced_print 1 plan.cut text plan.anchors) third.0;
     }
 
 -- a kind of the list names only loops and named constants that are there
