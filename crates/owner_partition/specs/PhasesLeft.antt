@@ -1,8 +1,9 @@
 -- The phases that are left.
-use Rattle.std.specs.Prelude.{ℕ, ◌≡◌, List}
+use Rattle.std.specs.Prelude.{ℕ, ◌≡◌, List, Option}
+use Rattle.std.specs.Option.{option_map}
 use Rattle.nest_tree.specs.Tree.{Tree}
 use Rattle.nest_model.specs.Visits.{Visit}
-use Rattle.nest_walk.specs.Cursors.{left_of, loops_in, rounds_in, tree_in}
+use Rattle.nest_walk.specs.Cursors.{left_of, loops_in, rounds_in, tree_in, visit_at}
 use Rattle.nest_walk.specs.Paths.{Round, by_depth}
 use Rattle.owner_partition.specs.declared.phases.Phase.{Phase}
 use Rattle.owner_partition.specs.declared.phases.PhaseCursor.{PhaseCursor}
@@ -20,6 +21,10 @@ phases_passed c = c.passed
 -- the Outer loops round the phase that was given last, with their values
 abbrev pub phases_rounds : PhaseCursor → List Round
 phases_rounds c = rounds_in c.cursor
+
+-- the phase that was given last
+abbrev pub phase_last : PhaseCursor → Option Visit
+phase_last c = option_map (visit_at (phases_tree c) (phases_rounds c)) c.last
 
 -- a phase with this number, where these are the Outer loops round it: it is that stop, with the loops' values by depth
 pub record IsPhase (tree : Tree) (rounds : List Round) (number : ℕ) (v : Visit) (p : Phase) : Type 0 where

@@ -6,10 +6,10 @@ use Rattle.nest_model.specs.Visits.{Visit}
 use Rattle.nest_walk.specs.Walks.{enters_but}
 use Rattle.owner_partition.proofs.phases.PhaseCursor.new.Goals as goal
 
-pub invariant_of-result : goal.invariant_of-result
-invariant_of-result c =
+pub invariant_of-result-clause-counted : goal.invariant_of-result-clause-counted
+invariant_of-result-clause-counted c =
     let tree = tree_of c.args.program.now in
     let few = stops-few tree (enters_but c.closed.result.now) c.requires.formed in
     let most = (kept tree c.requires.limits).most_worked in
     let all = ap (λ (vs : List Visit). length vs) c.new.ensures.visits in
-    record { counted = omega (arith, all, few, most) }
+    omega (arith, all, few, most)
