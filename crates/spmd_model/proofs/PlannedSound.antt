@@ -13,8 +13,21 @@ use Rattle.sync_plan.specs.declared.plan.Plan.{Plan}
 use Rattle.sync_plan.specs.Waits.{awaited_behind, does_wait_at, is_awaited_behind, kind_owner, posts_at, waits_for}
 use Rattle.spmd_model.specs.Timelines.{Job, Machine, Moment, boundary, job}
 use Rattle.spmd_model.specs.Planned.{boundary_of, job_of, jobs_of, timeline_from, timeline_of}
+use Rattle.std.specs.List.{All}
+use Rattle.std.proofs.lemmas.List.Elements.{All-get_or}
+use Rattle.std.proofs.lemmas.Option.{get_or_from_slice_get, slice_get_within}
+use Rattle.nest_tree.specs.Tree.{Printing, Work, assign, print}
+use Rattle.nest_tree.specs.WellFormed.{IsWellFormed}
+use Rattle.nest_model.specs.Accesses.{access_cell, work_store}
+use Rattle.owner_partition.specs.Phases.{executions}
+use Rattle.sync_plan.specs.Fit.{IsFit}
+use Rattle.sync_plan.specs.Ordered.{IsOrdered as IsOrderedPlan, owner_under}
+use Rattle.sync_plan.proofs.FitOwners.{owners_below, printers}
+use Rattle.spmd_model.specs.Ordered.{IsOrdered, IsSound}
+use Rattle.spmd_model.specs.Planned.{machine_of}
 use Rattle.spmd_model.proofs.Lists.{get-behind, get-front}
-use Rattle.spmd_model.proofs.PlannedMoments.{boundary_place_from, boundary_rises, boundary_step}
+use Rattle.spmd_model.proofs.PlannedOrder.{ordered_along}
+use Rattle.spmd_model.proofs.PlannedMoments.{boundary_place_from, boundary_rises, boundary_step, executed}
 
 -- a boundary on the timeline is that of a phase
 pub record IsBoundary (tree : Tree) (plan : Plan) (e : ℕ) (vs : List Visit) (t n : ℕ) (posts : ℕ → Bool) (awaits : ℕ → List ℕ) : Type 0 where
@@ -122,3 +135,36 @@ awaited_on tree plan t n p q posts awaits at inside among =
 
     awaits_are : (e : ℕ) (v : Visit) → boundary n posts awaits ≡ boundary_of tree plan e v → awaits ≡ (λ o. waits_for tree plan o v.place v.loops)
     awaits_are e v same = cc
+
+-- ---- a plan that fits has a sound timeline
+
+all_at : {X : Type 0} (P : X → Type 0) (xs : List X) (k : ℕ) (x : X) → All P xs → slice_get xs k ≡ Some x → P x
+all_at P xs k x all e = subst P (get_or_from_slice_get xs k x x e) (All-get_or P xs k x (slice_get_within xs k x e) all)
+
+owned_along : (tree : Tree) (plan : Plan) → All (λ (x : Execution). owner_under tree plan x < plan.workers) (executions tree plan.cut) → (t : ℕ) (j : Job) → slice_get (timeline_of tree plan) t ≡ Some (job j) → j.owner < plan.workers
+owned_along tree plan below t j at =
+    let x = executed tree plan 1 (phases tree plan.cut) t j at in
+    let owner : j.owner ≡ owner_under tree plan x.execution = ap (λ (a : Job). a.owner) x.is in
+    omega (arith, owner, all_at (λ (y : Execution). owner_under tree plan y < plan.workers) (executions tree plan.cut) x.number x.execution below x.at)
+
+printed_along : (tree : Tree) (plan : Plan) → All (λ (x : Execution). (p : Printing) → x.instance.what ≡ print p → owner_under tree plan x ≡ 0) (executions tree plan.cut) → (t : ℕ) (j : Job) → slice_get (timeline_of tree plan) t ≡ Some (job j) → j.store ≡ None → j.owner ≡ 0
+printed_along tree plan zero_owns t j at none =
+    let x = executed tree plan 1 (phases tree plan.cut) t j at in
+    let store : work_store tree x.execution.instance.loops x.execution.instance.what ≡ None = sym (ap (λ (a : Job). a.store) x.is) ∙ none in
+    ap (λ (a : Job). a.owner) x.is ∙ by x.execution (all_at (λ (y : Execution). (p : Printing) → y.instance.what ≡ print p → owner_under tree plan y ≡ 0) (executions tree plan.cut) x.number x.execution zero_owns x.at) x.execution.instance.what refl store
+  where
+    by : (x : Execution) → ((p : Printing) → x.instance.what ≡ print p → owner_under tree plan x ≡ 0) → (w : Work) → x.instance.what ≡ w → work_store tree x.instance.loops w ≡ None → owner_under tree plan x ≡ 0
+    by x h (assign a) is store = let clash : Some (access_cell tree x.instance.loops a.target) ≡ None = store in absurd (cc)
+    by x h (print p) is store = h p is
+
+pub sound_of : (tree : Tree) (plan : Plan) → IsWellFormed tree → IsFit tree plan → IsSound (machine_of tree plan)
+sound_of tree plan formed fits = record {
+  rising = numbers_rise tree plan;
+  awaited = λ t n p q posts awaits at inside among. awaited_on tree plan t n p q posts awaits at inside among;
+  owned = owned_along tree plan (owners_below tree plan formed fits);
+  printed = printed_along tree plan (printers tree plan formed fits);
+}
+
+pub ordered_of : (tree : Tree) (plan : Plan) → IsWellFormed tree → IsFit tree plan → IsOrderedPlan tree plan → IsOrdered (machine_of tree plan)
+ordered_of tree plan formed fits ordered =
+    ordered_along tree plan (λ x k at. all_at (λ (y : Execution). owner_under tree plan y < plan.workers) (executions tree plan.cut) k x (owners_below tree plan formed fits) at) ordered

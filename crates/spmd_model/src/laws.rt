@@ -1,10 +1,16 @@
 // What holds of every run: there is nothing to call.
 
 ghost use Rattle.std.specs.Prelude.{ℕ, ℤ, List, Some, All, ◌≡◌, ◌<◌, ◌⊎◌, ◌++◌};
-ghost use Rattle.nest_model.specs.Memory.{cell_value};
-ghost use Rattle.spmd_model.specs.Lawful.{IsLawful, IsPosted, Moves};
+ghost use Rattle.nest_tree.specs.Tree.{Tree};
+ghost use Rattle.nest_tree.specs.WellFormed.{IsWellFormed};
+ghost use Rattle.nest_model.specs.Memory as Memory;
+ghost use Rattle.nest_model.specs.Memory.{cell_value, memory_before, output_of};
+ghost use Rattle.sync_plan.specs.Fit.{IsFit};
+ghost use Rattle.sync_plan.specs.Ordered.{IsOrdered as IsOrderedPlan};
+ghost use Rattle.sync_plan.specs.declared.plan.Plan.{Plan};
 ghost use Rattle.spmd_model.specs.Ordered.{IsOrdered, IsSound};
-ghost use Rattle.spmd_model.specs.Reached.{CanGo, positions_of};
+ghost use Rattle.spmd_model.specs.Planned.{jobs_in_front, machine_of};
+ghost use Rattle.spmd_model.specs.Reached.{CanGo};
 ghost use Rattle.spmd_model.specs.Sequential.{last_memory, memory_at, whole_output};
 ghost use Rattle.spmd_model.specs.States.{IsEnded, next_act, run_of};
 ghost use Rattle.spmd_model.specs.Timelines.{Machine, load};
@@ -28,4 +34,19 @@ pub fn runs_are_sequential()
     ensures front { (m : Machine) (schedule : List ℕ) → IsSound m → IsOrdered m → All (λ p. p < m.workers) schedule → (rest : List ℕ) × ((run_of m schedule).output ++ rest ≡ whole_output m) }
     ensures memory { (m : Machine) (schedule : List ℕ) → IsSound m → IsOrdered m → All (λ p. p < m.workers) schedule → IsEnded m (run_of m schedule) → (run_of m schedule).memory ≡ last_memory m }
     ensures output { (m : Machine) (schedule : List ℕ) → 0 < m.workers → IsSound m → IsOrdered m → All (λ p. p < m.workers) schedule → IsEnded m (run_of m schedule) → (run_of m schedule).output ≡ whole_output m }
+{}
+
+/// A plan that fits a well-formed program has a sound timeline, and an ordered plan an ordered one.
+pub fn timelines_of_plans()
+    ensures sound { (tree : Tree) → (plan : Plan) → IsWellFormed tree → IsFit tree plan → IsSound (machine_of tree plan) }
+    ensures ordered { (tree : Tree) → (plan : Plan) → IsWellFormed tree → IsFit tree plan → IsOrderedPlan tree plan → IsOrdered (machine_of tree plan) }
+{}
+
+/// The sequential values along a plan's timeline are the program's: memory in front of a job is
+/// the program's in front of the instance with as many jobs in front of it, memory behind all is
+/// the program's last one, and the output is the program's.
+pub fn timelines_are_sequential()
+    ensures memory { (tree : Tree) → (plan : Plan) → (place : ℕ) → memory_at (machine_of tree plan) place ≡ memory_before tree (jobs_in_front tree plan place) }
+    ensures last { (tree : Tree) → (plan : Plan) → last_memory (machine_of tree plan) ≡ Memory.last_memory tree }
+    ensures output { (tree : Tree) → (plan : Plan) → whole_output (machine_of tree plan) ≡ output_of tree }
 {}

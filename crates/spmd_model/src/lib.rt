@@ -6,8 +6,13 @@
 //! - `specs/Sequential.antt`: what one processor alone would compute.
 //! - `specs/Ordered.antt`: ordered timelines, by chains of waits.
 //! - `specs/Lawful.antt`: what holds of memory wherever the processors have come to.
+//! - `specs/Planned.antt`: the timeline of a program under a plan.
+//! - `laws`: no state is stuck, and runs of ordered plans are sequential.
 #![tactic(auto)]
 
 mod laws;
 
-pub use laws::{every_load_is_sequential, no_state_is_stuck, runs_are_sequential};
+pub use laws::{
+    every_load_is_sequential, no_state_is_stuck, runs_are_sequential, timelines_are_sequential,
+    timelines_of_plans,
+};

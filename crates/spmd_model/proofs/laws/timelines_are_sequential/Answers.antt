@@ -1,0 +1,11 @@
+use Rattle.spmd_model.proofs.PlannedMemory.{last_memory_is, memory_is, output_is}
+use Rattle.spmd_model.proofs.laws.timelines_are_sequential.Goals as goal
+
+pub returns-clause-memory : goal.returns-clause-memory
+returns-clause-memory c = memory_is
+
+pub returns-clause-last : goal.returns-clause-last
+returns-clause-last c = last_memory_is
+
+pub returns-clause-output : goal.returns-clause-output
+returns-clause-output c = output_is
