@@ -1,17 +1,17 @@
 -- Each act keeps lawful places lawful, and a load gives the sequential value.
-use Rattle.std.proofs.Common.{◌≡◌, ◌≢◌, ◌==◌, nat_le, ℕ, zero, suc, ◌+◌, ◌<◌, ◌≤◌, ◌⊎◌, ℤ, pos, Bool, true, false, true≢false, List, [], ◌∷◌, ◌++◌, length, map, fold, replicate, take, Option, Some, None, refl, ap, sym, subst, ◌∙◌, inl, inr, ⊎_elim, arith, zero-add, if◌then◌else◌}
+use Rattle.std.proofs.Common.{◌≡◌, ◌==◌, ℕ, suc, ◌+◌, ◌<◌, ◌≤◌, ◌⊎◌, ℤ, pos, Bool, true, true≢false, List, length, map, fold, replicate, Option, Some, None, refl, ap, sym, subst, ◌∙◌, inl, inr, ⊎_elim, arith, if◌then◌else◌}
 use Rattle.std.specs.Prelude.{slice_get, slice_set}
 use Rattle.std.specs.List.{Contains}
 use Rattle.std.proofs.lemmas.Bool.{cases_Bool, cases_eq, cases_lt, eq-eqb, eqb-true, le-leb, lt-leb, lt-ltb, le-ltb}
 use Rattle.std.proofs.lemmas.List.{get_or-replicate, get_or_past, length-replicate, length-set, take_all}
 use Rattle.std.proofs.lemmas.Option.{slice_get_within}
 use Rattle.nest_model.specs.Memory.{cell_value, with_store}
-use Rattle.spmd_model.specs.Timelines.{Act, post, await, load, store, print, Job, Machine, Moment, boundary, job, act_at, acts_from, acts_of, moment_acts}
+use Rattle.spmd_model.specs.Timelines.{Act, post, await, load, store, print, Job, Machine, Moment, boundary, job, act_at, acts_from, acts_of}
 use Rattle.spmd_model.specs.States.{assigned_by}
-use Rattle.spmd_model.specs.Sequential.{given_at, last_memory, loads_by, memory_at, memory_behind, stored_at, value_at}
+use Rattle.spmd_model.specs.Sequential.{last_memory, loads_by, memory_at, memory_behind, stored_at, value_at}
 use Rattle.spmd_model.specs.Ordered.{IsOrdered, IsSound, cells_of}
-use Rattle.spmd_model.specs.Lawful.{IsLawful, IsPosted, Moves, acts_in_front, is_done, last_value, last_value_where, stores_to}
-use Rattle.spmd_model.proofs.Lists.{contains_at, one_element}
+use Rattle.spmd_model.specs.Lawful.{IsLawful, IsPosted, Moves, acts_in_front, is_done, last_value, stores_to}
+use Rattle.spmd_model.proofs.Lists.{one_element}
 use Rattle.spmd_model.proofs.ActLists.{Found, found, in_front-rises}
 use Rattle.spmd_model.proofs.MomentActs.{IsAwaitIn, IsLastIn, IsLoadIn, IsPostIn, tells}
 use Rattle.spmd_model.proofs.Chains.{IsAt}
@@ -30,7 +30,7 @@ first m at sound none = record {
   within = λ p lt. omega (arith, none p lt);
   size = length-replicate m.cells (pos 0);
   holds = λ cell lt. get_or-replicate m.cells cell (pos 0) (pos 0) lt ∙ sym (agree m cell (is_done m at) (in_front_of 0) (none_done m at cell 0 m.timeline (λ u k there. none k.owner (sound.owned u k there)))
-    ∙ sequential m cell 0 lt ∙ get_or-replicate m.cells cell (pos 0) (pos 0) lt);
+      ∙ sequential m cell 0 lt ∙ get_or-replicate m.cells cell (pos 0) (pos 0) lt);
   awaited = λ p i q n inside lt e. absurd (omega (arith, lt, none p inside));
 }
 
@@ -97,11 +97,11 @@ by_load m cells at after p t cell inside law e moves =
     let (j, here, among, more) = at_load m p (at p) t cell e in
     keeps m cells cells at after p (load t cell) inside law e moves law.size
     (still m cells at after p t law (record { from = here.from; to = here.to }) moves (λ k c there stores.
-      let is : Some (job j) ≡ Some (job k) = sym here.at ∙ there in
-      let equal : j ≡ k = cc in
-      let own : k.owner ≡ p = ap (λ (x : Job). x.owner) (sym equal) ∙ here.owner in
-      lt-leb (acts_in_front m k.owner (suc t)) (after k.owner) (subst (λ o. after o < acts_in_front m o (suc t)) (sym own) (omega (arith, moves.here, more)))
-      ∙ sym (lt-leb (acts_in_front m k.owner (suc t)) (at k.owner) (subst (λ o. at o < acts_in_front m o (suc t)) (sym own) (omega (arith, more)))))) (λ q n same. absurd (cc))
+    let is : Some (job j) ≡ Some (job k) = sym here.at ∙ there in
+    let equal : j ≡ k = cc in
+    let own : k.owner ≡ p = ap (λ (x : Job). x.owner) (sym equal) ∙ here.owner in
+    lt-leb (acts_in_front m k.owner (suc t)) (after k.owner) (subst (λ o. after o < acts_in_front m o (suc t)) (sym own) (omega (arith, moves.here, more)))
+    ∙ sym (lt-leb (acts_in_front m k.owner (suc t)) (at k.owner) (subst (λ o. at o < acts_in_front m o (suc t)) (sym own) (omega (arith, more)))))) (λ q n same. absurd (cc))
 
 -- an act of a boundary
 by_boundary : (m : Machine) (cells : List ℤ) (at after : ℕ → ℕ) (p t n : ℕ) (posts : ℕ → Bool) (awaits : ℕ → List ℕ) (a : Act) → p < m.workers → IsLawful m cells at → act_at m p (at p) ≡ Some a → Moves at after p (at p + 1) → Stands m p (at p) t →
@@ -138,10 +138,10 @@ by_print m cells at after p t inside law e moves =
     let (j, here, stores_none, end) = at_last m p (at p) t None (print t) f (tells p f.place f.index f.moment (print t) f.is) in
     keeps m cells cells at after p (print t) inside law e moves law.size
     (still m cells at after p t law (record { from = here.from; to = here.to }) moves (λ k c there stores.
-      let is : Some (job j) ≡ Some (job k) = sym here.at ∙ there in
-      let equal : j ≡ k = cc in
-      let none : k.store ≡ None = ap (λ (x : Job). x.store) (sym equal) ∙ stores_none in
-      absurd (true≢false (sym stores ∙ ap (λ o. stores_to o c) none)))) (λ q n same. absurd (cc))
+    let is : Some (job j) ≡ Some (job k) = sym here.at ∙ there in
+    let equal : j ≡ k = cc in
+    let none : k.store ≡ None = ap (λ (x : Job). x.store) (sym equal) ∙ stores_none in
+    absurd (true≢false (sym stores ∙ ap (λ o. stores_to o c) none)))) (λ q n same. absurd (cc))
 
 pub by_store : (m : Machine) (cells : List ℤ) (at after : ℕ → ℕ) (p t cell : ℕ) → p < m.workers → IsSound m → IsOrdered m → IsLawful m cells at → act_at m p (at p) ≡ Some (store t cell) → Moves at after p (at p + 1) →
     IsLawful m (slice_set cells cell (stored_at m p (at p))) after
@@ -188,9 +188,9 @@ ended m cells at sound law end cell lt =
     let n = length m.timeline in
     law.holds cell lt
     ∙ agree m cell (is_done m at) (in_front_of n) (λ u k there stores.
-      let within = slice_get_within m.timeline u (job k) there in
-      let rise = in_front-rises m k.owner (suc u) n (omega (arith, within)) in
-      let whole : acts_in_front m k.owner n ≡ length (acts_of m k.owner) = ap (λ xs. length (acts_from k.owner 0 xs)) (take_all n m.timeline (omega arith)) in
-      le-leb (acts_in_front m k.owner (suc u)) (at k.owner) (omega (arith, rise, whole, end k.owner (sound.owned u k there))) ∙ sym (lt-ltb u n within))
+    let within = slice_get_within m.timeline u (job k) there in
+    let rise = in_front-rises m k.owner (suc u) n (omega (arith, within)) in
+    let whole : acts_in_front m k.owner n ≡ length (acts_of m k.owner) = ap (λ xs. length (acts_from k.owner 0 xs)) (take_all n m.timeline (omega arith)) in
+    le-leb (acts_in_front m k.owner (suc u)) (at k.owner) (omega (arith, rise, whole, end k.owner (sound.owned u k there))) ∙ sym (lt-ltb u n within))
     ∙ sequential m cell n lt
     ∙ ap (λ xs. cell_value (fold memory_behind (replicate m.cells (pos 0)) xs) cell) (take_all n m.timeline (omega arith))

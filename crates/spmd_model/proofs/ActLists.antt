@@ -1,12 +1,12 @@
 -- Where a processor's acts stand along the timeline.
-use Rattle.std.proofs.Common.{◌≡◌, ℕ, zero, suc, ◌+◌, ◌-◌, ◌<◌, ◌≤◌, List, [], ◌∷◌, ◌++◌, length, take, drop, Option, Some, None, refl, ap, sym, subst, ◌∙◌, inl, inr, arith, length-append, zero-add}
+use Rattle.std.proofs.Common.{◌≡◌, ℕ, zero, suc, ◌+◌, ◌-◌, ◌≤◌, List, [], ◌∷◌, ◌++◌, length, take, drop, Some, None, refl, ap, sym, subst, ◌∙◌, inl, inr, arith, length-append, zero-add}
 use Rattle.std.specs.Prelude.{slice_get}
 use Rattle.std.proofs.lemmas.Bool.{cases_lt}
 use Rattle.std.proofs.lemmas.List.{append-nil, append_assoc}
 use Rattle.std.proofs.lemmas.Option.{slice_get_within}
-use Rattle.spmd_model.specs.Timelines.{Act, Machine, Moment, moment_acts, acts_from, acts_of, act_at}
+use Rattle.spmd_model.specs.Timelines.{Act, Machine, Moment, moment_acts, acts_from, act_at}
 use Rattle.spmd_model.specs.Lawful.{acts_in_front}
-use Rattle.spmd_model.proofs.Lists.{get-behind, get-front, one_element}
+use Rattle.spmd_model.proofs.Lists.{get-behind, get-front}
 
 -- the acts of a moment stand between those of the moments in front of it and those behind
 pub acts_split : (p place : ℕ) (xs : List Moment) (t : ℕ) (x : Moment) (u : ℕ) → slice_get xs t ≡ Some x → place + t ≡ u →
@@ -80,15 +80,15 @@ found_from p place (y ∷ ys) n a e =
     let later = acts_from p (suc place) ys in
     elim (cases_lt n (length here)) [
       | inl inside ↦
-        let same : place ≡ place + 0 = omega arith in
-        record {
-          t = 0;
-          moment = y;
-          index = n;
-          at = refl;
-          number = omega arith;
-          is = subst (λ k. slice_get (moment_acts p k y) n ≡ Some a) same (sym (get-front here later n inside) ∙ e);
-        }
+          let same : place ≡ place + 0 = omega arith in
+          record {
+            t = 0;
+            moment = y;
+            index = n;
+            at = refl;
+            number = omega arith;
+            is = subst (λ k. slice_get (moment_acts p k y) n ≡ Some a) same (sym (get-front here later n inside) ∙ e);
+          }
       | inr past ↦
           let more : length here + (n - length here) ≡ n = omega (arith, past) in
           let rest = found_from p (suc place) ys (n - length here) a (sym (ap (slice_get (here ++ later)) (sym more) ∙ get-behind here later (n - length here)) ∙ e) in

@@ -1,14 +1,13 @@
 -- What chains of waits say of who has come where.
-use Rattle.std.proofs.Common.{◌≡◌, ◌≢◌, ℕ, suc, ◌+◌, ℤ, ◌<◌, ◌≤◌, Bool, true, false, List, [], ◌∷◌, length, Option, Some, None, refl, ap, sym, subst, ◌∙◌, inl, inr, ◌⊎◌, ⊎_elim, arith}
+use Rattle.std.proofs.Common.{◌≡◌, ℕ, suc, ◌+◌, ℤ, ◌<◌, ◌≤◌, Bool, List, [], ◌∷◌, Option, Some, None, refl, ap, sym, subst, ◌∙◌, ⊎_elim, arith}
 use Rattle.std.specs.Prelude.{slice_get}
 use Rattle.std.specs.List.{Contains}
 use Rattle.std.proofs.lemmas.Bool.{cases_eq, cases_lt}
 use Rattle.std.proofs.lemmas.Option.{slice_get_within}
-use Rattle.spmd_model.specs.Timelines.{Act, post, await, load, store, print, Job, Machine, Moment, boundary, job, act_at, moment_acts}
+use Rattle.spmd_model.specs.Timelines.{post, await, Job, Machine, Moment, boundary, job, act_at, moment_acts}
 use Rattle.spmd_model.specs.Ordered.{Conflict, Hop, IsChain, IsOrdered, IsSound, awaited_in, number_in}
-use Rattle.spmd_model.specs.Lawful.{IsLawful, IsPosted, acts_in_front}
-use Rattle.spmd_model.proofs.Lists.{one_element}
-use Rattle.spmd_model.proofs.ActLists.{Found, act_of_moment, found, in_front-more, in_front-rises}
+use Rattle.spmd_model.specs.Lawful.{IsLawful, acts_in_front}
+use Rattle.spmd_model.proofs.ActLists.{act_of_moment, found, in_front-more, in_front-rises}
 use Rattle.spmd_model.proofs.MomentActs.{IsPostIn, await_there, tells}
 
 -- boundaries with one number are one
@@ -67,8 +66,8 @@ pub earlier_done : (m : Machine) (cells : List ℤ) (at : ℕ → ℕ) (p t u : 
 earlier_done m cells at p t u j k sound ordered law here there lt conflict = ⊎_elim
     (λ same. let rise = in_front-rises m p (suc u) t (omega (arith, lt)) in subst (λ o. acts_in_front m o (suc u) ≤ at o) (sym (same ∙ here.owner)) (omega (arith, rise, here.from)))
     (λ apart.
-      let chain = ordered u t k j lt there here.at conflict apart in
-      chain_back m cells at k.owner u chain.0 j.owner t sound law chain.1 (subst (λ o. acts_in_front m o t ≤ at o) (sym here.owner) here.from)) (cases_eq k.owner j.owner)
+    let chain = ordered u t k j lt there here.at conflict apart in
+    chain_back m cells at k.owner u chain.0 j.owner t sound law chain.1 (subst (λ o. acts_in_front m o t ≤ at o) (sym here.owner) here.from)) (cases_eq k.owner j.owner)
 
 -- and the later ones are not
 pub later_not : (m : Machine) (cells : List ℤ) (at : ℕ → ℕ) (p t u : ℕ) (j k : Job) → IsSound m → IsOrdered m → IsLawful m cells at → IsAt m p (at p) t j → slice_get m.timeline u ≡ Some (job k) → t < u → Conflict j k →
@@ -79,8 +78,8 @@ later_not m cells at p t u j k sound ordered law here there lt conflict = ⊎_el
     never done = ⊎_elim
         (λ same. let rise = in_front-rises m p (suc t) (suc u) (omega (arith, lt)) in let mine : acts_in_front m p (suc u) ≤ at p = subst (λ o. acts_in_front m o (suc u) ≤ at o) (sym same ∙ here.owner) done in omega (arith, rise, mine, here.to))
         (λ apart.
-          let chain = ordered t u j k lt here.at there conflict apart in
-          let rise = in_front-rises m k.owner u (suc u) (omega arith) in
-          let past = chain_back m cells at j.owner t chain.0 k.owner u sound law chain.1 (omega (arith, rise, done)) in
-          let mine : acts_in_front m p (suc t) ≤ at p = subst (λ o. acts_in_front m o (suc t) ≤ at o) here.owner past in
-          omega (arith, mine, here.to)) (cases_eq j.owner k.owner)
+        let chain = ordered t u j k lt here.at there conflict apart in
+        let rise = in_front-rises m k.owner u (suc u) (omega arith) in
+        let past = chain_back m cells at j.owner t chain.0 k.owner u sound law chain.1 (omega (arith, rise, done)) in
+        let mine : acts_in_front m p (suc t) ≤ at p = subst (λ o. acts_in_front m o (suc t) ≤ at o) here.owner past in
+        omega (arith, mine, here.to)) (cases_eq j.owner k.owner)

@@ -1,14 +1,14 @@
 -- Counters: a processor's posts rise, and an awaited counter that has come to a number shows that its post is done.
-use Rattle.std.proofs.Common.{◌≡◌, ◌≢◌, ℕ, zero, suc, ◌+◌, ◌-◌, ◌<◌, ◌≤◌, ◌⊎◌, Bool, true, false, List, [], ◌∷◌, ◌++◌, length, take, fold, Option, Some, None, refl, ap, sym, subst, ◌∙◌, inl, inr, ⊎_elim, arith}
+use Rattle.std.proofs.Common.{◌≡◌, ◌≢◌, ℕ, zero, suc, ◌+◌, ◌<◌, ◌≤◌, ◌⊎◌, [], ◌∷◌, take, fold, Some, ap, sym, subst, ◌∙◌, inl, inr, ⊎_elim, arith}
 use Rattle.std.specs.Prelude.{slice_get}
 use Rattle.std.proofs.lemmas.Bool.{cases_eq, cases_lt}
 use Rattle.std.proofs.lemmas.List.Sums.{fold-append}
 use Rattle.std.proofs.lemmas.Option.{slice_get_cases, slice_get_within}
-use Rattle.spmd_model.specs.Timelines.{Act, post, await, load, store, print, Machine, Moment, boundary, job, act_at, acts_of}
+use Rattle.spmd_model.specs.Timelines.{Act, post, await, load, store, print, Machine, boundary, act_at, acts_of}
 use Rattle.spmd_model.specs.Ordered.{IsSound}
 use Rattle.spmd_model.specs.Lawful.{IsPosted, acts_in_front, counted, counter_at}
 use Rattle.spmd_model.proofs.Lists.{one_element, take-more, take_past}
-use Rattle.spmd_model.proofs.ActLists.{Found, act_of_moment, found, in_front-rises}
+use Rattle.spmd_model.proofs.ActLists.{act_of_moment, found, in_front-rises}
 use Rattle.spmd_model.proofs.MomentActs.{IsAwaitIn, IsPostIn, post_first, tells}
 use Rattle.spmd_model.proofs.Keeps.{stands}
 
@@ -17,8 +17,8 @@ pub counter_posted : (m : Machine) (q k : ℕ) → 0 < counter_at m q k → IsPo
 counter_posted m q zero some = absurd (omega (arith, some))
 counter_posted m q (suc k) some = elim ((slice_get_cases (acts_of m q) k).1) [
   | inl h ↦
-    let more : counter_at m q (suc k) ≡ counted (counter_at m q k) h.0 = ap (fold counted 0) (take-more (acts_of m q) k h.0 h.2) ∙ fold-append counted 0 (take k (acts_of m q)) (h.0 ∷ []) in
-    by (counter_posted m q k) h.0 h.2 more
+      let more : counter_at m q (suc k) ≡ counted (counter_at m q k) h.0 = ap (fold counted 0) (take-more (acts_of m q) k h.0 h.2) ∙ fold-append counted 0 (take k (acts_of m q)) (h.0 ∷ []) in
+      by (counter_posted m q k) h.0 h.2 more
   | inr h ↦ let same : counter_at m q (suc k) ≡ counter_at m q k = ap (fold counted 0) (take_past (acts_of m q) k h.0) in
       kept (counter_posted m q k) same
 ]
@@ -45,12 +45,12 @@ lower_in_front m q i j n l sound e g lt =
     let b : IsPostIn q h.index l h.moment = tells q h.place h.index h.moment (post l) h.is in
     ⊎_elim
     (λ less.
-      let rise = in_front-rises m q (suc f.place) h.place (omega (arith, less)) in
-      let here = stands m q i (post n) f in
-      omega (arith, rise, here.to, h.number))
+    let rise = in_front-rises m q (suc f.place) h.place (omega (arith, less)) in
+    let here = stands m q i (post n) f in
+    omega (arith, rise, here.to, h.number))
     (λ le. ⊎_elim
-      (λ same. let one : Some (boundary n a.posts a.awaits) ≡ Some (boundary l b.posts b.awaits) = sym (f.at ∙ ap Some a.moment) ∙ ap (slice_get m.timeline) (sym same) ∙ h.at ∙ ap Some b.moment in let equal : n ≡ l = cc in absurd (omega (arith, equal, lt)))
-      (λ other. absurd (omega (arith, sound.rising h.place f.place l n b.posts a.posts b.awaits a.awaits (omega (arith, le, other)) (h.at ∙ ap Some b.moment) (f.at ∙ ap Some a.moment), lt))) (cases_eq h.place f.place))
+    (λ same. let one : Some (boundary n a.posts a.awaits) ≡ Some (boundary l b.posts b.awaits) = sym (f.at ∙ ap Some a.moment) ∙ ap (slice_get m.timeline) (sym same) ∙ h.at ∙ ap Some b.moment in let equal : n ≡ l = cc in absurd (omega (arith, equal, lt)))
+    (λ other. absurd (omega (arith, sound.rising h.place f.place l n b.posts a.posts b.awaits a.awaits (omega (arith, le, other)) (h.at ∙ ap Some b.moment) (f.at ∙ ap Some a.moment), lt))) (cases_eq h.place f.place))
     (cases_lt f.place h.place)
 
 -- the post that is awaited
@@ -78,8 +78,8 @@ pub counter_reaches : (m : Machine) (q k l n : ℕ) → IsSound m → act_at m q
 counter_reaches m q zero l n sound e lt = absurd (omega (arith, lt))
 counter_reaches m q (suc k) l n sound e lt = elim ((slice_get_cases (acts_of m q) k).1) [
   | inl h ↦
-    let more : counter_at m q (suc k) ≡ counted (counter_at m q k) h.0 = ap (fold counted 0) (take-more (acts_of m q) k h.0 h.2) ∙ fold-append counted 0 (take k (acts_of m q)) (h.0 ∷ []) in
-    by (counter_reaches m q k l n sound e) h.0 h.2 more
+      let more : counter_at m q (suc k) ≡ counted (counter_at m q k) h.0 = ap (fold counted 0) (take-more (acts_of m q) k h.0 h.2) ∙ fold-append counted 0 (take k (acts_of m q)) (h.0 ∷ []) in
+      by (counter_reaches m q k l n sound e) h.0 h.2 more
   | inr h ↦
       let same : counter_at m q (suc k) ≡ counter_at m q k = ap (fold counted 0) (take_past (acts_of m q) k h.0) in
       let before = counter_reaches m q k l n sound e (omega (arith, slice_get_within (acts_of m q) l (post n) e, h.0)) in

@@ -1,17 +1,17 @@
 -- Outputs, and the states in which a run has ended.
-use Rattle.std.proofs.Common.{◌≡◌, ◌≢◌, ◌==◌, ℕ, zero, suc, ◌+◌, ◌<◌, ◌≤◌, ℤ, pos, Bool, true, false, true≢false, List, [], ◌∷◌, ◌++◌, length, map, take, drop, fold, replicate, Option, Some, None, refl, ap, sym, subst, ◌∙◌, inl, inr, ⊎_elim, arith, if◌then◌else◌, zero-add}
+use Rattle.std.proofs.Common.{◌≡◌, ◌==◌, ℕ, suc, ◌<◌, pos, Bool, true, false, true≢false, List, [], ◌∷◌, ◌++◌, length, map, take, drop, replicate, Option, Some, None, refl, ap, sym, ◌∙◌, inl, inr, arith, if◌then◌else◌, zero-add}
 use Rattle.std.specs.Prelude.{slice_get, slice_index}
 use Rattle.std.specs.List.{flat_map}
 use Rattle.std.proofs.lemmas.Bool.{cases_Bool, eq-eqb}
 use Rattle.nest_model.specs.Memory.{cell_value}
 use Rattle.std.proofs.lemmas.Grind.{flat_map-append}
 use Rattle.std.proofs.lemmas.List.{append-nil, ext_get_or, length-replicate, take-append-drop, take_all}
-use Rattle.spmd_model.specs.Timelines.{Act, post, await, load, store, print, Job, Machine, Moment, boundary, job, boundary_acts, job_acts, last_act, moment_acts, acts_from, acts_of}
+use Rattle.spmd_model.specs.Timelines.{await, load, Job, Machine, Moment, boundary, job, boundary_acts, job_acts, last_act, moment_acts, acts_from, acts_of}
 use Rattle.spmd_model.specs.States.{State, IsEnded, line_by}
-use Rattle.spmd_model.specs.Sequential.{given_at, last_memory, loads_by, memory_at, memory_behind, moment_line, output_along, printed_line, whole_output}
+use Rattle.spmd_model.specs.Sequential.{given_at, last_memory, loads_by, memory_at, moment_line, output_along, printed_line, whole_output}
 use Rattle.spmd_model.specs.Ordered.{IsSound}
 use Rattle.spmd_model.specs.Lawful.{act_line, printed_at}
-use Rattle.spmd_model.specs.Reached.{HasCome, IsSequential, positions_of}
+use Rattle.spmd_model.specs.Reached.{IsSequential, positions_of}
 use Rattle.spmd_model.proofs.LastValues.{StandsFrom, folded_size, memory_more, stands_here, stands_later}
 use Rattle.spmd_model.proofs.ActLaws.{ended}
 
@@ -38,11 +38,11 @@ moment_prints : (m : Machine) (t : ℕ) (x : Moment) → IsSound m → slice_get
 moment_prints m t (boundary n posts awaits) sound at = silent_boundary m n (posts 0) (awaits 0)
 moment_prints m t (job j) sound at = elim (cases_Bool (j.owner == 0)) [
   | inl own ↦
-    ap (λ b. flat_map (act_line m) (if b then job_acts t j else [])) own
-    ∙ flat_map-append (act_line m) (map (load t) j.loads) (last_act t j.store ∷ [])
-    ∙ ap (λ l. l ++ flat_map (act_line m) (last_act t j.store ∷ [])) (silent_loads m t j.loads)
-    ∙ last_line m t j j.store at
-    ∙ ap (λ o. printed_line j j.store (map (cell_value (memory_at m t)) (loads_by o))) at
+      ap (λ b. flat_map (act_line m) (if b then job_acts t j else [])) own
+      ∙ flat_map-append (act_line m) (map (load t) j.loads) (last_act t j.store ∷ [])
+      ∙ ap (λ l. l ++ flat_map (act_line m) (last_act t j.store ∷ [])) (silent_loads m t j.loads)
+      ∙ last_line m t j j.store at
+      ∙ ap (λ o. printed_line j j.store (map (cell_value (memory_at m t)) (loads_by o))) at
   | inr other ↦ ap (λ b. flat_map (act_line m) (if b then job_acts t j else [])) other ∙ sym (silent other j.store refl)
 ]
   where

@@ -1,21 +1,19 @@
 -- What lawful places keep, act by act.
-use Rattle.std.proofs.Common.{◌≡◌, ◌≢◌, ◌==◌, ◌&&◌, nat_le, nat_lt, ℕ, zero, suc, ◌+◌, ◌<◌, ◌≤◌, ◌⊎◌, ℤ, pos, Bool, true, false, true≢false, List, [], ◌∷◌, ◌++◌, length, map, replicate, Option, Some, None, refl, ap, sym, subst, ◌∙◌, inl, inr, ⊎_elim, arith, zero-add}
-use Rattle.std.specs.Prelude.{slice_get, slice_set}
+use Rattle.std.proofs.Common.{◌≡◌, ◌≢◌, nat_le, ℕ, suc, ◌+◌, ◌<◌, ◌≤◌, ℤ, true, true≢false, List, [], ◌∷◌, ◌++◌, length, map, Option, Some, None, ap, sym, subst, ◌∙◌, inl, inr, ⊎_elim, arith}
+use Rattle.std.specs.Prelude.{slice_get}
 use Rattle.std.specs.List.{Contains}
 use Rattle.std.specs.Option.{option_to_list}
-use Rattle.std.proofs.lemmas.Bool.{cases_Bool, cases_eq, cases_lt, eqb-true, le-leb, lt-leb, lt-ltb, le-ltb}
-use Rattle.std.proofs.lemmas.List.{get_or-replicate, length-append, length-map, length-replicate, length-set}
+use Rattle.std.proofs.lemmas.Bool.{cases_eq, cases_lt, eqb-true, le-leb, lt-leb, lt-ltb, le-ltb}
+use Rattle.std.proofs.lemmas.List.{length-append, length-map}
 use Rattle.std.proofs.lemmas.Option.{slice_get_within}
-use Rattle.nest_model.specs.Memory.{cell_value}
-use Rattle.spmd_model.specs.Timelines.{Act, post, await, load, store, print, Job, Machine, Moment, boundary, job, act_at, acts_of, last_act, moment_acts}
-use Rattle.spmd_model.specs.Sequential.{memory_at, value_at}
-use Rattle.spmd_model.specs.Ordered.{Conflict, IsOrdered, IsSound, cells_of}
-use Rattle.spmd_model.specs.Lawful.{IsLawful, IsPosted, Moves, acts_in_front, is_done, last_value, last_value_where, stores_to}
+use Rattle.spmd_model.specs.Timelines.{Act, load, Job, Machine, job, act_at, acts_of, last_act, moment_acts}
+use Rattle.spmd_model.specs.Ordered.{IsOrdered, IsSound, cells_of}
+use Rattle.spmd_model.specs.Lawful.{IsLawful, Moves, acts_in_front, is_done, stores_to}
 use Rattle.spmd_model.proofs.Lists.{contains_at, get-behind, get-front}
-use Rattle.spmd_model.proofs.ActLists.{Found, found, in_front-more, in_front-rises}
-use Rattle.spmd_model.proofs.MomentActs.{IsAwaitIn, IsLastIn, IsLoadIn, IsPostIn, own_acts, tells}
+use Rattle.spmd_model.proofs.ActLists.{Found, in_front-more, in_front-rises}
+use Rattle.spmd_model.proofs.MomentActs.{own_acts}
 use Rattle.spmd_model.proofs.Chains.{IsAt, earlier_done, later_not}
-use Rattle.spmd_model.proofs.LastValues.{Agree, agree, cell_set, in_front_of, memory_size, sequential}
+use Rattle.spmd_model.proofs.LastValues.{Agree, in_front_of}
 
 -- ---- where a processor stands
 
@@ -43,13 +41,13 @@ within_acts m p n a e = slice_get_within (acts_of m p) n a e
 pub same_elsewhere : (m : Machine) (at after : ℕ → ℕ) (p t u : ℕ) (k : Job) → Stands m p (at p) t → Moves at after p (at p + 1) → slice_get m.timeline u ≡ Some (job k) → u ≢ t → is_done m after u k ≡ is_done m at u k
 same_elsewhere m at after p t u k here moves there apart = elim (cases_eq k.owner p) [
   | inl own ↦
-    let now : at k.owner ≡ at p = ap at own in
-    let then_is : after k.owner ≡ at p + 1 = ap after own ∙ moves.here in
-    let end : acts_in_front m k.owner (suc u) ≡ acts_in_front m p (suc u) = ap (λ o. acts_in_front m o (suc u)) own in
-    ⊎_elim
-    (λ lt. let rise = in_front-rises m p (suc u) t (omega (arith, lt)) in
+      let now : at k.owner ≡ at p = ap at own in
+      let then_is : after k.owner ≡ at p + 1 = ap after own ∙ moves.here in
+      let end : acts_in_front m k.owner (suc u) ≡ acts_in_front m p (suc u) = ap (λ o. acts_in_front m o (suc u)) own in
+      ⊎_elim
+      (λ lt. let rise = in_front-rises m p (suc u) t (omega (arith, lt)) in
       le-leb (acts_in_front m k.owner (suc u)) (after k.owner) (omega (arith, end, then_is, rise, here.from)) ∙ sym (le-leb (acts_in_front m k.owner (suc u)) (at k.owner) (omega (arith, end, now, rise, here.from))))
-    (λ le. let later : t < u = after_it le in let rise = in_front-rises m p (suc t) u (omega (arith, later)) in let acts = some_acts m p u k there own in
+      (λ le. let later : t < u = after_it le in let rise = in_front-rises m p (suc t) u (omega (arith, later)) in let acts = some_acts m p u k there own in
       lt-leb (acts_in_front m k.owner (suc u)) (after k.owner) (omega (arith, end, then_is, rise, acts, here.to)) ∙ sym (lt-leb (acts_in_front m k.owner (suc u)) (at k.owner) (omega (arith, end, now, rise, acts, here.to)))) (cases_lt u t)
   | inr other ↦ ap (nat_le (acts_in_front m k.owner (suc u))) (moves.others k.owner other)
 ]
@@ -82,9 +80,9 @@ agrees_in_front m cells at p t cell j sound ordered law here among u k there sto
     not_done : t ≤ u → at k.owner < acts_in_front m k.owner (suc u)
     not_done le = ⊎_elim
         (λ same.
-          let is : Some (job j) ≡ Some (job k) = sym here.at ∙ ap (slice_get m.timeline) same ∙ there in
-          let equal : j ≡ k = cc in
-          let owner : k.owner ≡ p = ap (λ (x : Job). x.owner) (sym equal) ∙ here.owner in
-          subst (λ o. at o < acts_in_front m o (suc u)) (sym owner) (subst (λ x. at p < acts_in_front m p (suc x)) same here.to))
+        let is : Some (job j) ≡ Some (job k) = sym here.at ∙ ap (slice_get m.timeline) same ∙ there in
+        let equal : j ≡ k = cc in
+        let owner : k.owner ≡ p = ap (λ (x : Job). x.owner) (sym equal) ∙ here.owner in
+        subst (λ o. at o < acts_in_front m o (suc u)) (sym owner) (subst (λ x. at p < acts_in_front m p (suc x)) same here.to))
         (λ apart. later_not m cells at p t u j k sound ordered law here there (omega (arith, le, apart)) (record { cell = cell; first = among; second = stores_cell k cell (store_is k.store cell stores); stored = inr (store_is k.store cell stores) }))
         (cases_eq t u)

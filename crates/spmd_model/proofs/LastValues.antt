@@ -1,6 +1,6 @@
 -- The value that was stored last to a cell.
-use Rattle.std.proofs.Common.{◌≡◌, ◌≢◌, ◌==◌, ◌&&◌, nat_lt, ℕ, zero, suc, ◌+◌, ◌<◌, ◌≤◌, ℤ, pos, Bool, true, false, true≢false, List, [], ◌∷◌, length, map, replicate, take, drop, fold, Option, Some, None, refl, ap, sym, subst, ◌∙◌, inl, inr, ⊎_elim, arith, if◌then◌else◌, zero-add}
-use Rattle.std.specs.Prelude.{slice_get, slice_index_or, slice_set}
+use Rattle.std.proofs.Common.{◌≡◌, ◌==◌, ◌&&◌, nat_lt, ℕ, zero, suc, ◌+◌, ◌<◌, ◌≤◌, ℤ, pos, Bool, true, false, true≢false, List, [], ◌∷◌, length, map, replicate, take, fold, Option, Some, None, refl, ap, sym, ◌∙◌, inl, inr, arith, if◌then◌else◌, zero-add}
+use Rattle.std.specs.Prelude.{slice_get, slice_set}
 use Rattle.std.proofs.lemmas.Bool.{cases_Bool, eq-eqb, eqb-true, lt-ltb, le-ltb}
 use Rattle.std.proofs.lemmas.Grind.{get_or-set_at}
 use Rattle.std.proofs.lemmas.List.{get_or-replicate, get_or-set_other, length-replicate, length-set}
@@ -8,7 +8,7 @@ use Rattle.std.proofs.lemmas.List.Sums.{fold-append}
 use Rattle.nest_model.specs.Memory.{cell_value, with_store}
 use Rattle.spmd_model.specs.Timelines.{Job, Machine, Moment, boundary, job}
 use Rattle.spmd_model.specs.States.{assigned_by}
-use Rattle.spmd_model.specs.Sequential.{given_at, loads_by, memory_at, memory_behind, value_at}
+use Rattle.spmd_model.specs.Sequential.{loads_by, memory_at, memory_behind, value_at}
 use Rattle.spmd_model.specs.Lawful.{last_value_from, last_value_where, stores_to}
 use Rattle.spmd_model.proofs.Lists.{take-more}
 
@@ -61,8 +61,8 @@ none_later m t cell place (job j ∷ rest) v le =
 pub cell_set : (memory : List ℤ) (c cell : ℕ) (v : ℤ) → cell < length memory → cell_value (slice_set memory c v) cell ≡ (if c == cell then v else cell_value memory cell)
 cell_set memory c cell v lt = elim (cases_Bool (c == cell)) [
   | inl equal ↦
-    let same : c ≡ cell = eqb-true c cell equal in
-    get_or-set_at memory c cell v (pos 0) (sym same) (omega (arith, same, lt)) ∙ sym (ap (λ b. if b then v else cell_value memory cell) equal)
+      let same : c ≡ cell = eqb-true c cell equal in
+      get_or-set_at memory c cell v (pos 0) (sym same) (omega (arith, same, lt)) ∙ sym (ap (λ b. if b then v else cell_value memory cell) equal)
   | inr other ↦ get_or-set_other memory c cell v (pos 0) (λ e. absurd (true≢false (sym (eq-eqb c cell (sym e)) ∙ other))) ∙ sym (ap (λ b. if b then v else cell_value memory cell) other)
 ]
 

@@ -1,12 +1,12 @@
 -- Which moment an act is of, by its kind.
-use Rattle.std.proofs.Common.{◌≡◌, ◌==◌, ℕ, zero, suc, ◌+◌, ◌-◌, ◌<◌, ◌≤◌, Bool, true, false, List, [], ◌∷◌, ◌++◌, length, map, Option, Some, None, refl, ap, sym, subst, ◌∙◌, inl, inr, arith, if◌then◌else◌}
+use Rattle.std.proofs.Common.{◌≡◌, ◌==◌, ℕ, zero, suc, ◌+◌, ◌-◌, Bool, true, List, [], ◌∷◌, ◌++◌, length, map, Option, Some, None, refl, ap, sym, subst, ◌∙◌, inl, inr, arith, if◌then◌else◌}
 use Rattle.std.specs.Prelude.{slice_get}
 use Rattle.std.specs.List.{Contains}
 use Rattle.std.specs.Option.{option_map}
 use Rattle.std.proofs.lemmas.Bool.{cases_Bool, cases_lt, eqb-true, eq-eqb}
 use Rattle.std.proofs.lemmas.Option.{slice_get-map}
 use Rattle.std.proofs.lemmas.List.{length-map}
-use Rattle.spmd_model.specs.Timelines.{Act, post, await, load, store, print, Job, Machine, Moment, boundary, job, boundary_acts, job_acts, last_act, moment_acts}
+use Rattle.spmd_model.specs.Timelines.{Act, post, await, load, store, print, Job, Moment, boundary, job, boundary_acts, job_acts, last_act, moment_acts}
 use Rattle.spmd_model.proofs.Lists.{contains_at, get-behind, get-front, place_of}
 
 -- ---- one kind each

@@ -1,10 +1,8 @@
 -- The sequential values along a plan's timeline are those of its program.
-use Rattle.std.proofs.Common.{◌≡◌, ℕ, zero, suc, ◌+◌, ◌<◌, ◌≤◌, ℤ, pos, List, [], ◌∷◌, ◌++◌, length, map, take, fold, replicate, Option, Some, None, refl, ap, sym, subst, ◌∙◌, arith}
-use Rattle.std.specs.Prelude.{slice_get}
+use Rattle.std.proofs.Common.{◌≡◌, ℕ, zero, suc, ◌+◌, ℤ, List, [], ◌∷◌, ◌++◌, map, take, fold, refl, ap, sym, ◌∙◌, arith}
 use Rattle.std.proofs.lemmas.List.{map-append, take-map}
-use Rattle.nest_tree.specs.Layout.{cell_count}
 use Rattle.nest_tree.specs.Tree.{Work, assign, print, Tree, param_values}
-use Rattle.nest_model.specs.Instances.{Instance, instances}
+use Rattle.nest_model.specs.Instances.{Instance}
 use Rattle.nest_model.specs.Memory.{cell_value, with_store, memory_after, memory_before, output_from, output_of, line_of, loaded_in, printed_text, first_memory}
 use Rattle.nest_model.specs.Accesses.{work_store}
 use Rattle.nest_model.specs.Memory as Model
@@ -12,9 +10,9 @@ use Rattle.nest_model.specs.Visits.{Visit}
 use Rattle.owner_partition.specs.Phases.{Execution, executions, executions_from, phase_instances, phases}
 use Rattle.owner_partition.proofs.Instances.{all_executed}
 use Rattle.sync_plan.specs.declared.plan.Plan.{Plan}
-use Rattle.spmd_model.specs.Timelines.{Job, Machine, Moment, boundary, job}
-use Rattle.spmd_model.specs.Planned.{boundary_of, is_job, job_count, job_of, jobs_in_front, jobs_of, machine_of, timeline_from, timeline_of}
-use Rattle.spmd_model.specs.Sequential.{last_memory, memory_at, memory_behind, moment_line, output_along, printed_line, whole_output}
+use Rattle.spmd_model.specs.Timelines.{Job, Moment, boundary, job}
+use Rattle.spmd_model.specs.Planned.{job_count, job_of, jobs_in_front, jobs_of, machine_of, timeline_from, timeline_of}
+use Rattle.spmd_model.specs.Sequential.{last_memory, memory_at, memory_behind, output_along, printed_line, whole_output}
 
 -- the jobs among moments
 abbrev jobs_in : List Moment → List Job

@@ -1,17 +1,17 @@
 -- Where the boundaries and the instances of a plan stand on its timeline.
-use Rattle.std.proofs.Common.{◌≡◌, ◌≢◌, ◌==◌, ℕ, zero, suc, ◌+◌, ◌-◌, ◌<◌, ◌≤◌, ◌⊎◌, ℤ, Bool, true, false, List, [], ◌∷◌, ◌++◌, length, map, take, Option, Some, None, refl, ap, sym, subst, ◌∙◌, inl, inr, ⊎_elim, arith, length-append}
+use Rattle.std.proofs.Common.{◌≡◌, ℕ, zero, suc, ◌+◌, ◌-◌, ◌<◌, ◌≤◌, List, [], ◌∷◌, ◌++◌, length, map, take, Some, None, refl, ap, sym, ◌∙◌, inl, inr, arith, length-append}
 use Rattle.std.specs.Prelude.{slice_get}
 use Rattle.std.proofs.lemmas.Bool.{cases_lt}
 use Rattle.std.proofs.lemmas.List.{length-map, take-append-le, take_all}
-use Rattle.std.proofs.lemmas.Option.{slice_get-map, slice_get_within}
+use Rattle.std.proofs.lemmas.Option.{slice_get-map}
 use Rattle.std.specs.Option.{option_map}
 use Rattle.nest_tree.specs.Tree.{Tree, param_values}
 use Rattle.nest_model.specs.Instances.{Instance}
 use Rattle.nest_model.specs.Visits.{Visit}
-use Rattle.owner_partition.specs.Phases.{Execution, executions, executions_from, phase_instances, phases}
+use Rattle.owner_partition.specs.Phases.{Execution, executions_from, phase_instances}
 use Rattle.sync_plan.specs.declared.plan.Plan.{Plan}
-use Rattle.spmd_model.specs.Timelines.{Job, Machine, Moment, boundary, job}
-use Rattle.spmd_model.specs.Planned.{boundary_of, is_job, job_count, job_of, jobs_of, timeline_from, timeline_of}
+use Rattle.spmd_model.specs.Timelines.{Job, Moment, job}
+use Rattle.spmd_model.specs.Planned.{boundary_of, is_job, job_count, job_of, jobs_of, timeline_from}
 use Rattle.spmd_model.proofs.Lists.{get-behind, get-front, take-behind}
 
 -- where the boundary of a phase stands, by how many phases are in front of it
@@ -84,20 +84,20 @@ executed tree plan e (v ∷ vs) (suc t) j at =
     let first_count : length first ≡ length is = length-map is here in
     elim (cases_lt t (length jobs)) [
       | inl inside ↦
-        let there = job_there f is t j (sym (get-front jobs later t inside) ∙ at) in
-        let x = here there.0 in
-        record {
-          number = t;
-          execution = x;
-          at = get-front first (executions_from (param_values tree) (suc e) vs) t (omega (arith, inside, as_many, first_count)) ∙ slice_get-map here is t ∙ ap (option_map here) there.1;
-          is = there.2;
-          counted = let c = ap job_count (take-append-le t jobs later (omega (arith, inside))) ∙ all_jobs f is t (omega (arith, inside, as_many)) in omega (arith, c);
-          phase = 0;
-          phase_is = omega arith;
-          within = omega arith;
-          behind = omega arith;
-          in_front = omega (arith, inside, length-append jobs []);
-        }
+          let there = job_there f is t j (sym (get-front jobs later t inside) ∙ at) in
+          let x = here there.0 in
+          record {
+            number = t;
+            execution = x;
+            at = get-front first (executions_from (param_values tree) (suc e) vs) t (omega (arith, inside, as_many, first_count)) ∙ slice_get-map here is t ∙ ap (option_map here) there.1;
+            is = there.2;
+            counted = let c = ap job_count (take-append-le t jobs later (omega (arith, inside))) ∙ all_jobs f is t (omega (arith, inside, as_many)) in omega (arith, c);
+            phase = 0;
+            phase_is = omega arith;
+            within = omega arith;
+            behind = omega arith;
+            in_front = omega (arith, inside, length-append jobs []);
+          }
       | inr past ↦
           let more : length jobs + (t - length jobs) ≡ t = omega (arith, past) in
           let rest = executed tree plan (suc e) vs (t - length jobs) j (sym (ap (slice_get (jobs ++ later)) (sym more) ∙ get-behind jobs later (t - length jobs)) ∙ at) in

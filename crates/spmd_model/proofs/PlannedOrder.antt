@@ -1,21 +1,18 @@
 -- An ordered plan has an ordered timeline.
-use Rattle.std.proofs.Common.{◌≡◌, ◌≢◌, ◌==◌, ℕ, zero, suc, ◌+◌, ◌-◌, ◌<◌, ◌≤◌, ◌⊎◌, Bool, true, false, cond, List, [], ◌∷◌, ◌++◌, length, map, take, get_or, Option, Some, None, refl, ap, sym, subst, ◌∙◌, inl, inr, ⊎_elim, arith}
+use Rattle.std.proofs.Common.{◌≡◌, ℕ, zero, suc, ◌+◌, ◌-◌, ◌<◌, ◌≤◌, Bool, true, false, cond, List, [], ◌∷◌, map, take, Option, Some, None, refl, ap, sym, subst, ◌∙◌, arith}
 use Rattle.std.specs.Prelude.{slice_get}
 use Rattle.std.specs.List.{Contains, filter, range_with_len}
-use Rattle.std.proofs.lemmas.Bool.{cases_Bool, cases_eq, cases_lt}
-use Rattle.std.proofs.lemmas.Option.{slice_get_within}
 use Rattle.nest_tree.specs.Tree.{Tree, param_values}
 use Rattle.nest_model.specs.Visits.{Visit}
 use Rattle.owner_partition.specs.Phases.{Execution, executions, phases}
 use Rattle.sync_plan.specs.declared.plan.Kind.{Kind}
 use Rattle.sync_plan.specs.declared.plan.Plan.{Plan}
 use Rattle.sync_plan.specs.Ordered.{IsOrdered as IsOrderedPlan, IsChain as IsPlanChain, Hop as PlanHop, awaited_in as awaited_in_plan, awaited_in_front, owner_under}
-use Rattle.sync_plan.specs.Waits.{awaited_behind, does_wait_at, kind_owner, waits_for}
-use Rattle.spmd_model.specs.Timelines.{Job, Machine, Moment, boundary, job}
+use Rattle.sync_plan.specs.Waits.{awaited_behind, does_wait_at, kind_owner}
+use Rattle.spmd_model.specs.Timelines.{Job, job}
 use Rattle.spmd_model.specs.Ordered.{Conflict, Hop, IsChain, IsOrdered, awaited_in, number_in}
-use Rattle.spmd_model.specs.Planned.{boundary_of, job_count, job_of, machine_of, timeline_from, timeline_of}
-use Rattle.spmd_model.proofs.Lists.{contains_at, place_of}
-use Rattle.spmd_model.proofs.PlannedMoments.{IsExecuted, boundary_place_from, boundary_rises, boundary_step, boundary_there, counts_rise, executed}
+use Rattle.spmd_model.specs.Planned.{boundary_of, job_count, job_of, machine_of, timeline_of}
+use Rattle.spmd_model.proofs.PlannedMoments.{boundary_place_from, boundary_rises, boundary_step, boundary_there, counts_rise, executed}
 
 -- ---- an awaited processor is one of the workers
 

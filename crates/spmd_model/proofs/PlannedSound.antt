@@ -1,9 +1,8 @@
 -- The boundaries of a plan's timeline: their numbers rise, and whoever is awaited there posts.
-use Rattle.std.proofs.Common.{◌≡◌, ◌≢◌, ◌==◌, ℕ, zero, suc, ◌+◌, ◌-◌, ◌<◌, ◌≤◌, ◌⊎◌, Bool, true, false, true≢false, cond, not, ◌&&◌, ◌||◌, List, [], ◌∷◌, ◌++◌, length, map, take, Option, Some, None, refl, ap, sym, subst, ◌∙◌, inl, inr, ⊎_elim, arith, length-append}
+use Rattle.std.proofs.Common.{◌≡◌, ℕ, zero, suc, ◌+◌, ◌-◌, ◌<◌, ◌≤◌, Bool, true, false, cond, ◌||◌, List, [], ◌∷◌, ◌++◌, length, map, take, Option, Some, None, refl, ap, sym, subst, ◌∙◌, inl, inr, ⊎_elim, arith, length-append}
 use Rattle.std.specs.Prelude.{slice_get}
 use Rattle.std.specs.List.{Contains, filter, list_any, range_with_len}
-use Rattle.std.proofs.lemmas.Bool.{cases_Bool, cases_eq, cases_lt}
-use Rattle.std.proofs.lemmas.List.{length-map}
+use Rattle.std.proofs.lemmas.Bool.{cases_eq, cases_lt}
 use Rattle.nest_tree.specs.Tree.{Tree, param_values}
 use Rattle.nest_model.specs.Instances.{Instance}
 use Rattle.nest_model.specs.Visits.{Visit}
@@ -11,7 +10,7 @@ use Rattle.owner_partition.specs.Phases.{Execution, phase_instances, phases}
 use Rattle.sync_plan.specs.declared.plan.Kind.{Kind}
 use Rattle.sync_plan.specs.declared.plan.Plan.{Plan}
 use Rattle.sync_plan.specs.Waits.{awaited_behind, does_wait_at, is_awaited_behind, kind_owner, posts_at, waits_for}
-use Rattle.spmd_model.specs.Timelines.{Job, Machine, Moment, boundary, job}
+use Rattle.spmd_model.specs.Timelines.{Job, boundary, job}
 use Rattle.spmd_model.specs.Planned.{boundary_of, job_of, jobs_of, timeline_from, timeline_of}
 use Rattle.std.specs.List.{All}
 use Rattle.std.proofs.lemmas.List.Elements.{All-get_or}
@@ -27,7 +26,7 @@ use Rattle.spmd_model.specs.Ordered.{IsOrdered, IsSound}
 use Rattle.spmd_model.specs.Planned.{machine_of}
 use Rattle.spmd_model.proofs.Lists.{get-behind, get-front}
 use Rattle.spmd_model.proofs.PlannedOrder.{ordered_along}
-use Rattle.spmd_model.proofs.PlannedMoments.{boundary_place_from, boundary_rises, boundary_step, executed}
+use Rattle.spmd_model.proofs.PlannedMoments.{boundary_place_from, boundary_rises, executed}
 
 -- a boundary on the timeline is that of a phase
 pub record IsBoundary (tree : Tree) (plan : Plan) (e : ℕ) (vs : List Visit) (t n : ℕ) (posts : ℕ → Bool) (awaits : ℕ → List ℕ) : Type 0 where

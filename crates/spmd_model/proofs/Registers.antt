@@ -1,16 +1,15 @@
 -- What a processor's loads gave in front of its acts.
-use Rattle.std.proofs.Common.{◌≡◌, ◌==◌, ℕ, zero, suc, ◌+◌, ℤ, Bool, true, false, List, [], ◌∷◌, ◌++◌, length, map, take, drop, fold, Option, Some, None, refl, ap, sym, subst, ◌∙◌, inl, inr, arith, if◌then◌else◌, zero-add}
+use Rattle.std.proofs.Common.{◌≡◌, ◌==◌, ℕ, suc, ◌+◌, ℤ, Bool, true, false, List, [], ◌∷◌, ◌++◌, length, map, take, drop, fold, Option, Some, None, refl, ap, sym, ◌∙◌, if◌then◌else◌, zero-add}
 use Rattle.std.specs.Prelude.{slice_get}
-use Rattle.std.proofs.lemmas.Bool.{cases_Bool}
 use Rattle.std.proofs.lemmas.List.{append-nil, append_assoc, length-map}
 use Rattle.std.proofs.lemmas.List.Sums.{fold-append}
 use Rattle.std.proofs.Math.Seq.{take-append_seam}
 use Rattle.nest_model.specs.Memory.{cell_value}
-use Rattle.spmd_model.specs.Timelines.{Act, post, await, load, store, print, Job, Machine, Moment, boundary, job, boundary_acts, job_acts, last_act, moment_acts, acts_from, acts_of, act_at}
+use Rattle.spmd_model.specs.Timelines.{await, load, store, print, Job, Machine, Moment, boundary, job, boundary_acts, job_acts, last_act, moment_acts, acts_from, acts_of, act_at}
 use Rattle.spmd_model.specs.Sequential.{given_at, loads_by, memory_at, registers_at, registers_behind, stored_at, stored_by, value_at}
 use Rattle.spmd_model.specs.Lawful.{acts_in_front}
 use Rattle.spmd_model.proofs.Lists.{take-behind}
-use Rattle.spmd_model.proofs.ActLists.{Found, acts_split, found}
+use Rattle.spmd_model.proofs.ActLists.{acts_split, found}
 use Rattle.spmd_model.proofs.MomentActs.{IsLastIn, own_acts, tells}
 
 -- a job's loads give their values one behind another, and its last act leaves none

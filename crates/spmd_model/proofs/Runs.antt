@@ -1,6 +1,6 @@
 -- Every state that a run comes to.
-use Rattle.std.proofs.Common.{◌≡◌, ◌≢◌, ℕ, zero, suc, ◌+◌, ◌<◌, ◌≤◌, ◌⊎◌, ℤ, pos, Bool, true, false, cond, nat_le, List, [], ◌∷◌, ◌++◌, length, take, set, fold, replicate, Option, Some, None, refl, ap, sym, subst, ◌∙◌, inl, inr, ⊎_elim, arith}
-use Rattle.std.specs.Prelude.{slice_get, slice_index, slice_index_or, slice_set}
+use Rattle.std.proofs.Common.{◌≡◌, ◌≢◌, ℕ, suc, ◌+◌, ◌<◌, ◌≤◌, ◌⊎◌, Bool, true, false, cond, List, [], ◌∷◌, ◌++◌, length, take, set, fold, replicate, Option, Some, None, refl, ap, sym, subst, ◌∙◌, inl, inr, ⊎_elim, arith}
+use Rattle.std.specs.Prelude.{slice_get, slice_index, slice_set}
 use Rattle.std.specs.List.{All, flat_map}
 use Rattle.std.proofs.lemmas.Bool.{cases_Bool, cases_eq, cases_lt, leb-true}
 use Rattle.std.proofs.lemmas.List.{append-nil, get_or-replicate, get_or-set_other, get_or-set_same, get_or_past, length-replicate, length-set}
@@ -8,14 +8,14 @@ use Rattle.std.proofs.lemmas.List.Elements.{All-head, All-tail}
 use Rattle.std.proofs.lemmas.Grind.{flat_map-append}
 use Rattle.std.proofs.lemmas.List.Sums.{fold-append}
 use Rattle.nest_model.specs.Memory.{cell_value}
-use Rattle.spmd_model.specs.Timelines.{Act, post, await, load, store, print, Job, Machine, Moment, boundary, job, act_at, acts_of}
+use Rattle.spmd_model.specs.Timelines.{Act, post, await, load, store, print, Machine, act_at, acts_of}
 use Rattle.spmd_model.specs.States.{State, acted, assigned_by, first_state, is_possible, line_by, moved, next_act, registers_of, run_of, stepped, stepped_by}
-use Rattle.spmd_model.specs.Sequential.{given_at, memory_at, registers_at, registers_behind, stored_at, stored_by}
+use Rattle.spmd_model.specs.Sequential.{registers_at, registers_behind, stored_at, stored_by}
 use Rattle.spmd_model.specs.Ordered.{IsOrdered, IsSound}
 use Rattle.spmd_model.specs.Lawful.{IsLawful, IsPosted, Moves, act_line, counted, counter_at, printed_at}
 use Rattle.spmd_model.specs.Reached.{HasCome, IsSequential, positions_of}
 use Rattle.spmd_model.proofs.Lists.{take-more}
-use Rattle.spmd_model.proofs.ActLists.{Found, found}
+use Rattle.spmd_model.proofs.ActLists.{found}
 use Rattle.spmd_model.proofs.MomentActs.{IsLastIn, tells}
 use Rattle.spmd_model.proofs.Registers.{print_whole}
 use Rattle.spmd_model.proofs.Keeps.{within_acts}
@@ -64,7 +64,7 @@ come_moved m s after p a lt come next moves count here others =
       ];
       counters = λ q below. elim (cases_eq q p) [
         | inl e ↦ subst (λ k. slice_index after.counters k ≡ counter_at m k (slice_index after.positions k)) (sym e)
-          (here ∙ ap (λ k. counted k a) (come.counters p lt) ∙ sym (counter_more m p (slice_index s.positions p) a next) ∙ ap (counter_at m p) (sym mine))
+            (here ∙ ap (λ k. counted k a) (come.counters p lt) ∙ sym (counter_more m p (slice_index s.positions p) a next) ∙ ap (counter_at m p) (sym mine))
         | inr ne ↦ others q ne ∙ come.counters q below ∙ ap (counter_at m q) (sym (theirs q ne))
       ];
     }

@@ -1,17 +1,17 @@
 -- No state is stuck: of the awaits that stand next, the one with the least number isn't in vain.
-use Rattle.std.proofs.Common.{◌≡◌, ◌≢◌, ℕ, zero, suc, ◌+◌, ◌-◌, ◌<◌, ◌≤◌, ◌⊎◌, Bool, true, false, nat_le, List, [], ◌∷◌, length, take, get_or, Option, Some, None, refl, ap, sym, subst, ◌∙◌, inl, inr, ⊎_elim, arith}
+use Rattle.std.proofs.Common.{◌≡◌, ℕ, zero, suc, ◌<◌, ◌≤◌, ◌⊎◌, true, nat_le, length, get_or, Option, Some, None, refl, ap, sym, subst, ◌∙◌, inl, inr, ⊎_elim, arith}
 use Rattle.std.specs.Prelude.{slice_get, slice_index}
 use Rattle.std.proofs.lemmas.Bool.{cases_Bool, cases_eq, cases_lt, leb-false}
 use Rattle.std.proofs.lemmas.Option.{slice_get-get_or, slice_get_within}
-use Rattle.spmd_model.specs.Timelines.{Act, post, await, load, store, print, Machine, Moment, boundary, job, act_at, acts_of, moment_acts}
+use Rattle.spmd_model.specs.Timelines.{Act, post, await, load, store, print, Machine, act_at, acts_of, moment_acts}
 use Rattle.spmd_model.specs.States.{State, IsEnded, is_possible, next_act}
 use Rattle.spmd_model.specs.Ordered.{IsSound}
-use Rattle.spmd_model.specs.Lawful.{acts_in_front, counter_at}
+use Rattle.spmd_model.specs.Lawful.{acts_in_front}
 use Rattle.spmd_model.specs.Reached.{CanGo, HasCome}
 use Rattle.spmd_model.proofs.ActLists.{Found, found, in_front-rises}
 use Rattle.spmd_model.proofs.MomentActs.{IsAwaitIn, IsPostIn, tells}
 use Rattle.spmd_model.proofs.Keeps.{stands}
-use Rattle.spmd_model.proofs.Counters.{awaited_post, lower_in_front, counter_reaches}
+use Rattle.spmd_model.proofs.Counters.{awaited_post, counter_reaches}
 
 -- where a processor's next act is an await of a number that isn't below n, or it has none left, its post of n is done
 passed_post : (m : Machine) (q k l n : ℕ) → IsSound m → act_at m q l ≡ Some (post n) → ((act_at m q k ≡ None) ⊎ ((o : ℕ) × (i : ℕ) × (act_at m q k ≡ Some (await o i)) × (n ≤ i))) → l < k
@@ -27,8 +27,8 @@ passed_post m q k l n sound e (inr (o, i, g, le)) =
     ⊎_elim
     (λ less. let rise = in_front-rises m q (suc f.place) h.place (omega (arith, less)) in let here = stands m q l (post n) f in omega (arith, rise, here.to, h.number))
     (λ more. ⊎_elim
-      (λ same. after_post m q l n k o i f h a b same)
-      (λ other. absurd (omega (arith, sound.rising h.place f.place i n b.posts a.posts b.awaits a.awaits (omega (arith, more, other)) (h.at ∙ ap Some b.moment) (f.at ∙ ap Some a.moment), le))) (cases_eq h.place f.place))
+    (λ same. after_post m q l n k o i f h a b same)
+    (λ other. absurd (omega (arith, sound.rising h.place f.place i n b.posts a.posts b.awaits a.awaits (omega (arith, more, other)) (h.at ∙ ap Some b.moment) (f.at ∙ ap Some a.moment), le))) (cases_eq h.place f.place))
     (cases_lt f.place h.place)
   where
     -- in one boundary the post stands in front of each await
@@ -58,8 +58,8 @@ unstuck m s sound come (suc fuel) p on n less lt next =
       | inr waiting ↦
           waits (next_act m s on) refl a.0
           (λ stops. let done = passed_post m on (slice_index s.positions on) a.1.0 n sound a.1.1 stops in
-            let enough = counter_reaches m on (slice_index s.positions on) a.1.0 n sound a.1.1 done in
-            absurd (omega (arith, enough, come.counters on a.0, leb-false n (slice_index s.counters on) waiting)))
+          let enough = counter_reaches m on (slice_index s.positions on) a.1.0 n sound a.1.1 done in
+          absurd (omega (arith, enough, come.counters on a.0, leb-false n (slice_index s.counters on) waiting)))
           (λ o i e less'. unstuck m s sound come fuel on o i (omega (arith, less, less')) a.0 e)
     ]
   where

@@ -1,9 +1,8 @@
 -- Lawful places: each cell holds the last value stored behind them, and whoever is awaited behind them has posted.
-use Rattle.std.specs.Prelude.{ℕ, suc, ◌+◌, ◌≡◌, ◌≢◌, ◌≤◌, ◌<◌, ◌⊎◌, ◌==◌, ◌&&◌, nat_le, ℤ, pos, Bool, false, List, [], ◌∷◌, ◌++◌, Option, Some, None, fold, length, slice_index, take, if◌then◌else◌}
+use Rattle.std.specs.Prelude.{ℕ, suc, ◌≡◌, ◌≢◌, ◌≤◌, ◌<◌, ◌⊎◌, ◌==◌, ◌&&◌, nat_le, ℤ, pos, Bool, false, List, [], ◌∷◌, Option, Some, None, fold, length, take, if◌then◌else◌}
 use Rattle.std.specs.List.{flat_map}
 use Rattle.nest_model.specs.Memory.{cell_value}
 use Rattle.spmd_model.specs.Timelines.{Act, post, await, load, store, print, Job, Machine, Moment, boundary, job, act_at, acts_from, acts_of}
-use Rattle.spmd_model.specs.States.{State}
 use Rattle.spmd_model.specs.Sequential.{given_at, value_at}
 use Rattle.spmd_model.specs.States.{line_by}
 use Rattle.std.specs.Prelude.{slice_get}

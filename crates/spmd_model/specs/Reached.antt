@@ -1,6 +1,6 @@
 -- What holds of every state that a run comes to.
-use Rattle.std.specs.Prelude.{ℕ, ◌≡◌, ◌≤◌, ◌<◌, ℤ, Bool, true, List, Option, Some, length, slice_index}
-use Rattle.spmd_model.specs.Timelines.{Act, Machine, act_at, acts_of}
+use Rattle.std.specs.Prelude.{ℕ, ◌≡◌, ◌≤◌, ◌<◌, true, Some, length, slice_index}
+use Rattle.spmd_model.specs.Timelines.{Act, Machine, acts_of}
 use Rattle.spmd_model.specs.States.{State, is_possible, next_act, registers_of}
 use Rattle.spmd_model.specs.Sequential.{registers_at}
 use Rattle.spmd_model.specs.Lawful.{IsLawful, counter_at, printed_at}

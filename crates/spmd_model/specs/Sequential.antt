@@ -1,8 +1,8 @@
 -- What one processor alone would compute along the timeline: memory in front of each place, what each load gives, each value, and the output.
-use Rattle.std.specs.Prelude.{ℕ, suc, ◌+◌, ℤ, pos, List, [], ◌∷◌, ◌++◌, Option, Some, None, fold, length, map, replicate, slice_get, slice_set, take}
+use Rattle.std.specs.Prelude.{ℕ, ℤ, pos, List, [], ◌∷◌, ◌++◌, Option, Some, None, fold, map, replicate, slice_get, take}
 use Rattle.nest_model.specs.Memory.{cell_value, with_store}
 use Rattle.spmd_model.specs.Timelines.{Act, post, await, load, store, print, Job, Machine, Moment, boundary, job, act_at, acts_of}
-use Rattle.spmd_model.specs.States.{assigned_by, line_by}
+use Rattle.spmd_model.specs.States.{assigned_by}
 
 -- memory behind a moment
 abbrev pub memory_behind : List ℤ → Moment → List ℤ

@@ -1,7 +1,7 @@
 -- The states of a machine, one step of one processor, and the run of a schedule.
 use Rattle.std.specs.Prelude.{ℕ, ◌+◌, ◌≡◌, ◌<◌, ℤ, pos, Bool, true, nat_le, List, [], ◌∷◌, ◌++◌, Option, Some, None, length, fold, replicate, slice_get, slice_index, slice_index_or, slice_set, if◌then◌else◌}
 use Rattle.nest_model.specs.Memory.{cell_value}
-use Rattle.spmd_model.specs.Timelines.{Act, post, await, load, store, print, Job, Machine, Moment, boundary, job, act_at, acts_of}
+use Rattle.spmd_model.specs.Timelines.{Act, post, await, load, store, print, Machine, Moment, boundary, job, act_at, acts_of}
 
 -- per processor how many of its acts are done, what its loads gave since its last store or PRINT, and its counter; one memory; one output
 pub record State : Type 0 where

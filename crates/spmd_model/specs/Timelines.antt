@@ -1,5 +1,5 @@
 -- What stands on the timeline of a run, in sequential order, and the acts of each processor along it.
-use Rattle.std.specs.Prelude.{ℕ, suc, ◌==◌, ℤ, Bool, List, [], ◌∷◌, ◌++◌, length, map, Option, Some, None, slice_get, if◌then◌else◌}
+use Rattle.std.specs.Prelude.{ℕ, suc, ◌==◌, ℤ, Bool, List, [], ◌∷◌, ◌++◌, map, Option, Some, None, slice_get, if◌then◌else◌}
 
 -- what is executed once by one processor: it loads cells, and then stores a value that it computes from what they gave, or prints a line; a cell where there is none holds 0
 pub record Job : Type 0 where
