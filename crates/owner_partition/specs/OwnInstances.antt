@@ -1,10 +1,12 @@
 -- What own iterations ask of an anchor, and the values of a loop's own trips.
-use Rattle.std.specs.Prelude.{ℕ, ◌==◌, ℤ, pos, Bool, true, List, [], ◌∷◌, if◌then◌else◌, ◌≡◌, refl}
+use Rattle.std.specs.Prelude.{ℕ, ◌==◌, ℤ, pos, negsuc, Bool, true, List, [], ◌∷◌, if◌then◌else◌, ◌≡◌, refl}
 use Rattle.std.specs.List.{filter}
 use Rattle.nest_tree.specs.Form.{Form, reach_within}
 use Rattle.nest_tree.specs.Tree.{Head, Statement, do_loop, work, continue}
 use Rattle.nest_model.specs.Instances.{head_trips, with_loop}
 use Rattle.owner_partition.specs.declared.anchor.Anchor.{Anchor}
+use Rattle.owner_partition.specs.declared.anchor.Dist.{Dist}
+use Rattle.owner_partition.specs.declared.anchor.Dist.TheVariants.{Block, Cyclic}
 use Rattle.owner_partition.specs.Owners.{anchor_owner}
 
 -- a form names no loop inside that of a phase: those have greater numbers
@@ -28,3 +30,22 @@ own_values params a workers p head loops = filter (λ v. is_owned params a worke
 
 pub coefficient_of-example : coefficient_of ((1, pos 2) ∷ (3, pos 5) ∷ []) 3 ≡ pos 5
 coefficient_of-example = refl
+
+-- DO 10 I = 2, 9 and the place I - 2 among three workers: in blocks of 3 processor 2 has I = 8 and 9, in turn it has 4 and 7; DO 10 I = 5, 1 has no trip
+abbrev fixed : ℤ → Form
+fixed z = record { constant = z; loops = []; params = [] }
+
+abbrev behind_two : Dist → Anchor
+behind_two dist = record { form = record { constant = negsuc 1; loops = (1, pos 1) ∷ []; params = [] }; dist = dist }
+
+abbrev from_to : ℤ → ℤ → Head
+from_to m1 m2 = record { number = 1; m1 = fixed m1; m2 = fixed m2; step = pos 1; line = 1 }
+
+pub own_values-block : own_values [] (behind_two (Block 3)) 3 2 (from_to (pos 2) (pos 9)) (pos 0 ∷ []) ≡ pos 8 ∷ pos 9 ∷ []
+own_values-block = refl
+
+pub own_values-cyclic : own_values [] (behind_two Cyclic) 3 2 (from_to (pos 2) (pos 9)) (pos 0 ∷ []) ≡ pos 4 ∷ pos 7 ∷ []
+own_values-cyclic = refl
+
+pub own_values-none : own_values [] (behind_two Cyclic) 3 2 (from_to (pos 5) (pos 1)) (pos 0 ∷ []) ≡ []
+own_values-none = refl
