@@ -1,27 +1,25 @@
 -- Under a plan that fits, owners are processors, and processor 0 owns each PRINT.
-use Rattle.std.proofs.Common.{◌≡◌, ◌≢◌, ◌==◌, ◌||◌, ◌&&◌, not, ℕ, zero, suc, ◌+◌, ◌-◌, ◌*◌, ◌/◌, ◌%◌, ◌<◌, ◌≤◌, ℤ, pos, negsuc, ◌≤ℤ◌, ◌+ℤ◌, ◌*ℤ◌, int_le, int_lt, nat_le, Bool, true, false, true≢false, List, [], ◌∷◌, ◌++◌, length, map, get_or, set, Option, Some, None, if◌then◌else◌, refl, ap, sym, subst, ◌∙◌, inl, inr, ⊎_elim, arith}
+use Rattle.std.proofs.Common.{◌≡◌, ◌==◌, ◌||◌, ◌&&◌, not, ℕ, zero, suc, ◌+◌, ◌-◌, ◌*◌, ◌<◌, ◌≤◌, ℤ, pos, negsuc, ◌≤ℤ◌, ◌+ℤ◌, ◌*ℤ◌, int_le, int_lt, Bool, true, false, true≢false, List, [], ◌∷◌, ◌++◌, length, map, get_or, Option, Some, None, if◌then◌else◌, refl, ap, sym, subst, ◌∙◌, inl, inr, arith}
 use Rattle.std.specs.Prelude.{slice_get}
-use Rattle.std.specs.Int.{int_div_euclid, int_rem_euclid}
-use Rattle.std.specs.List.{All, flat_map, list_all, list_any}
+use Rattle.std.specs.List.{All, list_all, list_any}
 use Rattle.std.proofs.Math.Nat.{div-lt_iff_lt-mul}
-use Rattle.std.proofs.lemmas.Bool.{and_from, and_parts, cases_Bool, cases_eq, eqb-true, leb-true, or_parts}
+use Rattle.std.proofs.lemmas.Bool.{and_parts, cases_Bool, eqb-true, or_parts}
 use Rattle.std.proofs.lemmas.Bool.Decides.{Decides-int_eq}
 use Rattle.std.proofs.lemmas.Int.{ints}
-use Rattle.std.proofs.lemmas.List.{get_or-set_other, length-set}
+use Rattle.std.proofs.lemmas.List.{get_or-set_other}
 use Rattle.std.proofs.lemmas.List.Elements.{All-append, All-cons, All-from_get_or, All-head, All-map, All-nil, All-tail, All-weaker}
-use Rattle.std.proofs.lemmas.Option.{get_or_from_slice_get, slice_get_within}
 use Rattle.nest_tree.specs.Form.{Form, dot, form_value, is_form, numbered}
 use Rattle.nest_tree.specs.Intervals.{ends_of, form_interval, head_interval, with_ends}
 use Rattle.nest_tree.specs.Layout.{count_of}
 use Rattle.std.specs.Ordering.{int_eq}
 use Rattle.nest_tree.specs.Limits.{is_empty, no_ends}
-use Rattle.nest_tree.specs.Tree.{Printing, Work, assign, print, Head, Statement, Statements, do_loop, work, continue, done, next, Tree, param_values}
-use Rattle.nest_tree.specs.WellFormed.{IsWellFormed, Scope, are_good_statements, is_good_statement, is_number_of, loops_in, loops_of, names_only, scope_of}
-use Rattle.nest_tree.proofs.Good.{GoodLoop, good_loop}
-use Rattle.nest_model.specs.Instances.{Instance, head_trips, instances_in, instances_of, is_executed, trip_count, with_loop, works_in}
-use Rattle.nest_model.specs.Visits.{Visit, stops_of, visits}
+use Rattle.nest_tree.specs.Tree.{Printing, assign, print, Head, Statement, Statements, do_loop, work, continue, done, next, Tree, param_values}
+use Rattle.nest_tree.specs.WellFormed.{IsWellFormed, Scope, are_good_statements, is_good_statement, is_number_of, loops_in, names_only, scope_of}
+use Rattle.nest_tree.proofs.Good.{good_loop}
+use Rattle.nest_model.specs.Instances.{Instance, head_trips, instances_in, instances_of, is_executed, with_loop, works_in}
+use Rattle.nest_model.specs.Visits.{Visit, stops_of}
 use Rattle.nest_model.proofs.Small.{not_empty}
-use Rattle.nest_model.proofs.Stops.{Trips, good_trips}
+use Rattle.nest_model.proofs.Stops.{good_trips}
 use Rattle.nest_model.proofs.Within.{Between, IsInEnds, form_between, in_ends-step, none_parts}
 use Rattle.nest_walk.specs.Texts.{Placed, placed}
 use Rattle.owner_partition.specs.declared.anchor.Anchor.{Anchor}
@@ -34,11 +32,11 @@ use Rattle.owner_partition.specs.Owners.{anchor_owner, dealt, owner_by, reaches}
 use Rattle.owner_partition.specs.Phases.{Execution, executions, executions_from, phase_instances, phases}
 use Rattle.owner_partition.specs.Placement.{ends_among, misplaced, misplaced_at, misplaced_within, names_empty, phase_ends, unplaced}
 use Rattle.sync_plan.specs.declared.plan.Plan.{Plan}
-use Rattle.sync_plan.specs.Fit.{IsFit, has_print, have_print, is_dealt, is_zero_form, kind_anchors, misplaced_print, numbered_anchors, placed_anchors}
+use Rattle.sync_plan.specs.Fit.{IsFit, has_print, have_print, is_dealt, is_zero_form, kind_anchors, misplaced_print, numbered_anchors}
 use Rattle.sync_plan.specs.Ordered.{owner_under}
 use Rattle.sync_plan.specs.Shape.{are_good_anchors, has_places, is_doall, is_good_anchor, mark_of, own_loops, static_phases}
 use Rattle.sync_plan.proofs.Fits.{FitParts, fit_parts}
-use Rattle.sync_plan.proofs.PhasePlaces.{All-flat_map, AreBelow, IsThere, IsThereFrom, all_there, all_trips_are, own_ends}
+use Rattle.sync_plan.proofs.PhasePlaces.{All-flat_map, AreBelow, IsThereFrom, all_there, all_trips_are, own_ends}
 
 -- ---- what stands at a value within the blocks of so many workers is one of theirs
 
@@ -89,16 +87,16 @@ abbrev AgreeBelow : ℕ → List ℤ → List ℤ → Type 0
 AgreeBelow n xs ys = (k : ℕ) → k < n → get_or xs k (pos 0) ≡ get_or ys k (pos 0)
 
 mutual
-  agree_in : (params : List ℤ) (scope : Scope) (around : List ℕ) (number : ℕ) (s : Statement) (first : ℕ) (loops : List ℤ) → is_good_statement scope around number s ≡ true → 1 ≤ number →
+  pub agree_in : (params : List ℤ) (scope : Scope) (around : List ℕ) (number : ℕ) (s : Statement) (first : ℕ) (loops : List ℤ) → is_good_statement scope around number s ≡ true → 1 ≤ number →
       All (λ (i : Instance). AgreeBelow (number - 1) i.loops loops) (instances_of params s first loops)
   agree_in params scope around number (do_loop head body) first loops good low =
       let g = good_loop scope around number head body good in
       let P = λ (i : Instance). AgreeBelow (number - 1) i.loops loops in
       All-flat_map P (λ v. instances_in params body first (with_loop loops head.number v)) (head_trips params head loops) (all_trips_are (λ v. All P (instances_in params body first (with_loop loops head.number v))) params loops head (λ n lt.
-        let v = form_value head.m1 loops params +ℤ (pos n *ℤ head.step) in
-        All-weaker (λ (i : Instance). AgreeBelow (number + 1 - 1) i.loops (with_loop loops head.number v)) P
-        (λ i agree k lt'. agree k (omega (arith, lt', low)) ∙ get_or-set_other loops (head.number - 1) k v (pos 0) (λ e. absurd (omega (arith, e, lt', g.number)))) (instances_in params body first (with_loop loops head.number v))
-        (agree_among params scope (head.number ∷ around) (number + 1) body first (with_loop loops head.number v) g.inside (omega arith))))
+      let v = form_value head.m1 loops params +ℤ (pos n *ℤ head.step) in
+      All-weaker (λ (i : Instance). AgreeBelow (number + 1 - 1) i.loops (with_loop loops head.number v)) P
+      (λ i agree k lt'. agree k (omega (arith, lt', low)) ∙ get_or-set_other loops (head.number - 1) k v (pos 0) (λ e. absurd (omega (arith, e, lt', g.number)))) (instances_in params body first (with_loop loops head.number v))
+      (agree_among params scope (head.number ∷ around) (number + 1) body first (with_loop loops head.number v) g.inside (omega arith))))
   agree_in params scope around number (work w) first loops good low =
       let P = λ (i : Instance). AgreeBelow (number - 1) i.loops loops in
       let here : Instance = record { statement = first; what = w; loops = loops } in
@@ -121,7 +119,7 @@ dot_agrees (p ∷ pairs) n xs ys some low agree =
     let here = agree (p.0 - 1) (omega (arith, All-head (λ (q : ℕ × ℤ). q.0 ≤ n) p pairs low, some)) in
     ap (λ z. p.1 *ℤ z +ℤ dot pairs xs) here ∙ ap (λ z. p.1 *ℤ numbered ys p.0 +ℤ z) (dot_agrees pairs n xs ys some (All-tail (λ (q : ℕ × ℤ). q.0 ≤ n) p pairs low) agree)
 
-named_low : (n : ℕ) (around : List ℕ) (l : ℕ) → All (λ k. k ≤ n) around → list_any (λ k. k == l) around ≡ true → l ≤ n
+pub named_low : (n : ℕ) (around : List ℕ) (l : ℕ) → All (λ k. k ≤ n) around → list_any (λ k. k == l) around ≡ true → l ≤ n
 named_low n [] l low h = absurd (true≢false (sym h))
 named_low n (k ∷ around) l low h = elim (cases_Bool (k == l)) [
   | inl same ↦ omega (arith, eqb-true k l same, All-head (λ k. k ≤ n) k around low)
@@ -157,7 +155,7 @@ placed_each tree marks workers n (b ∷ anchors) rest (suc k) a none at =
     subst (λ j. misplaced tree marks workers j a ≡ None) next_is (placed_each tree marks workers (suc n) anchors rest k a (none_parts (misplaced tree marks workers n b) (unplaced tree marks workers (numbered_anchors (suc n) anchors ++ rest)) none).1 at)
 
 -- each of a text's static phases has a good anchor
-good_each : (constants : ℕ) (marks : List Mark) (text : List Placed) (anchors : List Anchor) (k : ℕ) (s : Placed) (a : Anchor) → are_good_anchors constants marks text anchors ≡ true → slice_get text k ≡ Some s → slice_get anchors k ≡ Some a →
+pub good_each : (constants : ℕ) (marks : List Mark) (text : List Placed) (anchors : List Anchor) (k : ℕ) (s : Placed) (a : Anchor) → are_good_anchors constants marks text anchors ≡ true → slice_get text k ≡ Some s → slice_get anchors k ≡ Some a →
     is_good_anchor constants (own_loops marks s.what s.around) a ≡ true
 good_each constants marks [] anchors k s a good at at' = let clash : None ≡ Some s = at in absurd (cc)
 good_each constants marks (t ∷ text) [] k s a good at at' = let clash : None ≡ Some a = at' in absurd (cc)
@@ -204,13 +202,13 @@ owned_in params constants scope marks workers phase first number (do_loop head b
     let names = (and_parts (names_only constants (own_loops marks (do_loop head body) around) a.form) (has_places a.dist) named).0 in
     let lower = own_low marks number around (do_loop head body) below (λ head' body' same. head_is head' body' same g.number) in
     All-flat_map P (λ v. instances_in params body first (with_loop loops head.number v)) (head_trips params head loops) (all_trips_are (λ v. All P (instances_in params body first (with_loop loops head.number v))) params loops head (λ n lt.
-      let v = form_value head.m1 loops params +ℤ (pos n *ℤ head.step) in
-      let next_loops = with_loop loops head.number v in
-      let inside = in_ends-step ends loops head.number interval v h t.number (t.between n lt) in
-      let owner = placed_owner params workers phase a (with_ends ends head.number interval) next_loops some inside placed_is in
-      All-weaker (λ (i : Instance). AgreeBelow (number + 1 - 1) i.loops next_loops) P
-      (λ i agree. subst (λ z. count_of (dealt a.dist workers z) < workers) (sym (form_agrees constants number (own_loops marks (do_loop head body) around) a.form params i.loops next_loops low lower names (λ k lt'. agree k (omega (arith, lt'))))) owner)
-      (instances_in params body first next_loops) (agree_among params scope (head.number ∷ around) (number + 1) body first next_loops g.inside (omega arith))))
+    let v = form_value head.m1 loops params +ℤ (pos n *ℤ head.step) in
+    let next_loops = with_loop loops head.number v in
+    let inside = in_ends-step ends loops head.number interval v h t.number (t.between n lt) in
+    let owner = placed_owner params workers phase a (with_ends ends head.number interval) next_loops some inside placed_is in
+    All-weaker (λ (i : Instance). AgreeBelow (number + 1 - 1) i.loops next_loops) P
+    (λ i agree. subst (λ z. count_of (dealt a.dist workers z) < workers) (sym (form_agrees constants number (own_loops marks (do_loop head body) around) a.form params i.loops next_loops low lower names (λ k lt'. agree k (omega (arith, lt'))))) owner)
+    (instances_in params body first next_loops) (agree_among params scope (head.number ∷ around) (number + 1) body first next_loops g.inside (omega arith))))
   where
     head_is : (head' : Head) (body' : Statements) → do_loop head body ≡ do_loop head' body' → head.number ≡ number → head'.number ≡ number
     head_is head' body' same is = let equal : head ≡ head' = cc in ap (λ (x : Head). x.number) (sym equal) ∙ is
@@ -226,8 +224,8 @@ owners_below tree plan formed fits =
     let parts = fit_parts tree plan fits in
     executions_all (λ x. owner_under tree plan x < plan.workers) params 1 (phases tree plan.cut)
     (All-weaker (IsThereFrom params (scope_of tree) 1 (stops_of (enters_outer plan.cut) tree.items) (placed tree (enters_outer plan.cut)) (ends_among params (enters_outer plan.cut) no_ends tree.items))
-      (λ (v : Visit). (n : ℕ) → All (λ i. owner_under tree plan (record { phase = n; place = v.place; instance = i }) < plan.workers) (phase_instances params v))
-      (λ v f n. by_anchor parts v f (slice_get plan.anchors (v.place - 1)) refl) (phases tree plan.cut) (all_there tree (enters_outer plan.cut) formed))
+    (λ (v : Visit). (n : ℕ) → All (λ i. owner_under tree plan (record { phase = n; place = v.place; instance = i }) < plan.workers) (phase_instances params v))
+    (λ v f n. by_anchor parts v f (slice_get plan.anchors (v.place - 1)) refl) (phases tree plan.cut) (all_there tree (enters_outer plan.cut) formed))
   where
     by_anchor : FitParts tree plan → (v : Visit) → IsThereFrom (param_values tree) (scope_of tree) 1 (stops_of (enters_outer plan.cut) tree.items) (placed tree (enters_outer plan.cut)) (ends_among (param_values tree) (enters_outer plan.cut) no_ends tree.items) v →
         (o : Option Anchor) → slice_get plan.anchors (v.place - 1) ≡ o → All (λ i. owner_by o plan.workers i.loops (param_values tree) < plan.workers) (phase_instances (param_values tree) v)
@@ -318,8 +316,8 @@ printers tree plan formed fits =
     let parts = fit_parts tree plan fits in
     executions_all (λ (x : Execution). (p : Printing) → x.instance.what ≡ print p → owner_under tree plan x ≡ 0) params 1 (phases tree plan.cut)
     (All-weaker (IsThereFrom params (scope_of tree) 1 (stops_of (enters_outer plan.cut) tree.items) (placed tree (enters_outer plan.cut)) (ends_among params (enters_outer plan.cut) no_ends tree.items))
-      (λ (v : Visit). (n : ℕ) → All (λ (i : Instance). (p : Printing) → i.what ≡ print p → owner_under tree plan (record { phase = n; place = v.place; instance = i }) ≡ 0) (phase_instances params v))
-      (λ v f n. by_print parts v f (slice_get plan.anchors (v.place - 1)) refl) (phases tree plan.cut) (all_there tree (enters_outer plan.cut) formed))
+    (λ (v : Visit). (n : ℕ) → All (λ (i : Instance). (p : Printing) → i.what ≡ print p → owner_under tree plan (record { phase = n; place = v.place; instance = i }) ≡ 0) (phase_instances params v))
+    (λ v f n. by_print parts v f (slice_get plan.anchors (v.place - 1)) refl) (phases tree plan.cut) (all_there tree (enters_outer plan.cut) formed))
   where
     by_print : FitParts tree plan → (v : Visit) → IsThereFrom (param_values tree) (scope_of tree) 1 (stops_of (enters_outer plan.cut) tree.items) (placed tree (enters_outer plan.cut)) (ends_among (param_values tree) (enters_outer plan.cut) no_ends tree.items) v →
         (o : Option Anchor) → slice_get plan.anchors (v.place - 1) ≡ o → All (PrintsAtZero tree plan o) (phase_instances (param_values tree) v)
@@ -330,7 +328,7 @@ printers tree plan formed fits =
         let anchor_at : slice_get plan.anchors f.k ≡ Some a = ap (slice_get plan.anchors) (sym index) ∙ at in
         elim (cases_Bool (has_print v.what)) [
           | inl prints ↦
-            let zero_form = print_anchor 1 plan.cut (static_phases tree plan.cut) plan.anchors f.k (record { what = v.what; around = t.around }) a parts.prints t.at anchor_at prints in
-            All-from_get_or (PrintsAtZero tree plan (Some a)) (phase_instances (param_values tree) v) (record { statement = 0; what = print (record { items = []; line = 0 }); loops = [] }) (λ i lt p e. zero_owner a plan.workers _ (param_values tree) zero_form)
+              let zero_form = print_anchor 1 plan.cut (static_phases tree plan.cut) plan.anchors f.k (record { what = v.what; around = t.around }) a parts.prints t.at anchor_at prints in
+              All-from_get_or (PrintsAtZero tree plan (Some a)) (phase_instances (param_values tree) v) (record { statement = 0; what = print (record { items = []; line = 0 }); loops = [] }) (λ i lt p e. zero_owner a plan.workers _ (param_values tree) zero_form)
           | inr silent ↦ All-weaker (λ (i : Instance). (p : Printing) → i.what ≡ print p → ⊥) (PrintsAtZero tree plan (Some a)) (λ i never p e. absurd (never p e)) (phase_instances (param_values tree) v) (prints_in (param_values tree) v.what v.first v.loops silent)
         ]

@@ -6,3 +6,4 @@ pub mod PhaseValues
 pub mod Gets
 pub mod PhasePlaces
 pub mod FitOwners
+pub mod BarrierOrder

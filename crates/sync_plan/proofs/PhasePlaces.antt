@@ -1,23 +1,22 @@
 -- A phase in the text: the static phase at its place, the intervals of the loops there, and what its statement may name.
-use Rattle.std.proofs.Common.{◌≡◌, ℕ, zero, suc, ◌+◌, ◌-◌, ◌<◌, ◌≤◌, ℤ, pos, ◌+ℤ◌, ◌*ℤ◌, Bool, true, false, nat_lt, nat_le, List, [], ◌∷◌, ◌++◌, length, map, get_or, replicate, Option, Some, None, if◌then◌else◌, refl, ap, sym, subst, ◌∙◌, inl, inr, ⊎_elim, arith, length-append}
+use Rattle.std.proofs.Common.{◌≡◌, ℕ, zero, suc, ◌+◌, ◌-◌, ◌<◌, ◌≤◌, ℤ, pos, ◌+ℤ◌, ◌*ℤ◌, Bool, true, false, List, [], ◌∷◌, ◌++◌, length, map, Option, Some, None, if◌then◌else◌, refl, ap, sym, subst, ◌∙◌, arith, length-append}
 use Rattle.std.specs.Prelude.{slice_get}
-use Rattle.std.specs.List.{All, flat_map, list_all, range_with_len}
-use Rattle.std.proofs.lemmas.Bool.{and_from, and_parts, cases_Bool, cases_lt, le-leb, le-ltb, lt-ltb}
+use Rattle.std.specs.List.{All, flat_map, range_with_len}
+use Rattle.std.proofs.lemmas.Bool.{and_parts, le-ltb, lt-ltb}
 use Rattle.std.proofs.lemmas.List.{length-replicate, length-set}
 use Rattle.std.proofs.lemmas.List.Elements.{All-append, All-cons, All-head, All-nil, All-tail, All-weaker}
-use Rattle.std.proofs.lemmas.Int.{ints}
 use Rattle.nest_tree.specs.Form.{form_value}
 use Rattle.nest_tree.specs.Intervals.{head_interval, with_ends}
 use Rattle.nest_tree.specs.Limits.{is_empty, no_ends}
 use Rattle.nest_tree.specs.Tree.{Head, Statement, Statements, do_loop, work, continue, done, next, Tree, param_values}
 use Rattle.nest_tree.specs.WellFormed.{IsWellFormed, Scope, are_good_statements, is_good_statement, loops_in, loops_of, scope_of}
 use Rattle.nest_tree.proofs.Cells.{well_formed_parts}
-use Rattle.nest_tree.proofs.Good.{GoodLoop, good_loop}
+use Rattle.nest_tree.proofs.Good.{good_loop}
 use Rattle.nest_model.specs.Instances.{head_trips, no_values, trip_count, with_loop, works_in}
 use Rattle.nest_model.specs.Visits.{Visit, stops_in, stops_of, visits, visits_in, visits_of}
 use Rattle.nest_model.proofs.Small.{not_empty}
-use Rattle.nest_model.proofs.Stops.{Trips, at_start, good_trips}
-use Rattle.nest_model.proofs.Within.{Between, IsInEnds, in_ends-step}
+use Rattle.nest_model.proofs.Stops.{at_start, good_trips}
+use Rattle.nest_model.proofs.Within.{IsInEnds, in_ends-step}
 use Rattle.nest_walk.specs.Texts.{Placed, placed, placed_in, placed_of}
 use Rattle.owner_partition.specs.Placement.{ends_among, ends_in}
 use Rattle.sync_plan.proofs.Gets.{get-behind, get-front}
@@ -97,7 +96,7 @@ mutual
       (All-cons (λ k. k < number + 1) head.number around (omega (arith, g.number)) (All-weaker (λ k. k < number) (λ k. k < number + 1) (λ k lt'. omega (arith, lt')) around below)) (omega arith) (omega (arith, count, length-set loops (head.number - 1) v))) in
       let entered : All P (flat_map inside (head_trips params head loops)) = All-flat_map P inside (head_trips params head loops) (all_trips_are (λ v. All P (inside v)) params loops head trip) in
       elim (enters head.number) as (λ b. All (IsThereFrom params scope place (if b then stops_of enters body else 1) (if b then placed_of enters (head.number ∷ around) body else record { what = do_loop head body; around = around } ∷ []) (λ k. if b then (if is_empty interval then None else ends_among params enters inner body k) else Some inner))
-        (if b then flat_map inside (head_trips params head loops) else here ∷ [])) [
+      (if b then flat_map inside (head_trips params head loops) else here ∷ [])) [
         | true ↦ entered
         | false ↦ one_there params scope place here around number ends (λ k. Some inner) refl h refl good below low count
       ]
@@ -119,18 +118,42 @@ mutual
       let as_many = placed_count enters around s in
       All-append P (visits_of params enters s place first loops) (visits_in params enters rest (place + stops) (first + works_in s) loops)
       (All-weaker (IsThereFrom params scope place stops text (ends_in params enters ends s)) P (λ v f.
-        let t = f.there in record {
-          k = f.k; place_is = f.place_is; within = omega (arith, f.within);
-          there = record { around = t.around; number = t.number; ends = t.ends; at = get-front text (placed_of enters around rest) f.k (omega (arith, as_many, f.within)) ∙ t.at; inside = t.inside;
-            ends_are = ap (λ b. if b then ends_in params enters ends s f.k else ends_among params enters ends rest (f.k - stops)) (lt-ltb f.k stops f.within) ∙ t.ends_are; good = t.good; below = t.below; low = t.low; count = t.count };
-        }) (visits_of params enters s place first loops) front)
+      let t = f.there in record {
+        k = f.k;
+        place_is = f.place_is;
+        within = omega (arith, f.within);
+        there = record {
+          around = t.around;
+          number = t.number;
+          ends = t.ends;
+          at = get-front text (placed_of enters around rest) f.k (omega (arith, as_many, f.within)) ∙ t.at;
+          inside = t.inside;
+          ends_are = ap (λ b. if b then ends_in params enters ends s f.k else ends_among params enters ends rest (f.k - stops)) (lt-ltb f.k stops f.within) ∙ t.ends_are;
+          good = t.good;
+          below = t.below;
+          low = t.low;
+          count = t.count;
+        };
+      }) (visits_of params enters s place first loops) front)
       (All-weaker (IsThereFrom params scope (place + stops) (stops_of enters rest) (placed_of enters around rest) (ends_among params enters ends rest)) P (λ v f.
-        let t = f.there in
-        let back : stops + f.k - stops ≡ f.k = omega arith in record {
-          k = stops + f.k; place_is = omega (arith, f.place_is); within = omega (arith, f.within);
-          there = record { around = t.around; number = t.number; ends = t.ends; at = ap (λ n. slice_get (text ++ placed_of enters around rest) (n + f.k)) (sym as_many) ∙ get-behind text (placed_of enters around rest) f.k ∙ t.at; inside = t.inside;
-            ends_are = ap (λ b. if b then ends_in params enters ends s (stops + f.k) else ends_among params enters ends rest (stops + f.k - stops)) (le-ltb (stops + f.k) stops (omega arith)) ∙ ap (ends_among params enters ends rest) back ∙ t.ends_are; good = t.good; below = t.below; low = t.low; count = t.count };
-        }) (visits_in params enters rest (place + stops) (first + works_in s) loops) later)
+      let t = f.there in
+      let back : stops + f.k - stops ≡ f.k = omega arith in record {
+        k = stops + f.k;
+        place_is = omega (arith, f.place_is);
+        within = omega (arith, f.within);
+        there = record {
+          around = t.around;
+          number = t.number;
+          ends = t.ends;
+          at = ap (λ n. slice_get (text ++ placed_of enters around rest) (n + f.k)) (sym as_many) ∙ get-behind text (placed_of enters around rest) f.k ∙ t.at;
+          inside = t.inside;
+          ends_are = ap (λ b. if b then ends_in params enters ends s (stops + f.k) else ends_among params enters ends rest (stops + f.k - stops)) (le-ltb (stops + f.k) stops (omega arith)) ∙ ap (ends_among params enters ends rest) back ∙ t.ends_are;
+          good = t.good;
+          below = t.below;
+          low = t.low;
+          count = t.count;
+        };
+      }) (visits_in params enters rest (place + stops) (first + works_in s) loops) later)
 
   -- as many static phases stand in a text as a walk counts stops
   placed_count : (enters : ℕ → Bool) (around : List ℕ) (s : Statement) → length (placed_in enters around s) ≡ stops_in enters s

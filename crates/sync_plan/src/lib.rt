@@ -2,7 +2,7 @@
 //!
 //! - [`plan`]: plans, their kinds and their conditions.
 //! - [`barriers`]: the plan with a barrier in front of each phase.
-//! - `laws`: who owns what under a plan that fits.
+//! - `laws`: who owns what under a plan that fits, and that barriers order it.
 //! - [`waiting`]: whom a processor waits for in front of a phase, and who posts there.
 #![tactic(auto)]
 
@@ -13,7 +13,7 @@ pub mod plan;
 pub mod waiting;
 
 pub use barriers::all_barrier;
-pub use laws::owners_are_processors;
+pub use laws::{barriers_order_phases, owners_are_processors};
 pub use plan::{
     Anchors, Certificates, ConditionRow, ConditionRows, Conditions, Kind, Kinds, Plan, Version,
 };
