@@ -14,3 +14,4 @@ mod PlannedMoments
 mod PlannedOrder
 mod PlannedMemory
 mod PlannedSound
+mod Deeds

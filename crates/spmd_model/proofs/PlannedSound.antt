@@ -137,7 +137,7 @@ awaited_on tree plan t n p q posts awaits at inside among =
 
 -- ---- a plan that fits has a sound timeline
 
-all_at : {X : Type 0} (P : X → Type 0) (xs : List X) (k : ℕ) (x : X) → All P xs → slice_get xs k ≡ Some x → P x
+pub all_at : {X : Type 0} (P : X → Type 0) (xs : List X) (k : ℕ) (x : X) → All P xs → slice_get xs k ≡ Some x → P x
 all_at P xs k x all e = subst P (get_or_from_slice_get xs k x x e) (All-get_or P xs k x (slice_get_within xs k x e) all)
 
 owned_along : (tree : Tree) (plan : Plan) → All (λ (x : Execution). owner_under tree plan x < plan.workers) (executions tree plan.cut) → (t : ℕ) (j : Job) → slice_get (timeline_of tree plan) t ≡ Some (job j) → j.owner < plan.workers

@@ -5,3 +5,4 @@ pub mod Ordered
 pub mod Lawful
 pub mod Reached
 pub mod Planned
+pub mod Deeds

@@ -1,6 +1,6 @@
 // What holds of every run: there is nothing to call.
 
-ghost use Rattle.std.specs.Prelude.{ℕ, ℤ, List, Some, All, ◌≡◌, ◌<◌, ◌⊎◌, ◌++◌};
+ghost use Rattle.std.specs.Prelude.{ℕ, ℤ, map, List, Some, All, ◌≡◌, ◌<◌, ◌⊎◌, ◌++◌};
 ghost use Rattle.nest_tree.specs.Tree.{Tree};
 ghost use Rattle.nest_tree.specs.WellFormed.{IsWellFormed};
 ghost use Rattle.nest_model.specs.Memory as Memory;
@@ -8,12 +8,14 @@ ghost use Rattle.nest_model.specs.Memory.{cell_value, memory_before, output_of};
 ghost use Rattle.sync_plan.specs.Fit.{IsFit};
 ghost use Rattle.sync_plan.specs.Ordered.{IsOrdered as IsOrderedPlan};
 ghost use Rattle.sync_plan.specs.declared.plan.Plan.{Plan};
+ghost use Rattle.owner_partition.specs.Phases.{phases};
+ghost use Rattle.spmd_model.specs.Deeds.{can_do, deed_of, deeds_from, did};
 ghost use Rattle.spmd_model.specs.Ordered.{IsOrdered, IsSound};
 ghost use Rattle.spmd_model.specs.Planned.{jobs_in_front, machine_of};
 ghost use Rattle.spmd_model.specs.Reached.{CanGo};
 ghost use Rattle.spmd_model.specs.Sequential.{last_memory, memory_at, whole_output};
-ghost use Rattle.spmd_model.specs.States.{IsEnded, next_act, run_of};
-ghost use Rattle.spmd_model.specs.Timelines.{Machine, load};
+ghost use Rattle.spmd_model.specs.States.{IsEnded, State, acted, is_possible, next_act, run_of};
+ghost use Rattle.spmd_model.specs.Timelines.{Act, Machine, acts_of, load};
 
 /// A state of a run, in whatever order its processors went, is never stuck before its end: it is
 /// ended, or the next act of some processor is possible.
@@ -49,4 +51,13 @@ pub fn timelines_are_sequential()
     ensures memory { (tree : Tree) → (plan : Plan) → (place : ℕ) → memory_at (machine_of tree plan) place ≡ memory_before tree (jobs_in_front tree plan place) }
     ensures last { (tree : Tree) → (plan : Plan) → last_memory (machine_of tree plan) ≡ Memory.last_memory tree }
     ensures output { (tree : Tree) → (plan : Plan) → whole_output (machine_of tree plan) ≡ output_of tree }
+{}
+
+/// What a processor's acts do under a plan that fits, phase by phase: the boundary's post and
+/// awaits, and then the loads and the store or the PRINT of each instance that it owns. And what an
+/// act does to a state, and whether it is possible, follows from that alone.
+pub fn acts_by_their_deeds()
+    ensures phases { (tree : Tree) → (plan : Plan) → (p : ℕ) → IsWellFormed tree → IsFit tree plan → map (deed_of (machine_of tree plan)) (acts_of (machine_of tree plan) p) ≡ deeds_from tree plan p 1 (phases tree plan.cut) }
+    ensures acted { (m : Machine) → (s : State) → (p : ℕ) → (a : Act) → acted m s p a ≡ did s p (deed_of m a) }
+    ensures possible { (m : Machine) → (s : State) → (a : Act) → is_possible s a ≡ can_do s (deed_of m a) }
 {}

@@ -7,12 +7,13 @@
 //! - `specs/Ordered.antt`: ordered timelines, by chains of waits.
 //! - `specs/Lawful.antt`: what holds of memory wherever the processors have come to.
 //! - `specs/Planned.antt`: the timeline of a program under a plan.
+//! - `specs/Deeds.antt`: what acts do, phase by phase.
 //! - `laws`: no state is stuck, and runs of ordered plans are sequential.
 #![tactic(auto)]
 
 mod laws;
 
 pub use laws::{
-    every_load_is_sequential, no_state_is_stuck, runs_are_sequential, timelines_are_sequential,
-    timelines_of_plans,
+    acts_by_their_deeds, every_load_is_sequential, no_state_is_stuck, runs_are_sequential,
+    timelines_are_sequential, timelines_of_plans,
 };

@@ -60,6 +60,7 @@ pub record FitParts (tree : Tree) (plan : Plan) : Type 0 where
   pub some : 1 ≤ plan.workers
   pub few : plan.workers ≤ 64
   pub marks : length plan.cut ≡ loops_of tree.items
+  pub anchors : length plan.anchors ≡ length (static_phases tree plan.cut)
   pub kinds : length plan.kinds ≡ length (static_phases tree plan.cut)
   pub good_kinds : are_good_kinds (length tree.params) (static_phases tree plan.cut) plan.kinds ≡ true
   pub good_anchors : are_good_anchors (length tree.params) plan.cut (static_phases tree plan.cut) plan.anchors ≡ true
@@ -89,6 +90,7 @@ fit_parts tree plan fits =
       some = leb-true 1 plan.workers range.0;
       few = leb-true plan.workers 64 range.1;
       marks = eqb-true (length plan.cut) (loops_of tree.items) marks.0;
+      anchors = eqb-true (length plan.anchors) (length text) (and_parts (length plan.anchors == length text) (length plan.kinds == length text) counts.0).0;
       kinds = eqb-true (length plan.kinds) (length text) (and_parts (length plan.anchors == length text) (length plan.kinds == length text) counts.0).1;
       good_kinds = kinds.0;
       good_anchors = anchors.0;
