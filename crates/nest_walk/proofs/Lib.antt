@@ -18,3 +18,4 @@ pub mod GoodAccesses
 pub mod Grown
 pub mod TableParts
 pub mod ByNumberLists
+pub mod TripNumbers

@@ -16,3 +16,4 @@ pub mod CellForms
 pub mod Grown
 pub mod Tables
 pub mod ByNumber
+pub mod TripNumbers
