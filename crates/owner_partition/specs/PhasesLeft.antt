@@ -1,10 +1,13 @@
 -- The phases that are left.
-use Rattle.std.specs.Prelude.{ℕ, ◌≡◌, List, Option}
+use Rattle.std.specs.Prelude.{ℕ, Bool, ◌≡◌, List, Option}
 use Rattle.std.specs.Option.{option_map}
 use Rattle.nest_tree.specs.Tree.{Tree}
 use Rattle.nest_model.specs.Visits.{Visit}
-use Rattle.nest_walk.specs.Cursors.{left_of, loops_in, rounds_in, tree_in, visit_at}
+use Rattle.nest_walk.specs.Cursors.{left_of, loops_in, marks_in, rounds_in, tree_in, visit_at}
 use Rattle.nest_walk.specs.Paths.{Round, by_depth}
+use Rattle.nest_walk.specs.Places.{numbers_of}
+use Rattle.nest_walk.specs.Texts.{IsInText}
+use Rattle.nest_walk.specs.Walks.{enters_but}
 use Rattle.owner_partition.specs.declared.phases.Phase.{Phase}
 use Rattle.owner_partition.specs.declared.phases.PhaseCursor.{PhaseCursor}
 
@@ -13,6 +16,10 @@ phases_tree c = tree_in c.cursor
 
 abbrev pub phases_left : PhaseCursor → List Visit
 phases_left c = left_of c.cursor
+
+-- the loops that its walk goes into
+abbrev pub phases_enters : PhaseCursor → ℕ → Bool
+phases_enters c = enters_but (marks_in c.cursor)
 
 -- how many phases have been given
 abbrev pub phases_passed : PhaseCursor → ℕ
@@ -26,9 +33,10 @@ phases_rounds c = rounds_in c.cursor
 abbrev pub phase_last : PhaseCursor → Option Visit
 phase_last c = option_map (visit_at (phases_tree c) (phases_rounds c)) c.last
 
--- a phase with this number, where these are the Outer loops round it: it is that stop, with the loops' values by depth
-pub record IsPhase (tree : Tree) (rounds : List Round) (number : ℕ) (v : Visit) (p : Phase) : Type 0 where
+-- a phase with this number, where these are the Outer loops round it: it is that stop, in the text inside these loops, with their values by depth
+pub record IsPhase (tree : Tree) (enters : ℕ → Bool) (rounds : List Round) (number : ℕ) (v : Visit) (p : Phase) : Type 0 where
   pub number_is : p.number ≡ number
   pub place_is : p.place ≡ v.place
   pub loops_are : v.loops ≡ loops_in tree rounds
   pub outer_is : p.outer ≡ by_depth rounds
+  pub text : IsInText tree enters (numbers_of rounds) v.what v.place v.first

@@ -49,8 +49,9 @@ impl<'a> PhaseCursor<'a> {
     ghost use Rattle.nest_tree.specs.View.{tree_of};
     ghost use Rattle.nest_tree.specs.WellFormed.{IsWellFormed};
     ghost use Rattle.nest_model.specs.Visits.{Visit};
+    ghost use Rattle.owner_partition.specs.Marks.{enters_outer};
     ghost use Rattle.owner_partition.specs.Phases.{phases};
-    ghost use Rattle.owner_partition.specs.PhasesLeft.{IsPhase, phase_last, phases_left, phases_passed, phases_rounds, phases_tree};
+    ghost use Rattle.owner_partition.specs.PhasesLeft.{IsPhase, phase_last, phases_enters, phases_left, phases_passed, phases_rounds, phases_tree};
 
     /// All phases of a program.
     pub fn new(program: &'a Program, cut: &'a Cut) -> Self
@@ -60,6 +61,7 @@ impl<'a> PhaseCursor<'a> {
         ensures passed { phases_passed result ≡ 0 }
         ensures last { phase_last result ≡ None }
         ensures program { phases_tree result ≡ tree_of program.now }
+        ensures enters { phases_enters result ≡ enters_outer cut.now }
     {
         PhaseCursor {
             cursor: Cursor::new(program, cut.closed()),
@@ -70,10 +72,11 @@ impl<'a> PhaseCursor<'a> {
 
     /// The next phase, until there is none.
     pub fn next(&mut self) -> Option<Phase>
-        ensures phase { MatchOption result (phases_left self.old ≡ []) (λ p. (v : Visit) × (phases_left self.old ≡ v ∷ phases_left self.new) × (phase_last self.new ≡ Some v) × IsPhase (phases_tree self.new) (phases_rounds self.new) (phases_passed self.old + 1) v p) }
+        ensures phase { MatchOption result (phases_left self.old ≡ []) (λ p. (v : Visit) × (phases_left self.old ≡ v ∷ phases_left self.new) × (phase_last self.new ≡ Some v) × IsPhase (phases_tree self.new) (phases_enters self.new) (phases_rounds self.new) (phases_passed self.old + 1) v p) }
         ensures passed { MatchOption result (phases_passed self.new ≡ phases_passed self.old) (λ p. phases_passed self.new ≡ phases_passed self.old + 1) }
         ensures end { MatchOption result ((phases_left self.new ≡ []) × (phase_last self.new ≡ None)) (λ p. Unit) }
         ensures program { phases_tree self.new ≡ phases_tree self.old }
+        ensures enters { phases_enters self.new ≡ phases_enters self.old }
     {
         self.last = self.cursor.next();
         let stop = self.last?;
