@@ -7,3 +7,4 @@ pub mod Gets
 pub mod PhasePlaces
 pub mod FitOwners
 pub mod BarrierOrder
+pub mod OuterLoops

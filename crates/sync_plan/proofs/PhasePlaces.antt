@@ -4,7 +4,7 @@ use Rattle.std.specs.Prelude.{slice_get}
 use Rattle.std.specs.List.{All, flat_map, range_with_len}
 use Rattle.std.proofs.lemmas.Bool.{and_parts, le-ltb, lt-ltb}
 use Rattle.std.proofs.lemmas.List.{length-replicate, length-set}
-use Rattle.std.proofs.lemmas.List.Elements.{All-append, All-cons, All-head, All-nil, All-tail, All-weaker}
+use Rattle.std.proofs.lemmas.List.Elements.{All-append, All-get_or, All-cons, All-head, All-nil, All-tail, All-weaker}
 use Rattle.nest_tree.specs.Form.{form_value}
 use Rattle.nest_tree.specs.Intervals.{head_interval, with_ends}
 use Rattle.nest_tree.specs.Limits.{is_empty, no_ends}
@@ -18,7 +18,11 @@ use Rattle.nest_model.proofs.Small.{not_empty}
 use Rattle.nest_model.proofs.Stops.{at_start, good_trips}
 use Rattle.nest_model.proofs.Within.{IsInEnds, in_ends-step}
 use Rattle.nest_walk.specs.Texts.{Placed, placed, placed_in, placed_of}
+use Rattle.owner_partition.specs.declared.cut.Mark.{Mark}
+use Rattle.owner_partition.specs.Marks.{enters_outer}
+use Rattle.owner_partition.specs.Phases.{phases}
 use Rattle.owner_partition.specs.Placement.{ends_among, ends_in}
+use Rattle.std.proofs.lemmas.Option.{get_or_from_slice_get, slice_get_within}
 use Rattle.sync_plan.proofs.Gets.{get-behind, get-front}
 
 -- the intervals of the loops at a phase, its own loop among them
@@ -156,7 +160,7 @@ mutual
       }) (visits_in params enters rest (place + stops) (first + works_in s) loops) later)
 
   -- as many static phases stand in a text as a walk counts stops
-  placed_count : (enters : ℕ → Bool) (around : List ℕ) (s : Statement) → length (placed_in enters around s) ≡ stops_in enters s
+  pub placed_count : (enters : ℕ → Bool) (around : List ℕ) (s : Statement) → length (placed_in enters around s) ≡ stops_in enters s
   placed_count enters around (do_loop head body) =
       elim (enters head.number) as (λ b. length (if b then placed_of enters (head.number ∷ around) body else record { what = do_loop head body; around = around } ∷ []) ≡ (if b then stops_of enters body else 1)) [
         | true ↦ placed_counts enters (head.number ∷ around) body
@@ -175,3 +179,10 @@ pub all_there : (tree : Tree) (enters : ℕ → Bool) → IsWellFormed tree →
 all_there tree enters formed =
     there_among (param_values tree) no_ends (no_values tree) (scope_of tree) [] 1 enters tree.items 1 1 (at_start tree formed) (well_formed_parts tree formed).statements (All-nil (λ n. n < 1)) (omega arith)
     (omega (arith, length-replicate (loops_of tree.items) (pos 0)))
+
+-- the k-th phase of a program
+pub visit_there : (tree : Tree) (marks : List Mark) (k : ℕ) (v : Visit) → IsWellFormed tree → slice_get (phases tree marks) k ≡ Some v →
+    IsThereFrom (param_values tree) (scope_of tree) 1 (stops_of (enters_outer marks) tree.items) (placed tree (enters_outer marks)) (ends_among (param_values tree) (enters_outer marks) no_ends tree.items) v
+visit_there tree marks k v formed at =
+    let P = IsThereFrom (param_values tree) (scope_of tree) 1 (stops_of (enters_outer marks) tree.items) (placed tree (enters_outer marks)) (ends_among (param_values tree) (enters_outer marks) no_ends tree.items) in
+    subst P (get_or_from_slice_get (phases tree marks) k v v at) (All-get_or P (phases tree marks) k v (slice_get_within (phases tree marks) k v at) (all_there tree (enters_outer marks) formed))

@@ -13,7 +13,7 @@ pub mod plan;
 pub mod waiting;
 
 pub use barriers::all_barrier;
-pub use laws::{barriers_order_phases, owners_are_processors};
+pub use laws::{barriers_order_phases, outer_values_give_loops, owners_are_processors};
 pub use plan::{
     Anchors, Certificates, ConditionRow, ConditionRows, Conditions, Kind, Kinds, Plan, Version,
 };
