@@ -17,6 +17,8 @@ pub mod own;
 mod own_trips;
 pub mod phases;
 pub mod placement;
+#[cfg(test)]
+mod tests;
 
 pub use anchor::{Anchor, Dist, owner};
 pub use cut::{Cut, Mark};
