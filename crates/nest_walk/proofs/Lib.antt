@@ -19,3 +19,4 @@ pub mod Grown
 pub mod TableParts
 pub mod ByNumberLists
 pub mod TripNumbers
+pub mod PlacedWorks

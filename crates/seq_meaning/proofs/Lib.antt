@@ -2,7 +2,6 @@ pub mod Values
 pub mod ValueLaws
 pub mod PrintedItems
 pub mod Ranges
-pub mod Placed
 pub mod Found
 pub mod Meanings
 pub mod RunSteps

@@ -1,11 +1,9 @@
 -- One instance after another of a run.
-use Rattle.std.proofs.Common.{◌≡◌, ℕ, ◌+◌, ◌^◌, ◌&&◌, nat_lt, ℤ, Bool, true, false, List, [], ◌∷◌, ◌++◌, append_assoc, length, if◌then◌else◌, refl, ap, sym, ◌∙◌, subst}
-use Rattle.std.specs.List.{fold, list_all}
-use Rattle.std.proofs.lemmas.Bool.{and_parts}
-use Rattle.nest_tree.specs.Tree.{Work, Statement, do_loop, work, continue, Tree, param_values}
+use Rattle.std.proofs.Common.{◌≡◌, ℕ, ℤ, true, List, [], ◌∷◌, ◌++◌, append_assoc, ap, sym, ◌∙◌, subst}
+use Rattle.std.specs.List.{fold}
+use Rattle.nest_tree.specs.Tree.{Work, Statement, work, Tree, param_values}
 use Rattle.nest_tree.specs.View.{statement_of}
-use Rattle.nest_tree.specs.WellFormed.{is_number_of, loops_of}
-use Rattle.nest_model.specs.Instances.{Instance, is_executed, works_in}
+use Rattle.nest_model.specs.Instances.{Instance}
 use Rattle.nest_model.specs.Memory.{line_of, loaded_in, memory_after, output_from}
 use Rattle.nest_model.specs.Ranges.{is_instance_inside}
 use Rattle.nest_model.specs.Visits.{every, executed_at}
@@ -13,42 +11,20 @@ use Rattle.nest_walk.specs.Cursors.{is_reached, loops_in}
 use Rattle.nest_walk.specs.Paths.{Round}
 use Rattle.nest_walk.specs.Places.{numbers_of}
 use Rattle.nest_walk.specs.Texts.{StandFrom, placed_in, works}
-use Rattle.nest_walk.specs.Walkable.{is_walkable}
 use Rattle.nest_walk.specs.declared.cursor.Stop.{Stop}
+use Rattle.nest_walk.proofs.PlacedWorks.{instance_at, reached_numbered}
 use Rattle.seq_meaning.specs.Executions.{IsPlacedWork, memory_behind, printed_behind}
-
--- the instance at a stop
-pub record InstanceAt (tree : Tree) (rounds : List Round) (first : ℕ) (s : Statement) (i : Instance) : Type 0 where
-  pub what : Work
-  pub is : s ≡ work what
-  pub instance_is : i ≡ record { statement = first; what = what; loops = loops_in tree rounds }
-
-chosen : (b : Bool) (r i : Instance) → (if b then r ∷ [] else []) ≡ i ∷ [] → i ≡ r
-chosen true r i h = cc
-chosen false r i h = cc
-
-instance_at : (tree : Tree) (rounds : List Round) (first : ℕ) (s : Statement) (i : Instance) → executed_at (param_values tree) first s (loops_in tree rounds) ≡ i ∷ [] → InstanceAt tree rounds first s i
-instance_at tree rounds first (do_loop head body) i h = absurd (let no : [] ≡ i ∷ [] = h in cc)
-instance_at tree rounds first (work w) i h = record {
-  what = w;
-  is = refl;
-  instance_is = chosen (is_executed w (loops_in tree rounds) (param_values tree)) (record { statement = first; what = w; loops = loops_in tree rounds }) i h;
-}
-instance_at tree rounds first (continue line) i h = absurd (let no : [] ≡ i ∷ [] = h in cc)
 
 -- its statement is a piece of work of the text
 pub placed_work : (tree : Tree) (rounds : List Round) (s : Stop) (i : Instance) → executed_at (param_values tree) s.first (statement_of s.item.now) (loops_in tree rounds) ≡ i ∷ [] → is_reached tree rounds s ≡ true →
     StandFrom (works tree) s.first (placed_in every (numbers_of rounds) (statement_of s.item.now)) → is_instance_inside tree i ≡ true → IsPlacedWork tree rounds s.first (statement_of s.item.now)
 placed_work tree rounds s i executed reached text inside =
     let at = instance_at tree rounds s.first (statement_of s.item.now) i executed in
-    let numbered = list_all (λ (r : Round). is_number_of (loops_of tree.items) r.number) rounds in
-    let walkable = is_walkable (param_values tree) (length rounds) (statement_of s.item.now) (loops_in tree rounds) in
-    let first = and_parts (numbered && walkable) (nat_lt (s.first + works_in (statement_of s.item.now)) (2 ^ 32)) reached in
     record {
       what = at.what;
       is = at.is;
       text = subst (λ x. StandFrom (works tree) s.first (placed_in every (numbers_of rounds) x)) at.is text;
-      numbered = (and_parts numbered walkable first.0).0;
+      numbered = reached_numbered tree rounds s reached;
       inside = sym (ap (is_instance_inside tree) at.instance_is) ∙ inside;
     }
 

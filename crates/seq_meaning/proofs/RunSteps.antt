@@ -30,13 +30,13 @@ use Rattle.nest_walk.specs.declared.path.Path.{Path}
 use Rattle.nest_walk.specs.declared.table.CellTable.{CellTable}
 use Rattle.nest_walk.specs.declared.table.LoadCells.{LoadCells}
 use Rattle.nest_walk.specs.declared.table.WorkCells.{WorkCells}
+use Rattle.nest_walk.proofs.PlacedWorks.{standing-good, standing-number, standing-zip}
 use Rattle.nest_walk.proofs.ByNumberLists.{with_rounds-length, with_rounds-numbered}
 use Rattle.seq_meaning.specs.Executions.{IsPlacedWork, loaded_at, memory_behind}
 use Rattle.seq_meaning.specs.Lines.{has_text, item_load_count, items_load_count}
 use Rattle.seq_meaning.specs.Loads.{cells_of_load, is_load_within, is_store_within}
 use Rattle.seq_meaning.proofs.Found.{Found, work_found}
 use Rattle.seq_meaning.proofs.Meanings.{good_has_value, value_same}
-use Rattle.seq_meaning.proofs.Placed.{standing-good, standing-number, standing-zip}
 
 -- a loop that is named among these has a number of the program
 named_number : (count : ℕ) (rounds : List Round) (n : ℕ) → list_all (λ (r : Round). is_number_of count r.number) rounds ≡ true → list_any (λ k. k == n) (numbers_of rounds) ≡ true → is_number_of count n ≡ true

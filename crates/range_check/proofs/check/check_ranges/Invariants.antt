@@ -1,0 +1,21 @@
+use Rattle.std.proofs.Common.{◌≡◌, IsTrue, length}
+use Rattle.std.specs.List.{list_all}
+use Rattle.nest_tree.specs.Tree.{param_values}
+use Rattle.nest_tree.specs.View.{tree_of}
+use Rattle.nest_walk.specs.InstancesLeft.{instances_left, instances_tree}
+use Rattle.range_check.specs.Outside.{instances_outside, outside_of}
+use Rattle.range_check.proofs.Sound.{is_small_instance}
+use Rattle.range_check.proofs.check.check_ranges.Given as goal
+
+abbrev pub invariant-loop-stop : goal.invariant-loop-stop
+invariant-loop-stop l =
+    let tree = tree_of l.program in
+    let left = instances_left l.instances in
+    record {
+      walked : instances_tree l.instances ≡ tree;
+      small : IsTrue (list_all (is_small_instance (param_values tree)) left);
+      first : instances_outside tree left ≡ outside_of tree;
+    }
+
+abbrev pub decreases-loop-stop : goal.decreases-loop-stop
+decreases-loop-stop l = length (instances_left l.instances)

@@ -1,0 +1,2 @@
+pub mod OutsideText
+pub mod Outside
