@@ -3,3 +3,11 @@ pub mod Parted
 pub mod Quotients
 pub mod Summed
 pub mod Looked
+pub mod Limited
+pub mod Stacked
+pub mod Measured
+pub mod Reached
+pub mod Surveyed
+pub mod Settings
+pub mod Defined
+pub mod Redeclared

@@ -6,15 +6,11 @@ use Rattle.std.proofs.lemmas.Bool.Decides.{nat_tests, Decides-int_eq}
 use Rattle.std.specs.Ordering.{int_eq}
 use Rattle.nest_tree.specs.Form.{rises_above, is_small}
 use Rattle.f77_scene.specs.Affine.{kept, with_pair, pairs_plus, pairs_times}
-use Rattle.f77_program.specs.Sums.{IsNextPair}
+use Rattle.f77_program.specs.Sums.{Ascends, IsNextPair}
 
 -- ---- pairs whose numbers rise and whose coefficients are not 0
 
-abbrev pub Ascends : ℕ → List (ℕ × ℤ) → Type 0
-Ascends least [] = Unit {0}
-Ascends least (p ∷ pairs) = (least < p.0) × (int_eq p.1 (pos 0) ≡ false) × Ascends p.0 pairs
-
-nonzero : (c : ℤ) → nat_lt 0 (unsigned_abs c) ≡ true → int_eq c (pos 0) ≡ false
+pub nonzero : (c : ℤ) → nat_lt 0 (unsigned_abs c) ≡ true → int_eq c (pos 0) ≡ false
 nonzero (pos zero) h = absurd cc
 nonzero (pos (suc n)) h = search (rules, Decides-int_eq (pos (suc n)) (pos 0))
 nonzero (negsuc n) h = refl
@@ -81,7 +77,7 @@ Ascends-with_pair least n c (p ∷ pairs) lt h = by_first (nat_lt n p.0) (n == p
         let below : p.0 < n = grind (arith, nat_tests, e, s) in
         rw e (rw s (h.0, h.1, rest below))
 
-Ascends-plus : (least : ℕ) (a b : List (ℕ × ℤ)) → Ascends least a → Ascends least b → Ascends least (pairs_plus a b)
+pub Ascends-plus : (least : ℕ) (a b : List (ℕ × ℤ)) → Ascends least a → Ascends least b → Ascends least (pairs_plus a b)
 Ascends-plus least [] b h k = k
 Ascends-plus least (p ∷ a) b h k = Ascends-with_pair least p.0 p.1 (pairs_plus a b) h.0 (Ascends-plus least a b (less least p.0 a (omega (arith, h.0)) h.2) k)
 
@@ -178,3 +174,8 @@ multiple_step z pairs front front' i d v lt so_far product more =
     let p = get_or pairs i d in
     let rest = pairs_times z (drop (i + 1) pairs) in
     ap (λ xs. xs ++ rest) (more ∙ ap (λ y. front ++ kept p.0 y []) product) ∙ append_assoc front (kept p.0 (z *ℤ p.1) []) rest ∙ ap (λ xs. front ++ xs) (sym (times-drop z pairs i d lt)) ∙ so_far
+
+-- a multiple of pairs that ascend ascends
+pub Ascends-times : (least : ℕ) (z : ℤ) (pairs : List (ℕ × ℤ)) → Ascends least pairs → Ascends least (pairs_times z pairs)
+Ascends-times least z [] h = tt
+Ascends-times least z (p ∷ pairs) h = Ascends-kept least p.0 (z *ℤ p.1) (pairs_times z pairs) h.0 (Ascends-times p.0 z pairs h.2)

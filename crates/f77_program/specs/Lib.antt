@@ -3,3 +3,14 @@ pub mod Operands
 pub mod Functions
 pub mod Sums
 pub mod Known
+pub mod Linear
+pub mod Measures
+pub mod Stacks
+pub mod Reaches
+pub mod Marks
+pub mod Surveys
+pub mod Pieces
+pub mod Firsts
+pub mod Wholes
+pub mod Counts
+pub mod Bases

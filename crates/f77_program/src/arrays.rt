@@ -52,7 +52,7 @@ impl Arrays {
         ensures { result.now ≡ bounds_named self.now name.now }
     {
         match self.names.number(name) {
-            Some(number) => self.bounds[number - 1].as_slice(),
+            Some(number) => self.bounds[number as usize - 1].as_slice(),
             None => &[],
         }
     }

@@ -1,6 +1,6 @@
 // Named constants and arrays.
 
-ghost use Rattle.std.specs.Prelude.{◌≡◌, ◌++◌, [], ◌∷◌, OnOk, OnErr};
+ghost use Rattle.std.specs.Prelude.{◌≡◌, ◌≤◌, ◌++◌, [], ◌∷◌, OnOk, OnErr, IfSome};
 
 use crate::names::Names;
 use std::alloc::{AllocError, Global};
@@ -49,8 +49,9 @@ impl Constants {
     }
 
     /// The number of the constant of this name, from 1.
-    pub fn number(&self, name: &[u8]) -> Option<usize>
-        ensures { result ≡ numbered (names_of_constants self.now) name.now }
+    pub fn number(&self, name: &[u8]) -> Option<u32>
+        ensures number { result ≡ numbered (names_of_constants self.now) name.now }
+        ensures counted { IfSome result (λ k. 1 ≤ k) }
     {
         self.names.number(name)
     }
@@ -60,7 +61,7 @@ impl Constants {
         ensures { result ≡ value_named self.now name.now }
     {
         match self.names.number(name) {
-            Some(number) => self.values[number - 1],
+            Some(number) => self.values[number as usize - 1],
             None => 0,
         }
     }

@@ -1,12 +1,12 @@
 // What is known at a statement, by the statements in front of it.
 
-ghost use Rattle.std.specs.Prelude.{◌≡◌};
+ghost use Rattle.std.specs.Prelude.{◌≡◌, ◌≤◌, ◌++◌, [], ◌∷◌, IfSome, OnOk};
 
 use crate::arrays::Arrays;
 use crate::constants::Constants;
 use crate::names::Names;
-use crate::opened::{Opened, loop_number};
-use std::alloc::Global;
+use crate::opened::Opened;
+use std::alloc::{AllocError, Global};
 use std::marker::Model;
 
 /// What is known at a statement. Contracts see the scene that the definitions speak of.
@@ -37,7 +37,9 @@ impl Model for Known {
 
 impl Known {
     ghost use Rattle.f77_scene.specs.Scene.{first_scene, is_among, is_array, is_constant_name, is_function, is_open, constant_names, value_named, bounds_named};
-    ghost use Rattle.f77_program.specs.Known.{opened_as};
+    ghost use Rattle.std.specs.Prelude.{◌==◌, map, ◌++◌, [], ◌∷◌, OnOk};
+    ghost use Rattle.std.specs.List.{list_any};
+    ghost use Rattle.f77_program.specs.Known.{open_of, opened_as};
     ghost use Rattle.f77_program.specs.Numbered.{numbered};
 
     /// What is known in front of the first statement.
@@ -58,6 +60,34 @@ impl Known {
         }
     }
 
+    /// How many statements stand in front.
+    pub fn count(&self) -> usize
+        ensures { result ≡ self.now.count }
+    {
+        self.labels.len()
+    }
+
+    /// Whether an executable statement stands in front.
+    pub fn executes(&self) -> bool
+        ensures { result ≡ self.now.executes }
+    {
+        self.executes
+    }
+
+    /// Whether a statement in front has this label.
+    pub fn has_label(&self, label: u32) -> bool
+        ensures { result ≡ list_any (λ l. l == label) self.now.labels }
+    {
+        self.labels.iter().any(|l| *l == label)
+    }
+
+    /// The open loops, the innermost first.
+    pub fn opened(&self) -> &[Opened]
+        ensures { map open_of result.now ≡ self.now.opened }
+    {
+        self.opened.as_slice()
+    }
+
     /// Whether this is the name of a PARAMETER statement.
     pub fn is_constant(&self, name: &[u8]) -> bool
         ensures { result ≡ is_constant_name self.now name.now }
@@ -66,8 +96,9 @@ impl Known {
     }
 
     /// The number of the named constant, from 1.
-    pub fn constant_number(&self, name: &[u8]) -> Option<usize>
-        ensures { result ≡ numbered (constant_names self.now) name.now }
+    pub fn constant_number(&self, name: &[u8]) -> Option<u32>
+        ensures number { result ≡ numbered (constant_names self.now) name.now }
+        ensures counted { IfSome result (λ k. 1 ≤ k) }
     {
         self.constants.number(name)
     }
@@ -77,6 +108,14 @@ impl Known {
         ensures { result ≡ value_named self.now.constants name.now }
     {
         self.constants.value(name)
+    }
+
+    /// One more named constant.
+    pub fn define(&mut self, alloc: Global, name: &[u8], value: i64) -> Result<(), AllocError>
+        ensures { OnOk result (self.new ≡ record self.old { constants = self.old.constants ++ record { name = name.now; value = value } ∷ [] }) }
+    {
+        self.constants.push(alloc, name, value)?;
+        Ok(())
     }
 
     /// Whether an array has this name.
@@ -102,7 +141,8 @@ impl Known {
 
     /// The number of the loop round this place with this variable.
     pub fn loop_number(&self, name: &[u8]) -> Option<u32>
-        ensures { result ≡ opened_as self.now.opened name.now }
+        ensures number { result ≡ opened_as self.now.opened name.now }
+        ensures counted { IfSome result (λ k. 1 ≤ k) }
     {
         loop_number(self.opened.as_slice(), name)
     }
@@ -134,4 +174,20 @@ impl Known {
     {
         self.integers.contains(name)
     }
+}
+
+ghost use Rattle.std.specs.Prelude.{map};
+ghost use Rattle.f77_program.specs.Known.{open_of, opened_as};
+
+/// The number of the loop with this variable, if one of these has it.
+fn loop_number(opened: &[Opened], name: &[u8]) -> Option<u32>
+    ensures number { result ≡ opened_as (map open_of opened.now) name.now }
+    ensures counted { IfSome result (λ k. 1 ≤ k) }
+{
+    for open in opened {
+        if open.variable.as_slice() == name {
+            return Some(open.number);
+        }
+    }
+    None
 }

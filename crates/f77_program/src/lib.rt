@@ -3,12 +3,24 @@
 
 mod arrays;
 mod constants;
+mod declared;
 mod known;
+mod limits;
+mod linear;
+mod marks;
+mod measure;
+mod measures;
 mod names;
 mod opened;
 mod parts;
+mod pieces;
+mod reach;
+mod reaches;
+mod statements;
 mod sums;
+mod survey;
 mod value;
+mod whole;
 
 pub use known::Known;
 pub use names::Names;

@@ -1,6 +1,6 @@
 // Lists of names that are looked up.
 
-ghost use Rattle.std.specs.Prelude.{◌≡◌, ◌++◌, [], ◌∷◌, OnOk, OnErr};
+ghost use Rattle.std.specs.Prelude.{◌≡◌, ◌≤◌, ◌++◌, [], ◌∷◌, OnOk, OnErr, IfSome};
 
 use std::alloc::{AllocError, Global};
 use std::collections::BTreeMap;
@@ -12,7 +12,7 @@ use std::marker::Model;
 pub struct Names {
     names: Vec<Vec<u8>>,
     // The number of each name.
-    numbers: BTreeMap<Vec<u8>, usize>,
+    numbers: BTreeMap<Vec<u8>, u32>,
 }
 
 impl Model for Names {
@@ -27,7 +27,7 @@ impl Model for Names {
 }
 
 impl Names {
-    ghost use Rattle.std.specs.Prelude.{length};
+    ghost use Rattle.std.specs.Prelude.{length, ◌≤◌, IfSome};
     ghost use Rattle.f77_scene.specs.Scene.{is_among, with_names};
     ghost use Rattle.f77_program.specs.Numbered.{numbered, texts_of};
 
@@ -49,8 +49,9 @@ impl Names {
     }
 
     /// The number of this name, from 1, if it is among these.
-    pub fn number(&self, name: &[u8]) -> Option<usize>
-        ensures { result ≡ numbered self.now name.now }
+    pub fn number(&self, name: &[u8]) -> Option<u32>
+        ensures number { result ≡ numbered self.now name.now }
+        ensures counted { IfSome result (λ k. 1 ≤ k) }
     {
         number_under(&self.numbers, name)
     }
@@ -62,16 +63,20 @@ impl Names {
         self.number(name).is_some()
     }
 
-    /// One more name at the end. Where memory runs out nothing has changed.
+    /// One more name at the end. Where memory runs out nothing has changed; a name past number
+    /// 2^32 - 1 counts as want of memory.
     pub fn push(&mut self, alloc: Global, name: &[u8]) -> Result<(), AllocError>
         ensures ok { OnOk result (self.new ≡ self.old ++ name.now ∷ []) }
         ensures err { OnErr result (self.new ≡ self.old) }
     {
+        if self.names.len() >= u32::MAX as usize {
+            return Err(AllocError);
+        }
         self.names.push(Vec::from_slice(alloc, name)?)?;
         if number_under(&self.numbers, name).is_some() {
             return Ok(());
         }
-        let number = self.names.len();
+        let number = self.names.len() as u32;
         match put(alloc, &mut self.numbers, name, number) {
             Ok(()) => Ok(()),
             Err(err) => {
@@ -98,7 +103,7 @@ ghost use Rattle.std.specs.Str.{bytes_eq};
 ghost use Rattle.f77_program.specs.Numbered.{number_under};
 
 // The number under this name, where it has one.
-fn number_under(numbers: &BTreeMap<Vec<u8>, usize>, name: &[u8]) -> Option<usize>
+fn number_under(numbers: &BTreeMap<Vec<u8>, u32>, name: &[u8]) -> Option<u32>
     ensures { result ≡ number_under numbers.now name.now }
 {
     numbers.get(name).copied()
@@ -107,9 +112,9 @@ fn number_under(numbers: &BTreeMap<Vec<u8>, usize>, name: &[u8]) -> Option<usize
 // Puts a new name's number into the map, which stays as it was where memory runs out.
 fn put(
     alloc: Global,
-    numbers: &mut BTreeMap<Vec<u8>, usize>,
+    numbers: &mut BTreeMap<Vec<u8>, u32>,
     name: &[u8],
-    number: usize,
+    number: u32,
 ) -> Result<(), AllocError>
     requires { number_under numbers.old name.now ≡ None }
     ensures there { OnOk result ((other : List ℕ) → number_under numbers.new other ≡ (if bytes_eq other name.now then Some number else number_under numbers.old other)) }

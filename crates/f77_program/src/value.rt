@@ -1,9 +1,9 @@
 // Values of constants: whole numbers of 64 bits that wrap (ANSI X3.9-1978, 6.1.5).
 
-ghost use Rattle.std.specs.Prelude.{◌≡◌, ℕ, List, pos, ◌+ℤ◌, ◌-ℤ◌, ◌*ℤ◌, ◌<◌, unsigned_abs};
+ghost use Rattle.std.specs.Prelude.{◌≡◌, pos, ◌+ℤ◌, ◌-ℤ◌, ◌*ℤ◌};
 ghost use Rattle.nest_tree.specs.Values.{wrapped, quotient};
-ghost use Rattle.f77_scene.specs.Expressions.{sign_value, operator_value, chosen};
-ghost use Rattle.f77_program.specs.Functions.{is_minimum};
+ghost use Rattle.f77_scene.specs.Expressions.{sign_value, operator_value};
+ghost use Rattle.f77_program.specs.Functions.{chosen_by};
 
 use f77_forms::{Operator, Sign};
 
@@ -31,7 +31,7 @@ pub fn operator_value(operator: Operator, a: i64, b: i64) -> i64
 
 /// MIN or MAX of two values.
 pub fn chosen(minimum: bool, a: i64, b: i64) -> i64
-    ensures { (n : List ℕ) → minimum ≡ is_minimum n → result ≡ chosen n a b }
+    ensures { result ≡ chosen_by minimum a b }
 {
     if minimum { a.min(b) } else { a.max(b) }
 }

@@ -30,17 +30,18 @@ abbrev pub list_of : ArgumentForms → List ExpressionForm
 list_of no_more = []
 list_of (one_more e rest) = e ∷ list_of rest
 
+-- the name that a part of an expression is, if it is one
+abbrev pub name_in : Scene → ExpressionForm → List Name
+name_in s (number ds) = []
+name_in s (name n) = n ∷ []
+name_in s (call n arguments) = if is_function s n then [] else n ∷ []
+name_in s (parenthesized a) = []
+name_in s (signed sign a) = []
+name_in s (binary op a b) = []
+
 -- the names of variables and constants in an expression, in the order of the text
 abbrev pub names_in : Scene → ExpressionForm → List Name
-names_in s e = flat_map named (parts_of e)
-  where
-    named : ExpressionForm → List Name
-    named (number ds) = []
-    named (name n) = n ∷ []
-    named (call n arguments) = if is_function s n then [] else n ∷ []
-    named (parenthesized a) = []
-    named (signed sign a) = []
-    named (binary op a b) = []
+names_in s e = flat_map (name_in s) (parts_of e)
 
 -- a constant: numbers, names of earlier PARAMETER statements, operators, MIN and MAX, and parentheses
 abbrev mutual

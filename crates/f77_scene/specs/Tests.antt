@@ -85,15 +85,16 @@ abbrev pub is_read_outside : Scene → ExpressionForm → Bool
 is_read_outside s (name n) = is_among s.loop_variables n && not (is_open s n)
 is_read_outside s e = false
 
+-- this name
+abbrev pub is_named : Name → ExpressionForm → Bool
+is_named n (name m) = is_among (m ∷ []) n
+is_named n e = false
+
 -- the variable of this DO statement is an array, a named constant or a scalar, is in use in a loop round it, or is read in its bounds or its step
 abbrev pub is_bad_loop : Scene → DoForm → Bool
 is_bad_loop s d =
     is_array s d.variable || is_constant_name s d.variable || is_among s.scalars d.variable || is_open s d.variable
     || list_any (λ e. list_any (is_named d.variable) (parts_of e)) (d.first ∷ d.last ∷ optional d.step)
-  where
-    is_named : Name → ExpressionForm → Bool
-    is_named n (name m) = is_among (m ∷ []) n
-    is_named n e = false
 
 abbrev pub misuses_loop_variable : Given → Scene → StatementForm → Bool
 misuses_loop_variable given s f =
@@ -124,14 +125,16 @@ has_bad_divisor given s f = somewhere divides_badly (spots_in given s f)
 
 -- ---- F6 and F7: subscripts, bounds, comparisons and steps
 
--- the expressions of a statement that have to be affine, in the order of the text: DO bounds, the sides of a comparison, and subscripts
-abbrev pub subscripts_in : Scene → ExpressionForm → List ExpressionForm
-subscripts_in s e = flat_map inside (parts_of e)
-  where
-    inside : ExpressionForm → List ExpressionForm
-    inside (call n arguments) = if is_array s n then list_of arguments else []
-    inside part = []
+-- the subscripts of a part that is an element of an array
+abbrev pub subscripts_at : Scene → ExpressionForm → List ExpressionForm
+subscripts_at s (call n arguments) = if is_array s n then list_of arguments else []
+subscripts_at s part = []
 
+-- the subscripts in an expression
+abbrev pub subscripts_in : Scene → ExpressionForm → List ExpressionForm
+subscripts_in s e = flat_map (subscripts_at s) (parts_of e)
+
+-- the expressions of a statement that have to be affine, in the order of the text: DO bounds, the sides of a comparison, and subscripts
 abbrev pub affine_in : Scene → StatementForm → List ExpressionForm
 affine_in s (do_loop d) = d.first ∷ d.last ∷ []
 affine_in s (assign a) = list_of a.target.arguments ++ subscripts_in s a.value

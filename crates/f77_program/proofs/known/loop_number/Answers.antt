@@ -2,10 +2,10 @@ use Rattle.std.proofs.Common.{◌≡◌, map, drop, ◌+◌, Some, true, false, 
 use Rattle.std.specs.Str.{bytes_eq}
 use Rattle.f77_program.specs.Known.{open_of, opened_as}
 use Rattle.f77_program.proofs.Looked.{opened_step}
-use Rattle.f77_program.proofs.opened.loop_number.Goals as goal
+use Rattle.f77_program.proofs.known.loop_number.Goals as goal
 
-pub returns-then-eq : goal.returns-then-eq
-returns-then-eq c =
+pub returns-then-eq-clause-number : goal.returns-then-eq-clause-number
+returns-then-eq-clause-number c =
     let o = c.open-item.result in
     let name = c.args.name.now in
     let rest = opened_as (drop (c.loop-open.open-index + 1) (map open_of c.args.opened.now)) name in
