@@ -7,4 +7,4 @@ pub mod Sums
 pub mod Dealt
 pub mod Trips
 pub mod Near
-mod Outside
+pub mod Outside

@@ -123,7 +123,7 @@ possible_is m s (store t c) = refl
 possible_is m s (print t) = refl
 
 -- each phase of a plan that fits has an anchor
-anchored : (tree : Tree) (plan : Plan) → IsWellFormed tree → IsFit tree plan → (k : ℕ) (v : Visit) → slice_get (phases tree plan.cut) k ≡ Some v → (a : Anchor) × (slice_get plan.anchors (v.place - 1) ≡ Some a)
+pub anchored : (tree : Tree) (plan : Plan) → IsWellFormed tree → IsFit tree plan → (k : ℕ) (v : Visit) → slice_get (phases tree plan.cut) k ≡ Some v → (a : Anchor) × (slice_get plan.anchors (v.place - 1) ≡ Some a)
 anchored tree plan formed fits k v at =
     let parts = fit_parts tree plan fits in
     let f = all_at (IsThereFrom (param_values tree) (scope_of tree) 1 (stops_of (enters_outer plan.cut) tree.items) (placed tree (enters_outer plan.cut)) (ends_among (param_values tree) (enters_outer plan.cut) no_ends tree.items)) (phases tree plan.cut) k v (all_there tree (enters_outer plan.cut) formed) at in

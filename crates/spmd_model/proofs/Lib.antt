@@ -14,4 +14,4 @@ mod PlannedMoments
 mod PlannedOrder
 mod PlannedMemory
 mod PlannedSound
-mod Deeds
+pub mod Deeds

@@ -1,0 +1,2 @@
+mod TurnLists
+mod TurnDeeds
