@@ -11,3 +11,5 @@ pub mod Surveyed
 pub mod Settings
 pub mod Defined
 pub mod Redeclared
+pub mod Pieced
+pub mod Faulted

@@ -1,5 +1,5 @@
 -- Expressions of a statement, one more.
-use Rattle.std.proofs.Common.{◌≡◌, Bool, ◌||◌, List, [], ◌∷◌, ◌++◌, map, sym, ap, ◌∙◌}
+use Rattle.std.proofs.Common.{◌≡◌, Bool, ◌||◌, List, [], ◌∷◌, ◌++◌, map, refl, sym, ap, ◌∙◌}
 use Rattle.std.proofs.Math.Bool.{or-false}
 use Rattle.std.proofs.lemmas.List.{map_push}
 use Rattle.std.proofs.lemmas.List.Folds.{list_any-append}
@@ -13,7 +13,7 @@ use Rattle.f77_program.specs.declared.marks.Marks.{Marks}
 use Rattle.f77_program.specs.declared.measure.Measure.{Measure}
 use Rattle.f77_program.specs.Marks.{marks_of, also_marks, marks_among}
 use Rattle.f77_program.specs.Measures.{measure_of}
-use Rattle.f77_program.specs.Surveys.{SurveyOf, survey_of}
+use Rattle.f77_program.specs.Surveys.{SurveyOf, survey_of, measures_of}
 
 somewhere-more : (test : Scene → ExpressionForm → Bool) (spots : List Spot) (s : Scene) (e : ExpressionForm) → somewhere test (spots ++ (s, e) ∷ []) ≡ (somewhere test spots || list_any (test s) (parts_of e))
 somewhere-more test spots s e =
@@ -33,3 +33,8 @@ survey-more spots s e marks marks' ms ms' m so_far also more measured =
     let listed : ms' ≡ map (λ (spot : Spot). measure_of spot.0 spot.1) (spots ++ (s, e) ∷ []) =
     more ∙ ap (λ (v : SurveyOf). v.measures ++ m ∷ []) so_far ∙ ap (λ x. map (λ (spot : Spot). measure_of spot.0 spot.1) spots ++ x ∷ []) measured ∙ sym (map_push (λ (spot : Spot). measure_of spot.0 spot.1) spots (s, e)) in
     ap (λ x. record { marks = x; measures = ms' }) marked ∙ ap (λ xs. record { marks = marks_of (spots ++ (s, e) ∷ []); measures = xs }) listed
+
+-- expressions at one place
+pub here : (s : Scene) (es : List ExpressionForm) → measures_of (map (λ e. (s, e)) es) ≡ map (measure_of s) es
+here s [] = refl
+here s (e ∷ es) = ap (λ ms. measure_of s e ∷ ms) (here s es)

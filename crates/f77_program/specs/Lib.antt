@@ -14,3 +14,6 @@ pub mod Firsts
 pub mod Wholes
 pub mod Counts
 pub mod Bases
+pub mod Refusals
+pub mod Faults
+pub mod Judged

@@ -15,6 +15,9 @@ pub record SurveyOf : Type 0 where
 abbrev pub survey_view : Survey → SurveyOf
 survey_view s = record { marks = s.marks; measures = s.measures.items }
 
+abbrev pub measures_of : List Spot → List Measure
+measures_of spots = map (λ (spot : Spot). measure_of spot.0 spot.1) spots
+
 -- of expressions, each with what is known in front of it
 abbrev pub survey_of : List Spot → SurveyOf
-survey_of spots = record { marks = marks_of spots; measures = map (λ (spot : Spot). measure_of spot.0 spot.1) spots }
+survey_of spots = record { marks = marks_of spots; measures = measures_of spots }

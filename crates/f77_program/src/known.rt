@@ -1,6 +1,6 @@
 // What is known at a statement, by the statements in front of it.
 
-ghost use Rattle.std.specs.Prelude.{◌≡◌, ◌≤◌, ◌++◌, [], ◌∷◌, IfSome, OnOk};
+ghost use Rattle.std.specs.Prelude.{◌≡◌, ◌≤◌, ◌++◌, [], ◌∷◌, length, IfSome, OnOk};
 
 use crate::arrays::Arrays;
 use crate::constants::Constants;
@@ -65,6 +65,13 @@ impl Known {
         ensures { result ≡ self.now.count }
     {
         self.labels.len()
+    }
+
+    /// How many loops are open.
+    pub fn depth(&self) -> usize
+        ensures { result ≡ length self.now.opened }
+    {
+        self.opened.len()
     }
 
     /// Whether an executable statement stands in front.

@@ -4,6 +4,8 @@
 mod arrays;
 mod constants;
 mod declared;
+mod fault;
+mod judge;
 mod known;
 mod limits;
 mod linear;
@@ -16,12 +18,18 @@ mod parts;
 mod pieces;
 mod reach;
 mod reaches;
+mod refusal;
 mod statements;
 mod sums;
 mod survey;
+mod tested;
 mod value;
 mod whole;
 
+pub use constants::Constants;
+pub use judge::fault_in;
 pub use known::Known;
 pub use names::Names;
 pub use parts::parts_of;
+pub use refusal::{Fault, Refusal};
+pub use whole::Whole;

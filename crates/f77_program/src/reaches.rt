@@ -2,13 +2,14 @@
 
 ghost use Rattle.std.specs.Prelude.{◌≡◌, [], ◌∷◌, map, MatchOption};
 ghost use Rattle.f77_forms.specs.View as view;
-ghost use Rattle.f77_scene.specs.Scene.{Scene};
-ghost use Rattle.f77_scene.specs.Statements.{expressions_in};
+ghost use Rattle.f77_scene.specs.Scene.{Given, Scene};
+ghost use Rattle.f77_scene.specs.Statements.{spots_in};
 ghost use Rattle.f77_scene.specs.Tests as tests;
 ghost use Rattle.f77_program.specs.Counts as spec;
 ghost use Rattle.f77_program.specs.Measures.{measure_of};
 ghost use Rattle.f77_program.specs.Measures as measures;
 ghost use Rattle.f77_program.specs.Reaches.{also, reach_of};
+ghost use Rattle.f77_program.specs.Surveys.{measures_of};
 
 use crate::measure::Measure;
 use crate::measures::{inner_reaches, linear_reaches};
@@ -18,7 +19,7 @@ use f77_forms::Statement;
 /// What the expressions of a statement are that have to be affine, where its expressions come to
 /// these.
 pub fn reach_in(statement: &Statement, measures: &[Measure]) -> Reach
-    ensures { (s : Scene) → measures.now ≡ map (measure_of s) (expressions_in s (view.statement_of statement.now)) → result ≡ reach_of s (tests.affine_in s (view.statement_of statement.now)) }
+    ensures { (given : Given) (s : Scene) → measures.now ≡ measures_of (spots_in given s (view.statement_of statement.now)) → result ≡ reach_of s (tests.affine_in s (view.statement_of statement.now)) }
 {
     let (affine, others) = measures.split_at(affine_count(statement).min(measures.len()));
     match statement {
@@ -51,7 +52,7 @@ fn affine_count(statement: &Statement) -> usize
 
 /// The step of a DO statement, if it has one.
 pub fn step_in<'a>(statement: &Statement, measures: &'a [Measure]) -> Option<&'a Measure>
-    ensures { (s : Scene) → measures.now ≡ map (measure_of s) (expressions_in s (view.statement_of statement.now)) → MatchOption result (tests.steps_in (view.statement_of statement.now) ≡ []) (λ m. map (measure_of s) (tests.steps_in (view.statement_of statement.now)) ≡ m.now ∷ []) }
+    ensures { (given : Given) (s : Scene) → measures.now ≡ measures_of (spots_in given s (view.statement_of statement.now)) → MatchOption result (tests.steps_in (view.statement_of statement.now) ≡ []) (λ m. map (measure_of s) (tests.steps_in (view.statement_of statement.now)) ≡ m.now ∷ []) }
 {
     match statement {
         Statement::Do(_) => measures.get(2),
