@@ -1,5 +1,5 @@
 -- A processor's acts, one behind another, by what they do.
-use Rattle.std.proofs.Common.{◌≡◌, ◌==◌, ℕ, zero, suc, ◌+◌, ◌-◌, ℤ, Bool, true, false, cond, List, [], ◌∷◌, ◌++◌, length, map, Option, Some, None, refl, ap, sym, ◌∙◌, inl, inr, arith, if◌then◌else◌, zero-add}
+use Rattle.std.proofs.Common.{◌≡◌, ◌==◌, ℕ, suc, ◌-◌, Bool, true, false, cond, List, [], ◌∷◌, ◌++◌, map, Option, Some, None, refl, ap, sym, ◌∙◌, inl, inr, arith, if◌then◌else◌, zero-add}
 use Rattle.std.specs.Prelude.{slice_get}
 use Rattle.std.specs.List.{filter, flat_map}
 use Rattle.std.proofs.lemmas.Bool.{cases_Bool}
@@ -9,13 +9,13 @@ use Rattle.nest_tree.specs.Tree.{Tree, param_values}
 use Rattle.nest_model.specs.Instances.{Instance}
 use Rattle.nest_model.specs.Visits.{Visit}
 use Rattle.owner_partition.specs.declared.anchor.Anchor.{Anchor}
-use Rattle.owner_partition.specs.Owners.{anchor_owner, owner_by}
+use Rattle.owner_partition.specs.Owners.{owner_by}
 use Rattle.owner_partition.specs.Phases.{phase_instances, phases}
 use Rattle.sync_plan.specs.declared.plan.Plan.{Plan}
 use Rattle.spmd_model.specs.Timelines.{Act, post, await, load, store, print, Job, Machine, Moment, boundary, job, acts_from, acts_of, boundary_acts, job_acts, last_act, moment_acts}
 use Rattle.spmd_model.specs.States.{State, acted, assigned_by, is_possible, line_by}
 use Rattle.spmd_model.specs.Planned.{boundary_of, job_of, jobs_of, machine_of, timeline_from, timeline_of}
-use Rattle.spmd_model.specs.Deeds.{Deed, posting, awaiting, loading, storing, printing, boundary_deeds, can_do, deed_of, deeds_from, did, instance_deeds, job_deeds, last_deed, moment_deeds, owned_by, phase_deeds}
+use Rattle.spmd_model.specs.Deeds.{Deed, posting, awaiting, loading, storing, printing, boundary_deeds, can_do, deed_of, deeds_from, did, instance_deeds, job_deeds, last_deed, moment_deeds, owned_by}
 use Rattle.std.proofs.lemmas.Option.{slice_get_cases, slice_get_within}
 use Rattle.nest_tree.specs.Limits.{no_ends}
 use Rattle.nest_tree.specs.WellFormed.{IsWellFormed, scope_of}
@@ -75,10 +75,10 @@ own_jobs : (p : ℕ) (f : Instance → Job) (deeds : Instance → List Deed) (is
 own_jobs p f deeds [] same = refl
 own_jobs p f deeds (i ∷ is) same = elim (cases_Bool ((f i).owner == p)) [
   | inl own ↦
-    ap (λ b. (if b then job_deeds (f i) else []) ++ flat_map (moment_deeds p) (map (λ k. job (f k)) is)) own
-    ∙ ap (λ l. l ++ flat_map (moment_deeds p) (map (λ k. job (f k)) is)) (same i)
-    ∙ ap (λ l. deeds i ++ l) (own_jobs p f deeds is same)
-    ∙ sym (ap (λ b. flat_map deeds (cond b (i ∷ filter (λ k. (f k).owner == p) is) (filter (λ k. (f k).owner == p) is))) own)
+      ap (λ b. (if b then job_deeds (f i) else []) ++ flat_map (moment_deeds p) (map (λ k. job (f k)) is)) own
+      ∙ ap (λ l. l ++ flat_map (moment_deeds p) (map (λ k. job (f k)) is)) (same i)
+      ∙ ap (λ l. deeds i ++ l) (own_jobs p f deeds is same)
+      ∙ sym (ap (λ b. flat_map deeds (cond b (i ∷ filter (λ k. (f k).owner == p) is) (filter (λ k. (f k).owner == p) is))) own)
   | inr other ↦
       ap (λ b. (if b then job_deeds (f i) else []) ++ flat_map (moment_deeds p) (map (λ k. job (f k)) is)) other
       ∙ own_jobs p f deeds is same

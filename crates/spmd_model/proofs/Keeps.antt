@@ -9,7 +9,8 @@ use Rattle.std.proofs.lemmas.Option.{slice_get_within}
 use Rattle.spmd_model.specs.Timelines.{Act, load, Job, Machine, job, act_at, acts_of, last_act, moment_acts}
 use Rattle.spmd_model.specs.Ordered.{IsOrdered, IsSound, cells_of}
 use Rattle.spmd_model.specs.Lawful.{IsLawful, Moves, acts_in_front, is_done, stores_to}
-use Rattle.spmd_model.proofs.Lists.{contains_at, get-behind, get-front}
+use Rattle.sync_plan.proofs.Gets.{get-behind, get-front}
+use Rattle.spmd_model.proofs.Lists.{contains_at}
 use Rattle.spmd_model.proofs.ActLists.{Found, in_front-more, in_front-rises}
 use Rattle.spmd_model.proofs.MomentActs.{own_acts}
 use Rattle.spmd_model.proofs.Chains.{IsAt, earlier_done, later_not}

@@ -7,7 +7,8 @@ use Rattle.std.proofs.lemmas.Bool.{cases_Bool, cases_lt, eqb-true, eq-eqb}
 use Rattle.std.proofs.lemmas.Option.{slice_get-map}
 use Rattle.std.proofs.lemmas.List.{length-map}
 use Rattle.spmd_model.specs.Timelines.{Act, post, await, load, store, print, Job, Moment, boundary, job, boundary_acts, job_acts, last_act, moment_acts}
-use Rattle.spmd_model.proofs.Lists.{contains_at, get-behind, get-front, place_of}
+use Rattle.sync_plan.proofs.Gets.{get-behind, get-front}
+use Rattle.spmd_model.proofs.Lists.{contains_at, place_of}
 
 -- ---- one kind each
 

@@ -12,7 +12,8 @@ use Rattle.owner_partition.specs.Phases.{Execution, executions_from, phase_insta
 use Rattle.sync_plan.specs.declared.plan.Plan.{Plan}
 use Rattle.spmd_model.specs.Timelines.{Job, Moment, job}
 use Rattle.spmd_model.specs.Planned.{boundary_of, is_job, job_count, job_of, jobs_of, timeline_from}
-use Rattle.spmd_model.proofs.Lists.{get-behind, get-front, take-behind}
+use Rattle.sync_plan.proofs.Gets.{get-behind, get-front}
+use Rattle.spmd_model.proofs.Lists.{take-behind}
 
 -- where the boundary of a phase stands, by how many phases are in front of it
 abbrev pub boundary_place_from : Tree → Plan → ℕ → List Visit → ℕ → ℕ

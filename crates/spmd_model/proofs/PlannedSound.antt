@@ -24,7 +24,7 @@ use Rattle.sync_plan.specs.Ordered.{IsOrdered as IsOrderedPlan, owner_under}
 use Rattle.sync_plan.proofs.FitOwners.{owners_below, printers}
 use Rattle.spmd_model.specs.Ordered.{IsOrdered, IsSound}
 use Rattle.spmd_model.specs.Planned.{machine_of}
-use Rattle.spmd_model.proofs.Lists.{get-behind, get-front}
+use Rattle.sync_plan.proofs.Gets.{get-behind, get-front}
 use Rattle.spmd_model.proofs.PlannedOrder.{ordered_along}
 use Rattle.spmd_model.proofs.PlannedMoments.{boundary_place_from, boundary_rises, executed}
 

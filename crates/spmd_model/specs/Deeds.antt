@@ -1,5 +1,5 @@
 -- What an act does, without its place on the timeline: what is left of a processor's acts is shown by what they do.
-use Rattle.std.specs.Prelude.{ℕ, suc, ◌+◌, ◌-◌, ◌==◌, ℤ, Bool, List, [], ◌∷◌, ◌++◌, map, Option, Some, None, slice_get, slice_index, slice_set, nat_le, true, if◌then◌else◌}
+use Rattle.std.specs.Prelude.{ℕ, suc, ◌-◌, ◌==◌, ℤ, Bool, List, [], ◌∷◌, ◌++◌, map, Option, Some, None, slice_get, slice_index, slice_set, nat_le, true, if◌then◌else◌}
 use Rattle.std.specs.List.{flat_map}
 use Rattle.nest_tree.specs.Tree.{Tree, param_values}
 use Rattle.nest_model.specs.Instances.{Instance}
