@@ -1,0 +1,54 @@
+//! Checks and runs a program of loops, and writes its output: three sweeps over ten elements, with
+//! one word 200 sweeps over 100,000 elements, with two the product of two lower triangular matrices
+//! of 500 rows. With a word it also writes to standard error how many microseconds the check of the
+//! ranges took, and the run.
+//!
+//! It ends with status 1 where a write fails or memory runs out.
+#![tactic(auto)]
+
+ghost use Rattle.nest_tree.specs.View.{tree_of};
+ghost use Rattle.nest_tree.specs.WellFormed.{IsWellFormed};
+
+mod pieces;
+mod programs;
+
+use nest_tree::{Program, program_limits};
+use range_check::check_ranges;
+use seq_meaning::run_sequential;
+use std::io::Write;
+use std::time::Instant;
+use std::{env, io};
+
+fn main(rt: HostRuntime) -> io::Result<()> {
+    match env::args(&rt)?.skip(1).count() {
+        0 => run(&rt, &programs::jacobi(rt.alloc(), 3, 10, 9)?, false),
+        1 => run(
+            &rt,
+            &programs::jacobi(rt.alloc(), 200, 100_000, 99_999)?,
+            true,
+        ),
+        _ => run(&rt, &programs::product(rt.alloc(), 500)?, true),
+    }
+}
+
+// The output of a program's run, or the refusal. With times, it also writes to standard error how
+// many microseconds the check of the ranges took, and the run.
+fn run(rt: &HostRuntime, program: &Program, times: bool) -> io::Result<()>
+    requires { IsWellFormed (tree_of program.now) }
+{
+    if let Err(limit) = program_limits(program) {
+        return rt.println(limit);
+    }
+    let begun = Instant::now(rt)?;
+    if let Err(outside) = check_ranges(program) {
+        return rt.println(outside);
+    }
+    let checked = begun.elapsed(rt)?.as_micros();
+    let begun = Instant::now(rt)?;
+    let (_memory, output) = run_sequential(rt.alloc(), program)?;
+    let ran = begun.elapsed(rt)?.as_micros();
+    if times {
+        eprintln!(rt; "ranges {checked} run {ran}")?;
+    }
+    rt.stdout().write_all(output.as_slice())
+}
