@@ -1,0 +1,16 @@
+pub mod Places
+pub mod Numbers
+pub mod Splitting
+pub mod PairWords
+pub mod Anchors
+pub mod Stopping
+pub mod Counting
+pub mod LineLaws
+pub mod Said
+pub mod Items
+pub mod Frees
+pub mod Defaults
+pub mod Written
+pub mod Plans
+pub mod Chain
+pub mod PlanLaws
