@@ -1,5 +1,5 @@
 -- What is known at a statement, as the reader keeps it.
-use Rattle.std.specs.Prelude.{ℕ, ℤ, List, [], ◌∷◌, map, Option, Some, None, if◌then◌else◌}
+use Rattle.std.specs.Prelude.{ℕ, ℤ, ◌==◌, Bool, false, List, [], ◌∷◌, map, Option, Some, None, if◌then◌else◌}
 use Rattle.std.specs.Global.{Vec}
 use Rattle.std.specs.List.{list_any}
 use Rattle.std.specs.Str.{bytes_eq}
@@ -31,3 +31,8 @@ open_of o = record { variable = o.variable.items; label = o.label; number = o.nu
 -- the number of the open loop with this variable
 abbrev pub opened_as : List Open → Name → Option ℕ
 opened_as opened n = if list_any (λ (o : Open). bytes_eq o.variable n) opened then Some (loop_named opened n) else None
+
+-- the innermost of open loops ends with this label
+abbrev pub ends_first : ℕ → List Open → Bool
+ends_first label [] = false
+ends_first label (o ∷ opened) = o.label == label

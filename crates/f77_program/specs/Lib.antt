@@ -17,3 +17,4 @@ pub mod Bases
 pub mod Refusals
 pub mod Faults
 pub mod Judged
+pub mod Passed

@@ -183,7 +183,80 @@ impl Known {
     }
 }
 
+impl Known {
+    ghost use Rattle.std.specs.Prelude.{◌≡◌, ◌+◌, ◌<◌, ◌^◌, ◌++◌, [], ◌∷◌, true, OnOk, map};
+    ghost use Rattle.f77_forms.specs.View as view;
+    ghost use Rattle.f77_scene.specs.Scene.{with_names};
+    ghost use Rattle.f77_scene.specs.Tests.{left_open};
+    ghost use Rattle.f77_program.specs.Pieces.{names_view};
+
+    /// The statement is counted with its label, and these names are known.
+    pub fn note(&mut self, alloc: Global, label: u32, names: &[&[u8]]) -> Result<(), AllocError>
+        ensures { OnOk result (self.new ≡ record self.old { count = self.old.count + 1; labels = self.old.labels ++ label ∷ []; names = with_names self.old.names (names_view names.now) }) }
+    {
+        self.labels.push(label)?;
+        self.names.add_all(alloc, names)?;
+        Ok(())
+    }
+
+    /// These are names of INTEGER statements.
+    pub fn declare_integers(&mut self, alloc: Global, names: &[&[u8]]) -> Result<(), AllocError>
+        ensures { OnOk result (self.new ≡ record self.old { integers = self.old.integers ++ names_view names.now }) }
+    {
+        self.integers.push_all(alloc, names)?;
+        Ok(())
+    }
+
+    /// One more array.
+    pub fn declare_array(
+        &mut self,
+        alloc: Global,
+        name: &[u8],
+        bounds: Vec<(i64, i64)>,
+    ) -> Result<(), AllocError>
+        ensures { OnOk result (self.new ≡ record self.old { arrays = self.old.arrays ++ record { name = name.now; bounds = bounds.items } ∷ [] }) }
+    {
+        self.arrays.push(alloc, name, bounds)?;
+        Ok(())
+    }
+
+    /// Behind a DO statement with this variable and this label its loop is open.
+    pub fn open(&mut self, alloc: Global, variable: &[u8], label: u64) -> Result<(), AllocError>
+        requires { self.old.loops < 2 ^ 31 }
+        ensures { OnOk result (self.new ≡ record self.old { executes = true; loop_variables = self.old.loop_variables ++ variable.now ∷ []; loops = self.old.loops + 1; opened = record { variable = variable.now; label = label; number = self.old.loops + 1 } ∷ self.old.opened }) }
+    {
+        self.loop_variables.push(alloc, variable)?;
+        let opened = Opened {
+            variable: Vec::from_slice(alloc, variable)?,
+            label,
+            number: self.loops + 1,
+        };
+        self.opened.insert(0, opened)?;
+        self.loops += 1;
+        self.executes = true;
+        Ok(())
+    }
+
+    /// Behind another executable statement these are scalars, and the loops that end with its
+    /// label are closed.
+    pub fn execute(
+        &mut self,
+        alloc: Global,
+        label: u32,
+        scalars: &[&[u8]],
+    ) -> Result<(), AllocError>
+        ensures { OnOk result (self.new ≡ record self.old { executes = true; scalars = with_names self.old.scalars (names_view scalars.now); opened = left_open label self.old.opened }) }
+    {
+        self.scalars.add_all(alloc, scalars)?;
+        self.executes = true;
+        close(label, &mut self.opened);
+        Ok(())
+    }
+}
+
 ghost use Rattle.std.specs.Prelude.{map};
+ghost use Rattle.f77_scene.specs.Tests as tests;
+ghost use Rattle.f77_program.specs.Known as known;
 ghost use Rattle.f77_program.specs.Known.{open_of, opened_as};
 
 /// The number of the loop with this variable, if one of these has it.
@@ -197,4 +270,23 @@ fn loop_number(opened: &[Opened], name: &[u8]) -> Option<u32>
         }
     }
     None
+}
+
+/// The loops that end with this label are closed, the innermost first.
+fn close(label: u32, opened: &mut Vec<Opened>)
+    ensures { map open_of opened.new.items ≡ tests.left_open label (map open_of opened.old.items) }
+{
+    while ends_first(label, opened.as_slice()) {
+        opened.remove(0);
+    }
+}
+
+/// Whether the innermost of these loops ends with this label.
+fn ends_first(label: u32, opened: &[Opened]) -> bool
+    ensures { result ≡ known.ends_first label (map open_of opened.now) }
+{
+    match opened {
+        [first, ..] => first.label == u64::from(label),
+        [] => false,
+    }
 }

@@ -1,6 +1,6 @@
 // Lists of names that are looked up.
 
-ghost use Rattle.std.specs.Prelude.{◌≡◌, ◌≤◌, ◌++◌, [], ◌∷◌, OnOk, OnErr, IfSome};
+ghost use Rattle.std.specs.Prelude.{◌≡◌, ◌≤◌, ◌++◌, [], ◌∷◌, OnOk, OnErr, IfSome, map};
 
 use std::alloc::{AllocError, Global};
 use std::collections::BTreeMap;
@@ -27,7 +27,7 @@ impl Model for Names {
 }
 
 impl Names {
-    ghost use Rattle.std.specs.Prelude.{length, ◌≤◌, IfSome};
+    ghost use Rattle.std.specs.Prelude.{length, ◌≤◌, IfSome, map};
     ghost use Rattle.f77_scene.specs.Scene.{is_among, with_names};
     ghost use Rattle.f77_program.specs.Numbered.{numbered, texts_of};
 
@@ -95,6 +95,26 @@ impl Names {
             return Ok(());
         }
         self.push(alloc, name)
+    }
+
+    /// These names at the end.
+    pub fn push_all(&mut self, alloc: Global, names: &[&[u8]]) -> Result<(), AllocError>
+        ensures { OnOk result (self.new ≡ self.old ++ map (λ n. n.now) names.now) }
+    {
+        for name in names {
+            self.push(alloc, name)?;
+        }
+        Ok(())
+    }
+
+    /// Of these names those that are not there yet, at the end.
+    pub fn add_all(&mut self, alloc: Global, names: &[&[u8]]) -> Result<(), AllocError>
+        ensures { OnOk result (self.new ≡ with_names self.old (map (λ n. n.now) names.now)) }
+    {
+        for name in names {
+            self.add(alloc, name)?;
+        }
+        Ok(())
     }
 }
 

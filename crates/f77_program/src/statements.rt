@@ -138,7 +138,7 @@ fn ends_a_loop(label: u32, opened: &[Opened]) -> bool
     ensures { result ≡ tests.ends_a_loop label (map open_of opened.now) }
 {
     for open in opened {
-        if open.label == label {
+        if open.label == u64::from(label) {
             return true;
         }
     }
@@ -150,7 +150,7 @@ pub fn left_open(label: u32, opened: &[Opened]) -> &[Opened]
     ensures { map open_of result.now ≡ tests.left_open label (map open_of opened.now) }
 {
     for (place, open) in opened.iter().enumerate() {
-        if open.label != label {
+        if open.label != u64::from(label) {
             return &opened[place..];
         }
     }
