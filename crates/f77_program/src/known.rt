@@ -67,6 +67,13 @@ impl Known {
         self.labels.len()
     }
 
+    /// How many loops have begun.
+    pub fn loops(&self) -> u32
+        ensures { result ≡ self.now.loops }
+    {
+        self.loops
+    }
+
     /// How many loops are open.
     pub fn depth(&self) -> usize
         ensures { result ≡ length self.now.opened }
