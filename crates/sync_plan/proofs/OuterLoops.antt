@@ -54,7 +54,7 @@ mutual
       let entered = λ (h : slice_get (placed_of enters (n ∷ around) body) k ≡ Some p).
       one_more n around loops outer (loops_among enters (with_loop loops n (slice_index_or outer 0 (pos 0))) (drop 1 outer) body k) p (inside_among enters (n ∷ around) (with_loop loops n (slice_index_or outer 0 (pos 0))) (drop 1 outer) body k p h) in
       elim (enters n) as (λ b. slice_get (if b then placed_of enters (n ∷ around) body else record { what = do_loop head body; around = around } ∷ []) k ≡ Some p →
-        InsideOf around loops outer (if b then loops_among enters (with_loop loops n (slice_index_or outer 0 (pos 0))) (drop 1 outer) body k else Some loops) p) [
+      InsideOf around loops outer (if b then loops_among enters (with_loop loops n (slice_index_or outer 0 (pos 0))) (drop 1 outer) body k else Some loops) p) [
         | true ↦ entered
         | false ↦ here_alone around loops outer (do_loop head body) k p
       ] at
@@ -70,8 +70,8 @@ mutual
       let stops = stops_in enters s in
       elim (cases_lt k stops) [
         | inl less ↦
-          let i = inside_in enters around loops outer s k p (sym (get-front text later k (omega (arith, less, as_many))) ∙ at) in
-          record { inner = i.inner; around_is = i.around_is; loops_are = ap (λ b. if b then Text.loops_in enters loops outer s k else loops_among enters loops outer rest (k - stops)) (lt-ltb k stops less) ∙ i.loops_are }
+            let i = inside_in enters around loops outer s k p (sym (get-front text later k (omega (arith, less, as_many))) ∙ at) in
+            record { inner = i.inner; around_is = i.around_is; loops_are = ap (λ b. if b then Text.loops_in enters loops outer s k else loops_among enters loops outer rest (k - stops)) (lt-ltb k stops less) ∙ i.loops_are }
         | inr past ↦
             let more : length text + (k - stops) ≡ k = omega (arith, past, as_many) in
             let i = inside_among enters around loops outer rest (k - stops) p (sym (ap (slice_get (text ++ later)) (sym more) ∙ get-behind text later (k - stops)) ∙ at) in
@@ -177,8 +177,8 @@ phase_has_loops tree marks k v rounds formed at text loops =
     let place : v.place - 1 ≡ f.k = omega (arith, f.place_is) in
     let stop : is_stop enters v.what ≡ true = all_true (λ (p : Placed). is_stop enters p.what) all f.k (record { what = v.what; around = f.there.around }) (stops_among enters [] tree.items) f.there.at in
     ∥∥₁_elim text.stops (hlevel props) (λ h.
-      let alone : Standing all v.place (record { what = v.what; around = numbers_of rounds } ∷ []) = subst (Standing all v.place) (stands_alone enters (numbers_of rounds) v.what stop) h in
-      outer_loops tree marks v.place (record { what = v.what; around = numbers_of rounds }) rounds (standing_at all v.place (record { what = v.what; around = numbers_of rounds }) alone) refl ∙ sym loops)
+    let alone : Standing all v.place (record { what = v.what; around = numbers_of rounds } ∷ []) = subst (Standing all v.place) (stands_alone enters (numbers_of rounds) v.what stop) h in
+    outer_loops tree marks v.place (record { what = v.what; around = numbers_of rounds }) rounds (standing_at all v.place (record { what = v.what; around = numbers_of rounds }) alone) refl ∙ sym loops)
   where
     all_true : (test : Placed → Bool) (ps : List Placed) (n : ℕ) (p : Placed) → list_all test ps ≡ true → slice_get ps n ≡ Some p → test p ≡ true
     all_true test [] n p h e = let clash : None ≡ Some p = e in absurd (cc)
