@@ -16,6 +16,7 @@ use Rattle.nest_tree.proofs.Places.{element_count-some}
 use Rattle.nest_model.specs.Memory.{items_text}
 use Rattle.nest_walk.proofs.CellPlaces.{bounds-good}
 use Rattle.seq_meaning.specs.Lines.{has_text, item_load_count, item_text, items_load_count}
+use Rattle.seq_meaning.specs.Room.{longest_item, longest_items}
 
 -- the items from one on
 items_more : (items : List PrintItem) (i : ℕ) (item : PrintItem) → i < length items → item ≡ get_or items i item → drop i (map printed_of items) ≡ printed_of item ∷ drop (i + 1) (map printed_of items)
@@ -31,6 +32,10 @@ first_item tree loops items i item lt is h =
 pub load_count_more : (tree : Tree) (items : List PrintItem) (i : ℕ) (item : PrintItem) → i < length items → item ≡ get_or items i item →
     items_load_count tree (drop i (map printed_of items)) ≡ item_load_count tree (printed_of item) + items_load_count tree (drop (i + 1) (map printed_of items))
 load_count_more tree items i item lt is = ap (items_load_count tree) (items_more items i item lt is) ∙ sum_by-cons (item_load_count tree) (printed_of item) (drop (i + 1) (map printed_of items))
+
+pub longest_more : (tree : Tree) (items : List PrintItem) (i : ℕ) (item : PrintItem) → i < length items → item ≡ get_or items i item →
+    longest_items tree (drop i (map printed_of items)) ≡ longest_item tree (printed_of item) + longest_items tree (drop (i + 1) (map printed_of items))
+longest_more tree items i item lt is = ap (longest_items tree) (items_more items i item lt is) ∙ sum_by-cons (longest_item tree) (printed_of item) (drop (i + 1) (map printed_of items))
 
 one_item : (tree : Tree) (loops : List ℤ) (p : Printed) (rest : List Printed) (loaded : List ℤ) →
     items_text tree loops (p ∷ rest) loaded ≡ item_text tree loops p loaded ++ items_text tree loops rest (drop (item_load_count tree p) loaded)

@@ -17,4 +17,4 @@ pub mod value;
 
 pub use output::Output;
 pub use run::run_sequential;
-pub use value::eval;
+pub use value::{Given, eval};

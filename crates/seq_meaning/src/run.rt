@@ -28,7 +28,7 @@ pub fn run_sequential(alloc: Global, program: &Program) -> Result<(Vec<i64>, Out
     requires limits { IsWithinLimits (tree_of program.now) }
     requires ranges { IsInRange (tree_of program.now) }
     ensures memory { IfOk result (λ end. end.0.items ≡ last_memory (tree_of program.now)) }
-    ensures output { IfOk result (λ end. end.1 ≡ output_of (tree_of program.now)) }
+    ensures output { IfOk result (λ end. end.1.bytes ≡ output_of (tree_of program.now)) }
 {
     let mut run = Run::new(alloc, program)?;
     let mut instances = Instances::new(program);
@@ -64,7 +64,7 @@ impl<'a> Run<'a> {
         ensures ready { IfOk result (λ run. IsReady run) }
         ensures program { IfOk result (λ run. run.program.now ≡ program.now) }
         ensures memory { IfOk result (λ run. run.memory.items ≡ first_memory (tree_of program.now)) }
-        ensures output { IfOk result (λ run. run.output ≡ []) }
+        ensures output { IfOk result (λ run. run.output.bytes ≡ []) }
     {
         let mut params = Vec::with_capacity(alloc, program.params.len())?;
         for parameter in &program.params {
@@ -89,7 +89,7 @@ impl<'a> Run<'a> {
         ensures ready { OnOk result (IsReady self.new) }
         ensures program { OnOk result (self.new.program.now ≡ self.old.program.now) }
         ensures memory { OnOk result ((w : Work) → statement_of stop.entry.item.now ≡ work w → self.new.memory.items ≡ memory_behind (tree_of self.old.program.now) (loops_in (tree_of self.old.program.now) (rounds_of path.now)) w self.old.memory.items) }
-        ensures output { OnOk result ((w : Work) → statement_of stop.entry.item.now ≡ work w → self.new.output ≡ self.old.output ++ printed_behind (tree_of self.old.program.now) (loops_in (tree_of self.old.program.now) (rounds_of path.now)) w self.old.memory.items) }
+        ensures output { OnOk result ((w : Work) → statement_of stop.entry.item.now ≡ work w → self.new.output.bytes ≡ self.old.output.bytes ++ printed_behind (tree_of self.old.program.now) (loops_in (tree_of self.old.program.now) (rounds_of path.now)) w self.old.memory.items) }
     {
         path.write_to(&mut self.loops);
         let cells = self.table.work(stop.first);

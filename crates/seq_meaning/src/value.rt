@@ -30,10 +30,10 @@ pub fn eval(e: &Expr, loops: &[i64], params: &[i64], loaded: &[i64]) -> i64
 /// What expressions are evaluated from: the values of loops and of named constants by number, and
 /// those that loads gave, in text order.
 #[derive(Clone, Copy)]
-pub(crate) struct Given<'a> {
-    pub(crate) loops: &'a [i64],
-    pub(crate) params: &'a [i64],
-    pub(crate) loaded: &'a [i64],
+pub struct Given<'a> {
+    pub loops: &'a [i64],
+    pub params: &'a [i64],
+    pub loaded: &'a [i64],
 }
 
 impl Given<'_> {

@@ -39,12 +39,12 @@ loop-stop-preserved c =
     let new = c.execute.new.self in
     let insides = and_parts (is_instance_inside tree i) (list_all (is_instance_inside tree) rest) (sym (ap (list_all (is_instance_inside tree)) next.instance.2) ∙ c.loop-stop.invariant.inside) in
     let memory = memory_step tree (instances_tree c.next.new.self) (tree_of old.program.now) (rounds_of c.path.result.now) (instances_rounds c.next.new.self) stop.first s i old.memory.items new.memory.items walked run c.path.ensures next.instance.1 c.in_ok-execute.ensures.memory in
-    let output = output_step tree (instances_tree c.next.new.self) (tree_of old.program.now) (rounds_of c.path.result.now) (instances_rounds c.next.new.self) stop.first s i old.memory.items old.output new.output walked run c.path.ensures next.instance.1 c.in_ok-execute.ensures.output in
+    let output = output_step tree (instances_tree c.next.new.self) (tree_of old.program.now) (rounds_of c.path.result.now) (instances_rounds c.next.new.self) stop.first s i old.memory.items old.output.bytes new.output.bytes walked run c.path.ensures next.instance.1 c.in_ok-execute.ensures.output in
     record {
       ready = c.in_ok-execute.ensures.ready;
       program = ap tree_of c.in_ok-execute.ensures.program ∙ run;
       walked = walked;
       inside = insides.1;
       memory = memory_rest tree old.memory.items new.memory.items (last_memory tree) left rest i next.instance.2 memory c.loop-stop.invariant.memory;
-      output = output_rest tree old.memory.items new.memory.items old.output new.output (output_of tree) left rest i next.instance.2 memory output c.loop-stop.invariant.output;
+      output = output_rest tree old.memory.items new.memory.items old.output.bytes new.output.bytes (output_of tree) left rest i next.instance.2 memory output c.loop-stop.invariant.output;
     }

@@ -17,7 +17,7 @@ invariant-loop-stop l =
       walked : instances_tree l.instances ≡ tree;
       inside : IsTrue (list_all (is_instance_inside tree) left);
       memory : fold (memory_after tree) l.run.memory.items left ≡ last_memory tree;
-      output : l.run.output ++ output_from tree l.run.memory.items left ≡ output_of tree;
+      output : l.run.output.bytes ++ output_from tree l.run.memory.items left ≡ output_of tree;
     }
 
 abbrev pub decreases-loop-stop : goal.decreases-loop-stop

@@ -1,4 +1,4 @@
-use Rattle.std.proofs.Common.{◌≡◌, ◌-◌, ◌++◌, ℤ, take, drop, length, length-drop, length-take, ap, sym, ◌∙◌, rules, arith, drop-drop}
+use Rattle.std.proofs.Common.{◌≡◌, ◌-◌, true≢false, ◌++◌, ℤ, take, drop, length, length-drop, length-take, ap, sym, ◌∙◌, rules, arith, drop-drop}
 use Rattle.std.specs.List.{flat_map}
 use Rattle.std.proofs.lemmas.List.{take_all}
 use Rattle.nest_tree.proofs.Cells.{declared-numbered}
@@ -45,11 +45,26 @@ returns-clause-text c =
     let array = whole_array c.args.program.now c.args.variable c.element_count-count.result c.args.at.now c.args.given.now.loaded.now c.index.result.now c.requires.formed c.requires.low c.requires.high c.index.ensures c.element_count-count.ensures.count c.requires.loads in
     let rest = drop c.args.at.now c.args.given.now.loaded.now in
     let whole : take (length c.args.given.now.loaded.now - c.args.at.now) rest ≡ rest = take_all (length c.args.given.now.loaded.now - c.args.at.now) rest (omega (arith, length-drop {A = ℤ})) in
-    c.in_ok-push_numbers.ensures ∙ ap (λ xs. c.args.self.now ++ flat_map number_text (take c.element_count-count.result xs)) whole
-    ∙ ap (λ n. c.args.self.now ++ flat_map number_text (take n rest)) array.count_is
+    c.in_ok-push_numbers.ensures.text ∙ ap (λ xs. c.args.self.now.bytes ++ flat_map number_text (take c.element_count-count.result xs)) whole
+    ∙ ap (λ n. c.args.self.now.bytes ++ flat_map number_text (take n rest)) array.count_is
 
 pub returns-clause-rest : goal.returns-clause-rest
 returns-clause-rest c =
     let array = whole_array c.args.program.now c.args.variable c.element_count-count.result c.args.at.now c.args.given.now.loaded.now c.index.result.now c.requires.formed c.requires.low c.requires.high c.index.ensures c.element_count-count.ensures.count c.requires.loads in
     let rest = drop c.args.at.now c.args.given.now.loaded.now in
     sym (drop-drop c.element_count-count.result c.args.at.now c.args.given.now.loaded.now) ∙ ap (λ n. drop n rest) array.count_is
+
+pub returns-in_err-push_numbers-clause-fits : goal.returns-in_err-push_numbers-clause-fits
+returns-in_err-push_numbers-clause-fits c = λ room.
+    let array = whole_array c.args.program.now c.args.variable c.element_count-count.result c.args.at.now c.args.given.now.loaded.now c.index.result.now c.requires.formed c.requires.low c.requires.high c.index.ensures c.element_count-count.ensures.count c.requires.loads in
+    absurd (true≢false (sym (c.in_err-push_numbers.ensures.fits (omega (arith, room, array.within, array.count_is, length-take {A = ℤ}, length-drop {A = ℤ})))))
+
+pub returns-in_err-push_numbers-clause-grown : goal.returns-in_err-push_numbers-clause-grown
+returns-in_err-push_numbers-clause-grown c =
+    let array = whole_array c.args.program.now c.args.variable c.element_count-count.result c.args.at.now c.args.given.now.loaded.now c.index.result.now c.requires.formed c.requires.low c.requires.high c.index.ensures c.element_count-count.ensures.count c.requires.loads in
+    omega (arith, c.push_numbers.ensures.grown, array.within, array.count_is, length-take {A = ℤ}, length-drop {A = ℤ})
+
+pub returns-clause-grown : goal.returns-clause-grown
+returns-clause-grown c =
+    let array = whole_array c.args.program.now c.args.variable c.element_count-count.result c.args.at.now c.args.given.now.loaded.now c.index.result.now c.requires.formed c.requires.low c.requires.high c.index.ensures c.element_count-count.ensures.count c.requires.loads in
+    omega (arith, c.push_numbers.ensures.grown, array.within, array.count_is, length-take {A = ℤ}, length-drop {A = ℤ})

@@ -1,8 +1,8 @@
-use Rattle.std.proofs.Common.{◌+◌, ◌++◌, ap, sym, ◌∙◌, arith, append_assoc, drop, length, length-drop, map}
+use Rattle.std.proofs.Common.{true≢false, ◌+◌, ◌++◌, ap, sym, ◌∙◌, arith, append_assoc, drop, length, length-drop, map}
 use Rattle.nest_tree.specs.View.{printed_of, tree_of}
 use Rattle.nest_model.specs.Memory.{items_text}
 use Rattle.seq_meaning.specs.Lines.{item_load_count}
-use Rattle.seq_meaning.proofs.PrintedItems.{first_item, text_more, load_count_more}
+use Rattle.seq_meaning.proofs.PrintedItems.{first_item, text_more, load_count_more, longest_more}
 use Rattle.seq_meaning.proofs.output.Output.push_line.Goals as goal
 
 pub push_item-requires-clause-texts : goal.push_item-requires-clause-texts
@@ -26,7 +26,19 @@ loop-item-preserved c =
     record {
       texts = (first_item tree (length c.args.given.now.loops.now) c.args.items.now c.loop-item.item-index item c.loop-item-test.true c.item-item.is c.loop-item.invariant.texts).1;
       loads = omega (arith, count, c.loop-item.invariant.loads, shorter);
-      text = ap (λ xs. c.push_item.new.self ++ items_text tree c.args.given.now.loops.now left xs) c.in_ok-push_item.ensures.rest
+      text = ap (λ xs. c.push_item.new.self.bytes ++ items_text tree c.args.given.now.loops.now left xs) c.in_ok-push_item.ensures.rest
           ∙ ap (λ xs. xs ++ items_text tree c.args.given.now.loops.now left (drop (item_load_count tree (printed_of item)) (drop c.loop-item.at loaded))) c.in_ok-push_item.ensures.text
-          ∙ append_assoc c.loop-item.self _ _ ∙ ap (λ xs. c.loop-item.self ++ xs) (sym text) ∙ c.loop-item.invariant.text;
+          ∙ append_assoc c.loop-item.self.bytes _ _ ∙ ap (λ xs. c.loop-item.self.bytes ++ xs) (sym text) ∙ c.loop-item.invariant.text;
+      grown = omega (arith, longest_more tree c.args.items.now c.loop-item.item-index item c.loop-item-test.true c.item-item.is, c.push_item.ensures.grown, c.loop-item.invariant.grown);
+      room = omega (arith, c.push_item.ensures.room, c.loop-item.invariant.room);
     }
+
+pub returns-in_err-push_item-clause-fits : goal.returns-in_err-push_item-clause-fits
+returns-in_err-push_item-clause-fits c = λ room.
+    let longest = longest_more (tree_of c.args.program.now) c.args.items.now c.loop-item.item-index c.item-item.result c.loop-item-test.true c.item-item.is in
+    absurd (true≢false (sym (c.in_err-push_item.ensures.fits (omega (arith, room, longest, c.loop-item.invariant.grown, c.loop-item.invariant.room)))))
+
+pub returns-in_err-push_item-clause-grown : goal.returns-in_err-push_item-clause-grown
+returns-in_err-push_item-clause-grown c =
+    let longest = longest_more (tree_of c.args.program.now) c.args.items.now c.loop-item.item-index c.item-item.result c.loop-item-test.true c.item-item.is in
+    omega (arith, longest, c.push_item.ensures.grown, c.loop-item.invariant.grown)

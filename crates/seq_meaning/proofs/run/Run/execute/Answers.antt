@@ -189,7 +189,7 @@ returns-in-Print-clause-output c =
     let back = written_back c.args.self.now.loops.len c.write_to.new.loops c.args.self.now.loops.items c.args.self.now.loops.ok.0 (c.write_to.auto.loops ∙ ap (λ (xs : List ℤ). length xs) c.deref_mut.ensures.value) in
     let written = back ∙ c.write_to.ensures ∙ ap (λ (xs : List ℤ). with_rounds xs (rounds_of path)) c.deref_mut.ensures.value in
     let memory = c.args.self.now.memory.items in
-    let output = c.args.self.now.output in
+    let output = c.args.self.now.output.bytes in
     let loops = loops_in tree (rounds_of path) in
     let gave = loaded_at tree loops placed.what memory in
     let inside = with_rounds c.args.self.now.loops.items (rounds_of path) in
@@ -199,4 +199,4 @@ returns-in-Print-clause-output c =
     ∙ ap (items_text tree inside items) given ∙ texts_same tree (rounds_of path) placed.numbered c.args.self.now.loops.items c.requires.ready.loops items gave good in
     let whole = ap (λ t. output ++ (t ++ 10 ∷ [])) text ∙ ap (λ x. output ++ printed_text tree loops x gave) (sym what) in
     on_ok_weaker c.push_line.result
-    (λ said w is. subst (λ x. c.push_line.new.self ≡ output ++ printed_behind tree loops x memory) (sym (same_work w placed.what (sym is ∙ placed.is))) (said ∙ whole)) c.push_line.ensures
+    (λ said w is. subst (λ x. c.push_line.new.self.bytes ≡ output ++ printed_behind tree loops x memory) (sym (same_work w placed.what (sym is ∙ placed.is))) (said ∙ whole)) c.push_line.ensures.line
