@@ -126,9 +126,9 @@ await_first number word post later none some small =
 pub work_first : (number word : ℕ) (post : Bool) (tree : Tree) (rounds : List Round) (o : Option Stop) (later : List Turn) → post ≡ false → word ≡ 0 → is_some o ≡ true → IsOne tree rounds o →
     (t : Turn) × (boundary_turns number post (members word) ++ (map works (come_of tree rounds o) ++ later) ≡ t ∷ (boundary_turns number post (members word) ++ later))
 work_first number word post tree rounds None later none empty come one = absurd (true≢false (sym come))
-work_first number word post tree rounds (Some stop) later none no_word come (i, is) =
+work_first number word post tree rounds (Some stop) later none no_word come one =
     let empty : boundary_turns number post (members word) ≡ [] = ap (λ b. boundary_turns number b (members word)) none ∙ ap (λ w. map (λ q. awaits q number) (members w)) no_word ∙ ap (map (λ q. awaits q number)) members-zero in
-    (works i, ap (λ l. l ++ (map works (instances_at (param_values tree) (visit_at tree rounds stop)) ++ later)) empty ∙ ap (λ is. map works is ++ later) is ∙ ap (λ l. works i ∷ (l ++ later)) (sym empty))
+    (works one.instance, ap (λ l. l ++ (map works (instances_at (param_values tree) (visit_at tree rounds stop)) ++ later)) empty ∙ ap (λ is. map works is ++ later) one.is ∙ ap (λ l. works one.instance ∷ (l ++ later)) (sym empty))
 
 pub come_is : {X : Type 0} (post : Bool) (word : ℕ) (o : Option X) → post ≡ false → word ≡ 0 → (post || not (word == 0) || is_some o) ≡ true → is_some o ≡ true
 come_is post word o none empty h = sym (ap (λ b. b || not (word == 0) || is_some o) none ∙ ap (λ w. not (w == 0) || is_some o) empty) ∙ h

@@ -48,7 +48,7 @@ pub struct Turns<'a> {
 impl<'a> Turns<'a> {
     ghost use Rattle.nest_walk.specs.RoundsOf.{rounds_of};
     ghost use Rattle.spmd_machine.specs.Turns.{Turn, turns_from};
-    ghost use Rattle.spmd_machine.specs.TurnsLeft.{AreSound, IsNext, at_turn, to_go, turns_left, turns_plan, turns_rounds, turns_tree};
+    ghost use Rattle.spmd_machine.specs.TurnsLeft.{AreSound, IsNext, at_turn, to_go, turns_left, turns_plan, turns_processor, turns_rounds, turns_tree};
 
     /// All turns of a processor.
     pub fn new(program: &'a Program, plan: &'a Plan, processor: u32) -> Self
@@ -60,6 +60,7 @@ impl<'a> Turns<'a> {
         ensures turns { turns_left result ≡ turns_from (tree_of program.now) plan.now processor 1 (phases_of (tree_of program.now) plan.now.cut) }
         ensures program { turns_tree result ≡ tree_of program.now }
         ensures plan { turns_plan result ≡ plan.now }
+        ensures processor { turns_processor result ≡ processor }
     {
         Turns {
             program,
@@ -90,6 +91,7 @@ impl<'a> Turns<'a> {
         ensures end { at_turn self.new ≡ false → turns_left self.new ≡ [] }
         ensures program { turns_tree self.new ≡ turns_tree self.old }
         ensures plan { turns_plan self.new ≡ turns_plan self.old }
+        ensures processor { turns_processor self.new ≡ turns_processor self.old }
     {
         while !self.is_at_turn() && self.advance() {}
         self.next()
@@ -112,6 +114,7 @@ impl<'a> Turns<'a> {
         ensures end { result ≡ false → (turns_left self.old ≡ []) × (at_turn self.new ≡ false) }
         ensures program { turns_tree self.new ≡ turns_tree self.old }
         ensures plan { turns_plan self.new ≡ turns_plan self.old }
+        ensures processor { turns_processor self.new ≡ turns_processor self.old }
     {
         self.come = self.own.next();
         self.come.is_some() || self.enter()
@@ -128,6 +131,7 @@ impl<'a> Turns<'a> {
         ensures end { result ≡ false → (turns_left self.old ≡ []) × (at_turn self.new ≡ false) }
         ensures program { turns_tree self.new ≡ turns_tree self.old }
         ensures plan { turns_plan self.new ≡ turns_plan self.old }
+        ensures processor { turns_processor self.new ≡ turns_processor self.old }
     {
         let Some(phase) = self.phases.next() else {
             return false;
@@ -170,6 +174,7 @@ impl<'a> Turns<'a> {
         ensures sound { AreSound self.new }
         ensures program { turns_tree self.new ≡ turns_tree self.old }
         ensures plan { turns_plan self.new ≡ turns_plan self.old }
+        ensures processor { turns_processor self.new ≡ turns_processor self.old }
         ensures passed { (t : Turn) × (turns_left self.old ≡ t ∷ turns_left self.new) }
     {
         if self.posts {

@@ -29,12 +29,11 @@ returns-in-Some c =
     let t = c.args.self.now in
     let one = subst (IsOne (turns_tree t) (turns_rounds t)) c.in-Some.is c.requires.sound.one in
     let later = map works (instances_left t.own) ++ turns_from (turns_tree t) (turns_plan t) t.processor (suc (phases_passed t.phases)) (phases_left t.phases) in (
-      one.0,
+      one,
       later,
-      one.1,
       ap (λ b. boundary_turns t.number b (members t.awaits) ++ behind t) c.if-self.false
           ∙ ap (λ w. map (λ q. awaits q t.number) (members w) ++ behind t) c.if-self-ne0.false
           ∙ ap (λ ms. map (λ q. awaits q t.number) ms ++ behind t) members-zero
           ∙ ap (λ o. map works (come_of (turns_tree t) (turns_rounds t) o) ++ later) c.in-Some.is
-          ∙ ap (λ is. map works is ++ later) one.1,
+          ∙ ap (λ is. map works is ++ later) one.is,
     )
