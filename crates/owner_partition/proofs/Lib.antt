@@ -8,3 +8,4 @@ pub mod Dealt
 pub mod Trips
 pub mod Near
 pub mod Outside
+pub mod Sites

@@ -1,5 +1,5 @@
 -- The intervals of the loops at a static phase, as the code finds them.
-use Rattle.std.proofs.Common.{◌≡◌, ℕ, ◌+◌, ◌-◌, ◌<◌, ◌≤◌, ◌^◌, ℤ, Bool, true, false, nat_lt, nat_le, List, [], ◌∷◌, drop, get_or, length, map, IsTrue, if◌then◌else◌, refl, ap, sym, ◌∙◌, arith}
+use Rattle.std.proofs.Common.{◌≡◌, ℕ, ◌+◌, ◌-◌, ◌<◌, ◌≤◌, ℤ, Bool, true, false, nat_lt, nat_le, List, [], ◌∷◌, drop, get_or, length, map, IsTrue, if◌then◌else◌, refl, ap, sym, ◌∙◌, arith}
 use Rattle.std.proofs.lemmas.Bool.{and_from, and_parts}
 use Rattle.std.proofs.lemmas.Bool.Decides.{nat_tests}
 use Rattle.std.proofs.lemmas.List.{length-map}
@@ -43,7 +43,7 @@ mutual
   stops_of-most enters done = omega arith
   stops_of-most enters (next s rest) = omega (arith, stops_in-most enters s, stops_of-most enters rest)
 
-pub few_phases : (tree : Tree) (enters : ℕ → Bool) → IsWellFormed tree → stops_of enters tree.items < 2 ^ 32
+pub few_phases : (tree : Tree) (enters : ℕ → Bool) → IsWellFormed tree → stops_of enters tree.items < 400
 few_phases tree enters formed = omega (arith, stops_of-most enters tree.items, few_statements tree formed)
 
 -- what a form names is among more things

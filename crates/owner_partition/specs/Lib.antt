@@ -5,3 +5,5 @@ pub mod Placement
 pub mod PhasesLeft
 pub mod OwnTrips
 pub mod OwnInstances
+pub mod Sites
+pub mod OwnLeft

@@ -1,8 +1,8 @@
 -- The phases that are left.
-use Rattle.std.specs.Prelude.{ℕ, Bool, ◌≡◌, List, Option}
+use Rattle.std.specs.Prelude.{ℕ, ◌+◌, Bool, ◌≡◌, List, ◌∷◌, ◌++◌, length, Option}
 use Rattle.std.specs.Option.{option_map}
 use Rattle.nest_tree.specs.Tree.{Tree}
-use Rattle.nest_model.specs.Visits.{Visit}
+use Rattle.nest_model.specs.Visits.{Visit, visits}
 use Rattle.nest_walk.specs.Cursors.{left_of, loops_in, marks_in, rounds_in, tree_in, visit_at}
 use Rattle.nest_walk.specs.Paths.{Round, by_depth}
 use Rattle.nest_walk.specs.Places.{numbers_of}
@@ -40,3 +40,11 @@ pub record IsPhase (tree : Tree) (enters : ℕ → Bool) (rounds : List Round) (
   pub loops_are : v.loops ≡ loops_in tree rounds
   pub outer_is : p.outer ≡ by_depth rounds
   pub text : IsInText tree enters (numbers_of rounds) v.what v.place v.first
+
+-- a phase of a walk that enters these loops: its visit is the one with its number
+pub record IsPhaseOf (tree : Tree) (enters : ℕ → Bool) (v : Visit) (p : Phase) : Type 0 where
+  pub before : List Visit
+  pub behind : List Visit
+  pub rounds : List Round
+  pub all : visits tree enters ≡ before ++ v ∷ behind
+  pub is : IsPhase tree enters rounds (length before + 1) v p

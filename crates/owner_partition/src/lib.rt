@@ -5,7 +5,8 @@
 //! - [`anchor`]: anchors, and the owner that one names.
 //! - [`placement`]: whether each block anchor keeps within its blocks.
 //! - [`phases`]: the phases of a program, one by one.
-//! - [`own`]: the instances of a phase that a processor owns.
+//! - [`own_cursor`]: the instances of a phase that a processor owns.
+//! - [`own`]: the same as stops of a walk.
 //! - [`laws`]: the phases' instances are the program's.
 #![tactic(auto)]
 
@@ -14,14 +15,17 @@ pub mod cut;
 mod exact;
 pub mod laws;
 pub mod own;
+pub mod own_cursor;
 mod own_trips;
 pub mod phases;
 pub mod placement;
+mod site;
 #[cfg(test)]
 mod tests;
 
 pub use anchor::{Anchor, Dist, owner};
 pub use cut::{Cut, Mark};
-pub use own::{OwnCursor, own_iterations};
+pub use own::{OwnStops, own_stops};
+pub use own_cursor::{Instance, OwnCursor, own_iterations};
 pub use phases::{Phase, PhaseCursor};
-pub use placement::{Placement, check_placement};
+pub use placement::{Placement, check_anchor, check_placement};

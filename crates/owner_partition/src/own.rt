@@ -29,8 +29,8 @@ use crate::own_trips::{Strided, own_trips};
 use nest_tree::{Affine, Item, Nest, Program};
 use nest_walk::{Instances, Path, Stop, Trips, trip_count, value_at};
 
-/// The instances of a phase that a processor owns, in sequential order.
-pub type OwnCursor<'a> = Instances<'a>;
+/// The instances of a phase that a processor owns, in sequential order, as stops of a walk.
+pub type OwnStops<'a> = Instances<'a>;
 
 // No block lies as far from 0, and no trip's place comes back from there.
 const FAR: i128 = 1 << 125;
@@ -186,14 +186,14 @@ fn own_values(
 /// at this stop, with these loops round it, and this anchor. The anchor's form names no loop inside
 /// that of the phase. It comes to no trip of another processor: a block's trips are found by
 /// division, those in turn by one congruence.
-pub fn own_iterations<'a>(
+pub fn own_stops<'a>(
     program: &'a Program,
     path: &Path,
     stop: Stop<'a>,
     anchor: &Anchor,
     p: u32,
     workers: u32,
-) -> OwnCursor<'a>
+) -> OwnStops<'a>
     requires reached { IsTrue (is_reached (tree_of program.now) (rounds_of path.now) stop) }
     requires text { StandFrom (works (tree_of program.now)) stop.first (placed_in every (numbers_of (rounds_of path.now)) (statement_of stop.item.now)) }
     requires outside { IsTrue (names_no_inner (statement_of stop.item.now) anchor.now.form) }

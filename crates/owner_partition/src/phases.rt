@@ -11,7 +11,7 @@ ghost use Rattle.nest_walk.specs.Texts.{StandFrom, placed_in, works};
 
 use crate::anchor::Anchor;
 use crate::cut::Cut;
-use crate::own::{OwnCursor, own_iterations};
+use crate::own::{OwnStops, own_stops};
 use nest_tree::Program;
 use nest_walk::{Cursor, MOST_LOOPS, Stop};
 
@@ -91,7 +91,7 @@ impl<'a> PhaseCursor<'a> {
     /// The instances of the phase that was given last that processor `p` of so many owns, in
     /// sequential order, by the phase's anchor; none where no phase was given. The anchor's form
     /// names no loop inside that of the phase.
-    pub fn own_iterations(&self, anchor: &Anchor, p: u32, workers: u32) -> OwnCursor<'a>
+    pub fn own_iterations(&self, anchor: &Anchor, p: u32, workers: u32) -> OwnStops<'a>
         requires outside { ForSome (phase_last self.now) (λ v. IsTrue (names_no_inner v.what anchor.now.form)) }
         requires given { IsTrue (reach_within (length (phases_tree self.now).params) anchor.now.form.params) }
         requires worker { p < workers }
@@ -101,8 +101,8 @@ impl<'a> PhaseCursor<'a> {
     {
         let program = self.cursor.program();
         match self.last {
-            Some(stop) => own_iterations(program, self.cursor.path(), stop, anchor, p, workers),
-            None => OwnCursor::none(program),
+            Some(stop) => own_stops(program, self.cursor.path(), stop, anchor, p, workers),
+            None => OwnStops::none(program),
         }
     }
 }

@@ -51,8 +51,9 @@ pub fn check_placement(
     Ok(())
 }
 
-// Whether the anchor of this static phase passes.
-fn check_anchor(
+/// Whether the anchor of this static phase, numbered from 1 in text order, passes: the refusal is
+/// that of [`check_placement`] where the anchor stands alone in the list. It takes no memory.
+pub fn check_anchor(
     program: &Program,
     cut: &Cut,
     phase: u32,

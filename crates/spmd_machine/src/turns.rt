@@ -10,7 +10,7 @@ ghost use Rattle.sync_plan.specs.Fit.{IsFit};
 
 use nest_tree::Program;
 use nest_walk::{Path, Stop};
-use owner_partition::{OwnCursor, PhaseCursor};
+use owner_partition::{OwnStops, PhaseCursor};
 use sync_plan::{Plan, posts, waits};
 
 /// What a processor does next.
@@ -36,7 +36,7 @@ pub struct Turns<'a> {
     // the phases behind
     pub(crate) phases: PhaseCursor<'a>,
     // the phase's instances that are left
-    pub(crate) own: OwnCursor<'a>,
+    pub(crate) own: OwnStops<'a>,
     // the boundary's number, whether it is still posted, and who is still awaited there
     pub(crate) number: u64,
     pub(crate) posts: bool,
@@ -67,7 +67,7 @@ impl<'a> Turns<'a> {
             plan,
             processor,
             phases: PhaseCursor::new(program, &plan.cut),
-            own: OwnCursor::none(program),
+            own: OwnStops::none(program),
             number: 0,
             posts: false,
             awaits: 0,

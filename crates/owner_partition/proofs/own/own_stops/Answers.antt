@@ -16,8 +16,8 @@ use Rattle.nest_tree.specs.declared.tree.Item.{Item}
 use Rattle.owner_partition.specs.Owners.{anchor_owner}
 use Rattle.owner_partition.specs.OwnInstances.{is_owned, names_no_inner}
 use Rattle.owner_partition.proofs.Dealt.{no_trip, own_of_loop, own_of_work}
-use Rattle.owner_partition.proofs.own.own_iterations.Goals as goal
-use Rattle.owner_partition.proofs.own.own_iterations.Goals.{In-Loop, After-is_own}
+use Rattle.owner_partition.proofs.own.own_stops.Goals as goal
+use Rattle.owner_partition.proofs.own.own_stops.Goals.{In-Loop, After-is_own}
 
 -- what is known of a phase that is a loop
 loop_reached : (c : In-Loop) → Reached (tree_of c.args.program.now) (rounds_of c.args.path.now) (do_loop (head_of c.in-Loop.nest) (statements_from c.in-Loop.nest.items.items)) c.args.stop.first
