@@ -1,0 +1,9 @@
+use Rattle.std.proofs.Common.{◌≡◌, ◌∙◌, ap, ap₂}
+use Rattle.std.proofs.lemmas.Result.{IfOk-weaker}
+use Rattle.clap.specs.Words.{App, app_of, with_subcommand}
+use Rattle.command_words.proofs.commands.tool.Goals as goal
+
+pub returns : goal.returns
+returns c =
+    let first = c.in_ok-subcommand.ensures.shape c.in_ok-seq.ensures.local ∙ ap₂ with_subcommand c.top.ensures (ap (λ (a : App). a.top) c.in_ok-seq.ensures.app) in
+    IfOk-weaker c.subcommand-2.result _ _ (λ r h. h.shape c.in_ok-run.ensures.local ∙ ap₂ with_subcommand first (ap (λ (a : App). a.top) c.in_ok-run.ensures.app)) c.subcommand-2.ensures

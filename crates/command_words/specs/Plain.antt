@@ -1,0 +1,65 @@
+-- Plain lists of words: options in any order, each as two words, and then settings.
+use Rattle.std.specs.Prelude.{◌≡◌, ◌<◌, ◌^◌, length, ◌==◌, ◌&&◌, ◌++◌, ℕ, Bool, true, false, not, List, [], ◌∷◌, Option, Some, None, codes, is_some, find, option_map, option_and_then}
+use Rattle.std.specs.List.{list_any, list_all}
+use Rattle.std.specs.Str.{bytes_eq}
+use Rattle.clap.specs.Words.{Text}
+use Rattle.command_words.specs.declared.request.PlanChoice.{PlanChoice}
+use Rattle.command_words.specs.Wanted.{Wanted, Takes, run, sequential, workers_of, plan_of, is_by}
+
+-- the options of `run`
+pub data Name : Type 0 where
+  workers : Name
+  which : Name
+  how : Name
+
+abbrev pub name_text : Name → Text
+name_text workers = codes "workers"
+name_text which = codes "plan"
+name_text how = codes "by"
+
+-- an option and its value
+abbrev pub Given : Type 0
+Given = Name × Text
+
+abbrev pub value_ok : Name → Text → Bool
+value_ok workers t = is_some (workers_of t)
+value_ok which t = is_some (plan_of t)
+value_ok how t = is_by (Some t)
+
+abbrev pub written : List Given → List Text
+written [] = []
+written (o ∷ os) = (45 ∷ 45 ∷ name_text o.0) ∷ o.1 ∷ written os
+
+abbrev pub names : Name → Given → Bool
+names a q = bytes_eq (name_text q.0) (name_text a)
+
+-- no option stands twice, nor among these
+abbrev pub each_once : List Given → List Given → Bool
+each_once seen [] = true
+each_once seen (o ∷ os) = not (list_any (names o.0) seen) && each_once (seen ++ o ∷ []) os
+
+abbrev pub value_of : Name → List Given → Option Text
+value_of a os = option_map (λ o. o.1) (find (names a) os)
+
+-- not empty, and begins with no hyphen
+abbrev pub is_setting : Text → Bool
+is_setting [] = false
+is_setting (x ∷ xs) = not (x == 45)
+
+-- these options, in any order, and then these settings are words of a run
+pub record IsPlainRun (os : List Given) (settings : List Text) (n : ℕ) (p : PlanChoice) : Type 0 where
+  pub once : each_once [] os ≡ true
+  pub values : list_all (λ o. value_ok o.0 o.1) os ≡ true
+  pub settings_ok : list_all is_setting settings ≡ true
+  pub workers_is : option_and_then workers_of (value_of workers os) ≡ Some n
+  pub plan_is : option_and_then plan_of (value_of which os) ≡ Some p
+  pub by_is : is_by (value_of how os) ≡ true
+  pub few : length settings < 2 ^ 64
+
+abbrev pub EveryPlainRunIsTaken : Type 0
+EveryPlainRunIsTaken = (os : List Given) (settings : List Text) (n : ℕ) (p : PlanChoice) → IsPlainRun os settings n p
+    → Takes (codes "run" ∷ (written os ++ settings)) (run n p settings)
+
+abbrev pub EveryPlainSequentialIsTaken : Type 0
+EveryPlainSequentialIsTaken = (settings : List Text) → list_all is_setting settings ≡ true → length settings < 2 ^ 64
+    → Takes (codes "seq" ∷ settings) (sequential settings)

@@ -1,0 +1,77 @@
+// The commands that are offered, with what their help says.
+
+ghost use Rattle.std.specs.Prelude.{◌≡◌, [], IfOk, false};
+ghost use Rattle.clap.specs.Words.{app_of, rule_of};
+ghost use Rattle.clap.specs.declared.builder.command.Command.TheViews.{out-Command};
+ghost use Rattle.command_words.specs.Rule.{option_rule, top_shape, required_rule, settings_rule, seq_app, run_app, tool_app};
+
+use clap::{Arg, Command};
+use std::alloc::{AllocError, Global};
+
+fn settings<'a>(alloc: Global) -> Arg<'a>
+    ensures rule { rule_of result ≡ settings_rule }
+    ensures local { result.global ≡ false }
+{
+    Arg::new(alloc, "settings")
+        .num_args(1usize..)
+        .value_name("NAME=VALUE")
+        .help("Values for named constants (PARAMETER): whole numbers of 64 bits")
+}
+
+// An option with one value.
+fn option<'a>(alloc: Global, name: &'a str, value: &'a str, help: &'a str) -> Arg<'a>
+    ensures rule { rule_of result ≡ option_rule name.entry.now }
+    ensures local { result.global ≡ false }
+{
+    Arg::new(alloc, name).long(name).value_name(value).help(help)
+}
+
+// An option with one value that must stand.
+fn required<'a>(alloc: Global, name: &'a str, value: &'a str, help: &'a str) -> Arg<'a>
+    ensures rule { rule_of result ≡ required_rule name.entry.now }
+    ensures local { result.global ≡ false }
+{
+    option(alloc, name, value, help).required(true)
+}
+
+fn seq<'a>(alloc: Global) -> Result<Command<'a>, AllocError>
+    ensures app { IfOk result (λ c. app_of c ≡ seq_app) }
+    ensures local { IfOk result (λ c. (out-Command c).has_globals ≡ false) }
+{
+    let command = Command::new(alloc, "seq").arg(settings(alloc))?;
+    Ok(command.about("Runs the program on one processor, and writes what it prints"))
+}
+
+fn run<'a>(alloc: Global) -> Result<Command<'a>, AllocError>
+    ensures app { IfOk result (λ c. app_of c ≡ run_app) }
+    ensures local { IfOk result (λ c. (out-Command c).has_globals ≡ false) }
+{
+    let workers = required(alloc, "workers", "P", "How many processors: 1 to 64");
+    let plan = required(alloc, "plan", "PLAN", "barrier: a barrier in front of each phase");
+    let by = option(alloc, "by", "ENGINE", "core, where left out too: a model of the processors");
+    let command = Command::new(alloc, "run")
+        .arg(workers)?
+        .arg(plan)?
+        .arg(by)?
+        .arg(settings(alloc))?;
+    Ok(command.about("Writes a plan, runs the program by it, and writes what it prints"))
+}
+
+// The command without its subcommands.
+fn top<'a>(alloc: Global) -> Command<'a>
+    ensures { app_of result ≡ record { top = top_shape; subs = [] } }
+{
+    Command::new(alloc, "seagrynt")
+        .no_binary_name(true)
+        .subcommand_required(true)
+        .disable_help_subcommand(true)
+        .version("0.1.0")
+        .about("Plans and runs FORTRAN 77 DO nests on several processors; reads the source from standard input")
+}
+
+/// The tool's command: `seq` and `run`.
+pub fn tool<'a>(alloc: Global) -> Result<Command<'a>, AllocError>
+    ensures { IfOk result (λ c. app_of c ≡ tool_app) }
+{
+    top(alloc).subcommand(seq(alloc)?)?.subcommand(run(alloc)?)
+}

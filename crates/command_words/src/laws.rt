@@ -1,0 +1,22 @@
+// Laws of the rule by which words are taken.
+
+ghost use Rattle.std.specs.Prelude.{◌≡◌, ◌∷◌, [], codes};
+ghost use Rattle.clap.specs.Words.{fault_of};
+ghost use Rattle.clap.specs.declared.error.kind.ErrorKind.TheVariants as kinds;
+ghost use Rattle.command_words.specs.Rule.{tool_app};
+ghost use Rattle.command_words.specs.Plain.{EveryPlainRunIsTaken, EveryPlainSequentialIsTaken};
+
+/// Each plain list of words is taken, as what it says.
+pub fn plain_words_are_taken()
+    ensures run { EveryPlainRunIsTaken }
+    ensures sequential { EveryPlainSequentialIsTaken }
+{
+}
+
+/// Words that ask for help or for the version have that fault alone.
+pub fn help_is_shown()
+    ensures help { fault_of tool_app (codes "--help" ∷ []) ≡ kinds.DisplayHelp ∷ [] }
+    ensures help_of_run { fault_of tool_app (codes "run" ∷ codes "-h" ∷ []) ≡ kinds.DisplayHelp ∷ [] }
+    ensures version { fault_of tool_app (codes "--version" ∷ []) ≡ kinds.DisplayVersion ∷ [] }
+{
+}

@@ -1,0 +1,19 @@
+//! The words of the tool's command line, read with `clap` by its stated rule.
+//!
+//! `read_words` gives the request that the words stand for: which command, how many processors,
+//! by which plan, and the settings as they are written. Words that ask for help or for the version
+//! are told apart from words that are no command.
+#![tactic(auto)]
+
+mod commands;
+pub mod laws;
+mod read;
+mod request;
+mod settings;
+
+pub use crate::read::read_words;
+pub use crate::request::{PlanChoice, Refused, Request};
+pub use crate::settings::{Setting, SettingFault, read_settings};
+
+#[cfg(test)]
+mod tests;

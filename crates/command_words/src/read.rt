@@ -1,0 +1,130 @@
+// Words as a request.
+
+ghost use Rattle.std.specs.Prelude.{◌≡◌, ℕ, Bool, [], Some, None, map, IfOk, IfErr, option_map, option_and_then};
+ghost use Rattle.std.specs.Str.{bytes_eq};
+ghost use Rattle.clap.specs.Words.{first_of, rows_of, found_of, kind_of, subcommand_rows_of, fault_of};
+ghost use Rattle.clap.specs.Walk.{texts};
+ghost use Rattle.command_words.specs.Wanted.{wanted, wanted_by, wanted_in, run_of, workers_of, plan_of, is_by, settings_of, Takes, within as within_of};
+ghost use Rattle.command_words.specs.Refusals.{IsRefused, IsValueFault, refusal_of};
+
+use crate::commands;
+use crate::request::{PlanChoice, Refused, Request};
+use clap::error::ErrorKind;
+use clap::{ArgMatches, Error};
+use std::alloc::{AllocError, Global};
+
+/// The request that the words stand for, which come without the program's name.
+///
+/// # Errors
+///
+/// `Shown` exactly where they ask for help or for the version, `Faulty` exactly where they are none
+/// that is offered; `NoMemory` may stand in place of any answer.
+pub fn read_words<'a>(alloc: Global, words: &'a [&'a str]) -> Result<Request<'a>, Refused>
+    ensures taken { IfOk result (λ request. Takes (texts words.entry.now) (wanted request)) }
+    ensures refused { IfErr result (IsRefused (texts words.entry.now)) }
+{
+    let command = commands::tool(alloc)?;
+    match command.try_get_matches_from(words) {
+        Ok(matches) => request(alloc, &matches),
+        Err(error) => Err(refusal(error)),
+    }
+}
+
+// What an error of `clap` is here.
+fn refusal(error: Error) -> Refused
+    ensures { result ≡ refusal_of error }
+{
+    match error.kind() {
+        ErrorKind::OutOfMemory => Refused::NoMemory,
+        ErrorKind::DisplayHelp | ErrorKind::DisplayVersion => Refused::Shown(error),
+        _ => Refused::Faulty,
+    }
+}
+
+fn request<'a>(alloc: Global, matches: &ArgMatches<'a>) -> Result<Request<'a>, Refused>
+    ensures taken { IfOk result (λ request. wanted_by (subcommand_rows_of matches.now) ≡ Some (wanted request)) }
+    ensures refused { IfErr result (λ refused. IsValueFault (wanted_by (subcommand_rows_of matches.now)) refused) }
+{
+    match matches.subcommand() {
+        None => Err(Refused::Faulty),
+        Some((name, inner)) => request_in(alloc, name, inner),
+    }
+}
+
+fn request_in<'a>(alloc: Global, name: &str, inner: &ArgMatches<'a>) -> Result<Request<'a>, Refused>
+    ensures taken { IfOk result (λ request. wanted_in name.now (rows_of (found_of inner.now)) ≡ Some (wanted request)) }
+    ensures refused { IfErr result (λ refused. IsValueFault (wanted_in name.now (rows_of (found_of inner.now))) refused) }
+{
+    let settings = settings(alloc, inner)?;
+    if says(name, "seq") {
+        Ok(Request::Sequential(settings))
+    } else if says(name, "run") {
+        run(inner, settings).ok_or(Refused::Faulty)
+    } else {
+        Err(Refused::Faulty)
+    }
+}
+
+fn run<'a>(inner: &ArgMatches<'a>, settings: Vec<&'a str>) -> Option<Request<'a>>
+    requires { texts settings.items ≡ settings_of (rows_of (found_of inner.now)) }
+    ensures { option_map wanted result ≡ run_of (rows_of (found_of inner.now)) }
+{
+    let workers = workers_in(text(inner, "workers")?)?;
+    let plan = plan_in(text(inner, "plan")?)?;
+    if is_core(text(inner, "by")) { Some(Request::Run(workers, plan, settings)) } else { None }
+}
+
+// The first value of an argument.
+fn text<'a>(inner: &ArgMatches<'a>, id: &str) -> Option<&'a str>
+    ensures { option_map (λ s. s.now) result ≡ first_of id.now (rows_of (found_of inner.now)) }
+{
+    inner.get_str(id)
+}
+
+fn settings<'a>(alloc: Global, inner: &ArgMatches<'a>) -> Result<Vec<&'a str>, AllocError>
+    ensures { IfOk result (λ v. texts v.items ≡ settings_of (rows_of (found_of inner.now))) }
+{
+    match inner.get_raw("settings") {
+        Some(given) => Vec::from_slice(alloc, given),
+        None => Ok(Vec::new(alloc)),
+    }
+}
+
+fn says(word: &str, text: &str) -> bool
+    ensures { result ≡ bytes_eq word.now text.now }
+{
+    word == text
+}
+
+fn workers_in(word: &str) -> Option<u32>
+    ensures { result ≡ workers_of word.now }
+{
+    match word.as_bytes() {
+        [d] if d.is_ascii_digit() => within(*d as u32 - 48),
+        [c, d] if b'1' <= *c && *c <= b'9' && d.is_ascii_digit() => {
+            within(10 * (*c as u32 - 48) + (*d as u32 - 48))
+        }
+        _ => None,
+    }
+}
+
+fn within(n: u32) -> Option<u32>
+    ensures { result ≡ within_of n }
+{
+    if 1 <= n && n <= 64 { Some(n) } else { None }
+}
+
+fn plan_in(word: &str) -> Option<PlanChoice>
+    ensures { result ≡ plan_of word.now }
+{
+    if says(word, "barrier") { Some(PlanChoice::Barrier) } else { None }
+}
+
+fn is_core(word: Option<&str>) -> bool
+    ensures { result ≡ is_by (option_map (λ s. s.now) word.entry) }
+{
+    match word {
+        None => true,
+        Some(word) => says(word, "core"),
+    }
+}
