@@ -9,3 +9,4 @@ pub mod Trips
 pub mod Near
 pub mod Outside
 pub mod Sites
+pub mod StaticPhases

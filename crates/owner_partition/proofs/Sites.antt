@@ -108,19 +108,19 @@ one_at params enters count place v around sites at alone site numbered can_walk 
       there = record { around = around; at = refl; alone = alone; site = site; numbered = numbered; can_walk = can_walk };
     }) (All-nil (IsAtFrom params enters count place 1 (record { what = v.what; around = around } ∷ []) sites))
 
-get-front : (front rest : List Placed) (k : ℕ) → k < length front → slice_get (front ++ rest) k ≡ slice_get front k
+pub get-front : (front rest : List Placed) (k : ℕ) → k < length front → slice_get (front ++ rest) k ≡ slice_get front k
 get-front [] rest k h = absurd (omega (arith, h))
 get-front (x ∷ front) rest zero h = refl
 get-front (x ∷ front) rest (suc k) h = get-front front rest k (omega (arith, h))
 
-get-behind : (front rest : List Placed) (k : ℕ) → slice_get (front ++ rest) (length front + k) ≡ slice_get rest k
+pub get-behind : (front rest : List Placed) (k : ℕ) → slice_get (front ++ rest) (length front + k) ≡ slice_get rest k
 get-behind [] rest k = ap (slice_get rest) (omega arith)
 get-behind (x ∷ front) rest k =
     let more : length (x ∷ front) + k ≡ suc (length front + k) = omega arith in
     ap (slice_get (x ∷ (front ++ rest))) more ∙ get-behind front rest k
 
 mutual
-  placed_count : (enters : ℕ → Bool) (around : List ℕ) (s : Statement) → length (placed_in enters around s) ≡ stops_in enters s
+  pub placed_count : (enters : ℕ → Bool) (around : List ℕ) (s : Statement) → length (placed_in enters around s) ≡ stops_in enters s
   placed_count enters around (do_loop head body) =
       let all = placed_counts enters (head.number ∷ around) body in
       elim (enters head.number) as (λ b. length (if b then placed_of enters (head.number ∷ around) body else record { what = do_loop head body; around = around } ∷ []) ≡ (if b then stops_of enters body else 1)) [
@@ -130,7 +130,7 @@ mutual
   placed_count enters around (work w) = refl
   placed_count enters around (continue line) = refl
 
-  placed_counts : (enters : ℕ → Bool) (around : List ℕ) (ss : Statements) → length (placed_of enters around ss) ≡ stops_of enters ss
+  pub placed_counts : (enters : ℕ → Bool) (around : List ℕ) (ss : Statements) → length (placed_of enters around ss) ≡ stops_of enters ss
   placed_counts enters around done = refl
   placed_counts enters around (next s rest) =
       omega (arith, length-append (placed_in enters around s) (placed_of enters around rest), placed_count enters around s, placed_counts enters around rest)
@@ -324,16 +324,14 @@ site_entered enters outer rounds inside item nest items place first is items_are
     ∙ ap (λ rs. site_among enters outer rs (statements_from nest.items.items) place first) (sym inside_is)
     ∙ ap (λ xs. site_among enters outer inside (statements_from xs) place first) (sym items_are)
 
--- what the search of a program finds for a phase
-pub phase_found : (p : Program) (marks : List Mark) (closed : List Bool) (items : List Item) (rounds : List Round) (before : ℕ) (v : Visit) (ph : Phase) (is : IsPhaseOf (tree_of p) (enters_outer marks) v ph) → IsWellFormed (tree_of p) → IsWithinLimits (tree_of p) →
-    closed ≡ map is_closed marks → items ≡ p.items.items → rounds ≡ [] → before ≡ ph.place - 1 →
-    site_among (enters_but closed) ph.outer rounds (statements_from items) before 1 ≡ Some (record { what = v.what; first = v.first; rounds = is.rounds })
-phase_found p marks closed items rounds before v ph is formed limits cut items_are none place =
-    ap (λ bs. site_among (enters_but bs) ph.outer rounds (statements_from items) before 1) cut
-    ∙ ap (λ xs. site_among (enters_outer marks) ph.outer rounds (statements_from xs) before 1) items_are
-    ∙ ap (λ rs. site_among (enters_outer marks) ph.outer rs (statements_from p.items.items) before 1) none
-    ∙ ap (λ k. site_among (enters_outer marks) ph.outer [] (statements_from p.items.items) k 1) place
-    ∙ (phase_stands (tree_of p) marks v ph is formed limits).site
+-- the search of a program's text by what its code has
+pub site_same : (p : Program) (marks : List Mark) (closed : List Bool) (items : List Item) (rounds : List Round) (before number : ℕ) (outer : List ℤ) → closed ≡ map is_closed marks → items ≡ p.items.items → rounds ≡ [] → before ≡ number - 1 →
+    site_among (enters_but closed) outer rounds (statements_from items) before 1 ≡ site_among (enters_outer marks) outer [] (tree_of p).items (number - 1) 1
+site_same p marks closed items rounds before number outer cut items_are none place =
+    ap (λ bs. site_among (enters_but bs) outer rounds (statements_from items) before 1) cut
+    ∙ ap (λ xs. site_among (enters_outer marks) outer rounds (statements_from xs) before 1) items_are
+    ∙ ap (λ rs. site_among (enters_outer marks) outer rs (statements_from p.items.items) before 1) none
+    ∙ ap (λ k. site_among (enters_outer marks) outer [] (statements_from p.items.items) k 1) place
 
 -- what was found is that phase
 pub record IsFound (tree : Tree) (v : Visit) (rounds : List Round) (s : Stop) (found : List Round) : Type 0 where

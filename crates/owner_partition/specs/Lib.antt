@@ -7,3 +7,5 @@ pub mod OwnTrips
 pub mod OwnInstances
 pub mod Sites
 pub mod OwnLeft
+pub mod Positive
+pub mod StaticPhases

@@ -7,6 +7,7 @@
 //! - [`phases`]: the phases of a program, one by one.
 //! - [`own_cursor`]: the instances of a phase that a processor owns.
 //! - [`own`]: the same as stops of a walk.
+//! - [`static_phase`]: the static phases in the text.
 //! - [`laws`]: the phases' instances are the program's.
 #![tactic(auto)]
 
@@ -20,6 +21,7 @@ mod own_trips;
 pub mod phases;
 pub mod placement;
 mod site;
+pub mod static_phase;
 #[cfg(test)]
 mod tests;
 
@@ -29,3 +31,4 @@ pub use own::{OwnStops, own_stops};
 pub use own_cursor::{Instance, OwnCursor, own_iterations};
 pub use phases::{Phase, PhaseCursor};
 pub use placement::{Placement, check_anchor, check_placement};
+pub use static_phase::StaticPhase;

@@ -19,7 +19,7 @@ use crate::anchor::Anchor;
 use crate::cut::Cut;
 use crate::own::{OwnStops, own_stops};
 use crate::phases::Phase;
-use crate::site::site_among;
+use crate::site::site_of;
 use nest_tree::Program;
 use nest_walk::{MOST_LOOPS, Path, Stop};
 
@@ -76,15 +76,7 @@ pub fn own_iterations<'a>(
     ensures program { own_tree result ≡ tree_of program.now }
 {
     let mut path = Path::new();
-    let before = phase.place.saturating_sub(1);
-    let site = site_among(
-        &program.items,
-        cut.closed(),
-        &phase.outer,
-        before,
-        1,
-        &mut path,
-    );
+    let site = site_of(program, cut, &phase.outer, phase.place, &mut path);
     let Some(site) = site else {
         return OwnCursor {
             stops: OwnStops::none(program),

@@ -1,17 +1,18 @@
 // Where a phase stands in the text.
 
-ghost use Rattle.std.specs.Prelude.{◌≡◌, ◌+◌, ◌<◌, ◌^◌, ℕ, IsTrue, MatchOption, Some, None, pos, slice_index_or};
-ghost use Rattle.nest_tree.specs.View.{loop_of, statement_of, statements_from};
-ghost use Rattle.nest_tree.specs.WellFormed.{Scope, are_good_statements, is_good_statement};
+ghost use Rattle.std.specs.Prelude.{◌≡◌, ◌+◌, ◌-◌, ◌<◌, ◌^◌, [], ℕ, IsTrue, MatchOption, Some, None, pos, slice_index_or};
+ghost use Rattle.nest_tree.specs.View.{statement_of, statements_from, tree_of};
+ghost use Rattle.nest_tree.specs.WellFormed.{IsWellFormed, Scope, are_good_statements, is_good_statement};
 ghost use Rattle.nest_model.specs.Instances.{works_in, works_of};
 ghost use Rattle.nest_model.specs.Visits.{stops_in, stops_of};
 ghost use Rattle.nest_walk.specs.Places.{numbers_of};
 ghost use Rattle.nest_walk.specs.RoundsOf.{rounds_of};
 ghost use Rattle.nest_walk.specs.Walks.{enters_but};
+ghost use Rattle.owner_partition.specs.Marks.{enters_outer};
 ghost use Rattle.owner_partition.specs.Sites.{site_among, site_in};
 
-use crate::cut::{is_closed_at, phases_in};
-use nest_tree::{Item, Nest};
+use crate::cut::{Cut, is_closed_at, phases_in};
+use nest_tree::{Item, Program};
 use nest_walk::{MOST_LOOPS, Path};
 
 // A static phase in the text: its statement, and the number of its first piece of work, from 1.
@@ -21,11 +22,28 @@ pub(crate) struct Site<'a> {
     pub(crate) first: u32,
 }
 
+// The static phase with this number, from 1 in text order; the path, on which no loop stands, gets
+// the Outer loops round it, with their values by depth.
+pub(crate) fn site_of<'a>(
+    program: &'a Program,
+    cut: &Cut,
+    outer: &[i64; MOST_LOOPS],
+    number: u32,
+    path: &mut Path,
+) -> Option<Site<'a>>
+    requires formed { IsWellFormed (tree_of program.now) }
+    requires bare { rounds_of path.old ≡ [] }
+    ensures { MatchOption result (site_among (enters_outer cut.now) outer.now [] (tree_of program.now).items (number - 1) 1 ≡ None) (λ s. site_among (enters_outer cut.now) outer.now [] (tree_of program.now).items (number - 1) 1 ≡ Some (record { what = statement_of s.item.now; first = s.first; rounds = rounds_of path.new })) }
+{
+    let before = number.saturating_sub(1);
+    site_among(&program.items, cut.closed(), outer, before, 1, path)
+}
+
 // The static phase that is so many places behind the first one of these statements, whose first
 // piece of work has this number; the path gets the Outer loops round it, with their values by
 // depth.
 #[cycle(site)]
-pub(crate) fn site_among<'a>(
+fn site_among<'a>(
     items: &'a [Item],
     closed: &[bool],
     outer: &[i64; MOST_LOOPS],

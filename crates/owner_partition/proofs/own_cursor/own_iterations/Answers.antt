@@ -1,56 +1,28 @@
-use Rattle.std.proofs.Common.{◌≡◌, [], Option, Some, None, IsTrue, ap, sym, subst, ◌∙◌, arith}
-use Rattle.nest_tree.specs.View.{statements_from, tree_of}
-use Rattle.nest_tree.specs.WellFormed.{are_good_statements, scope_of}
-use Rattle.nest_tree.proofs.Cells.{well_formed_parts}
-use Rattle.nest_model.specs.Instances.{works_of}
-use Rattle.nest_model.specs.Visits.{Visit, every, stops_of}
-use Rattle.nest_walk.specs.Places.{numbers_of}
+use Rattle.std.proofs.Common.{◌≡◌, Option, Some, None, IsTrue, sym, subst, ◌∙◌}
+use Rattle.nest_tree.specs.View.{tree_of}
+use Rattle.nest_model.specs.Visits.{Visit}
 use Rattle.nest_walk.specs.RoundsOf.{rounds_of}
-use Rattle.nest_walk.specs.Walks.{enters_but}
-use Rattle.nest_walk.proofs.TextMoves.{works_of-all}
-use Rattle.owner_partition.specs.OwnInstances.{names_no_inner}
 use Rattle.owner_partition.specs.Marks.{enters_outer}
+use Rattle.owner_partition.specs.OwnInstances.{names_no_inner}
 use Rattle.owner_partition.specs.PhasesLeft.{IsPhaseOf}
 use Rattle.owner_partition.specs.Sites.{Site}
-use Rattle.owner_partition.proofs.Places.{few_phases}
-use Rattle.owner_partition.proofs.Sites.{IsFound, found_own, found_reached, found_text, is_found, phase_found}
+use Rattle.owner_partition.proofs.Sites.{IsFound, found_own, found_reached, found_text, is_found, phase_stands}
 use Rattle.owner_partition.proofs.own_cursor.own_iterations.Goals as goal
 use Rattle.owner_partition.proofs.own_cursor.own_iterations.Goals.{In-Some}
 
-pub site_among-site-requires-clause-good : goal.site_among-site-requires-clause-good
-site_among-site-requires-clause-good c =
-    let tree = tree_of c.args.program.now in (
-      scope_of tree,
-      1,
-      ap (λ rs. are_good_statements (scope_of tree) (numbers_of rs) 1 (statements_from c.deref.result.now)) c.new-path.ensures
-          ∙ ap (λ xs. are_good_statements (scope_of tree) [] 1 (statements_from xs)) c.deref.ensures.value ∙ (well_formed_parts tree c.requires.formed).statements,
-    )
-
-pub site_among-site-requires-clause-stops : goal.site_among-site-requires-clause-stops
-site_among-site-requires-clause-stops c =
-    let enters = enters_but c.closed.result.now in
-    omega (arith, few_phases (tree_of c.args.program.now) enters c.requires.formed, ap (λ xs. stops_of enters (statements_from xs)) c.deref.ensures.value)
-
-pub site_among-site-requires-clause-works : goal.site_among-site-requires-clause-works
-site_among-site-requires-clause-works c =
-    let tree = tree_of c.args.program.now in
-    omega (arith, few_phases tree every c.requires.formed, works_of-all tree.items, ap (λ xs. works_of (statements_from xs)) c.deref.ensures.value)
-
 pub returns-in_default-clause-own : goal.returns-in_default-clause-own
 returns-in_default-clause-own c v is =
-    let found = phase_found c.args.program.now c.args.cut.now c.closed.result.now c.deref.result.now (rounds_of c.new-path.result) c.saturating_sub-before.result v c.args.phase.now is c.requires.formed c.requires.limits
-    c.closed.ensures c.deref.ensures.value c.new-path.ensures c.saturating_sub-before.ensures in
+    let found = (phase_stands (tree_of c.args.program.now) c.args.cut.now v c.args.phase.now is c.requires.formed c.requires.limits).site in
     let clash : ◌≡◌ {A = Option Site} None (Some (record { what = v.what; first = v.first; rounds = is.rounds })) = sym c.in_default.ensures ∙ found in
     absurd (cc)
 
 -- what was found is the phase
 found_at : (c : In-Some) (v : Visit) (is : IsPhaseOf (tree_of c.args.program.now) (enters_outer c.args.cut.now) v c.args.phase.now) →
-    IsFound (tree_of c.args.program.now) v is.rounds (record { item = c.in-Some.site.item; place = c.args.phase.now.place; first = c.in-Some.site.first }) (rounds_of c.site_among-site.new.path)
+    IsFound (tree_of c.args.program.now) v is.rounds (record { item = c.in-Some.site.item; place = c.args.phase.now.place; first = c.in-Some.site.first }) (rounds_of c.site_of-site.new.path)
 found_at c v is =
-    is_found (tree_of c.args.program.now) v is.rounds (record { item = c.in-Some.site.item; place = c.args.phase.now.place; first = c.in-Some.site.first }) (rounds_of c.site_among-site.new.path)
+    is_found (tree_of c.args.program.now) v is.rounds (record { item = c.in-Some.site.item; place = c.args.phase.now.place; first = c.in-Some.site.first }) (rounds_of c.site_of-site.new.path)
     (sym c.in-Some.ensures
-    ∙ phase_found c.args.program.now c.args.cut.now c.closed.result.now c.deref.result.now (rounds_of c.new-path.result) c.saturating_sub-before.result v c.args.phase.now is c.requires.formed c.requires.limits
-    c.closed.ensures c.deref.ensures.value c.new-path.ensures c.saturating_sub-before.ensures)
+    ∙ (phase_stands (tree_of c.args.program.now) c.args.cut.now v c.args.phase.now is c.requires.formed c.requires.limits).site)
 
 pub own_stops-requires-clause-reached : goal.own_stops-requires-clause-reached
 own_stops-requires-clause-reached c =
