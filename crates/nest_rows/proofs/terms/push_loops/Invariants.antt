@@ -1,0 +1,13 @@
+use Rattle.std.proofs.Common.{◌≡◌, ◌++◌, IsTrue, map, take}
+use Rattle.nest_rows.specs.Places.{place_of}
+use Rattle.std.specs.List.{list_all}
+use Rattle.nest_tree.specs.Form.{is_small}
+use Rattle.nest_rows.specs.Signs.{with_sign}
+use Rattle.nest_rows.specs.Views.{heads_of}
+use Rattle.nest_rows.proofs.terms.push_loops.Given as goal
+
+abbrev pub invariant-loop-number : goal.invariant-loop-number
+invariant-loop-number l = record {
+  small : IsTrue (list_all (λ p. is_small p.1) l.terms);
+  terms : l.terms ≡ l.initial.terms ++ with_sign l.sign (map (λ p. (place_of l.first (heads_of l.around) p.0, p.1)) (take l.number-index l.pairs));
+}
