@@ -1,6 +1,6 @@
 -- Values and settings of words.
-use Rattle.std.proofs.Common.{arith, ◌≡◌, ◌≢◌, ◌≤◌, ◌<◌, ◌∙◌, ◌==◌, ◌&&◌, ◌++◌, ◌+◌, ◌^◌, ℕ, ℤ, pos, Bool, suc, true, false, refl, sym, ap, List, [], ◌∷◌, map, length, Option, Some, None, Result, Ok, Err, true≢false, inl, inr}
-use Rattle.std.specs.Prelude.{neg_ℤ, nat_lt, drop, get_or, option_map, if◌then◌else◌}
+use Rattle.std.proofs.Common.{arith, ◌≡◌, ◌≢◌, ◌<◌, ◌∙◌, ◌&&◌, ◌+◌, ◌^◌, ℕ, ℤ, pos, Bool, true, false, refl, ap, List, [], ◌∷◌, length, Some, None, Result, Ok, Err, inl, inr}
+use Rattle.std.specs.Prelude.{neg_ℤ, nat_lt, get_or, option_map, if◌then◌else◌}
 use Rattle.std.specs.Int.{w64}
 use Rattle.std.specs.Result.{OkIff, result_ok}
 use Rattle.std.specs.Str.{all_ascii_digits}
@@ -8,7 +8,7 @@ use Rattle.std.specs.Str.Parse.{ParsesSigned, digits_value}
 use Rattle.std.proofs.lemmas.Bool.{and_parts}
 use Rattle.std.proofs.lemmas.Bool.Decides.{eqb_tells, nat_tests}
 use Rattle.std.proofs.lemmas.Str.Parse.{IsNumeralModel, numerals_by_value, tells_all_ascii_digits, parse_signed_minus, parse_signed_plain}
-use Rattle.command_words.specs.Settings.{number_below, value_of}
+use Rattle.command_words.specs.Settings.{value_of}
 
 -- what a test tells of a result that is Ok exactly where something holds
 chosen : {E : Type 0} (r : Result ℤ E) (P : Type 0) (b : Bool) (v : ℤ) → OkIff r P v → (P → b ≡ true) → (b ≡ true → P) → result_ok r ≡ (if b then Some v else None)

@@ -1,6 +1,6 @@
 -- Each plain list of words is taken.
-use Rattle.std.proofs.Common.{◌≡◌, ◌∙◌, ◌==◌, ◌&&◌, ◌||◌, ℕ, Bool, cond, true, false, refl, sym, ap, ap₂, subst, List, [], ◌∷◌, ◌++◌, map, Option, Some, None, true≢false, append-nil, append_assoc, codes, fold}
-use Rattle.std.specs.Prelude.{⊤, not, find, is_some, option_map, option_and_then, slice_get, unwrap_or}
+use Rattle.std.proofs.Common.{◌≡◌, ◌∙◌, ◌==◌, ◌||◌, ℕ, Bool, cond, true, false, refl, sym, ap, ap₂, subst, List, [], ◌∷◌, ◌++◌, map, Option, Some, None, true≢false, append-nil, append_assoc, codes, fold}
+use Rattle.std.specs.Prelude.{⊤, not, find, is_some, option_and_then, unwrap_or}
 use Rattle.std.specs.List.{list_any, list_all}
 use Rattle.std.proofs.lemmas.Bool.{and_parts, not-true}
 use Rattle.std.proofs.lemmas.Bool.Decides.{eqb_tells, nat_tests}
@@ -10,13 +10,11 @@ use Rattle.clap.specs.Lexer.{usize_max}
 use Rattle.clap.specs.Kinds.{range_kinds, values_kinds}
 use Rattle.clap.specs.Walk.{settled}
 use Rattle.clap.specs.Faults.{entered_fault}
-use Rattle.clap.specs.Facts.{explicit_source}
 use Rattle.std.proofs.lemmas.List.{map-append}
 use Rattle.std.proofs.Common.{inl, inr}
-use Rattle.std.specs.Option.{option_map_or}
 use Rattle.std.specs.Str.{bytes_eq}
-use Rattle.clap.specs.Words.{App, Row, Rule, Shape, Text, Kinds, built, first_of, all_of, fault_of, subcommand_of}
-use Rattle.clap.specs.Walk.{more_values, Held, Names, Waiting, Walk, idle, option, positional, walked, walk_from, nothing_held, settled_rows, has_row, at_row, with_default, finished, rows_after, answers_to, is_empty}
+use Rattle.clap.specs.Words.{App, Row, Rule, Shape, Text, Kinds, built, first_of, fault_of, subcommand_of}
+use Rattle.clap.specs.Walk.{more_values, Held, Waiting, Walk, idle, option, positional, walked, walk_from, nothing_held, settled_rows, has_row, at_row, with_default, finished, answers_to, is_empty}
 use Rattle.clap.specs.Simple.{label_of, names_of}
 use Rattle.clap.specs.Kinds.{or_else}
 use Rattle.clap.specs.Faults.{turn_fault, walk_fault, settle_fault, defaults_fault, level_fault}
@@ -25,13 +23,12 @@ use Rattle.clap.specs.Values.{reading_of}
 use Rattle.clap.specs.declared.builder.value_parser.ValueParser.TheVariants as vp
 use Rattle.clap.proofs.OnLiterals.{clap_on_literals}
 use Rattle.command_words.specs.Rule.{tool_app}
-use Rattle.command_words.specs.Wanted.{Takes, Wanted, run, sequential, run_of, wanted_by, wanted_in, workers_of, plan_of, is_by, settings_of}
-use Rattle.command_words.specs.declared.request.PlanChoice.{PlanChoice}
-use Rattle.clap.specs.Walk.{stop_after, walk, used}
+use Rattle.command_words.specs.Wanted.{run, sequential, run_of, wanted_by, workers_of, plan_of, settings_of}
+use Rattle.clap.specs.Walk.{walk}
 use Rattle.clap.specs.Takes.{is_given}
-use Rattle.clap.specs.Faults.{check_fault, default_fault}
-use Rattle.clap.specs.Simple.{entered, rows_at}
-use Rattle.command_words.specs.Plain.{Name, workers, which, how, name_text, Given, value_ok, written, names, each_once, value_of, is_setting, IsPlainRun, EveryPlainRunIsTaken, EveryPlainSequentialIsTaken}
+use Rattle.clap.specs.Faults.{check_fault}
+use Rattle.clap.specs.Simple.{entered}
+use Rattle.command_words.specs.Plain.{Name, workers, which, how, name_text, Given, value_ok, written, names, each_once, value_of, is_setting, EveryPlainRunIsTaken, EveryPlainSequentialIsTaken}
 
 -- a command
 data Sub : Type 0 where

@@ -1,10 +1,10 @@
 -- Plain lists of words: options in any order, each as two words, and then settings.
-use Rattle.std.specs.Prelude.{◌≡◌, ◌<◌, ◌^◌, length, ◌==◌, ◌&&◌, ◌++◌, ℕ, Bool, true, false, not, List, [], ◌∷◌, Option, Some, None, codes, is_some, find, option_map, option_and_then}
+use Rattle.std.specs.Prelude.{◌≡◌, ◌<◌, ◌^◌, length, ◌==◌, ◌&&◌, ◌++◌, ℕ, Bool, true, false, not, List, [], ◌∷◌, Option, Some, codes, is_some, find, option_map, option_and_then}
 use Rattle.std.specs.List.{list_any, list_all}
 use Rattle.std.specs.Str.{bytes_eq}
 use Rattle.clap.specs.Words.{Text}
 use Rattle.command_words.specs.declared.request.PlanChoice.{PlanChoice}
-use Rattle.command_words.specs.Wanted.{Wanted, Takes, run, sequential, workers_of, plan_of, is_by}
+use Rattle.command_words.specs.Wanted.{Takes, run, sequential, workers_of, plan_of, is_by}
 
 -- the options of `run`
 pub data Name : Type 0 where

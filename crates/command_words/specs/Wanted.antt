@@ -1,8 +1,8 @@
 -- The request that words stand for.
-use Rattle.std.specs.Prelude.{◌≡◌, ◌≢◌, ◌⊎◌, ◌&&◌, ◌||◌, ◌+◌, ◌-◌, ◌*◌, ℕ, Bool, true, false, List, [], ◌∷◌, Option, Some, None, codes, unwrap_or, nat_le, if◌then◌else◌, option_map, option_and_then, IsTrue}
+use Rattle.std.specs.Prelude.{◌≡◌, ◌≢◌, ◌⊎◌, ◌&&◌, ◌+◌, ◌-◌, ◌*◌, ℕ, Bool, true, false, List, [], ◌∷◌, Option, Some, None, codes, unwrap_or, nat_le, if◌then◌else◌, option_and_then}
 use Rattle.std.specs.List.{list_any}
 use Rattle.std.specs.Str.{bytes_eq}
-use Rattle.clap.specs.Words.{Row, Text, Kinds, first_of, all_of, fault_of, subcommand_of}
+use Rattle.clap.specs.Words.{Row, Text, first_of, all_of, fault_of, subcommand_of}
 use Rattle.clap.specs.Walk.{texts}
 use Rattle.clap.specs.declared.error.kind.ErrorKind.{ErrorKind}
 use Rattle.clap.specs.declared.error.kind.ErrorKind.TheVariants.{DisplayHelp, DisplayVersion}

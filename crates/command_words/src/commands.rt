@@ -23,7 +23,10 @@ fn option<'a>(alloc: Global, name: &'a str, value: &'a str, help: &'a str) -> Ar
     ensures rule { rule_of result ≡ option_rule name.entry.now }
     ensures local { result.global ≡ false }
 {
-    Arg::new(alloc, name).long(name).value_name(value).help(help)
+    Arg::new(alloc, name)
+        .long(name)
+        .value_name(value)
+        .help(help)
 }
 
 // An option with one value that must stand.
@@ -47,8 +50,18 @@ fn run<'a>(alloc: Global) -> Result<Command<'a>, AllocError>
     ensures local { IfOk result (λ c. (out-Command c).has_globals ≡ false) }
 {
     let workers = required(alloc, "workers", "P", "How many processors: 1 to 64");
-    let plan = required(alloc, "plan", "PLAN", "barrier: a barrier in front of each phase");
-    let by = option(alloc, "by", "ENGINE", "core, where left out too: a model of the processors");
+    let plan = required(
+        alloc,
+        "plan",
+        "PLAN",
+        "barrier: a barrier in front of each phase",
+    );
+    let by = option(
+        alloc,
+        "by",
+        "ENGINE",
+        "core, where left out too: a model of the processors",
+    );
     let command = Command::new(alloc, "run")
         .arg(workers)?
         .arg(plan)?
@@ -66,7 +79,9 @@ fn top<'a>(alloc: Global) -> Command<'a>
         .subcommand_required(true)
         .disable_help_subcommand(true)
         .version("0.1.0")
-        .about("Plans and runs FORTRAN 77 DO nests on several processors; reads the source from standard input")
+        .about(
+            "Plans and runs FORTRAN 77 DO nests on several processors; reads the source from standard input",
+        )
 }
 
 /// The tool's command: `seq` and `run`.

@@ -10,13 +10,11 @@ ghost use Rattle.command_words.specs.Plain.{EveryPlainRunIsTaken, EveryPlainSequ
 pub fn plain_words_are_taken()
     ensures run { EveryPlainRunIsTaken }
     ensures sequential { EveryPlainSequentialIsTaken }
-{
-}
+{}
 
 /// Words that ask for help or for the version have that fault alone.
 pub fn help_is_shown()
     ensures help { fault_of tool_app (codes "--help" ∷ []) ≡ kinds.DisplayHelp ∷ [] }
     ensures help_of_run { fault_of tool_app (codes "run" ∷ codes "-h" ∷ []) ≡ kinds.DisplayHelp ∷ [] }
     ensures version { fault_of tool_app (codes "--version" ∷ []) ≡ kinds.DisplayVersion ∷ [] }
-{
-}
+{}

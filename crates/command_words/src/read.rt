@@ -71,7 +71,11 @@ fn run<'a>(inner: &ArgMatches<'a>, settings: Vec<&'a str>) -> Option<Request<'a>
 {
     let workers = workers_in(text(inner, "workers")?)?;
     let plan = plan_in(text(inner, "plan")?)?;
-    if is_core(text(inner, "by")) { Some(Request::Run(workers, plan, settings)) } else { None }
+    if is_core(text(inner, "by")) {
+        Some(Request::Run(workers, plan, settings))
+    } else {
+        None
+    }
 }
 
 // The first value of an argument.
@@ -117,7 +121,11 @@ fn within(n: u32) -> Option<u32>
 fn plan_in(word: &str) -> Option<PlanChoice>
     ensures { result ≡ plan_of word.now }
 {
-    if says(word, "barrier") { Some(PlanChoice::Barrier) } else { None }
+    if says(word, "barrier") {
+        Some(PlanChoice::Barrier)
+    } else {
+        None
+    }
 }
 
 fn is_core(word: Option<&str>) -> bool

@@ -73,7 +73,10 @@ fn setting_in(alloc: Global, word: &str) -> Result<Option<Setting>, AllocError>
         return Ok(None);
     }
     match value_in(value) {
-        Some(value) => Ok(Some(Setting { name: capitals(alloc, name.as_bytes())?, value })),
+        Some(value) => Ok(Some(Setting {
+            name: capitals(alloc, name.as_bytes())?,
+            value,
+        })),
         None => Ok(None),
     }
 }
@@ -96,12 +99,18 @@ fn are_alphanumeric(bytes: &[u8]) -> bool
 fn capitals(alloc: Global, name: &[u8]) -> Result<Vec<u8>, AllocError>
     ensures { IfOk result (λ capitals. capitals.items ≡ map to_ascii_uppercase name.now) }
 {
-    name.iter().map(|byte| byte.to_ascii_uppercase()).collect(alloc)
+    name.iter()
+        .map(|byte| byte.to_ascii_uppercase())
+        .collect(alloc)
 }
 
 fn value_in(word: &str) -> Option<i64>
     ensures { result ≡ value_of word.now }
 {
     // `parse` takes a plus sign
-    if word.starts_with('+') { None } else { word.parse::<i64>().ok() }
+    if word.starts_with('+') {
+        None
+    } else {
+        word.parse::<i64>().ok()
+    }
 }

@@ -48,8 +48,23 @@ fn reads_words(rt: HostRuntime) -> Result<(), Fail> {
     let lists: [(&[&str], &str); 12] = [
         (&["seq"], "seq"),
         (&["seq", "N=5", "M=-1"], "seq N=5 M=-1"),
-        (&["run", "--workers", "4", "--plan", "barrier"], "run 4 barrier"),
-        (&["run", "--by", "core", "--plan", "barrier", "--workers", "64", "N=5"], "run 64 barrier N=5"),
+        (
+            &["run", "--workers", "4", "--plan", "barrier"],
+            "run 4 barrier",
+        ),
+        (
+            &[
+                "run",
+                "--by",
+                "core",
+                "--plan",
+                "barrier",
+                "--workers",
+                "64",
+                "N=5",
+            ],
+            "run 64 barrier N=5",
+        ),
         (&["--help"], "shown"),
         (&["run", "--help"], "shown"),
         (&["--version"], "shown"),
@@ -57,7 +72,18 @@ fn reads_words(rt: HostRuntime) -> Result<(), Fail> {
         (&["run", "--workers", "65", "--plan", "barrier"], "faulty"),
         (&["run", "--workers", "02", "--plan", "barrier"], "faulty"),
         (&["run", "--workers", "2"], "faulty"),
-        (&["run", "--workers", "2", "--plan", "barrier", "--workers", "2"], "faulty"),
+        (
+            &[
+                "run",
+                "--workers",
+                "2",
+                "--plan",
+                "barrier",
+                "--workers",
+                "2",
+            ],
+            "faulty",
+        ),
     ];
     for (words, wanted) in lists {
         assert_eq!(rt; shown(rt.alloc(), words)?.as_str(), wanted);

@@ -1,5 +1,5 @@
-use Rattle.std.proofs.Common.{rules, ◌≡◌, ◌∙◌, ap, ap₂}
-use Rattle.clap.specs.Words.{App, app_of, with_rule}
+use Rattle.std.proofs.Common.{rules, ◌∙◌, ap, ap₂}
+use Rattle.clap.specs.Words.{with_rule}
 use Rattle.clap.specs.Simple.{app_of_fields}
 use Rattle.command_words.proofs.commands.run.Goals as goal
 

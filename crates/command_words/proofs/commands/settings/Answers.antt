@@ -2,7 +2,6 @@ use Rattle.std.proofs.Common.{rules, ◌≡◌, ◌∙◌, ap}
 use Rattle.std.specs.Prelude.{Some, codes}
 use Rattle.clap.specs.Lexer.{usize_max}
 use Rattle.clap.specs.Words.{Rule, new_rule, rule_of}
-use Rattle.command_words.specs.Rule.{settings_rule}
 use Rattle.command_words.proofs.commands.settings.Goals as goal
 
 pub returns-clause-rule : goal.returns-clause-rule
