@@ -1,6 +1,6 @@
 // The plan.
 
-ghost use Rattle.std.specs.Prelude.{◌≡◌, ◌≤◌, [], IfOk, replicate};
+ghost use Rattle.std.specs.Prelude.{◌≡◌, ◌≤◌, ◌<◌, ◌^◌, [], IfOk, length, replicate};
 ghost use Rattle.nest_tree.specs.View.{tree_of};
 ghost use Rattle.nest_tree.specs.WellFormed.{IsWellFormed};
 ghost use Rattle.sync_plan.specs.Fit.{IsFit};
@@ -22,13 +22,15 @@ pub fn serial_plan(alloc: Global, program: &Program, workers: u32) -> Result<Pla
     ensures plan { IfOk result (λ plan. plan ≡ spec.serial_plan workers (tree_of program.now)) }
     ensures fits { IfOk result (λ plan. IsFit (tree_of program.now) plan) }
     ensures ordered { IfOk result (λ plan. IsOrdered (tree_of program.now) plan) }
+    ensures few_anchors { IfOk result (λ plan. length plan.anchors < 2 ^ 32) }
 {
     build(alloc, program, workers)
 }
 
 fn build(alloc: Global, program: &Program, workers: u32) -> Result<Plan, AllocError>
     requires { IsWellFormed (tree_of program.now) }
-    ensures { IfOk result (λ plan. plan ≡ spec.serial_plan workers (tree_of program.now)) }
+    ensures plan { IfOk result (λ plan. plan ≡ spec.serial_plan workers (tree_of program.now)) }
+    ensures few { IfOk result (λ plan. length plan.anchors < 2 ^ 32) }
 {
     let mut marks = Vec::new(alloc);
     push_marks(&mut marks, &program.items)?;
