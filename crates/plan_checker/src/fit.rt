@@ -1,0 +1,38 @@
+// Whether a plan fits a program.
+
+ghost use Rattle.std.specs.Prelude.{◌≡◌};
+ghost use Rattle.std.specs.Result.{result_err};
+ghost use Rattle.nest_tree.specs.Limits.{IsWithinLimits};
+ghost use Rattle.nest_tree.specs.View.{tree_of};
+ghost use Rattle.nest_tree.specs.WellFormed.{IsWellFormed};
+ghost use Rattle.plan_checker.specs.Refusals.{first_refusal};
+
+use crate::conditions::unmet;
+use crate::places::{check_places, misplaced_print};
+use crate::refusal::PlanRefusal;
+use crate::shape::wrong_field;
+use nest_tree::Program;
+use owner_partition::Placement;
+use sync_plan::Plan;
+
+/// Whether a plan fits a program; else the first reason why not: its shape, then the placement of
+/// its block anchors, then its phases with a PRINT, then its conditions. It takes no memory.
+pub fn check_fit(program: &Program, plan: &Plan) -> Result<(), PlanRefusal>
+    requires formed { IsWellFormed (tree_of program.now) }
+    requires limits { IsWithinLimits (tree_of program.now) }
+    ensures { result_err result ≡ first_refusal (tree_of program.now) plan.now }
+{
+    if let Some(field) = wrong_field(program, plan) {
+        return Err(PlanRefusal::Shape(field));
+    }
+    if let Err(Placement { phase, low, high }) = check_places(program, plan) {
+        return Err(PlanRefusal::Placement { phase, low, high });
+    }
+    if let Some(phase) = misplaced_print(program, &plan.cut, plan.anchors.as_slice()) {
+        return Err(PlanRefusal::PrintPlace(phase));
+    }
+    match unmet(&program.params, &plan.conditions) {
+        Some(row) => Err(PlanRefusal::Condition(row)),
+        None => Ok(()),
+    }
+}

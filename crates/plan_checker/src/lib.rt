@@ -1,0 +1,20 @@
+//! Whether a plan may be run on a program.
+//!
+//! - [`refusal`]: why a plan is refused, with the lines that are printed.
+//! - [`fit`]: whether a plan fits a program.
+//! - `shape`, `marks`, `anchors`, `conditions`: the fields of its shape.
+//! - `places`: where its anchors lie, and who prints.
+#![tactic(auto)]
+
+mod anchors;
+mod conditions;
+pub mod fit;
+mod marks;
+mod places;
+pub mod refusal;
+mod shape;
+#[cfg(test)]
+mod tests;
+
+pub use fit::check_fit;
+pub use refusal::PlanRefusal;

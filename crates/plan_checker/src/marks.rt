@@ -1,0 +1,101 @@
+// Which marks a program's loops may have.
+
+ghost use Rattle.std.specs.Prelude.{◌≡◌, ◌<◌, ◌^◌, ◌||◌};
+ghost use Rattle.nest_tree.specs.View.{statement_of, statements_from};
+ghost use Rattle.nest_tree.specs.WellFormed.{loops_in, loops_of};
+ghost use Rattle.owner_partition.specs.Marks.{is_closed};
+ghost use Rattle.sync_plan.specs.Shape.{are_marked_well, fits_mark, is_doall, is_marked_well, mark_of};
+
+use nest_tree::Item;
+use owner_partition::Mark;
+
+// How many loops there are in these statements.
+#[cycle(loops)]
+pub(crate) fn loop_count(items: &[Item]) -> usize
+    requires { loops_of (statements_from items.now) < 2 ^ 32 }
+    ensures { result ≡ loops_of (statements_from items.now) }
+{
+    let mut count = 0;
+    for item in items {
+        count += loops_in_item(item);
+    }
+    count
+}
+
+#[cycle(loops)]
+fn loops_in_item(item: &Item) -> usize
+    requires { loops_in (statement_of item.now) < 2 ^ 32 }
+    ensures { result ≡ loops_in (statement_of item.now) }
+{
+    match item {
+        Item::Loop(nest) => 1 + loop_count(&nest.items),
+        Item::Assign(..) | Item::Print(..) | Item::Continue(_) => 0,
+    }
+}
+
+/// The mark of the loop with this number, from 1; a loop without one counts as Inner.
+pub(crate) fn mark_of(marks: &[Mark], number: u32) -> Mark
+    ensures { result ≡ mark_of marks.now number }
+{
+    let place = (number as usize).saturating_sub(1);
+    if place < marks.len() {
+        marks[place]
+    } else {
+        Mark::Inner
+    }
+}
+
+/// Whether a loop with this mark is a Doall loop.
+pub(crate) fn is_doall(mark: Mark) -> bool
+    ensures { result ≡ is_doall mark }
+{
+    match mark {
+        Mark::Doall => true,
+        Mark::Outer | Mark::Single | Mark::Inner => false,
+    }
+}
+
+// Whether a loop may have this mark, inside a phase or not.
+fn fits_mark(inside: bool, mark: Mark) -> bool
+    ensures { result ≡ fits_mark inside mark }
+{
+    match mark {
+        Mark::Outer | Mark::Doall | Mark::Single => !inside,
+        Mark::Inner => inside,
+    }
+}
+
+// Whether the body of a loop with this mark stands inside a phase.
+fn is_in_phase(inside: bool, mark: Mark) -> bool
+    ensures { result ≡ (inside || is_closed mark) }
+{
+    inside || mark.is_closed()
+}
+
+/// Whether each loop in these statements has a mark that it may have, where they stand inside a
+/// phase or not.
+#[cycle(marked)]
+pub(crate) fn are_marked_well(marks: &[Mark], inside: bool, items: &[Item]) -> bool
+    ensures { result ≡ are_marked_well marks.now inside (statements_from items.now) }
+{
+    for item in items {
+        if !is_marked_well(marks, inside, item) {
+            return false;
+        }
+    }
+    true
+}
+
+#[cycle(marked)]
+fn is_marked_well(marks: &[Mark], inside: bool, item: &Item) -> bool
+    ensures { result ≡ is_marked_well marks.now inside (statement_of item.now) }
+{
+    match item {
+        Item::Loop(nest) => {
+            let mark = mark_of(marks, nest.number);
+            fits_mark(inside, mark)
+                && are_marked_well(marks, is_in_phase(inside, mark), &nest.items)
+        }
+        Item::Assign(..) | Item::Print(..) | Item::Continue(_) => true,
+    }
+}
