@@ -1,2 +1,17 @@
 mod TurnLists
 mod TurnDeeds
+mod Suffixes
+mod Steps
+mod Kept
+mod Ready
+mod Awaited
+mod LoadPlaces
+mod Works
+mod LoadSteps
+mod LastSteps
+mod Rounds
+mod Sequential
+mod TableLoads
+mod Silent
+mod PhaseSums
+mod Fresh

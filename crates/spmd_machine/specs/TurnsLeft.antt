@@ -11,6 +11,7 @@ use Rattle.nest_walk.specs.Paths.{Round}
 use Rattle.nest_walk.specs.Places.{numbers_of}
 use Rattle.nest_walk.specs.Texts.{StandFrom, placed_in}
 use Rattle.nest_walk.specs.declared.cursor.Stop.{Stop}
+use Rattle.nest_walk.specs.declared.path.Path.{Path}
 use Rattle.owner_partition.specs.Marks.{enters_outer}
 use Rattle.owner_partition.specs.Phases.{phases}
 use Rattle.owner_partition.specs.PhasesLeft.{phases_enters, phases_left, phases_passed, phases_tree}
@@ -36,6 +37,9 @@ turns_processor c = c.processor
 -- the loops round the instance that comes next, with their values
 abbrev pub turns_rounds : Turns → List Round
 turns_rounds c = instances_rounds c.own
+
+abbrev pub turns_path : Turns → Path
+turns_path c = c.own.cursor.path
 
 -- the instance that has come
 abbrev pub come_of : Tree → List Round → Option Stop → List Instance

@@ -4,14 +4,14 @@ mod MomentActs
 mod Registers
 mod Chains
 mod LastValues
-mod Keeps
-mod ActLaws
-mod Counters
-mod Unstuck
-mod Runs
-mod Ends
+pub mod Keeps
+pub mod ActLaws
+pub mod Counters
+pub mod Unstuck
+pub mod Runs
+pub mod Ends
 mod PlannedMoments
 mod PlannedOrder
-mod PlannedMemory
-mod PlannedSound
+pub mod PlannedMemory
+pub mod PlannedSound
 pub mod Deeds

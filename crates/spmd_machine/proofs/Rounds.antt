@@ -1,0 +1,169 @@
+-- A round of steps: it comes nearer to the end, or no step in it was possible.
+use Rattle.std.proofs.Common.{◌≡◌, ◌≢◌, ℕ, zero, suc, ◌+◌, ◌-◌, ◌<◌, ◌≤◌, Bool, true, false, nat_le, cond, [], ◌∷◌, ◌++◌, length, set, fold, Option, Some, None, refl, sym, ◌∙◌, ap, subst, inl, inr, zero-add, append-nil, below_more, arith}
+use Rattle.std.specs.Prelude.{slice_index, sum_by}
+use Rattle.std.specs.List.{range_with_len, flat_map}
+use Rattle.std.proofs.lemmas.Bool.{cases_eq}
+use Rattle.std.proofs.lemmas.List.{get_or-set_same, get_or-set_other}
+use Rattle.std.proofs.lemmas.List.Sums.{sum_by-cons, fold_push, fold-append}
+use Rattle.std.proofs.lemmas.List.Concat.{flat_map-append}
+use Rattle.sync_plan.proofs.ProcessorSets.{range_split}
+use Rattle.spmd_model.specs.Ordered.{IsSound}
+use Rattle.spmd_model.specs.Reached.{HasCome}
+use Rattle.spmd_model.specs.States.{State, next_act, moved, acted, stepped, stepped_by, IsEnded}
+use Rattle.spmd_model.specs.Timelines.{Act, post, await, load, store, print, Machine, acts_of}
+use Rattle.spmd_model.proofs.Keeps.{within_acts}
+use Rattle.spmd_model.proofs.Unstuck.{ended_or_goes}
+use Rattle.spmd_machine.specs.Machines.{answer_at, step_answer}
+use Rattle.spmd_machine.specs.Promises.{RoundTo, acts_to_go, can_go, can_step, one_round, rounds}
+use Rattle.spmd_machine.specs.declared.answer.StepAnswer.{StepAnswer}
+use Rattle.spmd_machine.specs.declared.answer.StepAnswer.TheVariants.{Stepped, Blocked, Ended}
+
+-- a sum over a range in which one term is one less
+same_sums : (f g : ℕ → ℕ) (a n : ℕ) → ((q : ℕ) → a ≤ q → q < a + n → g q ≡ f q) → sum_by g (range_with_len a n) ≡ sum_by f (range_with_len a n)
+same_sums f g a zero h = refl
+same_sums f g a (suc n) h =
+    omega (arith, sum_by-cons f a (range_with_len (a + 1) n), sum_by-cons g a (range_with_len (a + 1) n), h a (omega arith) (omega arith), same_sums f g (a + 1) n (λ q low high. h q (omega arith) (omega arith)))
+
+one_less : (f g : ℕ → ℕ) (a n p : ℕ) → a ≤ p → p < a + n → g p + 1 ≡ f p → ((q : ℕ) → q ≢ p → g q ≡ f q) → sum_by g (range_with_len a n) + 1 ≡ sum_by f (range_with_len a n)
+one_less f g a zero p low high here others = absurd (omega arith)
+one_less f g a (suc n) p low high here others =
+    let left = sum_by-cons f a (range_with_len (a + 1) n) in
+    let right = sum_by-cons g a (range_with_len (a + 1) n) in
+    elim (cases_eq a p) [
+      | inl e ↦ let rest = same_sums f g (a + 1) n (λ q low' high'. others q (λ (x : q ≡ p). omega arith)) in
+          let mine : g a + 1 ≡ f a = subst (λ k. g k + 1 ≡ f k) (sym e) here in omega (arith, left, right, rest, mine)
+      | inr ne ↦ let rest = one_less f g (a + 1) n p (omega arith) (omega arith) here others in omega (arith, left, right, rest, others a ne)
+    ]
+
+-- the acts that a processor's step makes possible
+go_length : Machine → State → ℕ → ℕ
+go_length m s q = length (acts_of m q) - slice_index s.positions q
+
+moved_positions : (m : Machine) (s : State) (p : ℕ) (act : Act) → (moved (acted m s p act) p).positions ≡ set s.positions p (slice_index s.positions p + 1)
+moved_positions m s p (post number) = refl
+moved_positions m s p (await on wanted) = refl
+moved_positions m s p (load t cell) = refl
+moved_positions m s p (store t cell) = refl
+moved_positions m s p (print t) = refl
+
+moved_less : (m : Machine) (s : State) (p : ℕ) (act : Act) → p < m.workers → HasCome m s → next_act m s p ≡ Some act → acts_to_go m (moved (acted m s p act) p) + 1 ≡ acts_to_go m s
+unfolding acts_to_go go_length
+moved_less m s p act lt law due =
+    let after = moved (acted m s p act) p in
+    let inside_acts = within_acts m p (slice_index s.positions p) act due in
+    let inside : p < length s.positions = omega (arith, law.count, lt) in
+    let moves = moved_positions m s p act in
+    let mine : slice_index after.positions p ≡ slice_index s.positions p + 1 = ap (λ l. slice_index l p) moves ∙ get_or-set_same s.positions p (slice_index s.positions p + 1) 0 inside in
+    one_less (go_length m s) (go_length m after) 0 m.workers p (omega arith) (omega arith) (omega (arith, mine, inside_acts))
+    (λ q ne. ap (λ k. length (acts_of m q) - k) (ap (λ l. slice_index l q) moves ∙ get_or-set_other s.positions p q (slice_index s.positions p + 1) 0 ne))
+
+-- a step that is possible comes nearer, and another changes nothing
+goes_by : (m : Machine) (s : State) (p : ℕ) (o : Option Act) → p < m.workers → HasCome m s → next_act m s p ≡ o → can_go s o ≡ true → acts_to_go m (stepped_by m s p o) + 1 ≡ acts_to_go m s
+goes_by m s p None lt law due can = absurd (cc)
+goes_by m s p (Some act) lt law due can =
+    ap (λ b. acts_to_go m (cond b (moved (acted m s p act) p) s) + 1) can ∙ moved_less m s p act lt law due
+
+pub step_goes : (m : Machine) (s : State) (p : ℕ) → p < m.workers → HasCome m s → can_step m s p ≡ true → acts_to_go m (stepped m s p) + 1 ≡ acts_to_go m s
+step_goes m s p lt law can = goes_by m s p (next_act m s p) lt law refl can
+
+stays_by : (m : Machine) (s : State) (p : ℕ) (o : Option Act) → can_go s o ≡ false → stepped_by m s p o ≡ s
+stays_by m s p None can = refl
+stays_by m s p (Some act) can = ap (λ b. cond b (moved (acted m s p act) p) s) can
+
+pub step_stays : (m : Machine) (s : State) (p : ℕ) → can_step m s p ≡ false → stepped m s p ≡ s
+step_stays m s p can = stays_by m s p (next_act m s p) can
+
+-- what the answer says
+stepped_answer : (b : Bool) (on wanted seen : ℕ) → cond b Stepped (Blocked on wanted seen) ≡ Stepped → b ≡ true
+stepped_answer true on wanted seen h = refl
+stepped_answer false on wanted seen h = absurd (cc)
+
+blocked_answer : (b : Bool) (on wanted seen on' wanted' seen' : ℕ) → cond b Stepped (Blocked on wanted seen) ≡ Blocked on' wanted' seen' → b ≡ false
+blocked_answer true on wanted seen on' wanted' seen' h = absurd (cc)
+blocked_answer false on wanted seen on' wanted' seen' h = refl
+
+can_by : (s : State) (o : Option Act) → answer_at s o ≡ Stepped → can_go s o ≡ true
+can_by s None h = absurd (cc)
+can_by s (Some (post number)) h = refl
+can_by s (Some (await on wanted)) h = stepped_answer (nat_le wanted (slice_index s.counters on)) on wanted (slice_index s.counters on) h
+can_by s (Some (load t cell)) h = refl
+can_by s (Some (store t cell)) h = refl
+can_by s (Some (print t)) h = refl
+
+cannot_ended : (s : State) (o : Option Act) → answer_at s o ≡ Ended → can_go s o ≡ false
+cannot_ended s None h = refl
+cannot_ended s (Some (post number)) h = absurd (cc)
+cannot_ended s (Some (await on wanted)) h = go (nat_le wanted (slice_index s.counters on)) h
+  where
+    go : (b : Bool) → cond b Stepped (Blocked on wanted (slice_index s.counters on)) ≡ Ended → b ≡ false
+    go true h = absurd (cc)
+    go false h = refl
+cannot_ended s (Some (load t cell)) h = absurd (cc)
+cannot_ended s (Some (store t cell)) h = absurd (cc)
+cannot_ended s (Some (print t)) h = absurd (cc)
+
+cannot_blocked : (s : State) (o : Option Act) (on' wanted' seen' : ℕ) → answer_at s o ≡ Blocked on' wanted' seen' → can_go s o ≡ false
+cannot_blocked s None on' wanted' seen' h = refl
+cannot_blocked s (Some (post number)) on' wanted' seen' h = absurd (cc)
+cannot_blocked s (Some (await on wanted)) on' wanted' seen' h = blocked_answer (nat_le wanted (slice_index s.counters on)) on wanted (slice_index s.counters on) on' wanted' seen' h
+cannot_blocked s (Some (load t cell)) on' wanted' seen' h = absurd (cc)
+cannot_blocked s (Some (store t cell)) on' wanted' seen' h = absurd (cc)
+cannot_blocked s (Some (print t)) on' wanted' seen' h = absurd (cc)
+
+pub answered_stepped : (m : Machine) (s : State) (p : ℕ) → Stepped ≡ step_answer m s p → can_step m s p ≡ true
+answered_stepped m s p h = can_by s (next_act m s p) (sym h)
+
+pub answered_other : (m : Machine) (s : State) (p : ℕ) (answer : StepAnswer) → answer ≡ step_answer m s p → answer ≢ Stepped → can_step m s p ≡ false
+answered_other m s p Stepped h ne = absurd (ne refl)
+answered_other m s p (Blocked on wanted seen) h ne = cannot_blocked s (next_act m s p) on wanted seen (sym h)
+answered_other m s p Ended h ne = cannot_ended s (next_act m s p) (sym h)
+
+pub round_none : (m : Machine) (from : State) → RoundTo m from from 0 false
+round_none m from = record {
+  run = refl;
+  nearer = omega arith;
+  goes = λ (h : false ≡ true). absurd (cc);
+  still = λ _. (refl, λ q lt. absurd (omega arith));
+}
+
+run_more : (m : Machine) (from now : State) (p : ℕ) → now ≡ fold (stepped m) from (range_with_len 0 p) → stepped m now p ≡ fold (stepped m) from (range_with_len 0 (p + 1))
+run_more m from now p h =
+    ap (λ s. stepped m s p) h ∙ sym (fold_push (stepped m) from (range_with_len 0 p) p)
+    ∙ ap (fold (stepped m) from) (ap (λ k. range_with_len 0 p ++ k ∷ []) (sym (zero-add p)) ∙ sym (range_split 0 p 1))
+
+pub round_more : (m : Machine) (from now : State) (p : ℕ) (any : Bool) → RoundTo m from now p any → p < m.workers → HasCome m now → can_step m now p ≡ true → RoundTo m from (stepped m now p) (p + 1) true
+round_more m from now p any r lt law can =
+    let less = step_goes m now p lt law can in
+    record {
+      run = run_more m from now p r.run;
+      nearer = omega (arith, less, r.nearer);
+      goes = λ _. omega (arith, less, r.nearer);
+      still = λ (h : true ≡ false). absurd (cc);
+    }
+
+pub round_still : (m : Machine) (from now : State) (p : ℕ) (any : Bool) → RoundTo m from now p any → p < m.workers → can_step m now p ≡ false → RoundTo m from (stepped m now p) (p + 1) any
+round_still m from now p any r lt can =
+    let same = step_stays m now p can in
+    let go = ap (acts_to_go m) same in
+    record {
+      run = run_more m from now p r.run;
+      nearer = omega (arith, go, r.nearer);
+      goes = λ h. omega (arith, go, r.goes h);
+      still = λ h. let before = r.still h in (same ∙ before.0, below_more _ _ before.1 (ap (λ s. can_step m s p) (sym before.0) ∙ can));
+    }
+
+pub round_as : (m : Machine) (from a b : State) (p : ℕ) (any other : Bool) → a ≡ b → any ≡ other → RoundTo m from a p any → RoundTo m from b p other
+round_as m from a b p any other e f r = subst (λ (s : State). RoundTo m from s p other) e (subst (λ (x : Bool). RoundTo m from a p x) f r)
+
+-- one round more
+pub rounds_more : (m : Machine) (from now after : State) (count : ℕ) → now ≡ fold (stepped m) from (rounds m count) → after ≡ fold (stepped m) now (one_round m) → after ≡ fold (stepped m) from (rounds m (count + 1))
+rounds_more m from now after count h e =
+    e ∙ ap (λ s. fold (stepped m) s (one_round m)) h ∙ sym (fold-append (stepped m) from (rounds m count) (one_round m))
+    ∙ ap (fold (stepped m) from) (ap (λ l. rounds m count ++ l) (sym (append-nil (one_round m)))
+    ∙ sym (ap (flat_map (λ n. one_round m)) (range_split 0 count 1) ∙ flat_map-append (λ n. one_round m) (range_with_len 0 count) (range_with_len (0 + count) 1)))
+
+pub ended_still : (m : Machine) (s : State) → IsSound m → HasCome m s → ((p : ℕ) → p < m.workers → can_step m s p ≡ false) → IsEnded m s
+ended_still m s sound come still = elim (ended_or_goes m s sound come) [
+  | inl ended ↦ ended
+  | inr go ↦ let can : can_step m s go.processor ≡ true = ap (can_go s) go.next ∙ go.possible in let clash : true ≡ false = sym can ∙ still go.processor go.below in absurd (cc)
+]

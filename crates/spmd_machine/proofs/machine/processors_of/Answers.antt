@@ -1,0 +1,26 @@
+use Rattle.std.proofs.Common.{◌∷◌, [], length, length-append, refl, ap, arith}
+use Rattle.nest_tree.specs.View.{tree_of}
+use Rattle.spmd_machine.specs.Processors.{IsFresh}
+use Rattle.spmd_machine.specs.declared.processor.Processor.{Processor}
+use Rattle.spmd_machine.proofs.Fresh.{pushed_all}
+use Rattle.spmd_machine.proofs.machine.processors_of.Goals as goal
+
+pub loop-p-preserved : goal.loop-p-preserved
+loop-p-preserved c =
+    let x : Processor = record { turns = c.new.result; registers = c.in_ok-with_capacity.field-0; load = 0; element = 0; counter = 0 } in
+    let fresh : IsFresh (tree_of c.args.program.now) c.args.plan.now c.args.room c.loop-p.p x = record {
+      sound = c.new.ensures.sound;
+      program = c.new.ensures.program;
+      plan_is = c.new.ensures.plan;
+      processor = c.new.ensures.processor;
+      turns = c.new.ensures.turns;
+      registers = c.in_ok-with_capacity.ensures.items;
+      first_load = refl;
+      first_element = refl;
+      counter = refl;
+      room = c.in_ok-with_capacity.ensures.capacity;
+    } in
+    record {
+      count = omega (arith, ap length c.in_ok-push.ensures.items, length-append c.loop-p.processors.items (x ∷ []), c.loop-p.invariant.count);
+      fresh = pushed_all (IsFresh (tree_of c.args.program.now) c.args.plan.now c.args.room) c.loop-p.processors.items c.push.new.self.items x c.loop-p.p c.loop-p.invariant.count c.in_ok-push.ensures.items c.loop-p.invariant.fresh fresh;
+    }
