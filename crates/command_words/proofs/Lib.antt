@@ -1,3 +1,4 @@
-mod PlainWords
+mod Counted
 mod Numbers
+mod PlainWords
 mod Sorts

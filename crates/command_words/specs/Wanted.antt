@@ -1,5 +1,5 @@
 -- The request that words stand for.
-use Rattle.std.specs.Prelude.{◌≡◌, ◌≢◌, ◌⊎◌, ◌&&◌, ◌+◌, ◌-◌, ◌*◌, ℕ, Bool, true, false, List, [], ◌∷◌, Option, Some, None, codes, unwrap_or, nat_le, if◌then◌else◌, option_and_then}
+use Rattle.std.specs.Prelude.{◌≡◌, ◌≤◌, ⊤, ◌≢◌, ◌⊎◌, ◌&&◌, ◌+◌, ◌-◌, ◌*◌, ℕ, Bool, true, false, List, [], ◌∷◌, Option, Some, None, codes, unwrap_or, nat_le, if◌then◌else◌, option_and_then}
 use Rattle.std.specs.List.{list_any}
 use Rattle.std.specs.Str.{bytes_eq}
 use Rattle.clap.specs.Words.{Row, Text, first_of, all_of, fault_of, subcommand_of}
@@ -57,6 +57,11 @@ wanted_in name rows = if bytes_eq name (codes "seq") then Some (sequential (sett
 
 abbrev pub wanted_by : Option (Text × List Row) → Option Wanted
 wanted_by sub = option_and_then (λ p. wanted_in p.0 p.1) sub
+
+-- a run has 1 to 64 workers
+abbrev pub IsCounted : Wanted → Type 0
+IsCounted (sequential settings) = ⊤
+IsCounted (run workers plan settings) = (1 ≤ workers) × (workers ≤ 64)
 
 -- The words are taken, as this request.
 abbrev pub Takes : List Text → Wanted → Type 0

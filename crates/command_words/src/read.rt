@@ -4,7 +4,7 @@ ghost use Rattle.std.specs.Prelude.{◌≡◌, ℕ, Bool, [], Some, None, map, I
 ghost use Rattle.std.specs.Str.{bytes_eq};
 ghost use Rattle.clap.specs.Words.{first_of, rows_of, found_of, kind_of, subcommand_rows_of, fault_of};
 ghost use Rattle.clap.specs.Walk.{texts};
-ghost use Rattle.command_words.specs.Wanted.{wanted, wanted_by, wanted_in, run_of, workers_of, plan_of, is_by, settings_of, Takes, within as within_of};
+ghost use Rattle.command_words.specs.Wanted.{wanted, wanted_by, wanted_in, run_of, workers_of, plan_of, is_by, settings_of, IsCounted, Takes, within as within_of};
 ghost use Rattle.command_words.specs.Refusals.{IsRefused, IsValueFault, refusal_of};
 
 use crate::commands;
@@ -21,6 +21,7 @@ use std::alloc::{AllocError, Global};
 /// that is offered; `NoMemory` may stand in place of any answer.
 pub fn read_words<'a>(alloc: Global, words: &'a [&'a str]) -> Result<Request<'a>, Refused>
     ensures taken { IfOk result (λ request. Takes (texts words.entry.now) (wanted request)) }
+    ensures counted { IfOk result (λ request. IsCounted (wanted request)) }
     ensures refused { IfErr result (IsRefused (texts words.entry.now)) }
 {
     let command = commands::tool(alloc)?;
@@ -43,6 +44,7 @@ fn refusal(error: Error) -> Refused
 
 fn request<'a>(alloc: Global, matches: &ArgMatches<'a>) -> Result<Request<'a>, Refused>
     ensures taken { IfOk result (λ request. wanted_by (subcommand_rows_of matches.now) ≡ Some (wanted request)) }
+    ensures counted { IfOk result (λ request. IsCounted (wanted request)) }
     ensures refused { IfErr result (λ refused. IsValueFault (wanted_by (subcommand_rows_of matches.now)) refused) }
 {
     match matches.subcommand() {
