@@ -64,7 +64,7 @@ none-first line dimension (b ∷ bounds) (v ∷ values) =
     none-or (subscript_outside line dimension b v) (first_outside line (dimension + 1) bounds values) ∙ ap (λ x. x && is_none (first_outside line (dimension + 1) bounds values)) (none-subscript line dimension b v)
     ∙ ap (λ x. is_inside b v && x) (none-first line (dimension + 1) bounds values)
 
-none-accesses : (tree : Tree) (loops : List ℤ) (line : ℕ) (xs : List Access) → is_none (accesses_outside tree loops line xs) ≡ list_all (is_access_inside tree loops) xs
+pub none-accesses : (tree : Tree) (loops : List ℤ) (line : ℕ) (xs : List Access) → is_none (accesses_outside tree loops line xs) ≡ list_all (is_access_inside tree loops) xs
 none-accesses tree loops line [] = refl
 none-accesses tree loops line (a ∷ xs) =
     none-or (access_outside tree loops line a) (accesses_outside tree loops line xs) ∙ ap (λ x. x && is_none (accesses_outside tree loops line xs)) (none-first line 1 (bounds_of tree a.variable) (subscript_values tree loops a.subscripts))

@@ -57,11 +57,11 @@ instances_small tree formed limits =
 
 -- what a good expression loads is good
 module _ (scope : Scope) (around : List ℕ) where
-  both_good : (xs ys : List Access) → list_all (is_good_access scope around) xs ≡ true → list_all (is_good_access scope around) ys ≡ true → list_all (is_good_access scope around) (xs ++ ys) ≡ true
+  pub both_good : (xs ys : List Access) → list_all (is_good_access scope around) xs ≡ true → list_all (is_good_access scope around) ys ≡ true → list_all (is_good_access scope around) (xs ++ ys) ≡ true
   both_good xs ys h k = list_all-append (is_good_access scope around) xs ys ∙ and_from (list_all (is_good_access scope around) xs) (list_all (is_good_access scope around) ys) h k
 
   mutual
-    loads_good : (e : Expression) → is_good_expression scope around e ≡ true → list_all (is_good_access scope around) (loads_in e) ≡ true
+    pub loads_good : (e : Expression) → is_good_expression scope around e ≡ true → list_all (is_good_access scope around) (loads_in e) ≡ true
     loads_good (number n) good = refl
     loads_good (loop_value l) good = refl
     loads_good (param p) good = refl
@@ -90,7 +90,7 @@ module _ (scope : Scope) (around : List ℕ) where
   item_loads_good (whole variable) good = refl
   item_loads_good (text characters) good = refl
 
-  items_loads_good : (ps : List Printed) → list_all (is_good_item scope around) ps ≡ true → list_all (is_good_access scope around) (flat_map loads_in_item ps) ≡ true
+  pub items_loads_good : (ps : List Printed) → list_all (is_good_item scope around) ps ≡ true → list_all (is_good_access scope around) (flat_map loads_in_item ps) ≡ true
   items_loads_good [] good = refl
   items_loads_good (p ∷ ps) good =
       let g = and_parts (is_good_item scope around p) (list_all (is_good_item scope around) ps) good in

@@ -1,7 +1,7 @@
 // The check of all subscripts.
 
-ghost use Rattle.std.specs.Prelude.{◌≡◌, ◌↔◌, IsOk, IsTrue, map};
-ghost use Rattle.std.specs.List.{flat_map, list_all};
+ghost use Rattle.std.specs.Prelude.{◌≡◌, ◌↔◌, ℕ, IsOk, IsTrue, Some, map, slice_get, true};
+ghost use Rattle.std.specs.List.{All, flat_map, list_all};
 ghost use Rattle.std.specs.Result.{result_err};
 ghost use Rattle.nest_tree.specs.Limits.{IsWithinLimits, line_of_work};
 ghost use Rattle.nest_tree.specs.Loads.{loads_among, loads_in, loads_in_item};
@@ -13,24 +13,58 @@ ghost use Rattle.nest_walk.specs.Cursors.{loops_in};
 ghost use Rattle.nest_walk.specs.Paths.{Round};
 ghost use Rattle.nest_walk.specs.Places.{numbers_of};
 ghost use Rattle.nest_walk.specs.RoundsOf.{rounds_of};
+ghost use Rattle.nest_rows.specs.Nested.{Nested as NestedWork, nested_works};
+ghost use Rattle.range_check.specs.Certified.{AreCertified};
 ghost use Rattle.range_check.specs.Outside.{access_outside, accesses_outside, are_sound_accesses, is_sound_access, outside_of, subscript_outside};
 
+use crate::certified::{certified_works, is_certified_at};
 use crate::outside::OutOfRange;
+use fm_elim::NoMemory;
 use nest_tree::{Access, Expr, Item, PrintItem, Program};
 use nest_walk::{Instances, Path, value_at};
+use std::alloc::Global;
 
 /// The first subscript that is out of range: of the first instance in sequential order, in it of
-/// the first access, its loads in text order and then its store, in it of the first dimension. It
-/// takes no memory.
-pub fn check_ranges(program: &Program) -> Result<(), OutOfRange>
+/// the first access, its loads in text order and then its store, in it of the first dimension.
+/// Pieces of work all of whose subscripts are certified are not walked, and where all are, none is.
+/// Where memory runs out each is walked.
+pub fn check_ranges(alloc: Global, program: &Program) -> Result<(), OutOfRange>
     requires formed { IsWellFormed (tree_of program.now) }
     requires limits { IsWithinLimits (tree_of program.now) }
     ensures first { result_err result ≡ outside_of (tree_of program.now) }
     ensures inside { IsOk result ↔ IsInRange (tree_of program.now) }
 {
+    match certified_works(alloc, program) {
+        Ok(certified) => {
+            if are_all(certified.as_slice()) {
+                return Ok(());
+            }
+            check_others(program, certified.as_slice())
+        }
+        Err(NoMemory) => check_others(program, &[]),
+    }
+}
+
+// Whether all are certified.
+fn are_all(certified: &[bool]) -> bool
+    ensures { IsTrue result → All (λ b. b ≡ true) certified.now }
+{
+    certified.iter().all(|one| *one)
+}
+
+// The first subscript that is out of range, where these pieces of work are certified.
+fn check_others(program: &Program, certified: &[bool]) -> Result<(), OutOfRange>
+    requires formed { IsWellFormed (tree_of program.now) }
+    requires limits { IsWithinLimits (tree_of program.now) }
+    requires certified { (k : ℕ) → (n : NestedWork) → slice_get certified.now k ≡ Some true → slice_get (nested_works (tree_of program.now)) k ≡ Some n → AreCertified (tree_of program.now) n }
+    ensures first { result_err result ≡ outside_of (tree_of program.now) }
+    ensures inside { IsOk result ↔ IsInRange (tree_of program.now) }
+{
     let mut instances = Instances::new(program);
     while let Some(stop) = instances.next() {
-        check_work(program, stop.item, instances.path())?;
+        if !is_certified_at(certified, stop.first) {
+            check_work(program, stop.item, instances.path())?;
+        }
     }
     Ok(())
 }

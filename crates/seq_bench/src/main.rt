@@ -40,7 +40,7 @@ fn run(rt: &HostRuntime, program: &Program, times: bool) -> io::Result<()>
         return rt.println(limit);
     }
     let begun = Instant::now(rt)?;
-    if let Err(outside) = check_ranges(program) {
+    if let Err(outside) = check_ranges(rt.alloc(), program) {
         return rt.println(outside);
     }
     let checked = begun.elapsed(rt)?.as_micros();

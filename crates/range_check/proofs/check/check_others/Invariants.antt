@@ -1,11 +1,12 @@
 use Rattle.std.proofs.Common.{◌≡◌, IsTrue, length}
-use Rattle.std.specs.List.{list_all}
+use Rattle.std.specs.List.{AllByRecursion, list_all}
 use Rattle.nest_tree.specs.Tree.{param_values}
 use Rattle.nest_tree.specs.View.{tree_of}
 use Rattle.nest_walk.specs.InstancesLeft.{instances_left, instances_tree}
+use Rattle.nest_rows.specs.Nested.{IsNestedInstance, nested_works}
 use Rattle.range_check.specs.Outside.{instances_outside, outside_of}
 use Rattle.range_check.proofs.Sound.{is_small_instance}
-use Rattle.range_check.proofs.check.check_ranges.Given as goal
+use Rattle.range_check.proofs.check.check_others.Given as goal
 
 abbrev pub invariant-loop-stop : goal.invariant-loop-stop
 invariant-loop-stop l =
@@ -14,6 +15,7 @@ invariant-loop-stop l =
     record {
       walked : instances_tree l.instances ≡ tree;
       small : IsTrue (list_all (is_small_instance (param_values tree)) left);
+      nested : AllByRecursion (IsNestedInstance (param_values tree) (nested_works tree)) left;
       first : instances_outside tree left ≡ outside_of tree;
     }
 

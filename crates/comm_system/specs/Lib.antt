@@ -1,0 +1,9 @@
+pub mod References
+pub mod Pairs
+pub mod Levels
+pub mod Boundaries
+pub mod Signatures
+pub mod PairRows
+pub mod OwnerRows
+pub mod Obligations
+pub mod Rows

@@ -1,0 +1,15 @@
+//! The obligations of a plan: systems of inequalities, each of which says that two accesses to one
+//! element happen in an order that nothing of the plan keeps. Where each of them has no whole
+//! solution the plan orders all accesses that conflict.
+//!
+//! - [`obligation`]: an obligation with what it speaks of.
+//!
+//! The definitions are in `specs/`: the accesses of a phase (`References`), which two conflict
+//! (`Pairs`), levels and the boundaries that are certain at one (`Levels`, `Boundaries`), what a
+//! slot sees of a plan's kinds (`Signatures`), the rows group by group (`PairRows`, `OwnerRows`),
+//! and the list (`Obligations`).
+#![tactic(auto)]
+
+pub mod obligation;
+
+pub use obligation::Obligation;

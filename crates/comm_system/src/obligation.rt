@@ -1,0 +1,23 @@
+// An obligation of a plan.
+
+use farkas_cert::System;
+
+/// A system that must have no whole solution. Its certificate in a plan has the same number.
+#[derive(Drop)]
+pub struct Obligation {
+    /// The number, from 1.
+    pub number: u64,
+    pub system: System,
+    /// The lines of the two accesses' statements, from 1.
+    pub lines: (u32, u32),
+    /// The variable that both access, from 1.
+    pub variable: u32,
+    /// The common loop, from 1, that is at an earlier trip for the first access; 0 where all
+    /// common loops are equal, and for two trips of a Doall loop.
+    pub level: u32,
+    /// The piece, from 1; 0 for two trips of a Doall loop.
+    pub piece: u32,
+    /// Of the first owner's number less the second's: the greatest difference below those that the
+    /// plan's waits order, and the least above; 0 and 0 for two trips of a Doall loop.
+    pub range: (i32, i32),
+}
