@@ -3,7 +3,7 @@ use Rattle.std.proofs.Common.{◌≡◌, ◌≢◌, ℕ, List, Option, Some, Non
 use Rattle.std.specs.Prelude.{◌⊎◌}
 use Rattle.f77_forms.specs.declared.form.Statement.{Statement}
 use Rattle.f77_forms.specs.declared.fault.TextFault.{TextFault}
-use Rattle.f77_forms.specs.declared.fault.TextFault.TheVariants.{LeftOut, NumberTooLarge, NoForm, NoMemory}
+use Rattle.f77_forms.specs.declared.fault.TextFault.TheVariants.{NotInProfile, LiteralTooLarge, NoForm, NoMemory}
 use Rattle.f77_forms.specs.Form.{StatementForm}
 use Rattle.f77_forms.specs.Text.{HasForm}
 use Rattle.f77_forms.specs.View.{statement_of}
@@ -33,21 +33,21 @@ answer-found text (Err fault) a = tt
 
 pub answer-only : (text : List ℕ) (r : Result Statement TextFault) → Answers r (statement_at text) text → (f : StatementForm) → HasForm text f → IsReadAs f r
 answer-only text (Ok s) a f h = some_is (statement_of s) f (sym a ∙ form-read text f h)
-answer-only text (Err LeftOut) a f h = (let read = form-read text f h in let none = a.0 in absurd cc)
-answer-only text (Err NumberTooLarge) a f h = (let read = form-read text f h in let none = a.0 in absurd cc)
+answer-only text (Err NotInProfile) a f h = (let read = form-read text f h in let none = a.0 in absurd cc)
+answer-only text (Err LiteralTooLarge) a f h = (let read = form-read text f h in let none = a.0 in absurd cc)
 answer-only text (Err NoForm) a f h = (let read = form-read text f h in let none = a.0 in absurd cc)
 answer-only text (Err NoMemory) a f h = tt
 
 pub answer-refused : (text : List ℕ) (fault : TextFault) → Answers (Err fault) (statement_at text) text → fault ≢ NoMemory → IsRefused text fault
-answer-refused text LeftOut a n = none-refused text LeftOut a.0 a.1
-answer-refused text NumberTooLarge a n = none-refused text NumberTooLarge a.0 a.1
+answer-refused text NotInProfile a n = none-refused text NotInProfile a.0 a.1
+answer-refused text LiteralTooLarge a n = none-refused text LiteralTooLarge a.0 a.1
 answer-refused text NoForm a n = none-refused text NoForm a.0 a.1
 answer-refused text NoMemory a n = absurd (n refl)
 
 pub answer-refuses : (text : List ℕ) (r : Result Statement TextFault) → Answers r (statement_at text) text → (fault : TextFault) → IsRefused text fault → IsRefusedAs fault r
 answer-refuses text (Ok s) a fault h = refused-none text fault (statement_of s) h a
-answer-refuses text (Err LeftOut) a fault h = sym h.fault_is ∙ a.1
-answer-refuses text (Err NumberTooLarge) a fault h = sym h.fault_is ∙ a.1
+answer-refuses text (Err NotInProfile) a fault h = sym h.fault_is ∙ a.1
+answer-refuses text (Err LiteralTooLarge) a fault h = sym h.fault_is ∙ a.1
 answer-refuses text (Err NoForm) a fault h = sym h.fault_is ∙ a.1
 answer-refuses text (Err NoMemory) a fault h = tt
 

@@ -2,7 +2,7 @@
 use Rattle.std.specs.Prelude.{ℕ, suc, ◌+◌, ◌-◌, ◌*◌, ◌==◌, Bool, true, false, ◌&&◌, ◌||◌, not, nat_lt, nat_le, if◌then◌else◌, List, [], ◌∷◌, length, drop, count_by, codes, ◌≡◌, refl}
 use Rattle.std.specs.List.{list_any}
 use Rattle.f77_forms.specs.declared.fault.TextFault.{TextFault}
-use Rattle.f77_forms.specs.declared.fault.TextFault.TheVariants.{LeftOut, NumberTooLarge, NoForm}
+use Rattle.f77_forms.specs.declared.fault.TextFault.TheVariants.{NotInProfile, LiteralTooLarge, NoForm}
 use Rattle.f77_forms.specs.Characters.{is_digit, is_capital, is_capital_or_digit, is_name}
 use Rattle.f77_forms.specs.Statements.{begins_with, digits_in, behind_digits}
 
@@ -166,26 +166,26 @@ holds_large value (c ∷ cs) =
     else holds_large 0 cs
 
 -- something that is left out: in the text outside constants, or a constant anywhere but among the items of a PRINT
-unfoldable pub is_left_out : List ℕ → Bool
-is_left_out text = (has_constant text && not (begins_with (codes "PRINT*,") text)) || is_marked (masked false text)
+unfoldable pub is_outside_profile : List ℕ → Bool
+is_outside_profile text = (has_constant text && not (begins_with (codes "PRINT*,") text)) || is_marked (masked false text)
 
 -- the fault of a text without form: the first of these three
 unfoldable pub text_fault : List ℕ → TextFault
-text_fault text = if is_left_out text then LeftOut else (if holds_large 0 (masked false text) then NumberTooLarge else NoForm)
+text_fault text = if is_outside_profile text then NotInProfile else (if holds_large 0 (masked false text) then LiteralTooLarge else NoForm)
 
 -- ---- examples
 
 -- GOTO 10 and a power are left out, and the power is seen also in a text without form
-pub left_out-examples : list_any (λ text. not (is_left_out text)) (codes "GOTO10" ∷ codes "FOO**2" ∷ codes "K=1.5" ∷ codes "K=1E5" ∷ codes "K=I.AND.J" ∷ codes "K='A'" ∷ codes "DOI=1,5" ∷ codes "PRINT1" ∷ codes "IF(I.NE.2)K=I" ∷ []) ≡ false
-unfolding is_left_out is_marked masked digits_in behind_digits holds_mark begins_mark is_exponent is_dotted ends_dotted word_in behind_word begins_equals tail behind_parentheses behind_group has_comma_outside before_compare from_compare
-left_out-examples = refl
+pub outside_profile-examples : list_any (λ text. not (is_outside_profile text)) (codes "GOTO10" ∷ codes "FOO**2" ∷ codes "K=1.5" ∷ codes "K=1E5" ∷ codes "K=I.AND.J" ∷ codes "K='A'" ∷ codes "DOI=1,5" ∷ codes "PRINT1" ∷ codes "IF(I.NE.2)K=I" ∷ []) ≡ false
+unfolding is_outside_profile is_marked masked digits_in behind_digits holds_mark begins_mark is_exponent is_dotted ends_dotted word_in behind_word begins_equals tail behind_parentheses behind_group has_comma_outside before_compare from_compare
+outside_profile-examples = refl
 
 -- names may hold an E and a D, a comparison its operator behind a digit, and a constant that is not closed is none
-pub no_form-examples : list_any is_left_out (codes "A1E5=" ∷ codes "DO10D5=1," ∷ codes "IF(1.EQ.I)K=1+" ∷ codes "K='A" ∷ codes "READ=1+" ∷ codes "PRINT*,'A**B'+1" ∷ []) ≡ false
-unfolding is_left_out is_marked masked digits_in behind_digits holds_mark begins_mark is_exponent is_dotted ends_dotted word_in behind_word begins_equals tail behind_parentheses behind_group has_comma_outside before_compare from_compare
+pub no_form-examples : list_any is_outside_profile (codes "A1E5=" ∷ codes "DO10D5=1," ∷ codes "IF(1.EQ.I)K=1+" ∷ codes "K='A" ∷ codes "READ=1+" ∷ codes "PRINT*,'A**B'+1" ∷ []) ≡ false
+unfolding is_outside_profile is_marked masked digits_in behind_digits holds_mark begins_mark is_exponent is_dotted ends_dotted word_in behind_word begins_equals tail behind_parentheses behind_group has_comma_outside before_compare from_compare
 no_form-examples = refl
 
 -- a number is looked for also behind letters
-pub large-example : text_fault (codes "FOO9223372036854775808") ≡ NumberTooLarge
-unfolding text_fault is_left_out is_marked masked digits_in holds_mark begins_mark holds_large
+pub large-example : text_fault (codes "FOO9223372036854775808") ≡ LiteralTooLarge
+unfolding text_fault is_outside_profile is_marked masked digits_in holds_mark begins_mark holds_large
 large-example = refl

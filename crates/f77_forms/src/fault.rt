@@ -11,9 +11,9 @@ pub enum TextFault {
     /// The text has no form and something that this language leaves out of FORTRAN 77: another
     /// statement, `**`, a real number, a dotted word, or a character constant outside the items
     /// of a PRINT.
-    LeftOut,
+    NotInProfile,
     /// The text has no form and a number past 9223372036854775807, and nothing that is left out.
-    NumberTooLarge,
+    LiteralTooLarge,
     /// The text has no form, for another reason.
     NoForm,
     /// Memory ran out.

@@ -401,20 +401,20 @@ fn holds_large(text: &[u8]) -> bool
 }
 
 /// The fault of a text without form.
-#[tactic(auto, unfolding(crate::specs::Marks::text_fault, crate::specs::Marks::is_left_out))]
+#[tactic(auto, unfolding(crate::specs::Marks::text_fault, crate::specs::Marks::is_outside_profile))]
 pub fn text_fault(alloc: Global, text: &[u8]) -> Result<TextFault, Fault>
     ensures fault { IfOk result (λ fault. fault ≡ marks.text_fault text.now) }
     ensures err { FailsForMemory result }
 {
     if has_constant(text) && !text.starts_with(b"PRINT*,") {
-        return Ok(TextFault::LeftOut);
+        return Ok(TextFault::NotInProfile);
     }
     let open = masked(alloc, text)?;
     if is_marked(open.as_slice()) {
-        return Ok(TextFault::LeftOut);
+        return Ok(TextFault::NotInProfile);
     }
     if holds_large(open.as_slice()) {
-        return Ok(TextFault::NumberTooLarge);
+        return Ok(TextFault::LiteralTooLarge);
     }
     Ok(TextFault::NoForm)
 }

@@ -31,7 +31,7 @@ fn answer(alloc: Global, text: &[u8]) -> Result<Statement, TextFault>
 /// constants, with its letters in capitals there.
 ///
 /// The statement prints as the text, and no other does. A text without form is refused with the
-/// first of these that it has: `LeftOut`, `NumberTooLarge`, `NoForm`. `NoMemory` may come in
+/// first of these that it has: `NotInProfile`, `LiteralTooLarge`, `NoForm`. `NoMemory` may come in
 /// place of any answer.
 pub fn read_statement(alloc: Global, text: &[u8]) -> Result<Statement, TextFault>
     // What is read has a form that the text has.

@@ -13,3 +13,4 @@ pub mod Defined
 pub mod Redeclared
 pub mod Pieced
 pub mod Faulted
+pub mod Passing

@@ -3,6 +3,7 @@
 ghost use Rattle.std.specs.Prelude.{◌≡◌, ◌≤◌, ◌++◌, [], ◌∷◌, OnOk, OnErr, IfSome};
 
 use crate::names::Names;
+use nest_tree::Parameter;
 use std::alloc::{AllocError, Global};
 use std::marker::Model;
 
@@ -29,6 +30,8 @@ impl Model for Constants {
 impl Constants {
     ghost use Rattle.f77_scene.specs.Scene.{is_among, value_named};
     ghost use Rattle.f77_program.specs.Known.{names_of_constants};
+    ghost use Rattle.std.specs.Prelude.{IfOk, map};
+    ghost use Rattle.nest_tree.specs.View.{constant_of};
     ghost use Rattle.f77_program.specs.Numbered.{numbered};
 
     /// No constant yet.
@@ -80,4 +83,35 @@ impl Constants {
             }
         }
     }
+    /// The constants with their values, in order.
+    pub fn parameters(&self, alloc: Global) -> Result<Vec<Parameter>, AllocError>
+        ensures { IfOk result (λ ps. map constant_of ps.items ≡ self.now) }
+    {
+        parameters_of(alloc, self.names.as_slice(), self.values.as_slice())
+    }
+}
+
+ghost use Rattle.std.specs.Prelude.{length, map, IfOk};
+ghost use Rattle.nest_tree.specs.View as view;
+ghost use Rattle.f77_program.specs.Known as known;
+ghost use Rattle.f77_program.specs.Numbered as numbered;
+
+// The constants with these names and these values.
+fn parameters_of(
+    alloc: Global,
+    names: &[Vec<u8>],
+    values: &[i64],
+) -> Result<Vec<Parameter>, AllocError>
+    requires { length names.now ≡ length values.now }
+    ensures { IfOk result (λ ps. map view.constant_of ps.items ≡ known.constants_from (numbered.texts_of names.now) values.now) }
+{
+    let mut parameters = Vec::new(alloc);
+    for (place, name) in names.iter().enumerate() {
+        let name = Vec::from_slice(alloc, name)?;
+        parameters.push(Parameter {
+            name,
+            value: values[place],
+        })?;
+    }
+    Ok(parameters)
 }

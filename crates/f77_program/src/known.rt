@@ -6,6 +6,7 @@ use crate::arrays::Arrays;
 use crate::constants::Constants;
 use crate::names::Names;
 use crate::opened::Opened;
+use nest_tree::Parameter;
 use std::alloc::{AllocError, Global};
 use std::marker::Model;
 
@@ -40,7 +41,9 @@ impl Known {
     ghost use Rattle.std.specs.Prelude.{◌==◌, map, ◌++◌, [], ◌∷◌, OnOk};
     ghost use Rattle.std.specs.List.{list_any};
     ghost use Rattle.f77_program.specs.Known.{open_of, opened_as};
-    ghost use Rattle.f77_program.specs.Numbered.{numbered};
+    ghost use Rattle.std.specs.Prelude.{IfOk};
+    ghost use Rattle.nest_tree.specs.View.{constant_of};
+    ghost use Rattle.f77_program.specs.Numbered.{numbered, texts_of};
 
     /// What is known in front of the first statement.
     pub fn new(alloc: Global) -> Self
@@ -93,6 +96,20 @@ impl Known {
         ensures { result ≡ list_any (λ l. l == label) self.now.labels }
     {
         self.labels.iter().any(|l| *l == label)
+    }
+
+    /// All names, in the order of their first appearance.
+    pub fn names(&self) -> &[Vec<u8>]
+        ensures { texts_of result.now ≡ self.now.names }
+    {
+        self.names.as_slice()
+    }
+
+    /// The named constants, in the order of their definitions.
+    pub fn parameters(&self, alloc: Global) -> Result<Vec<Parameter>, AllocError>
+        ensures { IfOk result (λ ps. map constant_of ps.items ≡ self.now.constants) }
+    {
+        self.constants.parameters(alloc)
     }
 
     /// The open loops, the innermost first.

@@ -18,6 +18,7 @@ use crate::linear;
 use crate::linear::{Linear, constant, loop_variable, negated, product, sum};
 use crate::measure::Measure;
 use crate::reach::{Reach, reach_of};
+use crate::stack::{popped, push, taken};
 use crate::value::{chosen, operator_value, sign_value};
 use f77_forms::{Expression, Number, Operator, Sign};
 use std::alloc::{AllocError, Global};
@@ -248,28 +249,9 @@ fn multiplied(alloc: Global, left: &Measure, right: &Measure) -> Result<Linear, 
     }
 }
 
-/// What lies on top of the stack.
-fn popped(stack: &mut Vec<Measure>) -> Measure
-    requires { 0 < length stack.old.items }
-    ensures { (front : List Measure) (m : Measure) → stack.old.items ≡ front ++ m ∷ [] → (stack.new.items ≡ front) × (result ≡ m) }
-{
-    stack.pop().unwrap()
-}
-
-/// So many things from the top of the stack, the topmost first.
-fn taken(stack: &mut Vec<Measure>, count: usize) -> Result<Vec<Measure>, AllocError>
-    requires { count ≤ length stack.old.items }
-    ensures left { OnOk result ((front ms : List Measure) → stack.old.items ≡ front ++ reverse ms → length ms ≡ count → stack.new.items ≡ front) }
-    ensures top { IfOk result (λ v. (front ms : List Measure) → stack.old.items ≡ front ++ reverse ms → length ms ≡ count → v.items ≡ ms) }
-{
-    let mut top = stack.split_off(stack.len() - count)?;
-    top.reverse();
-    Ok(top)
-}
-
 /// What a part comes to, in place of what its operands come to, which lie on the stack, the first
 /// of them on top.
-fn apply(
+pub fn apply(
     alloc: Global,
     known: &Known,
     part: &Expression,
@@ -299,13 +281,6 @@ fn apply(
             push(stack, of_binary(alloc, *operator, left, right)?)
         }
     }
-}
-
-fn push(stack: &mut Vec<Measure>, measure: Measure) -> Result<(), AllocError>
-    ensures { OnOk result (stack.new.items ≡ stack.old.items ++ measure ∷ []) }
-{
-    stack.push(measure)?;
-    Ok(())
 }
 
 /// What an expression with these parts comes to. The parts are gone over from the last to the

@@ -12,9 +12,9 @@ use std::fmt;
 #[derive(Clone, Copy, Debug, PartialEq, Eq)]
 pub enum Fault {
     /// F2: something that this language leaves out of FORTRAN 77.
-    LeftOut,
+    NotInProfile,
     /// F11: a number past 9223372036854775807.
-    NumberTooLarge,
+    LiteralTooLarge,
     /// F1: a text without form, or a statement out of order.
     Syntax,
     /// F4: a name that is not what it is used as.
@@ -86,7 +86,7 @@ impl Fault {
     {
         match self {
             Fault::Syntax => 1,
-            Fault::LeftOut => 2,
+            Fault::NotInProfile => 2,
             Fault::NotInteger => 3,
             Fault::Unknown => 4,
             Fault::Rank => 5,
@@ -95,7 +95,7 @@ impl Fault {
             Fault::BadDivisor => 8,
             Fault::DoLabel => 9,
             Fault::LoopVariable => 10,
-            Fault::NumberTooLarge => 11,
+            Fault::LiteralTooLarge => 11,
             Fault::Count(_) => 12,
         }
     }

@@ -13,8 +13,8 @@ use Rattle.f77_lines.specs.Statements.{is_end, continued, entries_from}
 use Rattle.f77_lines.specs.Faults as lines_faults
 use Rattle.f77_forms.specs.Reading.{number_from, word_value, combined, operand_value, term_value, sum_value, item_value, pending_sum, add_step, multiply_step, opened, opener_at, open_step, is_separator, bounds_behind, opener_behind, separate_step, enclosed, left_to, close_step, quote_step, symbol_step, letter_at, plain_step, step_at, step, ended, finished, run, pieces_at}
 use Rattle.f77_forms.specs.Statements.{declarator_in, compare_from, item_next, value_next, name_next, compare_next, assignment_next, comparison_next, step_next, all_taken, listed_from, declarator_next, printed_next, definition_next, program_at, declarators_at, before_parenthesis, parameter_at, print_at, assign_at, if_at, digits_in, behind_digits, label_at, has_comma, behind_comma, loop_at, do_at, branch_at, executed_at, declared_at, statement_at}
-use Rattle.f77_forms.specs.Marks.{masked, is_exponent, ends_dotted, is_dotted, begins_mark, holds_mark, has_comma_outside, behind_group, word_in, behind_word, begins_equals, tail, behind_parentheses, before_compare, from_compare, is_marked, holds_large, is_left_out, text_fault}
-use Rattle.f77_scene.specs.Fault.{left_out, number_too_large, syntax, unknown, not_integer, loop_variable, rank, bad_divisor, not_affine, zero_step, do_label, past_limit, Refusal, bad_line, bad_statement, bad_setting}
+use Rattle.f77_forms.specs.Marks.{masked, is_exponent, ends_dotted, is_dotted, begins_mark, holds_mark, has_comma_outside, behind_group, word_in, behind_word, begins_equals, tail, behind_parentheses, before_compare, from_compare, is_marked, holds_large, is_outside_profile, text_fault}
+use Rattle.f77_scene.specs.Fault.{not_in_profile, literal_too_large, syntax, unknown, not_integer, loop_variable, rank, bad_divisor, not_affine, zero_step, do_label, past_limit, Refusal, bad_line, bad_statement, bad_setting}
 use Rattle.f77_scene.specs.Scene.{Name}
 use Rattle.f77_scene.specs.Affine.{fixed}
 use Rattle.f77_scene.specs.Reading.{Reads, first_fault, statements_in, fault_from, scene_from, body_from}
@@ -68,7 +68,7 @@ program =
     }
 
 pub reads-example : Reads (bytes_of source) ((codes "N", pos 5) ∷ []) program
-unfolding number_from word_value combined operand_value term_value sum_value item_value pending_sum add_step multiply_step opened opener_at open_step is_separator bounds_behind opener_behind separate_step enclosed left_to close_step quote_step symbol_step letter_at plain_step step_at step ended finished run pieces_at declarator_in compare_from item_next value_next name_next compare_next assignment_next comparison_next step_next all_taken listed_from declarator_next printed_next definition_next program_at declarators_at before_parenthesis parameter_at print_at assign_at if_at digits_in behind_digits label_at has_comma behind_comma loop_at do_at branch_at executed_at declared_at statement_at masked is_exponent ends_dotted is_dotted begins_mark holds_mark has_comma_outside behind_group word_in behind_word begins_equals tail behind_parentheses before_compare from_compare is_marked holds_large is_left_out text_fault kind_of lines_texts.label_at is_end continued entries_from lines_faults.fault_from statements_in fault_from scene_from body_from int_wrap
+unfolding number_from word_value combined operand_value term_value sum_value item_value pending_sum add_step multiply_step opened opener_at open_step is_separator bounds_behind opener_behind separate_step enclosed left_to close_step quote_step symbol_step letter_at plain_step step_at step ended finished run pieces_at declarator_in compare_from item_next value_next name_next compare_next assignment_next comparison_next step_next all_taken listed_from declarator_next printed_next definition_next program_at declarators_at before_parenthesis parameter_at print_at assign_at if_at digits_in behind_digits label_at has_comma behind_comma loop_at do_at branch_at executed_at declared_at statement_at masked is_exponent ends_dotted is_dotted begins_mark holds_mark has_comma_outside behind_group word_in behind_word begins_equals tail behind_parentheses before_compare from_compare is_marked holds_large is_outside_profile text_fault kind_of lines_texts.label_at is_end continued entries_from lines_faults.fault_from statements_in fault_from scene_from body_from int_wrap
 reads-example = record { faultless = refl; stands = refl }
 
 -- it is well formed
@@ -82,8 +82,8 @@ program-is_well_formed = refl
 -- an outer loop that would end in front of the inner one; an extent of -1; a sum past the limit of forms; a second setting that names no PARAMETER; no END line, which comes before the fault of a statement
 abbrev pub refused : List (List (List ℕ) × List (Name × ℤ) × Refusal)
 refused =
-    (codes "      K = L**2" ∷ codes "      END" ∷ [], [], bad_statement left_out 1)
-    ∷ (codes "      K = 1" ∷ codes "      K = 9223372036854775808" ∷ codes "      END" ∷ [], [], bad_statement number_too_large 2)
+    (codes "      K = L**2" ∷ codes "      END" ∷ [], [], bad_statement not_in_profile 1)
+    ∷ (codes "      K = 1" ∷ codes "      K = 9223372036854775808" ∷ codes "      END" ∷ [], [], bad_statement literal_too_large 2)
     ∷ (codes "      K = 1" ∷ codes "      INTEGER A(5)" ∷ codes "      END" ∷ [], [], bad_statement syntax 2)
     ∷ (codes "      PARAMETER (N = 1)" ∷ codes "      N = 2" ∷ codes "      END" ∷ [], [], bad_statement unknown 2)
     ∷ (codes "      X(1) = 2" ∷ codes "      END" ∷ [], [], bad_statement unknown 1)
@@ -101,5 +101,5 @@ refused =
     ∷ []
 
 pub refused-example : map (λ (row : List (List ℕ) × List (Name × ℤ) × Refusal). first_fault (bytes_of row.0) row.1) refused ≡ map (λ (row : List (List ℕ) × List (Name × ℤ) × Refusal). Some row.2) refused
-unfolding number_from word_value combined operand_value term_value sum_value item_value pending_sum add_step multiply_step opened opener_at open_step is_separator bounds_behind opener_behind separate_step enclosed left_to close_step quote_step symbol_step letter_at plain_step step_at step ended finished run pieces_at declarator_in compare_from item_next value_next name_next compare_next assignment_next comparison_next step_next all_taken listed_from declarator_next printed_next definition_next program_at declarators_at before_parenthesis parameter_at print_at assign_at if_at digits_in behind_digits label_at has_comma behind_comma loop_at do_at branch_at executed_at declared_at statement_at masked is_exponent ends_dotted is_dotted begins_mark holds_mark has_comma_outside behind_group word_in behind_word begins_equals tail behind_parentheses before_compare from_compare is_marked holds_large is_left_out text_fault kind_of lines_texts.label_at is_end continued entries_from lines_faults.fault_from statements_in fault_from scene_from body_from int_wrap
+unfolding number_from word_value combined operand_value term_value sum_value item_value pending_sum add_step multiply_step opened opener_at open_step is_separator bounds_behind opener_behind separate_step enclosed left_to close_step quote_step symbol_step letter_at plain_step step_at step ended finished run pieces_at declarator_in compare_from item_next value_next name_next compare_next assignment_next comparison_next step_next all_taken listed_from declarator_next printed_next definition_next program_at declarators_at before_parenthesis parameter_at print_at assign_at if_at digits_in behind_digits label_at has_comma behind_comma loop_at do_at branch_at executed_at declared_at statement_at masked is_exponent ends_dotted is_dotted begins_mark holds_mark has_comma_outside behind_group word_in behind_word begins_equals tail behind_parentheses before_compare from_compare is_marked holds_large is_outside_profile text_fault kind_of lines_texts.label_at is_end continued entries_from lines_faults.fault_from statements_in fault_from scene_from body_from int_wrap
 refused-example = refl

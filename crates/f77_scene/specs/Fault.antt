@@ -5,9 +5,9 @@ use Rattle.f77_lines.specs.declared.refusal.LineRefusal.{LineRefusal}
 -- the fault of a statement, with its code in the program's output
 pub data Fault : Type 0 where
   -- F2
-  left_out : Fault
+  not_in_profile : Fault
   -- F11
-  number_too_large : Fault
+  literal_too_large : Fault
   -- F1
   syntax : Fault
   -- F4

@@ -5,13 +5,13 @@ use Rattle.f77_lines.specs.declared.refusal.LineRefusal.{LineRefusal}
 use Rattle.f77_lines.specs.Statements.{Entry, statement, directive}
 use Rattle.f77_lines.specs.Listing.{entries_of, first_line_fault}
 use Rattle.f77_forms.specs.declared.fault.TextFault.{TextFault}
-use Rattle.f77_forms.specs.declared.fault.TextFault.TheVariants.{LeftOut, NumberTooLarge, NoForm, NoMemory}
+use Rattle.f77_forms.specs.declared.fault.TextFault.TheVariants.{NotInProfile, LiteralTooLarge, NoForm, NoMemory}
 use Rattle.f77_forms.specs.Form.{StatementForm}
 use Rattle.f77_forms.specs.Statements.{statement_at}
 use Rattle.f77_forms.specs.Marks.{text_fault}
 use Rattle.nest_tree.specs.declared.tree.Spread.TheVariants.{Block}
 use Rattle.nest_tree.specs.Tree.{Declaration, Tree}
-use Rattle.f77_scene.specs.Fault.{Fault, left_out, number_too_large, syntax, unknown, not_integer, loop_variable, rank, bad_divisor, not_affine, zero_step, do_label, past_limit, Refusal, bad_line, bad_statement, bad_setting}
+use Rattle.f77_scene.specs.Fault.{Fault, not_in_profile, literal_too_large, syntax, unknown, not_integer, loop_variable, rank, bad_divisor, not_affine, zero_step, do_label, past_limit, Refusal, bad_line, bad_statement, bad_setting}
 use Rattle.f77_scene.specs.Scene.{Name, Given, Scene, first_scene, is_among, is_array, constant_names, bounds_named}
 use Rattle.f77_scene.specs.Statements.{integers_in}
 use Rattle.f77_scene.specs.Tests.{has_bad_syntax, has_unknown, has_other_type, misuses_loop_variable, has_bad_rank, has_bad_divisor, is_not_affine, has_zero_step, has_bad_label}
@@ -24,8 +24,8 @@ use Rattle.f77_scene.specs.Directives.{placed}
 
 -- F2, F11 or F1 of a text without form
 abbrev pub fault_of_text : TextFault → Fault
-fault_of_text LeftOut = left_out
-fault_of_text NumberTooLarge = number_too_large
+fault_of_text NotInProfile = not_in_profile
+fault_of_text LiteralTooLarge = literal_too_large
 fault_of_text NoForm = syntax
 fault_of_text NoMemory = syntax
 

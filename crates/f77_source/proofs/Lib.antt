@@ -1,0 +1,11 @@
+pub mod Faultless
+pub mod Kept
+pub mod Texts
+pub mod Formed
+pub mod Splits
+pub mod Grown
+pub mod Variables
+pub mod Ended
+pub mod Placed
+pub mod Printed
+pub mod Folded

@@ -1,0 +1,9 @@
+pub mod Sources
+pub mod Answers
+pub mod Limits
+pub mod Forms
+pub mod Grown
+pub mod Bodies
+pub mod Items
+pub mod Placings
+pub mod Arrays
