@@ -1,5 +1,5 @@
 -- Loops that end.
-use Rattle.std.proofs.Common.{◌≡◌, List, [], ◌∷◌, ◌++◌, map, Vec, Global, refl, sym, ap, ◌∙◌}
+use Rattle.std.proofs.Common.{◌≡◌, List, [], ◌∷◌, ◌++◌, map, refl, ap, ◌∙◌}
 use Rattle.std.proofs.lemmas.List.{map_push}
 use Rattle.nest_tree.specs.Tree.{do_loop, next}
 use Rattle.nest_tree.specs.View.{statement_of, statements_from, head_of}

@@ -1,9 +1,9 @@
 -- What holds of a statement without fault.
-use Rattle.std.proofs.Common.{◌≡◌, ℕ, ◌+◌, ℤ, Bool, true, false, not, ◌||◌, List, [], ◌∷◌, ◌++◌, length, map, if◌then◌else◌, Option, Some, None, refl, sym, ap, ◌∙◌}
+use Rattle.std.proofs.Common.{◌≡◌, ℕ, ◌+◌, ℤ, Bool, true, false, not, ◌||◌, List, [], ◌∷◌, ◌++◌, length, map, if◌then◌else◌, Option, Some, None, refl, ap, ◌∙◌}
 use Rattle.std.specs.List.{list_any, flat_map}
 use Rattle.std.specs.Option.{option_or}
 use Rattle.nest_tree.specs.WellFormed.{most_statements}
-use Rattle.f77_forms.specs.Form.{ExpressionForm, DoForm, StatementForm}
+use Rattle.f77_forms.specs.Form.{DoForm, StatementForm}
 use Rattle.f77_scene.specs.Affine.{is_affine, met}
 use Rattle.f77_scene.specs.Expressions.{value_of}
 use Rattle.f77_scene.specs.Fault.{Fault, syntax, unknown, not_integer, loop_variable, rank, bad_divisor, not_affine, zero_step, do_label}

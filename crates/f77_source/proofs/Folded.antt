@@ -8,7 +8,7 @@ use Rattle.f77_lines.specs.declared.line.Line.{Line}
 use Rattle.f77_program.specs.declared.refusal.Refusal.{Refusal}
 use Rattle.f77_program.specs.declared.refusal.Refusal.TheVariants.{Statement, BadSetting, NoMemory}
 use Rattle.f77_scene.specs.Fault as scene
-use Rattle.f77_scene.specs.Reading.{SourceStatement, reading_of, statements_in, directives_of, at_line, fault_with, scene_with, body_with, fault_from, scene_from, body_from}
+use Rattle.f77_scene.specs.Reading.{SourceStatement, reading_of, statements_in, at_line, fault_with, scene_with, body_with, fault_from, scene_from, body_from}
 use Rattle.f77_scene.specs.Scene.{Name, Scene, Given}
 use Rattle.f77_scene.specs.Trees.{Body}
 use Rattle.f77_source.specs.Answers.{Refuses}

@@ -1,17 +1,16 @@
 -- Forms of expressions that are affine within the limit.
-use Rattle.std.proofs.Common.{◌≡◌, ℕ, suc, zero, ◌+◌, ◌<◌, ℤ, Bool, true, false, not, List, [], ◌∷◌, ◌++◌, length, map, get_or, reverse, if◌then◌else◌, refl, sym, ap, ◌∙◌, arith}
+use Rattle.std.proofs.Common.{◌≡◌, ℕ, suc, zero, ◌<◌, ℤ, Bool, true, false, List, [], ◌∷◌, ◌++◌, length, map, get_or, reverse, if◌then◌else◌, refl, sym, ap, ◌∙◌, arith}
 use Rattle.std.proofs.lemmas.List.{reverse-append}
 use Rattle.std.specs.List.{flat_map}
 use Rattle.nest_tree.specs.Form.{Form}
 use Rattle.f77_forms.specs.Form.{ExpressionForm}
 use Rattle.f77_scene.specs.Affine.{is_affine, form_of, met}
 use Rattle.f77_scene.specs.Scene.{Scene}
-use Rattle.f77_scene.specs.Tests.{subscripts_at}
 use Rattle.f77_program.specs.declared.linear.Linear.TheVariants as linear
 use Rattle.f77_program.specs.declared.measure.Measure.{Measure}
 use Rattle.f77_program.specs.declared.reach.Reach.{Reach}
 use Rattle.f77_program.specs.declared.reach.Reach.TheVariants.{NotAffine, Past, Within}
-use Rattle.f77_program.specs.Linear.{past, linear_with, linear_of}
+use Rattle.f77_program.specs.Linear.{past, linear_with}
 use Rattle.f77_program.specs.Measures.{measure_of, linear_reaches}
 use Rattle.f77_program.specs.Reaches.{reach_of, reach_at, also}
 use Rattle.f77_program.proofs.Reached.{also-assoc, within-also, reach_of-append, reach_of-one}

@@ -1,6 +1,6 @@
 -- Behind a statement without fault the limits are kept.
-use Rattle.std.proofs.Common.{◌≡◌, ℕ, ◌+◌, ◌≤◌, ◌==◌, nat_lt, nat_le, ℤ, pos, negsuc, ◌+ℤ◌, ◌-ℤ◌, int_lt, int_le, Bool, true, false, not, ◌&&◌, List, [], ◌∷◌, ◌++◌, length, map, if◌then◌else◌, IsTrue, Option, Some, None, Result, Ok, Err, refl, sym, ap, ◌∙◌, arith}
-use Rattle.std.proofs.lemmas.Bool.{and_from, and_parts}
+use Rattle.std.proofs.Common.{◌≡◌, ℕ, ◌+◌, ◌≤◌, ◌==◌, nat_lt, nat_le, ℤ, pos, negsuc, ◌+ℤ◌, ◌-ℤ◌, int_lt, int_le, Bool, true, false, not, ◌&&◌, List, [], ◌∷◌, ◌++◌, length, map, if◌then◌else◌, None, Result, Ok, Err, refl, ap, ◌∙◌, arith}
+use Rattle.std.proofs.lemmas.Bool.{and_from}
 use Rattle.std.proofs.lemmas.Bool.Decides.{nat_tests}
 use Rattle.std.proofs.lemmas.List.{length-map}
 use Rattle.std.proofs.lemmas.List.Folds.{list_all-append}
@@ -13,7 +13,7 @@ use Rattle.f77_scene.specs.Behind.{arrays_of, behind}
 use Rattle.f77_scene.specs.Limits.{past, counted, bounds_of, extent_past, bounds_past, declarator_past}
 use Rattle.f77_scene.specs.Reading.{fault_of_form, fault_with, scene_with}
 use Rattle.f77_scene.specs.Scene.{Scene, Given, Array, Open}
-use Rattle.f77_scene.specs.Statements.{declarators_in, bounded, with_constant, with_constants}
+use Rattle.f77_scene.specs.Statements.{bounded, with_constant, with_constants}
 use Rattle.f77_scene.specs.Tests.{left_open}
 use Rattle.f77_source.specs.Limits.{is_good_array, KeepsLimits}
 use Rattle.f77_source.proofs.Faultless.{both_empty, faultless, PassesNoLimit, passes_no_limit}

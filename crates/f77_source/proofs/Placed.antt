@@ -1,11 +1,11 @@
 -- How an array is distributed, by the directives from the last to the first.
-use Rattle.std.proofs.Common.{◌≡◌, ℕ, zero, suc, ◌+◌, ◌-◌, ◌≤◌, ◌<◌, ◌==◌, nat_lt, nat_le, Bool, true, false, ◌&&◌, ◌||◌, List, [], ◌∷◌, ◌++◌, length, drop, get_or, reverse, if◌then◌else◌, Option, Some, None, refl, sym, ap, subst, ◌∙◌, arith, append_assoc}
+use Rattle.std.proofs.Common.{◌≡◌, ℕ, zero, suc, ◌+◌, ◌-◌, ◌≤◌, ◌<◌, nat_le, Bool, true, false, ◌&&◌, List, [], ◌∷◌, ◌++◌, length, drop, get_or, reverse, if◌then◌else◌, Option, Some, None, refl, sym, ap, subst, ◌∙◌, arith, append_assoc}
 use Rattle.std.proofs.lemmas.Bool.Decides.{nat_tests}
 use Rattle.std.proofs.lemmas.List.{drop_more, reverse-append}
 use Rattle.std.specs.Option.{option_map}
 use Rattle.std.specs.Str.{bytes_eq}
 use Rattle.nest_tree.specs.declared.tree.Spread.TheVariants.{Block}
-use Rattle.f77_scene.specs.Directives.{Placing, word_of, items_text, directive_text, placings, placed_by, placed_after, placed}
+use Rattle.f77_scene.specs.Directives.{Placing, items_text, directive_text, placings, placed_by, placed_after, placed}
 use Rattle.f77_scene.specs.Scene.{Name}
 use Rattle.f77_program.specs.Numbered.{numbered}
 use Rattle.f77_program.proofs.Mapped.{numbered-cons}

@@ -1,5 +1,5 @@
 -- A list whose images are two lists in a row.
-use Rattle.std.proofs.Common.{◌≡◌, ℕ, ◌+◌, List, [], ◌∷◌, ◌++◌, length, map, reverse, refl, sym, ap, ◌∙◌}
+use Rattle.std.proofs.Common.{◌≡◌, List, [], ◌∷◌, ◌++◌, map, reverse, refl, sym, ap, ◌∙◌}
 use Rattle.std.proofs.lemmas.List.{map_push, reverse-append, reverse-reverse}
 
 pub record Splits {X Y : Type 0} (g : X → Y) (xs : List X) (front back : List Y) : Type 0 where

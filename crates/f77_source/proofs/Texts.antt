@@ -1,5 +1,5 @@
 -- The form of a text or its fault, by what `read_statement` promises.
-use Rattle.std.proofs.Common.{◌≡◌, ℕ, List, Option, Some, None, Result, Ok, Err, refl, ap, ◌∙◌}
+use Rattle.std.proofs.Common.{◌≡◌, ℕ, List, Option, Some, None, Ok, Err, refl, ap, ◌∙◌}
 use Rattle.f77_forms.proofs.Answered.{form-read, read-form}
 use Rattle.f77_forms.specs.Answer.{IsRefused}
 use Rattle.f77_forms.specs.Form.{StatementForm}

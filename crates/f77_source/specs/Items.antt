@@ -1,6 +1,5 @@
 -- What stands in the items of a PRINT.
 use Rattle.std.specs.Prelude.{List, []}
-use Rattle.std.specs.List.{flat_map}
 use Rattle.f77_forms.specs.Form.{ExpressionForm, PrintedForm, value, constant}
 use Rattle.f77_scene.specs.Scene.{Scene}
 use Rattle.f77_scene.specs.Tests.{subscripts_in}

@@ -1,5 +1,5 @@
 -- What is known behind statements that keep their limits.
-use Rattle.std.specs.Prelude.{ℕ, ◌≤◌, Bool, ◌&&◌, nat_le, IsTrue, length}
+use Rattle.std.specs.Prelude.{◌≤◌, Bool, ◌&&◌, nat_le, IsTrue, length}
 use Rattle.std.specs.List.{list_all}
 use Rattle.nest_tree.specs.WellFormed.{is_good_dimension}
 use Rattle.f77_scene.specs.Scene.{Scene, Array}

@@ -1,5 +1,5 @@
 -- The statements of a source and the settings, as the reader keeps them.
-use Rattle.std.specs.Prelude.{ℕ, ℤ, List, map, Result, Ok, Err}
+use Rattle.std.specs.Prelude.{ℤ, Result, Ok, Err}
 use Rattle.f77_forms.specs.Form.{StatementForm}
 use Rattle.f77_forms.specs.View.{statement_of}
 use Rattle.f77_forms.specs.declared.form.Statement.{Statement}

@@ -28,11 +28,7 @@ use std::alloc::{AllocError, Global};
 ///
 /// Otherwise the first statement with a fault, in it the first fault; where there is none, the
 /// first setting that names no PARAMETER. Want of memory may come in place of any answer.
-pub fn read_program(
-    alloc: Global,
-    lines: &[Line],
-    settings: &[Setting],
-) -> Result<Program, Refusal>
+pub fn read_program(alloc: Global, lines: &[Line], settings: &[Setting]) -> Result<Program, Refusal>
     ensures program { IfOk result (λ p. answers.IsProgram (map entry_of lines.now) (map setting_of settings.now) (tree_of p)) }
     ensures refused { IfErr result (answers.Refuses (reading.first_fault_in (map entry_of lines.now) (map setting_of settings.now))) }
 {

@@ -51,7 +51,14 @@ fn add_source(
     ensures body { OnOk result (body_of body.new ≡ reading.body_with variables.now known.old source.now.line source.now.label (reading_view source.now.reading) (body_of body.old)) }
 {
     if let Ok(statement) = &source.reading {
-        body.add(alloc, known, variables, source.line, source.label, statement)?;
+        body.add(
+            alloc,
+            known,
+            variables,
+            source.line,
+            source.label,
+            statement,
+        )?;
         advance(alloc, whole, known, source.label, statement)?;
     }
     Ok(())

@@ -1,7 +1,6 @@
 use Rattle.std.proofs.Common.{◌≡◌, ap, ◌∙◌, arith}
 use Rattle.f77_forms.specs.View.{statement_of}
 use Rattle.f77_scene.specs.Scene.{Scene}
-use Rattle.f77_program.specs.Judged.{evaluated}
 use Rattle.f77_program.specs.Passed.{passed}
 use Rattle.f77_program.specs.Wholes.{given_of}
 use Rattle.f77_program.proofs.Passing.{passed-evaluated, loops-evaluated}

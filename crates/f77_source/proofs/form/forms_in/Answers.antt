@@ -1,4 +1,4 @@
-use Rattle.std.proofs.Common.{◌≡◌, ◌-◌, ◌∷◌, [], ap, ◌∙◌, arith}
+use Rattle.std.proofs.Common.{◌-◌, ◌∷◌, [], ap, ◌∙◌, arith}
 use Rattle.f77_program.specs.Measures.{linear_reaches}
 use Rattle.f77_program.specs.declared.measure.Measure.{Measure}
 use Rattle.f77_source.proofs.Formed.{linear_each, within_reversed}

@@ -1,4 +1,4 @@
-use Rattle.std.proofs.Common.{◌≡◌, ◌++◌, map, ap, sym, ◌∙◌}
+use Rattle.std.proofs.Common.{◌≡◌, map, ap, sym, ◌∙◌}
 use Rattle.nest_tree.specs.Tree as tree
 use Rattle.nest_tree.specs.Tree.{Expression}
 use Rattle.nest_tree.specs.View.{expression_of}

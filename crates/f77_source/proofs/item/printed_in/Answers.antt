@@ -1,4 +1,4 @@
-use Rattle.std.proofs.Common.{◌≡◌, map, ap, sym, ◌∙◌, arith}
+use Rattle.std.proofs.Common.{map, ap, sym, ◌∙◌, arith}
 use Rattle.std.proofs.Math.ListN.{get_or-map}
 use Rattle.std.proofs.lemmas.List.{length-map}
 use Rattle.f77_forms.specs.View.{printed_of}

@@ -1,4 +1,4 @@
-use Rattle.std.proofs.Common.{◌≡◌, ◌+◌, ◌-◌, ◌++◌, ◌∷◌, [], ℕ, List, ap, ◌∙◌}
+use Rattle.std.proofs.Common.{◌≡◌, ◌+◌, ◌-◌, ◌++◌, ◌∷◌, [], ap, ◌∙◌}
 use Rattle.f77_scene.specs.Directives as directives
 use Rattle.f77_source.specs.Placings.{item_text}
 use Rattle.f77_source.proofs.Placed.{items_text-more}

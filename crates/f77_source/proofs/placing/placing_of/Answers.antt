@@ -1,4 +1,4 @@
-use Rattle.std.proofs.Common.{◌≡◌, ◌+◌, drop, get_or, if◌then◌else◌, ap, sym, ◌∙◌}
+use Rattle.std.proofs.Common.{◌+◌, drop, get_or, if◌then◌else◌, ap, sym, ◌∙◌}
 use Rattle.std.proofs.lemmas.List.{drop_all}
 use Rattle.nest_tree.specs.declared.tree.Spread.TheVariants.{Block}
 use Rattle.f77_scene.specs.Directives.{Placing, placings}
@@ -22,12 +22,12 @@ loop-candidate-preserved c =
     let more = chosen-more texts n k placings i d first p c.loop-candidate-test.true in
     let tested = ap (λ o. is_before o first) (sym c.in_ok-number.ensures) ∙ sym c.is_before.ensures in
     elim c.if-is_before.branch [
-      then-is_before w ↦
-        ap (λ o. chosen texts n k rest o c.if-is_before.placing) (w.first-is ∙ c.in_ok-number.ensures) ∙ ap (chosen texts n k rest number) w.placing-is
-        ∙ sym (ap (λ b. if b then chosen texts n k rest number q else chosen texts n k rest first p) (tested ∙ w.if-is_before.true)) ∙ sym more ∙ c.loop-candidate.invariant
+      | then-is_before w ↦
+          ap (λ o. chosen texts n k rest o c.if-is_before.placing) (w.first-is ∙ c.in_ok-number.ensures) ∙ ap (chosen texts n k rest number) w.placing-is
+          ∙ sym (ap (λ b. if b then chosen texts n k rest number q else chosen texts n k rest first p) (tested ∙ w.if-is_before.true)) ∙ sym more ∙ c.loop-candidate.invariant
       | else-is_before w ↦
-        ap (λ o. chosen texts n k rest o c.if-is_before.placing) w.first-is ∙ ap (chosen texts n k rest first) w.placing-is
-        ∙ sym (ap (λ b. if b then chosen texts n k rest number q else chosen texts n k rest first p) (tested ∙ w.if-is_before.false)) ∙ sym more ∙ c.loop-candidate.invariant
+          ap (λ o. chosen texts n k rest o c.if-is_before.placing) w.first-is ∙ ap (chosen texts n k rest first) w.placing-is
+          ∙ sym (ap (λ b. if b then chosen texts n k rest number q else chosen texts n k rest first p) (tested ∙ w.if-is_before.false)) ∙ sym more ∙ c.loop-candidate.invariant
     ]
 
 pub returns : goal.returns

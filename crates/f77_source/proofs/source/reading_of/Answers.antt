@@ -1,4 +1,4 @@
-use Rattle.std.proofs.Common.{◌≡◌, refl, sym}
+use Rattle.std.proofs.Common.{refl, sym}
 use Rattle.f77_forms.specs.View.{statement_of}
 use Rattle.f77_source.proofs.Texts.{reading_found, reading_refused}
 use Rattle.f77_source.proofs.source.reading_of.Goals as goal

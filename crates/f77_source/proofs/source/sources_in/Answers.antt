@@ -1,4 +1,4 @@
-use Rattle.std.proofs.Common.{◌≡◌, ◌++◌, ◌∷◌, [], map, take, ap, sym, ◌∙◌}
+use Rattle.std.proofs.Common.{◌++◌, ◌∷◌, [], map, take, ap, sym, ◌∙◌}
 use Rattle.f77_lines.specs.Listing.{entry_of}
 use Rattle.f77_scene.specs.Reading.{statements_in}
 use Rattle.f77_source.specs.Sources.{source_of}

@@ -1,4 +1,4 @@
-use Rattle.std.proofs.Common.{◌≡◌, List, [], ◌∷◌, ◌++◌, ◌-◌, length, map, reverse, take, drop, sym, ap, ◌∙◌, arith, append_assoc, w64, FitsSigned, rules}
+use Rattle.std.proofs.Common.{◌≡◌, [], ◌∷◌, ◌++◌, ◌-◌, length, map, reverse, take, drop, sym, ap, ◌∙◌, arith, append_assoc, w64, FitsSigned, rules}
 use Rattle.std.proofs.lemmas.Int.{to_z-of_z}
 use Rattle.std.proofs.lemmas.List.{length-append, length-map, length-reverse}
 use Rattle.nest_tree.specs.View.{expression_of}

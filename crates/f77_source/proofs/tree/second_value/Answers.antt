@@ -1,4 +1,4 @@
-use Rattle.std.proofs.Common.{◌≡◌, ◌-◌, length, get_or, w64, FitsSigned, rules, ap, sym, ◌∙◌}
+use Rattle.std.proofs.Common.{◌-◌, length, get_or, w64, FitsSigned, rules, ap, sym, ◌∙◌}
 use Rattle.std.proofs.lemmas.Int.{to_z-of_z}
 use Rattle.f77_program.specs.declared.measure.Measure.{Measure}
 use Rattle.f77_source.proofs.Grown.{second_measured}

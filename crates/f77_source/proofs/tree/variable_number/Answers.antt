@@ -1,4 +1,4 @@
-use Rattle.std.proofs.Common.{◌≡◌, ◌+◌, ℕ, Vec, Global, None, length, ap, sym, arith}
+use Rattle.std.proofs.Common.{◌≡◌, ℕ, Vec, Global, None, length, ap, sym, arith}
 use Rattle.std.proofs.lemmas.List.{length-map}
 use Rattle.f77_program.specs.Numbered.{numbered}
 use Rattle.f77_source.proofs.Variables.{number_among-missing}

@@ -1,4 +1,4 @@
-use Rattle.std.proofs.Common.{◌≡◌, ℕ, ℤ, List, length, reverse, ap, ◌∙◌}
+use Rattle.std.proofs.Common.{ℤ, List, reverse, ap, ◌∙◌}
 use Rattle.nest_tree.specs.Tree.{Declaration}
 use Rattle.f77_scene.specs.Directives.{Placing, placed}
 use Rattle.f77_scene.specs.Scene.{Name, bounds_named}

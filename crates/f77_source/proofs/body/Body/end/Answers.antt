@@ -1,4 +1,4 @@
-use Rattle.std.proofs.Common.{◌≡◌, ◌++◌, ◌∷◌, [], ℤ, Vec, Global, map, w64, FitsSigned, rules, ap, ◌∙◌}
+use Rattle.std.proofs.Common.{◌++◌, ◌∷◌, [], ℤ, Vec, Global, map, w64, FitsSigned, rules, ap, ◌∙◌}
 use Rattle.std.proofs.lemmas.Int.{to_z-of_z}
 use Rattle.nest_tree.specs.Tree.{do_loop}
 use Rattle.nest_tree.specs.View.{statement_of, head_of}

@@ -1,4 +1,4 @@
-use Rattle.std.proofs.Common.{◌≡◌, ◌∷◌, []}
+use Rattle.std.proofs.Common.{◌∷◌, []}
 use Rattle.f77_forms.specs.View.{expression_of}
 use Rattle.f77_source.proofs.Formed.{reach_both}
 use Rattle.f77_source.proofs.body.Body.open.Goals as goal
