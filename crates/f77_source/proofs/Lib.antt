@@ -9,3 +9,4 @@ pub mod Ended
 pub mod Placed
 pub mod Printed
 pub mod Folded
+pub mod Listed

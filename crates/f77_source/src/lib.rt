@@ -14,3 +14,6 @@ mod walk;
 
 pub use reader::read_program;
 pub use source::Setting;
+
+#[cfg(test)]
+mod tests;

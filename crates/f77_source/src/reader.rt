@@ -1,9 +1,9 @@
 // The program of a source.
 
-ghost use Rattle.std.specs.Prelude.{◌≡◌, None, map, IfOk, IfErr};
+ghost use Rattle.std.specs.Prelude.{◌≡◌, ℕ, List, None, map, IfOk, IfErr};
 ghost use Rattle.std.specs.Option.{option_map};
 ghost use Rattle.nest_tree.specs.View.{tree_of};
-ghost use Rattle.f77_lines.specs.Listing.{entry_of};
+ghost use Rattle.f77_lines.specs.Listing.{Lists, entry_of};
 ghost use Rattle.f77_program.specs.Wholes.{given_of};
 ghost use Rattle.f77_scene.specs.Fault as scene;
 ghost use Rattle.f77_scene.specs.Reading as reading;
@@ -23,12 +23,24 @@ use f77_program::{Known, Refusal, Whole};
 use nest_tree::Program;
 use std::alloc::{AllocError, Global};
 
-/// The program of statements and directives, where each named constant that a setting names has
-/// the setting's value, the last one's of several.
+/// The program of statements and directives, as [`f77_lines::statements`] lists them, where each
+/// named constant that a setting names has the setting's value, the last one's of several.
 ///
 /// Otherwise the first statement with a fault, in it the first fault; where there is none, the
 /// first setting that names no PARAMETER. Want of memory may come in place of any answer.
 pub fn read_program(alloc: Global, lines: &[Line], settings: &[Setting]) -> Result<Program, Refusal>
+    // What is read is the program of what is listed, which has no fault.
+    ensures program { IfOk result (λ p. answers.IsProgram (map entry_of lines.now) (map setting_of settings.now) (tree_of p)) }
+    // A refusal names its first fault, or is want of memory.
+    ensures refused { IfErr result (answers.Refuses (reading.first_fault_in (map entry_of lines.now) (map setting_of settings.now))) }
+    // The same of the bytes that list it: what is read is their program.
+    ensures reads { (bytes : List ℕ) (rest : ℕ) → Lists bytes (map entry_of lines.now) rest → IfOk result (λ p. reading.Reads bytes (map setting_of settings.now) (tree_of p)) }
+    ensures first_fault { (bytes : List ℕ) (rest : ℕ) → Lists bytes (map entry_of lines.now) rest → IfErr result (answers.Refuses (reading.first_fault bytes (map setting_of settings.now))) }
+{
+    read(alloc, lines, settings)
+}
+
+fn read(alloc: Global, lines: &[Line], settings: &[Setting]) -> Result<Program, Refusal>
     ensures program { IfOk result (λ p. answers.IsProgram (map entry_of lines.now) (map setting_of settings.now) (tree_of p)) }
     ensures refused { IfErr result (answers.Refuses (reading.first_fault_in (map entry_of lines.now) (map setting_of settings.now))) }
 {
