@@ -10,3 +10,5 @@ pub mod Placed
 pub mod Printed
 pub mod Folded
 pub mod Listed
+pub mod Declared
+pub mod Counted

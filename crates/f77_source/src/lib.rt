@@ -5,6 +5,7 @@ mod body;
 mod check;
 mod form;
 mod item;
+mod laws;
 mod placing;
 mod reader;
 mod source;
@@ -12,6 +13,7 @@ mod tree;
 mod variable;
 mod walk;
 
+pub use laws::{statements_are_few, variables_are_good};
 pub use reader::read_program;
 pub use source::Setting;
 
