@@ -1,4 +1,4 @@
-//! From the statements and directives of a source to its program.
+//! What is known at a statement of a source, and the statement's first fault.
 #![tactic(auto)]
 
 mod arrays;
