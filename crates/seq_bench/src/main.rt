@@ -1,7 +1,8 @@
 //! Checks and runs a program of loops, and writes its output: three sweeps over ten elements, with
 //! one word 200 sweeps over 100,000 elements, with two the product of two lower triangular matrices
 //! of 500 rows. With a word it also writes to standard error how many microseconds the check of the
-//! ranges took, and the run.
+//! ranges took, and the run. With three words it writes there how long it takes to give the
+//! instances of all phases of the 200 sweeps, one by one, to one processor that owns them.
 //!
 //! It ends with status 1 where a write fails or memory runs out.
 #![tactic(auto)]
@@ -9,10 +10,12 @@
 ghost use Rattle.nest_tree.specs.View.{tree_of};
 ghost use Rattle.nest_tree.specs.WellFormed.{IsWellFormed};
 
+mod owned;
 mod pieces;
 mod programs;
 
 use nest_tree::{Program, program_limits};
+use owner_partition::{Cut, Mark};
 use range_check::check_ranges;
 use seq_meaning::run_sequential;
 use std::io::Write;
@@ -27,7 +30,8 @@ fn main(rt: HostRuntime) -> io::Result<()> {
             &programs::jacobi(rt.alloc(), 200, 100_000, 99_999)?,
             true,
         ),
-        _ => run(&rt, &programs::product(rt.alloc(), 500)?, true),
+        2 => run(&rt, &programs::product(rt.alloc(), 500)?, true),
+        _ => count(&rt, &programs::jacobi(rt.alloc(), 200, 100_000, 99_999)?),
     }
 }
 
@@ -51,4 +55,23 @@ fn run(rt: &HostRuntime, program: &Program, times: bool) -> io::Result<()>
         eprintln!(rt; "ranges {checked} run {ran}")?;
     }
     rt.stdout().write_all(output.as_slice())
+}
+
+// Writes to standard error how many microseconds it takes to give all instances of the sweeps, and
+// how many there are.
+fn count(rt: &HostRuntime, program: &Program) -> io::Result<()>
+    requires { IsWellFormed (tree_of program.now) }
+{
+    if let Err(limit) = program_limits(program) {
+        return rt.println(limit);
+    }
+    let marks = Vec::from_array(
+        rt.alloc(),
+        [Mark::Doall, Mark::Outer, Mark::Doall, Mark::Doall],
+    )?;
+    let cut = Cut::new(rt.alloc(), marks)?;
+    let begun = Instant::now(rt)?;
+    let instances = owned::count(rt.alloc(), program, &cut);
+    let took = begun.elapsed(rt)?.as_micros();
+    eprintln!(rt; "own {took} instances {instances}")
 }
