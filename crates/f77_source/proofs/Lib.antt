@@ -12,3 +12,4 @@ pub mod Folded
 pub mod Listed
 pub mod Declared
 pub mod Counted
+pub mod Valued
