@@ -1,0 +1,67 @@
+// The lines with which a source or a setting is refused.
+
+ghost use Rattle.std.specs.Prelude.{◌≡◌, ◌≢◌, IfOk, Some};
+ghost use Rattle.nest_tree.specs.LimitText.{text_of_limit};
+ghost use Rattle.f77_lines.specs.RefusalText.{text_of_refusal};
+ghost use Rattle.range_check.specs.OutsideText.{text_of_outside};
+ghost use Rattle.f77_program.specs.declared.refusal.Refusal.TheVariants as variants;
+ghost use Rattle.spmd_answer.specs.Due.{due_of_fault, refused};
+ghost use Rattle.spmd_answer.specs.Faults.{fault_in};
+ghost use Rattle.spmd_answer.specs.Stops.{due_in};
+
+use crate::status::{Answer, Status};
+use f77_lines::LineRefusal;
+use f77_program::Refusal;
+use nest_tree::Limit;
+use range_check::OutOfRange;
+use std::alloc::{AllocError, Global};
+use std::fmt::Write;
+
+/// A source with this fault in its lines.
+pub fn line_answer(alloc: Global, refusal: LineRefusal) -> Result<Answer, AllocError>
+    ensures { IfOk result (λ a. due_in a ≡ refused (text_of_refusal refusal)) }
+{
+    let text = format!(in alloc; "{refusal}\n")?;
+    Ok(Answer {
+        status: Status::SourceRefused,
+        text: text.into_bytes(),
+    })
+}
+
+/// A program that passes a limit.
+pub fn limit_answer(alloc: Global, limit: Limit) -> Result<Answer, AllocError>
+    ensures { IfOk result (λ a. due_in a ≡ refused (text_of_limit limit)) }
+{
+    let text = format!(in alloc; "{limit}\n")?;
+    Ok(Answer {
+        status: Status::SourceRefused,
+        text: text.into_bytes(),
+    })
+}
+
+/// A program with a subscript out of range.
+pub fn range_answer(alloc: Global, outside: OutOfRange) -> Result<Answer, AllocError>
+    ensures { IfOk result (λ a. due_in a ≡ refused (text_of_outside outside)) }
+{
+    let text = format!(in alloc; "{outside}\n")?;
+    Ok(Answer {
+        status: Status::SourceRefused,
+        text: text.into_bytes(),
+    })
+}
+
+/// A source with this fault in a statement, or a setting that names no named constant.
+pub fn fault_answer(alloc: Global, refusal: Refusal) -> Result<Answer, AllocError>
+    requires { refusal ≢ variants.NoMemory }
+    ensures { IfOk result (λ a. due_in a ≡ due_of_fault (fault_in refusal)) }
+{
+    let status = match refusal {
+        Refusal::BadSetting(_) => Status::BadWords,
+        Refusal::Statement(..) | Refusal::NoMemory => Status::SourceRefused,
+    };
+    let text = format!(in alloc; "{refusal}\n")?;
+    Ok(Answer {
+        status,
+        text: text.into_bytes(),
+    })
+}
