@@ -181,3 +181,17 @@ fn missing_lines(rt: HostRuntime) -> Result<(), Fail> {
     }
     Ok(())
 }
+
+#[test]
+fn refusals_have_their_lines(rt: HostRuntime) -> Result<(), Fail> {
+    let rows = [
+        (PlanSyntax::Line(1), "PLAN SYNTAX 1"),
+        (PlanSyntax::Line(u32::MAX), "PLAN SYNTAX 4294967295"),
+        (PlanSyntax::NoMemory, "out of memory"),
+    ];
+    for (refusal, line) in rows {
+        let written = format!(in rt.alloc(); "{refusal}")?;
+        assert_eq!(rt; written.as_str(), line);
+    }
+    Ok(())
+}
