@@ -1,9 +1,9 @@
 -- How many statements a tree has.
-use Rattle.std.proofs.Common.{◌≡◌, ℕ, ◌+◌, ◌≤◌, ◌<◌, ◌==◌, Bool, true, false, List, [], ◌∷◌, ◌++◌, if◌then◌else◌, Result, Ok, Err, codes, refl, sym, ap, subst, ◌∙◌, arith}
-use Rattle.nest_tree.specs.Tree.{Statement, Head, do_loop}
+use Rattle.std.proofs.Common.{◌≡◌, ℕ, ◌+◌, ◌≤◌, ◌<◌, ◌==◌, Bool, true, false, List, [], ◌∷◌, ◌++◌, if◌then◌else◌, Result, Ok, Err, codes, refl, ap, ◌∙◌, arith}
+use Rattle.nest_tree.specs.Tree.{Statement, do_loop}
 use Rattle.nest_tree.specs.WellFormed.{statement_count}
 use Rattle.f77_forms.specs.declared.fault.TextFault.{TextFault}
-use Rattle.f77_forms.specs.Form.{DefinitionForm, StatementForm, program, integer, dimension, parameter, do_loop as loop_form, assign, logical_if, print, continue, stop, end}
+use Rattle.f77_forms.specs.Form.{StatementForm, program, integer, dimension, parameter, do_loop as loop_form, assign, logical_if, print, continue, stop, end}
 use Rattle.f77_lines.specs.Listing.{EndsWithEnd}
 use Rattle.f77_lines.specs.Statements.{Entry, statement}
 use Rattle.f77_scene.specs.Behind.{behind}

@@ -1,13 +1,11 @@
 -- Variables are declared well.
-use Rattle.std.proofs.Common.{◌≡◌, ℕ, ◌+◌, ◌≤◌, zero, suc, nat_le, ◌==◌, ℤ, Bool, true, false, ◌&&◌, ◌||◌, List, [], ◌∷◌, length, map, if◌then◌else◌, IsTrue, None, refl, sym, subst, ◌∙◌, arith}
+use Rattle.std.proofs.Common.{◌≡◌, ℕ, ◌≤◌, nat_le, ℤ, Bool, true, false, ◌&&◌, ◌||◌, List, [], ◌∷◌, length, map, if◌then◌else◌, IsTrue, None, refl, sym, subst, ◌∙◌, arith}
 use Rattle.std.proofs.lemmas.Bool.{and_from, and_parts}
 use Rattle.std.proofs.lemmas.Bool.Decides.{nat_tests}
 use Rattle.std.specs.List.{list_all, list_any}
 use Rattle.std.specs.Str.{bytes_eq}
-use Rattle.nest_tree.specs.Tree.{Declaration}
 use Rattle.nest_tree.specs.WellFormed.{is_number_of, is_good_dimension, is_good_placing, is_good_declaration}
-use Rattle.nest_tree.specs.declared.tree.Spread.{Spread}
-use Rattle.nest_tree.specs.declared.tree.Spread.TheVariants.{Block, Cyclic}
+use Rattle.nest_tree.specs.declared.tree.Spread.TheVariants.{Block}
 use Rattle.f77_scene.specs.Directives.{Placing, directive_text, placings, placed_by, placed_after, placed}
 use Rattle.f77_scene.specs.Reading.{SourceStatement, fault_with, scene_with, fault_from, scene_from, declaration}
 use Rattle.f77_scene.specs.Scene.{Name, Scene, Given, Array, first_scene, is_array, bounds_named}

@@ -1,5 +1,5 @@
 -- Named constants have values of 64 bits.
-use Rattle.std.proofs.Common.{◌≡◌, ℕ, ◌≤◌, nat_lt, nat_le, ℤ, pos, negsuc, ◌+ℤ◌, ◌-ℤ◌, ◌*ℤ◌, int_le, int_div, Bool, true, false, ◌&&◌, List, [], ◌∷◌, ◌++◌, length, if◌then◌else◌, Option, Some, None, Result, Ok, Err, FitsSigned, w64, codes, refl, sym, ap, subst, ◌∙◌, arith}
+use Rattle.std.proofs.Common.{◌≡◌, ℕ, ◌≤◌, nat_lt, nat_le, ℤ, pos, negsuc, ◌+ℤ◌, ◌-ℤ◌, ◌*ℤ◌, int_le, int_div, Bool, true, false, ◌&&◌, List, [], ◌∷◌, length, if◌then◌else◌, Option, Some, None, Result, Ok, Err, FitsSigned, w64, codes, refl, ap, ◌∙◌, arith}
 use Rattle.std.proofs.lemmas.Bool.{and_from, and_parts}
 use Rattle.std.proofs.lemmas.Bool.Decides.{nat_tests}
 use Rattle.std.proofs.lemmas.Int.{ints, SFits-int_wrap}
@@ -18,14 +18,14 @@ use Rattle.f77_forms.specs.declared.form.Sign.{Sign}
 use Rattle.f77_forms.specs.declared.form.Sign.TheVariants.{Plus, Minus}
 use Rattle.f77_forms.specs.Form.{ExpressionForm, number, name, call, parenthesized, signed, binary, ArgumentForms, no_more, one_more, DefinitionForm, StatementForm, program, integer, dimension, parameter, do_loop, assign, logical_if, print, continue, stop, end}
 use Rattle.f77_forms.specs.Statements.{statement_at}
-use Rattle.f77_forms.specs.Text.{Rank, sum, term, makes, left_rank, right_rank, is_sum_rank, has_more, is_expression, are_expressions, is_definition, is_statement}
+use Rattle.f77_forms.specs.Text.{Rank, sum, term, is_sum_rank, is_expression, are_expressions, is_definition, is_statement}
 use Rattle.f77_lines.specs.Statements.{Entry, statement, directive}
 use Rattle.f77_scene.specs.Behind.{behind}
 use Rattle.f77_scene.specs.Expressions.{value_of, value_among, sign_value, operator_value, chosen}
 use Rattle.f77_scene.specs.Reading.{SourceStatement, statements_in, reading_with, reading_of, scene_with, scene_from}
 use Rattle.f77_scene.specs.Scene.{Name, Scene, Given, value_named}
 use Rattle.f77_scene.specs.Statements.{value_set, with_constant, with_constants}
-use Rattle.f77_source.proofs.Folded.{scene_from-more, scene_from-none, statements_in-statement, statements_in-directive, statements_in-push}
+use Rattle.f77_source.proofs.Folded.{scene_from-more, scene_from-none}
 
 fits_value : (z : ℤ) → FitsSigned w64 z → is_value z ≡ true
 fits_value (pos n) h = (let few : n ≤ 9223372036854775807 = omega (arith, ints) in grind (arith, nat_tests))

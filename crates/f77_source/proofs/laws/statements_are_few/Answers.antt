@@ -1,12 +1,11 @@
-use Rattle.std.proofs.Common.{◌≡◌, ℕ, ◌<◌, List, [], Option, Some, None, refl, ap, ◌∙◌, arith}
+use Rattle.std.proofs.Common.{◌≡◌, Option, Some, None, refl, ap, arith}
 use Rattle.nest_tree.specs.Tree.{Tree}
 use Rattle.nest_tree.specs.WellFormed.{statement_count}
 use Rattle.f77_lines.proofs.Ended.{listed-end}
 use Rattle.f77_lines.specs.Columns.{lines_of}
 use Rattle.f77_lines.specs.Listing.{entries_of, first_line_fault, size_to_end}
 use Rattle.f77_lines.specs.declared.refusal.LineRefusal.{LineRefusal}
-use Rattle.f77_scene.specs.Fault.{Refusal}
-use Rattle.f77_scene.specs.Reading.{Reads, statements_in, given_with, fault_from, last_scene, variables_of, bad_setting_from, first_fault_in, as_refusal}
+use Rattle.f77_scene.specs.Reading.{statements_in, given_with, fault_from, last_scene, variables_of, bad_setting_from, first_fault_in, as_refusal}
 use Rattle.f77_scene.specs.Scene.{first_scene, constant_names}
 use Rattle.f77_scene.specs.Trees.{first_body}
 use Rattle.f77_source.proofs.Counted.{listed_end, counted_end}

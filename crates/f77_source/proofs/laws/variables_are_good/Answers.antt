@@ -3,7 +3,7 @@ use Rattle.std.specs.List.{list_all}
 use Rattle.nest_tree.specs.Tree.{Tree}
 use Rattle.nest_tree.specs.WellFormed.{is_good_declaration}
 use Rattle.f77_lines.specs.Listing.{entries_of, first_line_fault}
-use Rattle.f77_scene.specs.Reading.{Reads, statements_in, given_with, fault_from, last_scene, directives_of, variables_of, declaration, bad_setting_from, first_fault_in, as_refusal}
+use Rattle.f77_scene.specs.Reading.{statements_in, given_with, fault_from, last_scene, directives_of, variables_of, bad_setting_from, first_fault_in, as_refusal}
 use Rattle.f77_scene.specs.Scene.{first_scene, constant_names}
 use Rattle.f77_source.proofs.Declared.{first_kept, kept_from, declarations-good}
 use Rattle.f77_source.proofs.Faultless.{neither}
