@@ -3,6 +3,7 @@
 //! solution the plan orders all accesses that conflict.
 //!
 //! - [`obligation`]: an obligation with what it speaks of.
+//! - [`laws`]: which slots a kind's change changes.
 //!
 //! The definitions are in `specs/`: the accesses of a phase (`References`), which two conflict
 //! (`Pairs`), levels and the boundaries that are certain at one (`Levels`, `Boundaries`), what a
@@ -10,6 +11,8 @@
 //! and the list (`Obligations`).
 #![tactic(auto)]
 
+pub mod laws;
 pub mod obligation;
 
+pub use laws::slots_see_certain_boundaries;
 pub use obligation::Obligation;
