@@ -1,6 +1,6 @@
 // The systems of a subscript's bounds.
 
-ghost use Rattle.std.specs.Prelude.{◌≡◌, ◌+◌, ◌*◌, ◌-◌, ◌<◌, ◌≤◌, ◌^◌, ◌++◌, ◌-ℤ◌, neg_ℤ, pos, IfOk, IfSome, IsTrue, OnOk, length};
+ghost use Rattle.std.specs.Prelude.{◌≡◌, ◌+◌, ◌*◌, ◌-◌, ◌<◌, ◌≤◌, ◌^◌, ◌++◌, ◌-ℤ◌, neg_ℤ, pos, IfNone, IfOk, IfSome, IsTrue, OnOk, length};
 ghost use Rattle.std.specs.List.{list_all};
 ghost use Rattle.nest_tree.specs.declared.tree.Access.{Access as Accessed};
 ghost use Rattle.nest_tree.specs.Form.{is_small};
@@ -25,7 +25,8 @@ use std::alloc::{AllocError, Global};
 // How many unknowns there are: the named constants, and the value and the trip of each loop; None
 // where they are more than 2^32 - 4, as no memory holds.
 pub(crate) fn unknown_count(program: &Program, around: &[Around]) -> Option<u32>
-    ensures { IfSome result (λ n. (n ≡ length (tree_of program.now).params + 2 * length around.now) × (n < 2 ^ 32 - 3)) }
+    ensures count { IfSome result (λ n. (n ≡ length (tree_of program.now).params + 2 * length around.now) × (n < 2 ^ 32 - 3)) }
+    ensures many { IfNone result (2 ^ 32 - 3 ≤ length (tree_of program.now).params + 2 * length around.now) }
 {
     let count = program.params.len() + 2 * around.len();
     if count < 4_294_967_293 {
