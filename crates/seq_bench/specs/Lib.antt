@@ -1,2 +1,3 @@
 pub mod Programs
 pub mod Kinds
+pub mod Nests

@@ -1,6 +1,7 @@
 //! Checks and runs programs of loops, and writes their output: three sweeps over ten elements, alone
 //! and under a plan of two workers; six short loops under a plan of three with each kind of wait
-//! once; and four steps of processor 1 of two in a straight line.
+//! once; two nests under a plan of two where processor 0 does everything; and four steps of
+//! processor 1 of two in a straight line.
 //!
 //! With one word it runs 200 sweeps over 100,000 elements alone, with two the product of two lower
 //! triangular matrices of 500 rows, and with four the 200 sweeps under a plan of four workers, by
@@ -15,6 +16,7 @@ ghost use Rattle.nest_tree.specs.View.{tree_of};
 ghost use Rattle.nest_tree.specs.WellFormed.{IsWellFormed};
 
 mod kinds;
+mod nests;
 mod owned;
 mod parallel;
 mod pieces;
@@ -57,6 +59,8 @@ fn small(rt: &HostRuntime) -> io::Result<()> {
     run_under(rt, &sweeps, &parallel::sweeps(rt.alloc(), 2, 5)?, false)?;
     let loops = kinds::six_loops(rt.alloc())?;
     run_under(rt, &loops, &parallel::each_kind(rt.alloc())?, false)?;
+    let nests = nests::two_nests(rt.alloc())?;
+    run_under(rt, &nests, &serial_plan(rt.alloc(), &nests, 2)?, false)?;
     steps(rt, &kinds::first_run(rt.alloc())?)
 }
 
