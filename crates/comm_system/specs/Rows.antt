@@ -93,7 +93,7 @@ no_trips-rows = refl
 abbrev three_loops : Tree
 three_loops = record {
   items = next (loop 1 (pos 1) (pos 6) 2 (set (element 1 (times (pos 1) 1 (pos 0))) (loop_value 1) 3)) (next (loop 2 (pos 1) (pos 6) 4 (set (element 2 (times (pos 1) 2 (pos 0))) (loop_value 2) 5))
-  (next (loop 3 (pos 1) (pos 6) 6 (set (element 3 (times (pos 1) 3 (pos 0))) (load (element 1 (times (negsuc 0) 3 (pos 7)))) 7)) (next (shown (element 3 (fixed (pos 1))) 8) done)));
+      (next (loop 3 (pos 1) (pos 6) 6 (set (element 3 (times (pos 1) 3 (pos 0))) (load (element 1 (times (negsuc 0) 3 (pos 7)))) 7)) (next (shown (element 3 (fixed (pos 1))) 8) done)));
   params = [];
   variables = array 65 6 ∷ array 66 6 ∷ array 67 6 ∷ [];
 }
