@@ -1,1 +1,16 @@
 pub mod SameKinds
+pub mod Lies
+pub mod PairMet
+pub mod OwnersMet
+pub mod PairOver
+pub mod Solved
+pub mod Systems
+pub mod Stations
+pub mod Contexts
+pub mod StationFacts
+pub mod StationOrder
+pub mod StationsThere
+pub mod GoodReferences
+pub mod PairLists
+pub mod KnownHeads
+pub mod Meets

@@ -6,4 +6,5 @@ pub mod Signatures
 pub mod PairRows
 pub mod OwnerRows
 pub mod Obligations
+pub mod Meetings
 pub mod Rows

@@ -1,13 +1,21 @@
 // Laws: there is nothing to run.
 
-ghost use Rattle.std.specs.Prelude.{◌≡◌, List};
-ghost use Rattle.std.specs.List.{AllByRecursion};
+ghost use Rattle.std.specs.Prelude.{◌≡◌, ℕ, List, [], ◌∷◌, length, map};
+ghost use Rattle.std.specs.List.{AllByRecursion, Contains};
+ghost use Rattle.farkas_cert.specs.Inequalities.{IsWholeSolution};
 ghost use Rattle.nest_tree.specs.Tree.{Tree};
+ghost use Rattle.nest_tree.specs.WellFormed.{IsWellFormed};
+ghost use Rattle.owner_partition.specs.declared.anchor.Anchor.{Anchor};
 ghost use Rattle.sync_plan.specs.declared.plan.Kind.{Kind};
 ghost use Rattle.sync_plan.specs.declared.plan.Plan.{Plan};
-ghost use Rattle.comm_system.specs.Boundaries.{certain_boundaries};
-ghost use Rattle.comm_system.specs.Obligations.{Slot, slot_signature, slot_tasks};
-ghost use Rattle.comm_system.specs.References.{StaticPhase};
+ghost use Rattle.sync_plan.specs.Fit.{IsFit};
+ghost use Rattle.comm_system.specs.Boundaries.{Side, certain_boundaries, of_first, of_second};
+ghost use Rattle.comm_system.specs.Levels.{common, order_at, two_trips};
+ghost use Rattle.comm_system.specs.Meetings.{AreHolders, Holder, LiesAmong, LiesBeside, Meet, Point, holders_values, values_of};
+ghost use Rattle.comm_system.specs.Obligations.{Slot, anchor_at, owners_of, piece_task, slot_signature, slot_tasks, trips_task};
+ghost use Rattle.comm_system.specs.OwnerRows.{Piece, distance};
+ghost use Rattle.comm_system.specs.Pairs.{Pair, pairs_of};
+ghost use Rattle.comm_system.specs.References.{StaticPhase, phases_of};
 ghost use Rattle.comm_system.specs.Signatures.{kind_at};
 
 /// Kinds that agree in front of the certain boundaries of a slot give it the same systems: a
@@ -15,4 +23,21 @@ ghost use Rattle.comm_system.specs.Signatures.{kind_at};
 #[tactic(auto, using(crate::proofs::SameKinds::same_tasks))]
 pub fn slots_see_certain_boundaries()
     ensures { (tree : Tree) (plan : Plan) (kinds others : List Kind) (phases : List StaticPhase) (slot : Slot) → AllByRecursion (λ u. kind_at kinds u ≡ kind_at others u) (certain_boundaries phases slot.first.outer slot.second.outer slot.s slot.t slot.level) → slot_tasks tree plan slot (slot_signature plan.version kinds phases slot) ≡ slot_tasks tree plan slot (slot_signature plan.version others phases slot) }
+{}
+
+/// Where the accesses of a pair meet in two trips of a phase, the values there solve the system of
+/// these trips.
+pub fn meeting_trips_solve()
+    ensures { (tree : Tree) (plan : Plan) (s : StaticPhase) (pair : Pair) (x y : Point) → IsWellFormed tree → IsFit tree plan → Contains (phases_of tree plan.cut) s → Contains (pairs_of s s) pair → Meet tree (two_trips (length s.outer)) pair x y →
+        IsWholeSolution (trips_task tree plan s pair).system (values_of tree pair x y []) }
+{}
+
+/// Where the accesses of a pair meet in two phases, as at the level of the slot, and the first
+/// owner lies on the sides of a piece, outside the neighbours that are waited for and beside each
+/// producer, the values there solve the system of that piece.
+pub fn meeting_owners_solve()
+    ensures { (tree : Tree) (plan : Plan) (slot : Slot) (pair : Pair) (x y : Point) (left right : ℕ) (producers : List (Anchor × Side)) (q p : Holder) (os : List Holder) (piece : Piece) (n : ℕ) → IsWellFormed tree → IsFit tree plan →
+        Contains (phases_of tree plan.cut) slot.first → Contains (phases_of tree plan.cut) slot.second → Contains (pairs_of slot.first slot.second) pair → Meet tree (order_at (common slot.first.outer slot.second.outer) slot.level) pair x y →
+        AreHolders tree plan.workers pair x y ((anchor_at plan slot.s, of_first) ∷ (anchor_at plan slot.t, of_second) ∷ producers) (q ∷ p ∷ os) → LiesBeside piece.range (distance piece.range left right) q.owner p.owner → LiesAmong q.owner (map (λ (o : Holder). o.owner) os) piece.producers →
+        IsWholeSolution (piece_task tree plan slot left right producers pair n piece).system (values_of tree pair x y (holders_values (owners_of tree plan slot producers pair) (q ∷ p ∷ os))) }
 {}

@@ -3,7 +3,7 @@
 //! solution the plan orders all accesses that conflict.
 //!
 //! - [`obligation`]: an obligation with what it speaks of.
-//! - [`laws`]: which slots a kind's change changes.
+//! - [`laws`]: which slots a kind's change changes; what solves the systems.
 //!
 //! The definitions are in `specs/`: the accesses of a phase (`References`), which two conflict
 //! (`Pairs`), levels and the boundaries that are certain at one (`Levels`, `Boundaries`), what a
@@ -14,5 +14,5 @@
 pub mod laws;
 pub mod obligation;
 
-pub use laws::slots_see_certain_boundaries;
+pub use laws::{meeting_owners_solve, meeting_trips_solve, slots_see_certain_boundaries};
 pub use obligation::Obligation;

@@ -1,0 +1,79 @@
+-- The accesses of a pair are those of its phases, and the conditions of a plan that fits are good and met.
+use Rattle.std.proofs.Common.{◌≡◌, ℕ, ◌&&◌, ◌==◌, not, nat_le, Bool, true, false, cond, Option, Some, None, List, [], ◌∷◌, length, map, if◌then◌else◌, refl, sym, subst}
+use Rattle.std.specs.List.{AllByRecursion, Contains, filter, flat_map, list_all}
+use Rattle.std.proofs.lemmas.Bool.{and_parts}
+use Rattle.std.proofs.lemmas.List.{length-map}
+use Rattle.nest_tree.specs.Tree.{Constant, Tree, param_values}
+use Rattle.nest_tree.specs.WellFormed.{IsWellFormed, loops_of, scope_of}
+use Rattle.nest_model.proofs.Within.{none_parts}
+use Rattle.nest_rows.proofs.Nesting.{all-append, all-contained}
+use Rattle.owner_partition.specs.Placement.{unplaced}
+use Rattle.sync_plan.specs.declared.plan.Conditions.{Conditions}
+use Rattle.sync_plan.specs.declared.plan.Conditions.TheVariants.{Values, Rows}
+use Rattle.sync_plan.specs.declared.plan.Plan.{Plan}
+use Rattle.sync_plan.specs.declared.plan.Version.{Version}
+use Rattle.sync_plan.specs.Fit.{IsFit, Misfit, as_misfit, condition, misplaced_print, placed_anchors, placement, print_place, shape, unmet}
+use Rattle.sync_plan.specs.Shape.{are_good_anchors, are_good_conditions, are_good_kinds, are_marked_well, has_rows, is_good_row, static_phases, wrong_field}
+use Rattle.comm_system.specs.Pairs.{Pair, conflict, pairs_of}
+use Rattle.comm_system.specs.References.{Reference, StaticPhase, phases_of, references_of}
+use Rattle.owner_partition.specs.Marks.{enters_outer}
+use Rattle.comm_system.proofs.GoodReferences.{references_good}
+use Rattle.comm_system.proofs.Solved.{AreGoodConditions, IsGoodReference}
+
+seconds : (G : Reference → Type 0) (a : Reference) (p : Reference → Bool) (bs : List Reference) → G a → AllByRecursion G bs → AllByRecursion (λ (pair : Pair). G pair.first × G pair.second) (map (λ b. record { first = a; second = b }) (filter p bs))
+seconds G a p [] h all = tt
+seconds G a p (b ∷ bs) h all = by (p b) (seconds G a p bs h all.1)
+  where
+    by : (t : Bool) → AllByRecursion (λ (pair : Pair). G pair.first × G pair.second) (map (λ b. record { first = a; second = b }) (filter p bs)) →
+        AllByRecursion (λ (pair : Pair). G pair.first × G pair.second) (map (λ b. record { first = a; second = b }) (cond t (b ∷ filter p bs) (filter p bs)))
+    by true rest = ((h, all.0), rest)
+    by false rest = rest
+
+firsts : (G : Reference → Type 0) (xs bs : List Reference) → AllByRecursion G xs → AllByRecursion G bs → AllByRecursion (λ (pair : Pair). G pair.first × G pair.second) (flat_map (λ a. map (λ b. record { first = a; second = b }) (filter (conflict a) bs)) xs)
+firsts G [] bs h k = tt
+firsts G (a ∷ xs) bs h k =
+    let here : List Pair = map (λ b. record { first = a; second = b }) (filter (conflict a) bs) in
+    let later : List Pair = flat_map (λ a. map (λ b. record { first = a; second = b }) (filter (conflict a) bs)) xs in
+    all-append (λ (pair : Pair). G pair.first × G pair.second) here later (seconds G a (conflict a) bs h.0 k) (firsts G xs bs h.1 k)
+
+-- both accesses of a pair are good
+pub pair_good : (tree : Tree) (plan : Plan) (s t : StaticPhase) (pair : Pair) → IsWellFormed tree → Contains (phases_of tree plan.cut) s → Contains (phases_of tree plan.cut) t → Contains (pairs_of s t) pair →
+    IsGoodReference (length (param_values tree)) (scope_of tree).ranks pair.first × IsGoodReference (length (param_values tree)) (scope_of tree).ranks pair.second
+pair_good tree plan s t pair formed here there among =
+    let G = IsGoodReference (length (param_values tree)) (scope_of tree).ranks in
+    let all = references_good tree (enters_outer plan.cut) formed in
+    let of_s = all-contained (λ phase. AllByRecursion G (references_of phase)) (phases_of tree plan.cut) s all here in
+    let of_t = all-contained (λ phase. AllByRecursion G (references_of phase)) (phases_of tree plan.cut) t all there in
+    all-contained (λ (pair : Pair). G pair.first × G pair.second) (pairs_of s t) pair (firsts G (references_of s) (references_of t) of_s of_t) among
+
+-- ---- the conditions
+
+right_field : (b : Bool) (n : ℕ) (rest : Option ℕ) → (if not b then Some n else rest) ≡ None → (b ≡ true) × (rest ≡ None)
+right_field true n rest e = (refl, e)
+right_field false n rest e = absurd (cc)
+
+none_found : {A : Type 0} (why : A → Misfit) (found : Option A) → as_misfit why found ≡ None → found ≡ None
+none_found why None e = refl
+none_found why (Some a) e = absurd (cc)
+
+good_conditions : (constants : ℕ) (version : Version) (conditions : Conditions) → are_good_conditions constants version conditions ≡ true → AreGoodConditions constants conditions
+good_conditions constants version Values h = tt
+good_conditions constants version (Rows rows) h = (and_parts (has_rows version) (list_all (is_good_row constants) rows) h).1
+
+pub fit_conditions : (tree : Tree) (plan : Plan) → IsFit tree plan → AreGoodConditions (length (param_values tree)) plan.conditions × (unmet (param_values tree) plan.conditions ≡ None)
+fit_conditions tree plan fits =
+    let text = static_phases tree plan.cut in
+    let constants = length tree.params in
+    let first = none_parts (as_misfit shape (wrong_field tree plan)) _ fits in
+    let second = none_parts (as_misfit placement (unplaced tree plan.cut plan.workers (placed_anchors plan))) _ first.1 in
+    let third = none_parts (as_misfit print_place (misplaced_print 1 plan.cut text plan.anchors)) _ second.1 in
+    let none = none_found shape (wrong_field tree plan) first.0 in
+    let workers = right_field (nat_le 1 plan.workers && nat_le plan.workers 64) 1 _ none in
+    let marks = right_field (length plan.cut == loops_of tree.items) 2 _ workers.1 in
+    let marked = right_field (are_marked_well plan.cut false tree.items) 3 _ marks.1 in
+    let counts = right_field (length plan.anchors == length text && length plan.kinds == length text) 4 _ marked.1 in
+    let anchors = right_field (are_good_anchors constants plan.cut text plan.anchors) 5 _ counts.1 in
+    let kinds = right_field (are_good_kinds constants text plan.kinds) 6 _ anchors.1 in
+    let conditions = right_field (are_good_conditions constants plan.version plan.conditions) 8 None kinds.1 in
+    let as_many : constants ≡ length (param_values tree) = sym (length-map tree.params (λ (c : Constant). c.value)) in
+    (subst (λ n. AreGoodConditions n plan.conditions) as_many (good_conditions constants plan.version plan.conditions conditions.0), none_found condition (unmet (param_values tree) plan.conditions) third.1)
