@@ -48,7 +48,7 @@ placed-within texts n dimensions h = placed_after-within texts n dimensions (dim
 
 -- ---- an array that is there is a good one
 
-found_good : (arrays : List Array) (n : Name) → list_all is_good_array arrays ≡ true → IsTrue (list_any (λ m. bytes_eq m n) (map (λ (a : Array). a.name) arrays))
+pub found_good : (arrays : List Array) (n : Name) → list_all is_good_array arrays ≡ true → IsTrue (list_any (λ m. bytes_eq m n) (map (λ (a : Array). a.name) arrays))
     → is_good_array (record { name = n; bounds = bounds_named arrays n }) ≡ true
 found_good [] n h there = absurd cc
 found_good (a ∷ arrays) n h there = (let both = and_parts (is_good_array a) (list_all is_good_array arrays) h in by_test (bytes_eq a.name n) both.0 there (found_good arrays n both.1))

@@ -20,7 +20,7 @@ use Rattle.f77_source.proofs.Faultless.{both_empty, faultless, PassesNoLimit, pa
 
 -- ---- the bounds of arrays
 
-small : (z : ℤ) (zs : List ℤ) → past (z ∷ zs) ≡ [] → (is_small z ≡ true) × (past zs ≡ [])
+pub small : (z : ℤ) (zs : List ℤ) → past (z ∷ zs) ≡ [] → (is_small z ≡ true) × (past zs ≡ [])
 small z zs h = by_test (is_small z) refl h
   where
     by_test : (b : Bool) → is_small z ≡ b → (if not b then z ∷ past zs else past zs) ≡ [] → (is_small z ≡ true) × (past zs ≡ [])
@@ -52,7 +52,7 @@ good_bounds s (b ∷ bounds) h =
     and_from (is_good_dimension (low, high)) (list_all is_good_dimension (map (bounds_of s) bounds))
     (and_from (is_small low && is_small high) (int_le low high) (and_from (is_small low) (is_small high) first.0 second.0) (in_order low high parts.1)) (good_bounds s bounds all.1)
 
-within_count : (most count : ℕ) → counted most count ≡ [] → count ≤ most
+pub within_count : (most count : ℕ) → counted most count ≡ [] → count ≤ most
 within_count most count h = by_test (nat_lt most count) refl h
   where
     by_test : (b : Bool) → nat_lt most count ≡ b → (if b then pos count ∷ [] else []) ≡ [] → count ≤ most
@@ -100,13 +100,19 @@ fewer_open label (o ∷ opened) = by_test (o.label == label) (fewer_open label o
 -- named constants change nothing else
 pub record KeepsAllButConstants (s t : Scene) : Type 0 where
   pub count : t.count ≡ s.count
+  pub executes : t.executes ≡ s.executes
+  pub names : t.names ≡ s.names
+  pub arrays : t.arrays ≡ s.arrays
+  pub scalars : t.scalars ≡ s.scalars
+  pub loop_variables : t.loop_variables ≡ s.loop_variables
   pub loops : t.loops ≡ s.loops
   pub opened : t.opened ≡ s.opened
-  pub arrays : t.arrays ≡ s.arrays
 
 pub constants_alone : (given : Given) (s : Scene) (ds : List DefinitionForm) → KeepsAllButConstants s (with_constants given s ds)
-constants_alone given s [] = record { count = refl; loops = refl; opened = refl; arrays = refl }
-constants_alone given s (d ∷ ds) = (let k = constants_alone given (with_constant given s d) ds in record { count = k.count; loops = k.loops; opened = k.opened; arrays = k.arrays })
+constants_alone given s [] = record { count = refl; executes = refl; names = refl; arrays = refl; scalars = refl; loop_variables = refl; loops = refl; opened = refl }
+constants_alone given s (d ∷ ds) =
+    let k = constants_alone given (with_constant given s d) ds in
+    record { count = k.count; executes = k.executes; names = k.names; arrays = k.arrays; scalars = k.scalars; loop_variables = k.loop_variables; loops = k.loops; opened = k.opened }
 
 -- ---- a statement
 

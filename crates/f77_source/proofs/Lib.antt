@@ -13,3 +13,9 @@ pub mod Listed
 pub mod Declared
 pub mod Counted
 pub mod Valued
+pub mod Affined
+pub mod Treed
+pub mod Later
+pub mod Worked
+pub mod Nested
+pub mod Whole

@@ -34,7 +34,7 @@ fits_value (negsuc n) h = (let few : n ≤ 9223372036854775807 = omega (arith, i
 wrapped_value : (z : ℤ) → is_value (wrapped z) ≡ true
 wrapped_value z = fits_value (wrapped z) (SFits-int_wrap w64 z)
 
-number_value : (ds : List ℕ) → is_number ds ≡ true → is_value (pos (decimal ds)) ≡ true
+pub number_value : (ds : List ℕ) → is_number ds ≡ true → is_value (pos (decimal ds)) ≡ true
 number_value [] h = absurd cc
 number_value (d ∷ ds) h = (and_parts (is_digit d && list_all is_digit ds) (nat_le (decimal (d ∷ ds)) 9223372036854775807) h).1
 
@@ -66,7 +66,7 @@ binary_value Multiply a b = wrapped_value (a *ℤ b)
 binary_value Divide a b = wrapped_value (int_div a b)
 
 mutual
-  expression_value : (s : Scene) (r : Rank) (e : ExpressionForm) → is_expression r e ≡ true → list_all is_good_constant s.constants ≡ true → is_value (value_of s e) ≡ true
+  pub expression_value : (s : Scene) (r : Rank) (e : ExpressionForm) → is_expression r e ≡ true → list_all is_good_constant s.constants ≡ true → is_value (value_of s e) ≡ true
   expression_value s r (number ds) g h = number_value ds g
   expression_value s r (name n) g h = named_value s.constants n h
   expression_value s r (call n no_more) g h = refl
@@ -109,7 +109,7 @@ defined_values given s (d ∷ ds) vs g h =
     let one : list_all is_good_constant (c ∷ []) ≡ true = and_from (is_value z) true (set_value given.settings d.name (value_of s d.value) vs value) refl in
     defined_values given (with_constant given s d) ds vs both.1 (list_all-append is_good_constant s.constants (c ∷ []) ∙ and_from (list_all is_good_constant s.constants) (list_all is_good_constant (c ∷ [])) h one)
 
-behind_values : (given : Given) (s : Scene) (label : ℕ) (f : StatementForm) → AreValues given.settings → is_statement f ≡ true → list_all is_good_constant s.constants ≡ true
+pub behind_values : (given : Given) (s : Scene) (label : ℕ) (f : StatementForm) → AreValues given.settings → is_statement f ≡ true → list_all is_good_constant s.constants ≡ true
     → list_all is_good_constant (behind given s label f).constants ≡ true
 behind_values given s label (program n) vs g h = h
 behind_values given s label (integer ds) vs g h = h

@@ -3,7 +3,7 @@
 ghost use Rattle.std.specs.Prelude.{ℕ, ℤ, List, true, ◌≡◌, ◌<◌};
 ghost use Rattle.std.specs.List.{list_all};
 ghost use Rattle.nest_tree.specs.Tree.{Tree};
-ghost use Rattle.nest_tree.specs.WellFormed.{is_good_constant, is_good_declaration, is_value, most_statements, statement_count};
+ghost use Rattle.nest_tree.specs.WellFormed.{IsWellFormed, is_good_constant, is_good_declaration, is_value, most_statements, statement_count};
 ghost use Rattle.f77_scene.specs.Reading.{Reads};
 
 /// The variables of a program that bytes stand for are declared well: an array has one to three
@@ -23,4 +23,10 @@ pub fn statements_are_few()
 /// settings have.
 pub fn constants_are_values()
     ensures { (bytes : List ℕ) (settings : List (List ℕ × ℤ)) (program : Tree) → list_all (λ s. is_value s.1) settings ≡ true → Reads bytes settings program → list_all is_good_constant program.params ≡ true }
+{}
+
+/// The program that bytes stand for is well formed, where the settings have values of 64 bits:
+/// calls on programs take it as it is.
+pub fn programs_are_well_formed()
+    ensures { (bytes : List ℕ) (settings : List (List ℕ × ℤ)) (program : Tree) → list_all (λ s. is_value s.1) settings ≡ true → Reads bytes settings program → IsWellFormed program }
 {}

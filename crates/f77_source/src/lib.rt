@@ -13,7 +13,9 @@ mod tree;
 mod variable;
 mod walk;
 
-pub use laws::{constants_are_values, statements_are_few, variables_are_good};
+pub use laws::{
+    constants_are_values, programs_are_well_formed, statements_are_few, variables_are_good,
+};
 pub use reader::read_program;
 pub use source::Setting;
 

@@ -1,8 +1,9 @@
 // The program of a source.
 
-ghost use Rattle.std.specs.Prelude.{◌≡◌, ℕ, List, None, map, IfOk, IfErr};
+ghost use Rattle.std.specs.Prelude.{◌≡◌, ℕ, List, None, map, IfOk, IfErr, IsTrue, OnOk};
 ghost use Rattle.std.specs.Option.{option_map};
 ghost use Rattle.nest_tree.specs.View.{tree_of};
+ghost use Rattle.nest_tree.specs.WellFormed.{IsWellFormed};
 ghost use Rattle.f77_lines.specs.Listing.{Lists, entry_of};
 ghost use Rattle.f77_program.specs.Wholes.{given_of};
 ghost use Rattle.f77_scene.specs.Fault as scene;
@@ -10,7 +11,7 @@ ghost use Rattle.f77_scene.specs.Reading as reading;
 ghost use Rattle.f77_scene.specs.Scene.{first_scene, constant_names};
 ghost use Rattle.f77_scene.specs.Trees.{first_body};
 ghost use Rattle.f77_source.specs.Answers as answers;
-ghost use Rattle.f77_source.specs.Sources.{setting_of, source_of};
+ghost use Rattle.f77_source.specs.Sources.{are_values, setting_of, source_of};
 ghost use Rattle.f77_source.specs.Limits.{KeepsLimits};
 
 use crate::check::check;
@@ -35,6 +36,8 @@ pub fn read_program(alloc: Global, lines: &[Line], settings: &[Setting]) -> Resu
     ensures refused { IfErr result (answers.Refuses (reading.first_fault_in (map entry_of lines.now) (map setting_of settings.now))) }
     // The same of the bytes that list it: what is read is their program.
     ensures reads { (bytes : List ℕ) (rest : ℕ) → Lists bytes (map entry_of lines.now) rest → IfOk result (λ p. reading.Reads bytes (map setting_of settings.now) (tree_of p)) }
+    // And that program is well formed, as calls on programs ask.
+    ensures formed { (bytes : List ℕ) (rest : ℕ) → Lists bytes (map entry_of lines.now) rest → IfOk result (λ p. IsWellFormed (tree_of p)) }
     ensures first_fault { (bytes : List ℕ) (rest : ℕ) → Lists bytes (map entry_of lines.now) rest → IfErr result (answers.Refuses (reading.first_fault bytes (map setting_of settings.now))) }
 {
     read(alloc, lines, settings)
@@ -43,6 +46,7 @@ pub fn read_program(alloc: Global, lines: &[Line], settings: &[Setting]) -> Resu
 fn read(alloc: Global, lines: &[Line], settings: &[Setting]) -> Result<Program, Refusal>
     ensures program { IfOk result (λ p. answers.IsProgram (map entry_of lines.now) (map setting_of settings.now) (tree_of p)) }
     ensures refused { IfErr result (answers.Refuses (reading.first_fault_in (map entry_of lines.now) (map setting_of settings.now))) }
+    ensures values { OnOk result (IsTrue (are_values (map setting_of settings.now))) }
 {
     let sources = sources_in(alloc, lines)?;
     let whole = whole_of(alloc, &sources, settings)?;

@@ -1,6 +1,6 @@
 // The statements of a source with their forms, and the settings.
 
-ghost use Rattle.std.specs.Prelude.{◌≡◌, ◌++◌, [], ◌∷◌, map, IfOk, OnOk};
+ghost use Rattle.std.specs.Prelude.{◌≡◌, ◌++◌, [], ◌∷◌, map, IfOk, OnOk, IsTrue};
 ghost use Rattle.std.specs.List.{flat_map};
 ghost use Rattle.f77_forms.specs.View as view;
 ghost use Rattle.f77_lines.specs.Listing.{entry_of};
@@ -81,7 +81,8 @@ pub fn whole_of(
     sources: &[Source],
     settings: &[Setting],
 ) -> Result<Whole, AllocError>
-    ensures { IfOk result (λ whole. given_of whole ≡ reading.given_with (map spec.source_of sources.now) (map spec.setting_of settings.now)) }
+    ensures given { IfOk result (λ whole. given_of whole ≡ reading.given_with (map spec.source_of sources.now) (map spec.setting_of settings.now)) }
+    ensures values { OnOk result (IsTrue (spec.are_values (map spec.setting_of settings.now))) }
 {
     let integers = integers_among(alloc, sources)?;
     let settings = last_first(alloc, settings)?;
@@ -90,7 +91,8 @@ pub fn whole_of(
 
 /// The settings, the last one first.
 fn last_first(alloc: Global, settings: &[Setting]) -> Result<Constants, AllocError>
-    ensures { IfOk result (λ constants. settings_of constants ≡ map spec.setting_of settings.now) }
+    ensures settings { IfOk result (λ constants. settings_of constants ≡ map spec.setting_of settings.now) }
+    ensures values { OnOk result (IsTrue (spec.are_values (map spec.setting_of settings.now))) }
 {
     let mut constants = Constants::new(alloc);
     for place in (0..settings.len()).rev() {
