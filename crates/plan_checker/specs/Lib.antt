@@ -1,3 +1,6 @@
 pub mod Refusals
 pub mod Named
 pub mod Worked
+pub mod Accepted
+pub mod Failures
+pub mod RefusalText

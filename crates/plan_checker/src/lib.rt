@@ -2,6 +2,7 @@
 //!
 //! - [`refusal`]: why a plan is refused, with the lines that are printed.
 //! - [`fit`]: whether a plan fits a program.
+//! - [`laws`]: a plan is accepted exactly where it has no failure.
 //! - `shape`, `marks`, `anchors`, `conditions`: the fields of its shape.
 //! - `places`: where its anchors lie, and who prints.
 #![tactic(auto)]
@@ -9,12 +10,11 @@
 mod anchors;
 mod conditions;
 pub mod fit;
+pub mod laws;
 mod marks;
 mod places;
 pub mod refusal;
 mod shape;
-#[cfg(test)]
-mod tests;
 
 pub use fit::check_fit;
 pub use refusal::PlanRefusal;
