@@ -3,4 +3,3 @@ pub mod Wanted
 pub mod Refusals
 pub mod Plain
 pub mod Settings
-pub mod SettingViews

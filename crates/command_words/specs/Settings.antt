@@ -26,17 +26,17 @@ abbrev pub is_equals : ℕ → Bool
 is_equals c = c == 61
 
 -- a name, its letters as capitals, with its value, behind the first `=`
-abbrev pub setting_of : Text → Option (Text × ℤ)
-setting_of t = if is_name (before_first is_equals t) then option_map (λ z. (map to_ascii_uppercase (before_first is_equals t), z)) (value_of (after_first is_equals t)) else None
+abbrev pub setting_at : Text → Option (Text × ℤ)
+setting_at t = if is_name (before_first is_equals t) then option_map (λ z. (map to_ascii_uppercase (before_first is_equals t), z)) (value_of (after_first is_equals t)) else None
 
 -- the first word, by its number from this one on, that is no setting
 abbrev pub first_fault_from : ℕ → List Text → Option ℕ
 first_fault_from n [] = None
-first_fault_from n (t ∷ ts) = if is_some (setting_of t) then first_fault_from (suc n) ts else Some n
+first_fault_from n (t ∷ ts) = if is_some (setting_at t) then first_fault_from (suc n) ts else Some n
 
 -- the settings of words, without those that are none
 abbrev pub settings_in : List Text → List (Text × ℤ)
-settings_in words = filter_map setting_of words
+settings_in words = filter_map setting_at words
 
 -- A word is named exactly where it is the first that is no setting.
 abbrev pub IsSettingFault : List Text → SettingFault → Type 0

@@ -13,7 +13,7 @@ mod settings;
 
 pub use crate::read::read_words;
 pub use crate::request::{PlanChoice, Refused, Request};
-pub use crate::settings::{Setting, SettingFault, read_settings};
+pub use crate::settings::{SettingFault, read_settings};
 
 #[cfg(test)]
 mod tests;

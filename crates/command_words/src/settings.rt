@@ -4,19 +4,12 @@ ghost use Rattle.std.specs.Prelude.{◌≡◌, ◌++◌, ◌+◌, None, take, ma
 ghost use Rattle.std.specs.Char.{is_ascii_alphanumeric, to_ascii_uppercase};
 ghost use Rattle.std.specs.List.{list_all};
 ghost use Rattle.clap.specs.Walk.{texts};
-ghost use Rattle.command_words.specs.SettingViews.{setting_view};
-ghost use Rattle.command_words.specs.Settings.{is_name as names, value_of, setting_of, settings_in, first_fault_from, IsSettingFault};
+ghost use Rattle.f77_source.specs.Sources.{setting_of};
+ghost use Rattle.command_words.specs.Settings.{is_name as names, value_of, setting_at, settings_in, first_fault_from, IsSettingFault};
 ghost use Rattle.command_words.specs.declared.settings.SettingFault.TheVariants.{NoMemory};
 
+use f77_source::Setting;
 use std::alloc::{AllocError, AllocFailed, Global};
-
-/// A value for a named constant.
-#[derive(Debug, Drop)]
-pub struct Setting {
-    /// In capitals.
-    pub name: Vec<u8>,
-    pub value: i64,
-}
 
 /// Why words are no settings.
 #[derive(Clone, Copy, Debug, PartialEq, Eq)]
@@ -50,7 +43,7 @@ impl<T: Drop> From<AllocFailed<T>> for SettingFault {
 ///
 /// `Word` exactly where a word is of another form; `NoMemory` may stand in place of any answer.
 pub fn read_settings(alloc: Global, words: &[&str]) -> Result<Vec<Setting>, SettingFault>
-    ensures read { IfOk result (λ settings. (first_fault_from 1 (texts words.now) ≡ None) × (map setting_view settings.items ≡ settings_in (texts words.now))) }
+    ensures read { IfOk result (λ settings. (first_fault_from 1 (texts words.now) ≡ None) × (map setting_of settings.items ≡ settings_in (texts words.now))) }
     ensures refused { IfErr result (IsSettingFault (texts words.now)) }
 {
     let mut settings = Vec::new(alloc);
@@ -64,7 +57,7 @@ pub fn read_settings(alloc: Global, words: &[&str]) -> Result<Vec<Setting>, Sett
 }
 
 fn setting_in(alloc: Global, word: &str) -> Result<Option<Setting>, AllocError>
-    ensures { IfOk result (λ setting. option_map setting_view setting ≡ setting_of word.now) }
+    ensures { IfOk result (λ setting. option_map setting_of setting ≡ setting_at word.now) }
 {
     let Some((name, value)) = word.split_once('=') else {
         return Ok(None);

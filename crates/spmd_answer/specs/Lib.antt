@@ -1,3 +1,4 @@
 pub mod Due
 pub mod Faults
+pub mod Statuses
 pub mod Stops

@@ -1,7 +1,8 @@
 // The statements of a source.
 
 ghost use Rattle.std.specs.Prelude.{◌≡◌, ◌≤◌, None, IfErr, IfOk, length, map};
-ghost use Rattle.f77_lines.specs.Listing.{entries_of, entry_of};
+ghost use Rattle.f77_lines.specs.Columns as columns;
+ghost use Rattle.f77_lines.specs.Listing.{Lists, entry_of, size_to_end};
 ghost use Rattle.spmd_answer.specs.Due.{due_of_lines};
 ghost use Rattle.spmd_answer.specs.Stops.{IsStop};
 
@@ -18,7 +19,7 @@ use std::alloc::Global;
 /// no comment; `NoMemory` may stand in place of any answer.
 pub fn lines_of(alloc: Global, bytes: &[u8]) -> Result<Vec<Line>, Stop>
     requires short { length bytes.now ≤ MOST_BYTES }
-    ensures listed { IfOk result (λ lines. map entry_of lines.items ≡ entries_of bytes.now) }
+    ensures lists { IfOk result (λ lines. Lists bytes.now (map entry_of lines.items) (size_to_end (columns.lines_of bytes.now))) }
     ensures none { IfOk result (λ lines. due_of_lines bytes.now ≡ None) }
     ensures refused { IfErr result (IsStop (due_of_lines bytes.now)) }
 {

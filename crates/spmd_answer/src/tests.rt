@@ -1,0 +1,309 @@
+// Sources and requests with what is due for them; what no clause says is that memory is not
+// refused where there is enough.
+
+ghost use Rattle.command_words.specs.Wanted.{IsCounted, wanted};
+
+use crate::{Answer, Status, answer_to};
+use command_words::{PlanChoice, Request};
+use f77_lines::MOST_BYTES;
+use f77_source::Setting;
+use std::alloc::{AllocError, Global};
+use std::fmt::Write;
+use std::test::Fail;
+
+/// A sequential run where there are no workers, else a run by the plan with barriers.
+fn request_of(alloc: Global, workers: u32) -> Request<'static>
+    ensures { IsCounted (wanted result) }
+{
+    if workers == 0 {
+        Request::Sequential(Vec::new(alloc))
+    } else {
+        Request::Run(workers.min(64), PlanChoice::Barrier, Vec::new(alloc))
+    }
+}
+
+fn answer_of(
+    alloc: Global,
+    source: &[u8],
+    workers: u32,
+    settings: &[Setting],
+) -> Result<Answer, AllocError> {
+    if source.len() > MOST_BYTES {
+        return Err(AllocError);
+    }
+    let request = request_of(alloc, workers);
+    answer_to(alloc, &request, settings, source)
+}
+
+fn source_of(alloc: Global, lines: &[&str]) -> Result<String, AllocError> {
+    let mut source = String::new(alloc);
+    for line in lines {
+        write!(source, "{line}\n")?;
+    }
+    Ok(source)
+}
+
+#[test]
+fn requests_are_answered(rt: HostRuntime) -> Result<(), Fail> {
+    let alloc = rt.alloc();
+    let rows: [(u32, &[&str], Status, &str); 18] = [
+        (
+            1,
+            &["      PROGRAM E", "      END"],
+            Status::Done,
+            "SPMD PLAN 2\nWORKERS 1\nLOOPS 0\nPHASES 0\nCERTIFICATES 0\nEND PLAN\n",
+        ),
+        (
+            2,
+            &[
+                "      PROGRAM ONE",
+                "      K = 20",
+                "      K = K*2 + 2",
+                "      PRINT *, 'K', K",
+                "      END",
+            ],
+            Status::Done,
+            "SPMD PLAN 2\nWORKERS 2\nLOOPS 0\nPHASES 3\n1 BARRIER AT 0 CYCLIC\n2 BARRIER AT 0 CYCLIC\n3 BARRIER AT 0 CYCLIC\nCERTIFICATES 0\nEND PLAN\n K 42\n",
+        ),
+        (
+            2,
+            &[
+                "      DO 20 I = 1, 3",
+                "      K = K + I",
+                "      DO 10 J = I, 3",
+                "   10 L = L + K*J",
+                "   20 CONTINUE",
+                "      PRINT *, K, L",
+                "      END",
+            ],
+            Status::Done,
+            "SPMD PLAN 2\nWORKERS 2\nLOOPS 2\n1 OUTER\n2 SINGLE\nPHASES 3\n1 BARRIER AT 0 CYCLIC\n2 BARRIER AT 0 CYCLIC\n3 BARRIER AT 0 CYCLIC\nCERTIFICATES 0\nEND PLAN\n 6 39\n",
+        ),
+        (
+            0,
+            &[
+                "      PROGRAM JACOBI",
+                "      INTEGER N, M",
+                "      PARAMETER (N=8, M=2)",
+                "      INTEGER A(0:N+1), B(0:N+1)",
+                "      A(0) = 16",
+                "      DO 30 IT = 1, M",
+                "      DO 10 I = 1, N",
+                "   10 B(I) = (A(I-1)+A(I+1))/2",
+                "      DO 20 I = 1, N",
+                "   20 A(I) = B(I)",
+                "   30 CONTINUE",
+                "      PRINT *, A(1), A(2), A(3)",
+                "      END",
+            ],
+            Status::Done,
+            " 8 4 0\n",
+        ),
+        (
+            0,
+            &[
+                "      INTEGER A(0:1,2)",
+                "      A(1,2) = MAX(3,5,4)",
+                "      PRINT *, A, MIN(2,-1)",
+                "      END",
+            ],
+            Status::Done,
+            " 0 0 0 5 -1\n",
+        ),
+        (
+            0,
+            &[
+                "      PRINT *, -7/2",
+                "      PRINT *, (-9223372036854775807-1)/(-1)",
+                "      PRINT *, 9223372036854775807+1",
+                "      PRINT *",
+                "      PRINT *, 'It''s'",
+                "      END",
+            ],
+            Status::Done,
+            " -3\n -9223372036854775808\n -9223372036854775808\n\n It's\n",
+        ),
+        (
+            0,
+            &[
+                "      INTEGER A(8)",
+                "      DO 10 I = 1, 8",
+                "   10 IF (I.GT.1) A(I) = A(I-1) + 1",
+                "      PRINT *, A(8)",
+                "      END",
+                "C behind END",
+            ],
+            Status::Done,
+            " 7\n",
+        ),
+        (
+            0,
+            &[
+                "      INTEGER A(8)",
+                "      DO 10 I = 1, 8",
+                "   10 A(I) = A(I-1) + 1",
+                "      END",
+            ],
+            Status::SourceRefused,
+            "REFUSED S1 LINE 3 DIMENSION 1 VALUE 0 BOUND 1\n",
+        ),
+        (2, &[], Status::SourceRefused, "REFUSED L4 LINE 1\n"),
+        (
+            0,
+            &["      K = 1", "      END", "      K = 2"],
+            Status::SourceRefused,
+            "REFUSED L5 LINE 3\n",
+        ),
+        (
+            0,
+            &["      X = 1", "      END", "      K = 2"],
+            Status::SourceRefused,
+            "REFUSED L5 LINE 3\n",
+        ),
+        (
+            2,
+            &["      IF (K.EQ.0) K = 1", "      END"],
+            Status::SourceRefused,
+            "REFUSED F6 LINE 1\n",
+        ),
+        (
+            0,
+            &["      INTEGER A(1,1,1,1)", "      END"],
+            Status::SourceRefused,
+            "REFUSED F12 LINE 1 COUNT 4\n",
+        ),
+        (
+            0,
+            &[
+                "      INTEGER A(8)",
+                "      DO 10 I = 1, 2147483647",
+                "   10 A(I+1) = 0",
+                "      END",
+            ],
+            Status::SourceRefused,
+            "REFUSED X1 LINE 3 END 2147483648\n",
+        ),
+        (
+            0,
+            &[
+                "      DO 10 I = 1, 2000000",
+                "      DO 10 J = 1, 2000000",
+                "   10 K = K+1",
+                "      END",
+            ],
+            Status::SourceRefused,
+            "REFUSED X2 WORK 4000002000001\n",
+        ),
+        (
+            0,
+            &["      INTEGER A(1024,1024), B(1)", "      END"],
+            Status::SourceRefused,
+            "REFUSED X3 CELLS 1048577\n",
+        ),
+        (
+            0,
+            &[
+                "      INTEGER A(1024,1024), B(1)",
+                "      B(2) = 0",
+                "      END",
+            ],
+            Status::SourceRefused,
+            "REFUSED X3 CELLS 1048577\n",
+        ),
+        (
+            0,
+            &[
+                "      INTEGER A(8)",
+                "      DO 10 I = 1, 2",
+                "   10 A(2147483647*I) = 0",
+                "      END",
+            ],
+            Status::SourceRefused,
+            "REFUSED X1 LINE 3 END 4294967294\n",
+        ),
+    ];
+    for (workers, lines, status, text) in rows {
+        let source = source_of(alloc, lines)?;
+        let answer = answer_of(alloc, source.as_bytes(), workers, &[])?;
+        assert_eq!(rt; answer.status, status);
+        assert_eq!(rt; answer.text.as_slice(), text.as_bytes());
+    }
+    Ok(())
+}
+
+#[test]
+fn settings_count(rt: HostRuntime) -> Result<(), Fail> {
+    let alloc = rt.alloc();
+    let rows: [(&[u8], i64, &str, Status, &str); 5] = [
+        (b"M", 3, "K", Status::Done, " 8\n"),
+        (b"M", 6, "K", Status::Done, " 2\n"),
+        (b"M", 2, "K", Status::SourceRefused, "REFUSED F8 LINE 2\n"),
+        (b"Q", 1, "K", Status::BadWords, "WORDS 1\n"),
+        (b"Q", 1, "X", Status::SourceRefused, "REFUSED F3 LINE 3\n"),
+    ];
+    for (name, value, printed, status, text) in rows {
+        let setting = Setting {
+            name: Vec::from_slice(alloc, name)?,
+            value,
+        };
+        let source = format!(in alloc;
+            "      PARAMETER (M=3)\n      K = 8/(M-2)\n      PRINT *, {printed}\n      END\n"
+        )?;
+        let settings = vec![in alloc; setting]?;
+        let answer = answer_of(alloc, source.as_bytes(), 0, &settings)?;
+        assert_eq!(rt; answer.status, status);
+        assert_eq!(rt; answer.text.as_slice(), text.as_bytes());
+    }
+    Ok(())
+}
+
+/// As many statements as a program may have, with as many named constants as settings.
+fn many_statements(alloc: Global) -> Result<String, AllocError> {
+    let mut source = String::new(alloc);
+    for number in 0..199 {
+        write!(source, "      PARAMETER (N{number} = {number})\n")?;
+    }
+    for number in 0..199 {
+        write!(source, "      K{number} = N{number} + 1\n")?;
+    }
+    source.push_str("      PRINT *, K198\n      END\n")?;
+    Ok(source)
+}
+
+/// A setting for each named constant.
+fn many_settings(alloc: Global) -> Result<Vec<Setting>, AllocError> {
+    let mut settings = Vec::new(alloc);
+    for number in 0..199 {
+        let name = format!(in alloc; "N{number}")?;
+        settings.push(Setting {
+            name: name.into_bytes(),
+            value: 1000,
+        })?;
+    }
+    Ok(settings)
+}
+
+/// A large array that is printed whole, behind comment lines that fill the source.
+fn large(alloc: Global) -> Result<String, AllocError> {
+    let mut source = String::new(alloc);
+    for _ in 0..2_097_000 {
+        source.push_str("C\n")?;
+    }
+    source.push_str(
+        "      INTEGER A(30000)\n      DO 10 I = 1, 30000\n   10 A(I) = -I\n      PRINT *, A\n      END\n",
+    )?;
+    Ok(source)
+}
+
+#[test]
+fn long_sources_are_answered(rt: HostRuntime) -> Result<(), Fail> {
+    let alloc = rt.alloc();
+    let settings = many_settings(alloc)?;
+    let answer = answer_of(alloc, many_statements(alloc)?.as_bytes(), 64, &settings)?;
+    assert_eq!(rt; answer.status, Status::Done);
+    assert!(rt; answer.text.ends_with(b"\nEND PLAN\n 1001\n"));
+    let answer = answer_of(alloc, large(alloc)?.as_bytes(), 3, &[])?;
+    assert_eq!(rt; answer.status, Status::Done);
+    assert!(rt; answer.text.ends_with(b" -29999 -30000\n"));
+    Ok(())
+}
