@@ -1,29 +1,83 @@
--- How the top call ends, from how it wrote.
-use Rattle.std.proofs.Common.{◌≡◌, ◌≢◌, ℕ, true, false, List, Option, ap, sym, subst, ◌∙◌}
+-- How the top call ends, from its answer and how it was written.
+use Rattle.std.proofs.Common.{◌≡◌, ◌≢◌, ℕ, true, false, List, [], Option, Some, None, ◌⊎◌, inl, inr, ap, sym, subst, ◌∙◌, refl}
 use Rattle.std.specs.Io.KnownBytes.{Appends}
-use Rattle.spmd_tool.specs.Words.{AreRunWords}
-use Rattle.spmd_tool.specs.Due.{IsDue, run, IsDueForRun, is_said}
-use Rattle.spmd_tool.specs.Outside.{AreTold, WritesPart}
-use Rattle.spmd_tool.specs.Written.{WritesDue, WritesPartOfDue}
-use Rattle.spmd_tool.specs.declared.status.Status.{Status}
-use Rattle.spmd_tool.specs.declared.status.Status.TheVariants.{WriteFault}
+use Rattle.clap.specs.Words.{Text}
+use Rattle.command_words.specs.Wanted.{Wanted}
+use Rattle.spmd_answer.specs.Due.{Due}
+use Rattle.spmd_answer.specs.declared.status.Status.{Status}
+use Rattle.spmd_answer.specs.declared.status.Status.TheVariants.{Done, SourceRefused, BadWords, ReadFault, WriteFault, NoMemory, TooLong}
+use Rattle.spmd_tool.specs.Due.{AreWrong, AskFor, IsDue, IsRunnable, asked, due_for, is_said, settings_of}
+use Rattle.spmd_tool.specs.Outside.{WhereTold}
+use Rattle.spmd_tool.specs.Written.{IsDueFrom, WritesDue, WritesRun}
+use Rattle.spmd_tool.proofs.Dues.{asked-due, one_status, refused-asks, request-done, request-runs, request-unnamed, wrong-due}
+use Rattle.spmd_tool.proofs.Told.{at_told}
 
 not_fault : (r : Status) → is_said r ≡ true → r ≢ WriteFault
 not_fault r h e = let f : false ≡ true = sym (ap is_said e) ∙ h in cc
 
--- due for a run, with an equal text
-pub run-due : (words : List (List ℕ)) (workers : ℕ) (bytes : List ℕ) (status : Status) (text that : List ℕ) → AreRunWords words workers → IsDueForRun workers bytes status text → that ≡ text → IsDue words bytes status that
-run-due words workers bytes status text that are due e = run workers are (subst (IsDueForRun workers bytes status) (sym e) due)
+abbrev due : Status → List ℕ → Due
+due status text = record { status = status; text = text }
+
+-- an answer with an equal status and an equal text
+same_due : (words : List Text) (told : Option (List ℕ)) (status s : Status) (text t : List ℕ) → IsDueFrom words told (due status text) → s ≡ status → t ≡ text → IsDueFrom words told (due s t)
+same_due words told status s text t is p q = subst (λ (x : Status). IsDueFrom words told (due x t)) (sym p) (subst (λ (y : List ℕ). IsDueFrom words told (due status y)) (sym q) is)
 
 -- a due text that was said
-pub said-due : (words : List (List ℕ)) (told : Option (List ℕ)) (bytes : List ℕ) (status r : Status) (text : List ℕ) (a b : Option (List ℕ))
-    → AreTold told bytes → IsDue words bytes status text → (r ≢ WriteFault → r ≡ status) → (r ≢ WriteFault → Appends a b text) → is_said r ≡ true → WritesDue words told r a b
-said-due words told bytes status r text a b are due outcome said h =
+said-due : (words : List Text) (told : Option (List ℕ)) (status r : Status) (text t : List ℕ) (a b : Option (List ℕ))
+    → IsDueFrom words told (due status text) → t ≡ text → (r ≢ WriteFault → r ≡ status) → (r ≢ WriteFault → Appends a b t) → is_said r ≡ true → WritesDue words told r a b
+said-due words told status r text t a b is e outcome said h =
     let fine = not_fault r h in
-    record { bytes = bytes; told = are; text = text; due = subst (λ s. IsDue words bytes s text) (sym (outcome fine)) due; written = said fine }
+    record { text = t; due = same_due words told status r text t is (outcome fine) e; written = said fine }
 
--- a part of it, where a write failed
-pub part-due : (words : List (List ℕ)) (told : Option (List ℕ)) (bytes : List ℕ) (status r : Status) (text : List ℕ) (a b : Option (List ℕ))
-    → AreTold told bytes → IsDue words bytes status text → (r ≡ WriteFault → WritesPart a b text) → r ≡ WriteFault → WritesPartOfDue words told a b
-part-due words told bytes status r text a b are due part h =
-    record { bytes = bytes; told = are; status = status; text = text; due = due; written = part h }
+-- what was written with status 0 is what the run writes
+run-due : (words : List Text) (w : Wanted) (told a b : Option (List ℕ)) → AskFor words w → WritesDue words told Done a b → WritesRun w told a b
+run-due words w told a b ask wrote =
+    let bytes = wrote.due.bytes in
+    let e = asked-due words bytes w (due Done wrote.text) ask.takes wrote.due.is_due in
+    let run = request-done w bytes (ap (λ d. d.status) (sym e)) in
+    record {
+      bytes = bytes;
+      told = wrote.due.told;
+      runnable = run.runnable;
+      written = subst (λ (t : List ℕ). Appends a b t) (ap (λ d. d.text) e ∙ run.text_is) wrote.written;
+    }
+
+pub run-said : (words : List Text) (told : Option (List ℕ)) (status r : Status) (text t : List ℕ) (w : Wanted) (a b : Option (List ℕ))
+    → IsDueFrom words told (due status text) → t ≡ text → (r ≢ WriteFault → r ≡ status) → (r ≢ WriteFault → Appends a b t) → AskFor words w → r ≡ Done → WritesRun w told a b
+run-said words told status r text t w a b is q outcome said ask e =
+    run-due words w told a b ask (subst (λ (s : Status). WritesDue words told s a b) e (said-due words told status r text t a b is q outcome said (ap is_said e)))
+
+-- the status that is due
+pub status-exact : (words : List Text) (told : Option (List ℕ)) (d : Due) (r : Status) (P : Status → Status → Type 0) → IsDueFrom words told d → ((s : Status) → s ≡ d.status → P s r) → WhereTold told (λ bytes. (e : Due) → IsDue words bytes e → P e.status r)
+status-exact words told d r P is p = at_told told is.bytes _ is.told (λ e due. p e.status (one_status words is.bytes e d due is.is_due))
+
+-- so with a source that may be run
+pub where_runnable : (words : List Text) (told : Option (List ℕ)) (r : Status) (P : Status → Status → Type 0) → WhereTold told (λ bytes. (e : Due) → IsDue words bytes e → P e.status r)
+    → WhereTold told (λ bytes. (w : Wanted) → AskFor words w → IsRunnable w bytes → P Done r)
+where_runnable words None r P h = tt
+where_runnable words (Some bytes) r P h =
+    λ w ask runnable. subst (λ (s : Status). P s r) (request-runs w bytes ask.settings_are runnable) (h (due_for w bytes) (asked w ask.takes refl))
+
+pub where_each : (told : Option (List ℕ)) (P : List ℕ → Type 0) → ((bytes : List ℕ) → P bytes) → WhereTold told P
+where_each None P h = tt
+where_each (Some bytes) P h = h bytes
+
+pub from-wrong : (words : List Text) (told : Option (List ℕ)) (d : Due) → IsDueFrom words told d → AreWrong words → d.status ≡ BadWords
+from-wrong words told d is wrong = wrong-due words is.bytes d wrong is.is_due
+
+pub from-refused : (words : List Text) (told : Option (List ℕ)) (d : Due) → IsDueFrom words told d → d.status ≡ SourceRefused → (w : Wanted) × AskFor words w
+from-refused words told d is e = refused-asks words is.bytes d is.is_due e
+
+pub from-unnamed : (words : List Text) (told : Option (List ℕ)) (d : Due) (w : Wanted) → IsDueFrom words told d → AskFor words w → settings_of w ≡ [] → d.status ≢ BadWords
+from-unnamed words told d w is ask none e =
+    request-unnamed w is.bytes none (ap (λ x. x.status) (sym (asked-due words is.bytes w d ask.takes is.is_due)) ∙ e)
+
+-- the status that was found, or that a write failed
+pub said_or_fault : (r s : Status) → (r ≢ WriteFault → r ≡ s) → (r ≡ s) ⊎ ((r ≡ WriteFault) ⊎ (r ≡ NoMemory))
+said_or_fault WriteFault s h = inr (inl refl)
+said_or_fault Done s h = inl (h (λ e. absurd (cc)))
+said_or_fault SourceRefused s h = inl (h (λ e. absurd (cc)))
+said_or_fault BadWords s h = inl (h (λ e. absurd (cc)))
+said_or_fault ReadFault s h = inl (h (λ e. absurd (cc)))
+said_or_fault NoMemory s h = inl (h (λ e. absurd (cc)))
+said_or_fault TooLong s h = inl (h (λ e. absurd (cc)))

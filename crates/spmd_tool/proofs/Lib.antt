@@ -1,8 +1,5 @@
-pub mod Asking
-pub mod Commands
-pub mod Decimals
+pub mod Answering
 pub mod Dues
 pub mod Endings
-pub mod Lengths
 pub mod Told
 pub mod Writing

@@ -1,41 +1,65 @@
--- What is due for a command: the status and the text, from the words and the bytes of the source alone.
-use Rattle.std.specs.Prelude.{ℕ, ◌≡◌, ◌≤◌, ◌<◌, ◌⊎◌, Bool, true, false, List, ◌++◌, length, codes}
-use Rattle.std.specs.Fmt.{decimal}
-use Rattle.nest_tree.specs.Tree.{Tree}
-use Rattle.nest_model.specs.Memory.{output_of}
-use Rattle.f77_reader.specs.Straight.{Reads, FirstFault}
-use Rattle.spmd_core.specs.Barriers.{barrier_plan}
-use Rattle.spmd_tool.specs.declared.status.Status.{Status}
-use Rattle.spmd_tool.specs.declared.status.Status.TheVariants.{Done, SourceRefused, BadWords, ReadFault, WriteFault, NoMemory, TooLong}
-use Rattle.spmd_tool.specs.PlanText.{line, plan_text}
-use Rattle.spmd_tool.specs.Words.{AreRunWords, AreOthers}
+-- What is due for a command: the status and the text, from its words and the bytes of the source alone.
+use Rattle.std.specs.Prelude.{ℕ, ℤ, ◌≡◌, ◌≤◌, ◌⊎◌, Bool, true, false, List, length, codes, Option, Some, None, nat_lt, if◌then◌else◌}
+use Rattle.f77_scene.specs.Scene.{Name}
+use Rattle.clap.specs.Words.{Text}
+use Rattle.command_words.specs.Settings.{first_fault_from, settings_in}
+use Rattle.command_words.specs.Wanted.{Wanted, sequential, run, Takes, AreFaulty, asks_to_show}
+use Rattle.spmd_answer.specs.Due.{Due, line, due_of, due_of_refusal, wrong_setting}
+use Rattle.spmd_answer.specs.declared.status.Status.{Status}
+use Rattle.spmd_answer.specs.declared.status.Status.TheVariants.{Done, SourceRefused, BadWords, ReadFault, WriteFault, NoMemory, TooLong}
 
 -- the most bytes of a source
 abbrev pub most_bytes : ℕ
 most_bytes = 4194304
 
--- what a run writes: the plan with a barrier in front of each statement, and then the sequential output
-abbrev pub run_text : ℕ → Tree → List ℕ
-run_text workers tree = plan_text (barrier_plan workers tree) ++ output_of tree
+-- the words of a request that are to be settings
+abbrev pub settings_of : Wanted → List Text
+settings_of (sequential settings) = settings
+settings_of (run workers plan settings) = settings
 
--- the line of a source that is refused at this line
-abbrev pub refused_text : ℕ → List ℕ
-refused_text n = line (codes "REFUSED F2 LINE " ++ decimal n)
+-- due with a source of too many bytes
+abbrev pub too_long : Due
+too_long = record { status = TooLong; text = line (codes "TOO LONG") }
 
--- due for a run on so many workers, from the source's bytes: with 0 the run of the program that they stand for, with 1 their first fault, with 7 that they are too many
-abbrev pub IsDueForRun : ℕ → List ℕ → Status → List ℕ → Type 0
-IsDueForRun workers bytes Done text = (tree : Tree) × Reads bytes tree × (text ≡ run_text workers tree)
-IsDueForRun workers bytes SourceRefused text = (n : ℕ) × FirstFault bytes n × (length bytes ≤ most_bytes) × (text ≡ refused_text n)
-IsDueForRun workers bytes TooLong text = (most_bytes < length bytes) × (text ≡ line (codes "TOO LONG"))
-IsDueForRun workers bytes BadWords text = ⊥
-IsDueForRun workers bytes ReadFault text = ⊥
-IsDueForRun workers bytes WriteFault text = ⊥
-IsDueForRun workers bytes NoMemory text = ⊥
+-- due with words that are none that is offered
+abbrev pub wrong_words : Due
+wrong_words = record { status = BadWords; text = line (codes "WORDS 0") }
 
--- due for words: for a run's words as above, and for any others that they are none
-pub data IsDue (words : List (List ℕ)) (bytes : List ℕ) (status : Status) (text : List ℕ) : Type 0 where
-  run : (workers : ℕ) (words_are : AreRunWords words workers) (due : IsDueForRun workers bytes status text) → IsDue words bytes status text
-  others : (words_are : AreOthers words) (status_is : status ≡ BadWords) (text_is : text ≡ line (codes "WORDS 0")) → IsDue words bytes status text
+-- due for a request with these settings, from all bytes of the source
+unfoldable pub due_with : Wanted → List (Name × ℤ) → List ℕ → Due
+due_with wanted settings bytes = if nat_lt most_bytes (length bytes) then too_long else due_of wanted settings bytes
+
+-- due for a request, by the number of its first word that should be a setting and is none
+unfoldable pub due_by : Option ℕ → Wanted → List ℕ → Due
+due_by (Some index) wanted bytes = wrong_setting index
+due_by None wanted bytes = due_with wanted (settings_in (settings_of wanted)) bytes
+
+abbrev pub first_wrong : Wanted → Option ℕ
+first_wrong wanted = first_fault_from 1 (settings_of wanted)
+
+-- due for a request, from all bytes of the source
+abbrev pub due_for : Wanted → List ℕ → Due
+due_for wanted bytes = due_by (first_wrong wanted) wanted bytes
+
+-- What is due for words and bytes: help or the version, whose text is left open; the refusal of words that are none that is offered; or what is due for the request that they stand for.
+pub data IsDue (words : List Text) (bytes : List ℕ) (due : Due) : Type 0 where
+  shown : (asks : asks_to_show words ≡ true) (status_is : due.status ≡ Done) → IsDue words bytes due
+  faulty : (are : AreFaulty words) (due_is : due ≡ wrong_words) → IsDue words bytes due
+  asked : (wanted : Wanted) (takes : Takes words wanted) (due_is : due ≡ due_for wanted bytes) → IsDue words bytes due
+
+-- The words stand for this request, and its settings have the form of settings: then the source is read.
+pub record AskFor (words : List Text) (wanted : Wanted) : Type 0 where
+  pub takes : Takes words wanted
+  pub settings_are : first_wrong wanted ≡ None
+
+-- The words are faulty, or one of them that should be a setting is none.
+abbrev pub AreWrong : List Text → Type 0
+AreWrong words = AreFaulty words ⊎ ((wanted : Wanted) × (index : ℕ) × Takes words wanted × (first_wrong wanted ≡ Some index))
+
+-- The bytes stand for a program that is within its limits and has its subscripts in range, where its named constants have the values of the request's settings.
+pub record IsRunnable (wanted : Wanted) (bytes : List ℕ) : Type 0 where
+  pub short : length bytes ≤ most_bytes
+  pub unrefused : due_of_refusal bytes (settings_in (settings_of wanted)) ≡ None
 
 -- the statuses with which a text is due: 0, 1, 2 and 7
 abbrev pub is_said : Status → Bool

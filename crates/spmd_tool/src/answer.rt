@@ -1,90 +1,131 @@
-// What is due for a run, from the source's bytes alone.
+// What is due for words and a source, all of which is known before anything is written.
 
-ghost use Rattle.std.specs.Prelude.{◌≡◌, ◌≤◌, ℕ, length, IfOk, IsTrue};
-ghost use Rattle.nest_tree.specs.Straight.{IsStraight};
-ghost use Rattle.nest_tree.specs.Tree.{Tree};
-ghost use Rattle.nest_tree.specs.View.{tree_of};
-ghost use Rattle.nest_tree.specs.WellFormed.{IsWellFormed};
-ghost use Rattle.nest_model.specs.Memory.{output_of};
-ghost use Rattle.f77_reader.specs.Straight.{Reads, FirstFault};
-ghost use Rattle.spmd_core.specs.Fit.{IsFit};
-ghost use Rattle.spmd_core.specs.Progress.{has_one_owner};
-ghost use Rattle.spmd_tool.specs.Due.{IsDueForRun, most_bytes, run_text, refused_text};
+ghost use Rattle.std.specs.Prelude.{◌≡◌, ◌≢◌, ◌+◌, ◌<◌, ℕ, None, Some, IfOk, IsTrue};
+ghost use Rattle.std.specs.Io.KnownBytes.{IsAtEnd};
+ghost use Rattle.clap.specs.Walk.{texts};
+ghost use Rattle.command_words.specs.Wanted.{Wanted, wanted, IsCounted};
+ghost use Rattle.spmd_ports.specs.Counts.{Rose};
+ghost use Rattle.spmd_answer.specs.Due as due;
+ghost use Rattle.spmd_answer.specs.Stops.{due_in};
+ghost use Rattle.spmd_tool.specs.Due.{AskFor, first_wrong, is_said, most_bytes, settings_of, too_long as due_too_long};
+ghost use Rattle.spmd_tool.specs.Outside.{Takes};
+ghost use Rattle.spmd_tool.specs.Written.{IsDueFrom, IsDueOf};
+ghost use Rattle.spmd_tool.specs.declared.answer.Trouble.TheVariants as trouble;
 
-use crate::status::Status;
-use crate::text::plan_text;
-use f77_reader::{Refusal, read_straight};
-use nest_tree::Program;
-use spmd_core::{Machine, Plan, all_barriers};
+use crate::outside::{ReadTrouble, read_all};
+use clap::Error;
+use command_words::{Refused, Request, SettingFault, read_settings, read_words};
+use spmd_answer::{Answer, Status, answer_to};
+use spmd_ports::Source;
 use std::alloc::{AllocError, Global};
 use std::fmt::Write;
 
-/// A status and the text that is written with it.
-#[derive(Drop)]
-pub struct Answer {
-    pub status: Status,
-    pub text: Vec<u8>,
+/// Why there is no answer.
+#[derive(Clone, Copy, Debug, PartialEq, Eq)]
+pub enum Trouble {
+    /// A read failed.
+    ReadFault,
+    /// Memory ran out.
+    NoMemory,
 }
 
-/// The answer to a run on so many workers, from the source's bytes.
-pub fn answer_of(alloc: Global, workers: u32, bytes: &[u8]) -> Result<Answer, AllocError>
-    requires some { 1 ≤ workers }
-    requires few { workers ≤ 64 }
-    requires short { length bytes.now ≤ most_bytes }
-    // The answer is due.
-    ensures due { IfOk result (λ a. IsDueForRun workers bytes.now a.status a.text.items) }
-    // A source of the straight form is run, and any other is refused.
-    ensures done { (tree : Tree) → Reads bytes.now tree → IfOk result (λ a. a.status ≡ Status.Done) }
-    ensures refused { (n : ℕ) → FirstFault bytes.now n → IfOk result (λ a. a.status ≡ Status.SourceRefused) }
-{
-    match read_straight(alloc, bytes) {
-        Ok(program) => Ok(Answer {
-            status: Status::Done,
-            text: text_of_run(alloc, &program, workers)?,
-        }),
-        Err(Refusal::NotInProfile(line)) => Ok(Answer {
-            status: Status::SourceRefused,
-            text: text_of_refusal(alloc, line)?,
-        }),
-        Err(Refusal::NoMemory) => Err(AllocError),
+impl From<AllocError> for Trouble {
+    ghost from_gives = { λ _ reason. reason ≡ trouble.NoMemory };
+
+    fn from(_error: AllocError) -> Trouble {
+        Trouble::NoMemory
     }
 }
 
-// The plan and the output of a program that runs with a barrier in front of each statement.
-fn text_of_run(alloc: Global, program: &Program, workers: u32) -> Result<Vec<u8>, AllocError>
-    requires formed { IsWellFormed (tree_of program.now) }
-    requires straight { IsStraight (tree_of program.now) }
-    requires some { 1 ≤ workers }
-    requires few { workers ≤ 64 }
-    ensures { IfOk result (λ text. text.items ≡ run_text workers (tree_of program.now)) }
+/// The answer to words, which stand without the program's name, from the bytes of the source. It
+/// is read only where the words stand for a request and its settings have the form of settings.
+pub fn answer_in<S: Source>(
+    alloc: Global,
+    words: &[&str],
+    source: &mut S,
+) -> Result<Answer, Trouble>
+    ensures due { IfOk result (λ a. IsDueFrom (texts words.now) (S.left source.old) (due_in a)) }
+    ensures said { IfOk result (λ a. IsTrue (is_said a.status)) }
+    ensures end { (w : Wanted) → AskFor (texts words.now) w → IfOk result (λ a. a.status ≢ Status.TooLong → IsAtEnd (S.left source.new)) }
+    ensures stops { IfOk result (λ a. a.status ≡ Status.TooLong → Takes (S.left source.old) (S.left source.new) (most_bytes + 1)) }
+    ensures unread { ((w : Wanted) → AskFor (texts words.now) w → ⊥) → source.new ≡ source.old }
+    ensures reads { result ≡ Err Trouble.ReadFault → (w : Wanted) × AskFor (texts words.now) w }
+    ensures fault { result ≡ Err Trouble.ReadFault → Rose (S.faults source.old) (S.faults source.new) }
+    ensures no_fault { S.faults source.old < S.faults source.new → result ≡ Err Trouble.ReadFault }
 {
-    let plan = all_barriers(alloc, program, workers)?;
-    let mut text = plan_text(alloc, &plan)?;
-    let output = output_of_run(alloc, program, &plan)?;
-    text.extend_from_slice(&output)?;
-    Ok(text)
+    match read_words(alloc, words) {
+        Ok(request) => answer_for(alloc, &request, source),
+        Err(Refused::Shown(error)) => Ok(shown(alloc, &error)?),
+        Err(Refused::Faulty) => Ok(wrong_words(alloc, 0)?),
+        Err(Refused::NoMemory) => Err(Trouble::NoMemory),
+    }
 }
 
-// The line that refuses a source at this line.
-fn text_of_refusal(alloc: Global, line: u32) -> Result<Vec<u8>, AllocError>
-    ensures { IfOk result (λ text. text.items ≡ refused_text line) }
+// The answer to a request.
+fn answer_for<S: Source>(
+    alloc: Global,
+    request: &Request,
+    source: &mut S,
+) -> Result<Answer, Trouble>
+    requires { IsCounted (wanted request.now) }
+    ensures due { IfOk result (λ a. IsDueOf (wanted request.now) (S.left source.old) (due_in a)) }
+    ensures said { IfOk result (λ a. IsTrue (is_said a.status)) }
+    ensures end { first_wrong (wanted request.now) ≡ None → IfOk result (λ a. a.status ≢ Status.TooLong → IsAtEnd (S.left source.new)) }
+    ensures stops { IfOk result (λ a. a.status ≡ Status.TooLong → Takes (S.left source.old) (S.left source.new) (most_bytes + 1)) }
+    ensures unread { (index : ℕ) → first_wrong (wanted request.now) ≡ Some index → source.new ≡ source.old }
+    ensures reads { result ≡ Err Trouble.ReadFault → first_wrong (wanted request.now) ≡ None }
+    ensures fault { result ≡ Err Trouble.ReadFault → Rose (S.faults source.old) (S.faults source.new) }
+    ensures no_fault { S.faults source.old < S.faults source.new → result ≡ Err Trouble.ReadFault }
 {
-    let text = format!(in alloc; "REFUSED F2 LINE {line}\n")?;
-    Ok(text.into_bytes())
-}
-
-// The output of a program that runs by a plan under which processor 0 owns every statement, in
-// rounds of one step per processor.
-fn output_of_run(alloc: Global, program: &Program, plan: &Plan) -> Result<Vec<u8>, AllocError>
-    requires formed { IsWellFormed (tree_of program.now) }
-    requires straight { IsStraight (tree_of program.now) }
-    requires fits { IsFit (tree_of program.now) plan.now }
-    requires one_owner { IsTrue (has_one_owner plan.now) }
-    ensures { IfOk result (λ output. output.items ≡ output_of (tree_of program.now)) }
-{
-    let Ok(mut machine) = Machine::new(alloc, program, plan) else {
-        return Err(AllocError);
+    let settings = match read_settings(alloc, settings_in(request)) {
+        Ok(settings) => settings,
+        Err(SettingFault::Word(index)) => return Ok(wrong_words(alloc, index)?),
+        Err(SettingFault::NoMemory) => return Err(Trouble::NoMemory),
     };
-    machine.round_robin();
-    machine.output().as_slice().to_vec(alloc)
+    match read_all(alloc, source) {
+        Ok(bytes) => Ok(answer_to(alloc, request, &settings, &bytes)?),
+        Err(ReadTrouble::TooLong) => Ok(too_long(alloc)?),
+        Err(ReadTrouble::Fault) => Err(Trouble::ReadFault),
+        Err(ReadTrouble::NoMemory) => Err(Trouble::NoMemory),
+    }
+}
+
+// The words of a request that are to be settings.
+fn settings_in<'a>(request: &'a Request<'a>) -> &'a [&'a str]
+    ensures { texts result.now ≡ settings_of (wanted request.entry.now) }
+{
+    match request {
+        Request::Sequential(settings) | Request::Run(_, _, settings) => settings,
+    }
+}
+
+// Help, or the version.
+fn shown(alloc: Global, error: &Error) -> Result<Answer, AllocError>
+    ensures { IfOk result (λ a. a.status ≡ Status.Done) }
+{
+    let text = format!(in alloc; "{error}")?;
+    Ok(Answer {
+        status: Status::Done,
+        text: text.into_bytes(),
+    })
+}
+
+// Words that are refused: 0, or the number of the setting at fault.
+fn wrong_words(alloc: Global, index: usize) -> Result<Answer, AllocError>
+    ensures { IfOk result (λ a. due_in a ≡ due.wrong_setting index) }
+{
+    let text = format!(in alloc; "WORDS {index}\n")?;
+    Ok(Answer {
+        status: Status::BadWords,
+        text: text.into_bytes(),
+    })
+}
+
+fn too_long(alloc: Global) -> Result<Answer, AllocError>
+    ensures { IfOk result (λ a. due_in a ≡ due_too_long) }
+{
+    Ok(Answer {
+        status: Status::TooLong,
+        text: b"TOO LONG\n".to_vec(alloc)?,
+    })
 }

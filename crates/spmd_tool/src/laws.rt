@@ -1,17 +1,16 @@
 // What holds of due texts themselves.
 
-ghost use Rattle.std.specs.Prelude.{◌≡◌, ℕ, List};
-ghost use Rattle.spmd_tool.specs.declared.status.Status.{Status};
+ghost use Rattle.std.specs.Prelude.{◌≡◌, ℕ, List, false, true};
+ghost use Rattle.clap.specs.Words.{Text};
+ghost use Rattle.command_words.specs.Wanted.{asks_to_show};
+ghost use Rattle.spmd_answer.specs.Due.{Due};
+ghost use Rattle.spmd_answer.specs.declared.status.Status.TheVariants.{Done};
 ghost use Rattle.spmd_tool.specs.Due.{IsDue};
 
-use f77_reader::{one_first_fault, one_program, program_or_fault};
-
-/// For words and bytes one status is due, and one text with it.
+/// For words and bytes one status is due, and one text with it, but for help and the version, whose
+/// text is left open.
 pub fn one_due_text()
-    ensures some { (words : List (List ℕ)) (bytes : List ℕ) → (status : Status) × (text : List ℕ) × IsDue words bytes status text }
-    ensures only { (words : List (List ℕ)) (bytes : List ℕ) (s t : Status) (a b : List ℕ) → IsDue words bytes s a → IsDue words bytes t b → (s ≡ t) × (a ≡ b) }
-{
-    one_program();
-    one_first_fault();
-    program_or_fault();
-}
+    ensures some { (words : List Text) (bytes : List ℕ) → (due : Due) × IsDue words bytes due }
+    ensures only { (words : List Text) (bytes : List ℕ) (a b : Due) → asks_to_show words ≡ false → IsDue words bytes a → IsDue words bytes b → a ≡ b }
+    ensures shown { (words : List Text) (bytes : List ℕ) (a : Due) → asks_to_show words ≡ true → IsDue words bytes a → a.status ≡ Done }
+{}

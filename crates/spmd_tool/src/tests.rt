@@ -2,11 +2,8 @@
 
 ghost use Rattle.std.specs.Prelude.{◌<◌};
 
-use crate::status::Status;
 use crate::tool::tool;
-use f77_reader::read_straight;
-use nest_tree::{Affine, Pairs};
-use spmd_core::{Anchor, Anchors, Dist, Machine, PlanRefusal, StepAnswer, all_barriers, check_fit};
+use spmd_answer::Status;
 use spmd_ports::{MemSink, MemSource};
 use std::alloc::Global;
 use std::fmt::Write;
@@ -16,7 +13,7 @@ const FIRST: &[u8] =
     b"      PROGRAM ONE\n      K = 20\n      K = K*2 + 2\n      PRINT *, 'K', K\n      END\n";
 
 const FIRST_RUN: &[u8] =
-    b"SPMD PLAN 1\nWORKERS 2\nLOOPS 0\nPHASES 3\n1 BARRIER AT 0 CYCLIC\n2 BARRIER AT 0 CYCLIC\n3 BARRIER AT 0 CYCLIC\nCERTIFICATES 0\nEND PLAN\n K 42\n";
+    b"SPMD PLAN 2\nWORKERS 2\nLOOPS 0\nPHASES 3\n1 BARRIER AT 0 CYCLIC\n2 BARRIER AT 0 CYCLIC\n3 BARRIER AT 0 CYCLIC\nCERTIFICATES 0\nEND PLAN\n K 42\n";
 
 const WORDS: [&str; 7] = ["run", "--workers", "2", "--plan", "barrier", "--by", "core"];
 
@@ -26,16 +23,23 @@ type Calls<'a> = (&'a [u64], &'a [u64], &'a [u64]);
 // What a run with the usual words writes, and its status.
 fn run_of(
     alloc: Global,
-    bytes: &[u8],
     pieces: (usize, usize),
     calls: Calls<'_>,
 ) -> Result<(Status, MemSink), Fail>
     requires source { 0 < pieces.0 }
     requires sink { 0 < pieces.1 }
 {
-    let mut source = MemSource::new(alloc, bytes, pieces.0, calls.0)?;
+    let mut source = MemSource::new(alloc, FIRST, pieces.0, calls.0)?;
     let mut sink = MemSink::new(alloc, 1000, pieces.1, calls.1, calls.2)?;
     let status = tool(alloc, &WORDS, &mut source, &mut sink);
+    Ok((status, sink))
+}
+
+// What these words write for a source, and their status.
+fn said_to(alloc: Global, words: &[&str], bytes: &[u8]) -> Result<(Status, MemSink), Fail> {
+    let mut source = MemSource::new(alloc, bytes, 100_000, &[])?;
+    let mut sink = MemSink::new(alloc, 20_000, 20_000, &[], &[])?;
+    let status = tool(alloc, words, &mut source, &mut sink);
     Ok((status, sink))
 }
 
@@ -43,87 +47,13 @@ fn run_of(
 fn runs_the_first_program(rt: HostRuntime) -> Result<(), Fail> {
     for pieces in [(1000, 1000), (1, 1), (7, 3)] {
         prove!(pieces.0 > 0 && pieces.1 > 0);
-        let (status, sink) = run_of(rt.alloc(), FIRST, pieces, (&[], &[], &[]))?;
+        let (status, sink) = run_of(rt.alloc(), pieces, (&[], &[], &[]))?;
         assert_eq!(rt; status, Status::Done);
         assert_eq!(rt; sink.written(), FIRST_RUN);
     }
-    Ok(())
-}
-
-#[test]
-fn runs_398_statements(rt: HostRuntime) -> Result<(), Fail> {
-    let mut source = String::from_str(rt.alloc(), "      PROGRAM LONG\n")?;
-    let mut due = String::from_str(rt.alloc(), "SPMD PLAN 1\nWORKERS 2\nLOOPS 0\nPHASES 398\n")?;
-    for phase in 1..398 {
-        source.push_str("      K = K + 1\n")?;
-        writeln!(due, "{phase} BARRIER AT 0 CYCLIC")?;
-    }
-    source.push_str("      PRINT *, 'K', K\n      END\n")?;
-    due.push_str("398 BARRIER AT 0 CYCLIC\nCERTIFICATES 0\nEND PLAN\n K 397\n")?;
-    let mut from = MemSource::new(rt.alloc(), source.as_bytes(), 1000, &[])?;
-    let mut sink = MemSink::new(rt.alloc(), 20_000, 1000, &[], &[])?;
-    let status = tool(rt.alloc(), &WORDS, &mut from, &mut sink);
+    let (status, sink) = said_to(rt.alloc(), &["seq"], FIRST)?;
     assert_eq!(rt; status, Status::Done);
-    assert_eq!(rt; sink.written(), due.as_bytes());
-    Ok(())
-}
-
-#[test]
-fn processor_1_waits_for_the_first_statement(rt: HostRuntime) -> Result<(), Fail> {
-    let Ok(program) = read_straight(rt.alloc(), FIRST) else {
-        return Err(Fail::from("refused"));
-    };
-    let plan = all_barriers(rt.alloc(), &program, 2)?;
-    let Ok(mut machine) = Machine::new(rt.alloc(), &program, &plan) else {
-        return Err(Fail::from("no memory"));
-    };
-    assert_eq!(rt; machine.step(1), StepAnswer::Stepped);
-    assert_eq!(rt; machine.step(1), StepAnswer::Stepped);
-    assert_eq!(rt; machine.step(1), StepAnswer::Stepped);
-    let blocked = StepAnswer::Blocked {
-        on: 0,
-        wanted: 1,
-        seen: 0,
-    };
-    assert_eq!(rt; machine.step(1), blocked);
-    machine.round_robin();
-    assert_eq!(rt; machine.step(0), StepAnswer::Ended);
-    assert_eq!(rt; machine.step(1), StepAnswer::Ended);
-    assert_eq!(rt; machine.memory(), [42].as_slice());
-    assert_eq!(rt; machine.output().as_slice(), b" K 42\n".as_slice());
-    Ok(())
-}
-
-// An anchor with this constant form and a block of so many places.
-fn anchor_at(alloc: Global, place: u8, block: u32) -> Anchor {
-    Anchor {
-        form: Affine::new(i64::from(place), Pairs::new(alloc), Pairs::new(alloc)),
-        dist: Dist::Block(block),
-    }
-}
-
-#[test]
-fn refuses_a_plan_that_does_not_fit(rt: HostRuntime) -> Result<(), Fail> {
-    let Ok(program) = read_straight(rt.alloc(), FIRST) else {
-        return Err(Fail::from("refused"));
-    };
-    for (workers, place, block, refusal) in [
-        (2, 0, 1, None),
-        (0, 0, 1, Some(PlanRefusal::Shape(1))),
-        (65, 0, 1, Some(PlanRefusal::Shape(1))),
-        (2, 0, 0, Some(PlanRefusal::Shape(5))),
-        (2, 3, 2, Some(PlanRefusal::PrintPlace(3))),
-        (2, 4, 2, Some(PlanRefusal::Placement(1, 4, 4))),
-    ] {
-        let mut plan = all_barriers(rt.alloc(), &program, 2)?;
-        plan.workers = workers;
-        let mut anchors = Vec::new(rt.alloc());
-        for _ in 0..3 {
-            anchors.push(anchor_at(rt.alloc(), place, block))?;
-        }
-        plan.anchors = Anchors::new(anchors);
-        assert_eq!(rt; check_fit(&program, &plan).err(), refusal);
-    }
+    assert_eq!(rt; sink.written(), b" K 42\n".as_slice());
     Ok(())
 }
 
@@ -131,11 +61,11 @@ fn refuses_a_plan_that_does_not_fit(rt: HostRuntime) -> Result<(), Fail> {
 #[test]
 fn a_read_that_fails_writes_nothing(rt: HostRuntime) -> Result<(), Fail> {
     for call in 1..83 {
-        let (status, sink) = run_of(rt.alloc(), FIRST, (1, 1000), (&[call], &[], &[]))?;
+        let (status, sink) = run_of(rt.alloc(), (1, 1000), (&[call], &[], &[]))?;
         assert_eq!(rt; status, Status::ReadFault, "{call}");
         assert!(rt; sink.written().is_empty(), "{call}");
     }
-    let (status, sink) = run_of(rt.alloc(), FIRST, (1, 1000), (&[83], &[], &[]))?;
+    let (status, sink) = run_of(rt.alloc(), (1, 1000), (&[83], &[], &[]))?;
     assert_eq!(rt; status, Status::Done);
     assert_eq!(rt; sink.written(), FIRST_RUN);
     Ok(())
@@ -144,9 +74,9 @@ fn a_read_that_fails_writes_nothing(rt: HostRuntime) -> Result<(), Fail> {
 // What the first run writes 1 byte a call where this call of the sink fails, or takes nothing.
 fn run_to(alloc: Global, call: u64, fails: bool) -> Result<(Status, MemSink), Fail> {
     if fails {
-        run_of(alloc, FIRST, (1000, 1), (&[], &[call], &[]))
+        run_of(alloc, (1000, 1), (&[], &[call], &[]))
     } else {
-        run_of(alloc, FIRST, (1000, 1), (&[], &[], &[call]))
+        run_of(alloc, (1000, 1), (&[], &[], &[call]))
     }
 }
 
@@ -167,11 +97,81 @@ fn a_write_that_fails_or_takes_nothing_leaves_a_front(rt: HostRuntime) -> Result
 }
 
 #[test]
-fn refuses_a_line(rt: HostRuntime) -> Result<(), Fail> {
-    let source = b"      K = 1\n      K = K/2\n      END\n";
-    let (status, sink) = run_of(rt.alloc(), source, (1000, 1000), (&[], &[], &[]))?;
-    assert_eq!(rt; status, Status::SourceRefused);
-    assert_eq!(rt; sink.written(), b"REFUSED F2 LINE 2\n".as_slice());
+fn says_what_is_wrong(rt: HostRuntime) -> Result<(), Fail> {
+    let rows: [(&[&str], &[u8], Status, &[u8]); 13] = [
+        (&[], FIRST, Status::BadWords, b"WORDS 0\n"),
+        (
+            &["run", "--workers", "2"],
+            FIRST,
+            Status::BadWords,
+            b"WORDS 0\n",
+        ),
+        (&["seq", "Q"], b"", Status::BadWords, b"WORDS 1\n"),
+        (&["seq", "Q=1"], FIRST, Status::BadWords, b"WORDS 1\n"),
+        (&["seq", "Q=1", "R="], FIRST, Status::BadWords, b"WORDS 2\n"),
+        (
+            &["seq", "Q=1"],
+            b"",
+            Status::SourceRefused,
+            b"REFUSED L4 LINE 1\n",
+        ),
+        (
+            &["seq"],
+            b"      END\n      END\n",
+            Status::SourceRefused,
+            b"REFUSED L5 LINE 2\n",
+        ),
+        (
+            &["seq"],
+            b"      X = 1\n      END\n",
+            Status::SourceRefused,
+            b"REFUSED F3 LINE 1\n",
+        ),
+        (
+            &["seq"],
+            b"      INTEGER A(1,1,1,1)\n      END\n",
+            Status::SourceRefused,
+            b"REFUSED F12 LINE 1 COUNT 4\n",
+        ),
+        (
+            &["seq"],
+            b"      INTEGER A(1024,1024), B(1)\n      END\n",
+            Status::SourceRefused,
+            b"REFUSED X3 CELLS 1048577\n",
+        ),
+        (
+            &["seq"],
+            b"      INTEGER A(2)\n      A(3) = 1\n      END\n",
+            Status::SourceRefused,
+            b"REFUSED S1 LINE 2 DIMENSION 1 VALUE 3 BOUND 2\n",
+        ),
+        (
+            &["seq", "n=-7"],
+            b"      PARAMETER (N = 2)\n      PRINT *, N\n      END\n",
+            Status::Done,
+            b" -7\n",
+        ),
+        (&["seq"], b"      PRINT *\n      END", Status::Done, b"\n"),
+    ];
+    for (words, source, wanted, text) in rows {
+        let (status, sink) = said_to(rt.alloc(), words, source)?;
+        assert_eq!(rt; sink.written(), text);
+        assert_eq!(rt; status, wanted);
+    }
+    Ok(())
+}
+
+#[test]
+fn shows_help_and_the_version(rt: HostRuntime) -> Result<(), Fail> {
+    for words in [
+        ["--help"].as_slice(),
+        ["run", "-h"].as_slice(),
+        ["--version"].as_slice(),
+    ] {
+        let (status, sink) = said_to(rt.alloc(), words, b"")?;
+        assert_eq!(rt; status, Status::Done);
+        assert!(rt; !sink.written().is_empty());
+    }
     Ok(())
 }
 
@@ -183,8 +183,10 @@ fn refuses_a_source_that_is_too_long(rt: HostRuntime) -> Result<(), Fail> {
         (200_000, 1, Status::SourceRefused),
     ] {
         prove!(piece > 0);
-        let long = vec![in rt.alloc(); b' '; length]?;
-        let (ended, sink) = run_of(rt.alloc(), &long, (piece, 1000), (&[], &[], &[]))?;
+        let long = vec![in rt.alloc(); b'\n'; length]?;
+        let mut source = MemSource::new(rt.alloc(), &long, piece, &[])?;
+        let mut sink = MemSink::new(rt.alloc(), 1000, 1000, &[], &[])?;
+        let ended = tool(rt.alloc(), &["seq"], &mut source, &mut sink);
         assert_eq!(rt; ended, status);
         let line = sink.written() == b"TOO LONG\n".as_slice();
         assert_eq!(rt; line, status == Status::TooLong);
@@ -192,71 +194,23 @@ fn refuses_a_source_that_is_too_long(rt: HostRuntime) -> Result<(), Fail> {
     Ok(())
 }
 
-// The status and what is written with these words.
-fn said_to(alloc: Global, words: &[&str]) -> Result<(Status, MemSink), Fail> {
-    let mut source = MemSource::new(alloc, FIRST, 1000, &[])?;
-    let mut sink = MemSink::new(alloc, 1000, 1000, &[], &[])?;
-    let status = tool(alloc, words, &mut source, &mut sink);
-    Ok((status, sink))
-}
-
+// 397 statements and a PRINT, for 64 workers, with 300 settings.
 #[test]
-fn takes_1_to_64_workers(rt: HostRuntime) -> Result<(), Fail> {
-    for workers in 1..65 {
-        let count = format!(in rt.alloc(); "{workers}")?;
-        let mut words = WORDS;
-        words[2] = &count;
-        let (status, sink) = said_to(rt.alloc(), &words)?;
-        assert_eq!(rt; status, Status::Done, "{workers}");
-        let head = format!(in rt.alloc(); "SPMD PLAN 1\nWORKERS {workers}\n")?;
-        assert!(rt; sink.written().starts_with(head.as_bytes()), "{workers}");
+fn runs_a_long_program(rt: HostRuntime) -> Result<(), Fail> {
+    let mut source = String::from_str(rt.alloc(), "      PARAMETER (N = 1)\n")?;
+    let mut due = String::from_str(rt.alloc(), "SPMD PLAN 2\nWORKERS 64\nLOOPS 0\nPHASES 397\n")?;
+    for phase in 1..397 {
+        source.push_str("      K = K + N\n")?;
+        writeln!(due, "{phase} BARRIER AT 0 CYCLIC")?;
     }
-    let mut words = WORDS;
-    for workers in ["", "0", "02", "65", "100", "+1", "-1", "1 ", "a"] {
-        words[2] = workers;
-        let (status, _) = said_to(rt.alloc(), &words)?;
-        assert_eq!(rt; status, Status::BadWords, "{workers}");
+    source.push_str("      PRINT *, 'K', K\n      STOP\n      END\n")?;
+    due.push_str("397 BARRIER AT 0 CYCLIC\nCERTIFICATES 0\nEND PLAN\n K 1188\n")?;
+    let mut words = Vec::from_array(rt.alloc(), ["run", "--workers", "64", "--plan", "barrier"])?;
+    for _ in 0..300 {
+        words.push("N=3")?;
     }
-    Ok(())
-}
-
-// The words in one of their 5,040 orders. Order 0 is their own.
-fn ordered(alloc: Global, order: usize) -> Result<Vec<&'static str>, Fail> {
-    let mut left = Vec::from_array(alloc, WORDS)?;
-    let mut words = Vec::new(alloc);
-    let mut choice = order;
-    while !left.is_empty() {
-        let count = left.len();
-        words.push(left.remove(choice % count))?;
-        choice /= count;
-    }
-    Ok(words)
-}
-
-#[test]
-fn takes_words_in_their_order_alone(rt: HostRuntime) -> Result<(), Fail> {
-    for order in 0..5040 {
-        let words = ordered(rt.alloc(), order)?;
-        let (status, sink) = said_to(rt.alloc(), &words)?;
-        if order == 0 {
-            assert_eq!(rt; status, Status::Done);
-        } else {
-            assert_eq!(rt; status, Status::BadWords, "{order}");
-            assert_eq!(rt; sink.written(), b"WORDS 0\n".as_slice());
-        }
-    }
-    Ok(())
-}
-
-#[test]
-fn takes_no_fewer_and_no_more_words(rt: HostRuntime) -> Result<(), Fail> {
-    for count in 0..7 {
-        let (status, _) = said_to(rt.alloc(), &WORDS[..count])?;
-        assert_eq!(rt; status, Status::BadWords, "{count}");
-    }
-    let mut words = Vec::from_array(rt.alloc(), WORDS)?;
-    words.push("core")?;
-    let (status, _) = said_to(rt.alloc(), &words)?;
-    assert_eq!(rt; status, Status::BadWords);
+    let (status, sink) = said_to(rt.alloc(), &words, source.as_bytes())?;
+    assert_eq!(rt; status, Status::Done);
+    assert_eq!(rt; sink.written(), due.as_bytes());
     Ok(())
 }

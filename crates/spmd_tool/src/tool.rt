@@ -1,61 +1,61 @@
 // The top call: from words and a source to a status and what is written.
 
-ghost use Rattle.std.specs.Prelude.{◌≡◌, ◌≢◌, ◌+◌, ◌≤◌, ◌<◌, ◌⊎◌, ℕ, length, IsTrue};
+ghost use Rattle.std.specs.Prelude.{◌≡◌, ◌≢◌, ◌+◌, ◌<◌, ◌⊎◌, [], true, IsTrue};
 ghost use Rattle.std.specs.Io.KnownBytes.{Appends, IsAtEnd};
-ghost use Rattle.nest_tree.specs.Tree.{Tree};
-ghost use Rattle.f77_reader.specs.Straight.{Reads, FirstFault};
+ghost use Rattle.clap.specs.Walk.{texts};
+ghost use Rattle.command_words.specs.Wanted.{Wanted, asks_to_show};
 ghost use Rattle.spmd_ports.specs.Counts.{Rose};
-ghost use Rattle.spmd_tool.specs.Due.{is_said, most_bytes, IsOrNoMemory};
+ghost use Rattle.spmd_answer.specs.Due.{Due};
+ghost use Rattle.spmd_tool.specs.Due.{AreWrong, AskFor, IsDue, IsOrNoMemory, IsRunnable, is_said, most_bytes, settings_of};
 ghost use Rattle.spmd_tool.specs.Outside.{Takes, WhereTold, WritesPart, RoseOneOf, NoneRose};
-ghost use Rattle.spmd_tool.specs.Words.{texts, AreRunWords, AreOthers};
-ghost use Rattle.spmd_tool.specs.Written.{WritesDue, WritesPartOfDue};
+ghost use Rattle.spmd_tool.specs.Written.{WritesDue, WritesPartOfDue, WritesRun};
 
-use crate::answer::answer_of;
-use crate::outside::{ReadTrouble, read_all, write_all};
-use crate::status::Status;
-use crate::words::workers_of;
+use crate::answer::{Trouble, answer_in};
+use crate::outside::write_all;
+use spmd_answer::Status;
 use spmd_ports::{Failed, Sink, Source};
 use std::alloc::Global;
 
-/// Does what the words ask for, which stand without the program's name. They have to be
-/// `run --workers P --plan barrier --by core`, with P from 1 to 64. The source is read to its
-/// end, and then the plan's text and the program's output are written to the sink.
+/// Does what the words ask for, which stand without the program's name: `seq [NAME=VALUE..]` or
+/// `run --workers P --plan barrier [--by core] [NAME=VALUE..]`, as `clap` reads them, or `--help`
+/// or `--version`. The source is read to its end, and then the answer is written to the sink.
 ///
 /// With `Done`, `SourceRefused`, `BadWords` and `TooLong` the text that is due was written, with
 /// `WriteFault` a part from its front, with `ReadFault` and `NoMemory` nothing. The first fault
-/// counts: of the words, then of the reading and the length, then of the source's form.
+/// counts: of the words, of the settings' form, of the reading and the length, of the source and
+/// the settings' names, of the writing.
 pub fn tool<S: Source, K: Sink>(
     alloc: Global,
     words: &[&str],
     source: &mut S,
     sink: &mut K,
 ) -> Status
+    // The headline: where the words stand for a request, with status 0 the bytes of the source stand for a program that may be run, what its run writes was written, and the source was read to its end.
+    ensures headline { (w : Wanted) → AskFor (texts words.now) w → result ≡ Status.Done → WritesRun w (S.left source.old) (K.written sink.old) (K.written sink.new) }
+    ensures end { (w : Wanted) → AskFor (texts words.now) w → result ≡ Status.Done → IsAtEnd (S.left source.new) }
+
     // With status 0, 1, 2 or 7 the text that is due with it was written.
     ensures due { IsTrue (is_said result) → WritesDue (texts words.now) (S.left source.old) result (K.written sink.old) (K.written sink.new) }
 
-    // A run's words and a source of the straight form: where no count rises, the status is 0 or 5.
+    // Where no count rises, the status is the one that is due, or 5.
+    ensures exact { NoneRose (S.faults source.old) (S.faults source.new) (K.faults sink.old) (K.faults sink.new) (K.empties sink.old) (K.empties sink.new) →
+        WhereTold (S.left source.old) (λ bytes. (due : Due) → IsDue (texts words.now) bytes due → IsOrNoMemory due.status result) }
+
+    // So where the bytes of the source stand for a program that may be run, it is 0 or 5.
     ensures complete { NoneRose (S.faults source.old) (S.faults source.new) (K.faults sink.old) (K.faults sink.new) (K.empties sink.old) (K.empties sink.new) →
-        WhereTold (S.left source.old) (λ bytes. (workers : ℕ) (tree : Tree) → AreRunWords (texts words.now) workers →
-        Reads bytes tree → IsOrNoMemory Status.Done result) }
+        WhereTold (S.left source.old) (λ bytes. (w : Wanted) → AskFor (texts words.now) w → IsRunnable w bytes → IsOrNoMemory Status.Done result) }
 
-    // A run's words and a source with a fault: where no count rises, the status is 1 or 5.
-    ensures refused { NoneRose (S.faults source.old) (S.faults source.new) (K.faults sink.old) (K.faults sink.new) (K.empties sink.old) (K.empties sink.new) →
-        WhereTold (S.left source.old) (λ bytes. (workers n : ℕ) → AreRunWords (texts words.now) workers →
-        FirstFault bytes n → length bytes ≤ most_bytes → IsOrNoMemory Status.SourceRefused result) }
+    // Wrong words are status 2, words that ask for help or for the version status 0; or 4 where the answer cannot be written, or 5.
+    ensures wrong_words { AreWrong (texts words.now) → (result ≡ Status.BadWords) ⊎ ((result ≡ Status.WriteFault) ⊎ (result ≡ Status.NoMemory)) }
+    ensures shown_words { asks_to_show (texts words.now) ≡ true → (result ≡ Status.Done) ⊎ ((result ≡ Status.WriteFault) ⊎ (result ≡ Status.NoMemory)) }
+    ensures right_words { (w : Wanted) → AskFor (texts words.now) w → settings_of w ≡ [] → result ≢ Status.BadWords }
 
-    // A run's words and a source of too many bytes: where no count rises, the status is 7 or 5.
-    ensures too_long { NoneRose (S.faults source.old) (S.faults source.new) (K.faults sink.old) (K.faults sink.new) (K.empties sink.old) (K.empties sink.new) →
-        WhereTold (S.left source.old) (λ bytes. (workers : ℕ) → AreRunWords (texts words.now) workers →
-        most_bytes < length bytes → IsOrNoMemory Status.TooLong result) }
+    // Unless words stand for a request whose settings have the form of settings, nothing is read.
+    ensures unread { ((w : Wanted) → AskFor (texts words.now) w → ⊥) → source.new ≡ source.old }
 
-    // Other words are status 2, or 4 where they cannot be refused, and read nothing.
-    ensures wrong_words { AreOthers (texts words.now) → (result ≡ Status.BadWords) ⊎ (result ≡ Status.WriteFault) }
-    ensures right_words { (workers : ℕ) → AreRunWords (texts words.now) workers → result ≢ Status.BadWords }
-    ensures unread { AreOthers (texts words.now) → source.new ≡ source.old }
-
-    // With 0 or 1 the source was read to its end.
-    ensures end { result ≡ Status.Done → IsAtEnd (S.left source.new) }
+    // With 1, and with 2 for a setting's name, the source was read to its end.
     ensures end_refused { result ≡ Status.SourceRefused → IsAtEnd (S.left source.new) }
+    ensures end_named { (w : Wanted) → AskFor (texts words.now) w → result ≡ Status.BadWords → IsAtEnd (S.left source.new) }
 
     // With 7 the reading stopped one byte behind the most.
     ensures stops { result ≡ Status.TooLong → Takes (S.left source.old) (S.left source.new) (most_bytes + 1) }
@@ -72,17 +72,10 @@ pub fn tool<S: Source, K: Sink>(
     ensures no_empty_answer { K.empties sink.old < K.empties sink.new → result ≡ Status.WriteFault }
     ensures part { result ≡ Status.WriteFault → WritesPartOfDue (texts words.now) (S.left source.old) (K.written sink.old) (K.written sink.new) }
 {
-    let Some(workers) = workers_of(words) else {
-        return say(sink, b"WORDS 0\n", Status::BadWords);
-    };
-    match read_all(alloc, source) {
-        Ok(bytes) => match answer_of(alloc, workers, &bytes) {
-            Ok(answer) => say(sink, &answer.text, answer.status),
-            Err(_) => Status::NoMemory,
-        },
-        Err(ReadTrouble::TooLong) => say(sink, b"TOO LONG\n", Status::TooLong),
-        Err(ReadTrouble::Fault) => Status::ReadFault,
-        Err(ReadTrouble::NoMemory) => Status::NoMemory,
+    match answer_in(alloc, words, source) {
+        Ok(answer) => say(sink, &answer.text, answer.status),
+        Err(Trouble::ReadFault) => Status::ReadFault,
+        Err(Trouble::NoMemory) => Status::NoMemory,
     }
 }
 

@@ -1,5 +1,5 @@
 use Rattle.std.proofs.Common.{◌≡◌, map, take, string_bytes}
-use Rattle.spmd_tool.specs.Words.{texts}
+use Rattle.clap.specs.Walk.{texts}
 use Rattle.spmd_tool.proofs.texts_of.Given as goal
 
 -- the texts of the words so far

@@ -1,5 +1,0 @@
-use Rattle.spmd_core.proofs.ValueLaws.{least-below, least-among, greatest-above, greatest-among}
-use Rattle.spmd_core.proofs.laws.extremes_are_reached.Goals as goal
-
-pub returns : goal.returns
-returns c = record { least_below = least-below; least_among = least-among; greatest_above = greatest-above; greatest_among = greatest-among }
