@@ -12,7 +12,7 @@ use Rattle.farkas_cert.specs.Inequalities.{left_side as dot, AreFull}
 use Rattle.fm_elim.specs.Reduction.{DividesEach, IsReduced}
 use Rattle.fm_elim.specs.Pairs.{coef_of, IsPair, combination}
 use Rattle.fm_elim.specs.Levels.{IsRaw}
-use Rattle.fm_elim.specs.Forming.{Covers, IsFormed}
+use Rattle.fm_elim.specs.Forming.{Covers}
 use Rattle.fm_elim.proofs.Integers.{add-mul, mul-add, mul-neg, mul_assoc_ℤ, mul_swap, mul_le_ℤ}
 use Rattle.fm_elim.proofs.Values.{dot-zero, dot-quotients, floor_le, dot-combined}
 use Rattle.fm_elim.proofs.Removal.{slack, AllHold, IsSolvable, solvable}
@@ -74,10 +74,14 @@ covered_holds rows row x d hd all covers =
     let more : (d *ℤ some.0.bound) ≤ℤ (d *ℤ row.bound) = mul_le_ℤ d _ _ (omega (arith, ints, hd)) some.3 in
     omega (arith, ints, holds, more, ap (λ cs. dot cs x) some.2, *ℤ_comm d some.0.bound, *ℤ_comm d row.bound)) covers
 
--- where the formed list holds, every raw row does
-pub raw_holds : (raws : Row → Type 0) (rows : List Row) (x : List ℤ) (d : ℤ) → pos 1 ≤ℤ d → IsFormed raws rows → AllHold x d rows → (raw : Row) → raws raw → dot raw.coefs x ≤ℤ (raw.bound *ℤ d)
-raw_holds raws rows x d hd formed all raw has =
-    let found = formed.complete raw has in
+-- the list covers the reduction of each raw row
+abbrev pub IsComplete : (Row → Type 0) → List Row → Type 0
+IsComplete raws rows = (raw : Row) → raws raw → (row : Row) × IsReduced raw row × Covers rows row
+
+-- where such a list holds, every raw row does
+raw_holds : (raws : Row → Type 0) (rows : List Row) (x : List ℤ) (d : ℤ) → pos 1 ≤ℤ d → IsComplete raws rows → AllHold x d rows → (raw : Row) → raws raw → dot raw.coefs x ≤ℤ (raw.bound *ℤ d)
+raw_holds raws rows x d hd complete all raw has =
+    let found = complete raw has in
     raw_from_reduced raw found.0 x d hd found.1 (covered_holds rows found.0 x d hd all found.2)
 
 -- a combination that holds leaves room between its rows
@@ -110,9 +114,9 @@ room_between v upper lower m n x d same pair holds =
     size_above (negsuc k) h = absurd (omega (arith, ints, h))
 
 -- one level back
-pub solvable_before : (v vars : ℕ) (rows next : List Row) → 1 ≤ v → v ≤ vars → AreFull vars rows → IsFormed (IsRaw v (Contains rows)) next → IsSolvable vars next → IsSolvable vars rows
-solvable_before v vars rows next low high full formed s =
-    let holds : (raw : Row) → IsRaw v (Contains rows) raw → dot raw.coefs s.x ≤ℤ (raw.bound *ℤ s.d) = raw_holds (IsRaw v (Contains rows)) next s.x s.d s.divisor formed s.holds in
+pub solvable_before : (v vars : ℕ) (rows next : List Row) → 1 ≤ v → v ≤ vars → AreFull vars rows → IsComplete (IsRaw v (Contains rows)) next → IsSolvable vars next → IsSolvable vars rows
+solvable_before v vars rows next low high full complete s =
+    let holds : (raw : Row) → IsRaw v (Contains rows) raw → dot raw.coefs s.x ≤ℤ (raw.bound *ℤ s.d) = raw_holds (IsRaw v (Contains rows)) next s.x s.d s.divisor complete s.holds in
     let full' : All (λ r. length r.coefs ≡ length s.x) rows = λ k e h. full k e h ∙ sym s.values in
     let found = solvable v s.x s.d rows s.divisor full' (omega (arith, s.values))
     (λ k e h none. let at = holds (get_or rows k e) (inl (Contains-get_or rows k e h, none)) in omega (arith, ints, at))
@@ -124,11 +128,11 @@ solvable_before v vars rows next low high full formed s =
     subst (λ n. IsSolvable n rows) s.values found
 
 -- level 0 back to the system
-pub solvable_system : (vars : ℕ) (rows next : List Row) → IsFormed (Contains rows) next → IsSolvable vars next → IsSolvable vars rows
-solvable_system vars rows next formed s = record {
+pub solvable_system : (vars : ℕ) (rows next : List Row) → IsComplete (Contains rows) next → IsSolvable vars next → IsSolvable vars rows
+solvable_system vars rows next complete s = record {
   x = s.x;
   d = s.d;
   values = s.values;
   divisor = s.divisor;
-  holds = λ k e h. raw_holds (Contains rows) next s.x s.d s.divisor formed s.holds (get_or rows k e) (Contains-get_or rows k e h);
+  holds = λ k e h. raw_holds (Contains rows) next s.x s.d s.divisor complete s.holds (get_or rows k e) (Contains-get_or rows k e h);
 }

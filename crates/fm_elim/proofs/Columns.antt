@@ -1,29 +1,21 @@
 -- Removed variables: after the last level no row has a coefficient.
 use Rattle.std.proofs.Common.{◌≡◌, ℕ, zero, suc, ◌+◌, ◌-◌, ◌/◌, ◌<◌, max, ℤ, pos, negsuc, neg_ℤ, ◌+ℤ◌, ◌*ℤ◌, ◌<ℤ◌, int_div, unsigned_abs, slice_index, ⊎_elim, List, [], ◌∷◌, map, replicate, length, get_or, refl, ap, sym, ◌∙◌, subst, arith}
-use Rattle.std.specs.List.{All, Contains, range_with_len}
+use Rattle.std.specs.List.{Contains, range_with_len}
 use Rattle.std.specs.List.Sorted.{IsPermutation}
 use Rattle.std.proofs.Math.Nat.{mul-div_cancel'}
 use Rattle.std.proofs.lemmas.Int.{ints}
 use Rattle.std.proofs.lemmas.List.{get_or_default, length-replicate}
 use Rattle.std.proofs.lemmas.List.FromFn.{length-range_with_len, get_or-range_with_len}
-use Rattle.std.proofs.lemmas.List.Elements.{All-contains, Contains-get_or}
+use Rattle.std.proofs.lemmas.List.Elements.{Contains-get_or}
 use Rattle.std.proofs.lemmas.List.Sorted.{Contains-permutation}
 use Rattle.std.proofs.Math.IntN.{*ℤ_comm, *ℤ-zero, pos-*ℤ-pos}
 use Rattle.farkas_cert.specs.declared.system.Row.{Row}
-use Rattle.farkas_cert.specs.Inequalities.{AreFull}
+use Rattle.fm_elim.specs.Reduction.{IsReduced}
 use Rattle.fm_elim.specs.Pairs.{coef_of, combined, combination, IsPair}
 use Rattle.fm_elim.specs.Levels.{IsEmpty, IsRaw, IsCombined}
-use Rattle.fm_elim.specs.Forming.{IsFormed}
 use Rattle.fm_elim.proofs.Integers.{mul_assoc_ℤ, mul_swap, mul-neg}
 use Rattle.fm_elim.proofs.Combined.{by_lt}
 use Rattle.fm_elim.proofs.Removal.{IsSolvable}
-
--- no row has a coefficient of the first k variables of the order
-abbrev pub IsRid : List ℕ → ℕ → List Row → Type 0
-IsRid order k rows = All (λ r. (j : ℕ) → j < k → coef_of (slice_index order j) r ≡ pos 0) rows
-
-pub IsRid-start : (order : List ℕ) (rows : List Row) → IsRid order 0 rows
-IsRid-start order rows = λ i d h j lt. absurd (omega arith)
 
 -- the coefficients of a combination
 pub combined-at : (m n : ℤ) (us ls : List ℤ) (k : ℕ) → length ls ≡ length us → get_or (combined m us n ls) k (pos 0) ≡ m *ℤ get_or us k (pos 0) +ℤ n *ℤ get_or ls k (pos 0)
@@ -63,30 +55,25 @@ divided-zero g k [] h = refl
 divided-zero g zero (a ∷ coefs) h = ap (λ z. int_div z (pos g)) h ∙ ap pos (omega arith)
 divided-zero g (suc k) (a ∷ coefs) h = divided-zero g k coefs h
 
--- one variable more
-pub IsRid-next : (order : List ℕ) (k vars : ℕ) (rows next : List Row) → AreFull vars rows → IsRid order k rows → IsFormed (IsRaw (slice_index order k) (Contains rows)) next → IsRid order (k + 1) next
-IsRid-next order k vars rows next full rid formed i d h j lt =
-    let made = formed.sound i d h in
-    let raw = made.0 in
-    let none : coef_of (slice_index order j) raw ≡ pos 0 = ⊎_elim alone both made.1 in
-    ap (λ r. coef_of (slice_index order j) r) made.2.1.1 ∙ divided-zero (max made.2.0 1) (slice_index order j - 1) raw.coefs none
-  where
-    v : ℕ
-    v = slice_index order k
+-- a reduction keeps its zeros
+pub zero_reduced : (v : ℕ) (raw row : Row) → IsReduced raw row → coef_of v raw ≡ pos 0 → coef_of v row ≡ pos 0
+zero_reduced v raw row reduced none = ap (coef_of v) reduced.1.1 ∙ divided-zero (max reduced.0 1) (v - 1) raw.coefs none
 
-    alone : {raw : Row} → Contains rows raw × (coef_of (slice_index order k) raw ≡ pos 0) → coef_of (slice_index order j) raw ≡ pos 0
-    alone {raw} a = by_lt {P = coef_of (slice_index order j) raw ≡ pos 0} j k
-        (λ below. All-contains (λ r. (j : ℕ) → j < k → coef_of (slice_index order j) r ≡ pos 0) rows raw rid a.0 j below)
+-- one variable more
+pub rid_next : (order : List ℕ) (k vars : ℕ) (set : Row → Type 0) → ((r : Row) → set r → length r.coefs ≡ vars) → ((r : Row) → set r → (j : ℕ) → j < k → coef_of (slice_index order j) r ≡ pos 0) → (raw : Row) → IsRaw (slice_index order k) set raw → (j : ℕ) → j < suc k → coef_of (slice_index order j) raw ≡ pos 0
+rid_next order k vars set full rid raw is_raw j lt = ⊎_elim alone both is_raw
+  where
+    alone : set raw × (coef_of (slice_index order k) raw ≡ pos 0) → coef_of (slice_index order j) raw ≡ pos 0
+    alone a = by_lt {P = coef_of (slice_index order j) raw ≡ pos 0} j k
+        (λ below. rid raw a.0 j below)
         (λ above. let same : k ≡ j = omega arith in subst (λ n. coef_of (slice_index order n) raw ≡ pos 0) same a.1)
 
-    both : {raw : Row} → IsCombined (slice_index order k) (Contains rows) raw → coef_of (slice_index order j) raw ≡ pos 0
-    both {raw} b =
-        let len = λ (r : Row) (c : Contains rows r). All-contains (λ r. length r.coefs ≡ vars) rows r full c in
-        let same : length b.lower.coefs ≡ length b.upper.coefs = len b.lower b.has_lower ∙ sym (len b.upper b.has_upper) in
+    both : IsCombined (slice_index order k) set raw → coef_of (slice_index order j) raw ≡ pos 0
+    both b =
+        let same : length b.lower.coefs ≡ length b.upper.coefs = full b.lower b.has_lower ∙ sym (full b.upper b.has_upper) in
         by_lt {P = coef_of (slice_index order j) raw ≡ pos 0} j k
         (λ below. ap (λ r. coef_of (slice_index order j) r) b.made ∙ combined-zero b.m b.n b.upper.coefs b.lower.coefs (slice_index order j - 1) same
-        (All-contains (λ r. (j : ℕ) → j < k → coef_of (slice_index order j) r ≡ pos 0) rows b.upper rid b.has_upper j below)
-        (All-contains (λ r. (j : ℕ) → j < k → coef_of (slice_index order j) r ≡ pos 0) rows b.lower rid b.has_lower j below))
+        (rid b.upper b.has_upper j below) (rid b.lower b.has_lower j below))
         (λ above. let e : k ≡ j = omega arith in subst (λ n. coef_of (slice_index order n) raw ≡ pos 0) e (ap (λ r. coef_of (slice_index order k) r) b.made ∙ pair-cancels (slice_index order k) b.upper b.lower b.m b.n same b.pair))
 
 -- where the order names each variable, no coefficient is left

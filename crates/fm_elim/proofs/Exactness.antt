@@ -11,6 +11,7 @@ use Rattle.fm_elim.specs.Reduction.{IsReduced, divided}
 use Rattle.fm_elim.specs.Pairs.{coef_of, IsPair}
 use Rattle.fm_elim.specs.Levels.{IsEmpty, IsLevelRow, IsRaw, IsDerived}
 use Rattle.fm_elim.specs.Forming.{Covers, IsFormed}
+use Rattle.fm_elim.specs.Reached.{IsExact}
 use Rattle.fm_elim.proofs.Combined.{by_lt}
 
 -- there is one reduced form
@@ -25,7 +26,7 @@ IsPair-unique v upper lower m n p q a b =
     let same : a.divisor ≡ b.divisor = same_from_IsGcd (unsigned_abs (coef_of v upper)) (unsigned_abs (coef_of v lower)) a.divisor b.divisor a.common b.common in
     (a.upper_times ∙ ap (λ g. pos (unsigned_abs (coef_of v lower) / g)) same ∙ sym b.upper_times, a.lower_times ∙ ap (λ g. pos (unsigned_abs (coef_of v upper) / g)) same ∙ sym b.lower_times)
 
-row_same : (r s : Row) → r.coefs ≡ s.coefs → r.bound ≡ s.bound → r ≡ s
+pub row_same : (r s : Row) → r.coefs ≡ s.coefs → r.bound ≡ s.bound → r ≡ s
 row_same r s e f = ap (λ xs. record { coefs = xs; bound = r.bound }) e ∙ ap (λ b. record { coefs = s.coefs; bound = b }) f
 
 -- rows of the list with equal coefficients are one
@@ -68,11 +69,6 @@ module _ (raws : Row → Type 0) (rows : List Row) (formed : IsFormed raws rows)
       let least = kept.least made.0 some.0 made.1 made.2 some.2 in
       let bound : some.0.bound ≡ r.bound = omega (arith, ints, least, some.3) in
       subst (Contains rows) (row_same some.0 r some.2 bound) some.1) covered
-
--- the list has exactly the rows of the set
-pub record IsExact (set : Row → Type 0) (rows : List Row) : Type 0 where
-  pub has : (r : Row) → set r → Contains rows r
-  pub only : (r : Row) → Contains rows r → set r
 
 -- raw rows of two sets that have the same rows
 module _ (v : ℕ) (set other : Row → Type 0) (forth : (r : Row) → set r → other r) where

@@ -53,7 +53,7 @@ Listed raws = (list : List Row) × IsListed raws list
 listed_none : (raws : Row → Type 0) → ((raw : Row) → raws raw → ⊥) → Listed raws
 listed_none raws none = ([], record { sound = All-nil (λ r. (raw : Row) × raws raw × IsReduced raw r); complete = λ raw has. absurd (none raw has) })
 
-listed_one : (raws : Row → Type 0) (raw : Row) → raws raw → ((other : Row) → raws other → raw ≡ other) → Listed raws
+pub listed_one : (raws : Row → Type 0) (raw : Row) → raws raw → ((other : Row) → raws other → raw ≡ other) → Listed raws
 listed_one raws raw has only =
     let found = reduction_exists raw in (
       found.0 ∷ [],
@@ -94,7 +94,7 @@ listed_each (x ∷ xs) S each =
         only (suc k) lt e = absurd (omega arith)
 
 -- a row alone, where it is without the variable
-listed_alone : (v : ℕ) (x : Row) → Listed (λ raw. (x ≡ raw) × (coef_of v x ≡ pos 0))
+pub listed_alone : (v : ℕ) (x : Row) → Listed (λ raw. (x ≡ raw) × (coef_of v x ≡ pos 0))
 listed_alone v x =
     ⊎_elim (λ yes. listed_one (λ raw. (x ≡ raw) × (coef_of v x ≡ pos 0)) x (refl, (Decides-int_eq (coef_of v x) (pos 0)).0 yes) (λ other h. h.0))
     (λ no. listed_none (λ raw. (x ≡ raw) × (coef_of v x ≡ pos 0)) (λ raw h. not_from_Decides (int_eq (coef_of v x) (pos 0)) (Decides-int_eq (coef_of v x) (pos 0)) no h.1))

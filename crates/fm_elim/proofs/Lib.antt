@@ -25,3 +25,5 @@ pub mod Given
 pub mod Hashing
 pub mod Putting
 pub mod AtMost
+pub mod Finite
+pub mod Derived

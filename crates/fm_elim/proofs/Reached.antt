@@ -1,5 +1,5 @@
 -- What a level that elimination has reached is known to be, and what its answers rest on.
-use Rattle.std.proofs.Common.{◌≡◌, ℕ, suc, ◌+◌, ◌-◌, ◌≤◌, ◌<◌, ℤ, pos, ◌<ℤ◌, List, length, get_or, slice_index, sym, ◌∙◌, subst, arith}
+use Rattle.std.proofs.Common.{◌≡◌, ℕ, suc, ◌+◌, ◌-◌, ◌≤◌, ◌<◌, max, ℤ, pos, ◌<ℤ◌, List, length, get_or, slice_index, sym, ◌∙◌, subst, arith}
 use Rattle.std.specs.List.{All, Contains, range_with_len}
 use Rattle.std.proofs.lemmas.List.{get_or_default, get_or-map, length-map}
 use Rattle.std.proofs.lemmas.List.FromFn.{length-range_with_len, get_or-range_with_len}
@@ -9,7 +9,7 @@ use Rattle.farkas_cert.specs.declared.system.Row.{Row}
 use Rattle.farkas_cert.specs.Inequalities.{Inequalities, AreFull}
 use Rattle.fm_elim.specs.declared.derivation.Derivation.{Derivation}
 use Rattle.fm_elim.specs.declared.level.Held.{Held}
-use Rattle.fm_elim.specs.declared.level.Level.{Level}
+use Rattle.fm_elim.specs.declared.level.HeldRows.{HeldRows}
 use Rattle.fm_elim.specs.Pairs.{coef_of, IsPair, IsWide}
 use Rattle.fm_elim.specs.Levels.{IsEmpty, IsLevelRow, IsRaw, IsDerived, IsClearTo, HasMoreThan}
 use Rattle.fm_elim.specs.Forming.{IsFormed}
@@ -17,44 +17,30 @@ use Rattle.fm_elim.specs.Table.{IsTable}
 use Rattle.fm_elim.specs.Logs.{IsLog, IsHeld, rows_of}
 use Rattle.fm_elim.specs.Answers.{NamesEachOnce, HasRationalSolution, IsWidePair, HasNoWidePair, IsPassedTo, IsOpen, IsWideAt, IsManyAt, IsFreeOfClashes}
 use Rattle.fm_elim.specs.Next.{AreNowhereWide, IsNextLevel}
+use Rattle.fm_elim.specs.Reached.{IsExact, IsReached}
 use Rattle.fm_elim.proofs.AtMost.{at_most}
+use Rattle.fm_elim.proofs.Covering.{Contains-map}
 use Rattle.fm_elim.proofs.Combined.{by_lt}
-use Rattle.fm_elim.proofs.Removal.{IsSolvable}
-use Rattle.fm_elim.proofs.Exactness.{IsExact, IsExact-first, IsExact-next, raw_of_other, kept_of_other}
-use Rattle.fm_elim.proofs.Back.{solvable_before, solvable_system}
-use Rattle.fm_elim.proofs.Columns.{IsRid, IsRid-start, IsRid-next, empty_from_rid, solvable_nothing}
-
--- the list is level k, no level before it keeps a row without coefficients, its rows have their numbers, and what satisfies it can be moved to satisfy the system
-pub record IsReached (system : Inequalities) (order : List ℕ) (k : ℕ) (log : List Derivation) (level : Level) : Type 0 where
-  pub steps : IsLog system log
-  pub held : All (IsHeld system log) level.rows.items
-  pub exact : IsExact (IsDerived system order k) (rows_of level.rows.items)
-  pub rid : IsRid order k (rows_of level.rows.items)
-  pub clear : (j : ℕ) (row : Row) → j < k → IsDerived system order j row → IsEmpty row → ⊥
-  pub few : (j : ℕ) → 1 ≤ j → j ≤ k → HasMoreThan 20000 (IsDerived system order j) → ⊥
-  pub narrow : (j : ℕ) → j < k → HasNoWidePair system order j
-  pub useful : All (λ h. IsEmpty h.row → h.row.bound <ℤ pos 0) level.rows.items
-  pub table : IsTable (rows_of level.rows.items) level.chains.links.items level.chains.latest.items
-  pub back : IsSolvable system.vars (rows_of level.rows.items) → IsSolvable system.vars system.rows
-
--- what holds of the rows holds of the held ones
-from_rows : (P : Row → Type 0) (level : List Held) → All P (rows_of level) → All (λ h. P h.row) level
-from_rows P level all k d h = subst P (get_or-map (λ h. h.row) level k d d.row h) (all k d.row (omega (arith, length-map level (λ h. h.row))))
+use Rattle.fm_elim.proofs.Exactness.{IsExact-first, IsExact-next, raw_of_other, kept_of_other}
+use Rattle.fm_elim.proofs.Columns.{empty_from_rid, solvable_nothing}
+use Rattle.fm_elim.proofs.Derived.{derived_useful, derived_full, derived_rid, contradiction_stays, solvable_from}
 
 -- level 0
-pub reached_first : (system : Inequalities) (order : List ℕ) (log : List Derivation) (level : Level) → IsFormed (λ r. Contains system.rows r) (rows_of level.rows.items) → IsTable (rows_of level.rows.items) level.chains.links.items level.chains.latest.items → IsLog system log → All (IsHeld system log) level.rows.items → IsReached system order 0 log level
-reached_first system order log level formed table good held = record {
+pub reached_first : (system : Inequalities) (order : List ℕ) (log : List Derivation) (level : HeldRows) → AreFull system.vars system.rows → IsFormed (λ r. Contains system.rows r) (rows_of level.rows.items) → IsTable (rows_of level.rows.items) level.chains.links.items level.chains.latest.items → IsLog system log → All (IsHeld system log) level.rows.items → IsReached system order 0 0 log level
+reached_first system order log level full formed table good held = record {
+  full = full;
   steps = good;
   held = held;
   exact = IsExact-first system order (rows_of level.rows.items) formed;
-  rid = IsRid-start order (rows_of level.rows.items);
-  clear = λ j row lt. absurd (omega arith);
+  table = table;
+  limit = omega arith;
   few = λ j low high. absurd (omega arith);
   narrow = λ j lt. absurd (omega arith);
-  useful = from_rows (λ r. IsEmpty r → r.bound <ℤ pos 0) level.rows.items formed.useful;
-  table = table;
-  back = solvable_system system.vars system.rows (rows_of level.rows.items) formed;
 }
+
+-- fewer rows are no more
+more_than_less : (m n : ℕ) (set : Row → Type 0) → m ≤ n → HasMoreThan n set → HasMoreThan m set
+more_than_less m n set h more = (more.0, omega (arith, h, more.1), more.2, more.3)
 
 -- how many variables the order has, and which
 pub order_length : (vars : ℕ) (order : List ℕ) → NamesEachOnce vars order → length order ≡ vars
@@ -75,19 +61,23 @@ order_names_last vars order names some =
     let there = Contains-permutation (range_with_len 1 vars) order vars names listed in
     (there.0, get_or_default order there.0 0 vars there.1 ∙ there.2)
 
-module _ (system : Inequalities) (order : List ℕ) (k : ℕ) (log : List Derivation) (level : Level) (reached : IsReached system order k log level) (none : All (λ h. IsEmpty h.row → ⊥) level.rows.items) where
+module _ (system : Inequalities) (order : List ℕ) (k most : ℕ) (log : List Derivation) (level : HeldRows) (reached : IsReached system order k most log level) where
+  -- a row without coefficients says something
+  pub useful_here : All (λ h. IsEmpty h.row → h.row.bound <ℤ pos 0) level.rows.items
+  useful_here i d h = let there = Contains-get_or level.rows.items i d h in
+      derived_useful system order k (get_or level.rows.items i d).row (reached.exact.only (get_or level.rows.items i d).row (Contains-map (λ (h : Held). h.row) level.rows.items (get_or level.rows.items i d) there))
+
+module _ (system : Inequalities) (order : List ℕ) (k most : ℕ) (log : List Derivation) (level : HeldRows) (reached : IsReached system order k most log level) (none : All (λ h. IsEmpty h.row → ⊥) level.rows.items) where
   -- no row of this level is without coefficients
   none_derived : (row : Row) → IsDerived system order k row → IsEmpty row → ⊥
   none_derived row derived = All-contains (λ r. IsEmpty r → ⊥) (rows_of level.rows.items) row (All-map (λ r. IsEmpty r → ⊥) (λ (h : Held). h.row) level.rows.items none) (reached.exact.has row derived)
 
   pub clear_here : IsClearTo system order k
-  clear_here j row lt derived = by_lt {P = IsEmpty row → ⊥} j k
-      (λ early. reached.clear j row early derived)
-      (λ here. let e : j ≡ k = omega arith in none_derived row (subst (λ i. IsDerived system order i row) e derived))
+  clear_here j row lt derived empty = let here = contradiction_stays system order j k row (omega arith) derived empty in none_derived here.0 here.1 here.2
 
   -- so the levels up to this one are whole
   pub passed_here : IsPassedTo system order k
-  passed_here = record { clear = clear_here; few = reached.few; narrow = reached.narrow }
+  passed_here = record { clear = clear_here; few = λ j low high more. reached.few j low high (more_than_less most 20000 (IsDerived system order j) reached.limit more); narrow = reached.narrow }
 
   -- no pair of this level is wide, where none of the list is
   no_wide_pair : (v : ℕ) → v ≡ slice_index order k → AreNowhereWide system.vars v (rows_of level.rows.items) → HasNoWidePair system order k
@@ -99,31 +89,26 @@ module _ (system : Inequalities) (order : List ℕ) (k : ℕ) (log : List Deriva
       let place : number - 1 ≡ k = omega arith in
       free upper lower (reached.exact.has upper (subst (λ i. IsDerived system order i upper) place hu)) (reached.exact.has lower (subst (λ i. IsDerived system order i lower) place hl))
 
-  full : AreFull system.vars (rows_of level.rows.items)
-  full = All-map (λ r. length r.coefs ≡ system.vars) (λ (h : Held). h.row) level.rows.items (All-weaker (IsHeld system log) (λ h. length h.row.coefs ≡ system.vars) (λ h held. held.suited.full) level.rows.items reached.held)
-
   -- the next level
-  pub reached_next : (v : ℕ) (more : List Derivation) (next : Level) → v ≡ slice_index order k → 1 ≤ v → v ≤ system.vars → IsNextLevel system v (rows_of level.rows.items) more next.rows.items → IsTable (rows_of next.rows.items) next.chains.links.items next.chains.latest.items → IsLog system more → IsReached system order (k + 1) more next
-  reached_next v more next is low high made table good =
+  pub reached_next : (v count top : ℕ) (more : List Derivation) (next : HeldRows) → v ≡ slice_index order k → count ≡ length next.rows.items → top ≡ max most count → IsNextLevel system v (rows_of level.rows.items) more next.rows.items → IsTable (rows_of next.rows.items) next.chains.links.items next.chains.latest.items → IsLog system more → IsReached system order (k + 1) top more next
+  reached_next v count top more next is counted highest made table good =
       let formed' = subst (λ i. IsFormed (IsRaw i (Contains (rows_of level.rows.items))) (rows_of next.rows.items)) is made.formed in
       let e : suc k ≡ k + 1 = omega arith in
       let exact' : IsExact (IsDerived system order (k + 1)) (rows_of next.rows.items) = subst (λ i. IsExact (IsDerived system order i) (rows_of next.rows.items)) e (IsExact-next system order k (rows_of level.rows.items) (rows_of next.rows.items) reached.exact formed') in
       record {
+        full = reached.full;
         steps = good;
         held = made.held;
         exact = exact';
-        rid = IsRid-next order k system.vars (rows_of level.rows.items) (rows_of next.rows.items) full reached.rid formed';
-        clear = λ j row lt. clear_here j row (omega arith);
+        table = table;
+        limit = omega (arith, reached.limit, made.few, counted, highest);
         few = λ j low high more. by_lt {P = ⊥} j (k + 1)
-            (λ early. reached.few j low (omega arith) more)
+            (λ early. reached.few j low (omega arith) (more_than_less most top (IsDerived system order j) (omega (arith, highest)) more))
             (λ here. let at : j ≡ k + 1 = omega arith in
             let all = All-weaker (IsDerived system order j) (Contains (rows_of next.rows.items)) (λ r d. exact'.has r (subst (λ i. IsDerived system order i r) at d)) more.0 more.3 in
-            omega (arith, more.1, at_most more.0 (rows_of next.rows.items) more.2 all, length-map next.rows.items (λ (h : Held). h.row), made.few));
+            omega (arith, more.1, at_most more.0 (rows_of next.rows.items) more.2 all, length-map next.rows.items (λ (h : Held). h.row), counted, highest));
         narrow = λ j lt. by_lt {P = HasNoWidePair system order j} j k (reached.narrow j)
             (λ here. let at : k ≡ j = omega arith in subst (HasNoWidePair system order) at (no_wide_pair v is made.narrow));
-        useful = from_rows (λ r. IsEmpty r → r.bound <ℤ pos 0) next.rows.items made.formed.useful;
-        table = table;
-        back = λ s. reached.back (solvable_before v system.vars (rows_of level.rows.items) (rows_of next.rows.items) low high full made.formed s);
       }
 
   -- two rows with a wide combination
@@ -167,11 +152,11 @@ module _ (system : Inequalities) (order : List ℕ) (k : ℕ) (log : List Deriva
   -- after the last level nothing is left, and the system has a solution
   solved_here : NamesEachOnce system.vars order → k ≡ length order → HasRationalSolution system
   solved_here names last =
-      let nothing : (r : Row) → Contains (rows_of level.rows.items) r → ⊥ = λ r there.
-      let rid = All-contains (λ r. (j : ℕ) → j < k → coef_of (slice_index order j) r ≡ pos 0) (rows_of level.rows.items) r reached.rid there in
-      let empty = empty_from_rid order system.vars r names (All-contains (λ r. length r.coefs ≡ system.vars) (rows_of level.rows.items) r full there) (λ j lt. rid j (omega arith)) in
-      All-contains (λ r. IsEmpty r → ⊥) (rows_of level.rows.items) r (All-map (λ r. IsEmpty r → ⊥) (λ (h : Held). h.row) level.rows.items none) there empty in
-      let s = reached.back (solvable_nothing system.vars (rows_of level.rows.items) nothing) in
+      let rows = rows_of level.rows.items in
+      let nothing : (r : Row) → Contains rows r → ⊥ = λ r there.
+      let derived = reached.exact.only r there in
+      none_derived r derived (empty_from_rid order system.vars r names (derived_full system order reached.full k r derived) (λ j lt. derived_rid system order reached.full k r derived j (omega arith))) in
+      let s = solvable_from system order reached.full k rows (λ j lt. order_within system.vars order j names (omega arith)) reached.exact (solvable_nothing system.vars rows nothing) in
       (s.x, s.d, record { values = s.values; divisor = s.divisor; rows = s.holds })
 
   pub open_here : NamesEachOnce system.vars order → k ≡ length order → IsOpen system order

@@ -6,6 +6,8 @@ pub mod Logs
 pub mod Gathering
 pub mod Next
 pub mod Answers
+pub mod Reached
+pub mod Advances
 pub mod Lean
 pub mod Chains
 pub mod Table

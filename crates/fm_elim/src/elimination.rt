@@ -1,149 +1,111 @@
 // Elimination, level by level.
 
-ghost use Rattle.std.specs.Prelude.{◌≡◌, ◌↔◌, ◌<◌, ◌-◌, ℤ, pos, neg_ℤ, ◌+ℤ◌, ◌<ℤ◌, IsTrue, IfOk, IfNone, IfSome, MatchOption, List, map, length, slice_index_or};
-ghost use Rattle.std.specs.List.{All, Contains};
-ghost use Rattle.farkas_cert.specs.Combination.{is_narrow as narrow, no_row};
+ghost use Rattle.std.specs.Prelude.{◌≡◌, ◌-◌, IfOk};
 ghost use Rattle.farkas_cert.specs.Narrow.{AreNarrow};
-ghost use Rattle.farkas_cert.specs.Good.{IsContradiction, IsGood};
-ghost use Rattle.fm_elim.specs.declared.level.Held.{Held as HeldRow};
-ghost use Rattle.fm_elim.specs.Levels.{IsEmpty, IsDerived};
-ghost use Rattle.fm_elim.specs.Table.{IsTable};
-ghost use Rattle.fm_elim.specs.Logs.{IsLog, IsHeld, rows_of};
+ghost use Rattle.fm_elim.specs.Levels.{IsDerived};
 ghost use Rattle.fm_elim.specs.Lean.{IsLean};
-ghost use Rattle.fm_elim.specs.Answers.{NamesEachOnce, IsDecided, IfInfeasible, IfWide, IfMany, AreClashing, IsFreeOfClashes};
+ghost use Rattle.fm_elim.specs.Answers.{NamesEachOnce, IsDecided, IfInfeasible, IfWide, IfMany, IsFreeOfClashes};
+ghost use Rattle.fm_elim.specs.Advances.{IsLevel, IsAdvance, system_of, order_of, gone_of};
 
 use crate::answer::{Answer, NoMemory};
-use crate::certificate::certificate_of;
-use crate::derivation::{Derivation, derive};
-use crate::level::{Formed, Held, Level, MOST_ROWS, first_level, is_empty, next_level};
-use farkas_cert::narrow::narrow_sum;
-use farkas_cert::{Certificate, Row, System};
-use std::alloc::{AllocError, Global};
+use crate::derivation::Derivation;
+use crate::level::{Formed, HeldRows, MOST_ROWS, first_level, next_level};
+use crate::refutation::refutation;
+use farkas_cert::System;
+use std::alloc::Global;
 
-// Whether the row is a contradiction: its bound is looked at first.
-fn is_contradiction(row: &Row) -> bool
-    ensures { IsTrue result ↔ IsContradiction row.now }
-{
-    row.bound < 0 && is_empty(row)
+/// A level of the elimination of a system's variables in an order: its rows, and how each of them
+/// follows from the system's. Level 0 comes first, and each level removes one variable more.
+#[derive(Drop)]
+pub struct Level<'a> {
+    system: &'a System,
+    order: &'a [u32],
+    // How many variables of the order are gone.
+    gone: usize,
+    // No level from 1 on has had more rows than this.
+    most: usize,
+    rows: HeldRows,
+    log: Vec<Derivation>,
 }
 
-// The number of a row without coefficients, which has a bound below 0.
-fn contradiction(level: &[Held]) -> Option<u64>
-    requires { All (λ h. IsEmpty h.row → h.row.bound <ℤ pos 0) level.now }
-    ensures { MatchOption result (All (λ h. IsEmpty h.row → ⊥) level.now) (λ number. (h : HeldRow) × Contains level.now h × IsEmpty h.row × (h.number ≡ number)) }
-{
-    for held in level {
-        if is_contradiction(&held.row) {
-            return Some(held.number);
+/// What removing the next variable comes to.
+#[derive(Drop)]
+pub enum Advance<'a> {
+    /// The next level.
+    Level(Level<'a>),
+    /// Elimination ends with this answer.
+    Answer(Answer),
+}
+
+impl<'a> Level<'a> {
+    /// Level 0 of a system, whose variables are to be removed in the order that is given.
+    ///
+    /// The order names each variable, from 1, once. The coefficients and the bounds are at most 2 ^ 126
+    /// in size. An error says that memory ran out, and nothing of the system.
+    pub fn start(alloc: Global, system: &'a System, order: &'a [u32]) -> Result<Self, NoMemory>
+        requires order { NamesEachOnce system.now.vars order.now }
+        requires narrow { AreNarrow system.now.rows }
+        ensures level { IfOk result (λ level. IsLevel level) }
+        ensures system { IfOk result (λ level. system_of level ≡ system.now) }
+        ensures order { IfOk result (λ level. order_of level ≡ order.now) }
+        ensures gone { IfOk result (λ level. gone_of level ≡ 0) }
+    {
+        let mut log = Vec::with_capacity(alloc, system.rows().len())?;
+        let rows = first_level(alloc, system, &mut log)?;
+        Ok(Level {
+            system,
+            order,
+            gone: 0,
+            most: 0,
+            rows,
+            log,
+        })
+    }
+
+    /// Removes the next variable of the order. The answer is Infeasible where the level holds a
+    /// contradiction or two rows that clash, Open where no variable is left, and else Wide or Many
+    /// where the next level has no whole form. An error says that memory ran out.
+    pub fn advance(self, alloc: Global) -> Result<Advance<'a>, NoMemory>
+        requires level { IsLevel self }
+        ensures advance { IfOk result (λ advance. IsAdvance self.entry advance) }
+    {
+        let Level {
+            system,
+            order,
+            gone,
+            most,
+            rows,
+            log,
+        } = self;
+        let mut log = log;
+        if let Some(certificate) = refutation(alloc, system, &rows, &mut log)? {
+            return Ok(Advance::Answer(Answer::Infeasible(certificate)));
+        }
+        if gone == order.len() {
+            return Ok(Advance::Answer(Answer::Open));
+        }
+        let variable = order[gone];
+        let level = gone as u32 + 1;
+        match next_level(alloc, system, rows, variable, &mut log)? {
+            Formed::Level(rows) => Ok(Advance::Level(Level {
+                system,
+                order,
+                gone: gone + 1,
+                most: most.max(rows.rows.len()),
+                rows,
+                log,
+            })),
+            Formed::Wide(upper, lower) => Ok(Advance::Answer(Answer::Wide {
+                level,
+                upper,
+                lower,
+            })),
+            Formed::Many => Ok(Advance::Answer(Answer::Many {
+                level,
+                count: MOST_ROWS as u64 + 1,
+            })),
         }
     }
-    None
-}
-
-// Whether the others are the numbers, each with the other sign.
-fn are_opposite(numbers: &[i128], others: &[i128]) -> bool
-    requires narrow { All (λ a. IsTrue (narrow a)) numbers.now }
-    requires same { length others.now ≡ length numbers.now }
-    ensures { IsTrue result ↔ (others.now ≡ map neg_ℤ numbers.now) }
-{
-    for (k, number) in numbers.iter().enumerate() {
-        if -*number != others[k] {
-            return false;
-        }
-    }
-    true
-}
-
-// The bounds of two opposite rows add to less than 0, and within the limit.
-fn bounds_clash(bound: i128, other: i128) -> bool
-    ensures { IsTrue result ↔ (IsTrue (narrow (bound +ℤ other)) × ((bound +ℤ other) <ℤ pos 0)) }
-{
-    match narrow_sum(bound, other) {
-        Some(sum) => sum < 0,
-        None => false,
-    }
-}
-
-// Whether the rows are each other's opposites but for the bounds, which add to less than 0.
-fn are_clashing(upper: &Row, lower: &Row) -> bool
-    requires narrow { All (λ a. IsTrue (narrow a)) upper.now.coefs }
-    requires same { length lower.now.coefs ≡ length upper.now.coefs }
-    ensures { IsTrue result ↔ AreClashing upper.now lower.now }
-{
-    bounds_clash(upper.bound, lower.bound)
-        && are_opposite(upper.coefs.as_slice(), lower.coefs.as_slice())
-}
-
-// The number, from 0, of a row with which the row of this number clashes.
-fn opponent(level: &Level, number: usize) -> Option<usize>
-    requires number { number < length level.now.rows.items }
-    requires full { (h : HeldRow) (o : HeldRow) → Contains level.now.rows.items h → Contains level.now.rows.items o → length h.row.coefs ≡ length o.row.coefs }
-    requires narrow { All (λ h. All (λ a. IsTrue (narrow a)) h.row.coefs) level.now.rows.items }
-    requires table { IsTable (rows_of level.now.rows.items) level.now.chains.links.items level.now.chains.latest.items }
-    ensures { MatchOption result (All (λ r. AreClashing (slice_index_or (rows_of level.now.rows.items) number no_row) r → ⊥) (rows_of level.now.rows.items))
-        (λ k. (k < length level.now.rows.items) × AreClashing (slice_index_or (rows_of level.now.rows.items) number no_row) (slice_index_or (rows_of level.now.rows.items) k no_row)) }
-{
-    let hash = level.chains.links[number].opposite;
-    let row = &level.rows[number].row;
-    let mut end = level.chains.last(hash);
-    while end > 0 {
-        let link = level.chains.links[end - 1];
-        if link.hash == hash && are_clashing(row, &level.rows[end - 1].row) {
-            return Some(end - 1);
-        }
-        end = link.earlier;
-    }
-    None
-}
-
-// Two rows that are each other's opposites but for the bound, and whose bounds add to less than 0.
-fn clash(level: &Level) -> Option<(u64, u64)>
-    requires full { (h : HeldRow) (o : HeldRow) → Contains level.now.rows.items h → Contains level.now.rows.items o → length h.row.coefs ≡ length o.row.coefs }
-    requires narrow { All (λ h. All (λ a. IsTrue (narrow a)) h.row.coefs) level.now.rows.items }
-    requires table { IsTable (rows_of level.now.rows.items) level.now.chains.links.items level.now.chains.latest.items }
-    ensures found { IfSome result (λ p. (upper : HeldRow) × (lower : HeldRow) × Contains level.now.rows.items upper × Contains level.now.rows.items lower × (upper.number ≡ p.0) × (lower.number ≡ p.1) × AreClashing upper.row lower.row) }
-    ensures none { IfNone result (IsFreeOfClashes (λ r. Contains (rows_of level.now.rows.items) r)) }
-{
-    for number in 0..level.rows.len() {
-        if let Some(other) = opponent(level, number) {
-            return Some((level.rows[number].number, level.rows[other].number));
-        }
-    }
-    None
-}
-
-// The certificate of a contradiction that the level holds, or that two of its rows make.
-fn refutation(
-    alloc: Global,
-    system: &System,
-    level: &Level,
-    log: &mut Vec<Derivation>,
-) -> Result<Option<Certificate>, AllocError>
-    requires log { IsLog system.now log.old.items }
-    requires held { All (IsHeld system.now log.old.items) level.now.rows.items }
-    requires useful { All (λ h. IsEmpty h.row → h.row.bound <ℤ pos 0) level.now.rows.items }
-    requires table { IsTable (rows_of level.now.rows.items) level.now.chains.links.items level.now.chains.latest.items }
-    ensures good { IfOk result (λ o. IfSome o (λ c. IsGood system.now c)) }
-    ensures lean { IfOk result (λ o. IfSome o (λ c. IsLean system.now c)) }
-    ensures clear { IfOk result (λ o. IfNone o (All (λ h. IsEmpty h.row → ⊥) level.now.rows.items)) }
-    ensures apart { IfOk result (λ o. IfNone o (IsFreeOfClashes (λ r. Contains (rows_of level.now.rows.items) r))) }
-    ensures log { IfOk result (λ o. IfNone o (log.new.items ≡ log.old.items)) }
-{
-    if let Some(number) = contradiction(level.rows.as_slice()) {
-        let certificate = certificate_of(alloc, system, log.as_slice(), number)?;
-        return Ok(Some(certificate));
-    }
-    if let Some((first, last)) = clash(level) {
-        let sum = Derivation {
-            divisor: 1,
-            first: (first, 1),
-            second: Some((last, 1)),
-        };
-        let number = derive(system, log, sum)?;
-        let certificate = certificate_of(alloc, system, log.as_slice(), number)?;
-        return Ok(Some(certificate));
-    }
-    Ok(None)
 }
 
 /// Decides a system by Fourier's elimination, which removes the variables in the order that is given.
@@ -167,32 +129,11 @@ pub fn decide(alloc: Global, system: &System, order: &[u32]) -> Result<Answer, N
     ensures before_wide { IfOk result (λ a. IfWide a (λ k upper lower. IsFreeOfClashes (IsDerived system.now order.now (k - 1)))) }
     ensures before_many { IfOk result (λ a. IfMany a (λ k count. IsFreeOfClashes (IsDerived system.now order.now (k - 1)))) }
 {
-    let mut log = Vec::with_capacity(alloc, system.rows().len())?;
-    let mut level = first_level(alloc, system, &mut log)?;
-    for (index, variable) in order.iter().enumerate() {
-        if let Some(certificate) = refutation(alloc, system, &level, &mut log)? {
-            return Ok(Answer::Infeasible(certificate));
+    let mut level = Level::start(alloc, system, order)?;
+    loop {
+        match level.advance(alloc)? {
+            Advance::Level(next) => level = next,
+            Advance::Answer(answer) => return Ok(answer),
         }
-        let number = index as u32 + 1;
-        match next_level(alloc, system, level, *variable, &mut log)? {
-            Formed::Level(next) => level = next,
-            Formed::Wide(upper, lower) => {
-                return Ok(Answer::Wide {
-                    level: number,
-                    upper,
-                    lower,
-                });
-            }
-            Formed::Many => {
-                return Ok(Answer::Many {
-                    level: number,
-                    count: MOST_ROWS as u64 + 1,
-                });
-            }
-        }
-    }
-    match refutation(alloc, system, &level, &mut log)? {
-        Some(certificate) => Ok(Answer::Infeasible(certificate)),
-        None => Ok(Answer::Open),
     }
 }

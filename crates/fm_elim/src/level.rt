@@ -51,7 +51,7 @@ pub struct Candidate {
 
 /// The rows of a level, no two with equal coefficients.
 #[derive(Drop)]
-pub struct Level {
+pub struct HeldRows {
     pub rows: Vec<Held>,
     /// Where they are found.
     pub chains: Chains,
@@ -61,7 +61,7 @@ pub struct Level {
 #[derive(Drop)]
 pub enum Formed {
     /// The level.
-    Level(Level),
+    Level(HeldRows),
     /// Two rows of the level before, one that bounds the variable from above and one from below, whose
     /// least combination has a product or a sum past 2 ^ 126 in size.
     Wide(Row, Row),
@@ -199,7 +199,7 @@ pub fn first_level(
     alloc: Global,
     system: &System,
     log: &mut Vec<Derivation>,
-) -> Result<Level, AllocError>
+) -> Result<HeldRows, AllocError>
     requires fresh { log.old.items ≡ [] }
     requires narrow { AreNarrow system.now.rows }
     ensures formed { IfOk result (λ level. IsFormed (λ r. Contains system.now.rows r) (rows_of level.rows.items)) }
@@ -209,14 +209,14 @@ pub fn first_level(
 {
     let Table { rows, chains } = given_rows(alloc, system)?;
     let rows = numbered(alloc, system, rows, log)?;
-    Ok(Level { rows, chains })
+    Ok(HeldRows { rows, chains })
 }
 
 /// Removes the variable, numbered from 1, from the rows of a level. An error says that memory ran out.
 pub fn next_level(
     alloc: Global,
     system: &System,
-    level: Level,
+    level: HeldRows,
     variable: u32,
     log: &mut Vec<Derivation>,
 ) -> Result<Formed, AllocError>
@@ -228,7 +228,7 @@ pub fn next_level(
     ensures next { IfOk result (λ f. IsNext system.now variable (rows_of level.rows.items) log.new.items f) }
     ensures log { OnOk result (IsLog system.now log.new.items) }
 {
-    let Level { rows, chains } = level;
+    let HeldRows { rows, chains } = level;
     let BySign {
         apart,
         uppers,
@@ -251,5 +251,5 @@ pub fn next_level(
     }
     let Table { rows, chains } = table;
     let rows = numbered(alloc, system, rows, log)?;
-    Ok(Formed::Level(Level { rows, chains }))
+    Ok(Formed::Level(HeldRows { rows, chains }))
 }

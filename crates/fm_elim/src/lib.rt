@@ -5,9 +5,11 @@
 //! variable, and the least combinations of its pairs of opposite sign. It answers with a certificate
 //! that the system has no whole solution, or by what the system is kept: no level has a contradiction,
 //! so that it has a rational solution; or a number gets too large, or a level has too many rows.
+//! [`Level`] is the same in steps.
 //!
 //! - `answer`: the answers.
-//! - `elimination`: the decision, level by level.
+//! - `elimination`: levels, and the decision over them.
+//! - `refutation`: contradictions, and rows that clash.
 //! - `level`, with `forming` and `pairs`: level 0, and each level from the one before it.
 //! - `table` and `chains`: rows that are found by a hash of their coefficients.
 //! - `reduction` and `combination`: rows in their lowest terms, and the least combination of two.
@@ -25,10 +27,11 @@ mod forming;
 mod level;
 mod pairs;
 mod reduction;
+mod refutation;
 mod table;
 
 pub use answer::{Answer, NoMemory};
-pub use elimination::decide;
+pub use elimination::{Advance, Level, decide};
 
 #[cfg(test)]
 mod decision_tests;

@@ -1,6 +1,15 @@
-use Rattle.fm_elim.proofs.Reached.{IsReached}
+use Rattle.std.proofs.Common.{◌≡◌, ◌-◌, length}
+use Rattle.fm_elim.specs.Advances.{IsLevel, system_of, order_of, gone_of}
 use Rattle.fm_elim.proofs.elimination.decide.Given as goal
 
--- the level that is reached
-abbrev pub invariant-loop-index : goal.invariant-loop-index
-invariant-loop-index l = IsReached l.system l.order l.index l.log.items l.level
+-- a level of the system
+abbrev pub invariant-loop-next : goal.invariant-loop-next
+invariant-loop-next l = record {
+  level : IsLevel l.level;
+  system : system_of l.level ≡ l.system;
+  order : order_of l.level ≡ l.order;
+}
+
+-- the variables that are left
+abbrev pub decreases-loop-next : goal.decreases-loop-next
+decreases-loop-next l = length l.order - gone_of l.level

@@ -3,7 +3,7 @@ use Rattle.std.specs.List.{All}
 use Rattle.farkas_cert.specs.Combination.{no_row}
 use Rattle.fm_elim.specs.Logs.{rows_of}
 use Rattle.fm_elim.specs.Answers.{AreClashing}
-use Rattle.fm_elim.proofs.elimination.clash.Given as goal
+use Rattle.fm_elim.proofs.refutation.clash.Given as goal
 
 -- no row so far clashes with one
 abbrev pub invariant-loop-number : goal.invariant-loop-number

@@ -1,6 +1,6 @@
 use Rattle.std.proofs.Common.{◌∙◌, ap, length, arith}
 use Rattle.fm_elim.proofs.Opposites.{sum_logged, sum_ends}
-use Rattle.fm_elim.proofs.elimination.refutation.Goals as goal
+use Rattle.fm_elim.proofs.refutation.refutation.Goals as goal
 
 pub certificate_of-requires-in-Some-clash-clause-log : goal.certificate_of-requires-in-Some-clash-clause-log
 certificate_of-requires-in-Some-clash-clause-log c =

@@ -4,7 +4,7 @@ use Rattle.std.proofs.lemmas.List.{get_or_default}
 use Rattle.fm_elim.specs.declared.level.Held.{Held}
 use Rattle.fm_elim.specs.Levels.{IsEmpty}
 use Rattle.fm_elim.proofs.Combined.{by_lt}
-use Rattle.fm_elim.proofs.elimination.contradiction.Goals as goal
+use Rattle.fm_elim.proofs.refutation.contradiction.Goals as goal
 
 pub loop-held-preserved : goal.loop-held-preserved
 loop-held-preserved c k d lt empty =

@@ -1,7 +1,7 @@
 use Rattle.std.proofs.Common.{ℕ, ◌<◌, get_or}
 use Rattle.fm_elim.specs.declared.level.Held.{Held}
 use Rattle.fm_elim.specs.Levels.{IsEmpty}
-use Rattle.fm_elim.proofs.elimination.contradiction.Given as goal
+use Rattle.fm_elim.proofs.refutation.contradiction.Given as goal
 
 -- no row so far is without coefficients
 abbrev pub invariant-loop-held : goal.invariant-loop-held

@@ -3,7 +3,7 @@ use Rattle.farkas_cert.specs.Combination.{no_row}
 use Rattle.fm_elim.specs.Logs.{rows_of}
 use Rattle.fm_elim.specs.Answers.{AreClashing}
 use Rattle.fm_elim.proofs.Hashing.{IsLookedFor}
-use Rattle.fm_elim.proofs.elimination.opponent.Given as goal
+use Rattle.fm_elim.proofs.refutation.opponent.Given as goal
 
 -- no row from the end on clashes with the row
 abbrev pub invariant-loop-end : goal.invariant-loop-end

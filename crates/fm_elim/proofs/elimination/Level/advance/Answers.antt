@@ -1,0 +1,105 @@
+use Rattle.std.proofs.Common.{◌≡◌, ◌+◌, ◌<◌, IfNone, Fits, w32, length, get_or, subst, refl, sym, ◌∙◌, arith}
+use Rattle.std.specs.List.{All, Contains}
+use Rattle.fm_elim.specs.Levels.{IsEmpty}
+use Rattle.fm_elim.specs.Logs.{rows_of}
+use Rattle.fm_elim.specs.Answers.{IsFreeOfClashes}
+use Rattle.fm_elim.specs.Next.{IsNext}
+use Rattle.fm_elim.proofs.Reached.{useful_here, order_length, order_within, order_names_last, reached_next, wide_here, many_here, free_here, open_here}
+use Rattle.fm_elim.proofs.elimination.Level.advance.Goals as goal
+
+pub refutation-requires-clause-useful : goal.refutation-requires-clause-useful
+refutation-requires-clause-useful c =
+    let level = c.args.self in
+    useful_here level.system.now level.order.now level.gone level.most level.log.items level.rows c.requires.level.reached
+
+pub returns-then-gone-order : goal.returns-then-gone-order
+returns-then-gone-order c =
+    let level = c.args.self in
+    let none = subst (λ o. IfNone o (All (λ h. IsEmpty h.row → ⊥) level.rows.rows.items)) c.in_default.is c.in_ok-certificate.ensures.clear in
+    let last : level.gone ≡ length level.order.now = c.if-gone-order.true in
+    record {
+      advance = record {
+        decided = open_here level.system.now level.order.now level.gone level.most level.log.items level.rows c.requires.level.reached none c.requires.level.order last;
+        lean = tt;
+        wide = tt;
+        many = tt;
+      };
+    }
+
+pub overflow_cast-level : goal.overflow_cast-level
+overflow_cast-level c =
+    let vars = c.args.self.system.now.vars in
+    let order = c.args.self.order.now in
+    let count : length order ≡ vars = order_length vars order c.requires.level.order in
+    let within : c.args.self.gone < length order = omega (arith, c.requires.level.gone, c.if-gone-order.false) in
+    let last = order_names_last vars order c.requires.level.order (omega arith) in
+    let fits : Fits w32 vars = subst (Fits w32) last.1 (c.type_inv.order last.0) in
+    omega arith
+
+pub overflow_add-level : goal.overflow_add-level
+overflow_add-level c =
+    let vars = c.args.self.system.now.vars in
+    let order = c.args.self.order.now in
+    let count : length order ≡ vars = order_length vars order c.requires.level.order in
+    let within : c.args.self.gone < length order = omega (arith, c.requires.level.gone, c.if-gone-order.false) in
+    let last = order_names_last vars order c.requires.level.order (omega arith) in
+    let fits : Fits w32 vars = subst (Fits w32) last.1 (c.type_inv.order last.0) in
+    omega arith
+
+pub next_level-requires-clause-variable : goal.next_level-requires-clause-variable
+next_level-requires-clause-variable c = order_within c.args.self.system.now.vars c.args.self.order.now c.args.self.gone c.requires.level.order (omega (arith, c.requires.level.gone, c.if-gone-order.false))
+
+pub returns-in-Level : goal.returns-in-Level
+returns-in-Level c =
+    let level = c.args.self in
+    let system = level.system.now in
+    let v = get_or level.order.now level.gone 0 in
+    let none = subst (λ o. IfNone o (All (λ h. IsEmpty h.row → ⊥) level.rows.rows.items)) c.in_default.is c.in_ok-certificate.ensures.clear in
+    let next = subst (IsNext system v (rows_of level.rows.rows.items) c.next_level.new.log.items) c.in-Level.is c.in_ok-rows.ensures.next in
+    let reached = reached_next system level.order.now level.gone level.most level.log.items level.rows c.requires.level.reached none v c.len.result c.max.result c.next_level.new.log.items c.in-Level.rows refl (c.len.ensures ∙ c.in-Level.rows.rows.ok.0) (omega (arith, c.max.ensures)) next.0 next.1 c.in_ok-rows.ensures.log in
+    record {
+      advance = record {
+        level = record { order = c.requires.level.order; gone = omega (arith, c.requires.level.gone, c.if-gone-order.false); reached = reached };
+        system = refl;
+        order = refl;
+        gone = refl;
+      };
+    }
+
+pub returns-in-Wide : goal.returns-in-Wide
+returns-in-Wide c =
+    let level = c.args.self in
+    let system = level.system.now in
+    let order = level.order.now in
+    let v = get_or order level.gone 0 in
+    let none = subst (λ o. IfNone o (All (λ h. IsEmpty h.row → ⊥) level.rows.rows.items)) c.in_default.is c.in_ok-certificate.ensures.clear in
+    let free = subst (λ o. IfNone o (IsFreeOfClashes (λ r. Contains (rows_of level.rows.rows.items) r))) c.in_default.is c.in_ok-certificate.ensures.apart in
+    let next = subst (IsNext system v (rows_of level.rows.rows.items) c.next_level.new.log.items) c.in-Wide.is c.in_ok-rows.ensures.next in
+    let within : level.gone < system.vars = omega (arith, order_length system.vars order c.requires.level.order, c.requires.level.gone, c.if-gone-order.false) in
+    record {
+      advance = record {
+        decided = wide_here system order level.gone level.most level.log.items level.rows c.requires.level.reached none v (level.gone + 1) c.in-Wide.upper c.in-Wide.lower refl refl within next.0 next.1 next.2;
+        lean = tt;
+        wide = (refl, free_here system order level.gone level.most level.log.items level.rows c.requires.level.reached none (level.gone + 1) refl free);
+        many = tt;
+      };
+    }
+
+pub returns : goal.returns
+returns c =
+    let level = c.args.self in
+    let system = level.system.now in
+    let order = level.order.now in
+    let v = get_or order level.gone 0 in
+    let none = subst (λ o. IfNone o (All (λ h. IsEmpty h.row → ⊥) level.rows.rows.items)) c.in_default.is c.in_ok-certificate.ensures.clear in
+    let free = subst (λ o. IfNone o (IsFreeOfClashes (λ r. Contains (rows_of level.rows.rows.items) r))) c.in_default.is c.in_ok-certificate.ensures.apart in
+    let next = subst (IsNext system v (rows_of level.rows.rows.items) c.next_level.new.log.items) c.in-Many.is c.in_ok-rows.ensures.next in
+    let within : level.gone < system.vars = omega (arith, order_length system.vars order c.requires.level.order, c.requires.level.gone, c.if-gone-order.false) in
+    record {
+      advance = record {
+        decided = many_here system order level.gone level.most level.log.items level.rows c.requires.level.reached none v (level.gone + 1) 20001 refl refl within refl next.0 next.1;
+        lean = tt;
+        wide = tt;
+        many = (refl, free_here system order level.gone level.most level.log.items level.rows c.requires.level.reached none (level.gone + 1) refl free);
+      };
+    }
