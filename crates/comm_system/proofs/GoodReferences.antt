@@ -8,7 +8,7 @@ use Rattle.nest_tree.specs.declared.tree.Guard.{Guard}
 use Rattle.nest_tree.specs.Form.{Form}
 use Rattle.nest_tree.specs.Loads.{loads_among, loads_in}
 use Rattle.nest_tree.specs.Tree.{Constant, Expression, Expressions, number, loop_value, param, load, neg, add, sub, mul, div, least_of, greatest_of, no_more, one_more, Printed, value, whole, text, Work, assign, print, Head, Statement, Statements, do_loop, work, continue, done, next, Tree, param_values}
-use Rattle.nest_tree.specs.WellFormed.{IsWellFormed, Scope, are_good_expressions, is_good_access, is_good_expression, is_good_guard, is_good_item, is_good_work, is_value, names_only, scope_of}
+use Rattle.nest_tree.specs.WellFormed.{IsWellFormed, Scope, are_good_expressions, is_good_access, is_good_expression, is_good_guard, is_good_item, is_good_work, is_number_of, is_value, names_only, rank_of, scope_of}
 use Rattle.nest_walk.specs.Tables.{Loaded, element, array, loaded_in_item, loaded_in_work, stores_in}
 use Rattle.nest_rows.specs.Groups.{guard_of}
 use Rattle.nest_rows.specs.Nested.{Nested, nested_among, nested_in}
@@ -20,9 +20,9 @@ use Rattle.comm_system.proofs.Solved.{AreNamed, IsGoodReference}
 
 -- ---- what is loaded by a good piece of work is good
 
-abbrev IsGoodLoaded : Scope → List ℕ → Loaded → Type 0
+abbrev pub IsGoodLoaded : Scope → List ℕ → Loaded → Type 0
 IsGoodLoaded scope around (element a) = is_good_access scope around a ≡ true
-IsGoodLoaded scope around (array variable) = Unit {0}
+IsGoodLoaded scope around (array variable) = is_number_of (length scope.ranks) variable ≡ true
 
 module _ (scope : Scope) (around : List ℕ) where
   abbrev AllGood : List Access → Type 0
@@ -62,7 +62,7 @@ module _ (scope : Scope) (around : List ℕ) where
 
   item_good : (p : Printed) → is_good_item scope around p ≡ true → AllByRecursion (IsGoodLoaded scope around) (loaded_in_item p)
   item_good (value e) good = elements (loads_in e) (loads_good e good)
-  item_good (whole variable) good = (tt, tt)
+  item_good (whole variable) good = ((and_parts (is_number_of (length scope.ranks) variable) (nat_lt 0 (rank_of scope variable)) good).0, tt)
   item_good (text characters) good = tt
 
   items_good : (ps : List Printed) → list_all (is_good_item scope around) ps ≡ true → AllByRecursion (IsGoodLoaded scope around) (flat_map loaded_in_item ps)
@@ -71,13 +71,13 @@ module _ (scope : Scope) (around : List ℕ) where
       let g = and_parts (is_good_item scope around p) (list_all (is_good_item scope around) ps) good in
       all-append (IsGoodLoaded scope around) (loaded_in_item p) (flat_map loaded_in_item ps) (item_good p g.0) (items_good ps g.1)
 
-  loaded_good : (w : Work) → is_good_work scope around w ≡ true → AllByRecursion (IsGoodLoaded scope around) (loaded_in_work w)
+  pub loaded_good : (w : Work) → is_good_work scope around w ≡ true → AllByRecursion (IsGoodLoaded scope around) (loaded_in_work w)
   loaded_good (assign a) good =
       let last = and_parts (is_good_access scope around a.target && is_good_expression scope around a.value) (is_good_guard scope around a.guard) good in
       elements (loads_in a.value) (loads_good a.value (and_parts (is_good_access scope around a.target) (is_good_expression scope around a.value) last.0).1)
   loaded_good (print p) good = items_good p.items good
 
-  stored_good : (w : Work) → is_good_work scope around w ≡ true → AllByRecursion (λ a. is_good_access scope around a ≡ true) (stores_in w)
+  pub stored_good : (w : Work) → is_good_work scope around w ≡ true → AllByRecursion (λ a. is_good_access scope around a ≡ true) (stores_in w)
   stored_good (assign a) good =
       let last = and_parts (is_good_access scope around a.target && is_good_expression scope around a.value) (is_good_guard scope around a.guard) good in
       ((and_parts (is_good_access scope around a.target) (is_good_expression scope around a.value) last.0).0, tt)

@@ -14,3 +14,6 @@ pub mod GoodReferences
 pub mod PairLists
 pub mod KnownHeads
 pub mod Meets
+pub mod Cells
+pub mod Places
+pub mod Timeline

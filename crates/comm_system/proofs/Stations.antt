@@ -90,7 +90,7 @@ abbrev mutual
   text_among enters done = []
   text_among enters (next s rest) = text_of enters s ++ text_among enters rest
 
-abbrev within : List Head → StaticPhase → StaticPhase
+abbrev pub within : List Head → StaticPhase → StaticPhase
 within outer p = record { what = p.what; outer = outer ++ p.outer }
 
 within-inside : (outer : List Head) (h : Head) (xs : List StaticPhase) → map (within (outer ++ h ∷ [])) xs ≡ map (within outer) (map (inside h) xs)

@@ -1,0 +1,251 @@
+-- Where an execution stands: the phase, the stop of the walk inside it, and the loops round it at their trips.
+use Rattle.std.proofs.Common.{◌≡◌, ℕ, zero, suc, ◌+◌, ◌-◌, ◌<◌, ◌≤◌, ℤ, pos, Bool, true, false, true≢false, Option, Some, None, List, [], ◌∷◌, ◌++◌, length, map, if◌then◌else◌, refl, ap, sym, ◌∙◌, subst, inl, inr, arith}
+use Rattle.std.specs.List.{AllByRecursion, Contains, flat_map, slice_get}
+use Rattle.std.proofs.lemmas.Bool.{cases_lt}
+use Rattle.nest_tree.specs.Form.{numbered}
+use Rattle.nest_tree.specs.Tree.{Head, Work, Statement, Statements, do_loop, work, continue, done, next}
+use Rattle.nest_tree.specs.WellFormed.{Scope, loops_in}
+use Rattle.nest_model.specs.Instances.{Instance, instances_of, is_executed}
+use Rattle.nest_model.specs.Visits.{Visit, every, executed_at, instances_at, visits_of}
+use Rattle.nest_walk.proofs.InstanceLists.{one_same}
+use Rattle.nest_rows.specs.Nested.{AreTrips, Nested, nested_among, nested_in}
+use Rattle.nest_rows.proofs.Nesting.{all-append, all-at, all-weaker}
+use Rattle.owner_partition.specs.Phases.{Execution, executions_from, phase_instances}
+use Rattle.sync_plan.proofs.Gets.{get-behind, get-front}
+use Rattle.comm_system.specs.References.{StaticPhase, phases_among, phases_in}
+use Rattle.comm_system.proofs.Cells.{contains_here, contains_later}
+use Rattle.comm_system.proofs.Contexts.{IsBefore, IsInFront, kept-number}
+use Rattle.comm_system.proofs.StationFacts.{AreValid, Deepens, IsStation, each_of, loops_after, mapped_get}
+use Rattle.comm_system.proofs.Stations.{Station, at_trip, phases_in-within, stations_of, text_of, visit_in, visits-of, within}
+use Rattle.comm_system.proofs.StationsThere.{mapped_back}
+
+-- ---- executions and phases
+
+-- it is an instance of a phase, by how many phases are in front of that
+pub record IsOf (params : List ℤ) (e : ℕ) (vs : List Visit) (x : Execution) : Type 0 where
+  pub phase : ℕ
+  pub visit : Visit
+  pub index : ℕ
+  pub at : slice_get vs phase ≡ Some visit
+  pub phase_is : x.phase ≡ e + phase
+  pub place_is : x.place ≡ visit.place
+  pub is : slice_get (phase_instances params visit) index ≡ Some x.instance
+
+abbrev in_phase : ℕ → Visit → Instance → Execution
+in_phase e v i = record { phase = e; place = v.place; instance = i }
+
+pub execution_of : (params : List ℤ) (e : ℕ) (vs : List Visit) (x : Execution) (n : ℕ) → slice_get (executions_from params e vs) n ≡ Some x → IsOf params e vs x
+execution_of params e [] x n at = let clash : None ≡ Some x = at in absurd (cc)
+execution_of params e (v ∷ vs) x n at =
+    let here = map (in_phase e v) (phase_instances params v) in
+    let later = executions_from params (suc e) vs in
+    elim (cases_lt n (length here)) [
+      | inl less ↦
+          let m = mapped_back (in_phase e v) (phase_instances params v) n x (sym (get-front here later n less) ∙ at) in
+          let p = ap (λ (y : Execution). y.phase) (sym m.2) in
+          record { phase = 0; visit = v; index = n; at = refl; phase_is = omega (arith, p); place_is = ap (λ (y : Execution). y.place) (sym m.2); is = m.1 ∙ ap Some (ap (λ (y : Execution). y.instance) m.2) }
+      | inr past ↦
+          let more : length here + (n - length here) ≡ n = omega (arith, past) in
+          let rest = execution_of params (suc e) vs x (n - length here) (sym (get-behind here later (n - length here)) ∙ ap (slice_get (here ++ later)) more ∙ at) in
+          record { phase = suc rest.phase; visit = rest.visit; index = rest.index; at = rest.at; phase_is = omega (arith, rest.phase_is); place_is = rest.place_is; is = rest.is }
+    ]
+
+-- a later execution is of the same phase, and later there, or of a later one
+pub record InOrder (params : List ℤ) (e : ℕ) (vs : List Visit) (x y : Execution) : Type 0 where
+  pub first : IsOf params e vs x
+  pub second : IsOf params e vs y
+  pub phases : first.phase ≤ second.phase
+  pub within_phase : first.phase ≡ second.phase → first.index < second.index
+
+pub in_order : (params : List ℤ) (e : ℕ) (vs : List Visit) (x y : Execution) (j k : ℕ) → j < k → slice_get (executions_from params e vs) j ≡ Some x → slice_get (executions_from params e vs) k ≡ Some y → InOrder params e vs x y
+in_order params e [] x y j k lt at at' = let clash : None ≡ Some x = at in absurd (cc)
+in_order params e (v ∷ vs) x y j k lt at at' =
+    let here = map (in_phase e v) (phase_instances params v) in
+    let later = executions_from params (suc e) vs in
+    let one = λ (z : Execution) (n : ℕ) (less : n < length here) (is : slice_get (here ++ later) n ≡ Some z).
+    mapped_back (in_phase e v) (phase_instances params v) n z (sym (get-front here later n less) ∙ is) in
+    let first = λ (z : Execution) (n : ℕ) (less : n < length here) (is : slice_get (here ++ later) n ≡ Some z). here_of z n (one z n less is).0 (one z n less is).1 (one z n less is).2 in
+    elim (cases_lt j (length here)) [
+      | inl less ↦ elim (cases_lt k (length here)) [
+        | inl less' ↦ record { first = first x j less at; second = first y k less' at'; phases = omega arith; within_phase = λ same. lt }
+        | inr past' ↦
+            let more' : length here + (k - length here) ≡ k = omega (arith, past') in
+            let rest = execution_of params (suc e) vs y (k - length here) (sym (get-behind here later (k - length here)) ∙ ap (slice_get (here ++ later)) more' ∙ at') in
+            record { first = first x j less at; second = later_of y rest; phases = omega arith; within_phase = λ (same : 0 ≡ suc rest.phase). absurd (omega (arith, same)) }
+      ]
+      | inr past ↦
+          let more : length here + (j - length here) ≡ j = omega (arith, past) in
+          let more' : length here + (k - length here) ≡ k = omega (arith, past, lt) in
+          let rest = in_order params (suc e) vs x y (j - length here) (k - length here) (omega (arith, lt, past)) (sym (get-behind here later (j - length here)) ∙ ap (slice_get (here ++ later)) more ∙ at) (sym (get-behind here later (k - length here)) ∙ ap (slice_get (here ++ later)) more' ∙ at') in
+          record { first = later_of x rest.first; second = later_of y rest.second; phases = omega (arith, rest.phases); within_phase = λ (same : suc rest.first.phase ≡ suc rest.second.phase). rest.within_phase (omega (arith, same)) }
+    ]
+  where
+    here_of : (z : Execution) (n : ℕ) (i : Instance) → slice_get (phase_instances params v) n ≡ Some i → in_phase e v i ≡ z → IsOf params e (v ∷ vs) z
+    here_of z n i is same =
+        let p = ap (λ (y : Execution). y.phase) (sym same) in
+        record { phase = 0; visit = v; index = n; at = refl; phase_is = omega (arith, p); place_is = ap (λ (y : Execution). y.place) (sym same); is = is ∙ ap Some (ap (λ (y : Execution). y.instance) same) }
+
+    later_of : (z : Execution) → IsOf params (suc e) vs z → IsOf params e (v ∷ vs) z
+    later_of z rest = record { phase = suc rest.phase; visit = rest.visit; index = rest.index; at = rest.at; phase_is = omega (arith, rest.phase_is); place_is = rest.place_is; is = rest.is }
+
+-- ---- the instance at a stop
+
+-- an instance of a list of stops
+pub record IsAt (params : List ℤ) (vs : List Visit) (i : Instance) : Type 0 where
+  pub stop : ℕ
+  pub visit : Visit
+  pub at : slice_get vs stop ≡ Some visit
+  pub is : instances_at params visit ≡ i ∷ []
+
+executed_once : (params : List ℤ) (first : ℕ) (w : Work) (loops : List ℤ) (b : Bool) (k : ℕ) (i : Instance) → slice_get (if b then record { statement = first; what = w; loops = loops } ∷ [] else []) k ≡ Some i →
+    (k ≡ 0) × ((if b then record { statement = first; what = w; loops = loops } ∷ [] else []) ≡ i ∷ [])
+executed_once params first w loops true zero i at = let same : record { statement = first; what = w; loops = loops } ≡ i = cc in (refl, ap (λ x. x ∷ []) same)
+executed_once params first w loops true (suc k) i at = absurd (let no : None ≡ Some i = at in cc)
+executed_once params first w loops false k i at = absurd (let no : None ≡ Some i = at in cc)
+
+once : (params : List ℤ) (first : ℕ) (s : Statement) (loops : List ℤ) (k : ℕ) (i : Instance) → slice_get (executed_at params first s loops) k ≡ Some i → (k ≡ 0) × (executed_at params first s loops ≡ i ∷ [])
+once params first (do_loop head body) loops k i at = absurd (let no : None ≡ Some i = at in cc)
+once params first (work w) loops k i at = executed_once params first w loops (is_executed w loops params) k i at
+once params first (continue line) loops k i at = absurd (let no : None ≡ Some i = at in cc)
+
+pub instance_stop : (params : List ℤ) (vs : List Visit) (k : ℕ) (i : Instance) → slice_get (flat_map (instances_at params) vs) k ≡ Some i → IsAt params vs i
+instance_stop params [] k i at = absurd (let no : None ≡ Some i = at in cc)
+instance_stop params (v ∷ vs) k i at =
+    let here = instances_at params v in
+    let later = flat_map (instances_at params) vs in
+    elim (cases_lt k (length here)) [
+      | inl less ↦ record { stop = 0; visit = v; at = refl; is = (once params v.first v.what v.loops k i (sym (get-front here later k less) ∙ at)).1 }
+      | inr past ↦
+          let more : length here + (k - length here) ≡ k = omega (arith, past) in
+          let rest = instance_stop params vs (k - length here) i (sym (get-behind here later (k - length here)) ∙ ap (slice_get (here ++ later)) more ∙ at) in
+          record { stop = suc rest.stop; visit = rest.visit; at = rest.at; is = rest.is }
+    ]
+
+-- of two instances the later one is at a later stop
+pub record AreAt (params : List ℤ) (vs : List Visit) (i j : Instance) : Type 0 where
+  pub first : IsAt params vs i
+  pub second : IsAt params vs j
+  pub rises : first.stop < second.stop
+
+pub instance_stops : (params : List ℤ) (vs : List Visit) (k l : ℕ) (i j : Instance) → k < l → slice_get (flat_map (instances_at params) vs) k ≡ Some i → slice_get (flat_map (instances_at params) vs) l ≡ Some j → AreAt params vs i j
+instance_stops params [] k l i j lt at at' = absurd (let no : None ≡ Some i = at in cc)
+instance_stops params (v ∷ vs) k l i j lt at at' =
+    let here = instances_at params v in
+    let later = flat_map (instances_at params) vs in
+    elim (cases_lt k (length here)) [
+      | inl less ↦
+          let one = once params v.first v.what v.loops k i (sym (get-front here later k less) ∙ at) in
+          let alone : length here ≡ 1 = ap length one.1 in
+          let more : length here + (l - length here) ≡ l = omega (arith, alone, one.0, lt) in
+          let rest = instance_stop params vs (l - length here) j (sym (get-behind here later (l - length here)) ∙ ap (slice_get (here ++ later)) more ∙ at') in
+          record { first = record { stop = 0; visit = v; at = refl; is = one.1 }; second = record { stop = suc rest.stop; visit = rest.visit; at = rest.at; is = rest.is }; rises = omega arith }
+      | inr past ↦
+          let more : length here + (k - length here) ≡ k = omega (arith, past) in
+          let more' : length here + (l - length here) ≡ l = omega (arith, past, lt) in
+          let rest = instance_stops params vs (k - length here) (l - length here) i j (omega (arith, lt, past)) (sym (get-behind here later (k - length here)) ∙ ap (slice_get (here ++ later)) more ∙ at) (sym (get-behind here later (l - length here)) ∙ ap (slice_get (here ++ later)) more' ∙ at') in
+          record {
+            first = record { stop = suc rest.first.stop; visit = rest.first.visit; at = rest.first.at; is = rest.first.is };
+            second = record { stop = suc rest.second.stop; visit = rest.second.visit; at = rest.second.at; is = rest.second.is };
+            rises = omega (arith, rest.rises);
+          }
+    ]
+
+-- ---- the loops round an instance
+
+-- a loop that isn't entered keeps its value
+pub kept_after : (params loops : List ℤ) (hs : List Head) (ns : List ℕ) (m low high : ℕ) → 1 ≤ m → m < low → Deepens low high hs → numbered (loops_after params loops hs ns) m ≡ numbered loops m
+kept_after params loops [] ns m low high some less d = refl
+kept_after params loops (h ∷ hs) [] m low high some less d = refl
+kept_after params loops (h ∷ hs) (n ∷ ns) m low high some less d =
+    kept_after params (at_trip params h loops n) hs ns m (h.number + 1) high some (omega (arith, less, d.0)) d.2 ∙ kept-number loops h.number _ m some (omega (arith, less, d.0))
+
+-- the pieces of work of a statement, as stops of the walk that enters every loop
+abbrev NestedAt : (Nested → Type 0) → List Head → Statement → Type 0
+NestedAt P outer (do_loop head body) = Unit {0}
+NestedAt P outer (work w) = P (record { what = w; around = outer })
+NestedAt P outer (continue line) = Unit {0}
+
+abbrev NestedHere : (Nested → Type 0) → StaticPhase → Type 0
+NestedHere P p = NestedAt P p.outer p.what
+
+all_split : {X : Type 0} (P : X → Type 0) (xs ys : List X) → AllByRecursion P (xs ++ ys) → AllByRecursion P xs × AllByRecursion P ys
+all_split P [] ys h = (tt, h)
+all_split P (x ∷ xs) ys h = let rest = all_split P xs ys h.1 in ((h.0, rest.0), rest.1)
+
+mutual
+  nested_stops : (P : Nested → Type 0) (outer : List Head) (s : Statement) → AllByRecursion P (nested_in outer s) → AllByRecursion (NestedHere P) (phases_in every outer s)
+  nested_stops P outer (do_loop head body) all = nesteds_stops P (outer ++ head ∷ []) body all
+  nested_stops P outer (work w) all = (all.0, tt)
+  nested_stops P outer (continue line) all = tt
+
+  nesteds_stops : (P : Nested → Type 0) (outer : List Head) (ss : Statements) → AllByRecursion P (nested_among outer ss) → AllByRecursion (NestedHere P) (phases_among every outer ss)
+  nesteds_stops P outer done all = tt
+  nesteds_stops P outer (next s rest) all =
+      let parts = all_split P (nested_in outer s) (nested_among outer rest) all in
+      all-append (NestedHere P) (phases_in every outer s) (phases_among every outer rest) (nested_stops P outer s parts.0) (nesteds_stops P outer rest parts.1)
+
+each_itself : {X : Type 0} (all xs : List X) → ((x : X) → Contains xs x → Contains all x) → AllByRecursion (Contains all) xs
+each_itself all [] f = tt
+each_itself all (x ∷ xs) f = (f x (contains_here x xs), each_itself all xs (λ y c. f y (contains_later x y xs c)))
+
+-- an instance of a stop with these loops round it
+pub record IsPlaced (params : List ℤ) (scope : Scope) (heads : List Head) (ns : List ℕ) (v : Visit) (i : Instance) : Type 0 where
+  pub inner : Station
+  pub executed : is_executed i.what i.loops params ≡ true
+  pub nested : Contains (nested_in heads v.what) (record { what = i.what; around = heads ++ inner.heads })
+  pub trips : AreTrips params i.loops (heads ++ inner.heads) (ns ++ inner.trips)
+  pub loops_are : i.loops ≡ loops_after params v.loops inner.heads inner.trips
+  pub low : ℕ
+  pub high : ℕ
+  pub deepens : Deepens low high inner.heads
+  pub before : AllByRecursion (IsBefore low) heads
+
+work_alone : (params : List ℤ) (first : ℕ) (w : Work) (loops : List ℤ) (b : Bool) (i : Instance) → is_executed w loops params ≡ b → (if b then record { statement = first; what = w; loops = loops } ∷ [] else []) ≡ i ∷ [] →
+    (w ≡ i.what) × (loops ≡ i.loops) × (is_executed i.what i.loops params ≡ true)
+work_alone params first w loops true i e is =
+    let same : record { statement = first; what = w; loops = loops } ≡ i = cc in
+    let what = ap (λ (x : Instance). x.what) same in
+    let values = ap (λ (x : Instance). x.loops) same in
+    (what, values, sym (ap (λ x. is_executed x i.loops params) what) ∙ sym (ap (λ l. is_executed w l params) values) ∙ e)
+work_alone params first w loops false i e is = absurd (let no : [] ≡ i ∷ [] = is in cc)
+
+module _ (params : List ℤ) (scope : Scope) (heads : List Head) (ns : List ℕ) (v : Visit) (number : ℕ) (context : IsInFront params scope heads ns v.loops number v.what) where
+  abbrev inner_walk : List Station
+  inner_walk = stations_of params every v.what 1 v.first v.loops
+
+  -- at a station inside it
+  pub placed_at_station : (i : Instance) (k : ℕ) (s : Station) → slice_get (stations_of params every v.what 1 v.first v.loops) k ≡ Some s → instances_at params s.visit ≡ i ∷ [] → IsPlaced params scope heads ns v i
+  placed_at_station i k s at is =
+      let known = all-at (IsStation params scope heads ns v.loops number (number + loops_in v.what) 1 (text_of every v.what)) (stations_of params every v.what 1 v.first v.loops) k s (each_of params scope every heads ns v.loops number 1 v.first v.what context) at in
+      by s.visit.what refl known
+    where
+      by : (what : Statement) → s.visit.what ≡ what → IsStation params scope heads ns v.loops number (number + loops_in v.what) 1 (text_of every v.what) s → IsPlaced params scope heads ns v i
+      by (do_loop head body) e known = absurd (let no : [] ≡ i ∷ [] = sym (ap (λ w. executed_at params s.visit.first w s.visit.loops) e) ∙ is in cc)
+      by (work w) e known =
+          let alone = work_alone params s.visit.first w s.visit.loops (is_executed w s.visit.loops params) i refl (sym (ap (λ w. executed_at params s.visit.first w s.visit.loops) e) ∙ is) in
+          let text = ap (λ x. slice_get x (s.visit.place - 1)) (phases_in-within every heads v.what) ∙ mapped_get (within heads) (text_of every v.what) (s.visit.place - 1) (record { what = s.visit.what; outer = s.heads }) known.at in
+          let there = all-at (NestedHere (Contains (nested_in heads v.what))) (phases_in every heads v.what) (s.visit.place - 1) (record { what = s.visit.what; outer = heads ++ s.heads })
+          (nested_stops (Contains (nested_in heads v.what)) heads v.what (each_itself (nested_in heads v.what) (nested_in heads v.what) (λ x c. c))) text in
+          let there' : NestedAt (Contains (nested_in heads v.what)) (heads ++ s.heads) (work w) = subst (λ x. NestedAt (Contains (nested_in heads v.what)) (heads ++ s.heads) x) e there in
+          record {
+            inner = s;
+            executed = alone.2;
+            nested = subst (λ x. Contains (nested_in heads v.what) (record { what = x; around = heads ++ s.heads })) alone.0 there';
+            trips = subst (λ l. AreTrips params l (heads ++ s.heads) (ns ++ s.trips)) alone.1 known.context.trips;
+            loops_are = sym alone.1 ∙ known.loops_are;
+            low = number;
+            high = number + loops_in v.what;
+            deepens = known.deepens;
+            before = context.before;
+          }
+      by (continue line) e known = absurd (let no : [] ≡ i ∷ [] = sym (ap (λ w. executed_at params s.visit.first w s.visit.loops) e) ∙ is in cc)
+
+  -- the instances of the stop are those of the walk inside it
+  pub inner_instances : flat_map (instances_at params) (map visit_in (stations_of params every v.what 1 v.first v.loops)) ≡ phase_instances params v
+  inner_instances = ap (flat_map (instances_at params)) (visits-of params every v.what 1 v.first v.loops) ∙ one_same params v.what 1 v.first v.loops
+
+  pub instance_placed : (i : Instance) (k : ℕ) → slice_get (phase_instances params v) k ≡ Some i → IsPlaced params scope heads ns v i
+  instance_placed i k at =
+      let stop = instance_stop params (map visit_in (stations_of params every v.what 1 v.first v.loops)) k i (ap (λ xs. slice_get xs k) inner_instances ∙ at) in
+      let back = mapped_back visit_in (stations_of params every v.what 1 v.first v.loops) stop.stop stop.visit stop.at in
+      placed_at_station i stop.stop back.0 back.1 (ap (instances_at params) back.2 ∙ stop.is)
