@@ -17,3 +17,5 @@ pub mod Meets
 pub mod Cells
 pub mod Places
 pub mod Timeline
+pub mod Holders
+pub mod Zips
