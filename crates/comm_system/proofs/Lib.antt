@@ -19,3 +19,4 @@ pub mod Places
 pub mod Timeline
 pub mod Holders
 pub mod Zips
+pub mod Chains
