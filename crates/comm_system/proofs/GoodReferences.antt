@@ -122,7 +122,7 @@ work_references scope n good =
 
 -- ---- what holds of all pieces of work holds of those of each phase
 
-abbrev AllIn : (Nested → Type 0) → StaticPhase → Type 0
+abbrev pub AllIn : (Nested → Type 0) → StaticPhase → Type 0
 AllIn P phase = AllByRecursion P (nested_in phase.outer phase.what)
 
 all_left : {X : Type 0} (P : X → Type 0) (xs ys : List X) → AllByRecursion P (xs ++ ys) → AllByRecursion P xs × AllByRecursion P ys
@@ -140,7 +140,7 @@ module _ (P : Nested → Type 0) (enters : ℕ → Bool) where
     in_phases outer (work w) all = (all, tt)
     in_phases outer (continue line) all = tt
 
-    among_phases : (outer : List Head) (ss : Statements) → AllByRecursion P (nested_among outer ss) → AllByRecursion (AllIn P) (phases_among enters outer ss)
+    pub among_phases : (outer : List Head) (ss : Statements) → AllByRecursion P (nested_among outer ss) → AllByRecursion (AllIn P) (phases_among enters outer ss)
     among_phases outer done all = tt
     among_phases outer (next s rest) all =
         let parts = all_left P (nested_in outer s) (nested_among outer rest) all in

@@ -20,3 +20,4 @@ pub mod Timeline
 pub mod Holders
 pub mod Zips
 pub mod Chains
+pub mod Accesses
