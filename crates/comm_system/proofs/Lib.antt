@@ -21,3 +21,4 @@ pub mod Holders
 pub mod Zips
 pub mod Chains
 pub mod Accesses
+pub mod Between
