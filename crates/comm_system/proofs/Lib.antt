@@ -22,3 +22,4 @@ pub mod Zips
 pub mod Chains
 pub mod Accesses
 pub mod Between
+pub mod Certain
