@@ -32,15 +32,15 @@ use Rattle.comm_system.proofs.Timeline.{Agree, IsFrontOf, agree_turned, carried_
 and_three : (a b c : Bool) → a && b && c ≡ true → (a ≡ true) × (b ≡ true) × (c ≡ true)
 and_three a b c h = let last = and_parts (a && b) c h in let first = and_parts a b last.0 in (first.0, first.1, last.1)
 
-plain_first : (around : List Head) (s t u : ℕ) (outer : List Head) → is_behind_first around s t 0 u outer ≡ true → (s < u) × (u ≤ t) × (is_prefix outer around ≡ true)
+pub plain_first : (around : List Head) (s t u : ℕ) (outer : List Head) → is_behind_first around s t 0 u outer ≡ true → (s < u) × (u ≤ t) × (is_prefix outer around ≡ true)
 plain_first around s t u outer h = let p = and_three (nat_lt s u) (nat_le u t) (is_prefix outer around) h in (ltb-true s u p.0, leb-true u t p.1, p.2)
 
-plain_second : (around around' : List Head) (s t u : ℕ) (outer : List Head) → is_before_second around around' s t 0 u outer ≡ true → (s < u) × (u ≤ t) × (is_prefix outer around' ≡ true)
+pub plain_second : (around around' : List Head) (s t u : ℕ) (outer : List Head) → is_before_second around around' s t 0 u outer ≡ true → (s < u) × (u ≤ t) × (is_prefix outer around' ≡ true)
 plain_second around around' s t u outer h =
     let p = and_three (nat_le u t) (nat_lt s u && not (is_prefix outer around)) (is_prefix outer around') h in
     (ltb-true s u (and_parts (nat_lt s u) (not (is_prefix outer around)) p.1).0, leb-true u t p.0, p.2)
 
-plain_apart : (around around' : List Head) (s t u : ℕ) (outer : List Head) → is_behind_first around s t 0 u outer ≡ true → is_before_second around around' s t 0 u outer ≡ false
+pub plain_apart : (around around' : List Head) (s t u : ℕ) (outer : List Head) → is_behind_first around s t 0 u outer ≡ true → is_before_second around around' s t 0 u outer ≡ false
 plain_apart around around' s t u outer h =
     let p = and_three (nat_lt s u) (nat_le u t) (is_prefix outer around) h in
     ap (λ b. nat_le u t && (nat_lt s u && not b) && is_prefix outer around') p.2 ∙ never (nat_le u t) (nat_lt s u) (is_prefix outer around')
@@ -50,13 +50,13 @@ plain_apart around around' s t u outer h =
     never true false c = refl
     never false b c = refl
 
-carried_first : (around : List Head) (s t k u : ℕ) (outer : List Head) → is_behind_first around s t (suc k) u outer ≡ true → (s < u) × (k < length outer) × (is_prefix outer around ≡ true)
+pub carried_first : (around : List Head) (s t k u : ℕ) (outer : List Head) → is_behind_first around s t (suc k) u outer ≡ true → (s < u) × (k < length outer) × (is_prefix outer around ≡ true)
 carried_first around s t k u outer h =
     let some = differ_test (suc k) 0 (λ e. omega (arith, e)) in
     let p = and_three (nat_lt s u) (nat_le (suc k) (length outer)) (is_prefix outer around) (sym (ap (λ b. nat_lt s u && (if b then nat_le u t else nat_le (suc k) (length outer)) && is_prefix outer around) some) ∙ h) in
     (ltb-true s u p.0, leb-true (suc k) (length outer) p.1, p.2)
 
-carried_second : (around around' : List Head) (s t k u : ℕ) (outer : List Head) → is_before_second around around' s t (suc k) u outer ≡ true → (u ≤ t) × (k < length outer) × (is_prefix outer around' ≡ true)
+pub carried_second : (around around' : List Head) (s t k u : ℕ) (outer : List Head) → is_before_second around around' s t (suc k) u outer ≡ true → (u ≤ t) × (k < length outer) × (is_prefix outer around' ≡ true)
 carried_second around around' s t k u outer h =
     let some = differ_test (suc k) 0 (λ e. omega (arith, e)) in
     let p = and_three (nat_le u t) (nat_le (suc k) (length outer)) (is_prefix outer around')
@@ -111,7 +111,7 @@ module _ (tree : Tree) (plan : Plan) (ex ey : ℕ) (sx sy : Station) (two : AreT
   pub all_known : AllByRecursion (AreKnown (heads_among tree.items) 1) (text_among (enters_outer plan.cut) tree.items)
   all_known = known_among (scope_of tree) (enters_outer plan.cut) [] 1 tree.items (well_formed_parts tree two.formed).statements
 
-  known_at : (n : ℕ) (p : StaticPhase) → slice_get (text_among (enters_outer plan.cut) tree.items) n ≡ Some p → AllByRecursion (IsKnown (heads_among tree.items) 1) p.outer
+  pub known_at : (n : ℕ) (p : StaticPhase) → slice_get (text_among (enters_outer plan.cut) tree.items) n ≡ Some p → AllByRecursion (IsKnown (heads_among tree.items) 1) p.outer
   known_at n p at = all-at (AreKnown (heads_among tree.items) 1) (text_among (enters_outer plan.cut) tree.items) n p all_known at
 
   pub heads_x : AllByRecursion (IsKnown (heads_among tree.items) 1) sx.heads

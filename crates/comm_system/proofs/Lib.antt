@@ -23,3 +23,4 @@ pub mod Chains
 pub mod Accesses
 pub mod Between
 pub mod Certain
+pub mod CertainLists
