@@ -24,3 +24,4 @@ pub mod Accesses
 pub mod Between
 pub mod Certain
 pub mod CertainLists
+pub mod Owners

@@ -15,8 +15,8 @@ use Rattle.sync_plan.proofs.Gets.{get-behind, get-front}
 use Rattle.comm_system.specs.References.{StaticPhase, phases_among, phases_in}
 use Rattle.comm_system.proofs.Cells.{contains_here, contains_later}
 use Rattle.comm_system.proofs.Contexts.{IsBefore, IsInFront, kept-number}
-use Rattle.comm_system.proofs.StationFacts.{AreValid, Deepens, IsStation, each_of, loops_after, mapped_get}
-use Rattle.comm_system.proofs.Stations.{Station, at_trip, phases_in-within, stations_of, text_of, visit_in, visits-of, within}
+use Rattle.comm_system.proofs.StationFacts.{AreValid, Deepens, all_in_range, IsStation, each_of, loops_after, mapped_get}
+use Rattle.comm_system.proofs.Stations.{Station, at_trip, phases_in-within, push, stations_in, stations_of, trips_of, text_of, visit_in, visits-of, within}
 use Rattle.comm_system.proofs.StationsThere.{mapped_back}
 
 -- ---- executions and phases
@@ -188,6 +188,25 @@ each_itself : {X : Type 0} (all xs : List X) → ((x : X) → Contains xs x → 
 each_itself all [] f = tt
 each_itself all (x ∷ xs) f = (f x (contains_here x xs), each_itself all xs (λ y c. f y (contains_later x y xs c)))
 
+-- a walk inside a statement is in its loop, at a trip of that
+abbrev pub StartsIn : List ℤ → List ℤ → Statement → List Head → List ℕ → Type 0
+StartsIn params loops (do_loop head body) [] ns = ⊥
+StartsIn params loops (do_loop head body) (h ∷ hs) [] = ⊥
+StartsIn params loops (do_loop head body) (h ∷ hs) (n ∷ ns) = (h ≡ head) × (n < trips_of params head loops)
+StartsIn params loops (work w) hs ns = hs ≡ []
+StartsIn params loops (continue line) hs ns = hs ≡ []
+
+starts : (params loops : List ℤ) (s : Statement) (place first : ℕ) → AllByRecursion (λ (x : Station). StartsIn params loops s x.heads x.trips) (stations_of params every s place first loops)
+starts params loops (do_loop head body) place first =
+    all_in_range (λ (x : Station). StartsIn params loops (do_loop head body) x.heads x.trips) (λ n. map (push head n) (stations_in params every body place first (at_trip params head loops n))) 0 (trips_of params head loops)
+    (λ n lt. each n (omega (arith, lt)) (stations_in params every body place first (at_trip params head loops n)))
+  where
+    each : (n : ℕ) → n < trips_of params head loops → (xs : List Station) → AllByRecursion (λ (x : Station). StartsIn params loops (do_loop head body) x.heads x.trips) (map (push head n) xs)
+    each n lt [] = tt
+    each n lt (x ∷ xs) = ((refl, lt), each n lt xs)
+starts params loops (work w) place first = (refl, tt)
+starts params loops (continue line) place first = tt
+
 -- an instance of a stop with these loops round it
 pub record IsPlaced (params : List ℤ) (scope : Scope) (heads : List Head) (ns : List ℕ) (v : Visit) (i : Instance) : Type 0 where
   pub inner : Station
@@ -195,6 +214,7 @@ pub record IsPlaced (params : List ℤ) (scope : Scope) (heads : List Head) (ns 
   pub nested : Contains (nested_in heads v.what) (record { what = i.what; around = heads ++ inner.heads })
   pub trips : AreTrips params i.loops (heads ++ inner.heads) (ns ++ inner.trips)
   pub loops_are : i.loops ≡ loops_after params v.loops inner.heads inner.trips
+  pub starts_in : StartsIn params v.loops v.what inner.heads inner.trips
   pub low : ℕ
   pub high : ℕ
   pub deepens : Deepens low high inner.heads
@@ -233,6 +253,7 @@ module _ (params : List ℤ) (scope : Scope) (heads : List Head) (ns : List ℕ)
             nested = subst (λ x. Contains (nested_in heads v.what) (record { what = x; around = heads ++ s.heads })) alone.0 there';
             trips = subst (λ l. AreTrips params l (heads ++ s.heads) (ns ++ s.trips)) alone.1 known.context.trips;
             loops_are = sym alone.1 ∙ known.loops_are;
+            starts_in = all-at (λ (x : Station). StartsIn params v.loops v.what x.heads x.trips) (stations_of params every v.what 1 v.first v.loops) k s (starts params v.loops v.what 1 v.first) at;
             low = number;
             high = number + loops_in v.what;
             deepens = known.deepens;
