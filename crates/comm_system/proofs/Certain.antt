@@ -63,7 +63,7 @@ carried_second around around' s t k u outer h =
     (sym (ap (λ b. nat_le u t && (if b then nat_lt s u && not (is_prefix outer around) else nat_le (suc k) (length outer)) && is_prefix outer around') some) ∙ h) in
     (leb-true u t p.0, leb-true (suc k) (length outer) p.1, p.2)
 
-valid-length : (params loops : List ℤ) (hs : List Head) (ns : List ℕ) → AreValid params loops hs ns → length ns ≡ length hs
+pub valid-length : (params loops : List ℤ) (hs : List Head) (ns : List ℕ) → AreValid params loops hs ns → length ns ≡ length hs
 valid-length params loops [] [] v = refl
 valid-length params loops [] (n ∷ ns) v = absurd v
 valid-length params loops (h ∷ hs) [] v = absurd v
@@ -164,10 +164,10 @@ module _ (tree : Tree) (plan : Plan) (ex ey : ℕ) (sx sy : Station) (two : AreT
       let stop = stop_of b h in
       ap (λ x. comes x stop.station.trips stop.station.visit.place hs ns n) stop.heads_are ∙ ap (λ x. comes (outer b) x stop.station.visit.place hs ns n) stop.trips_are ∙ ap (λ x. comes (outer b) (trips b) x hs ns n) stop.place_is ∙ c
 
-  above_of : (b : Boundary) (h : IsSided b) → ex < (stop_of b h).index
+  pub above_of : (b : Boundary) (h : IsSided b) → ex < (stop_of b h).index
   above_of b h = comes_back S ex (stop_of b h).index sx (stop_of b h).station rises two.first (stop_of b h).at (key_comes b h sx.heads sx.trips sx.visit.place h.behind)
 
-  until_of : (b : Boundary) (h : IsSided b) → (stop_of b h).index ≤ ey
+  pub until_of : (b : Boundary) (h : IsSided b) → (stop_of b h).index ≤ ey
   until_of b h = elim (cases_lt ey (stop_of b h).index) [
     | inl less ↦ absurd (never (comes_at S ey (stop_of b h).index sy (stop_of b h).station rises less two.second (stop_of b h).at) h.until)
     | inr past ↦ past
@@ -185,7 +185,7 @@ module _ (tree : Tree) (plan : Plan) (ex ey : ℕ) (sx sy : Station) (two : AreT
           sym (ap (λ x. comes sy.heads sy.trips sy.visit.place x stop.station.trips stop.station.visit.place) one ∙ ap (λ x. comes sy.heads sy.trips sy.visit.place sy.heads x stop.station.visit.place) two' ∙ ap (comes sy.heads sy.trips sy.visit.place sy.heads sy.trips) three) ∙ c in
           never_both sy.heads sy.trips sy.visit.place sy.heads sy.trips sy.visit.place itself itself
 
-  pub between_of : (b : Boundary) → IsSided b → IsBetween tree plan (suc ex) (suc ey) b
+  abbrev pub between_of : (b : Boundary) → IsSided b → IsBetween tree plan (suc ex) (suc ey) b
   between_of b h = record { hop = hop_of b h; above = omega (arith, above_of b h); until = omega (arith, until_of b h) }
 
   -- boundaries in order are hops

@@ -25,3 +25,5 @@ pub mod Between
 pub mod Certain
 pub mod CertainLists
 pub mod Owners
+pub mod Slots
+pub mod Different

@@ -77,7 +77,7 @@ own_among marks around hs (work w) among n named = among n named
 own_among marks around hs (continue line) among n named = among n named
 
 -- a loop that has been entered keeps its value
-kept_heads : (params L : List ℤ) (hs inner : List Head) (ms : List ℕ) (low high : ℕ) → AllByRecursion (λ h. (1 ≤ h.number) × (h.number < low)) hs → Deepens low high inner → AllByRecursion (λ h. numbered (loops_after params L inner ms) h.number ≡ numbered L h.number) hs
+pub kept_heads : (params L : List ℤ) (hs inner : List Head) (ms : List ℕ) (low high : ℕ) → AllByRecursion (λ h. (1 ≤ h.number) × (h.number < low)) hs → Deepens low high inner → AllByRecursion (λ h. numbered (loops_after params L inner ms) h.number ≡ numbered L h.number) hs
 kept_heads params L [] inner ms low high all d = tt
 kept_heads params L (h ∷ hs) inner ms low high all d = (kept_after params L inner ms h.number low high all.0.0 all.0.1 d, kept_heads params L hs inner ms low high all.1 d)
 
