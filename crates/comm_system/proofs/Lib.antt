@@ -27,3 +27,4 @@ pub mod CertainLists
 pub mod Owners
 pub mod Slots
 pub mod Different
+pub mod Ordered

@@ -27,7 +27,7 @@ use Rattle.owner_partition.specs.Placement.{ends_among, misplaced, misplaced_at,
 use Rattle.sync_plan.specs.declared.plan.Kind.{Kind}
 use Rattle.sync_plan.specs.declared.plan.Kind.TheVariants.{Producer}
 use Rattle.sync_plan.specs.declared.plan.Plan.{Plan}
-use Rattle.sync_plan.specs.Fit.{IsFit}
+use Rattle.sync_plan.specs.Fit.{IsFit, is_dealt}
 use Rattle.sync_plan.specs.Shape.{has_places, is_doall, is_good_anchor, mark_of, own_loops, static_phases}
 use Rattle.sync_plan.proofs.FitOwners.{good_each}
 use Rattle.sync_plan.proofs.Fits.{fit_parts}
@@ -54,7 +54,7 @@ holds_same : (a : Anchor) (workers : ℕ) (L M params : List ℤ) → form_value
 holds_same a workers L M params same h = subst (λ w. Holds a.dist workers w (holder_of a.dist workers w)) same h
 
 -- the loops that a phase's anchor may name: those round it, and its own
-abbrev own_heads : List Head → Statement → List Head
+abbrev pub own_heads : List Head → Statement → List Head
 own_heads hs (do_loop head body) = hs ++ head ∷ []
 own_heads hs (work w) = hs
 own_heads hs (continue line) = hs
@@ -75,6 +75,11 @@ own_among marks around hs (do_loop head body) among n named = by (is_doall (mark
     by false h = among_more around hs (head ∷ []) among n h
 own_among marks around hs (work w) among n named = among n named
 own_among marks around hs (continue line) among n named = among n named
+
+own_round : (marks : List Mark) (around : List ℕ) (s : Statement) → is_dealt marks s ≡ false → own_loops marks s around ≡ around
+own_round marks around (do_loop head body) still = ap (λ b. if b then head.number ∷ around else around) still
+own_round marks around (work w) still = refl
+own_round marks around (continue line) still = refl
 
 -- a loop that has been entered keeps its value
 pub kept_heads : (params L : List ℤ) (hs inner : List Head) (ms : List ℕ) (low high : ℕ) → AllByRecursion (λ h. (1 ≤ h.number) × (h.number < low)) hs → Deepens low high inner → AllByRecursion (λ h. numbered (loops_after params L inner ms) h.number ≡ numbered L h.number) hs
@@ -153,7 +158,7 @@ module _ (tree : Tree) (plan : Plan) (formed : IsWellFormed tree) (fits : IsFit 
   as_many = sym (length-map tree.params (λ (c : Constant). c.value))
 
   -- the phase's anchor
-  anchor_named : (a : Anchor) → slice_get plan.anchors (s.visit.place - 1) ≡ Some a → names_only (length (param_values tree)) (numbers (own_heads s.heads s.visit.what)) a.form ≡ true
+  pub anchor_named : (a : Anchor) → slice_get plan.anchors (s.visit.place - 1) ≡ Some a → names_only (length (param_values tree)) (numbers (own_heads s.heads s.visit.what)) a.form ≡ true
   anchor_named a anchor =
       let parts = fit_parts tree plan fits in
       let here : slice_get plan.anchors there.k ≡ Some a = ap (slice_get plan.anchors) (sym index_is) ∙ anchor in
@@ -161,6 +166,16 @@ module _ (tree : Tree) (plan : Plan) (formed : IsWellFormed tree) (fits : IsFit 
       let named = (and_parts (names_only (length tree.params) (own_loops plan.cut s.visit.what there.there.around) a.form) (has_places a.dist) good).0 in
       subst (λ n. names_only n (numbers (own_heads s.heads s.visit.what)) a.form ≡ true) as_many
       (form-among (length tree.params) (own_loops plan.cut s.visit.what there.there.around) (numbers (own_heads s.heads s.visit.what)) a.form (own_among plan.cut there.there.around s.heads s.visit.what around_among) named)
+
+  -- where it deals out no loop, it names only the loops round the phase
+  pub outer_named : (a : Anchor) → slice_get plan.anchors (s.visit.place - 1) ≡ Some a → is_dealt plan.cut s.visit.what ≡ false → names_only (length (param_values tree)) (numbers s.heads) a.form ≡ true
+  outer_named a anchor still =
+      let parts = fit_parts tree plan fits in
+      let here : slice_get plan.anchors there.k ≡ Some a = ap (slice_get plan.anchors) (sym index_is) ∙ anchor in
+      let good = good_each (length tree.params) plan.cut (static_phases tree plan.cut) plan.anchors there.k (record { what = s.visit.what; around = there.there.around }) a parts.good_anchors there.there.at here in
+      let named = (and_parts (names_only (length tree.params) (own_loops plan.cut s.visit.what there.there.around) a.form) (has_places a.dist) good).0 in
+      let round = own_round plan.cut there.there.around s.visit.what still in
+      subst (λ n. names_only n (numbers s.heads) a.form ≡ true) as_many (form-among (length tree.params) there.there.around (numbers s.heads) a.form around_among (subst (λ ls. names_only (length tree.params) ls a.form ≡ true) round named))
 
   own_inner : (w : Statement) (L : List ℤ) (inner : List Head) (ms : List ℕ) → StartsIn (param_values tree) L w inner ms → AreAmong (numbers (own_heads s.heads w)) (numbers (s.heads ++ inner))
   own_inner (do_loop head body) L [] ms start n named = absurd start

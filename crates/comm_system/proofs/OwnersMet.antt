@@ -36,7 +36,7 @@ holder_first : (values : List ℤ) (dist : Dist) (q : ℕ) (o : Holder) → Lies
 holder_first values (Block b) q o lies = lies.0
 holder_first values Cyclic q o lies = lies.0
 
-holds_below : (dist : Dist) (workers : ℕ) (w : ℤ) (o : Holder) → Holds dist workers w o → o.owner < workers
+pub holds_below : (dist : Dist) (workers : ℕ) (w : ℤ) (o : Holder) → Holds dist workers w o → o.owner < workers
 holds_below (Block b) workers w o h = h.0
 holds_below Cyclic workers w o h = h.0
 

@@ -17,6 +17,7 @@ use Rattle.comm_system.proofs.Cells.{contains_here, contains_later}
 use Rattle.comm_system.proofs.Contexts.{IsBefore, IsInFront, kept-number}
 use Rattle.comm_system.proofs.StationFacts.{AreValid, Deepens, all_in_range, IsStation, each_of, loops_after, mapped_get}
 use Rattle.comm_system.proofs.Stations.{Station, at_trip, phases_in-within, push, stations_in, stations_of, trips_of, text_of, visit_in, visits-of, within}
+use Rattle.comm_system.proofs.StationOrder.{Comes, comes_at, rises_of}
 use Rattle.comm_system.proofs.StationsThere.{mapped_back}
 
 -- ---- executions and phases
@@ -234,12 +235,12 @@ module _ (params : List ℤ) (scope : Scope) (heads : List Head) (ns : List ℕ)
   inner_walk = stations_of params every v.what 1 v.first v.loops
 
   -- at a station inside it
-  pub placed_at_station : (i : Instance) (k : ℕ) (s : Station) → slice_get (stations_of params every v.what 1 v.first v.loops) k ≡ Some s → instances_at params s.visit ≡ i ∷ [] → IsPlaced params scope heads ns v i
+  pub placed_at_station : (i : Instance) (k : ℕ) (s : Station) → slice_get (stations_of params every v.what 1 v.first v.loops) k ≡ Some s → instances_at params s.visit ≡ i ∷ [] → (p : IsPlaced params scope heads ns v i) × (p.inner ≡ s)
   placed_at_station i k s at is =
       let known = all-at (IsStation params scope heads ns v.loops number (number + loops_in v.what) 1 (text_of every v.what)) (stations_of params every v.what 1 v.first v.loops) k s (each_of params scope every heads ns v.loops number 1 v.first v.what context) at in
       by s.visit.what refl known
     where
-      by : (what : Statement) → s.visit.what ≡ what → IsStation params scope heads ns v.loops number (number + loops_in v.what) 1 (text_of every v.what) s → IsPlaced params scope heads ns v i
+      by : (what : Statement) → s.visit.what ≡ what → IsStation params scope heads ns v.loops number (number + loops_in v.what) 1 (text_of every v.what) s → (p : IsPlaced params scope heads ns v i) × (p.inner ≡ s)
       by (do_loop head body) e known = absurd (let no : [] ≡ i ∷ [] = sym (ap (λ w. executed_at params s.visit.first w s.visit.loops) e) ∙ is in cc)
       by (work w) e known =
           let alone = work_alone params s.visit.first w s.visit.loops (is_executed w s.visit.loops params) i refl (sym (ap (λ w. executed_at params s.visit.first w s.visit.loops) e) ∙ is) in
@@ -247,7 +248,7 @@ module _ (params : List ℤ) (scope : Scope) (heads : List Head) (ns : List ℕ)
           let there = all-at (NestedHere (Contains (nested_in heads v.what))) (phases_in every heads v.what) (s.visit.place - 1) (record { what = s.visit.what; outer = heads ++ s.heads })
           (nested_stops (Contains (nested_in heads v.what)) heads v.what (each_itself (nested_in heads v.what) (nested_in heads v.what) (λ x c. c))) text in
           let there' : NestedAt (Contains (nested_in heads v.what)) (heads ++ s.heads) (work w) = subst (λ x. NestedAt (Contains (nested_in heads v.what)) (heads ++ s.heads) x) e there in
-          record {
+          (record {
             inner = s;
             executed = alone.2;
             nested = subst (λ x. Contains (nested_in heads v.what) (record { what = x; around = heads ++ s.heads })) alone.0 there';
@@ -258,7 +259,7 @@ module _ (params : List ℤ) (scope : Scope) (heads : List Head) (ns : List ℕ)
             high = number + loops_in v.what;
             deepens = known.deepens;
             before = context.before;
-          }
+          }, refl)
       by (continue line) e known = absurd (let no : [] ≡ i ∷ [] = sym (ap (λ w. executed_at params s.visit.first w s.visit.loops) e) ∙ is in cc)
 
   -- the instances of the stop are those of the walk inside it
@@ -269,4 +270,17 @@ module _ (params : List ℤ) (scope : Scope) (heads : List Head) (ns : List ℕ)
   instance_placed i k at =
       let stop = instance_stop params (map visit_in (stations_of params every v.what 1 v.first v.loops)) k i (ap (λ xs. slice_get xs k) inner_instances ∙ at) in
       let back = mapped_back visit_in (stations_of params every v.what 1 v.first v.loops) stop.stop stop.visit stop.at in
-      placed_at_station i stop.stop back.0 back.1 (ap (instances_at params) back.2 ∙ stop.is)
+      (placed_at_station i stop.stop back.0 back.1 (ap (instances_at params) back.2 ∙ stop.is)).0
+
+  -- of two instances the later one is at a later stop of that walk
+  pub instances_placed : (i j : Instance) (k l : ℕ) → k < l → slice_get (phase_instances params v) k ≡ Some i → slice_get (phase_instances params v) l ≡ Some j →
+      (p : IsPlaced params scope heads ns v i) × ((q : IsPlaced params scope heads ns v j) × Comes p.inner q.inner)
+  instances_placed i j k l lt at at' =
+      let walk = stations_of params every v.what 1 v.first v.loops in
+      let stops = instance_stops params (map visit_in walk) k l i j lt (ap (λ xs. slice_get xs k) inner_instances ∙ at) (ap (λ xs. slice_get xs l) inner_instances ∙ at') in
+      let back = mapped_back visit_in walk stops.first.stop stops.first.visit stops.first.at in
+      let back' = mapped_back visit_in walk stops.second.stop stops.second.visit stops.second.at in
+      let p = placed_at_station i stops.first.stop back.0 back.1 (ap (instances_at params) back.2 ∙ stops.first.is) in
+      let q = placed_at_station j stops.second.stop back'.0 back'.1 (ap (instances_at params) back'.2 ∙ stops.second.is) in
+      let comes_so = comes_at walk stops.first.stop stops.second.stop back.0 back'.0 (rises_of params scope every heads ns v.loops number 1 v.first v.what context) stops.rises back.1 back'.1 in
+      (p.0, (q.0, subst (λ s. Comes s q.0.inner) (sym p.1) (subst (λ s. Comes back.0 s) (sym q.1) comes_so)))

@@ -1,0 +1,128 @@
+-- Where each system of a plan that fits has no whole solution, the plan is ordered.
+use Rattle.std.proofs.Common.{◌≡◌, ◌≢◌, ℕ, zero, suc, ◌+◌, ◌-◌, ◌<◌, ◌≤◌, ◌⊎◌, ◌==◌, ◌||◌, ◌&&◌, ℤ, pos, Bool, true, false, true≢false, Option, Some, None, List, [], ◌∷◌, ◌++◌, append_assoc, length, map, if◌then◌else◌, refl, ap, sym, ◌∙◌, subst, inl, inr, arith}
+use Rattle.std.specs.List.{AllByRecursion, Contains, flat_map, slice_get}
+use Rattle.std.proofs.lemmas.Bool.{and_from, cases_Bool, cases_eq, cases_lt, ltb-true}
+use Rattle.std.proofs.lemmas.List.{length-map}
+use Rattle.std.proofs.lemmas.List.Elements.{Contains-append_left}
+use Rattle.std.proofs.lemmas.Option.{slice_get-get_or, slice_get_within}
+use Rattle.nest_tree.specs.Form.{form_value, numbered}
+use Rattle.nest_tree.specs.Layout.{count_of}
+use Rattle.nest_tree.specs.Tree.{Constant, Head, Statement, Statements, do_loop, work, continue, Tree, param_values}
+use Rattle.nest_tree.specs.WellFormed.{IsWellFormed, loops_of, names_only, scope_of}
+use Rattle.nest_model.specs.Accesses.{Conflict, cells_of, store_of}
+use Rattle.nest_model.specs.Instances.{Instance, no_values}
+use Rattle.nest_model.specs.Ranges.{IsInRange}
+use Rattle.nest_rows.specs.Nested.{AreTrips}
+use Rattle.nest_rows.proofs.Dots.{numbers}
+use Rattle.nest_rows.proofs.Nesting.{all-append}
+use Rattle.farkas_cert.specs.Inequalities.{HasNoWholeSolution}
+use Rattle.owner_partition.specs.declared.anchor.Anchor.{Anchor}
+use Rattle.owner_partition.specs.declared.anchor.Dist.TheVariants.{Cyclic}
+use Rattle.owner_partition.specs.Marks.{enters_outer}
+use Rattle.owner_partition.specs.Owners.{anchor_owner, dealt, owner_by}
+use Rattle.owner_partition.specs.Phases.{Execution, executions, phases}
+use Rattle.sync_plan.specs.declared.plan.Plan.{Plan}
+use Rattle.sync_plan.specs.Fit.{IsFit, is_dealt}
+use Rattle.sync_plan.specs.Ordered.{Hop, IsChain, IsOrdered, owner_under}
+use Rattle.sync_plan.specs.Shape.{static_phases}
+use Rattle.sync_plan.proofs.Fits.{fit_parts}
+use Rattle.comm_system.specs.Boundaries.{Side, of_first, of_second}
+use Rattle.comm_system.specs.Levels.{Order, common, order_at, two_trips}
+use Rattle.comm_system.specs.Meetings.{AreSame, Holder, IsEarlier, IsEarlierWhere, IsHolder, Meet}
+use Rattle.comm_system.specs.Obligations.{Task, anchor_at, tasks_of, trips_task, trips_tasks, slot_signature, slot_tasks, slots_of}
+use Rattle.comm_system.specs.Pairs.{Pair, conflict, pairs_of}
+use Rattle.comm_system.specs.References.{Reference, StaticPhase, phases_of, variable_of}
+use Rattle.comm_system.proofs.Accesses.{IsAccessAt, IsExecutedAt, any_access, elements_same, executed_at_station, get_contains, in_flat_map, in_map, nested_good, pair_there, phase_there, phases_are, point_at, station_known, store_access}
+use Rattle.comm_system.proofs.Certain.{AreTwo, heads_x, heads_y, long_x, long_y}
+use Rattle.comm_system.proofs.CertainLists.{AreCertain, carried_certain, plain_certain}
+use Rattle.comm_system.proofs.Contexts.{IsBefore, at_first}
+use Rattle.comm_system.proofs.Different.{keeps, waited}
+use Rattle.comm_system.proofs.Holders.{form_keeps}
+use Rattle.comm_system.proofs.KnownHeads.{heads_among}
+use Rattle.comm_system.proofs.Meets.{trips_meet}
+use Rattle.comm_system.proofs.Owners.{HoldsAt, holder_of, index_is, owner_holds, there}
+use Rattle.comm_system.proofs.OwnersMet.{holds_below}
+use Rattle.comm_system.proofs.Places.{IsPlaced, InOrder, in_order}
+use Rattle.comm_system.proofs.Slots.{carried_level, plain_level, slot_there}
+use Rattle.comm_system.proofs.StationFacts.{IsStation}
+use Rattle.comm_system.proofs.StationOrder.{comes_at, differ_test, equal_test, rises_in}
+use Rattle.comm_system.proofs.Stations.{Station, stations_in}
+use Rattle.comm_system.proofs.Timeline.{Agree, IsCarried, IsPlain, agree_values, split}
+
+-- ---- further loops
+
+same_further : (k : ℕ) (hs gs more others : List Head) (L M I J : List ℤ) → AreSame k hs gs L M → AllByRecursion (λ h. numbered I h.number ≡ numbered L h.number) hs → AllByRecursion (λ h. numbered J h.number ≡ numbered M h.number) gs → AreSame k (hs ++ more) (gs ++ others) I J
+same_further zero hs gs more others L M I J same a b = tt
+same_further (suc k) [] gs more others L M I J same a b = absurd same
+same_further (suc k) (h ∷ hs) [] more others L M I J same a b = absurd same
+same_further (suc k) (h ∷ hs) (g ∷ gs) more others L M I J same a b = (a.0 ∙ same.0 ∙ sym b.0, same_further k hs gs more others L M I J same.1 a.1 b.1)
+
+earlier_further : (k : ℕ) (ns ms more others : List ℕ) → IsEarlier k ns ms → IsEarlier k (ns ++ more) (ms ++ others)
+earlier_further k [] ms more others e = absurd e
+earlier_further k (n ∷ ns) [] more others e = absurd e
+earlier_further zero (n ∷ ns) (m ∷ ms) more others e = e
+earlier_further (suc k) (n ∷ ns) (m ∷ ms) more others e = earlier_further k ns ms more others e
+
+order_carried : (loops k : ℕ) → order_at loops (suc k) ≡ record { equal = k; earlier = true }
+order_carried loops k =
+    let back : suc k - 1 ≡ k = omega arith in
+    ap (λ b. if b then record { equal = loops; earlier = false } else record { equal = suc k - 1; earlier = true }) (differ_test (suc k) 0 (λ e. omega (arith, e))) ∙ ap (λ n. record { equal = n; earlier = true }) back
+
+-- the anchor of a phase
+abbrev first_or : Option Anchor → Anchor
+first_or (Some a) = a
+first_or None = record { form = record { constant = pos 0; loops = []; params = [] }; dist = Cyclic }
+
+some_there : {X : Type 0} (xs : List X) (k : ℕ) → k < length xs → (x : X) × (slice_get xs k ≡ Some x)
+some_there [] k lt = absurd (omega (arith, lt))
+some_there (x ∷ xs) zero lt = (x, refl)
+some_there (x ∷ xs) (suc k) lt = some_there xs k (omega (arith, lt))
+
+module _ (tree : Tree) (plan : Plan) (formed : IsWellFormed tree) (fits : IsFit tree plan) where
+  pub anchor_there : (e : ℕ) (s : Station) → slice_get (stations_in (param_values tree) (enters_outer plan.cut) tree.items 1 1 (no_values tree)) e ≡ Some s → slice_get plan.anchors (s.visit.place - 1) ≡ Some (anchor_at plan s.visit.place)
+  anchor_there e s at =
+      let parts = fit_parts tree plan fits in
+      let f = there tree plan formed fits e s at in
+      let inside : s.visit.place - 1 < length plan.anchors = omega (arith, index_is tree plan formed fits e s at, parts.anchors, slice_get_within (static_phases tree plan.cut) f.k (record { what = s.visit.what; around = f.there.around }) f.there.at) in
+      let found = some_there plan.anchors (s.visit.place - 1) inside in
+      found.1 ∙ ap Some (sym (ap first_or found.1))
+
+  -- the owner of an execution
+  pub owner_is : (x : Execution) (e : ℕ) (s : Station) → slice_get (stations_in (param_values tree) (enters_outer plan.cut) tree.items 1 1 (no_values tree)) e ≡ Some s → x.place ≡ s.visit.place →
+      owner_under tree plan x ≡ anchor_owner (anchor_at plan s.visit.place) plan.workers x.instance.loops (param_values tree)
+  owner_is x e s at place =
+      ap (λ n. owner_by (slice_get plan.anchors (n - 1)) plan.workers x.instance.loops (param_values tree)) place ∙ ap (λ o. owner_by o plan.workers x.instance.loops (param_values tree)) (anchor_there e s at)
+
+-- ---- two accesses that conflict
+
+pub record Conflicting (tree : Tree) (s t : StaticPhase) (around around' : List Head) (i j : Instance) : Type 0 where
+  pub cell : ℕ
+  pub a : Reference
+  pub b : Reference
+  pub first : IsAccessAt tree s around i cell a
+  pub second : IsAccessAt tree t around' j cell b
+  pub stored : (a.stores || b.stores) ≡ true
+
+or_right : (b : Bool) → (b || true) ≡ true
+or_right true = refl
+or_right false = refl
+
+pub meeting_pair : (tree : Tree) (s t : StaticPhase) (around around' : List Head) (i j : Instance) (c : Conflicting tree s t around around' i j) → Contains (pairs_of s t) (record { first = c.a; second = c.b })
+meeting_pair tree s t around around' i j c =
+    let same = (elements_same tree i.loops j.loops c.cell c.a.what c.b.what [] [] c.first.touches c.second.touches).0 in
+    pair_there s t c.a c.b c.first.among c.second.among (and_from (variable_of c.a.what == variable_of c.b.what) (c.a.stores || c.b.stores) (equal_test (variable_of c.a.what) (variable_of c.b.what) same) c.stored)
+
+pub meeting : (tree : Tree) (s t : StaticPhase) (around around' : List Head) (i j : Instance) (c : Conflicting tree s t around around' i j) (ns ms : List ℕ) (order : Order) → AreTrips (param_values tree) i.loops around ns → AreTrips (param_values tree) j.loops around' ms →
+    AreSame order.equal around around' i.loops j.loops → (order.earlier ≡ true → IsEarlier order.equal ns ms) →
+    Meet tree order (record { first = c.a; second = c.b }) (point_at i ns c.first.touches.free) (point_at j ms c.second.touches.free)
+meeting tree s t around around' i j c ns ms order trips trips' same earlier = record {
+  first = record { trips = subst (λ hs. AreTrips (param_values tree) i.loops hs ns) (sym c.first.around_is) trips; executed = c.first.executed; free = c.first.touches.within };
+  second = record { trips = subst (λ hs. AreTrips (param_values tree) j.loops hs ms) (sym c.second.around_is) trips'; executed = c.second.executed; free = c.second.touches.within };
+  element = (elements_same tree i.loops j.loops c.cell c.a.what c.b.what ns ms c.first.touches c.second.touches).1;
+  same = subst (λ hs. AreSame order.equal hs c.b.around i.loops j.loops) (sym c.first.around_is) (subst (λ gs. AreSame order.equal around gs i.loops j.loops) (sym c.second.around_is) same);
+  earlier = by order.earlier earlier;
+}
+  where
+    by : (b : Bool) → (b ≡ true → IsEarlier order.equal ns ms) → IsEarlierWhere b order.equal ns ms
+    by true f = f refl
+    by false f = tt
