@@ -28,3 +28,4 @@ pub mod Owners
 pub mod Slots
 pub mod Different
 pub mod Ordered
+pub mod Waiting

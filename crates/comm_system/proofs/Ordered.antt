@@ -51,19 +51,19 @@ use Rattle.comm_system.proofs.Timeline.{Agree, IsCarried, IsPlain, agree_values,
 
 -- ---- further loops
 
-same_further : (k : ℕ) (hs gs more others : List Head) (L M I J : List ℤ) → AreSame k hs gs L M → AllByRecursion (λ h. numbered I h.number ≡ numbered L h.number) hs → AllByRecursion (λ h. numbered J h.number ≡ numbered M h.number) gs → AreSame k (hs ++ more) (gs ++ others) I J
+pub same_further : (k : ℕ) (hs gs more others : List Head) (L M I J : List ℤ) → AreSame k hs gs L M → AllByRecursion (λ h. numbered I h.number ≡ numbered L h.number) hs → AllByRecursion (λ h. numbered J h.number ≡ numbered M h.number) gs → AreSame k (hs ++ more) (gs ++ others) I J
 same_further zero hs gs more others L M I J same a b = tt
 same_further (suc k) [] gs more others L M I J same a b = absurd same
 same_further (suc k) (h ∷ hs) [] more others L M I J same a b = absurd same
 same_further (suc k) (h ∷ hs) (g ∷ gs) more others L M I J same a b = (a.0 ∙ same.0 ∙ sym b.0, same_further k hs gs more others L M I J same.1 a.1 b.1)
 
-earlier_further : (k : ℕ) (ns ms more others : List ℕ) → IsEarlier k ns ms → IsEarlier k (ns ++ more) (ms ++ others)
+pub earlier_further : (k : ℕ) (ns ms more others : List ℕ) → IsEarlier k ns ms → IsEarlier k (ns ++ more) (ms ++ others)
 earlier_further k [] ms more others e = absurd e
 earlier_further k (n ∷ ns) [] more others e = absurd e
 earlier_further zero (n ∷ ns) (m ∷ ms) more others e = e
 earlier_further (suc k) (n ∷ ns) (m ∷ ms) more others e = earlier_further k ns ms more others e
 
-order_carried : (loops k : ℕ) → order_at loops (suc k) ≡ record { equal = k; earlier = true }
+pub order_carried : (loops k : ℕ) → order_at loops (suc k) ≡ record { equal = k; earlier = true }
 order_carried loops k =
     let back : suc k - 1 ≡ k = omega arith in
     ap (λ b. if b then record { equal = loops; earlier = false } else record { equal = suc k - 1; earlier = true }) (differ_test (suc k) 0 (λ e. omega (arith, e))) ∙ ap (λ n. record { equal = n; earlier = true }) back
@@ -103,7 +103,7 @@ pub record Conflicting (tree : Tree) (s t : StaticPhase) (around around' : List 
   pub second : IsAccessAt tree t around' j cell b
   pub stored : (a.stores || b.stores) ≡ true
 
-or_right : (b : Bool) → (b || true) ≡ true
+pub or_right : (b : Bool) → (b || true) ≡ true
 or_right true = refl
 or_right false = refl
 

@@ -1,0 +1,144 @@
+-- Of two executions that conflict, the owner of the second waits for that of the first, where no system has a whole solution.
+use Rattle.std.proofs.Common.{◌≡◌, ◌≢◌, ℕ, zero, suc, ◌+◌, ◌-◌, ◌<◌, ◌≤◌, ◌⊎◌, ◌==◌, ◌||◌, ◌&&◌, ℤ, Bool, true, false, true≢false, Option, Some, None, List, [], ◌∷◌, ◌++◌, length, map, if◌then◌else◌, refl, ap, sym, ◌∙◌, subst, inl, inr, arith}
+use Rattle.std.specs.List.{AllByRecursion, Contains, flat_map, slice_get}
+use Rattle.std.proofs.lemmas.Bool.{cases_Bool, cases_eq, cases_lt, ltb-true}
+use Rattle.std.proofs.lemmas.List.Elements.{Contains-append_left}
+use Rattle.nest_tree.specs.Form.{form_value, numbered}
+use Rattle.nest_tree.specs.Layout.{count_of}
+use Rattle.nest_tree.specs.Tree.{Head, Statement, Statements, do_loop, work, continue, Tree, param_values}
+use Rattle.nest_tree.specs.WellFormed.{IsWellFormed, loops_of, names_only, scope_of}
+use Rattle.nest_model.specs.Accesses.{Conflict, store_of}
+use Rattle.nest_model.specs.Instances.{Instance, is_executed, no_values}
+use Rattle.nest_model.specs.Ranges.{IsInRange, is_instance_inside}
+use Rattle.nest_rows.specs.Nested.{nested_in}
+use Rattle.nest_rows.proofs.Dots.{numbers}
+use Rattle.nest_rows.proofs.GoodNesting.{IsGoodNested}
+use Rattle.nest_rows.proofs.Nesting.{all-append}
+use Rattle.farkas_cert.specs.Inequalities.{HasNoWholeSolution}
+use Rattle.owner_partition.specs.declared.anchor.Anchor.{Anchor}
+use Rattle.owner_partition.specs.Marks.{enters_outer}
+use Rattle.owner_partition.specs.Owners.{anchor_owner, dealt}
+use Rattle.owner_partition.specs.Phases.{Execution, executions, phase_instances, phases}
+use Rattle.sync_plan.specs.declared.plan.Plan.{Plan}
+use Rattle.sync_plan.specs.Fit.{IsFit, is_dealt}
+use Rattle.sync_plan.specs.Ordered.{Hop, IsChain, IsOrdered, owner_under}
+use Rattle.comm_system.specs.Boundaries.{Side, certain_boundaries, of_first, of_second}
+use Rattle.comm_system.specs.Levels.{Order, common, levels, order_at, two_trips}
+use Rattle.comm_system.specs.Meetings.{AreSame, Holder, IsEarlier, IsHolder, Meet, Point, values_of}
+use Rattle.comm_system.specs.Obligations.{Task, anchor_at, slot_signature, slot_tasks, slots_of, tasks_of, trips_task, trips_tasks}
+use Rattle.comm_system.specs.Pairs.{Pair, pairs_of}
+use Rattle.comm_system.specs.References.{StaticPhase, phases_of}
+use Rattle.comm_system.proofs.Accesses.{IsExecutedAt, any_access, executed_at_station, get_contains, in_flat_map, in_map, nested_good, phase_there, point_at, station_known, store_access}
+use Rattle.comm_system.proofs.Certain.{AreTwo, heads_x, heads_y, long_x, long_y, valid-length}
+use Rattle.comm_system.proofs.CertainLists.{AreCertain, carried_certain, plain_certain}
+use Rattle.comm_system.proofs.Contexts.{at_first, loop_number}
+use Rattle.comm_system.proofs.Different.{keeps, waited}
+use Rattle.comm_system.proofs.Holders.{form_keeps}
+use Rattle.comm_system.proofs.KnownHeads.{heads_among}
+use Rattle.comm_system.proofs.Meets.{trips_meet}
+use Rattle.comm_system.proofs.Ordered.{Conflicting, anchor_there, earlier_further, meeting, meeting_pair, order_carried, or_right, owner_is, same_further}
+use Rattle.comm_system.proofs.Owners.{HoldsAt, anchor_named, holder_of, outer_named, own_heads, owner_holds, visit_at}
+use Rattle.comm_system.proofs.OwnersMet.{holds_below}
+use Rattle.comm_system.proofs.Places.{IsOf, IsPlaced, InOrder, StartsIn, in_order, instances_placed, kept_after}
+use Rattle.comm_system.proofs.Slots.{carried_level, plain_level, slot_at, slot_there}
+use Rattle.comm_system.proofs.StationFacts.{Deepens, loops_after, mapped_get}
+use Rattle.comm_system.proofs.StationOrder.{Comes, comes, comes_at, comes_earlier, rises_in}
+use Rattle.comm_system.proofs.Stations.{Station, at_trip, stations_in, text_among, visit_in}
+use Rattle.comm_system.proofs.StationsThere.{mapped_back}
+use Rattle.comm_system.proofs.Timeline.{Agree, IsCarried, IsPlain, agree_values, split}
+
+-- ---- the accesses of two instances that conflict
+
+module _ (tree : Tree) (i j : Instance) (s t : StaticPhase) (around around' : List Head) (nested : Contains (nested_in s.outer s.what) (record { what = i.what; around = around })) (nested' : Contains (nested_in t.outer t.what) (record { what = j.what; around = around' }))
+    (good : IsGoodNested (scope_of tree) (record { what = i.what; around = around })) (good' : IsGoodNested (scope_of tree) (record { what = j.what; around = around' })) (executed : is_executed i.what i.loops (param_values tree) ≡ true) (executed' : is_executed j.what j.loops (param_values tree) ≡ true)
+    (inside : is_instance_inside tree i ≡ true) (inside' : is_instance_inside tree j ≡ true) where
+  pub conflicting : Conflict tree i j → Conflicting tree s t around around' i j
+  conflicting c = by c.stored
+    where
+      by : (store_of tree i ≡ Some c.cell) ⊎ (store_of tree j ≡ Some c.cell) → Conflicting tree s t around around' i j
+      by (inl is) =
+          let a = store_access tree s around i c.cell nested good executed inside is in
+          let b = any_access tree t around' j c.cell nested' good' executed' inside' c.second in
+          record { cell = c.cell; a = a.0; b = b.0; first = a.1; second = b.1; stored = ap (λ x. x || b.0.stores) a.2 }
+      by (inr is) =
+          let a = any_access tree s around i c.cell nested good executed inside c.first in
+          let b = store_access tree t around' j c.cell nested' good' executed' inside' is in
+          record { cell = c.cell; a = a.0; b = b.0; first = a.1; second = b.1; stored = ap (λ x. a.0.stores || x) b.2 ∙ or_right a.0.stores }
+
+-- ---- in a later phase
+
+module _ (tree : Tree) (plan : Plan) (formed : IsWellFormed tree) (fits : IsFit tree plan) (none : (task : Task) → Contains (tasks_of tree plan) task → HasNoWholeSolution task.system) where
+  module _ (x y : Execution) (ex ey : ℕ) (hx : IsExecutedAt tree plan.cut x ex) (hy : IsExecutedAt tree plan.cut y ey) (less : ex < ey) (conflict : Conflict tree x.instance y.instance) (apart : owner_under tree plan x ≡ owner_under tree plan y → ⊥) where
+    two : AreTwo tree plan ex ey hx.station hy.station
+    two = record { formed = formed; first = hx.at; second = hy.at }
+
+    abbrev first_phase : StaticPhase
+    first_phase = record { what = hx.station.visit.what; outer = hx.station.heads }
+
+    abbrev second_phase : StaticPhase
+    second_phase = record { what = hy.station.visit.what; outer = hy.station.heads }
+
+    abbrev around_x : List Head
+    around_x = hx.station.heads ++ hx.placed.inner.heads
+
+    abbrev around_y : List Head
+    around_y = hy.station.heads ++ hy.placed.inner.heads
+
+    both : Conflicting tree first_phase second_phase around_x around_y x.instance y.instance
+    both = conflicting tree x.instance y.instance first_phase second_phase around_x around_y hx.placed.nested hy.placed.nested (nested_good tree plan.cut formed x ex hx) (nested_good tree plan.cut formed y ey hy) hx.placed.executed hy.placed.executed hx.inside hy.inside conflict
+
+    -- at a level at which the certain boundaries are known
+    at_level : (level : ℕ) → AreCertain tree plan ex ey hx.station hy.station two (certain_boundaries (text_among (enters_outer plan.cut) tree.items) hx.station.heads hy.station.heads hx.station.visit.place hy.station.visit.place level) →
+        Contains (levels (common hx.station.heads hy.station.heads) hx.station.visit.place hy.station.visit.place) level → (order : Order) → order ≡ order_at (common hx.station.heads hy.station.heads) level →
+        Agree order.equal hx.station.heads hx.station.trips hy.station.heads hy.station.trips → (order.earlier ≡ true → IsEarlier order.equal hx.station.trips hy.station.trips) →
+        (hops : List Hop) × IsChain tree plan (owner_under tree plan x) (suc ex) hops (owner_under tree plan y) (suc ey)
+    at_level level certain among order is agree earlier =
+        let params = param_values tree in
+        let sx = hx.station in
+        let sy = hy.station in
+        let px = hx.placed in
+        let py = hy.placed in
+        let kx = station_known tree plan.cut formed ex sx hx.at in
+        let ky = station_known tree plan.cut formed ey sy hy.at in
+        let c = both in
+        let same0 = agree_values params (no_values tree) order.equal 1 (1 + loops_of tree.items) sx.heads sx.trips sy.heads sy.trips agree kx.deepens ky.deepens (omega arith) in
+        let same1 : AreSame order.equal sx.heads sy.heads sx.visit.loops sy.visit.loops =
+        subst (λ l. AreSame order.equal sx.heads sy.heads l sy.visit.loops) (sym kx.loops_are) (subst (λ m. AreSame order.equal sx.heads sy.heads (loops_after params (no_values tree) sx.heads sx.trips) m) (sym ky.loops_are) same0) in
+        let same2 = same_further order.equal sx.heads sy.heads px.inner.heads py.inner.heads sx.visit.loops sy.visit.loops x.instance.loops y.instance.loops same1 (keeps tree sx.heads sx.trips sx.visit x.instance px) (keeps tree sy.heads sy.trips sy.visit y.instance py) in
+        let early = λ (e : order.earlier ≡ true). earlier_further order.equal sx.trips sy.trips px.inner.trips py.inner.trips (earlier e) in
+        let X = point_at x.instance (sx.trips ++ px.inner.trips) c.first.touches.free in
+        let Y = point_at y.instance (sy.trips ++ py.inner.trips) c.second.touches.free in
+        let pair : Pair = record { first = c.a; second = c.b } in
+        let meet0 = meeting tree first_phase second_phase around_x around_y x.instance y.instance c (sx.trips ++ px.inner.trips) (sy.trips ++ py.inner.trips) order px.trips py.trips same2 early in
+        let meet1 : Meet tree (order_at (common sx.heads sy.heads) level) pair X Y = subst (λ o. Meet tree o pair X Y) is meet0 in
+        let ax = anchor_at plan sx.visit.place in
+        let ay = anchor_at plan sy.visit.place in
+        let ox = owner_holds tree plan formed fits ex sx hx.at x.instance px ax (anchor_there tree plan formed fits ex sx hx.at) in
+        let oy = owner_holds tree plan formed fits ey sy hy.at y.instance py ay (anchor_there tree plan formed fits ey sy hy.at) in
+        let first = holder_of ax.dist plan.workers (form_value ax.form x.instance.loops params) in
+        let second = holder_of ay.dist plan.workers (form_value ay.form y.instance.loops params) in
+        let is_first : IsHolder tree plan.workers pair X Y (ax, of_first) first = record { named = subst (λ hs. names_only (length params) (numbers hs) ax.form ≡ true) (sym c.first.around_is) ox.0; holds = ox.1 } in
+        let is_second : IsHolder tree plan.workers pair X Y (ay, of_second) second = record { named = subst (λ hs. names_only (length params) (numbers hs) ay.form ≡ true) (sym c.second.around_is) oy.0; holds = oy.1 } in
+        let own_x = owner_is tree plan formed fits x ex sx hx.at hx.place_is in
+        let own_y = owner_is tree plan formed fits y ey sy hy.at hy.place_is in
+        let slot_in = slot_there (phases_of tree plan.cut) sx.visit.place first_phase sy.visit.place second_phase level kx.low ky.low (phase_there tree plan.cut formed ex sx hx.at) (phase_there tree plan.cut formed ey sy hy.at) among in
+        let chain = waited tree plan ex ey sx sy two fits x.instance y.instance px py pair X Y c.first.around_is c.second.around_is refl refl level (omega (arith, less)) certain slot_in (meeting_pair tree first_phase second_phase around_x around_y x.instance y.instance c) meet1 first second is_first is_second
+        (holds_below ax.dist plan.workers (form_value ax.form x.instance.loops params) first ox.1) (holds_below ay.dist plan.workers (form_value ay.form y.instance.loops params) second oy.1) (λ e. apart (own_x ∙ sym e ∙ sym own_y)) none in
+        (chain.0, subst (λ q. IsChain tree plan q (suc ex) chain.0 (owner_under tree plan y) (suc ey)) (sym own_x) (subst (λ p. IsChain tree plan first.owner (suc ex) chain.0 p (suc ey)) (sym own_y) chain.1))
+
+    pub later_phase : (hops : List Hop) × IsChain tree plan (owner_under tree plan x) (suc ex) hops (owner_under tree plan y) (suc ey)
+    later_phase =
+        let sx = hx.station in
+        let sy = hy.station in
+        let rises = rises_in (param_values tree) (scope_of tree) (enters_outer plan.cut) [] [] (no_values tree) 1 1 1 tree.items (at_first tree formed) in
+        let comes_so = comes_at (stations_in (param_values tree) (enters_outer plan.cut) tree.items 1 1 (no_values tree)) ex ey sx sy rises less hx.at hy.at in
+        by (split (heads_among tree.items) 1 sx.heads sx.trips sx.visit.place sy.heads sy.trips sy.visit.place (heads_x tree plan ex ey sx sy two) (heads_y tree plan ex ey sx sy two) (long_x tree plan ex ey sx sy two) (long_y tree plan ex ey sx sy two) comes_so)
+      where
+        by : IsCarried hx.station.heads hx.station.trips hy.station.heads hy.station.trips ⊎ IsPlain hx.station.heads hx.station.trips hx.station.visit.place hy.station.heads hy.station.trips hy.station.visit.place →
+            (hops : List Hop) × IsChain tree plan (owner_under tree plan x) (suc ex) hops (owner_under tree plan y) (suc ey)
+        by (inl c) =
+            at_level (suc c.outside) (carried_certain tree plan ex ey hx.station hy.station two (omega (arith, less)) c.outside c.agree c.earlier c.less) (carried_level (common hx.station.heads hy.station.heads) hx.station.visit.place hy.station.visit.place c.outside c.less)
+            (record { equal = c.outside; earlier = true }) (sym (order_carried (common hx.station.heads hy.station.heads) c.outside)) c.agree (λ e. c.earlier)
+        by (inr p) =
+            at_level 0 (plain_certain tree plan ex ey hx.station hy.station two (omega (arith, less)) p.agree) (plain_level (common hx.station.heads hy.station.heads) hx.station.visit.place hy.station.visit.place p.text)
+            (record { equal = common hx.station.heads hy.station.heads; earlier = false }) refl p.agree (λ e. absurd (true≢false (sym e)))
