@@ -29,3 +29,5 @@ pub mod Slots
 pub mod Different
 pub mod Ordered
 pub mod Waiting
+pub mod SamePhase
+pub mod ObligationOrder

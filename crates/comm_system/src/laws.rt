@@ -2,21 +2,24 @@
 
 ghost use Rattle.std.specs.Prelude.{◌≡◌, ℕ, List, [], ◌∷◌, length, map};
 ghost use Rattle.std.specs.List.{AllByRecursion, Contains};
-ghost use Rattle.farkas_cert.specs.Inequalities.{IsWholeSolution};
+ghost use Rattle.farkas_cert.specs.Inequalities.{HasNoWholeSolution, IsWholeSolution};
 ghost use Rattle.nest_tree.specs.Tree.{Tree};
 ghost use Rattle.nest_tree.specs.WellFormed.{IsWellFormed};
+ghost use Rattle.nest_model.specs.Ranges.{IsInRange};
 ghost use Rattle.owner_partition.specs.declared.anchor.Anchor.{Anchor};
 ghost use Rattle.sync_plan.specs.declared.plan.Kind.{Kind};
 ghost use Rattle.sync_plan.specs.declared.plan.Plan.{Plan};
 ghost use Rattle.sync_plan.specs.Fit.{IsFit};
+ghost use Rattle.sync_plan.specs.Ordered.{IsOrdered};
 ghost use Rattle.comm_system.specs.Boundaries.{Side, certain_boundaries, of_first, of_second};
 ghost use Rattle.comm_system.specs.Levels.{common, order_at, two_trips};
 ghost use Rattle.comm_system.specs.Meetings.{AreHolders, Holder, LiesAmong, LiesBeside, Meet, Point, holders_values, values_of};
-ghost use Rattle.comm_system.specs.Obligations.{Slot, anchor_at, owners_of, piece_task, slot_signature, slot_tasks, trips_task};
+ghost use Rattle.comm_system.specs.Obligations.{Slot, anchor_at, obligations_of, owners_of, piece_task, slot_signature, slot_tasks, trips_task};
 ghost use Rattle.comm_system.specs.OwnerRows.{Piece, distance};
 ghost use Rattle.comm_system.specs.Pairs.{Pair, pairs_of};
 ghost use Rattle.comm_system.specs.References.{StaticPhase, phases_of};
 ghost use Rattle.comm_system.specs.Signatures.{kind_at};
+ghost use Rattle.comm_system.specs.declared.obligation.Obligation.{Obligation};
 
 /// Kinds that agree in front of the certain boundaries of a slot give it the same systems: a
 /// kind's change in front of a phase changes those slots alone that have it among them.
@@ -40,4 +43,10 @@ pub fn meeting_owners_solve()
         Contains (phases_of tree plan.cut) slot.first → Contains (phases_of tree plan.cut) slot.second → Contains (pairs_of slot.first slot.second) pair → Meet tree (order_at (common slot.first.outer slot.second.outer) slot.level) pair x y →
         AreHolders tree plan.workers pair x y ((anchor_at plan slot.s, of_first) ∷ (anchor_at plan slot.t, of_second) ∷ producers) (q ∷ p ∷ os) → LiesBeside piece.range (distance piece.range left right) q.owner p.owner → LiesAmong q.owner (map (λ (o : Holder). o.owner) os) piece.producers →
         IsWholeSolution (piece_task tree plan slot left right producers pair n piece).system (values_of tree pair x y (holders_values (owners_of tree plan slot producers pair) (q ∷ p ∷ os))) }
+{}
+
+/// Where each system of a plan that fits a well-formed program, whose subscripts are in range, has
+/// no whole solution, the plan is ordered.
+pub fn obligations_order()
+    ensures { (tree : Tree) (plan : Plan) → IsWellFormed tree → IsInRange tree → IsFit tree plan → ((o : Obligation) → Contains (obligations_of tree plan) o → HasNoWholeSolution o.system) → IsOrdered tree plan }
 {}

@@ -3,7 +3,8 @@
 //! solution the plan orders all accesses that conflict.
 //!
 //! - [`obligation`]: an obligation with what it speaks of.
-//! - [`laws`]: which slots a kind's change changes; what solves the systems.
+//! - [`laws`]: which slots a kind's change changes; what solves the systems, and that
+//!   where nothing does, the plan is ordered.
 //!
 //! The definitions are in `specs/`: the accesses of a phase (`References`), which two conflict
 //! (`Pairs`), levels and the boundaries that are certain at one (`Levels`, `Boundaries`), what a
@@ -14,5 +15,7 @@
 pub mod laws;
 pub mod obligation;
 
-pub use laws::{meeting_owners_solve, meeting_trips_solve, slots_see_certain_boundaries};
+pub use laws::{
+    meeting_owners_solve, meeting_trips_solve, obligations_order, slots_see_certain_boundaries,
+};
 pub use obligation::Obligation;

@@ -1,0 +1,193 @@
+-- Two executions of one phase that conflict have one owner, where no system of two trips has a whole solution.
+use Rattle.std.proofs.Common.{◌≡◌, ◌≢◌, ℕ, zero, suc, ◌+◌, ◌-◌, ◌<◌, ◌≤◌, ◌⊎◌, ◌==◌, ℤ, Bool, true, false, true≢false, Option, Some, None, List, [], ◌∷◌, ◌++◌, length, map, if◌then◌else◌, refl, ap, sym, ◌∙◌, subst, inl, inr, arith}
+use Rattle.std.specs.List.{AllByRecursion, Contains, flat_map, slice_get}
+use Rattle.std.proofs.lemmas.Bool.{cases_Bool, cases_eq, cases_lt, ltb-true}
+use Rattle.std.proofs.lemmas.List.Elements.{Contains-append_left}
+use Rattle.nest_tree.specs.Form.{form_value, numbered}
+use Rattle.nest_tree.specs.Layout.{count_of}
+use Rattle.nest_tree.specs.Tree.{Head, Statement, Statements, do_loop, work, continue, Tree, param_values}
+use Rattle.nest_tree.specs.WellFormed.{IsWellFormed, loops_of, names_only, scope_of}
+use Rattle.nest_model.specs.Accesses.{Conflict}
+use Rattle.nest_model.specs.Instances.{Instance, no_values}
+use Rattle.nest_model.specs.Ranges.{IsInRange, is_instance_inside}
+use Rattle.nest_model.specs.Visits.{Visit}
+use Rattle.nest_rows.specs.Nested.{nested_in}
+use Rattle.nest_rows.proofs.Dots.{numbers}
+use Rattle.nest_rows.proofs.Nesting.{all-append}
+use Rattle.farkas_cert.specs.Inequalities.{HasNoWholeSolution}
+use Rattle.owner_partition.specs.declared.anchor.Anchor.{Anchor}
+use Rattle.owner_partition.specs.Marks.{enters_outer}
+use Rattle.owner_partition.specs.Owners.{anchor_owner, dealt}
+use Rattle.owner_partition.specs.Phases.{Execution, executions, phase_instances, phases}
+use Rattle.sync_plan.specs.declared.plan.Plan.{Plan}
+use Rattle.sync_plan.specs.Fit.{IsFit, is_dealt}
+use Rattle.sync_plan.specs.Ordered.{Hop, IsChain, IsOrdered, owner_under}
+use Rattle.comm_system.specs.Levels.{two_trips}
+use Rattle.comm_system.specs.Meetings.{AreSame, IsEarlier, Point, values_of}
+use Rattle.comm_system.specs.Obligations.{Task, anchor_at, slot_signature, slot_tasks, slots_of, tasks_of, trips_task, trips_tasks}
+use Rattle.comm_system.specs.Pairs.{Pair, pairs_of}
+use Rattle.comm_system.specs.References.{StaticPhase, phases_of}
+use Rattle.comm_system.proofs.Accesses.{IsExecutedAt, executed_at_station, get_contains, in_flat_map, in_map, nested_good, phase_there, point_at, station_known}
+use Rattle.comm_system.proofs.Certain.{valid-length}
+use Rattle.comm_system.proofs.Contexts.{IsInFront, loop_number}
+use Rattle.comm_system.proofs.Different.{keeps}
+use Rattle.comm_system.proofs.Holders.{form_keeps}
+use Rattle.comm_system.proofs.Meets.{trips_meet}
+use Rattle.comm_system.proofs.Ordered.{Conflicting, anchor_there, meeting, meeting_pair, owner_is, same_further}
+use Rattle.comm_system.proofs.Owners.{anchor_named, outer_named, own_heads, visit_at}
+use Rattle.comm_system.proofs.Places.{InOrder, IsOf, IsPlaced, StartsIn, in_order, instances_placed, kept_after}
+use Rattle.comm_system.proofs.StationFacts.{Deepens, IsStation, loops_after}
+use Rattle.comm_system.proofs.StationOrder.{Comes, comes, comes_earlier}
+use Rattle.comm_system.proofs.Stations.{Station, at_trip, stations_in}
+use Rattle.comm_system.proofs.Waiting.{conflicting, later_phase}
+
+-- ---- the trips of a phase's own loop
+
+abbrev first_trip : List ℕ → ℕ
+first_trip [] = 0
+first_trip (n ∷ ns) = n
+
+trips_rise : (params L : List ℤ) (head : Head) (body : Statements) (hs : List Head) (ns : List ℕ) (u : ℕ) (gs : List Head) (ms : List ℕ) (w : ℕ) → StartsIn params L (do_loop head body) hs ns → StartsIn params L (do_loop head body) gs ms → comes hs ns u gs ms w ≡ true →
+    (first_trip ns ≡ first_trip ms) ⊎ IsEarlier 0 ns ms
+trips_rise params L head body [] ns u gs ms w a b c = absurd a
+trips_rise params L head body (h ∷ hs) [] u gs ms w a b c = absurd a
+trips_rise params L head body (h ∷ hs) (n ∷ ns) u [] ms w a b c = absurd b
+trips_rise params L head body (h ∷ hs) (n ∷ ns) u (g ∷ gs) [] w a b c = absurd b
+trips_rise params L head body (h ∷ hs) (n ∷ ns) u (g ∷ gs) (m ∷ ms) w a b c = elim (cases_eq n m) [
+  | inl same ↦ inl same
+  | inr ne ↦ inr (ltb-true n m (sym (comes_earlier h g hs gs n m ns ms u w (ap (λ (x : Head). x.number) (a.0 ∙ sym b.0)) ne) ∙ c))
+]
+
+started_value : (params L : List ℤ) (head : Head) (body : Statements) (hs : List Head) (ns : List ℕ) (low high : ℕ) → StartsIn params L (do_loop head body) hs ns → Deepens low high hs → 1 ≤ head.number →
+    numbered (loops_after params L hs ns) head.number ≡ numbered (at_trip params head L (first_trip ns)) head.number
+started_value params L head body [] ns low high a d some = absurd a
+started_value params L head body (h ∷ hs) [] low high a d some = absurd a
+started_value params L head body (h ∷ hs) (n ∷ ns) low high a d some =
+    let deeper : Deepens (head.number + 1) high hs = subst (λ x. Deepens (x + 1) high hs) (ap (λ (x : Head). x.number) a.0) d.2 in
+    ap (λ x. numbered (loops_after params (at_trip params x L n) hs ns) head.number) a.0 ∙ kept_after params (at_trip params head L n) hs ns head.number (head.number + 1) high some (omega arith) deeper
+
+earlier_behind : (ts ns ms : List ℕ) → IsEarlier 0 ns ms → IsEarlier (length ts) (ts ++ ns) (ts ++ ms)
+earlier_behind [] ns ms e = e
+earlier_behind (t ∷ ts) ns ms e = earlier_behind ts ns ms e
+
+same_itself : (hs : List Head) (L : List ℤ) → AreSame (length hs) hs hs L L
+same_itself [] L = tt
+same_itself (h ∷ hs) L = (refl, same_itself hs L)
+
+values_both : (hs : List Head) (I J L : List ℤ) → AllByRecursion (λ h. numbered I h.number ≡ numbered L h.number) hs → AllByRecursion (λ h. numbered J h.number ≡ numbered L h.number) hs → AllByRecursion (λ h. numbered I h.number ≡ numbered J h.number) hs
+values_both [] I J L a b = tt
+values_both (h ∷ hs) I J L a b = (a.0 ∙ sym b.0, values_both hs I J L a.1 b.1)
+
+module _ (tree : Tree) (plan : Plan) (formed : IsWellFormed tree) (fits : IsFit tree plan) (none : (task : Task) → Contains (tasks_of tree plan) task → HasNoWholeSolution task.system) (e : ℕ) (s : Station) (at : slice_get (stations_in (param_values tree) (enters_outer plan.cut) tree.items 1 1 (no_values tree)) e ≡ Some s)
+    (i j : Instance) (p : IsPlaced (param_values tree) (scope_of tree) s.heads s.trips s.visit i) (q : IsPlaced (param_values tree) (scope_of tree) s.heads s.trips s.visit j) (rises : Comes p.inner q.inner) where
+  abbrev phase : StaticPhase
+  phase = record { what = s.visit.what; outer = s.heads }
+
+  abbrev anchor : Anchor
+  anchor = anchor_at plan s.visit.place
+
+  abbrev Owner : Instance → ℕ
+  Owner x = anchor_owner (anchor_at plan s.visit.place) plan.workers x.loops (param_values tree)
+
+  outer_values : AllByRecursion (λ h. numbered i.loops h.number ≡ numbered j.loops h.number) s.heads
+  outer_values = values_both s.heads i.loops j.loops s.visit.loops (keeps tree s.heads s.trips s.visit i p) (keeps tree s.heads s.trips s.visit j q)
+
+  same_owner : (hs : List Head) → names_only (length (param_values tree)) (numbers hs) (anchor_at plan s.visit.place).form ≡ true → AllByRecursion (λ h. numbered i.loops h.number ≡ numbered j.loops h.number) hs →
+      anchor_owner (anchor_at plan s.visit.place) plan.workers i.loops (param_values tree) ≡ anchor_owner (anchor_at plan s.visit.place) plan.workers j.loops (param_values tree)
+  same_owner hs named values =
+      let a = anchor_at plan s.visit.place in
+      ap (λ w. count_of (dealt a.dist plan.workers w)) (form_keeps (length (param_values tree)) hs i.loops j.loops (param_values tree) a.form named values)
+
+  -- where two trips of the phase's loop meet
+  two_trips_meet : is_dealt plan.cut s.visit.what ≡ true → Conflicting tree phase phase (s.heads ++ p.inner.heads) (s.heads ++ q.inner.heads) i j → IsEarlier 0 p.inner.trips q.inner.trips → ⊥
+  two_trips_meet is c earlier =
+      let params = param_values tree in
+      let known = station_known tree plan.cut formed e s at in
+      let long = valid-length params (no_values tree) s.heads s.trips known.valid in
+      let same = same_further (length s.heads) s.heads s.heads p.inner.heads q.inner.heads s.visit.loops s.visit.loops i.loops j.loops (same_itself s.heads s.visit.loops) (keeps tree s.heads s.trips s.visit i p) (keeps tree s.heads s.trips s.visit j q) in
+      let early : IsEarlier (length s.heads) (s.trips ++ p.inner.trips) (s.trips ++ q.inner.trips) = subst (λ n. IsEarlier n (s.trips ++ p.inner.trips) (s.trips ++ q.inner.trips)) long (earlier_behind s.trips p.inner.trips q.inner.trips earlier) in
+      let pair : Pair = record { first = c.a; second = c.b } in
+      let X = point_at i (s.trips ++ p.inner.trips) c.first.touches.free in
+      let Y = point_at j (s.trips ++ q.inner.trips) c.second.touches.free in
+      let meet = meeting tree phase phase (s.heads ++ p.inner.heads) (s.heads ++ q.inner.heads) i j c (s.trips ++ p.inner.trips) (s.trips ++ q.inner.trips) (two_trips (length s.heads)) p.trips q.trips same (λ e. early) in
+      let here = get_contains (phases_of tree plan.cut) (s.visit.place - 1) phase (phase_there tree plan.cut formed e s at) in
+      let among = meeting_pair tree phase phase (s.heads ++ p.inner.heads) (s.heads ++ q.inner.heads) i j c in
+      let solved = trips_meet tree plan phase pair X Y formed fits here among meet in
+      let task = in_map (trips_task tree plan phase) (pairs_of phase phase) pair among in
+      let task' : Contains (trips_tasks tree plan phase) (trips_task tree plan phase pair) = subst (λ b. Contains (if b then map (trips_task tree plan phase) (pairs_of phase phase) else []) (trips_task tree plan phase pair)) (sym is) task in
+      let all = phases_of tree plan.cut in
+      let there = Contains-append_left (flat_map (trips_tasks tree plan) all) (flat_map (λ slot. slot_tasks tree plan slot (slot_signature plan.version plan.kinds all slot)) (slots_of all)) (trips_task tree plan phase pair)
+      (in_flat_map (trips_tasks tree plan) all phase (trips_task tree plan phase pair) here task') in
+      none (trips_task tree plan phase pair) there (values_of tree pair X Y []) solved
+
+  pub one_owner : Conflicting tree (record { what = s.visit.what; outer = s.heads }) (record { what = s.visit.what; outer = s.heads }) (s.heads ++ p.inner.heads) (s.heads ++ q.inner.heads) i j →
+      anchor_owner (anchor_at plan s.visit.place) plan.workers i.loops (param_values tree) ≡ anchor_owner (anchor_at plan s.visit.place) plan.workers j.loops (param_values tree)
+  one_owner c = elim (cases_Bool (is_dealt plan.cut s.visit.what)) [
+    | inr still ↦ same_owner s.heads (outer_named tree plan formed fits e s at (anchor_at plan s.visit.place) (anchor_there tree plan formed fits e s at) still) outer_values
+    | inl is ↦ by s.visit.what refl is
+  ]
+    where
+      by : (what : Statement) → s.visit.what ≡ what → is_dealt plan.cut s.visit.what ≡ true → anchor_owner (anchor_at plan s.visit.place) plan.workers i.loops (param_values tree) ≡ anchor_owner (anchor_at plan s.visit.place) plan.workers j.loops (param_values tree)
+      by (work w) same is = absurd (true≢false (sym is ∙ ap (is_dealt plan.cut) same))
+      by (continue line) same is = absurd (true≢false (sym is ∙ ap (is_dealt plan.cut) same))
+      by (do_loop head body) same is =
+          let params = param_values tree in
+          let known = station_known tree plan.cut formed e s at in
+          let front : IsInFront params (scope_of tree) s.heads s.trips s.visit.loops known.own_number (do_loop head body) = subst (λ w. IsInFront params (scope_of tree) s.heads s.trips s.visit.loops known.own_number w) same known.context in
+          let number = loop_number params (scope_of tree) s.heads s.trips s.visit.loops known.own_number head body front in
+          let some : 1 ≤ head.number = omega (arith, number.0, number.1) in
+          let a : StartsIn params s.visit.loops (do_loop head body) p.inner.heads p.inner.trips = subst (λ w. StartsIn params s.visit.loops w p.inner.heads p.inner.trips) same p.starts_in in
+          let b : StartsIn params s.visit.loops (do_loop head body) q.inner.heads q.inner.trips = subst (λ w. StartsIn params s.visit.loops w q.inner.heads q.inner.trips) same q.starts_in in
+          let named : names_only (length params) (numbers (s.heads ++ head ∷ [])) (anchor_at plan s.visit.place).form ≡ true =
+          subst (λ w. names_only (length params) (numbers (own_heads s.heads w)) (anchor_at plan s.visit.place).form ≡ true) same (anchor_named tree plan formed fits e s at (anchor_at plan s.visit.place) (anchor_there tree plan formed fits e s at)) in
+          let value_i = ap (λ l. numbered l head.number) p.loops_are ∙ started_value params s.visit.loops head body p.inner.heads p.inner.trips p.low p.high a p.deepens some in
+          let value_j = ap (λ l. numbered l head.number) q.loops_are ∙ started_value params s.visit.loops head body q.inner.heads q.inner.trips q.low q.high b q.deepens some in
+          choose head named value_i value_j (trips_rise params s.visit.loops head body p.inner.heads p.inner.trips p.inner.visit.place q.inner.heads q.inner.trips q.inner.visit.place a b rises) is
+        where
+          choose : (head : Head) → names_only (length (param_values tree)) (numbers (s.heads ++ head ∷ [])) (anchor_at plan s.visit.place).form ≡ true → numbered i.loops head.number ≡ numbered (at_trip (param_values tree) head s.visit.loops (first_trip p.inner.trips)) head.number →
+              numbered j.loops head.number ≡ numbered (at_trip (param_values tree) head s.visit.loops (first_trip q.inner.trips)) head.number → (first_trip p.inner.trips ≡ first_trip q.inner.trips) ⊎ IsEarlier 0 p.inner.trips q.inner.trips → is_dealt plan.cut s.visit.what ≡ true →
+              anchor_owner (anchor_at plan s.visit.place) plan.workers i.loops (param_values tree) ≡ anchor_owner (anchor_at plan s.visit.place) plan.workers j.loops (param_values tree)
+          choose head named vi vj (inl equal) is =
+              same_owner (s.heads ++ head ∷ []) named (all-append (λ h. numbered i.loops h.number ≡ numbered j.loops h.number) s.heads (head ∷ []) outer_values
+              (vi ∙ ap (λ n. numbered (at_trip (param_values tree) head s.visit.loops n) head.number) equal ∙ sym vj, tt))
+          choose head named vi vj (inr earlier) is = absurd (two_trips_meet is c earlier)
+
+-- ---- the plan is ordered
+
+some_same : (v w : Visit) → Some v ≡ Some w → v ≡ w
+some_same v w e = cc
+
+pub obligations_order : (tree : Tree) (plan : Plan) → IsWellFormed tree → IsInRange tree → IsFit tree plan → ((task : Task) → Contains (tasks_of tree plan) task → HasNoWholeSolution task.system) → IsOrdered tree plan
+obligations_order tree plan formed ranged fits none j k x y lt at at' conflict apart =
+    let params = param_values tree in
+    let o = in_order params 1 (phases tree plan.cut) x y j k lt at at' in
+    let hx = executed_at_station tree plan.cut formed ranged x j at o.first in
+    let hy = executed_at_station tree plan.cut formed ranged y k at' o.second in
+    let phase_x : suc o.first.phase ≡ x.phase = omega (arith, o.first.phase_is) in
+    let phase_y : suc o.second.phase ≡ y.phase = omega (arith, o.second.phase_is) in
+    elim (cases_eq o.first.phase o.second.phase) [
+      | inr ne ↦
+          let chain = later_phase tree plan formed fits none x y o.first.phase o.second.phase hx hy (omega (arith, o.phases, ne)) conflict apart in
+          (chain.0, subst (λ e. IsChain tree plan (owner_under tree plan x) e chain.0 (owner_under tree plan y) y.phase) phase_x (subst (λ t. IsChain tree plan (owner_under tree plan x) (suc o.first.phase) chain.0 (owner_under tree plan y) t) phase_y chain.1))
+      | inl same ↦ absurd (apart (together o hx hy same))
+    ]
+  where
+    together : (o : InOrder (param_values tree) 1 (phases tree plan.cut) x y) → IsExecutedAt tree plan.cut x o.first.phase → IsExecutedAt tree plan.cut y o.second.phase → o.first.phase ≡ o.second.phase → owner_under tree plan x ≡ owner_under tree plan y
+    together o hx hy same =
+        let params = param_values tree in
+        let s = hx.station in
+        let e = o.first.phase in
+        let visit_x : s.visit ≡ o.first.visit = some_same s.visit o.first.visit (sym (visit_at tree plan formed fits e s hx.at) ∙ o.first.at) in
+        let visit_y : s.visit ≡ o.second.visit = some_same s.visit o.second.visit (sym (visit_at tree plan formed fits e s hx.at) ∙ ap (slice_get (phases tree plan.cut)) same ∙ o.second.at) in
+        let known = station_known tree plan.cut formed e s hx.at in
+        let at_i : slice_get (phase_instances params s.visit) o.first.index ≡ Some x.instance = ap (λ v. slice_get (phase_instances params v) o.first.index) visit_x ∙ o.first.is in
+        let at_j : slice_get (phase_instances params s.visit) o.second.index ≡ Some y.instance = ap (λ v. slice_get (phase_instances params v) o.second.index) visit_y ∙ o.second.is in
+        let placed = instances_placed params (scope_of tree) s.heads s.trips s.visit known.own_number known.context x.instance y.instance o.first.index o.second.index (o.within_phase same) at_i at_j in
+        let p = placed.0 in
+        let q = placed.1.0 in
+        let ix : IsExecutedAt tree plan.cut x e = record { station = s; at = hx.at; place_is = hx.place_is; placed = p; inside = hx.inside } in
+        let place_y : y.place ≡ s.visit.place = o.second.place_is ∙ ap (λ (v : Visit). v.place) (sym visit_y) in
+        let iy : IsExecutedAt tree plan.cut y e = record { station = s; at = hx.at; place_is = place_y; placed = q; inside = hy.inside } in
+        let phase : StaticPhase = record { what = s.visit.what; outer = s.heads } in
+        let c = conflicting tree x.instance y.instance phase phase (s.heads ++ p.inner.heads) (s.heads ++ q.inner.heads) p.nested q.nested (nested_good tree plan.cut formed x e ix) (nested_good tree plan.cut formed y e iy) p.executed q.executed hx.inside hy.inside conflict in
+        owner_is tree plan formed fits x e s hx.at hx.place_is ∙ one_owner tree plan formed fits none e s hx.at x.instance y.instance p q placed.1.1 c ∙ sym (owner_is tree plan formed fits y e s hx.at place_y)
