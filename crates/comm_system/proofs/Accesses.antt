@@ -1,8 +1,8 @@
 -- Which access of a phase an execution makes at a cell, and the pairs that conflict.
-use Rattle.std.proofs.Common.{◌≡◌, ℕ, zero, suc, ◌+◌, ◌-◌, ◌<◌, ◌≤◌, ◌⊎◌, ◌==◌, ◌&&◌, ◌||◌, nat_le, ℤ, Bool, true, false, cond, Option, Some, None, List, [], ◌∷◌, ◌++◌, length, map, if◌then◌else◌, refl, ap, sym, ◌∙◌, subst, inl, inr, arith}
+use Rattle.std.proofs.Common.{◌≡◌, ℕ, zero, suc, ◌+◌, ◌-◌, nat_le, ℤ, Bool, true, false, cond, Option, Some, None, List, [], ◌∷◌, ◌++◌, length, map, refl, ap, sym, ◌∙◌, subst, inl, inr, arith}
 use Rattle.std.specs.List.{AllByRecursion, Contains, filter, flat_map, list_all, slice_get}
 use Rattle.std.specs.Option.{option_to_list}
-use Rattle.std.proofs.lemmas.Bool.{and_from, and_parts, leb-true}
+use Rattle.std.proofs.lemmas.Bool.{and_parts, leb-true}
 use Rattle.std.proofs.lemmas.List.{length-map}
 use Rattle.std.proofs.lemmas.List.Elements.{Contains-append_cases, Contains-append_left, Contains-append_right}
 use Rattle.std.proofs.lemmas.List.Folds.{list_all-append}
@@ -10,7 +10,7 @@ use Rattle.nest_tree.specs.declared.tree.Access.{Access}
 use Rattle.nest_tree.specs.Guards.{holds}
 use Rattle.nest_tree.specs.Loads.{loads_in, loads_in_item}
 use Rattle.nest_tree.specs.Tree.{Head, Printed, value, whole, text, Work, assign, print, Tree, param_values}
-use Rattle.nest_tree.specs.WellFormed.{IsWellFormed, Scope, is_good_access, loops_of, rank, scope_of}
+use Rattle.nest_tree.specs.WellFormed.{IsWellFormed, is_good_access, loops_of, rank, scope_of}
 use Rattle.nest_model.specs.Accesses.{cells_of, loads_of, store_of}
 use Rattle.nest_model.specs.Instances.{Instance, instances, is_executed, no_values}
 use Rattle.nest_model.specs.Ranges.{IsInRange, accesses_of, is_access_inside, is_instance_inside}
@@ -25,17 +25,16 @@ use Rattle.owner_partition.specs.declared.cut.Mark.{Mark}
 use Rattle.owner_partition.specs.Marks.{enters_outer}
 use Rattle.owner_partition.specs.Phases.{Execution, executions, phase_instances, phases}
 use Rattle.owner_partition.proofs.Instances.{all_executed}
-use Rattle.comm_system.specs.Meetings.{IsMadeAt, Point, subscripts_at}
+use Rattle.comm_system.specs.Meetings.{Point, subscripts_at}
 use Rattle.comm_system.specs.Pairs.{Pair, conflict, pairs_of}
 use Rattle.comm_system.specs.References.{Reference, StaticPhase, phases_of, reference_of, references_in, references_of, variable_of}
-use Rattle.comm_system.proofs.Cells.{IsElement, IsSound, IsSoundLoaded, Touches, contains_cases, contains_here, contains_later, contains_nothing, load_touches, same_element_of, store_touches}
+use Rattle.comm_system.proofs.Cells.{IsSound, IsSoundLoaded, Touches, contains_cases, contains_here, contains_later, contains_nothing, load_touches, same_element_of, store_touches}
 use Rattle.comm_system.proofs.Contexts.{at_first}
 use Rattle.comm_system.proofs.GoodReferences.{AllIn, IsGoodLoaded, among_phases, loaded_good, stored_good}
-use Rattle.comm_system.proofs.Places.{IsOf, IsPlaced, execution_of, instance_placed}
+use Rattle.comm_system.proofs.Places.{IsOf, IsPlaced, instance_placed}
 use Rattle.comm_system.proofs.StationFacts.{IsStation, each_in, mapped_get}
 use Rattle.comm_system.proofs.Stations.{Station, phases-text, stations_in, text_among, visit_in, visits-in}
 use Rattle.comm_system.proofs.StationsThere.{mapped_back}
-use Rattle.nest_model.specs.Accesses.{work_loads, work_store}
 
 -- ---- elements of lists
 
@@ -149,27 +148,32 @@ module _ (tree : Tree) (phase : StaticPhase) (around : List Head) (i : Instance)
   load_access c =
       let sound = sound_loaded tree i.loops good.loops (loaded_in_work i.what) (loaded_good (scope_of tree) good.loops i.what good.good) (loaded_inside tree i.loops i.what inside) in
       let h = load_touches tree i.loops cell i.what sound c in
-      let a = reference_of (record { what = i.what; around = around }) false h.what in
-      (a, record {
-        among = in_references a (Contains-append_left (map (reference_of (record { what = i.what; around = around }) false) (loaded_in_work i.what)) (map (λ x. reference_of (record { what = i.what; around = around }) true (element x)) (stores_in i.what)) a
-            (in_map (reference_of (record { what = i.what; around = around }) false) (loaded_in_work i.what) h.what h.among));
-        around_is = refl;
-        executed = guard_holds i.what i.loops (param_values tree) executed;
-        touches = h.touches;
-      })
+      let a = reference_of (record { what = i.what; around = around }) false h.what in (
+        a,
+        record {
+          among = in_references a (Contains-append_left (map (reference_of (record { what = i.what; around = around }) false) (loaded_in_work i.what)) (map (λ x. reference_of (record { what = i.what; around = around }) true (element x)) (stores_in i.what)) a
+              (in_map (reference_of (record { what = i.what; around = around }) false) (loaded_in_work i.what) h.what h.among));
+          around_is = refl;
+          executed = guard_holds i.what i.loops (param_values tree) executed;
+          touches = h.touches;
+        },
+      )
 
   pub store_access : store_of tree i ≡ Some cell → (a : Reference) × IsAccessAt tree phase around i cell a × (a.stores ≡ true)
   store_access is =
       let sound = sound_stored tree i.loops good.loops (stores_in i.what) (stored_good (scope_of tree) good.loops i.what good.good) (stored_inside tree i.loops i.what inside) in
       let h = store_touches tree i.loops cell i.what sound is in
-      let a = reference_of (record { what = i.what; around = around }) true (element h.access) in
-      (a, record {
-        among = in_references a (Contains-append_right (map (reference_of (record { what = i.what; around = around }) false) (loaded_in_work i.what)) (map (λ x. reference_of (record { what = i.what; around = around }) true (element x)) (stores_in i.what)) a
-            (in_map (λ x. reference_of (record { what = i.what; around = around }) true (element x)) (stores_in i.what) h.access h.among));
-        around_is = refl;
-        executed = guard_holds i.what i.loops (param_values tree) executed;
-        touches = h.touches;
-      }, refl)
+      let a = reference_of (record { what = i.what; around = around }) true (element h.access) in (
+        a,
+        record {
+          among = in_references a (Contains-append_right (map (reference_of (record { what = i.what; around = around }) false) (loaded_in_work i.what)) (map (λ x. reference_of (record { what = i.what; around = around }) true (element x)) (stores_in i.what)) a
+              (in_map (λ x. reference_of (record { what = i.what; around = around }) true (element x)) (stores_in i.what) h.access h.among));
+          around_is = refl;
+          executed = guard_holds i.what i.loops (param_values tree) executed;
+          touches = h.touches;
+        },
+        refl,
+      )
 
   pub any_access : Contains (cells_of tree i) cell → (a : Reference) × IsAccessAt tree phase around i cell a
   any_access c = elim (Contains-append_cases (loads_of tree i) (option_to_list (store_of tree i)) cell c) [

@@ -1,18 +1,12 @@
 -- The certain boundaries of a slot stand between its instances, in order.
-use Rattle.std.proofs.Common.{◌≡◌, ℕ, zero, suc, ◌+◌, ◌*◌, ◌-◌, ◌<◌, ◌≤◌, ◌⊎◌, ◌==◌, ◌&&◌, not, nat_le, nat_lt, ℤ, Bool, true, false, true≢false, Option, Some, None, List, [], ◌∷◌, ◌++◌, length, map, if◌then◌else◌, refl, ap, sym, ◌∙◌, subst, inl, inr, arith}
+use Rattle.std.proofs.Common.{◌≡◌, ℕ, suc, ◌+◌, ◌-◌, ◌<◌, ◌≤◌, Bool, true, false, true≢false, Option, Some, None, List, [], ◌∷◌, ◌++◌, if◌then◌else◌, refl, ap, sym, ◌∙◌, arith}
 use Rattle.std.specs.Prelude.{sum_by}
 use Rattle.std.specs.List.{AllByRecursion, slice_get}
-use Rattle.std.proofs.lemmas.Bool.{and_parts, cases_Bool, cases_eq, cases_lt, leb-true, ltb-true}
 use Rattle.std.proofs.lemmas.List.Sums.{sum_by-cons}
 use Rattle.nest_tree.specs.Tree.{Head}
 use Rattle.nest_rows.proofs.Nesting.{all-append, all-weaker}
-use Rattle.comm_system.specs.Boundaries.{Boundary, Side, boundaries_where, is_before_second, is_behind_first, is_prefix, of_first, of_second}
-use Rattle.comm_system.specs.Levels.{common}
-use Rattle.comm_system.specs.Meetings.{IsEarlier}
+use Rattle.comm_system.specs.Boundaries.{Boundary, Side, boundaries_where, of_first, of_second}
 use Rattle.comm_system.specs.References.{StaticPhase}
-use Rattle.comm_system.proofs.KnownHeads.{AreKnown, IsKnown}
-use Rattle.comm_system.proofs.StationOrder.{comes, differ_test, equal_test}
-use Rattle.comm_system.proofs.Timeline.{Agree, IsFrontOf, agree_itself, agree_turned, carried_comes, common_same, front_itself, one_side_comes, plain_comes, prefix_front_of, taken, taken_all, taken_same}
 
 -- ---- the boundaries that pass a test
 

@@ -1,27 +1,24 @@
 -- Which access of an instance touches a cell, and that one cell is one element of one variable.
-use Rattle.std.proofs.Common.{◌≡◌, ℕ, zero, suc, ◌+◌, ◌*◌, ◌-◌, ◌/◌, ◌%◌, ◌<◌, ◌≤◌, ◌⊎◌, ◌&&◌, ◌==◌, nat_le, ℤ, pos, ◌+ℤ◌, ◌-ℤ◌, ◌≤ℤ◌, int_le, Bool, true, false, Option, Some, None, List, [], ◌∷◌, ◌++◌, length, map, refl, ap, sym, ◌∙◌, subst, inl, inr, arith}
+use Rattle.std.proofs.Common.{◌≡◌, ℕ, zero, suc, ◌+◌, ◌*◌, ◌-◌, ◌/◌, ◌%◌, ◌<◌, ◌≤◌, ◌⊎◌, ℤ, pos, ◌+ℤ◌, ◌-ℤ◌, ◌≤ℤ◌, int_le, true, Some, None, List, [], ◌∷◌, ◌++◌, length, map, refl, ap, sym, ◌∙◌, subst, inl, inr, arith}
 use Rattle.std.specs.Prelude.{take}
-use Rattle.std.specs.List.{AllByRecursion, Contains, flat_map, list_all, range_with_len}
-use Rattle.std.specs.Option.{option_to_list}
+use Rattle.std.specs.List.{AllByRecursion, Contains, flat_map, range_with_len}
 use Rattle.std.proofs.Math.Nat.{mul-le-mul_left}
-use Rattle.std.proofs.lemmas.Bool.{and_parts, cases_eq, cases_lt, eqb-true, leb-true}
+use Rattle.std.proofs.lemmas.Bool.{and_parts, cases_eq, cases_lt}
 use Rattle.std.proofs.lemmas.Int.{ints}
 use Rattle.std.proofs.lemmas.Grind.{flat_map-append}
 use Rattle.std.proofs.lemmas.List.{append-nil, length-map}
-use Rattle.std.proofs.lemmas.List.Elements.{Contains-append_cases, Contains-append_left, Contains-append_right}
-use Rattle.std.proofs.lemmas.List.Folds.{list_all-append}
+use Rattle.std.proofs.lemmas.List.Elements.{Contains-append_cases}
 use Rattle.nest_tree.specs.declared.tree.Access.{Access}
-use Rattle.nest_tree.specs.Form.{Form, form_value}
-use Rattle.nest_tree.specs.Layout.{are_inside, bounds_at, bounds_of, cell_of, cells_in, count_of, element_count, element_place, extent, first_cell, is_inside}
-use Rattle.nest_tree.specs.Loads.{loads_in, loads_in_item}
+use Rattle.nest_tree.specs.Form.{form_value}
+use Rattle.nest_tree.specs.Layout.{are_inside, bounds_at, bounds_of, cells_in, count_of, element_count, element_place, extent, first_cell, is_inside}
+use Rattle.nest_tree.specs.Loads.{loads_in}
 use Rattle.nest_tree.specs.Tree.{Declaration, Printed, value, whole, text, Work, assign, print, Tree, param_values}
-use Rattle.nest_tree.specs.WellFormed.{IsWellFormed, is_good_access, is_good_dimension, is_number_of, scope_of}
 use Rattle.nest_tree.proofs.Places.{count_of-some}
 use Rattle.nest_walk.specs.Places.{IsThere}
 use Rattle.nest_walk.specs.Tables.{Loaded, element, array, loaded_in_item, loaded_in_work, stores_in}
 use Rattle.nest_model.specs.Accesses.{access_cell, item_loads, subscript_values, whole_cells, work_loads, work_store}
-use Rattle.nest_model.specs.Ranges.{accesses_of, is_access_inside}
-use Rattle.comm_system.specs.Meetings.{AreFree, Point, subscripts_at}
+use Rattle.nest_model.specs.Ranges.{is_access_inside}
+use Rattle.comm_system.specs.Meetings.{AreFree, subscripts_at}
 use Rattle.comm_system.specs.PairRows.{free_bounds}
 use Rattle.comm_system.specs.References.{variable_of}
 

@@ -1,23 +1,21 @@
 -- The certain boundaries of a slot stand between its two instances.
-use Rattle.std.proofs.Common.{◌≡◌, ℕ, zero, suc, ◌+◌, ◌*◌, ◌-◌, ◌<◌, ◌≤◌, ◌⊎◌, ◌==◌, ◌&&◌, not, nat_le, nat_lt, ℤ, Bool, true, false, true≢false, Option, Some, None, List, [], ◌∷◌, ◌++◌, length, map, if◌then◌else◌, refl, ap, sym, ◌∙◌, subst, inl, inr, arith}
-use Rattle.std.specs.Prelude.{sum_by}
+use Rattle.std.proofs.Common.{◌≡◌, ℕ, suc, ◌+◌, ◌-◌, ◌<◌, ◌≤◌, ◌⊎◌, ◌&&◌, not, nat_le, nat_lt, ℤ, Bool, true, false, Some, List, [], ◌∷◌, length, if◌then◌else◌, refl, ap, sym, ◌∙◌, subst, inl, inr, arith}
 use Rattle.std.specs.List.{AllByRecursion, slice_get}
 use Rattle.std.proofs.lemmas.Bool.{and_parts, cases_eq, cases_lt, leb-true, ltb-true}
 use Rattle.nest_tree.specs.Tree.{Head, Tree, param_values}
 use Rattle.nest_tree.specs.WellFormed.{IsWellFormed, loops_of, scope_of}
 use Rattle.nest_tree.proofs.Cells.{well_formed_parts}
 use Rattle.nest_model.specs.Instances.{no_values}
-use Rattle.nest_model.specs.Visits.{Visit}
-use Rattle.nest_rows.proofs.Nesting.{all-append, all-at, all-weaker}
+use Rattle.nest_rows.proofs.Nesting.{all-at, all-weaker}
 use Rattle.owner_partition.specs.Marks.{enters_outer}
 use Rattle.owner_partition.specs.Phases.{phases}
 use Rattle.sync_plan.specs.declared.plan.Plan.{Plan}
-use Rattle.comm_system.specs.Boundaries.{Boundary, Side, boundaries_where, certain_boundaries, is_before_second, is_behind_first, is_prefix, of_first, of_second}
+use Rattle.comm_system.specs.Boundaries.{Boundary, Side, is_before_second, is_behind_first, is_prefix, of_first, of_second}
 use Rattle.comm_system.specs.Levels.{common}
 use Rattle.comm_system.specs.Meetings.{IsEarlier}
 use Rattle.comm_system.specs.References.{StaticPhase}
 use Rattle.comm_system.proofs.Accesses.{station_known, visits_are}
-use Rattle.comm_system.proofs.Between.{AreRising, IsMerged, IsWhere, Pairs, merged-sum, merged_known, merged_where, outer_in, pairs_append, pairs_rising, side_heads, side_test, side_trips, where_known}
+use Rattle.comm_system.proofs.Between.{AreRising, Pairs, outer_in, pairs_rising, side_heads, side_trips}
 use Rattle.comm_system.proofs.Chains.{AreHops, HopAt, IsBetween}
 use Rattle.comm_system.proofs.Contexts.{at_first}
 use Rattle.comm_system.proofs.KnownHeads.{AreKnown, IsKnown, heads_among, known_among}
@@ -25,7 +23,7 @@ use Rattle.comm_system.proofs.StationFacts.{AreValid, IsStation, mapped_get}
 use Rattle.comm_system.proofs.StationOrder.{Rises, comes, comes_at, comes_back, differ_test, never_both, rises_in}
 use Rattle.comm_system.proofs.Stations.{Station, at_trip, stations_in, text_among, visit_in}
 use Rattle.comm_system.proofs.StationsThere.{IsStop, there_in}
-use Rattle.comm_system.proofs.Timeline.{Agree, IsFrontOf, agree_turned, carried_comes, common_same, front_itself, front_valid, one_side_comes, plain_comes, prefix_front_of, taken, taken_all, taken_same}
+use Rattle.comm_system.proofs.Timeline.{Agree, IsFrontOf, agree_turned, carried_comes, common_same, front_itself, front_valid, one_side_comes, plain_comes, taken, taken_all, taken_same}
 
 -- ---- what the tests of boundaries say
 

@@ -1,18 +1,17 @@
 -- The certain boundaries of a slot as hops.
-use Rattle.std.proofs.Common.{◌≡◌, ℕ, zero, suc, ◌+◌, ◌-◌, ◌<◌, ◌≤◌, Bool, true, false, Option, Some, None, List, [], ◌∷◌, ◌++◌, length, if◌then◌else◌, refl, ap, sym, ◌∙◌, subst, arith}
+use Rattle.std.proofs.Common.{◌≡◌, ℕ, suc, ◌-◌, ◌<◌, ◌≤◌, Bool, true, Some, List, ◌++◌, length, refl, ap, sym, subst}
 use Rattle.std.specs.Prelude.{sum_by}
 use Rattle.std.specs.List.{AllByRecursion, slice_get}
 use Rattle.nest_tree.specs.Tree.{Head, Tree}
 use Rattle.nest_rows.proofs.Nesting.{all-append, all-weaker}
 use Rattle.owner_partition.specs.Marks.{enters_outer}
-use Rattle.sync_plan.specs.declared.plan.Kind.{Kind}
 use Rattle.sync_plan.specs.declared.plan.Plan.{Plan}
 use Rattle.comm_system.specs.Boundaries.{Boundary, Side, boundaries_where, certain_boundaries, is_before_second, is_behind_first, is_prefix, of_first, of_second}
 use Rattle.comm_system.specs.Levels.{common}
 use Rattle.comm_system.specs.Meetings.{IsEarlier}
 use Rattle.comm_system.specs.References.{StaticPhase}
 use Rattle.comm_system.specs.Signatures.{kind_at, left_waits, right_waits}
-use Rattle.comm_system.proofs.Between.{AreRising, IsMerged, IsWhere, Pairs, merged-sum, merged_known, merged_where, outer_in, pairs_append, pairs_rising, side_heads, side_test, where_known}
+use Rattle.comm_system.proofs.Between.{IsMerged, IsWhere, merged-sum, merged_known, merged_where, outer_in, pairs_append, pairs_rising, side_heads, side_test, where_known}
 use Rattle.comm_system.proofs.Certain.{AreTwo, IsBeside, IsCarriedBeside, IsPlainBeside, IsSided, across, carried_first, carried_second, first_sided, heads_x, heads_y, hops_of, known_at, one_side_before, outer, plain_apart, plain_before, plain_first, plain_second, plain_sided, second_sided, trips}
 use Rattle.comm_system.proofs.Chains.{AreHops, kind_of}
 use Rattle.comm_system.proofs.KnownHeads.{IsKnown, heads_among}

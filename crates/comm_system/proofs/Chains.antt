@@ -1,8 +1,8 @@
 -- Chains of waits along boundaries whose phases rise.
-use Rattle.std.proofs.Common.{◌≡◌, ◌≢◌, ◌==◌, ◌||◌, ◌&&◌, not, ℕ, zero, suc, ◌+◌, ◌-◌, ◌<◌, ◌≤◌, ◌⊎◌, min, ℤ, Bool, true, false, true≢false, cond, List, [], ◌∷◌, ◌++◌, length, Option, Some, None, if◌then◌else◌, refl, ap, sym, subst, ◌∙◌, inl, inr, arith}
+use Rattle.std.proofs.Common.{◌≡◌, ◌==◌, ◌||◌, ◌&&◌, not, ℕ, zero, suc, ◌+◌, ◌-◌, ◌<◌, ◌≤◌, Bool, true, false, true≢false, cond, List, [], ◌∷◌, Option, Some, None, refl, ap, sym, subst, ◌∙◌, inl, inr, arith}
 use Rattle.std.specs.Prelude.{slice_get, sum_by}
-use Rattle.std.specs.List.{AllByRecursion, Contains, filter, flat_map, list_any, range_with_len}
-use Rattle.std.proofs.lemmas.Bool.{cases_Bool, cases_eq, eqb-true}
+use Rattle.std.specs.List.{AllByRecursion, Contains, filter, list_any, range_with_len}
+use Rattle.std.proofs.lemmas.Bool.{cases_Bool, cases_eq}
 use Rattle.std.proofs.lemmas.List.Sums.{sum_by-cons}
 use Rattle.nest_tree.specs.Tree.{Tree, param_values}
 use Rattle.nest_model.specs.Visits.{Visit}
@@ -16,7 +16,7 @@ use Rattle.sync_plan.specs.Ordered.{Hop, IsChain, awaited_in, awaited_in_front}
 use Rattle.sync_plan.specs.Waits.{awaited_behind, does_wait_at, kind_owner, waits_at}
 use Rattle.comm_system.specs.Boundaries.{Boundary}
 use Rattle.comm_system.specs.Signatures.{is_barrier, kind_at, left_waits, right_waits}
-use Rattle.comm_system.proofs.Cells.{contains_here, contains_later}
+use Rattle.comm_system.proofs.Cells.{contains_later}
 use Rattle.comm_system.proofs.StationOrder.{differ_test, equal_test}
 
 -- the kind in front of a phase; Nothing where there is none

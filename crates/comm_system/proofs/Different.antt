@@ -1,12 +1,11 @@
 -- Of two executions in different phases that conflict, the second waits for the first where each system has no whole solution.
-use Rattle.std.proofs.Common.{◌≡◌, ℕ, zero, suc, ◌+◌, ◌-◌, ◌<◌, ◌≤◌, ◌⊎◌, ◌==◌, ◌||◌, ◌&&◌, min, ℤ, Bool, true, false, Option, Some, None, List, [], ◌∷◌, ◌++◌, drop, length, map, if◌then◌else◌, refl, ap, sym, ◌∙◌, subst, inl, inr, arith}
+use Rattle.std.proofs.Common.{◌≡◌, ℕ, zero, suc, ◌+◌, ◌-◌, ◌<◌, ◌≤◌, ◌⊎◌, ◌==◌, ◌||◌, ℤ, true, false, Option, Some, None, List, [], ◌∷◌, ◌++◌, drop, length, map, if◌then◌else◌, refl, ap, sym, ◌∙◌, subst, inl, inr, arith}
 use Rattle.std.specs.Prelude.{sum_by}
 use Rattle.std.specs.List.{AllByRecursion, Contains, flat_map, list_any, slice_get}
 use Rattle.std.proofs.lemmas.Bool.{cases_Bool, cases_eq, cases_lt}
-use Rattle.std.proofs.lemmas.List.{length-map}
-use Rattle.nest_tree.specs.Form.{Form, form_value, numbered}
+use Rattle.nest_tree.specs.Form.{form_value, numbered}
 use Rattle.nest_tree.specs.Tree.{Head, Tree, param_values}
-use Rattle.nest_tree.specs.WellFormed.{IsWellFormed, loops_of, names_only, scope_of}
+use Rattle.nest_tree.specs.WellFormed.{loops_of, names_only, scope_of}
 use Rattle.nest_model.specs.Instances.{Instance, no_values}
 use Rattle.nest_model.specs.Visits.{Visit}
 use Rattle.nest_rows.proofs.Dots.{numbers}
@@ -15,27 +14,22 @@ use Rattle.nest_rows.proofs.Nesting.{all-append, all-weaker}
 use Rattle.farkas_cert.specs.Inequalities.{HasNoWholeSolution}
 use Rattle.owner_partition.specs.declared.anchor.Anchor.{Anchor}
 use Rattle.owner_partition.specs.Marks.{enters_outer}
-use Rattle.owner_partition.specs.Owners.{anchor_owner, owner_by}
-use Rattle.owner_partition.specs.Phases.{Execution}
 use Rattle.sync_plan.specs.declared.plan.Kind.{Kind}
 use Rattle.sync_plan.specs.declared.plan.Kind.TheVariants.{Nothing, Producer, Left, Right, Both, Barrier, Join}
 use Rattle.sync_plan.specs.declared.plan.Plan.{Plan}
 use Rattle.sync_plan.specs.declared.plan.Version.{Version}
 use Rattle.sync_plan.specs.declared.plan.Version.TheVariants.{One, Two, Three}
 use Rattle.sync_plan.specs.Fit.{IsFit}
-use Rattle.sync_plan.specs.Ordered.{Hop, IsChain, owner_under}
-use Rattle.sync_plan.specs.Shape.{static_phases}
-use Rattle.sync_plan.proofs.Fits.{fit_parts}
-use Rattle.std.proofs.lemmas.Option.{slice_get_within}
+use Rattle.sync_plan.specs.Ordered.{Hop, IsChain}
 use Rattle.comm_system.specs.Boundaries.{Boundary, Side, certain_boundaries, of_first, of_second}
-use Rattle.comm_system.specs.Levels.{Order, common, order_at}
-use Rattle.comm_system.specs.Meetings.{AreHolders, AreSame, Holder, Holds, IsEarlier, IsHolder, LiesAmong, LiesBeside, Meet, Point, around_at, loops_at}
+use Rattle.comm_system.specs.Levels.{common, order_at}
+use Rattle.comm_system.specs.Meetings.{AreHolders, AreSame, Holder, Holds, IsHolder, LiesBeside, Meet, Point, around_at, loops_at}
 use Rattle.comm_system.specs.Obligations.{Slot, Task, anchor_at, piece_task, slot_signature, slots_of, tasks_of}
 use Rattle.comm_system.specs.OwnerRows.{Direction, Piece, above, below, distance, pieces}
 use Rattle.comm_system.specs.Pairs.{Pair, pairs_of}
-use Rattle.comm_system.specs.References.{StaticPhase, phases_of}
-use Rattle.comm_system.specs.Signatures.{Signature, blocked, counted, is_barrier, kind_at, last_three, left_waits, producers_at, right_waits, signature_of, waits}
-use Rattle.comm_system.proofs.Accesses.{IsExecutedAt, get_contains, phase_there, phases_are, station_known}
+use Rattle.comm_system.specs.References.{phases_of}
+use Rattle.comm_system.specs.Signatures.{blocked, counted, is_barrier, kind_at, last_three, left_waits, producers_at, right_waits, signature_of, waits}
+use Rattle.comm_system.proofs.Accesses.{get_contains, phase_there, phases_are, station_known}
 use Rattle.comm_system.proofs.Between.{side_heads, side_trips}
 use Rattle.comm_system.proofs.Certain.{AreTwo, IsSided, between_of, outer, stop_of, trips, valid-length}
 use Rattle.comm_system.proofs.CertainLists.{AreCertain}
@@ -43,14 +37,13 @@ use Rattle.comm_system.proofs.Chains.{IsBetween, barrier_chain, kind_of, left_ch
 use Rattle.comm_system.proofs.Contexts.{IsBefore}
 use Rattle.comm_system.proofs.Holders.{form_keeps}
 use Rattle.comm_system.proofs.Meets.{owners_meet}
-use Rattle.comm_system.proofs.Owners.{HoldsAt, holder_of, kept_heads, producer_holds}
+use Rattle.comm_system.proofs.Owners.{holder_of, kept_heads, producer_holds}
 use Rattle.comm_system.proofs.Places.{IsPlaced}
 use Rattle.comm_system.proofs.Slots.{pieces_tasks, slot_at}
-use Rattle.comm_system.proofs.StationFacts.{Deepens, IsStation, loops_after}
-use Rattle.comm_system.proofs.StationOrder.{differ_test}
+use Rattle.comm_system.proofs.StationFacts.{Deepens, loops_after}
 use Rattle.comm_system.proofs.Stations.{Station, stations_in, text_among}
 use Rattle.comm_system.proofs.Systems.{all_pieces, lies_on_sides, sides_of}
-use Rattle.comm_system.proofs.Timeline.{Agree, IsFrontOf, agree_values, front_agrees, taken}
+use Rattle.comm_system.proofs.Timeline.{IsFrontOf, agree_values, front_agrees, taken}
 use Rattle.comm_system.proofs.Zips.{among_more}
 
 -- ---- values at loops that are the first of others

@@ -1,13 +1,12 @@
 -- What stands at an anchor's value within its blocks has an owner among the processors.
-use Rattle.std.proofs.Common.{◌≡◌, ℕ, zero, suc, ◌+◌, ◌*◌, ◌-◌, ◌/◌, ◌%◌, ◌<◌, ◌≤◌, ◌==◌, ◌&&◌, ◌||◌, nat_le, ℤ, pos, negsuc, ◌+ℤ◌, ◌*ℤ◌, ◌-ℤ◌, ◌≤ℤ◌, neg_ℤ, int_le, int_lt, Bool, true, false, true≢false, Option, Some, None, List, [], ◌∷◌, ◌++◌, length, map, get_or, if◌then◌else◌, refl, ap, sym, ◌∙◌, subst, inl, inr, arith}
+use Rattle.std.proofs.Common.{◌≡◌, ℕ, zero, suc, ◌+◌, ◌*◌, ◌-◌, ◌/◌, ◌%◌, ◌<◌, ◌≤◌, ◌==◌, ◌&&◌, ◌||◌, ℤ, pos, negsuc, ◌+ℤ◌, ◌*ℤ◌, ◌≤ℤ◌, neg_ℤ, int_le, int_lt, Bool, true, false, true≢false, Some, None, List, [], ◌∷◌, ◌++◌, if◌then◌else◌, refl, ap, sym, ◌∙◌, subst, inl, inr, arith}
 use Rattle.std.specs.Int.{int_div_euclid}
 use Rattle.std.specs.List.{AllByRecursion, list_all, list_any, slice_get}
 use Rattle.std.proofs.Math.Nat.{div-lt_iff_lt-mul}
-use Rattle.std.proofs.lemmas.Bool.{and_parts, cases_Bool, eqb-true, leb-true}
+use Rattle.std.proofs.lemmas.Bool.{and_parts, cases_Bool, eqb-true}
 use Rattle.std.proofs.lemmas.Int.{ints}
-use Rattle.std.proofs.lemmas.List.{get_or-set_other}
 use Rattle.nest_tree.specs.Form.{Form, dot, form_value, is_form, numbered}
-use Rattle.nest_tree.specs.Intervals.{dot_ends, ends_of, form_interval, multiple, plus, with_ends}
+use Rattle.nest_tree.specs.Intervals.{dot_ends, ends_of, form_interval, multiple, plus}
 use Rattle.nest_tree.specs.Layout.{count_of}
 use Rattle.nest_tree.specs.Limits.{is_empty}
 use Rattle.nest_tree.specs.Tree.{Head, Tree}
@@ -130,7 +129,6 @@ placed_holds params workers phase a ends loops some h none =
     passes true c x e h = absurd (true≢false h)
 
 -- ---- the anchors of a plan are placed
-
 
 all_placed : (tree : Tree) (marks : List Mark) (workers : ℕ) (us : List (ℕ × Anchor)) → unplaced tree marks workers us ≡ None → AllByRecursion (λ u. misplaced tree marks workers u.0 u.1 ≡ None) us
 all_placed tree marks workers [] none = tt

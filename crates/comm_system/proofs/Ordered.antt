@@ -1,53 +1,32 @@
 -- Where each system of a plan that fits has no whole solution, the plan is ordered.
-use Rattle.std.proofs.Common.{◌≡◌, ◌≢◌, ℕ, zero, suc, ◌+◌, ◌-◌, ◌<◌, ◌≤◌, ◌⊎◌, ◌==◌, ◌||◌, ◌&&◌, ℤ, pos, Bool, true, false, true≢false, Option, Some, None, List, [], ◌∷◌, ◌++◌, append_assoc, length, map, if◌then◌else◌, refl, ap, sym, ◌∙◌, subst, inl, inr, arith}
-use Rattle.std.specs.List.{AllByRecursion, Contains, flat_map, slice_get}
-use Rattle.std.proofs.lemmas.Bool.{and_from, cases_Bool, cases_eq, cases_lt, ltb-true}
-use Rattle.std.proofs.lemmas.List.{length-map}
-use Rattle.std.proofs.lemmas.List.Elements.{Contains-append_left}
-use Rattle.std.proofs.lemmas.Option.{slice_get-get_or, slice_get_within}
-use Rattle.nest_tree.specs.Form.{form_value, numbered}
-use Rattle.nest_tree.specs.Layout.{count_of}
-use Rattle.nest_tree.specs.Tree.{Constant, Head, Statement, Statements, do_loop, work, continue, Tree, param_values}
-use Rattle.nest_tree.specs.WellFormed.{IsWellFormed, loops_of, names_only, scope_of}
-use Rattle.nest_model.specs.Accesses.{Conflict, cells_of, store_of}
+use Rattle.std.proofs.Common.{◌≡◌, ℕ, zero, suc, ◌-◌, ◌<◌, ◌==◌, ◌||◌, ℤ, pos, Bool, true, false, Option, Some, None, List, [], ◌∷◌, ◌++◌, length, if◌then◌else◌, refl, ap, sym, ◌∙◌, subst, arith}
+use Rattle.std.specs.List.{AllByRecursion, Contains, slice_get}
+use Rattle.std.proofs.lemmas.Bool.{and_from}
+use Rattle.std.proofs.lemmas.Option.{slice_get_within}
+use Rattle.nest_tree.specs.Form.{numbered}
+use Rattle.nest_tree.specs.Tree.{Head, Tree, param_values}
+use Rattle.nest_tree.specs.WellFormed.{IsWellFormed}
 use Rattle.nest_model.specs.Instances.{Instance, no_values}
-use Rattle.nest_model.specs.Ranges.{IsInRange}
 use Rattle.nest_rows.specs.Nested.{AreTrips}
-use Rattle.nest_rows.proofs.Dots.{numbers}
-use Rattle.nest_rows.proofs.Nesting.{all-append}
-use Rattle.farkas_cert.specs.Inequalities.{HasNoWholeSolution}
 use Rattle.owner_partition.specs.declared.anchor.Anchor.{Anchor}
 use Rattle.owner_partition.specs.declared.anchor.Dist.TheVariants.{Cyclic}
 use Rattle.owner_partition.specs.Marks.{enters_outer}
-use Rattle.owner_partition.specs.Owners.{anchor_owner, dealt, owner_by}
-use Rattle.owner_partition.specs.Phases.{Execution, executions, phases}
+use Rattle.owner_partition.specs.Owners.{anchor_owner, owner_by}
+use Rattle.owner_partition.specs.Phases.{Execution}
 use Rattle.sync_plan.specs.declared.plan.Plan.{Plan}
-use Rattle.sync_plan.specs.Fit.{IsFit, is_dealt}
-use Rattle.sync_plan.specs.Ordered.{Hop, IsChain, IsOrdered, owner_under}
+use Rattle.sync_plan.specs.Fit.{IsFit}
+use Rattle.sync_plan.specs.Ordered.{owner_under}
 use Rattle.sync_plan.specs.Shape.{static_phases}
 use Rattle.sync_plan.proofs.Fits.{fit_parts}
-use Rattle.comm_system.specs.Boundaries.{Side, of_first, of_second}
-use Rattle.comm_system.specs.Levels.{Order, common, order_at, two_trips}
-use Rattle.comm_system.specs.Meetings.{AreSame, Holder, IsEarlier, IsEarlierWhere, IsHolder, Meet}
-use Rattle.comm_system.specs.Obligations.{Task, anchor_at, tasks_of, trips_task, trips_tasks, slot_signature, slot_tasks, slots_of}
-use Rattle.comm_system.specs.Pairs.{Pair, conflict, pairs_of}
-use Rattle.comm_system.specs.References.{Reference, StaticPhase, phases_of, variable_of}
-use Rattle.comm_system.proofs.Accesses.{IsAccessAt, IsExecutedAt, any_access, elements_same, executed_at_station, get_contains, in_flat_map, in_map, nested_good, pair_there, phase_there, phases_are, point_at, station_known, store_access}
-use Rattle.comm_system.proofs.Certain.{AreTwo, heads_x, heads_y, long_x, long_y}
-use Rattle.comm_system.proofs.CertainLists.{AreCertain, carried_certain, plain_certain}
-use Rattle.comm_system.proofs.Contexts.{IsBefore, at_first}
-use Rattle.comm_system.proofs.Different.{keeps, waited}
-use Rattle.comm_system.proofs.Holders.{form_keeps}
-use Rattle.comm_system.proofs.KnownHeads.{heads_among}
-use Rattle.comm_system.proofs.Meets.{trips_meet}
-use Rattle.comm_system.proofs.Owners.{HoldsAt, holder_of, index_is, owner_holds, there}
-use Rattle.comm_system.proofs.OwnersMet.{holds_below}
-use Rattle.comm_system.proofs.Places.{IsPlaced, InOrder, in_order}
-use Rattle.comm_system.proofs.Slots.{carried_level, plain_level, slot_there}
-use Rattle.comm_system.proofs.StationFacts.{IsStation}
-use Rattle.comm_system.proofs.StationOrder.{comes_at, differ_test, equal_test, rises_in}
+use Rattle.comm_system.specs.Levels.{Order, order_at}
+use Rattle.comm_system.specs.Meetings.{AreSame, IsEarlier, IsEarlierWhere, Meet}
+use Rattle.comm_system.specs.Obligations.{anchor_at}
+use Rattle.comm_system.specs.Pairs.{pairs_of}
+use Rattle.comm_system.specs.References.{Reference, StaticPhase, variable_of}
+use Rattle.comm_system.proofs.Accesses.{IsAccessAt, elements_same, pair_there, point_at}
+use Rattle.comm_system.proofs.Owners.{index_is, there}
+use Rattle.comm_system.proofs.StationOrder.{differ_test, equal_test}
 use Rattle.comm_system.proofs.Stations.{Station, stations_in}
-use Rattle.comm_system.proofs.Timeline.{Agree, IsCarried, IsPlain, agree_values, split}
 
 -- ---- further loops
 

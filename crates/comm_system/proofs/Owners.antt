@@ -1,19 +1,19 @@
 -- The owners of executions, and the producers in front of phases, hold what stands at their anchors' values.
-use Rattle.std.proofs.Common.{◌≡◌, ℕ, zero, suc, ◌+◌, ◌-◌, ◌<◌, ◌≤◌, ◌==◌, ◌||◌, ◌&&◌, ℤ, pos, ◌+ℤ◌, ◌*ℤ◌, Bool, true, false, Option, Some, None, List, [], ◌∷◌, ◌++◌, append_assoc, length, map, get_or, if◌then◌else◌, ⊎_elim, refl, ap, sym, ◌∙◌, subst, arith}
+use Rattle.std.proofs.Common.{◌≡◌, ℕ, ◌+◌, ◌-◌, ◌<◌, ◌≤◌, ◌==◌, ◌||◌, ℤ, pos, ◌+ℤ◌, ◌*ℤ◌, Bool, true, false, Some, None, List, [], ◌∷◌, ◌++◌, append_assoc, length, if◌then◌else◌, ⊎_elim, refl, ap, sym, ◌∙◌, subst, arith}
 use Rattle.std.specs.List.{AllByRecursion, list_any, slice_get}
 use Rattle.std.proofs.lemmas.Bool.{and_parts, cases_Bool}
-use Rattle.std.proofs.lemmas.List.{append-nil, get_or-set_other, length-map}
-use Rattle.nest_tree.specs.Form.{Form, form_value, numbered}
+use Rattle.std.proofs.lemmas.List.{get_or-set_other, length-map}
+use Rattle.nest_tree.specs.Form.{form_value, numbered}
 use Rattle.nest_tree.specs.Intervals.{ends_of, head_interval, with_ends}
 use Rattle.nest_tree.specs.Layout.{count_of}
 use Rattle.nest_tree.specs.Limits.{no_ends}
-use Rattle.nest_tree.specs.Tree.{Constant, Head, Statement, Statements, do_loop, work, continue, Tree, param_values}
+use Rattle.nest_tree.specs.Tree.{Constant, Head, Statement, do_loop, work, continue, Tree, param_values}
 use Rattle.nest_tree.specs.WellFormed.{IsWellFormed, Scope, names_only, scope_of}
 use Rattle.nest_tree.proofs.Good.{good_loop}
-use Rattle.nest_model.specs.Visits.{Visit, stops_of}
+use Rattle.nest_model.specs.Visits.{stops_of}
 use Rattle.nest_model.proofs.Stops.{good_trips}
 use Rattle.nest_model.proofs.Within.{IsInEnds, in_ends-step}
-use Rattle.nest_walk.specs.Texts.{Placed, placed}
+use Rattle.nest_walk.specs.Texts.{placed}
 use Rattle.nest_rows.proofs.Dots.{numbers}
 use Rattle.nest_rows.proofs.GoodNesting.{AreAmong, form-among}
 use Rattle.nest_rows.proofs.Nesting.{all-append, all-weaker}
@@ -21,22 +21,21 @@ use Rattle.owner_partition.specs.declared.anchor.Anchor.{Anchor}
 use Rattle.owner_partition.specs.declared.anchor.Dist.{Dist}
 use Rattle.owner_partition.specs.declared.cut.Mark.{Mark}
 use Rattle.owner_partition.specs.Marks.{enters_outer}
-use Rattle.owner_partition.specs.Owners.{anchor_owner, dealt}
-use Rattle.owner_partition.specs.Phases.{Execution, phases}
+use Rattle.owner_partition.specs.Owners.{dealt}
+use Rattle.owner_partition.specs.Phases.{phases}
 use Rattle.owner_partition.specs.Placement.{ends_among, misplaced, misplaced_at, misplaced_within, phase_ends}
-use Rattle.sync_plan.specs.declared.plan.Kind.{Kind}
 use Rattle.sync_plan.specs.declared.plan.Kind.TheVariants.{Producer}
 use Rattle.sync_plan.specs.declared.plan.Plan.{Plan}
 use Rattle.sync_plan.specs.Fit.{IsFit, is_dealt}
-use Rattle.sync_plan.specs.Shape.{has_places, is_doall, is_good_anchor, mark_of, own_loops, static_phases}
+use Rattle.sync_plan.specs.Shape.{has_places, is_doall, mark_of, own_loops, static_phases}
 use Rattle.sync_plan.proofs.FitOwners.{good_each}
 use Rattle.sync_plan.proofs.Fits.{fit_parts}
 use Rattle.sync_plan.proofs.PhasePlaces.{IsThereFrom, own_ends, visit_there}
 use Rattle.comm_system.specs.Meetings.{Holder, Holds}
-use Rattle.comm_system.specs.References.{StaticPhase, phases_of}
-use Rattle.comm_system.proofs.Accesses.{IsExecutedAt, phase_there, station_known, visits_are}
-use Rattle.comm_system.proofs.Contexts.{IsBefore, IsInFront, kept-number, loop_number}
-use Rattle.comm_system.proofs.Holders.{anchor_placed, form_keeps, holder_at, kind_placed, placed_holds, placed_keeps, round_of}
+use Rattle.comm_system.specs.References.{phases_of}
+use Rattle.comm_system.proofs.Accesses.{phase_there, station_known, visits_are}
+use Rattle.comm_system.proofs.Contexts.{IsBefore, IsInFront}
+use Rattle.comm_system.proofs.Holders.{anchor_placed, form_keeps, kind_placed, placed_holds, placed_keeps, round_of}
 use Rattle.comm_system.proofs.Places.{IsPlaced, StartsIn, kept_after}
 use Rattle.comm_system.proofs.StationFacts.{Deepens, loops_after, mapped_get}
 use Rattle.comm_system.proofs.Stations.{Station, at_trip, stations_in, visit_in}
@@ -195,9 +194,10 @@ module _ (tree : Tree) (plan : Plan) (formed : IsWellFormed tree) (fits : IsFit 
       let here : slice_get plan.anchors there.k ≡ Some a = ap (slice_get plan.anchors) (sym index_is) ∙ anchor in
       let none = misplaced_here a (anchor_placed tree plan.cut plan.workers plan.anchors plan.kinds there.k a parts.placed here) in
       let named = anchor_named a anchor in
-      let holds = phase_holds_in (param_values tree) (scope_of tree) (length (param_values tree)) plan.workers parts.some there.there.ends s.visit.loops there.there.inside s.heads s.trips known.own_number s.visit.what known.context a (1 + there.k) none p.inner.heads p.inner.trips p.low p.high p.starts_in p.deepens named in
-      (form-among (length (param_values tree)) (numbers (own_heads s.heads s.visit.what)) (numbers (s.heads ++ p.inner.heads)) a.form (own_inner s.visit.what s.visit.loops p.inner.heads p.inner.trips p.starts_in) named,
-      subst (λ l. HoldsAt a plan.workers l (param_values tree)) (sym p.loops_are) holds)
+      let holds = phase_holds_in (param_values tree) (scope_of tree) (length (param_values tree)) plan.workers parts.some there.there.ends s.visit.loops there.there.inside s.heads s.trips known.own_number s.visit.what known.context a (1 + there.k) none p.inner.heads p.inner.trips p.low p.high p.starts_in p.deepens named in (
+        form-among (length (param_values tree)) (numbers (own_heads s.heads s.visit.what)) (numbers (s.heads ++ p.inner.heads)) a.form (own_inner s.visit.what s.visit.loops p.inner.heads p.inner.trips p.starts_in) named,
+        subst (λ l. HoldsAt a plan.workers l (param_values tree)) (sym p.loops_are) holds,
+      )
 
   -- a producer in front of it
   pub producer_holds : (a : Anchor) → slice_get plan.kinds (s.visit.place - 1) ≡ Some (Producer a) → (names_only (length (param_values tree)) (numbers s.heads) a.form ≡ true) × HoldsAt a plan.workers s.visit.loops (param_values tree)

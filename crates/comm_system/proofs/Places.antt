@@ -1,21 +1,21 @@
 -- Where an execution stands: the phase, the stop of the walk inside it, and the loops round it at their trips.
-use Rattle.std.proofs.Common.{◌≡◌, ℕ, zero, suc, ◌+◌, ◌-◌, ◌<◌, ◌≤◌, ℤ, pos, Bool, true, false, true≢false, Option, Some, None, List, [], ◌∷◌, ◌++◌, length, map, if◌then◌else◌, refl, ap, sym, ◌∙◌, subst, inl, inr, arith}
+use Rattle.std.proofs.Common.{◌≡◌, ℕ, zero, suc, ◌+◌, ◌-◌, ◌<◌, ◌≤◌, ℤ, Bool, true, false, Some, None, List, [], ◌∷◌, ◌++◌, length, map, if◌then◌else◌, refl, ap, sym, ◌∙◌, subst, inl, inr, arith}
 use Rattle.std.specs.List.{AllByRecursion, Contains, flat_map, slice_get}
 use Rattle.std.proofs.lemmas.Bool.{cases_lt}
 use Rattle.nest_tree.specs.Form.{numbered}
 use Rattle.nest_tree.specs.Tree.{Head, Work, Statement, Statements, do_loop, work, continue, done, next}
 use Rattle.nest_tree.specs.WellFormed.{Scope, loops_in}
-use Rattle.nest_model.specs.Instances.{Instance, instances_of, is_executed}
-use Rattle.nest_model.specs.Visits.{Visit, every, executed_at, instances_at, visits_of}
+use Rattle.nest_model.specs.Instances.{Instance, is_executed}
+use Rattle.nest_model.specs.Visits.{Visit, every, executed_at, instances_at}
 use Rattle.nest_walk.proofs.InstanceLists.{one_same}
 use Rattle.nest_rows.specs.Nested.{AreTrips, Nested, nested_among, nested_in}
-use Rattle.nest_rows.proofs.Nesting.{all-append, all-at, all-weaker}
+use Rattle.nest_rows.proofs.Nesting.{all-append, all-at}
 use Rattle.owner_partition.specs.Phases.{Execution, executions_from, phase_instances}
 use Rattle.sync_plan.proofs.Gets.{get-behind, get-front}
 use Rattle.comm_system.specs.References.{StaticPhase, phases_among, phases_in}
 use Rattle.comm_system.proofs.Cells.{contains_here, contains_later}
 use Rattle.comm_system.proofs.Contexts.{IsBefore, IsInFront, kept-number}
-use Rattle.comm_system.proofs.StationFacts.{AreValid, Deepens, all_in_range, IsStation, each_of, loops_after, mapped_get}
+use Rattle.comm_system.proofs.StationFacts.{Deepens, all_in_range, IsStation, each_of, loops_after, mapped_get}
 use Rattle.comm_system.proofs.Stations.{Station, at_trip, phases_in-within, push, stations_in, stations_of, trips_of, text_of, visit_in, visits-of, within}
 use Rattle.comm_system.proofs.StationOrder.{Comes, comes_at, rises_of}
 use Rattle.comm_system.proofs.StationsThere.{mapped_back}
@@ -247,19 +247,21 @@ module _ (params : List ℤ) (scope : Scope) (heads : List Head) (ns : List ℕ)
           let text = ap (λ x. slice_get x (s.visit.place - 1)) (phases_in-within every heads v.what) ∙ mapped_get (within heads) (text_of every v.what) (s.visit.place - 1) (record { what = s.visit.what; outer = s.heads }) known.at in
           let there = all-at (NestedHere (Contains (nested_in heads v.what))) (phases_in every heads v.what) (s.visit.place - 1) (record { what = s.visit.what; outer = heads ++ s.heads })
           (nested_stops (Contains (nested_in heads v.what)) heads v.what (each_itself (nested_in heads v.what) (nested_in heads v.what) (λ x c. c))) text in
-          let there' : NestedAt (Contains (nested_in heads v.what)) (heads ++ s.heads) (work w) = subst (λ x. NestedAt (Contains (nested_in heads v.what)) (heads ++ s.heads) x) e there in
-          (record {
-            inner = s;
-            executed = alone.2;
-            nested = subst (λ x. Contains (nested_in heads v.what) (record { what = x; around = heads ++ s.heads })) alone.0 there';
-            trips = subst (λ l. AreTrips params l (heads ++ s.heads) (ns ++ s.trips)) alone.1 known.context.trips;
-            loops_are = sym alone.1 ∙ known.loops_are;
-            starts_in = all-at (λ (x : Station). StartsIn params v.loops v.what x.heads x.trips) (stations_of params every v.what 1 v.first v.loops) k s (starts params v.loops v.what 1 v.first) at;
-            low = number;
-            high = number + loops_in v.what;
-            deepens = known.deepens;
-            before = context.before;
-          }, refl)
+          let there' : NestedAt (Contains (nested_in heads v.what)) (heads ++ s.heads) (work w) = subst (λ x. NestedAt (Contains (nested_in heads v.what)) (heads ++ s.heads) x) e there in (
+            record {
+              inner = s;
+              executed = alone.2;
+              nested = subst (λ x. Contains (nested_in heads v.what) (record { what = x; around = heads ++ s.heads })) alone.0 there';
+              trips = subst (λ l. AreTrips params l (heads ++ s.heads) (ns ++ s.trips)) alone.1 known.context.trips;
+              loops_are = sym alone.1 ∙ known.loops_are;
+              starts_in = all-at (λ (x : Station). StartsIn params v.loops v.what x.heads x.trips) (stations_of params every v.what 1 v.first v.loops) k s (starts params v.loops v.what 1 v.first) at;
+              low = number;
+              high = number + loops_in v.what;
+              deepens = known.deepens;
+              before = context.before;
+            },
+            refl,
+          )
       by (continue line) e known = absurd (let no : [] ≡ i ∷ [] = sym (ap (λ w. executed_at params s.visit.first w s.visit.loops) e) ∙ is in cc)
 
   -- the instances of the stop are those of the walk inside it

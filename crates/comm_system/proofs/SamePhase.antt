@@ -1,29 +1,27 @@
 -- Two executions of one phase that conflict have one owner, where no system of two trips has a whole solution.
-use Rattle.std.proofs.Common.{◌≡◌, ◌≢◌, ℕ, zero, suc, ◌+◌, ◌-◌, ◌<◌, ◌≤◌, ◌⊎◌, ◌==◌, ℤ, Bool, true, false, true≢false, Option, Some, None, List, [], ◌∷◌, ◌++◌, length, map, if◌then◌else◌, refl, ap, sym, ◌∙◌, subst, inl, inr, arith}
+use Rattle.std.proofs.Common.{◌≡◌, ℕ, suc, ◌+◌, ◌-◌, ◌≤◌, ◌⊎◌, ℤ, true, true≢false, Some, List, [], ◌∷◌, ◌++◌, length, map, if◌then◌else◌, refl, ap, sym, ◌∙◌, subst, inl, inr, arith}
 use Rattle.std.specs.List.{AllByRecursion, Contains, flat_map, slice_get}
-use Rattle.std.proofs.lemmas.Bool.{cases_Bool, cases_eq, cases_lt, ltb-true}
+use Rattle.std.proofs.lemmas.Bool.{cases_Bool, cases_eq, ltb-true}
 use Rattle.std.proofs.lemmas.List.Elements.{Contains-append_left}
-use Rattle.nest_tree.specs.Form.{form_value, numbered}
+use Rattle.nest_tree.specs.Form.{numbered}
 use Rattle.nest_tree.specs.Layout.{count_of}
 use Rattle.nest_tree.specs.Tree.{Head, Statement, Statements, do_loop, work, continue, Tree, param_values}
-use Rattle.nest_tree.specs.WellFormed.{IsWellFormed, loops_of, names_only, scope_of}
-use Rattle.nest_model.specs.Accesses.{Conflict}
+use Rattle.nest_tree.specs.WellFormed.{IsWellFormed, names_only, scope_of}
 use Rattle.nest_model.specs.Instances.{Instance, no_values}
-use Rattle.nest_model.specs.Ranges.{IsInRange, is_instance_inside}
+use Rattle.nest_model.specs.Ranges.{IsInRange}
 use Rattle.nest_model.specs.Visits.{Visit}
-use Rattle.nest_rows.specs.Nested.{nested_in}
 use Rattle.nest_rows.proofs.Dots.{numbers}
 use Rattle.nest_rows.proofs.Nesting.{all-append}
 use Rattle.farkas_cert.specs.Inequalities.{HasNoWholeSolution}
 use Rattle.owner_partition.specs.declared.anchor.Anchor.{Anchor}
 use Rattle.owner_partition.specs.Marks.{enters_outer}
 use Rattle.owner_partition.specs.Owners.{anchor_owner, dealt}
-use Rattle.owner_partition.specs.Phases.{Execution, executions, phase_instances, phases}
+use Rattle.owner_partition.specs.Phases.{phase_instances, phases}
 use Rattle.sync_plan.specs.declared.plan.Plan.{Plan}
 use Rattle.sync_plan.specs.Fit.{IsFit, is_dealt}
-use Rattle.sync_plan.specs.Ordered.{Hop, IsChain, IsOrdered, owner_under}
+use Rattle.sync_plan.specs.Ordered.{IsChain, IsOrdered, owner_under}
 use Rattle.comm_system.specs.Levels.{two_trips}
-use Rattle.comm_system.specs.Meetings.{AreSame, IsEarlier, Point, values_of}
+use Rattle.comm_system.specs.Meetings.{AreSame, IsEarlier, values_of}
 use Rattle.comm_system.specs.Obligations.{Task, anchor_at, slot_signature, slot_tasks, slots_of, tasks_of, trips_task, trips_tasks}
 use Rattle.comm_system.specs.Pairs.{Pair, pairs_of}
 use Rattle.comm_system.specs.References.{StaticPhase, phases_of}
@@ -35,8 +33,8 @@ use Rattle.comm_system.proofs.Holders.{form_keeps}
 use Rattle.comm_system.proofs.Meets.{trips_meet}
 use Rattle.comm_system.proofs.Ordered.{Conflicting, anchor_there, meeting, meeting_pair, owner_is, same_further}
 use Rattle.comm_system.proofs.Owners.{anchor_named, outer_named, own_heads, visit_at}
-use Rattle.comm_system.proofs.Places.{InOrder, IsOf, IsPlaced, StartsIn, in_order, instances_placed, kept_after}
-use Rattle.comm_system.proofs.StationFacts.{Deepens, IsStation, loops_after}
+use Rattle.comm_system.proofs.Places.{InOrder, IsPlaced, StartsIn, in_order, instances_placed, kept_after}
+use Rattle.comm_system.proofs.StationFacts.{Deepens, loops_after}
 use Rattle.comm_system.proofs.StationOrder.{Comes, comes, comes_earlier}
 use Rattle.comm_system.proofs.Stations.{Station, at_trip, stations_in}
 use Rattle.comm_system.proofs.Waiting.{conflicting, later_phase}

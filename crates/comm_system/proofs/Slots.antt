@@ -1,5 +1,5 @@
 -- Each slot, pair and piece has its task in the list.
-use Rattle.std.proofs.Common.{◌≡◌, ℕ, zero, suc, ◌+◌, ◌-◌, ◌<◌, ◌≤◌, ◌==◌, nat_lt, Bool, true, false, Option, Some, None, List, [], ◌∷◌, ◌++◌, length, map, if◌then◌else◌, refl, ap, sym, ◌∙◌, subst, inl, inr, arith}
+use Rattle.std.proofs.Common.{◌≡◌, ℕ, zero, suc, ◌+◌, ◌-◌, ◌<◌, ◌≤◌, nat_lt, Some, None, List, [], ◌∷◌, length, if◌then◌else◌, sym, subst, inl, inr, arith}
 use Rattle.std.specs.List.{AllByRecursion, Contains, flat_map, range_with_len, slice_get}
 use Rattle.std.proofs.lemmas.Bool.{cases_eq, lt-ltb}
 use Rattle.std.proofs.lemmas.List.Elements.{Contains-append_left, Contains-append_right}
@@ -13,7 +13,7 @@ use Rattle.comm_system.specs.Obligations.{Slot, Task, pair_tasks, piece_task, pi
 use Rattle.comm_system.specs.OwnerRows.{Piece, pieces}
 use Rattle.comm_system.specs.Pairs.{Pair, pairs_of}
 use Rattle.comm_system.specs.References.{StaticPhase, phases_of}
-use Rattle.comm_system.specs.Signatures.{Signature, waits}
+use Rattle.comm_system.specs.Signatures.{waits}
 use Rattle.comm_system.proofs.Accesses.{in_flat_map, in_map}
 use Rattle.comm_system.proofs.Cells.{contains_here, contains_later}
 
@@ -65,9 +65,10 @@ slot_there phases s first t second level some some' at at' c =
 
 pieces_there : (f : ℕ → Piece → Task) (n : ℕ) (ps : List Piece) → AllByRecursion (λ p. (k : ℕ) × Contains (pieces_from f n ps) (f k p)) ps
 pieces_there f n [] = tt
-pieces_there f n (p ∷ ps) =
-    ((n, contains_here (f n p) (pieces_from f (suc n) ps)),
-    all-weaker (λ q. (k : ℕ) × Contains (pieces_from f (suc n) ps) (f k q)) (λ q. (k : ℕ) × Contains (f n p ∷ pieces_from f (suc n) ps) (f k q)) ps (λ q h. (h.0, contains_later (f n p) (f h.0 q) (pieces_from f (suc n) ps) h.1)) (pieces_there f (suc n) ps))
+pieces_there f n (p ∷ ps) = (
+  (n, contains_here (f n p) (pieces_from f (suc n) ps)),
+  all-weaker (λ q. (k : ℕ) × Contains (pieces_from f (suc n) ps) (f k q)) (λ q. (k : ℕ) × Contains (f n p ∷ pieces_from f (suc n) ps) (f k q)) ps (λ q h. (h.0, contains_later (f n p) (f h.0 q) (pieces_from f (suc n) ps) h.1)) (pieces_there f (suc n) ps),
+)
 
 module _ (tree : Tree) (plan : Plan) where
   -- a task of a slot is one of the plan's
@@ -82,7 +83,10 @@ module _ (tree : Tree) (plan : Plan) where
       AllByRecursion (λ p. (k : ℕ) × Contains (tasks_of tree plan) (piece_task tree plan slot left right producers pair k p)) (pieces (length producers))
   pieces_tasks slot left right producers pair there is among =
       all-weaker (λ p. (k : ℕ) × Contains (pair_tasks tree plan slot left right producers pair) (piece_task tree plan slot left right producers pair k p)) (λ p. (k : ℕ) × Contains (tasks_of tree plan) (piece_task tree plan slot left right producers pair k p)) (pieces (length producers))
-      (λ p h. (h.0, slot_task slot (piece_task tree plan slot left right producers pair h.0 p) there
-      (subst (λ sig. Contains (slot_tasks tree plan slot sig) (piece_task tree plan slot left right producers pair h.0 p)) (sym is)
-      (in_flat_map (pair_tasks tree plan slot left right producers) (pairs_of slot.first slot.second) pair (piece_task tree plan slot left right producers pair h.0 p) among h.1))))
+      (λ p h. (
+        h.0,
+        slot_task slot (piece_task tree plan slot left right producers pair h.0 p) there
+            (subst (λ sig. Contains (slot_tasks tree plan slot sig) (piece_task tree plan slot left right producers pair h.0 p)) (sym is)
+            (in_flat_map (pair_tasks tree plan slot left right producers) (pairs_of slot.first slot.second) pair (piece_task tree plan slot left right producers pair h.0 p) among h.1)),
+      ))
       (pieces_there (piece_task tree plan slot left right producers pair) 1 (pieces (length producers)))

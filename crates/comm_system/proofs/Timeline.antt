@@ -1,9 +1,8 @@
 -- How two stops of a walk stand to each other, and to stops in loops that are the first of those round them.
-use Rattle.std.proofs.Common.{◌≡◌, ℕ, zero, suc, ◌+◌, ◌-◌, ◌<◌, ◌≤◌, ◌⊎◌, ◌==◌, ◌&&◌, nat_lt, ℤ, pos, ◌+ℤ◌, ◌*ℤ◌, Bool, true, false, List, [], ◌∷◌, ◌++◌, length, if◌then◌else◌, refl, ap, sym, ◌∙◌, subst, inl, inr, arith}
+use Rattle.std.proofs.Common.{◌≡◌, ℕ, zero, suc, ◌+◌, ◌<◌, ◌≤◌, ◌⊎◌, ◌==◌, ℤ, true, false, List, [], ◌∷◌, length, if◌then◌else◌, refl, ap, sym, ◌∙◌, subst, inl, inr, arith}
 use Rattle.std.specs.List.{AllByRecursion}
 use Rattle.std.proofs.lemmas.Bool.{and_parts, cases_eq, eqb-true, lt-ltb, ltb-true}
-use Rattle.std.proofs.lemmas.List.{length-set}
-use Rattle.nest_tree.specs.Form.{form_value, numbered}
+use Rattle.nest_tree.specs.Form.{numbered}
 use Rattle.nest_tree.specs.Tree.{Head}
 use Rattle.comm_system.specs.Boundaries.{is_prefix}
 use Rattle.comm_system.specs.Levels.{common}
@@ -11,7 +10,7 @@ use Rattle.comm_system.specs.Meetings.{AreSame, IsEarlier}
 use Rattle.comm_system.proofs.KnownHeads.{IsKnown, same_head}
 use Rattle.comm_system.proofs.Places.{kept_after}
 use Rattle.comm_system.proofs.StationFacts.{AreValid, Deepens, loops_after}
-use Rattle.comm_system.proofs.StationOrder.{comes, comes_apart, comes_earlier, comes_no_trips, comes_none, comes_same, differ_test, equal_test}
+use Rattle.comm_system.proofs.StationOrder.{comes, comes_apart, comes_earlier, comes_none, comes_same, differ_test, equal_test}
 use Rattle.comm_system.proofs.Stations.{at_trip}
 
 -- so many loops from the outermost are the same, at the same trips
@@ -73,10 +72,11 @@ agree_values params loops (suc k) low high (h ∷ hs) (n ∷ ns) (g ∷ gs) (m �
     let state : at_trip params h loops n ≡ at_trip params g loops m = ap (λ x. at_trip params x loops n) a.0 ∙ ap (λ i. at_trip params g loops i) a.1 in
     let number = ap (λ (x : Head). x.number) a.0 in
     let value : numbered (at_trip params h loops n) h.number ≡ numbered (at_trip params g loops m) g.number = ap (λ l. numbered l h.number) state ∙ ap (numbered (at_trip params g loops m)) number in
-    let deeper : Deepens (h.number + 1) high gs = subst (λ i. Deepens (i + 1) high gs) (sym number) d'.2 in
-    (here ∙ value ∙ sym there,
-    subst (λ l. AreSame k hs gs (loops_after params (at_trip params h loops n) hs ns) (loops_after params l gs ms)) state
-    (agree_values params (at_trip params h loops n) k (h.number + 1) high hs ns gs ms a.2 d.2 deeper (omega arith)))
+    let deeper : Deepens (h.number + 1) high gs = subst (λ i. Deepens (i + 1) high gs) (sym number) d'.2 in (
+      here ∙ value ∙ sym there,
+      subst (λ l. AreSame k hs gs (loops_after params (at_trip params h loops n) hs ns) (loops_after params l gs ms)) state
+          (agree_values params (at_trip params h loops n) k (h.number + 1) high hs ns gs ms a.2 d.2 deeper (omega arith)),
+    )
 
 -- ---- loops that are the first of others
 

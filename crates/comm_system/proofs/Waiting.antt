@@ -1,50 +1,40 @@
 -- Of two executions that conflict, the owner of the second waits for that of the first, where no system has a whole solution.
-use Rattle.std.proofs.Common.{◌≡◌, ◌≢◌, ℕ, zero, suc, ◌+◌, ◌-◌, ◌<◌, ◌≤◌, ◌⊎◌, ◌==◌, ◌||◌, ◌&&◌, ℤ, Bool, true, false, true≢false, Option, Some, None, List, [], ◌∷◌, ◌++◌, length, map, if◌then◌else◌, refl, ap, sym, ◌∙◌, subst, inl, inr, arith}
-use Rattle.std.specs.List.{AllByRecursion, Contains, flat_map, slice_get}
-use Rattle.std.proofs.lemmas.Bool.{cases_Bool, cases_eq, cases_lt, ltb-true}
-use Rattle.std.proofs.lemmas.List.Elements.{Contains-append_left}
-use Rattle.nest_tree.specs.Form.{form_value, numbered}
-use Rattle.nest_tree.specs.Layout.{count_of}
-use Rattle.nest_tree.specs.Tree.{Head, Statement, Statements, do_loop, work, continue, Tree, param_values}
+use Rattle.std.proofs.Common.{◌≡◌, ℕ, suc, ◌+◌, ◌<◌, ◌⊎◌, ◌||◌, true, false, true≢false, Some, List, [], ◌++◌, length, refl, ap, sym, ◌∙◌, subst, inl, inr, arith}
+use Rattle.std.specs.List.{Contains}
+use Rattle.nest_tree.specs.Form.{form_value}
+use Rattle.nest_tree.specs.Tree.{Head, Tree, param_values}
 use Rattle.nest_tree.specs.WellFormed.{IsWellFormed, loops_of, names_only, scope_of}
 use Rattle.nest_model.specs.Accesses.{Conflict, store_of}
 use Rattle.nest_model.specs.Instances.{Instance, is_executed, no_values}
-use Rattle.nest_model.specs.Ranges.{IsInRange, is_instance_inside}
+use Rattle.nest_model.specs.Ranges.{is_instance_inside}
 use Rattle.nest_rows.specs.Nested.{nested_in}
 use Rattle.nest_rows.proofs.Dots.{numbers}
 use Rattle.nest_rows.proofs.GoodNesting.{IsGoodNested}
-use Rattle.nest_rows.proofs.Nesting.{all-append}
 use Rattle.farkas_cert.specs.Inequalities.{HasNoWholeSolution}
-use Rattle.owner_partition.specs.declared.anchor.Anchor.{Anchor}
 use Rattle.owner_partition.specs.Marks.{enters_outer}
-use Rattle.owner_partition.specs.Owners.{anchor_owner, dealt}
-use Rattle.owner_partition.specs.Phases.{Execution, executions, phase_instances, phases}
+use Rattle.owner_partition.specs.Phases.{Execution}
 use Rattle.sync_plan.specs.declared.plan.Plan.{Plan}
-use Rattle.sync_plan.specs.Fit.{IsFit, is_dealt}
-use Rattle.sync_plan.specs.Ordered.{Hop, IsChain, IsOrdered, owner_under}
-use Rattle.comm_system.specs.Boundaries.{Side, certain_boundaries, of_first, of_second}
-use Rattle.comm_system.specs.Levels.{Order, common, levels, order_at, two_trips}
-use Rattle.comm_system.specs.Meetings.{AreSame, Holder, IsEarlier, IsHolder, Meet, Point, values_of}
-use Rattle.comm_system.specs.Obligations.{Task, anchor_at, slot_signature, slot_tasks, slots_of, tasks_of, trips_task, trips_tasks}
-use Rattle.comm_system.specs.Pairs.{Pair, pairs_of}
+use Rattle.sync_plan.specs.Fit.{IsFit}
+use Rattle.sync_plan.specs.Ordered.{Hop, IsChain, owner_under}
+use Rattle.comm_system.specs.Boundaries.{certain_boundaries, of_first, of_second}
+use Rattle.comm_system.specs.Levels.{Order, common, levels, order_at}
+use Rattle.comm_system.specs.Meetings.{AreSame, IsEarlier, IsHolder, Meet}
+use Rattle.comm_system.specs.Obligations.{Task, anchor_at, tasks_of}
+use Rattle.comm_system.specs.Pairs.{Pair}
 use Rattle.comm_system.specs.References.{StaticPhase, phases_of}
-use Rattle.comm_system.proofs.Accesses.{IsExecutedAt, any_access, executed_at_station, get_contains, in_flat_map, in_map, nested_good, phase_there, point_at, station_known, store_access}
-use Rattle.comm_system.proofs.Certain.{AreTwo, heads_x, heads_y, long_x, long_y, valid-length}
+use Rattle.comm_system.proofs.Accesses.{IsExecutedAt, any_access, nested_good, phase_there, point_at, station_known, store_access}
+use Rattle.comm_system.proofs.Certain.{AreTwo, heads_x, heads_y, long_x, long_y}
 use Rattle.comm_system.proofs.CertainLists.{AreCertain, carried_certain, plain_certain}
-use Rattle.comm_system.proofs.Contexts.{at_first, loop_number}
+use Rattle.comm_system.proofs.Contexts.{at_first}
 use Rattle.comm_system.proofs.Different.{keeps, waited}
-use Rattle.comm_system.proofs.Holders.{form_keeps}
 use Rattle.comm_system.proofs.KnownHeads.{heads_among}
-use Rattle.comm_system.proofs.Meets.{trips_meet}
 use Rattle.comm_system.proofs.Ordered.{Conflicting, anchor_there, earlier_further, meeting, meeting_pair, order_carried, or_right, owner_is, same_further}
-use Rattle.comm_system.proofs.Owners.{HoldsAt, anchor_named, holder_of, outer_named, own_heads, owner_holds, visit_at}
+use Rattle.comm_system.proofs.Owners.{holder_of, owner_holds}
 use Rattle.comm_system.proofs.OwnersMet.{holds_below}
-use Rattle.comm_system.proofs.Places.{IsOf, IsPlaced, InOrder, StartsIn, in_order, instances_placed, kept_after}
-use Rattle.comm_system.proofs.Slots.{carried_level, plain_level, slot_at, slot_there}
-use Rattle.comm_system.proofs.StationFacts.{Deepens, loops_after, mapped_get}
-use Rattle.comm_system.proofs.StationOrder.{Comes, comes, comes_at, comes_earlier, rises_in}
-use Rattle.comm_system.proofs.Stations.{Station, at_trip, stations_in, text_among, visit_in}
-use Rattle.comm_system.proofs.StationsThere.{mapped_back}
+use Rattle.comm_system.proofs.Slots.{carried_level, plain_level, slot_there}
+use Rattle.comm_system.proofs.StationFacts.{loops_after}
+use Rattle.comm_system.proofs.StationOrder.{comes_at, rises_in}
+use Rattle.comm_system.proofs.Stations.{stations_in, text_among}
 use Rattle.comm_system.proofs.Timeline.{Agree, IsCarried, IsPlain, agree_values, split}
 
 -- ---- the accesses of two instances that conflict
