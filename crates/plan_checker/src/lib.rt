@@ -2,7 +2,7 @@
 //!
 //! - [`refusal`]: why a plan is refused, with the lines that are printed.
 //! - [`fit`]: whether a plan fits a program.
-//! - [`laws`]: a plan is accepted exactly where it has no failure.
+//! - [`laws`]: a plan is accepted exactly where it has no failure, and accepted plans are ordered.
 //! - `shape`, `marks`, `anchors`, `conditions`: the fields of its shape.
 //! - `places`: where its anchors lie, and who prints.
 #![tactic(auto)]
