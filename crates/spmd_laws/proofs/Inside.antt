@@ -1,0 +1,155 @@
+-- The acts of a program in range under a plan load and store cells that are there.
+use Rattle.std.proofs.Common.{◌≡◌, ◌==◌, ℕ, suc, ◌+◌, ◌<◌, ◌&&◌, ℤ, Bool, true, false, List, [], ◌∷◌, ◌++◌, map, Option, Some, None, sym, subst, ◌∙◌, if◌then◌else◌}
+use Rattle.std.specs.List.{All, list_all}
+use Rattle.std.specs.Option.{option_to_list}
+use Rattle.std.proofs.lemmas.Bool.{and_parts}
+use Rattle.std.proofs.lemmas.List.Elements.{All-append, All-cons, All-head, All-map, All-nil, All-tail}
+use Rattle.std.proofs.lemmas.List.Folds.{list_all-append}
+use Rattle.nest_tree.specs.Layout.{cell_count}
+use Rattle.nest_tree.specs.Loads.{loads_in}
+use Rattle.nest_tree.specs.Tree.{Statement, Statements, Work, assign, print, do_loop, work, continue, done, next, Tree, param_values}
+use Rattle.nest_tree.specs.WellFormed.{IsWellFormed, are_good_statements, is_good_access, is_good_expression, is_good_guard, is_good_statement, is_good_work, loops_in, scope_of}
+use Rattle.nest_tree.proofs.Cells.{well_formed_parts}
+use Rattle.nest_tree.proofs.Good.{good_loop}
+use Rattle.nest_model.specs.Accesses.{cells_of, access_cell, work_loads, work_store}
+use Rattle.nest_model.specs.Instances.{Instance, head_trips, instances, instances_in, instances_of, is_executed, no_values, with_loop, works_in}
+use Rattle.nest_model.specs.Ranges.{IsInRange, accesses_of, is_access_inside, is_instance_inside}
+use Rattle.nest_model.specs.Visits.{Visit}
+use Rattle.owner_partition.specs.Phases.{Execution, executions, executions_from, phase_instances, phases}
+use Rattle.owner_partition.proofs.Instances.{all_executed}
+use Rattle.sync_plan.specs.declared.plan.Plan.{Plan}
+use Rattle.sync_plan.proofs.PhasePlaces.{All-flat_map}
+use Rattle.spmd_model.specs.Timelines as timeline
+use Rattle.spmd_model.specs.Timelines.{Act, post, await, load, store, Job, Moment, boundary, job, acts_from, boundary_acts, job_acts, last_act, moment_acts}
+use Rattle.spmd_model.specs.Ordered as Ordered
+use Rattle.spmd_model.specs.Planned.{boundary_of, job_of, jobs_of, machine_of, timeline_from, timeline_of}
+use Rattle.spmd_model.proofs.PlannedSound.{all_at}
+use Rattle.spmd_laws.proofs.Lists.{every, passed}
+use Rattle.spmd_laws.proofs.Loads.{access_there, expression_there, items_there}
+
+-- ---- instances
+
+abbrev AreThere : Tree → List ℕ → Type 0
+AreThere tree cells = All (λ c. c < cell_count tree) cells
+
+work_there : (tree : Tree) (around : List ℕ) (loops : List ℤ) (w : Work) → IsWellFormed tree → is_good_work (scope_of tree) around w ≡ true → list_all (is_access_inside tree loops) (accesses_of w) ≡ true → AreThere tree (work_loads tree loops w ++ option_to_list (work_store tree loops w))
+work_there tree around loops (assign a) formed good inside =
+    let scope = scope_of tree in
+    let g = and_parts (is_good_access scope around a.target && is_good_expression scope around a.value) (is_good_guard scope around a.guard) good in
+    let parts = and_parts (is_good_access scope around a.target) (is_good_expression scope around a.value) g.0 in
+    let i = and_parts (list_all (is_access_inside tree loops) (loads_in a.value)) (is_access_inside tree loops a.target && true) (sym (list_all-append (is_access_inside tree loops) (loads_in a.value) (a.target ∷ [])) ∙ inside) in
+    let target = (and_parts (is_access_inside tree loops a.target) true i.1).0 in
+    All-append (λ c. c < cell_count tree) (map (access_cell tree loops) (loads_in a.value)) (access_cell tree loops a.target ∷ []) (expression_there tree formed around loops a.value parts.1 i.0)
+    (All-cons (λ c. c < cell_count tree) (access_cell tree loops a.target) [] (access_there tree formed around loops a.target parts.0 target) (All-nil (λ c. c < cell_count tree)))
+work_there tree around loops (print p) formed good inside =
+    All-append (λ c. c < cell_count tree) (work_loads tree loops (print p)) [] (items_there tree formed around loops p.items good inside) (All-nil (λ c. c < cell_count tree))
+
+-- an instance in range has cells that are there
+abbrev IsFine : Tree → Instance → Type 0
+IsFine tree i = is_instance_inside tree i ≡ true → AreThere tree (cells_of tree i)
+
+module _ (tree : Tree) (formed : IsWellFormed tree) where
+  mutual
+    fine_of : (s : Statement) (around : List ℕ) (n first : ℕ) (loops : List ℤ) → is_good_statement (scope_of tree) around n s ≡ true → All (IsFine tree) (instances_of (param_values tree) s first loops)
+    fine_of (do_loop head body) around n first loops good =
+        let inside : ℤ → List Instance = λ v. instances_in (param_values tree) body first (with_loop loops head.number v) in
+        let g = (good_loop (scope_of tree) around n head body good).inside in
+        All-flat_map (IsFine tree) inside (head_trips (param_values tree) head loops) (every (λ v. All (IsFine tree) (inside v)) (λ v. fine_in body (head.number ∷ around) (n + 1) first (with_loop loops head.number v) g) (head_trips (param_values tree) head loops))
+    fine_of (work w) around n first loops good =
+        let here : Instance = record { statement = first; what = w; loops = loops } in
+        elim (is_executed w loops (param_values tree)) as (λ b. All (IsFine tree) (if b then here ∷ [] else [])) [
+          | true ↦ All-cons (IsFine tree) here [] (work_there tree around loops w formed good) (All-nil (IsFine tree))
+          | false ↦ All-nil (IsFine tree)
+        ]
+    fine_of (continue line) around n first loops good = All-nil (IsFine tree)
+
+    fine_in : (ss : Statements) (around : List ℕ) (n first : ℕ) (loops : List ℤ) → are_good_statements (scope_of tree) around n ss ≡ true → All (IsFine tree) (instances_in (param_values tree) ss first loops)
+    fine_in done around n first loops good = All-nil (IsFine tree)
+    fine_in (next s rest) around n first loops good =
+        let g = and_parts (is_good_statement (scope_of tree) around n s) (are_good_statements (scope_of tree) around (n + loops_in s) rest) good in
+        All-append (IsFine tree) (instances_of (param_values tree) s first loops) (instances_in (param_values tree) rest (first + works_in s) loops) (fine_of s around n first loops g.0) (fine_in rest around (n + loops_in s) (first + works_in s) loops g.1)
+
+instances_there : (tree : Tree) → IsWellFormed tree → IsInRange tree → All (λ i. AreThere tree (cells_of tree i)) (instances tree)
+instances_there tree formed ranges = passed (is_instance_inside tree) (λ i. AreThere tree (cells_of tree i)) (instances tree) (fine_in tree formed tree.items [] 1 1 (no_values tree) (well_formed_parts tree formed).statements) ranges
+
+-- ---- moments
+
+abbrev IsThereAt : ℕ → Moment → Type 0
+IsThereAt cells (boundary number posts awaits) = Unit {0}
+IsThereAt cells (job j) = All (λ c. c < cells) (Ordered.cells_of j)
+
+unmapped : {X Y : Type 0} (P : Y → Type 0) (f : X → Y) (xs : List X) → All P (map f xs) → All (λ x. P (f x)) xs
+unmapped P f [] all = All-nil (λ x. P (f x))
+unmapped P f (x ∷ xs) all = All-cons (λ y. P (f y)) x xs (All-head P (f x) (map f xs) all) (unmapped P f xs (All-tail P (f x) (map f xs) all))
+
+front_of : {X : Type 0} (P : X → Type 0) (xs ys : List X) → All P (xs ++ ys) → All P xs
+front_of P [] ys all = All-nil P
+front_of P (x ∷ xs) ys all = All-cons P x xs (All-head P x (xs ++ ys) all) (front_of P xs ys (All-tail P x (xs ++ ys) all))
+
+back_of : {X : Type 0} (P : X → Type 0) (xs ys : List X) → All P (xs ++ ys) → All P ys
+back_of P [] ys all = all
+back_of P (x ∷ xs) ys all = back_of P xs ys (All-tail P x (xs ++ ys) all)
+
+moments_there : (tree : Tree) (plan : Plan) (e : ℕ) (vs : List Visit) → All (λ (x : Execution). AreThere tree (cells_of tree x.instance)) (executions_from (param_values tree) e vs) → All (IsThereAt (cell_count tree)) (timeline_from tree plan e vs)
+moments_there tree plan e [] all = All-nil (IsThereAt (cell_count tree))
+moments_there tree plan e (v ∷ vs) all =
+    let is = phase_instances (param_values tree) v in
+    let P : Execution → Type 0 = λ x. AreThere tree (cells_of tree x.instance) in
+    let execution : Instance → Execution = λ i. record { phase = e; place = v.place; instance = i } in
+    let later = executions_from (param_values tree) (suc e) vs in
+    let here = unmapped P execution is (front_of P (map execution is) later all) in
+    All-cons (IsThereAt (cell_count tree)) (boundary_of tree plan e v) (jobs_of tree plan e v ++ timeline_from tree plan (suc e) vs) tt
+    (All-append (IsThereAt (cell_count tree)) (jobs_of tree plan e v) (timeline_from tree plan (suc e) vs)
+    (All-map (IsThereAt (cell_count tree)) (λ i. job (job_of tree plan (execution i))) is here)
+    (moments_there tree plan (suc e) vs (back_of P (map execution is) later all)))
+
+timeline_there : (tree : Tree) (plan : Plan) → IsWellFormed tree → IsInRange tree → All (IsThereAt (cell_count tree)) (timeline_of tree plan)
+timeline_there tree plan formed ranges =
+    let P : Instance → Type 0 = λ i. AreThere tree (cells_of tree i) in
+    moments_there tree plan 1 (phases tree plan.cut) (unmapped P (λ (x : Execution). x.instance) (executions tree plan.cut) (subst (All P) (sym (all_executed tree plan.cut)) (instances_there tree formed ranges)))
+
+-- ---- acts
+
+abbrev IsActThere : ℕ → Act → Type 0
+IsActThere cells (post number) = Unit {0}
+IsActThere cells (await on wanted) = Unit {0}
+IsActThere cells (load place cell) = cell < cells
+IsActThere cells (store place cell) = cell < cells
+IsActThere cells (timeline.print place) = Unit {0}
+
+loads_there : (cells place : ℕ) (loads : List ℕ) → All (λ c. c < cells) loads → All (IsActThere cells) (map (load place) loads)
+loads_there cells place loads all = All-map (IsActThere cells) (load place) loads all
+
+last_there : (cells place : ℕ) (o : Option ℕ) → All (λ c. c < cells) (option_to_list o) → IsActThere cells (last_act place o)
+last_there cells place None all = tt
+last_there cells place (Some c) all = All-head (λ k. k < cells) c [] all
+
+job_there : (cells place : ℕ) (j : Job) → All (λ c. c < cells) (Ordered.cells_of j) → All (IsActThere cells) (job_acts place j)
+job_there cells place j all =
+    All-append (IsActThere cells) (map (load place) j.loads) (last_act place j.store ∷ []) (loads_there cells place j.loads (front_of (λ c. c < cells) j.loads (option_to_list j.store) all))
+    (All-cons (IsActThere cells) (last_act place j.store) [] (last_there cells place j.store (back_of (λ c. c < cells) j.loads (option_to_list j.store) all)) (All-nil (IsActThere cells)))
+
+awaits_there : (cells number : ℕ) (awaited : List ℕ) → All (IsActThere cells) (map (λ q. await q number) awaited)
+awaits_there cells number awaited = All-map (IsActThere cells) (λ q. await q number) awaited (every (λ q. Unit {0}) (λ q. tt) awaited)
+
+boundary_there : (cells p number : ℕ) (posts : Bool) (awaited : List ℕ) → All (IsActThere cells) (boundary_acts p number posts awaited)
+boundary_there cells p number true awaited = All-cons (IsActThere cells) (post number) (map (λ q. await q number) awaited) tt (awaits_there cells number awaited)
+boundary_there cells p number false awaited = awaits_there cells number awaited
+
+moment_there : (cells p place : ℕ) (x : Moment) → IsThereAt cells x → All (IsActThere cells) (moment_acts p place x)
+moment_there cells p place (boundary number posts awaits) there = boundary_there cells p number (posts p) (awaits p)
+moment_there cells p place (job j) there = elim (j.owner == p) as (λ b. All (IsActThere cells) (if b then job_acts place j else [])) [ true ↦ job_there cells place j there | false ↦ All-nil (IsActThere cells) ]
+
+acts_there : (cells p place : ℕ) (xs : List Moment) → All (IsThereAt cells) xs → All (IsActThere cells) (acts_from p place xs)
+acts_there cells p place [] all = All-nil (IsActThere cells)
+acts_there cells p place (x ∷ xs) all =
+    All-append (IsActThere cells) (moment_acts p place x) (acts_from p (suc place) xs) (moment_there cells p place x (All-head (IsThereAt cells) x xs all)) (acts_there cells p (suc place) xs (All-tail (IsThereAt cells) x xs all))
+
+pub act_there : (tree : Tree) (plan : Plan) (p n : ℕ) (a : Act) → IsWellFormed tree → IsInRange tree → timeline.act_at (machine_of tree plan) p n ≡ Some a → IsActThere (cell_count tree) a
+act_there tree plan p n a formed ranges e = all_at (IsActThere (cell_count tree)) (acts_from p 0 (timeline_of tree plan)) n a (acts_there (cell_count tree) p 0 (timeline_of tree plan) (timeline_there tree plan formed ranges)) e
+
+pub load_there : (tree : Tree) (plan : Plan) (p n place cell : ℕ) → IsWellFormed tree → IsInRange tree → timeline.act_at (machine_of tree plan) p n ≡ Some (load place cell) → cell < cell_count tree
+load_there tree plan p n place cell formed ranges e = act_there tree plan p n (load place cell) formed ranges e
+
+pub store_there : (tree : Tree) (plan : Plan) (p n place cell : ℕ) → IsWellFormed tree → IsInRange tree → timeline.act_at (machine_of tree plan) p n ≡ Some (store place cell) → cell < cell_count tree
+store_there tree plan p n place cell formed ranges e = act_there tree plan p n (store place cell) formed ranges e

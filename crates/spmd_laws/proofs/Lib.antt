@@ -1,0 +1,5 @@
+mod Lists
+mod Loads
+mod Inside
+mod Prints
+mod Held

@@ -1,0 +1,42 @@
+-- Lists from a place on, and places by processor.
+use Rattle.std.proofs.Common.{◌≡◌, ◌==◌, ℕ, zero, suc, ◌+◌, Bool, true, List, [], ◌∷◌, drop, Some, refl, ap, sym, ◌∙◌, arith, if◌then◌else◌}
+use Rattle.std.specs.Prelude.{slice_get}
+use Rattle.std.specs.List.{All, list_all}
+use Rattle.std.proofs.Math.Seq.{drop-nil}
+use Rattle.std.proofs.lemmas.Bool.{and_parts, eq-eqb, ne_eqb}
+use Rattle.std.proofs.lemmas.List.Elements.{All-cons, All-head, All-nil, All-tail}
+use Rattle.spmd_model.specs.Lawful.{Moves}
+
+-- what stands first from a place on stands at that place
+pub first_from : {X : Type 0} (xs : List X) (n : ℕ) (x : X) (rest : List X) → drop n xs ≡ x ∷ rest → (slice_get xs n ≡ Some x) × (drop (n + 1) xs ≡ rest)
+first_from [] n x rest e = let clash : [] ≡ x ∷ rest = sym (drop-nil n) ∙ e in absurd (cc)
+first_from (y ∷ ys) zero x rest e =
+    let is : y ≡ x = cc in
+    let behind : ys ≡ rest = cc in
+    (ap Some is, behind)
+first_from (y ∷ ys) (suc n) x rest e =
+    let later = first_from ys n x rest e in
+    let more : suc n + 1 ≡ suc (n + 1) = omega arith in
+    (later.0, ap (λ k. drop k (y ∷ ys)) more ∙ later.1)
+
+-- one processor goes to a place, and the others stay
+abbrev pub gone_to : (ℕ → ℕ) → ℕ → ℕ → ℕ → ℕ
+gone_to at p n q = if q == p then n else at q
+
+pub goes : (at : ℕ → ℕ) (p n : ℕ) → Moves at (gone_to at p n) p n
+goes at p n = record {
+  here = ap (λ b. if b then n else at p) (eq-eqb p p refl);
+  others = λ q other. ap (λ b. if b then n else at q) (ne_eqb q p other);
+}
+
+-- what holds of each element
+pub every : {X : Type 0} (P : X → Type 0) → ((x : X) → P x) → (xs : List X) → All P xs
+every P holds [] = All-nil P
+every P holds (x ∷ xs) = All-cons P x xs (holds x) (every P holds xs)
+
+-- what follows from a test that every element passes
+pub passed : {X : Type 0} (test : X → Bool) (P : X → Type 0) (xs : List X) → All (λ x. test x ≡ true → P x) xs → list_all test xs ≡ true → All P xs
+passed test P [] all tests = All-nil P
+passed test P (x ∷ xs) all tests =
+    let parts = and_parts (test x) (list_all test xs) tests in
+    All-cons P x xs (All-head (λ y. test y ≡ true → P y) x xs all parts.0) (passed test P xs (All-tail (λ y. test y ≡ true → P y) x xs all) parts.1)

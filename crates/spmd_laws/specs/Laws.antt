@@ -1,0 +1,44 @@
+-- What holds of a machine whose every interleaving is sequential, as the words that processors share cite it.
+use Rattle.std.specs.Prelude.{ℕ, ◌+◌, ◌≡◌, ◌≤◌, ◌<◌, ◌⊎◌, ℤ, pos, List, [], ◌∷◌, ◌++◌, Some, length, replicate, slice_set}
+use Rattle.nest_model.specs.Memory.{cell_value}
+use Rattle.spmd_model.specs.Timelines.{post, await, load, store, print}
+use Rattle.spmd_model.specs.Lawful.{Moves}
+use Rattle.spmd_laws.specs.Machines.{Machine, IsPosted, act_at, counter_at, settled}
+
+-- in each law p is a processor, and `at` says how many acts each one has done
+pub record Laws (m : Machine) : Type 0 where
+  -- cells of 0 are lawful where nothing is done but PRINTs
+  pub first : (at : ℕ → ℕ) → ((p : ℕ) → p < m.workers → at p ≡ settled (m.acts p) 0) → m.lawful (replicate m.cells (pos 0)) at
+  -- loads and stores are of cells that are there
+  pub load_inside : (p n place cell : ℕ) → p < m.workers → act_at m p n ≡ Some (load place cell) → cell < m.cells
+  pub store_inside : (p n place cell : ℕ) → p < m.workers → act_at m p n ≡ Some (store place cell) → cell < m.cells
+  -- a cell whose load stands next holds what the load gives in the sequential program
+  pub gives : (cells : List ℤ) (at : ℕ → ℕ) (p place cell : ℕ) → p < m.workers → m.lawful cells at → act_at m p (at p) ≡ Some (load place cell) → cell_value cells cell ≡ m.loaded_at p (at p)
+  -- a load keeps lawful cells lawful
+  pub by_load : (cells : List ℤ) (at after : ℕ → ℕ) (p place cell : ℕ) → p < m.workers → m.lawful cells at → act_at m p (at p) ≡ Some (load place cell) → Moves at after p (at p + 1) → m.lawful cells after
+  -- so does a store of the sequential value
+  pub by_store : (cells : List ℤ) (at after : ℕ → ℕ) (p place cell : ℕ) → p < m.workers → m.lawful cells at → act_at m p (at p) ≡ Some (store place cell) → Moves at after p (at p + 1) →
+      m.lawful (slice_set cells cell (m.stored_at p (at p))) after
+  -- so does a PRINT
+  pub by_print : (cells : List ℤ) (at after : ℕ → ℕ) (p place : ℕ) → p < m.workers → m.lawful cells at → act_at m p (at p) ≡ Some (print place) → Moves at after p (at p + 1) → m.lawful cells after
+  -- so do the PRINTs that stand next, all at once
+  pub by_prints : (cells : List ℤ) (at after : ℕ → ℕ) (p : ℕ) → p < m.workers → m.lawful cells at → Moves at after p (settled (m.acts p) (at p)) → m.lawful cells after
+  -- so does a post
+  pub by_post : (cells : List ℤ) (at after : ℕ → ℕ) (p number : ℕ) → p < m.workers → m.lawful cells at → act_at m p (at p) ≡ Some (post number) → Moves at after p (at p + 1) → m.lawful cells after
+  -- so does an await of 0, or of a number whose post is done by the processor that is awaited
+  pub by_await : (cells : List ℤ) (at after : ℕ → ℕ) (p on wanted : ℕ) → p < m.workers → m.lawful cells at → act_at m p (at p) ≡ Some (await on wanted) → (wanted ≡ 0) ⊎ IsPosted m on wanted (at on) → Moves at after p (at p + 1) →
+      m.lawful cells after
+  -- who is awaited is a processor, and a counter of it that has come to the number shows that its post is done
+  pub posted : (p n on wanted k : ℕ) → p < m.workers → act_at m p n ≡ Some (await on wanted) → wanted ≤ counter_at m on k → (on < m.workers) × ((wanted ≡ 0) ⊎ IsPosted m on wanted k)
+  -- lawful cells are as many as the machine has, and no processor is past its end
+  pub size : (cells : List ℤ) (at : ℕ → ℕ) → m.lawful cells at → length cells ≡ m.cells
+  pub within : (cells : List ℤ) (at : ℕ → ℕ) (p : ℕ) → p < m.workers → m.lawful cells at → at p ≤ length (m.acts p)
+  -- where all have ended, lawful cells hold the sequential program's last memory
+  pub ended : (cells : List ℤ) (at : ℕ → ℕ) → m.lawful cells at → ((p : ℕ) → p < m.workers → at p ≡ length (m.acts p)) → (cell : ℕ) → cell < m.cells → cell_value cells cell ≡ m.last cell
+  -- registers are empty at first, a load appends what it gives, a store and a PRINT empty them, and posts and awaits leave them
+  pub empty_first : (p : ℕ) → m.registers_at p 0 ≡ []
+  pub load_appends : (p n place cell : ℕ) → act_at m p n ≡ Some (load place cell) → m.registers_at p (n + 1) ≡ m.registers_at p n ++ m.loaded_at p n ∷ []
+  pub store_empties : (p n place cell : ℕ) → act_at m p n ≡ Some (store place cell) → m.registers_at p (n + 1) ≡ []
+  pub print_empties : (p n place : ℕ) → act_at m p n ≡ Some (print place) → m.registers_at p (n + 1) ≡ []
+  pub post_leaves : (p n number : ℕ) → act_at m p n ≡ Some (post number) → m.registers_at p (n + 1) ≡ m.registers_at p n
+  pub await_leaves : (p n on wanted : ℕ) → act_at m p n ≡ Some (await on wanted) → m.registers_at p (n + 1) ≡ m.registers_at p n
