@@ -1,0 +1,10 @@
+//! What an accepted plan is good for: every interleaving of its processors' loads, stores and
+//! counter steps is sequential. There is nothing to call.
+//!
+//! Plans that are accepted are defined in `plan_checker`, interleavings (runs of a schedule of the
+//! machine of a program under a plan) in `spmd_model`, what the program computes in `nest_model`.
+#![tactic(auto)]
+
+mod laws;
+
+pub use laws::{accepted_plans_never_stick, accepted_plans_run_sequentially};
