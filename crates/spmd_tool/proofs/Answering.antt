@@ -12,7 +12,7 @@ use Rattle.spmd_answer.specs.declared.status.Answer.{Answer}
 use Rattle.spmd_answer.specs.declared.status.Status.TheVariants.{Done}
 use Rattle.spmd_tool.specs.declared.answer.Trouble.{Trouble}
 use Rattle.spmd_tool.specs.Due.{asked, faulty, first_wrong, most_bytes, settings_of, shown, too_long, wrong_words}
-use Rattle.spmd_tool.specs.Outside.{Takes as TakesOf}
+use Rattle.spmd_tool.specs.Outside.{TakesBytes}
 use Rattle.spmd_tool.specs.Written.{IsDueFrom, IsDueOf}
 use Rattle.spmd_tool.proofs.Dues.{request-long, request-short, request-wrong}
 use Rattle.spmd_tool.proofs.Told.{read_told, some_told, taken_told}
@@ -38,7 +38,7 @@ read-of w old new read bytes words settings d e first consumed ended same short 
     }
 
 -- of a request whose source has too many bytes
-pub long-of : (w : Wanted) (old new : Option (List ℕ)) (words : List Text) (d : Due) → words ≡ settings_of w → first_fault_from 1 words ≡ None → TakesOf old new (most_bytes + 1) → d ≡ too_long → IsDueOf w old d
+pub long-of : (w : Wanted) (old new : Option (List ℕ)) (words : List Text) (d : Due) → words ≡ settings_of w → first_fault_from 1 words ≡ None → TakesBytes old new (most_bytes + 1) → d ≡ too_long → IsDueOf w old d
 long-of w old new words d e first takes is =
     let all = taken_told old new (most_bytes + 1) takes in
     let none : first_wrong w ≡ None = ap (first_fault_from 1) (sym e) ∙ first in

@@ -2,7 +2,7 @@
 use Rattle.std.proofs.Common.{◌≡◌, ◌≢◌, ℕ, true, false, List, [], Option, Some, None, ◌⊎◌, inl, inr, ap, sym, subst, ◌∙◌, refl}
 use Rattle.std.specs.Io.KnownBytes.{Appends}
 use Rattle.clap.specs.Words.{Text}
-use Rattle.command_words.specs.Wanted.{Wanted}
+use Rattle.command_words.specs.Wanted.{Wanted, Takes}
 use Rattle.spmd_answer.specs.Due.{Due}
 use Rattle.spmd_answer.specs.declared.status.Status.{Status}
 use Rattle.spmd_answer.specs.declared.status.Status.TheVariants.{Done, SourceRefused, BadWords, ReadFault, WriteFault, NoMemory, TooLong}
@@ -30,10 +30,10 @@ said-due words told status r text t a b is e outcome said h =
     record { text = t; due = same_due words told status r text t is (outcome fine) e; written = said fine }
 
 -- what was written with status 0 is what the run writes
-run-due : (words : List Text) (w : Wanted) (told a b : Option (List ℕ)) → AskFor words w → WritesDue words told Done a b → WritesRun w told a b
-run-due words w told a b ask wrote =
+run-due : (words : List Text) (w : Wanted) (told a b : Option (List ℕ)) → Takes words w → WritesDue words told Done a b → WritesRun w told a b
+run-due words w told a b takes wrote =
     let bytes = wrote.due.bytes in
-    let e = asked-due words bytes w (due Done wrote.text) ask.takes wrote.due.is_due in
+    let e = asked-due words bytes w (due Done wrote.text) takes wrote.due.is_due in
     let run = request-done w bytes (ap (λ d. d.status) (sym e)) in
     record {
       bytes = bytes;
@@ -43,9 +43,9 @@ run-due words w told a b ask wrote =
     }
 
 pub run-said : (words : List Text) (told : Option (List ℕ)) (status r : Status) (text t : List ℕ) (w : Wanted) (a b : Option (List ℕ))
-    → IsDueFrom words told (due status text) → t ≡ text → (r ≢ WriteFault → r ≡ status) → (r ≢ WriteFault → Appends a b t) → AskFor words w → r ≡ Done → WritesRun w told a b
-run-said words told status r text t w a b is q outcome said ask e =
-    run-due words w told a b ask (subst (λ (s : Status). WritesDue words told s a b) e (said-due words told status r text t a b is q outcome said (ap is_said e)))
+    → IsDueFrom words told (due status text) → t ≡ text → (r ≢ WriteFault → r ≡ status) → (r ≢ WriteFault → Appends a b t) → Takes words w → r ≡ Done → WritesRun w told a b
+run-said words told status r text t w a b is q outcome said takes e =
+    run-due words w told a b takes (subst (λ (s : Status). WritesDue words told s a b) e (said-due words told status r text t a b is q outcome said (ap is_said e)))
 
 -- the status that is due
 pub status-exact : (words : List Text) (told : Option (List ℕ)) (d : Due) (r : Status) (P : Status → Status → Type 0) → IsDueFrom words told d → ((s : Status) → s ≡ d.status → P s r) → WhereTold told (λ bytes. (e : Due) → IsDue words bytes e → P e.status r)
@@ -67,6 +67,12 @@ from-wrong words told d is wrong = wrong-due words is.bytes d wrong is.is_due
 
 pub from-refused : (words : List Text) (told : Option (List ℕ)) (d : Due) → IsDueFrom words told d → d.status ≡ SourceRefused → (w : Wanted) × AskFor words w
 from-refused words told d is e = refused-asks words is.bytes d is.is_due e
+
+-- with status 0 the settings have the form of settings
+pub from-done : (words : List Text) (told : Option (List ℕ)) (d : Due) (w : Wanted) → IsDueFrom words told d → Takes words w → d.status ≡ Done → AskFor words w
+from-done words told d w is takes e =
+    let run = request-done w is.bytes (ap (λ x. x.status) (sym (asked-due words is.bytes w d takes is.is_due)) ∙ e) in
+    record { takes = takes; settings_are = run.settings_are }
 
 pub from-unnamed : (words : List Text) (told : Option (List ℕ)) (d : Due) (w : Wanted) → IsDueFrom words told d → AskFor words w → settings_of w ≡ [] → d.status ≢ BadWords
 from-unnamed words told d w is ask none e =

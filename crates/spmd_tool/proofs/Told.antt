@@ -2,7 +2,7 @@
 use Rattle.std.proofs.Common.{◌≡◌, ℕ, ◌≤◌, List, [], ◌++◌, Option, Some, None, length, sym, ap, subst, ◌∙◌, refl, append-nil, arith}
 use Rattle.std.proofs.lemmas.List.{length-append}
 use Rattle.std.specs.Io.KnownBytes.{Consumes, IsAtEnd}
-use Rattle.spmd_tool.specs.Outside.{WhereTold, AreTold, Takes}
+use Rattle.spmd_tool.specs.Outside.{WhereTold, AreTold, TakesBytes}
 
 -- some bytes are those of a source
 pub some_told : (told : Option (List ℕ)) → (bytes : List ℕ) × AreTold told bytes
@@ -20,7 +20,7 @@ pub read_told : (old new : Option (List ℕ)) (bytes those : List ℕ) → Consu
 read_told old new bytes those p q e = subst (AreTold old) (sym e) (all_told old new bytes p q)
 
 -- where so many bytes were taken, at least so many were there
-pub taken_told : (old new : Option (List ℕ)) (n : ℕ) → Takes old new n → (all : List ℕ) × AreTold old all × (n ≤ length all)
+pub taken_told : (old new : Option (List ℕ)) (n : ℕ) → TakesBytes old new n → (all : List ℕ) × AreTold old all × (n ≤ length all)
 taken_told None new n h = (h.0, tt, omega (arith, h.2))
 taken_told (Some xs) None n h = absurd h.1
 taken_told (Some xs) (Some ys) n h =

@@ -13,8 +13,8 @@ abbrev pub AreTold : Option (List ℕ) → List ℕ → Type 0
 AreTold told bytes = WhereTold told (λ those. bytes ≡ those)
 
 -- so many bytes were taken from the front of a source
-abbrev pub Takes : Option (List ℕ) → Option (List ℕ) → ℕ → Type 0
-Takes old new count = (bytes : List ℕ) × Consumes old new bytes × (length bytes ≡ count)
+abbrev pub TakesBytes : Option (List ℕ) → Option (List ℕ) → ℕ → Type 0
+TakesBytes old new count = (bytes : List ℕ) × Consumes old new bytes × (length bytes ≡ count)
 
 -- a part from the front of a text was written
 abbrev pub WritesPart : Option (List ℕ) → Option (List ℕ) → List ℕ → Type 0

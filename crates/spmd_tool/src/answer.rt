@@ -8,7 +8,7 @@ ghost use Rattle.spmd_ports.specs.Counts.{Rose};
 ghost use Rattle.spmd_answer.specs.Due as due;
 ghost use Rattle.spmd_answer.specs.Stops.{due_in};
 ghost use Rattle.spmd_tool.specs.Due.{AskFor, first_wrong, is_said, most_bytes, settings_of, too_long as due_too_long};
-ghost use Rattle.spmd_tool.specs.Outside.{Takes};
+ghost use Rattle.spmd_tool.specs.Outside.{TakesBytes};
 ghost use Rattle.spmd_tool.specs.Written.{IsDueFrom, IsDueOf};
 ghost use Rattle.spmd_tool.specs.declared.answer.Trouble.TheVariants as trouble;
 
@@ -47,7 +47,7 @@ pub fn answer_in<S: Source>(
     ensures due { IfOk result (λ a. IsDueFrom (texts words.now) (S.left source.old) (due_in a)) }
     ensures said { IfOk result (λ a. IsTrue (is_said a.status)) }
     ensures end { (w : Wanted) → AskFor (texts words.now) w → IfOk result (λ a. a.status ≢ Status.TooLong → IsAtEnd (S.left source.new)) }
-    ensures stops { IfOk result (λ a. a.status ≡ Status.TooLong → Takes (S.left source.old) (S.left source.new) (most_bytes + 1)) }
+    ensures stops { IfOk result (λ a. a.status ≡ Status.TooLong → TakesBytes (S.left source.old) (S.left source.new) (most_bytes + 1)) }
     ensures unread { ((w : Wanted) → AskFor (texts words.now) w → ⊥) → source.new ≡ source.old }
     ensures reads { result ≡ Err Trouble.ReadFault → (w : Wanted) × AskFor (texts words.now) w }
     ensures fault { result ≡ Err Trouble.ReadFault → Rose (S.faults source.old) (S.faults source.new) }
@@ -71,7 +71,7 @@ fn answer_for<S: Source>(
     ensures due { IfOk result (λ a. IsDueOf (wanted request.now) (S.left source.old) (due_in a)) }
     ensures said { IfOk result (λ a. IsTrue (is_said a.status)) }
     ensures end { first_wrong (wanted request.now) ≡ None → IfOk result (λ a. a.status ≢ Status.TooLong → IsAtEnd (S.left source.new)) }
-    ensures stops { IfOk result (λ a. a.status ≡ Status.TooLong → Takes (S.left source.old) (S.left source.new) (most_bytes + 1)) }
+    ensures stops { IfOk result (λ a. a.status ≡ Status.TooLong → TakesBytes (S.left source.old) (S.left source.new) (most_bytes + 1)) }
     ensures unread { (index : ℕ) → first_wrong (wanted request.now) ≡ Some index → source.new ≡ source.old }
     ensures reads { result ≡ Err Trouble.ReadFault → first_wrong (wanted request.now) ≡ None }
     ensures fault { result ≡ Err Trouble.ReadFault → Rose (S.faults source.old) (S.faults source.new) }

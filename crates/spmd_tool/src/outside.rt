@@ -3,7 +3,7 @@
 ghost use Rattle.std.specs.Prelude.{◌≡◌, ◌+◌, ◌++◌, ◌≤◌, ◌<◌, ℕ, List, [], length, IfOk, OnOk, OnErr, IsErrOf, IsOk, take};
 ghost use Rattle.std.specs.Io.KnownBytes.{Appends, Consumes, IsAtEnd, Keeps};
 ghost use Rattle.spmd_ports.specs.Counts.{Rose};
-ghost use Rattle.spmd_tool.specs.Outside.{Takes, WritesPart, RoseOneOf};
+ghost use Rattle.spmd_tool.specs.Outside.{TakesBytes, WritesPart, RoseOneOf};
 
 use spmd_ports::{Failed, Sink, Source};
 use std::alloc::Global;
@@ -33,7 +33,7 @@ pub fn read_all<S: Source>(alloc: Global, source: &mut S) -> Result<Vec<u8>, Rea
     ensures short { IfOk result (λ bytes. length bytes.items ≤ MOST_BYTES) }
     ensures fault { result ≡ Err ReadTrouble.Fault → Rose (S.faults source.old) (S.faults source.new) }
     ensures no_fault { S.faults source.old < S.faults source.new → result ≡ Err ReadTrouble.Fault }
-    ensures long { result ≡ Err ReadTrouble.TooLong → Takes (S.left source.old) (S.left source.new) (MOST_BYTES + 1) }
+    ensures long { result ≡ Err ReadTrouble.TooLong → TakesBytes (S.left source.old) (S.left source.new) (MOST_BYTES + 1) }
 {
     let mut bytes: Vec<u8> = Vec::new(alloc);
     let mut chunk = [0u8; CHUNK];

@@ -3,11 +3,11 @@
 ghost use Rattle.std.specs.Prelude.{◌≡◌, ◌≢◌, ◌+◌, ◌<◌, ◌⊎◌, [], true, IsTrue};
 ghost use Rattle.std.specs.Io.KnownBytes.{Appends, IsAtEnd};
 ghost use Rattle.clap.specs.Walk.{texts};
-ghost use Rattle.command_words.specs.Wanted.{Wanted, asks_to_show};
+ghost use Rattle.command_words.specs.Wanted.{Takes, Wanted, asks_to_show};
 ghost use Rattle.spmd_ports.specs.Counts.{Rose};
 ghost use Rattle.spmd_answer.specs.Due.{Due};
 ghost use Rattle.spmd_tool.specs.Due.{AreWrong, AskFor, IsDue, IsOrNoMemory, IsRunnable, is_said, most_bytes, settings_of};
-ghost use Rattle.spmd_tool.specs.Outside.{Takes, WhereTold, WritesPart, RoseOneOf, NoneRose};
+ghost use Rattle.spmd_tool.specs.Outside.{TakesBytes, WhereTold, WritesPart, RoseOneOf, NoneRose};
 ghost use Rattle.spmd_tool.specs.Written.{WritesDue, WritesPartOfDue, WritesRun};
 
 use crate::answer::{Trouble, answer_in};
@@ -31,8 +31,8 @@ pub fn tool<S: Source, K: Sink>(
     sink: &mut K,
 ) -> Status
     // The headline: where the words stand for a request, with status 0 the bytes of the source stand for a program that may be run, what its run writes was written, and the source was read to its end.
-    ensures headline { (w : Wanted) → AskFor (texts words.now) w → result ≡ Status.Done → WritesRun w (S.left source.old) (K.written sink.old) (K.written sink.new) }
-    ensures end { (w : Wanted) → AskFor (texts words.now) w → result ≡ Status.Done → IsAtEnd (S.left source.new) }
+    ensures headline { (w : Wanted) → Takes (texts words.now) w → result ≡ Status.Done → WritesRun w (S.left source.old) (K.written sink.old) (K.written sink.new) }
+    ensures end { (w : Wanted) → Takes (texts words.now) w → result ≡ Status.Done → IsAtEnd (S.left source.new) }
 
     // With status 0, 1, 2 or 7 the text that is due with it was written.
     ensures due { IsTrue (is_said result) → WritesDue (texts words.now) (S.left source.old) result (K.written sink.old) (K.written sink.new) }
@@ -58,7 +58,7 @@ pub fn tool<S: Source, K: Sink>(
     ensures end_named { (w : Wanted) → AskFor (texts words.now) w → result ≡ Status.BadWords → IsAtEnd (S.left source.new) }
 
     // With 7 the reading stopped one byte behind the most.
-    ensures stops { result ≡ Status.TooLong → Takes (S.left source.old) (S.left source.new) (most_bytes + 1) }
+    ensures stops { result ≡ Status.TooLong → TakesBytes (S.left source.old) (S.left source.new) (most_bytes + 1) }
 
     // A read fault comes only where the source's count rose in this call, and wherever it grew; nothing was written.
     ensures read_fault { result ≡ Status.ReadFault → Rose (S.faults source.old) (S.faults source.new) }

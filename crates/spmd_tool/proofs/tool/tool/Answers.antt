@@ -2,15 +2,21 @@ use Rattle.std.proofs.Common.{◌≡◌, inl, sym, subst, ◌⊎◌, ◌∙◌}
 use Rattle.clap.specs.Walk.{texts}
 use Rattle.spmd_answer.specs.Stops.{due_in}
 use Rattle.spmd_answer.specs.declared.status.Status.{Status}
-use Rattle.spmd_answer.specs.declared.status.Status.TheVariants.{NoMemory, SourceRefused, WriteFault}
+use Rattle.spmd_answer.specs.declared.status.Status.TheVariants.{Done, NoMemory, SourceRefused, WriteFault}
 use Rattle.spmd_tool.specs.Due.{IsOrNoMemory}
-use Rattle.spmd_tool.proofs.Endings.{from-refused, from-unnamed, from-wrong, run-said, said_or_fault, status-exact, where_runnable}
+use Rattle.spmd_tool.proofs.Endings.{from-done, from-refused, from-unnamed, from-wrong, run-said, said_or_fault, status-exact, where_runnable}
 use Rattle.spmd_tool.proofs.tool.tool.Goals as goal
 
 pub returns-in-Ok-clause-headline : goal.returns-in-Ok-clause-headline
 returns-in-Ok-clause-headline g c =
-    λ w ask done.
-    run-said (texts c.args.words.now) _ c.in-Ok.answer.status c.say.result c.in-Ok.answer.text.items c.deref.result.now w _ _ c.in-Ok.ensures.due c.deref.ensures.value c.say.ensures.outcome c.say.ensures.said ask done
+    λ w takes done.
+    run-said (texts c.args.words.now) _ c.in-Ok.answer.status c.say.result c.in-Ok.answer.text.items c.deref.result.now w _ _ c.in-Ok.ensures.due c.deref.ensures.value c.say.ensures.outcome c.say.ensures.said takes done
+
+pub returns-in-Ok-clause-end : goal.returns-in-Ok-clause-end
+returns-in-Ok-clause-end g c =
+    λ w takes done.
+    let status : c.in-Ok.answer.status ≡ Done = sym (c.say.ensures.outcome (λ f. absurd (cc))) ∙ done in
+    c.in-Ok.ensures.end w (from-done (texts c.args.words.now) _ (due_in c.in-Ok.answer) w c.in-Ok.ensures.due takes status) (λ long. absurd (cc))
 
 pub returns-in-Ok-clause-exact : goal.returns-in-Ok-clause-exact
 returns-in-Ok-clause-exact g c =
