@@ -1,3 +1,4 @@
 pub mod Programs
 pub mod Kinds
 pub mod Nests
+pub mod Ranged

@@ -1,4 +1,4 @@
--- Two programs as trees: Jacobi sweeps over an array, and the product of two lower triangular matrices.
+-- Programs as trees: Jacobi sweeps over an array, the product of two lower triangular matrices, and two loops crossed.
 use Rattle.std.specs.Prelude.{ℕ, ℤ, pos, None, List, [], ◌∷◌, negsuc}
 use Rattle.nest_tree.specs.declared.tree.Access.{Access}
 use Rattle.nest_tree.specs.declared.tree.Spread.TheVariants.{Block}
@@ -72,3 +72,11 @@ product n =
       params = [];
       variables = array 65 square ∷ array 66 square ∷ array 67 square ∷ [];
     }
+
+-- A(J) = I for I and J up to n
+abbrev pub crossed : ℕ → Tree
+crossed n = record {
+  items = one (loop_over 1 (fixed (pos 1)) (fixed (pos n)) (one (loop_over 2 (fixed (pos 1)) (fixed (pos n)) (one (set (element 1 (shifted 2 (pos 0))) (loop_value 1))))));
+  params = [];
+  variables = array 65 ((pos 1, pos n) ∷ []) ∷ [];
+}

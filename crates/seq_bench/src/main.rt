@@ -7,7 +7,8 @@
 //! triangular matrices of 500 rows, and with four the 200 sweeps under a plan of four workers, by
 //! the round robin. With a word it also writes to standard error how many microseconds the check
 //! of the ranges took, and the run. With three words it writes there how long it takes to give the
-//! instances of all phases of the 200 sweeps, one by one, to one processor that owns them.
+//! instances of all phases of the 200 sweeps, one by one, to one processor that owns them, and with
+//! five how many the check of the ranges takes of two loops of a million trips in one another.
 //!
 //! It ends with status 1 where a write fails or memory runs out.
 #![tactic(auto)]
@@ -21,6 +22,10 @@ mod owned;
 mod parallel;
 mod pieces;
 mod programs;
+#[cfg(test)]
+mod ranged;
+#[cfg(test)]
+mod tests;
 
 use nest_tree::{Program, program_limits};
 use owner_partition::{Cut, Mark};
@@ -43,6 +48,7 @@ fn main(rt: HostRuntime) -> io::Result<()> {
         ),
         2 => run(&rt, &programs::product(rt.alloc(), 500)?, true),
         3 => count(&rt, &programs::jacobi(rt.alloc(), 200, 100_000, 99_999)?),
+        5 => check(&rt, &programs::crossed(rt.alloc(), 1_000_000)?),
         _ => run_under(
             &rt,
             &programs::jacobi(rt.alloc(), 200, 100_000, 99_999)?,
@@ -116,6 +122,22 @@ fn run(rt: &HostRuntime, program: &Program, times: bool) -> io::Result<()>
         eprintln!(rt; "ranges {checked} run {ran}")?;
     }
     rt.stdout().write_all(output.as_slice())
+}
+
+// Writes to standard error how many microseconds the check of the ranges takes.
+fn check(rt: &HostRuntime, program: &Program) -> io::Result<()>
+    requires { IsWellFormed (tree_of program.now) }
+{
+    if let Err(limit) = program_limits(program) {
+        return rt.println(limit);
+    }
+    let begun = Instant::now(rt)?;
+    let answer = check_ranges(rt.alloc(), program);
+    let took = begun.elapsed(rt)?.as_micros();
+    if let Err(outside) = answer {
+        return rt.println(outside);
+    }
+    eprintln!(rt; "ranges {took}")
 }
 
 // Writes to standard error how many microseconds it takes to give all instances of the sweeps, and

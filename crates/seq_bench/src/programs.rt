@@ -1,9 +1,9 @@
-// The two programs.
+// The programs that are timed.
 
-ghost use Rattle.std.specs.Prelude.{◌≡◌, ◌<◌, IfOk, IsTrue, pos};
+ghost use Rattle.std.specs.Prelude.{◌≡◌, ◌<◌, ◌≤◌, IfOk, IsTrue, pos};
 ghost use Rattle.nest_tree.specs.Form.{is_small};
 ghost use Rattle.nest_tree.specs.View.{statement_of, tree_of};
-ghost use Rattle.seq_bench.specs.Programs.{copied, filled, fixed, jacobi, mean, product, term};
+ghost use Rattle.seq_bench.specs.Programs.{copied, crossed, filled, fixed, jacobi, mean, product, term};
 
 use crate::pieces::{
     around, around_two, assignment, declared, number, of_one, of_two, print, sum, third, times,
@@ -136,4 +136,22 @@ fn term(alloc: Global) -> Result<Item, AllocError>
     )?;
     let target = of_two(alloc, 3, variable(alloc, 5, 0)?, variable(alloc, 6, 0)?)?;
     Ok(assignment(target, value))
+}
+
+// A(J) = I for I and J up to n.
+pub(crate) fn crossed(alloc: Global, n: u32) -> Result<Program, AllocError>
+    requires { n ≤ 1000000 }
+    ensures { IfOk result (λ p. tree_of p ≡ crossed n) }
+{
+    let n = i64::from(n);
+    let target = of_one(alloc, 1, variable(alloc, 2, 0)?)?;
+    let item = assignment(target, Expr::LoopValue(1));
+    let inner = around(alloc, 2, number(alloc, 1), number(alloc, n), item)?;
+    let outer = around(alloc, 1, number(alloc, 1), number(alloc, n), inner)?;
+    let a = declared(alloc, b'A', vec![in alloc; (1, n)]?)?;
+    Ok(Program {
+        items: vec![in alloc; outer]?,
+        params: Vec::new(alloc),
+        variables: vec![in alloc; a]?,
+    })
 }
