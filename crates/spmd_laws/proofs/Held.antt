@@ -1,9 +1,9 @@
 -- The laws of the machine of an ordered plan.
-use Rattle.std.proofs.Common.{◌≡◌, ℕ, suc, ◌+◌, ℤ, List, [], ◌∷◌, ◌++◌, take, fold, Option, Some, None, refl, ap, sym, ◌∙◌, arith, take-suc}
+use Rattle.std.proofs.Common.{◌≤◌, ◌≡◌, ℕ, suc, ◌+◌, ℤ, List, [], ◌∷◌, ◌++◌, take, fold, Option, Some, None, refl, ap, sym, ◌∙◌, arith}
 use Rattle.std.specs.Prelude.{slice_get}
 use Rattle.std.specs.Option.{option_map}
 use Rattle.std.proofs.lemmas.List.Sums.{fold-append}
-use Rattle.std.proofs.lemmas.Option.{get_or_from_slice_get, slice_get-map, slice_get_within}
+use Rattle.std.proofs.lemmas.Option.{slice_get-map}
 use Rattle.nest_tree.specs.Tree.{Tree}
 use Rattle.nest_tree.specs.WellFormed.{IsWellFormed}
 use Rattle.nest_model.specs.Memory.{cell_value}
@@ -22,8 +22,13 @@ use Rattle.spmd_model.proofs.Counters as counters
 use Rattle.spmd_model.proofs.Deeds.{plan_deeds}
 use Rattle.spmd_model.proofs.PlannedMemory.{last_memory_is}
 use Rattle.spmd_model.proofs.PlannedSound.{ordered_of, sound_of}
+use Rattle.nest_tree.specs.Limits.{IsWithinLimits}
+use Rattle.sync_plan.proofs.Fits.{fit_parts}
 use Rattle.spmd_laws.specs.Laws.{Laws}
-use Rattle.spmd_laws.specs.Viewed.{machine_of}
+use Rattle.spmd_laws.specs.Machines.{is_gathered}
+use Rattle.spmd_laws.proofs.Gathered.{arrival_awaits, arrivals_few, arrived_posted, await_settled, shows_less}
+use Rattle.spmd_laws.proofs.Lists.{one_more}
+use Rattle.spmd_laws.specs.Viewed.{gathers, machine_of}
 use Rattle.spmd_laws.proofs.Inside.{load_there, store_there}
 use Rattle.spmd_laws.proofs.Prints as prints
 
@@ -31,11 +36,10 @@ use Rattle.spmd_laws.proofs.Prints as prints
 registers_more : (m : Machine) (p n : ℕ) (a : Act) → act_at m p n ≡ Some a → registers_at m p (n + 1) ≡ registers_behind m (registers_at m p n) a
 registers_more m p n a e =
     let one : n + 1 ≡ suc n = omega arith in
-    let more : take (suc n) (acts_of m p) ≡ take n (acts_of m p) ++ a ∷ [] = take-suc (acts_of m p) n a (slice_get_within (acts_of m p) n a e) ∙ ap (λ b. take n (acts_of m p) ++ b ∷ []) (get_or_from_slice_get (acts_of m p) n a a e) in
-    ap (registers_at m p) one ∙ ap (fold (registers_behind m) []) more ∙ fold-append (registers_behind m) [] (take n (acts_of m p)) (a ∷ [])
+    ap (registers_at m p) one ∙ ap (fold (registers_behind m) []) (one_more (acts_of m p) n a e) ∙ fold-append (registers_behind m) [] (take n (acts_of m p)) (a ∷ [])
 
-pub held : (tree : Tree) (plan : Plan) → IsWellFormed tree → IsInRange tree → IsSound (Planned.machine_of tree plan) → IsOrdered (Planned.machine_of tree plan) → Laws (machine_of tree plan)
-held tree plan formed ranges sound ordered =
+pub held : (tree : Tree) (plan : Plan) → IsWellFormed tree → IsWithinLimits tree → IsInRange tree → plan.workers ≤ 64 → IsSound (Planned.machine_of tree plan) → IsOrdered (Planned.machine_of tree plan) → Laws (machine_of tree plan)
+held tree plan formed limits ranges few sound ordered =
     let m = Planned.machine_of tree plan in record {
       first = λ at settles. prints.first m at sound settles;
       load_inside = λ p n place cell lt e. load_there tree plan p n place cell formed ranges e;
@@ -47,7 +51,12 @@ held tree plan formed ranges sound ordered =
       by_prints = λ cells at after p lt lawful moves. prints.by_prints m cells at after p lt lawful moves;
       by_post = λ cells at after p number lt lawful e moves. law.by_post m cells at after p number lt lawful e moves;
       by_await = λ cells at after p on wanted lt lawful e posted moves. law.by_await m cells at after p on wanted lt lawful e posted moves;
-      posted = λ p n on wanted k lt e come. counters.posted m p n on wanted k sound lt e come;
+      posted = λ p n on wanted k lt e come. let less = shows_less m (gathers tree plan) on k sound in counters.posted m p n on wanted k sound lt e (omega (arith, come, less));
+      arrival = λ p n number lt e g. let next = arrival_awaits tree plan p n number lt e g in
+          ap (λ i. is_gathered (machine_of tree plan) (act_at m p i)) (await_settled (acts_of m p) (n + 1) next.0 number next.1) ∙ ap (is_gathered (machine_of tree plan)) next.1 ∙ g;
+      gathered = λ p n on wanted k lt e g. let below = (counters.awaited_post m p n on wanted sound lt e).0 in (below, λ le. arrived_posted tree plan p on n k wanted lt below e g le);
+      few_workers = few;
+      few_arrivals = λ p n. arrivals_few tree plan p n formed limits;
       size = λ cells at lawful. lawful.size;
       within = λ cells at p lt lawful. lawful.within p lt;
       ended = λ cells at lawful end cell lt. law.ended m cells at sound lawful end cell lt ∙ ap (λ memory. cell_value memory cell) (last_memory_is tree plan);
@@ -59,8 +68,8 @@ held tree plan formed ranges sound ordered =
       await_leaves = λ p n on wanted e. registers_more m p n (await on wanted) e;
     }
 
-pub laws_of : (tree : Tree) (plan : Plan) → IsWellFormed tree → IsInRange tree → IsFit tree plan → IsOrderedPlan tree plan → Laws (machine_of tree plan)
-laws_of tree plan formed ranges fits ordered = held tree plan formed ranges (sound_of tree plan formed fits) (ordered_of tree plan formed fits ordered)
+pub laws_of : (tree : Tree) (plan : Plan) → IsWellFormed tree → IsWithinLimits tree → IsInRange tree → IsFit tree plan → IsOrderedPlan tree plan → Laws (machine_of tree plan)
+laws_of tree plan formed limits ranges fits ordered = held tree plan formed limits ranges (fit_parts tree plan fits).few (sound_of tree plan formed fits) (ordered_of tree plan formed fits ordered)
 
 -- ---- a store's value by its deed
 

@@ -2,4 +2,6 @@ mod Lists
 mod Loads
 mod Inside
 mod Prints
+mod Arrivals
+mod Gathered
 mod Held

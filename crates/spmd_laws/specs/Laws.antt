@@ -1,9 +1,9 @@
 -- What holds of a machine whose every interleaving is sequential, as the words that processors share cite it.
-use Rattle.std.specs.Prelude.{ℕ, ◌+◌, ◌≡◌, ◌≤◌, ◌<◌, ◌⊎◌, ℤ, pos, List, [], ◌∷◌, ◌++◌, Some, length, replicate, slice_set}
+use Rattle.std.specs.Prelude.{◌^◌, true, ℕ, ◌+◌, ◌≡◌, ◌≤◌, ◌<◌, ◌⊎◌, ℤ, pos, List, [], ◌∷◌, ◌++◌, Some, length, replicate, slice_set}
 use Rattle.nest_model.specs.Memory.{cell_value}
 use Rattle.spmd_model.specs.Timelines.{post, await, load, store, print}
 use Rattle.spmd_model.specs.Lawful.{Moves}
-use Rattle.spmd_laws.specs.Machines.{Machine, IsPosted, act_at, counter_at, settled}
+use Rattle.spmd_laws.specs.Machines.{Machine, IsPosted, act_at, arrivals_at, counter_at, is_gathered, settled}
 
 -- in each law p is a processor, and `at` says how many acts each one has done
 pub record Laws (m : Machine) : Type 0 where
@@ -30,6 +30,13 @@ pub record Laws (m : Machine) : Type 0 where
       m.lawful cells after
   -- who is awaited is a processor, and a counter of it that has come to the number shows that its post is done
   pub posted : (p n on wanted k : ℕ) → p < m.workers → act_at m p n ≡ Some (await on wanted) → wanted ≤ counter_at m on k → (on < m.workers) × ((wanted ≡ 0) ⊎ IsPosted m on wanted k)
+  -- behind an arrival, an await at the barrier stands next
+  pub arrival : (p n number : ℕ) → p < m.workers → act_at m p n ≡ Some (post number) → m.gathers number ≡ true → is_gathered m (act_at m p (settled (m.acts p) (n + 1))) ≡ true
+  -- who is awaited at a barrier is a processor, and it has done the post that is awaited once it has arrived as often as the one who awaits
+  pub gathered : (p n on wanted k : ℕ) → p < m.workers → act_at m p n ≡ Some (await on wanted) → m.gathers wanted ≡ true → (on < m.workers) × (arrivals_at m p n ≤ arrivals_at m on k → IsPosted m on wanted k)
+  -- 64 processors arrive at most 2 ^ 40 times each, so that all arrivals are counted on one word
+  pub few_workers : m.workers ≤ 64
+  pub few_arrivals : (p n : ℕ) → arrivals_at m p n ≤ 2 ^ 40
   -- lawful cells are as many as the machine has, and no processor is past its end
   pub size : (cells : List ℤ) (at : ℕ → ℕ) → m.lawful cells at → length cells ≡ m.cells
   pub within : (cells : List ℤ) (at : ℕ → ℕ) (p : ℕ) → p < m.workers → m.lawful cells at → at p ≤ length (m.acts p)

@@ -1,7 +1,6 @@
 -- A machine by what its processors do, one act behind another, and by what the sequential program has at each of their places.
-use Rattle.std.specs.Prelude.{ℕ, ◌+◌, ◌≡◌, ◌<◌, ℤ, List, [], ◌∷◌, Option, Some, drop, fold, slice_get, take}
+use Rattle.std.specs.Prelude.{Bool, false, if◌then◌else◌, None, ℕ, ◌+◌, ◌≡◌, ◌<◌, ℤ, List, [], ◌∷◌, Option, Some, drop, fold, slice_get, take}
 use Rattle.spmd_model.specs.Timelines.{Act, post, await, load, store, print}
-use Rattle.spmd_model.specs.Lawful.{counted}
 
 -- so many processors, numbered from 0, on so many cells, numbered from 0
 pub record Machine : Type 1 where
@@ -9,6 +8,8 @@ pub record Machine : Type 1 where
   pub cells : ℕ
   -- the acts of a processor, in its order
   pub acts : ℕ → List Act
+  -- posts and awaits of this number are arrivals at a barrier, which all processors do on one word
+  pub gathers : (number : ℕ) → Bool
   -- what the loads of processor p gave since its last store or PRINT, in front of its act n, where each gave the sequential value
   pub registers_at : (p n : ℕ) → List ℤ
   -- what the load that is act n of processor p gives, and what the store there stores, in the sequential program
@@ -27,9 +28,38 @@ act_at m p n = slice_get (m.acts p) n
 abbrev pub IsPosted : Machine → ℕ → ℕ → ℕ → Type 0
 IsPosted m q number k = (i : ℕ) × (i < k) × (act_at m q i ≡ Some (post number))
 
--- the number that p posted last among its first n acts, 0 where there is none
+-- the number on a processor's own counter behind an act, where it was n: an arrival leaves it
+abbrev pub counted : (ℕ → Bool) → ℕ → Act → ℕ
+counted gathers n (post number) = if gathers number then n else number
+counted gathers n (await on wanted) = n
+counted gathers n (load place cell) = n
+counted gathers n (store place cell) = n
+counted gathers n (print place) = n
+
+-- the number that p posted last on its counter among its first n acts, 0 where there is none
 abbrev pub counter_at : Machine → ℕ → ℕ → ℕ
-counter_at m p n = fold counted 0 (take n (m.acts p))
+counter_at m p n = fold (counted m.gathers) 0 (take n (m.acts p))
+
+-- how often a processor has arrived behind an act, where it had n times
+abbrev pub arrived : (ℕ → Bool) → ℕ → Act → ℕ
+arrived gathers n (post number) = if gathers number then n + 1 else n
+arrived gathers n (await on wanted) = n
+arrived gathers n (load place cell) = n
+arrived gathers n (store place cell) = n
+arrived gathers n (print place) = n
+
+-- how often p has arrived by its first n acts
+abbrev pub arrivals_at : Machine → ℕ → ℕ → ℕ
+arrivals_at m p n = fold (arrived m.gathers) 0 (take n (m.acts p))
+
+-- an act is an await at a barrier
+abbrev pub is_gathered : Machine → Option Act → Bool
+is_gathered m None = false
+is_gathered m (Some (post number)) = false
+is_gathered m (Some (await on wanted)) = m.gathers wanted
+is_gathered m (Some (load place cell)) = false
+is_gathered m (Some (store place cell)) = false
+is_gathered m (Some (print place)) = false
 
 -- how many PRINTs stand first among acts
 abbrev pub prints_first : List Act → ℕ

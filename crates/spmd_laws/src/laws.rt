@@ -1,6 +1,7 @@
 // The laws of the machine of an ordered plan: there is nothing to call.
 
 ghost use Rattle.std.specs.Prelude.{ℕ, ℤ, List, Some, slice_get, ◌≡◌};
+ghost use Rattle.nest_tree.specs.Limits.{IsWithinLimits};
 ghost use Rattle.nest_tree.specs.Tree.{Tree};
 ghost use Rattle.nest_tree.specs.WellFormed.{IsWellFormed};
 ghost use Rattle.nest_model.specs.Ranges.{IsInRange};
@@ -12,10 +13,10 @@ ghost use Rattle.spmd_model.specs.Deeds.{deeds_from, storing};
 ghost use Rattle.spmd_laws.specs.Laws.{Laws};
 ghost use Rattle.spmd_laws.specs.Viewed.{machine_of};
 
-/// For every well-formed program in range, and every plan that fits it and is ordered, the laws
-/// hold of the machine of the program under the plan.
+/// For every well-formed program within its limits and in range, and every plan that fits it and is
+/// ordered, the laws hold of the machine of the program under the plan.
 pub fn laws_of()
-    ensures { (tree : Tree) → (plan : Plan) → IsWellFormed tree → IsInRange tree → IsFit tree plan → IsOrdered tree plan → Laws (machine_of tree plan) }
+    ensures { (tree : Tree) → (plan : Plan) → IsWellFormed tree → IsWithinLimits tree → IsInRange tree → IsFit tree plan → IsOrdered tree plan → Laws (machine_of tree plan) }
 {}
 
 /// Under a plan that fits, what a store stores in the sequential program is its deed's value of the
