@@ -1,5 +1,5 @@
 -- Which access of a phase an execution makes at a cell, and the pairs that conflict.
-use Rattle.std.proofs.Common.{◌≡◌, ℕ, zero, suc, ◌+◌, ◌-◌, nat_le, ℤ, Bool, true, false, cond, Option, Some, None, List, [], ◌∷◌, ◌++◌, length, map, refl, ap, sym, ◌∙◌, subst, inl, inr, arith}
+use Rattle.std.proofs.Common.{◌≡◌, ℕ, ◌+◌, ◌-◌, nat_le, ℤ, true, false, Option, Some, None, List, [], ◌∷◌, ◌++◌, length, map, refl, ap, sym, ◌∙◌, inl, inr, arith}
 use Rattle.std.specs.List.{AllByRecursion, Contains, filter, flat_map, list_all, slice_get}
 use Rattle.std.specs.Option.{option_to_list}
 use Rattle.std.proofs.lemmas.Bool.{and_parts, leb-true}
@@ -28,53 +28,15 @@ use Rattle.owner_partition.proofs.Instances.{all_executed}
 use Rattle.comm_system.specs.Meetings.{Point, subscripts_at}
 use Rattle.comm_system.specs.Pairs.{Pair, conflict, pairs_of}
 use Rattle.comm_system.specs.References.{Reference, StaticPhase, phases_of, reference_of, references_in, references_of, variable_of}
-use Rattle.comm_system.proofs.Cells.{IsSound, IsSoundLoaded, Touches, contains_cases, contains_here, contains_later, contains_nothing, load_touches, same_element_of, store_touches}
+use Rattle.comm_system.proofs.Cells.{IsSound, IsSoundLoaded, Touches, load_touches, same_element_of, store_touches}
 use Rattle.comm_system.proofs.Contexts.{at_first}
 use Rattle.comm_system.proofs.GoodReferences.{AllIn, IsGoodLoaded, among_phases, loaded_good, stored_good}
+use Rattle.comm_system.proofs.Lists.{contains_cases, contains_nothing, in_filter, in_flat_map, in_map, mapped_back, mapped_get, passes_at}
 use Rattle.comm_system.proofs.Places.{IsOf, IsPlaced, instance_placed}
-use Rattle.comm_system.proofs.StationFacts.{IsStation, each_in, mapped_get}
+use Rattle.comm_system.proofs.StationFacts.{IsStation, each_in}
 use Rattle.comm_system.proofs.Stations.{Station, phases-text, stations_in, text_among, visit_in, visits-in}
-use Rattle.comm_system.proofs.StationsThere.{mapped_back}
 
 -- ---- elements of lists
-
-pub in_map : {X Y : Type 0} (f : X → Y) (xs : List X) (x : X) → Contains xs x → Contains (map f xs) (f x)
-in_map f [] x c = absurd (contains_nothing x c)
-in_map f (y ∷ xs) x c = elim (contains_cases y x xs c) [
-  | inl same ↦ subst (λ z. Contains (f y ∷ map f xs) (f z)) same (contains_here (f y) (map f xs))
-  | inr later ↦ contains_later (f y) (f x) (map f xs) (in_map f xs x later)
-]
-
-pub in_flat_map : {X Y : Type 0} (f : X → List Y) (xs : List X) (x : X) (y : Y) → Contains xs x → Contains (f x) y → Contains (flat_map f xs) y
-in_flat_map f [] x y c d = absurd (contains_nothing x c)
-in_flat_map f (z ∷ xs) x y c d = elim (contains_cases z x xs c) [
-  | inl same ↦ Contains-append_left (f z) (flat_map f xs) y (subst (λ w. Contains (f w) y) (sym same) d)
-  | inr later ↦ Contains-append_right (f z) (flat_map f xs) y (in_flat_map f xs x y later d)
-]
-
-pub in_filter : {X : Type 0} (test : X → Bool) (xs : List X) (x : X) → Contains xs x → test x ≡ true → Contains (filter test xs) x
-in_filter test [] x c h = absurd (contains_nothing x c)
-in_filter test (y ∷ xs) x c h = by (λ d. in_filter test xs x d h) (test y) refl
-  where
-    by : (Contains xs x → Contains (filter test xs) x) → (b : Bool) → test y ≡ b → Contains (cond (test y) (y ∷ filter test xs) (filter test xs)) x
-    by rest true e = subst (λ b. Contains (cond b (y ∷ filter test xs) (filter test xs)) x) (sym e) (elim (contains_cases y x xs c) [
-      | inl same ↦ subst (λ z. Contains (y ∷ filter test xs) z) same (contains_here y (filter test xs))
-      | inr later ↦ contains_later y x (filter test xs) (rest later)
-    ])
-    by rest false e = subst (λ b. Contains (cond b (y ∷ filter test xs) (filter test xs)) x) (sym e) (elim (contains_cases y x xs c) [
-      | inl same ↦ absurd (let clash : false ≡ true = sym e ∙ ap test same ∙ h in cc)
-      | inr later ↦ rest later
-    ])
-
-pub get_contains : {X : Type 0} (xs : List X) (k : ℕ) (x : X) → slice_get xs k ≡ Some x → Contains xs x
-get_contains [] k x at = absurd (let no : None ≡ Some x = at in cc)
-get_contains (y ∷ xs) zero x at = let same : y ≡ x = cc in subst (λ z. Contains (y ∷ xs) z) same (contains_here y xs)
-get_contains (y ∷ xs) (suc k) x at = contains_later y x xs (get_contains xs k x at)
-
-list_all_get : {X : Type 0} (p : X → Bool) (xs : List X) (k : ℕ) (x : X) → list_all p xs ≡ true → slice_get xs k ≡ Some x → p x ≡ true
-list_all_get p [] k x h at = absurd (let no : None ≡ Some x = at in cc)
-list_all_get p (y ∷ xs) zero x h at = let same : y ≡ x = cc in ap p (sym same) ∙ (and_parts (p y) (list_all p xs) h).0
-list_all_get p (y ∷ xs) (suc k) x h at = list_all_get p xs k x (and_parts (p y) (list_all p xs) h).1 at
 
 -- ---- what an instance in range loads and stores is sound
 
@@ -225,7 +187,7 @@ module _ (tree : Tree) (marks : List Mark) where
         at = back.1;
         place_is = o.place_is ∙ ap (λ (v : Visit). v.place) (sym same);
         placed = instance_placed (param_values tree) (scope_of tree) back.0.heads back.0.trips back.0.visit known.own_number known.context x.instance o.index (ap (λ v. slice_get (phase_instances (param_values tree) v) o.index) same ∙ o.is);
-        inside = list_all_get (is_instance_inside tree) (instances tree) j x.instance ranged instance_at;
+        inside = passes_at (is_instance_inside tree) (instances tree) j x.instance ranged instance_at;
       }
 
   -- the static phase of a station

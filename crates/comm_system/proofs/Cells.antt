@@ -1,7 +1,7 @@
 -- Which access of an instance touches a cell, and that one cell is one element of one variable.
-use Rattle.std.proofs.Common.{◌≡◌, ℕ, zero, suc, ◌+◌, ◌*◌, ◌-◌, ◌/◌, ◌%◌, ◌<◌, ◌≤◌, ◌⊎◌, ℤ, pos, ◌+ℤ◌, ◌-ℤ◌, ◌≤ℤ◌, int_le, true, Some, None, List, [], ◌∷◌, ◌++◌, length, map, refl, ap, sym, ◌∙◌, subst, inl, inr, arith}
+use Rattle.std.proofs.Common.{◌≡◌, ℕ, zero, suc, ◌+◌, ◌*◌, ◌-◌, ◌/◌, ◌%◌, ◌<◌, ◌≤◌, ℤ, pos, ◌+ℤ◌, ◌-ℤ◌, ◌≤ℤ◌, int_le, true, Some, None, List, [], ◌∷◌, ◌++◌, length, map, refl, ap, sym, ◌∙◌, subst, inl, inr, arith}
 use Rattle.std.specs.Prelude.{take}
-use Rattle.std.specs.List.{AllByRecursion, Contains, flat_map, range_with_len}
+use Rattle.std.specs.List.{AllByRecursion, Contains, flat_map}
 use Rattle.std.proofs.Math.Nat.{mul-le-mul_left}
 use Rattle.std.proofs.lemmas.Bool.{and_parts, cases_eq, cases_lt}
 use Rattle.std.proofs.lemmas.Int.{ints}
@@ -21,6 +21,7 @@ use Rattle.nest_model.specs.Ranges.{is_access_inside}
 use Rattle.comm_system.specs.Meetings.{AreFree, subscripts_at}
 use Rattle.comm_system.specs.PairRows.{free_bounds}
 use Rattle.comm_system.specs.References.{variable_of}
+use Rattle.comm_system.proofs.Lists.{contains_cases, contains_here, contains_later, contains_nothing, range_contains}
 
 -- ---- an element's place tells its subscripts
 
@@ -179,26 +180,6 @@ element_touches tree loops a sound = record {
 }
 
 -- ---- lists
-
-pub contains_here : {X : Type 0} (x : X) (xs : List X) → Contains (x ∷ xs) x
-contains_here x xs = (0, omega arith, refl)
-
-pub contains_later : {X : Type 0} (x y : X) (xs : List X) → Contains xs y → Contains (x ∷ xs) y
-contains_later x y xs (k, lt, is) = (suc k, omega (arith, lt), is)
-
-pub contains_cases : {X : Type 0} (x y : X) (xs : List X) → Contains (x ∷ xs) y → (x ≡ y) ⊎ Contains xs y
-contains_cases x y xs (zero, lt, is) = inl is
-contains_cases x y xs (suc k, lt, is) = inr (k, omega (arith, lt), is)
-
-pub contains_nothing : {X : Type 0} (y : X) → Contains [] y → ⊥
-contains_nothing y (k, lt, is) = omega (arith, lt)
-
-pub range_contains : (a n c : ℕ) → Contains (range_with_len a n) c → (a ≤ c) × (c < a + n)
-range_contains a zero c h = absurd (contains_nothing c h)
-range_contains a (suc n) c h = elim (contains_cases a c (range_with_len (a + 1) n) h) [
-  | inl same ↦ (omega (arith, same), omega (arith, same))
-  | inr later ↦ let r = range_contains (a + 1) n c later in (omega (arith, r.0), omega (arith, r.1))
-]
 
 -- the cells of what is loaded
 abbrev cells_at : Tree → List ℤ → Loaded → List ℕ

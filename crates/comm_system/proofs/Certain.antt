@@ -19,7 +19,8 @@ use Rattle.comm_system.proofs.Between.{AreRising, Pairs, outer_in, pairs_rising,
 use Rattle.comm_system.proofs.Chains.{AreHops, HopAt, IsBetween}
 use Rattle.comm_system.proofs.Contexts.{at_first}
 use Rattle.comm_system.proofs.KnownHeads.{AreKnown, IsKnown, heads_among, known_among}
-use Rattle.comm_system.proofs.StationFacts.{AreValid, IsStation, mapped_get}
+use Rattle.comm_system.proofs.Lists.{mapped_get}
+use Rattle.comm_system.proofs.StationFacts.{AreValid, IsStation}
 use Rattle.comm_system.proofs.StationOrder.{Rises, comes, comes_at, comes_back, differ_test, never_both, rises_in}
 use Rattle.comm_system.proofs.Stations.{Station, at_trip, stations_in, text_among, visit_in}
 use Rattle.comm_system.proofs.StationsThere.{IsStop, there_in}

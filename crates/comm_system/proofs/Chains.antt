@@ -1,7 +1,8 @@
 -- Chains of waits along boundaries whose phases rise.
-use Rattle.std.proofs.Common.{◌≡◌, ◌==◌, ◌||◌, ◌&&◌, not, ℕ, zero, suc, ◌+◌, ◌-◌, ◌<◌, ◌≤◌, Bool, true, false, true≢false, cond, List, [], ◌∷◌, Option, Some, None, refl, ap, sym, subst, ◌∙◌, inl, inr, arith}
+use Rattle.std.proofs.Common.{◌≡◌, ◌==◌, ◌||◌, ◌&&◌, not, ℕ, zero, suc, ◌+◌, ◌-◌, ◌<◌, ◌≤◌, true, true≢false, List, [], ◌∷◌, Option, Some, None, refl, ap, sym, subst, ◌∙◌, inl, inr, arith}
 use Rattle.std.specs.Prelude.{slice_get, sum_by}
-use Rattle.std.specs.List.{AllByRecursion, Contains, filter, list_any, range_with_len}
+use Rattle.std.specs.List.{AllByRecursion, Contains, list_any, range_with_len}
+use Rattle.std.proofs.Math.Bool.{or-true}
 use Rattle.std.proofs.lemmas.Bool.{cases_Bool, cases_eq}
 use Rattle.std.proofs.lemmas.List.Sums.{sum_by-cons}
 use Rattle.nest_tree.specs.Tree.{Tree, param_values}
@@ -16,24 +17,13 @@ use Rattle.sync_plan.specs.Ordered.{Hop, IsChain, awaited_in, awaited_in_front}
 use Rattle.sync_plan.specs.Waits.{awaited_behind, does_wait_at, kind_owner, waits_at}
 use Rattle.comm_system.specs.Boundaries.{Boundary}
 use Rattle.comm_system.specs.Signatures.{is_barrier, kind_at, left_waits, right_waits}
-use Rattle.comm_system.proofs.Cells.{contains_later}
+use Rattle.comm_system.proofs.Lists.{in_filter, range_there}
 use Rattle.comm_system.proofs.StationOrder.{differ_test, equal_test}
 
 -- the kind in front of a phase; Nothing where there is none
 abbrev pub kind_of : Option Kind → Kind
 kind_of None = Nothing
 kind_of (Some k) = k
-
-in_filter : (test : ℕ → Bool) (a n q : ℕ) → a ≤ q → q < a + n → test q ≡ true → Contains (filter test (range_with_len a n)) q
-in_filter test a zero q low high h = absurd (omega (arith, low, high))
-in_filter test a (suc n) q low high h = by (λ other. in_filter test (a + 1) n q (omega (arith, low, other)) (omega (arith, high)) h) (test a) refl
-  where
-    by : ((a ≡ q → ⊥) → Contains (filter test (range_with_len (a + 1) n)) q) → (b : Bool) → test a ≡ b → Contains (filter test (range_with_len a (suc n))) q
-    by rest true t = subst (λ xs. Contains xs q) (sym (ap (λ b. cond b (a ∷ filter test (range_with_len (a + 1) n)) (filter test (range_with_len (a + 1) n))) t)) (elim (cases_eq a q) [
-      | inl same ↦ (0, omega arith, same)
-      | inr other ↦ contains_later a q (filter test (range_with_len (a + 1) n)) (rest other)
-    ])
-    by rest false t = subst (λ xs. Contains xs q) (sym (ap (λ b. cond b (a ∷ filter test (range_with_len (a + 1) n)) (filter test (range_with_len (a + 1) n))) t)) (rest (λ same. absurd (true≢false (sym h ∙ ap test (sym same) ∙ t))))
 
 -- the phase in front of which a boundary stands
 pub record HopAt (tree : Tree) (plan : Plan) (b : Boundary) : Type 0 where
@@ -62,7 +52,7 @@ module _ (tree : Tree) (plan : Plan) where
   hop_waits b h kind p q is less ne waits =
       let owner = kind_owner kind plan.workers h.visit.loops (param_values tree) in
       let wait : does_wait_at kind owner p q ≡ true = ap (λ t. not t && waits_at kind owner p q) (differ_test p q ne) ∙ waits in
-      let there = in_filter (does_wait_at kind owner p) 0 plan.workers q (omega arith) (omega (arith, less)) wait in
+      let there = in_filter (does_wait_at kind owner p) (range_with_len 0 plan.workers) q (range_there 0 plan.workers q (omega arith) (omega (arith, less))) wait in
       let kind_is : slice_get plan.kinds (h.visit.place - 1) ≡ Some kind = ap (λ n. slice_get plan.kinds (n - 1)) h.place_is ∙ is in
       subst (λ o. Contains (awaited_in tree plan p o) q) (sym h.at) (subst (λ o. Contains (awaited_behind o plan.workers h.visit.loops (param_values tree) p) q) (sym kind_is) there)
 
@@ -85,16 +75,12 @@ module _ (tree : Tree) (plan : Plan) where
   right_hop : (b : Boundary) (h : HopAt tree plan b) (p : ℕ) → (right_waits (kind_at plan.kinds b) ≡ 0 → ⊥) → p + 1 < plan.workers → Contains (awaited_in_front tree plan p h.phase) (p + 1)
   right_hop b h p some less = by (slice_get plan.kinds (b.phase - 1)) refl some
     where
-      or_right : (t : Bool) → (t || true) ≡ true
-      or_right true = refl
-      or_right false = refl
-
       kinds : (k : Kind) → slice_get plan.kinds (b.phase - 1) ≡ Some k → (right_waits k ≡ 0 → ⊥) → Contains (awaited_in_front tree plan p h.phase) (p + 1)
       kinds Nothing e s = absurd (s refl)
       kinds (Producer a) e s = absurd (s refl)
       kinds Left e s = absurd (s refl)
       kinds Right e s = hop_waits b h Right p (p + 1) e less (λ e. omega (arith, e)) (equal_test (p + 1) (p + 1) refl)
-      kinds Both e s = hop_waits b h Both p (p + 1) e less (λ e. omega (arith, e)) (ap (λ t. p + 1 + 1 == p || t) (equal_test (p + 1) (p + 1) refl) ∙ or_right (p + 1 + 1 == p))
+      kinds Both e s = hop_waits b h Both p (p + 1) e less (λ e. omega (arith, e)) (ap (λ t. p + 1 + 1 == p || t) (equal_test (p + 1) (p + 1) refl) ∙ or-true (p + 1 + 1 == p))
       kinds Barrier e s = absurd (s refl)
       kinds Join e s = absurd (s refl)
 

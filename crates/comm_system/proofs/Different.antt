@@ -1,5 +1,5 @@
 -- Of two executions in different phases that conflict, the second waits for the first where each system has no whole solution.
-use Rattle.std.proofs.Common.{◌≡◌, ℕ, zero, suc, ◌+◌, ◌-◌, ◌<◌, ◌≤◌, ◌⊎◌, ◌==◌, ◌||◌, ℤ, true, false, Option, Some, None, List, [], ◌∷◌, ◌++◌, drop, length, map, if◌then◌else◌, refl, ap, sym, ◌∙◌, subst, inl, inr, arith}
+use Rattle.std.proofs.Common.{◌≡◌, ℕ, suc, ◌+◌, ◌-◌, ◌<◌, ◌≤◌, ◌⊎◌, ◌==◌, ◌||◌, ℤ, true, false, Option, Some, None, List, [], ◌∷◌, ◌++◌, length, map, if◌then◌else◌, refl, ap, sym, ◌∙◌, subst, inl, inr, arith}
 use Rattle.std.specs.Prelude.{sum_by}
 use Rattle.std.specs.List.{AllByRecursion, Contains, flat_map, list_any, slice_get}
 use Rattle.std.proofs.lemmas.Bool.{cases_Bool, cases_eq, cases_lt}
@@ -29,13 +29,14 @@ use Rattle.comm_system.specs.OwnerRows.{Direction, Piece, above, below, distance
 use Rattle.comm_system.specs.Pairs.{Pair, pairs_of}
 use Rattle.comm_system.specs.References.{phases_of}
 use Rattle.comm_system.specs.Signatures.{blocked, counted, is_barrier, kind_at, last_three, left_waits, producers_at, right_waits, signature_of, waits}
-use Rattle.comm_system.proofs.Accesses.{get_contains, phase_there, phases_are, station_known}
+use Rattle.comm_system.proofs.Accesses.{phase_there, phases_are, station_known}
 use Rattle.comm_system.proofs.Between.{side_heads, side_trips}
 use Rattle.comm_system.proofs.Certain.{AreTwo, IsSided, between_of, outer, stop_of, trips, valid-length}
 use Rattle.comm_system.proofs.CertainLists.{AreCertain}
 use Rattle.comm_system.proofs.Chains.{IsBetween, barrier_chain, kind_of, left_chain, producer_chain, right_chain}
 use Rattle.comm_system.proofs.Contexts.{IsBefore}
 use Rattle.comm_system.proofs.Holders.{form_keeps}
+use Rattle.comm_system.proofs.Lists.{all_dropped, get_contains}
 use Rattle.comm_system.proofs.Meets.{owners_meet}
 use Rattle.comm_system.proofs.Owners.{holder_of, kept_heads, producer_holds}
 use Rattle.comm_system.proofs.Places.{IsPlaced}
@@ -66,11 +67,6 @@ front_values (u ∷ us) (g ∷ hs) L M N f same all =
     (same.0 ∙ sym all.0 ∙ ap (numbered N) (sym number), front_values us hs L M N f.1 same.1 all.1)
 
 -- ---- lists of items
-
-all_dropped : {X : Type 0} (P : X → Type 0) (n : ℕ) (xs : List X) → AllByRecursion P xs → AllByRecursion P (drop n xs)
-all_dropped P zero xs h = h
-all_dropped P (suc n) [] h = tt
-all_dropped P (suc n) (x ∷ xs) h = all_dropped P n xs h.1
 
 counted_few : (v : Version) (n : ℕ) → counted v n ≤ n
 counted_few One n = omega arith

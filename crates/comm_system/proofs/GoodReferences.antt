@@ -16,6 +16,7 @@ use Rattle.nest_rows.proofs.Dots.{numbers}
 use Rattle.nest_rows.proofs.GoodNesting.{AreAmong, IsGoodNested, form-among, works_good}
 use Rattle.nest_rows.proofs.Nesting.{all-append, all-weaker}
 use Rattle.comm_system.specs.References.{StaticPhase, phases_among, phases_in, reference_of, references_in, references_of}
+use Rattle.comm_system.proofs.Lists.{all_split}
 use Rattle.comm_system.proofs.Solved.{AreNamed, IsGoodReference}
 
 -- ---- what is loaded by a good piece of work is good
@@ -125,10 +126,6 @@ work_references scope n good =
 abbrev pub AllIn : (Nested → Type 0) → StaticPhase → Type 0
 AllIn P phase = AllByRecursion P (nested_in phase.outer phase.what)
 
-all_left : {X : Type 0} (P : X → Type 0) (xs ys : List X) → AllByRecursion P (xs ++ ys) → AllByRecursion P xs × AllByRecursion P ys
-all_left P [] ys h = (tt, h)
-all_left P (x ∷ xs) ys h = let rest = all_left P xs ys h.1 in ((h.0, rest.0), rest.1)
-
 module _ (P : Nested → Type 0) (enters : ℕ → Bool) where
   mutual
     in_phases : (outer : List Head) (s : Statement) → AllByRecursion P (nested_in outer s) → AllByRecursion (AllIn P) (phases_in enters outer s)
@@ -143,7 +140,7 @@ module _ (P : Nested → Type 0) (enters : ℕ → Bool) where
     pub among_phases : (outer : List Head) (ss : Statements) → AllByRecursion P (nested_among outer ss) → AllByRecursion (AllIn P) (phases_among enters outer ss)
     among_phases outer done all = tt
     among_phases outer (next s rest) all =
-        let parts = all_left P (nested_in outer s) (nested_among outer rest) all in
+        let parts = all_split P (nested_in outer s) (nested_among outer rest) all in
         all-append (AllIn P) (phases_in enters outer s) (phases_among enters outer rest) (in_phases outer s parts.0) (among_phases outer rest parts.1)
 
 -- each access of each phase is good

@@ -25,6 +25,7 @@ use Rattle.sync_plan.specs.declared.plan.Kind.{Kind}
 use Rattle.sync_plan.specs.declared.plan.Kind.TheVariants.{Nothing, Producer, Left, Right, Both, Barrier, Join}
 use Rattle.sync_plan.specs.Fit.{kind_anchors, numbered_anchors}
 use Rattle.comm_system.specs.Meetings.{Holder, Holds}
+use Rattle.comm_system.proofs.Lists.{all_split}
 
 -- the round in which a processor has a place
 abbrev pub round_of : Dist → ℕ → ℤ → ℤ
@@ -134,10 +135,6 @@ all_placed : (tree : Tree) (marks : List Mark) (workers : ℕ) (us : List (ℕ �
 all_placed tree marks workers [] none = tt
 all_placed tree marks workers (u ∷ us) none = let parts = none_parts (misplaced tree marks workers u.0 u.1) (unplaced tree marks workers us) none in (parts.0, all_placed tree marks workers us parts.1)
 
-front_all : {X : Type 0} (P : X → Type 0) (xs ys : List X) → AllByRecursion P (xs ++ ys) → AllByRecursion P xs × AllByRecursion P ys
-front_all P [] ys h = (tt, h)
-front_all P (x ∷ xs) ys h = let rest = front_all P xs ys h.1 in ((h.0, rest.0), rest.1)
-
 module _ (tree : Tree) (marks : List Mark) (workers : ℕ) where
   anchor_there : (n : ℕ) (anchors : List Anchor) (k : ℕ) (a : Anchor) → AllByRecursion (λ u. misplaced tree marks workers u.0 u.1 ≡ None) (numbered_anchors n anchors) → slice_get anchors k ≡ Some a → misplaced tree marks workers (n + k) a ≡ None
   anchor_there n [] k a all at = absurd (let no : None ≡ Some a = at in cc)
@@ -177,8 +174,8 @@ module _ (tree : Tree) (marks : List Mark) (workers : ℕ) where
 
   pub anchor_placed : (anchors : List Anchor) (kinds : List Kind) (k : ℕ) (a : Anchor) → unplaced tree marks workers (numbered_anchors 1 anchors ++ kind_anchors 1 kinds) ≡ None → slice_get anchors k ≡ Some a → misplaced tree marks workers (1 + k) a ≡ None
   anchor_placed anchors kinds k a none at =
-      anchor_there 1 anchors k a (front_all (λ (u : ℕ × Anchor). misplaced tree marks workers u.0 u.1 ≡ None) (numbered_anchors 1 anchors) (kind_anchors 1 kinds) (all_placed tree marks workers (numbered_anchors 1 anchors ++ kind_anchors 1 kinds) none)).0 at
+      anchor_there 1 anchors k a (all_split (λ (u : ℕ × Anchor). misplaced tree marks workers u.0 u.1 ≡ None) (numbered_anchors 1 anchors) (kind_anchors 1 kinds) (all_placed tree marks workers (numbered_anchors 1 anchors ++ kind_anchors 1 kinds) none)).0 at
 
   pub kind_placed : (anchors : List Anchor) (kinds : List Kind) (k : ℕ) (a : Anchor) → unplaced tree marks workers (numbered_anchors 1 anchors ++ kind_anchors 1 kinds) ≡ None → slice_get kinds k ≡ Some (Producer a) → misplaced tree marks workers (1 + k) a ≡ None
   kind_placed anchors kinds k a none at =
-      kind_there 1 kinds k a (front_all (λ (u : ℕ × Anchor). misplaced tree marks workers u.0 u.1 ≡ None) (numbered_anchors 1 anchors) (kind_anchors 1 kinds) (all_placed tree marks workers (numbered_anchors 1 anchors ++ kind_anchors 1 kinds) none)).1 at
+      kind_there 1 kinds k a (all_split (λ (u : ℕ × Anchor). misplaced tree marks workers u.0 u.1 ≡ None) (numbered_anchors 1 anchors) (kind_anchors 1 kinds) (all_placed tree marks workers (numbered_anchors 1 anchors ++ kind_anchors 1 kinds) none)).1 at

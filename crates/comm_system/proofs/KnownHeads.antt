@@ -1,17 +1,16 @@
 -- Loops of a program with one number are one loop.
-use Rattle.std.proofs.Common.{◌≡◌, ℕ, ◌+◌, ◌-◌, ◌≤◌, ◌==◌, Bool, true, false, Some, List, [], ◌∷◌, ◌++◌, length, length-append, map, if◌then◌else◌, refl, ap, sym, ◌∙◌, arith}
+use Rattle.std.proofs.Common.{◌≡◌, ℕ, ◌+◌, ◌-◌, ◌≤◌, Bool, true, false, Some, List, [], ◌∷◌, ◌++◌, length, length-append, map, if◌then◌else◌, refl, ap, sym, ◌∙◌, arith}
 use Rattle.std.specs.List.{AllByRecursion, slice_get}
-use Rattle.std.proofs.lemmas.Bool.{and_parts, eqb-true}
+use Rattle.std.proofs.lemmas.Bool.{and_parts}
 use Rattle.std.proofs.lemmas.Option.{slice_get_within}
 use Rattle.nest_tree.specs.Tree.{Head, Statement, Statements, do_loop, work, continue, done, next}
 use Rattle.nest_tree.specs.WellFormed.{Scope, are_good_statements, is_good_statement, loops_in, loops_of}
 use Rattle.nest_tree.proofs.Good.{good_loop}
 use Rattle.nest_rows.proofs.Nesting.{all-append, all-weaker}
 use Rattle.sync_plan.proofs.Gets.{get-behind, get-front}
-use Rattle.comm_system.specs.Boundaries.{is_prefix}
 use Rattle.comm_system.specs.References.{StaticPhase}
+use Rattle.comm_system.proofs.Lists.{all_mapped}
 use Rattle.comm_system.proofs.Stations.{inside, text_among, text_of}
-use Rattle.comm_system.proofs.StationFacts.{all_mapped}
 
 -- the heads of all loops, in text order
 abbrev mutual
@@ -81,17 +80,3 @@ pub same_head : (all : List Head) (number : ℕ) (h g : Head) → IsKnown all nu
 same_head all number h g k k' same =
     let e : Some h ≡ Some g = sym k.at ∙ ap (λ n. slice_get all (n - number)) same ∙ k'.at in
     cc
-
--- loops that are the first of others
-pub record IsFront (hs gs : List Head) : Type 0 where
-  pub rest : List Head
-  pub is : gs ≡ hs ++ rest
-
-pub prefix_front : (all : List Head) (number : ℕ) (hs gs : List Head) → AllByRecursion (IsKnown all number) hs → AllByRecursion (IsKnown all number) gs → is_prefix hs gs ≡ true → IsFront hs gs
-prefix_front all number [] gs k k' h = record { rest = gs; is = refl }
-prefix_front all number (h ∷ hs) [] k k' p = absurd (let no : false ≡ true = p in cc)
-prefix_front all number (h ∷ hs) (g ∷ gs) k k' p =
-    let parts = and_parts (h.number == g.number) (is_prefix hs gs) p in
-    let same = same_head all number h g k.0 k'.0 (eqb-true h.number g.number parts.0) in
-    let later = prefix_front all number hs gs k.1 k'.1 parts.1 in
-    record { rest = later.rest; is = ap (λ x. x ∷ gs) (sym same) ∙ ap (λ xs. h ∷ xs) later.is }

@@ -1,4 +1,5 @@
 pub mod SameKinds
+pub mod Lists
 pub mod Lies
 pub mod PairMet
 pub mod OwnersMet

@@ -10,7 +10,7 @@ use Rattle.sync_plan.specs.Fit.{IsFit}
 use Rattle.sync_plan.specs.Ordered.{IsOrdered}
 use Rattle.comm_system.specs.Obligations.{Task, numbered_from, obligations_of, tasks_of}
 use Rattle.comm_system.specs.declared.obligation.Obligation.{Obligation}
-use Rattle.comm_system.proofs.Cells.{contains_cases, contains_here, contains_later, contains_nothing}
+use Rattle.comm_system.proofs.Lists.{contains_cases, contains_here, contains_later, contains_nothing}
 use Rattle.comm_system.proofs.SamePhase.{obligations_order}
 
 -- an obligation with the system of a task

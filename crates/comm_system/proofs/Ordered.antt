@@ -24,6 +24,7 @@ use Rattle.comm_system.specs.Obligations.{anchor_at}
 use Rattle.comm_system.specs.Pairs.{pairs_of}
 use Rattle.comm_system.specs.References.{Reference, StaticPhase, variable_of}
 use Rattle.comm_system.proofs.Accesses.{IsAccessAt, elements_same, pair_there, point_at}
+use Rattle.comm_system.proofs.Lists.{some_there}
 use Rattle.comm_system.proofs.Owners.{index_is, there}
 use Rattle.comm_system.proofs.StationOrder.{differ_test, equal_test}
 use Rattle.comm_system.proofs.Stations.{Station, stations_in}
@@ -52,11 +53,6 @@ abbrev first_or : Option Anchor → Anchor
 first_or (Some a) = a
 first_or None = record { form = record { constant = pos 0; loops = []; params = [] }; dist = Cyclic }
 
-some_there : {X : Type 0} (xs : List X) (k : ℕ) → k < length xs → (x : X) × (slice_get xs k ≡ Some x)
-some_there [] k lt = absurd (omega (arith, lt))
-some_there (x ∷ xs) zero lt = (x, refl)
-some_there (x ∷ xs) (suc k) lt = some_there xs k (omega (arith, lt))
-
 module _ (tree : Tree) (plan : Plan) (formed : IsWellFormed tree) (fits : IsFit tree plan) where
   pub anchor_there : (e : ℕ) (s : Station) → slice_get (stations_in (param_values tree) (enters_outer plan.cut) tree.items 1 1 (no_values tree)) e ≡ Some s → slice_get plan.anchors (s.visit.place - 1) ≡ Some (anchor_at plan s.visit.place)
   anchor_there e s at =
@@ -81,10 +77,6 @@ pub record Conflicting (tree : Tree) (s t : StaticPhase) (around around' : List 
   pub first : IsAccessAt tree s around i cell a
   pub second : IsAccessAt tree t around' j cell b
   pub stored : (a.stores || b.stores) ≡ true
-
-pub or_right : (b : Bool) → (b || true) ≡ true
-or_right true = refl
-or_right false = refl
 
 pub meeting_pair : (tree : Tree) (s t : StaticPhase) (around around' : List Head) (i j : Instance) (c : Conflicting tree s t around around' i j) → Contains (pairs_of s t) (record { first = c.a; second = c.b })
 meeting_pair tree s t around around' i j c =

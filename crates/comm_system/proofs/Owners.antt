@@ -1,6 +1,7 @@
 -- The owners of executions, and the producers in front of phases, hold what stands at their anchors' values.
 use Rattle.std.proofs.Common.{◌≡◌, ℕ, ◌+◌, ◌-◌, ◌<◌, ◌≤◌, ◌==◌, ◌||◌, ℤ, pos, ◌+ℤ◌, ◌*ℤ◌, Bool, true, false, Some, None, List, [], ◌∷◌, ◌++◌, append_assoc, length, if◌then◌else◌, ⊎_elim, refl, ap, sym, ◌∙◌, subst, arith}
 use Rattle.std.specs.List.{AllByRecursion, list_any, slice_get}
+use Rattle.std.proofs.Math.Bool.{or-true}
 use Rattle.std.proofs.lemmas.Bool.{and_parts, cases_Bool}
 use Rattle.std.proofs.lemmas.List.{get_or-set_other, length-map}
 use Rattle.nest_tree.specs.Form.{form_value, numbered}
@@ -36,8 +37,9 @@ use Rattle.comm_system.specs.References.{phases_of}
 use Rattle.comm_system.proofs.Accesses.{phase_there, station_known, visits_are}
 use Rattle.comm_system.proofs.Contexts.{IsBefore, IsInFront}
 use Rattle.comm_system.proofs.Holders.{anchor_placed, form_keeps, kind_placed, placed_holds, placed_keeps, round_of}
+use Rattle.comm_system.proofs.Lists.{mapped_get}
 use Rattle.comm_system.proofs.Places.{IsPlaced, StartsIn, kept_after}
-use Rattle.comm_system.proofs.StationFacts.{Deepens, loops_after, mapped_get}
+use Rattle.comm_system.proofs.StationFacts.{Deepens, loops_after}
 use Rattle.comm_system.proofs.Stations.{Station, at_trip, stations_in, visit_in}
 use Rattle.comm_system.proofs.Zips.{among_more, good_kind_each, same_among, same_at}
 use Rattle.nest_model.specs.Instances.{Instance, no_values}
@@ -63,11 +65,7 @@ own_among marks around hs (do_loop head body) among n named = by (is_doall (mark
   where
     last : (xs : List Head) → list_any (λ l. l == n) (numbers (head ∷ [])) ≡ true → list_any (λ l. l == n) (numbers (xs ++ head ∷ [])) ≡ true
     last [] h = h
-    last (x ∷ xs) h = ap (λ b. x.number == n || b) (last xs h) ∙ or_right (x.number == n)
-      where
-        or_right : (t : Bool) → (t || true) ≡ true
-        or_right true = refl
-        or_right false = refl
+    last (x ∷ xs) h = ap (λ b. x.number == n || b) (last xs h) ∙ or-true (x.number == n)
 
     by : (b : Bool) → list_any (λ l. l == n) (if b then head.number ∷ around else around) ≡ true → list_any (λ l. l == n) (numbers (hs ++ head ∷ [])) ≡ true
     by true h = ⊎_elim (λ e. last hs (ap (λ b. b || false) e)) (λ e. among_more around hs (head ∷ []) among n (sym (ap (λ b. b || list_any (λ l. l == n) around) e) ∙ h)) (cases_Bool (head.number == n))

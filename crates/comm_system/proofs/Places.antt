@@ -13,12 +13,11 @@ use Rattle.nest_rows.proofs.Nesting.{all-append, all-at}
 use Rattle.owner_partition.specs.Phases.{Execution, executions_from, phase_instances}
 use Rattle.sync_plan.proofs.Gets.{get-behind, get-front}
 use Rattle.comm_system.specs.References.{StaticPhase, phases_among, phases_in}
-use Rattle.comm_system.proofs.Cells.{contains_here, contains_later}
 use Rattle.comm_system.proofs.Contexts.{IsBefore, IsInFront, kept-number}
-use Rattle.comm_system.proofs.StationFacts.{Deepens, all_in_range, IsStation, each_of, loops_after, mapped_get}
+use Rattle.comm_system.proofs.Lists.{all_in_range, all_split, contains_here, contains_later, mapped_back, mapped_get}
+use Rattle.comm_system.proofs.StationFacts.{Deepens, IsStation, each_of, loops_after}
 use Rattle.comm_system.proofs.Stations.{Station, at_trip, phases_in-within, push, stations_in, stations_of, trips_of, text_of, visit_in, visits-of, within}
 use Rattle.comm_system.proofs.StationOrder.{Comes, comes_at, rises_of}
-use Rattle.comm_system.proofs.StationsThere.{mapped_back}
 
 -- ---- executions and phases
 
@@ -168,10 +167,6 @@ NestedAt P outer (continue line) = Unit {0}
 
 abbrev NestedHere : (Nested → Type 0) → StaticPhase → Type 0
 NestedHere P p = NestedAt P p.outer p.what
-
-all_split : {X : Type 0} (P : X → Type 0) (xs ys : List X) → AllByRecursion P (xs ++ ys) → AllByRecursion P xs × AllByRecursion P ys
-all_split P [] ys h = (tt, h)
-all_split P (x ∷ xs) ys h = let rest = all_split P xs ys h.1 in ((h.0, rest.0), rest.1)
 
 mutual
   nested_stops : (P : Nested → Type 0) (outer : List Head) (s : Statement) → AllByRecursion P (nested_in outer s) → AllByRecursion (NestedHere P) (phases_in every outer s)

@@ -25,11 +25,12 @@ use Rattle.comm_system.specs.Meetings.{AreSame, IsEarlier, values_of}
 use Rattle.comm_system.specs.Obligations.{Task, anchor_at, slot_signature, slot_tasks, slots_of, tasks_of, trips_task, trips_tasks}
 use Rattle.comm_system.specs.Pairs.{Pair, pairs_of}
 use Rattle.comm_system.specs.References.{StaticPhase, phases_of}
-use Rattle.comm_system.proofs.Accesses.{IsExecutedAt, executed_at_station, get_contains, in_flat_map, in_map, nested_good, phase_there, point_at, station_known}
+use Rattle.comm_system.proofs.Accesses.{IsExecutedAt, executed_at_station, nested_good, phase_there, point_at, station_known}
 use Rattle.comm_system.proofs.Certain.{valid-length}
 use Rattle.comm_system.proofs.Contexts.{IsInFront, loop_number}
 use Rattle.comm_system.proofs.Different.{keeps}
 use Rattle.comm_system.proofs.Holders.{form_keeps}
+use Rattle.comm_system.proofs.Lists.{get_contains, in_flat_map, in_map}
 use Rattle.comm_system.proofs.Meets.{trips_meet}
 use Rattle.comm_system.proofs.Ordered.{Conflicting, anchor_there, meeting, meeting_pair, owner_is, same_further}
 use Rattle.comm_system.proofs.Owners.{anchor_named, outer_named, own_heads, visit_at}

@@ -1,7 +1,7 @@
 -- Each slot, pair and piece has its task in the list.
-use Rattle.std.proofs.Common.{◌≡◌, ℕ, zero, suc, ◌+◌, ◌-◌, ◌<◌, ◌≤◌, nat_lt, Some, None, List, [], ◌∷◌, length, if◌then◌else◌, sym, subst, inl, inr, arith}
+use Rattle.std.proofs.Common.{◌≡◌, ℕ, zero, suc, ◌+◌, ◌-◌, ◌<◌, ◌≤◌, nat_lt, Some, None, List, [], ◌∷◌, length, if◌then◌else◌, sym, subst, arith}
 use Rattle.std.specs.List.{AllByRecursion, Contains, flat_map, range_with_len, slice_get}
-use Rattle.std.proofs.lemmas.Bool.{cases_eq, lt-ltb}
+use Rattle.std.proofs.lemmas.Bool.{lt-ltb}
 use Rattle.std.proofs.lemmas.List.Elements.{Contains-append_left, Contains-append_right}
 use Rattle.nest_tree.specs.Tree.{Tree}
 use Rattle.nest_rows.proofs.Nesting.{all-weaker}
@@ -14,17 +14,9 @@ use Rattle.comm_system.specs.OwnerRows.{Piece, pieces}
 use Rattle.comm_system.specs.Pairs.{Pair, pairs_of}
 use Rattle.comm_system.specs.References.{StaticPhase, phases_of}
 use Rattle.comm_system.specs.Signatures.{waits}
-use Rattle.comm_system.proofs.Accesses.{in_flat_map, in_map}
-use Rattle.comm_system.proofs.Cells.{contains_here, contains_later}
+use Rattle.comm_system.proofs.Lists.{contains_here, contains_later, in_flat_map, in_map, range_there}
 
 -- ---- levels and slots
-
-range_there : (a n k : ℕ) → a ≤ k → k < a + n → Contains (range_with_len a n) k
-range_there a zero k low high = absurd (omega (arith, low, high))
-range_there a (suc n) k low high = elim (cases_eq a k) [
-  | inl same ↦ subst (λ x. Contains (a ∷ range_with_len (a + 1) n) x) same (contains_here a (range_with_len (a + 1) n))
-  | inr ne ↦ contains_later a k (range_with_len (a + 1) n) (range_there (a + 1) n k (omega (arith, low, ne)) (omega (arith, high)))
-]
 
 pub carried_level : (loops s t k : ℕ) → k < loops → Contains (levels loops s t) (suc k)
 carried_level loops s t k less = Contains-append_left (range_with_len 1 loops) (if nat_lt s t then 0 ∷ [] else []) (suc k) (range_there 1 loops (suc k) (omega arith) (omega (arith, less)))

@@ -1,5 +1,5 @@
 -- What is known of each stop of a walk with the loops that it is in: where it stands in the text, and that its loops are at trips of theirs.
-use Rattle.std.proofs.Common.{◌≡◌, ℕ, zero, suc, ◌+◌, ◌-◌, ◌<◌, ◌≤◌, ℤ, Bool, true, false, Some, None, List, [], ◌∷◌, ◌++◌, append_assoc, length, map, if◌then◌else◌, refl, ap, sym, ◌∙◌, subst, arith}
+use Rattle.std.proofs.Common.{◌≡◌, ℕ, ◌+◌, ◌-◌, ◌<◌, ◌≤◌, ℤ, Bool, true, false, Some, List, [], ◌∷◌, ◌++◌, append_assoc, length, map, if◌then◌else◌, refl, ap, sym, ◌∙◌, subst, arith}
 use Rattle.std.specs.List.{AllByRecursion, flat_map, range_with_len, slice_get}
 use Rattle.std.proofs.lemmas.List.{append-nil}
 use Rattle.std.proofs.lemmas.Option.{slice_get_within}
@@ -11,6 +11,7 @@ use Rattle.nest_rows.proofs.Nesting.{all-append, all-weaker}
 use Rattle.sync_plan.proofs.Gets.{get-behind, get-front}
 use Rattle.comm_system.specs.References.{StaticPhase}
 use Rattle.comm_system.proofs.Contexts.{AreInFront, IsInFront, behind, entered, front, loop_number}
+use Rattle.comm_system.proofs.Lists.{all_in_range, all_mapped, mapped_get}
 use Rattle.comm_system.proofs.Stations.{Station, at_trip, inside, push, stations_in, stations_of, text-length, text_among, text_of, trips_of}
 
 -- the loops' values where these loops have been entered at these trips
@@ -46,19 +47,6 @@ pub record IsStation (params : List ℤ) (scope : Scope) (heads : List Head) (ns
   pub context : IsInFront params scope (heads ++ s.heads) (ns ++ s.trips) s.visit.loops own_number s.visit.what
 
 -- ---- lists
-
-pub all_in_range : {X : Type 0} (P : X → Type 0) (f : ℕ → List X) (a n : ℕ) → ((i : ℕ) → i < a + n → AllByRecursion P (f i)) → AllByRecursion P (flat_map f (range_with_len a n))
-all_in_range P f a zero h = tt
-all_in_range P f a (suc n) h = all-append P (f a) (flat_map f (range_with_len (a + 1) n)) (h a (omega arith)) (all_in_range P f (a + 1) n (λ i lt. h i (omega (arith, lt))))
-
-pub all_mapped : {X Y : Type 0} (P : X → Type 0) (Q : Y → Type 0) (f : X → Y) (xs : List X) → ((x : X) → P x → Q (f x)) → AllByRecursion P xs → AllByRecursion Q (map f xs)
-all_mapped P Q f [] each all = tt
-all_mapped P Q f (x ∷ xs) each all = (each x all.0, all_mapped P Q f xs each all.1)
-
-pub mapped_get : {X Y : Type 0} (f : X → Y) (xs : List X) (k : ℕ) (x : X) → slice_get xs k ≡ Some x → slice_get (map f xs) k ≡ Some (f x)
-mapped_get f [] k x at = absurd (let no : None ≡ Some x = at in cc)
-mapped_get f (y ∷ xs) zero x at = let same : y ≡ x = cc in ap (λ z. Some (f z)) same
-mapped_get f (y ∷ xs) (suc k) x at = mapped_get f xs k x at
 
 -- ---- each station
 

@@ -1,7 +1,7 @@
 -- The stops of a walk with the loops that it is in and their trips.
-use Rattle.std.proofs.Common.{◌≡◌, ℕ, suc, ◌+◌, ℤ, pos, ◌+ℤ◌, ◌*ℤ◌, Bool, true, false, List, [], ◌∷◌, ◌++◌, length, length-append, map, if◌then◌else◌, refl, ap, sym, ◌∙◌, arith}
+use Rattle.std.proofs.Common.{◌≡◌, ℕ, ◌+◌, ℤ, pos, ◌+ℤ◌, ◌*ℤ◌, Bool, true, false, List, [], ◌∷◌, ◌++◌, length, length-append, map, if◌then◌else◌, refl, ap, sym, ◌∙◌, arith}
 use Rattle.std.specs.List.{flat_map, range_with_len}
-use Rattle.std.proofs.lemmas.List.{append-nil, map-append}
+use Rattle.std.proofs.lemmas.List.{append-nil, length-map, map-append}
 use Rattle.nest_tree.specs.Form.{form_value}
 use Rattle.nest_tree.specs.Tree.{Head, Statement, Statements, do_loop, work, continue, done, next}
 use Rattle.nest_model.specs.Instances.{head_trips, trip_count, with_loop, works_in}
@@ -128,13 +128,9 @@ phases-text enters ss = phases_among-within enters [] ss ∙ same (text_among en
     same [] = refl
     same (x ∷ xs) = ap (λ ps. x ∷ ps) (same xs)
 
-map-length : {X Y : Type 0} (f : X → Y) (xs : List X) → length (map f xs) ≡ length xs
-map-length f [] = refl
-map-length f (x ∷ xs) = ap suc (map-length f xs)
-
 mutual
   pub text-length : (enters : ℕ → Bool) (s : Statement) → length (text_of enters s) ≡ stops_in enters s
-  text-length enters (do_loop head body) = by (enters head.number) (map-length (inside head) (text_among enters body) ∙ texts-length enters body)
+  text-length enters (do_loop head body) = by (enters head.number) (length-map (text_among enters body) (inside head) ∙ texts-length enters body)
     where
       by : (b : Bool) → length (map (inside head) (text_among enters body)) ≡ stops_of enters body → length (if b then map (inside head) (text_among enters body) else record { what = do_loop head body; outer = [] } ∷ []) ≡ (if b then stops_of enters body else 1)
       by true inner = inner

@@ -8,8 +8,9 @@ use Rattle.nest_model.specs.Instances.{works_in}
 use Rattle.nest_model.specs.Visits.{stops_in}
 use Rattle.sync_plan.proofs.Gets.{get-behind, get-front}
 use Rattle.comm_system.specs.References.{StaticPhase}
+use Rattle.comm_system.proofs.Lists.{mapped_back, mapped_get}
 use Rattle.comm_system.proofs.Stations.{Station, at_trip, inside, push, stations_in, stations_of, text-length, text_among, text_of, trips_of}
-use Rattle.comm_system.proofs.StationFacts.{AreValid, mapped_get}
+use Rattle.comm_system.proofs.StationFacts.{AreValid}
 
 -- a station of a list with this place, these loops and these trips
 pub record IsStop (stations : List Station) (place : ℕ) (heads : List Head) (trips : List ℕ) : Type 0 where
@@ -44,12 +45,6 @@ stop_at_trip f a (suc n) i place heads trips low high h = elim (cases_lt a i) [
       let same : i ≡ a = omega (arith, low, past) in
       stop_front (f a) (flat_map f (range_with_len (a + 1) n)) place heads trips (subst (λ k. IsStop (f k) place heads trips) same h)
 ]
-
--- one of a list that is mapped
-pub mapped_back : {X Y : Type 0} (f : X → Y) (xs : List X) (k : ℕ) (y : Y) → slice_get (map f xs) k ≡ Some y → (x : X) × (slice_get xs k ≡ Some x) × (f x ≡ y)
-mapped_back f [] k y at = absurd (let no : None ≡ Some y = at in cc)
-mapped_back f (x ∷ xs) zero y at = let same : f x ≡ y = cc in (x, refl, same)
-mapped_back f (x ∷ xs) (suc k) y at = mapped_back f xs k y at
 
 alone_back : (p q : StaticPhase) (k : ℕ) → slice_get (p ∷ []) k ≡ Some q → (k ≡ 0) × (p ≡ q)
 alone_back p q zero at = (refl, let same : p ≡ q = cc in same)

@@ -1,6 +1,7 @@
 -- Of two executions that conflict, the owner of the second waits for that of the first, where no system has a whole solution.
 use Rattle.std.proofs.Common.{◌≡◌, ℕ, suc, ◌+◌, ◌<◌, ◌⊎◌, ◌||◌, true, false, true≢false, Some, List, [], ◌++◌, length, refl, ap, sym, ◌∙◌, subst, inl, inr, arith}
 use Rattle.std.specs.List.{Contains}
+use Rattle.std.proofs.Math.Bool.{or-true}
 use Rattle.nest_tree.specs.Form.{form_value}
 use Rattle.nest_tree.specs.Tree.{Head, Tree, param_values}
 use Rattle.nest_tree.specs.WellFormed.{IsWellFormed, loops_of, names_only, scope_of}
@@ -28,7 +29,7 @@ use Rattle.comm_system.proofs.CertainLists.{AreCertain, carried_certain, plain_c
 use Rattle.comm_system.proofs.Contexts.{at_first}
 use Rattle.comm_system.proofs.Different.{keeps, waited}
 use Rattle.comm_system.proofs.KnownHeads.{heads_among}
-use Rattle.comm_system.proofs.Ordered.{Conflicting, anchor_there, earlier_further, meeting, meeting_pair, order_carried, or_right, owner_is, same_further}
+use Rattle.comm_system.proofs.Ordered.{Conflicting, anchor_there, earlier_further, meeting, meeting_pair, order_carried, owner_is, same_further}
 use Rattle.comm_system.proofs.Owners.{holder_of, owner_holds}
 use Rattle.comm_system.proofs.OwnersMet.{holds_below}
 use Rattle.comm_system.proofs.Slots.{carried_level, plain_level, slot_there}
@@ -53,7 +54,7 @@ module _ (tree : Tree) (i j : Instance) (s t : StaticPhase) (around around' : Li
       by (inr is) =
           let a = any_access tree s around i c.cell nested good executed inside c.first in
           let b = store_access tree t around' j c.cell nested' good' executed' inside' is in
-          record { cell = c.cell; a = a.0; b = b.0; first = a.1; second = b.1; stored = ap (λ x. a.0.stores || x) b.2 ∙ or_right a.0.stores }
+          record { cell = c.cell; a = a.0; b = b.0; first = a.1; second = b.1; stored = ap (λ x. a.0.stores || x) b.2 ∙ or-true a.0.stores }
 
 -- ---- in a later phase
 

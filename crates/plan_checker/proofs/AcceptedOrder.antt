@@ -11,7 +11,7 @@ use Rattle.sync_plan.specs.declared.plan.Plan.{Plan}
 use Rattle.sync_plan.specs.Ordered.{IsOrdered}
 use Rattle.comm_system.specs.Obligations.{obligations_of}
 use Rattle.comm_system.specs.declared.obligation.Obligation.{Obligation}
-use Rattle.comm_system.proofs.Cells.{contains_cases, contains_nothing}
+use Rattle.comm_system.proofs.Lists.{contains_cases, contains_nothing}
 use Rattle.comm_system.proofs.ObligationOrder.{ordered_by}
 use Rattle.plan_checker.specs.Accepted.{AreCertified, IsAccepted}
 
