@@ -1,5 +1,5 @@
 -- The statuses of the process.
-use Rattle.std.specs.Prelude.{ℕ}
+use Rattle.std.specs.Prelude.{ℕ, List, Option, Some, None, codes}
 use Rattle.elim_bench.specs.declared.ending.Ending.{Ending}
 use Rattle.elim_bench.specs.declared.ending.Ending.TheVariants.{Done, BadLine, BadWords, BadCertificate, Fault, NoMemory}
 
@@ -11,3 +11,12 @@ code_of BadWords = 2
 code_of BadCertificate = 3
 code_of Fault = 4
 code_of NoMemory = 5
+
+-- what is told of an ending on standard error: nothing where a line was written of it
+abbrev pub message_of : Ending → Option (List ℕ)
+message_of Done = None
+message_of BadLine = None
+message_of BadWords = Some (codes "the only word that is taken is --times")
+message_of BadCertificate = None
+message_of Fault = Some (codes "a read or a write failed")
+message_of NoMemory = Some (codes "memory ran out")

@@ -1,7 +1,6 @@
 -- What a line of the input says.
-use Rattle.std.specs.Prelude.{ℕ, ◌==◌, ◌^◌, ◌-◌, ℤ, pos, negsuc, nat_le, nat_lt, Bool, false, ◌&&◌, ◌||◌, if◌then◌else◌, List, [], ◌∷◌, length, filter, Option, Some, None, Result, Ok, Err, codes, ◌≡◌, refl}
+use Rattle.std.specs.Prelude.{ℕ, ◌+◌, ◌==◌, ◌^◌, ◌-◌, ℤ, pos, negsuc, nat_le, nat_lt, Bool, false, ◌&&◌, ◌||◌, if◌then◌else◌, List, [], ◌∷◌, length, filter, Option, Some, None, Result, Ok, Err, codes, ◌≡◌, refl}
 use Rattle.std.specs.List.{slice_split, list_all}
-use Rattle.std.specs.Option.{ok_or}
 use Rattle.std.specs.Str.{bytes_eq}
 use Rattle.farkas_cert.specs.declared.system.Row.{Row}
 use Rattle.elim_bench.specs.declared.line.Head.{Head}
@@ -9,6 +8,7 @@ use Rattle.elim_bench.specs.declared.line.Line.{Line}
 use Rattle.elim_bench.specs.declared.line.Line.TheVariants as variants
 use Rattle.elim_bench.specs.declared.line.LineFault.{LineFault}
 use Rattle.elim_bench.specs.declared.line.LineFault.TheVariants as faults
+use Rattle.elim_bench.specs.declared.line.Wanted.TheVariants as wanted
 use Rattle.elim_bench.specs.Numbers.{natural_of, within, entry_of}
 
 -- a tab, a line feed, a carriage return or a space
@@ -28,40 +28,58 @@ abbrev pub fault_or : {A B : Type 0} → (A → B) → Result A LineFault → Re
 fault_or f (Err fault) = Err fault
 fault_or f (Ok a) = Ok (f a)
 
-abbrev pub head_with : List ℕ → Result ℕ LineFault → Result ℕ LineFault → Result Head LineFault
-head_with name (Err fault) rows = Err fault
-head_with name (Ok v) (Err fault) = Err fault
-head_with name (Ok v) (Ok r) = Ok (record { name = name; variables = v; rows = r })
+-- what was read, if no word is behind it; the next one has the number
+abbrev pub ends_at : {A : Type 0} → ℕ → A → List (List ℕ) → Result A LineFault
+ends_at n a [] = Ok a
+ends_at n a (word ∷ words) = Err (faults.Word n wanted.End)
 
--- the head whose words behind `system` these are: a printable name, at most 1,000 variables, and rows below 2 ^ 32
+abbrev pub rows_with : List ℕ → ℕ → Option ℕ → List (List ℕ) → Result Head LineFault
+rows_with name v None words = Err (faults.Word 4 wanted.Rows)
+rows_with name v (Some r) words = ends_at 5 (record { name = name; variables = v; rows = r }) words
+
+-- word 4 of a head: rows below 2 ^ 32
+abbrev pub rows_after : List ℕ → ℕ → List (List ℕ) → Result Head LineFault
+rows_after name v [] = Err (faults.Word 4 wanted.Rows)
+rows_after name v (word ∷ words) = rows_with name v (within (2 ^ 32 - 1) (natural_of word)) words
+
+abbrev pub variables_with : List ℕ → Option ℕ → List (List ℕ) → Result Head LineFault
+variables_with name None words = Err (faults.Word 3 wanted.Variables)
+variables_with name (Some v) words = rows_after name v words
+
+-- word 3 of a head: at most 1,000 variables
+abbrev pub variables_after : List ℕ → List (List ℕ) → Result Head LineFault
+variables_after name [] = Err (faults.Word 3 wanted.Variables)
+variables_after name (word ∷ words) = variables_with name (within 1000 (natural_of word)) words
+
+-- the head whose words behind `system` these are, from word 2 on: a printable name, variables and rows
 abbrev pub head_of : List (List ℕ) → Result Head LineFault
-head_of [] = Err faults.HeadForm
-head_of (name ∷ []) = Err faults.HeadForm
-head_of (name ∷ v ∷ []) = Err faults.HeadForm
-head_of (name ∷ v ∷ r ∷ []) = if list_all is_printable name then head_with name (ok_or (within 1000 (natural_of v)) faults.BadVariables) (ok_or (within (2 ^ 32 - 1) (natural_of r)) faults.BadRows) else Err faults.BadName
-head_of (name ∷ v ∷ r ∷ w ∷ more) = Err faults.HeadForm
+head_of [] = Err (faults.Word 2 wanted.Name)
+head_of (name ∷ words) = if list_all is_printable name then variables_after name words else Err (faults.Word 2 wanted.Name)
 
--- the bound whose words behind `<=` these are
-abbrev pub bound_of : List (List ℕ) → Result ℤ LineFault
-bound_of [] = Err faults.RowForm
-bound_of (word ∷ []) = ok_or (entry_of word) faults.BadNumber
-bound_of (word ∷ w ∷ more) = Err faults.RowForm
+abbrev pub bound_with : ℕ → Option ℤ → List (List ℕ) → Result ℤ LineFault
+bound_with n None words = Err (faults.Word n wanted.Bound)
+bound_with n (Some b) words = ends_at (n + 1) b words
 
--- one coefficient more in front: the first fault from the left counts
-abbrev pub with_coef : Option ℤ → Result Row LineFault → Result Row LineFault
-with_coef None row = Err faults.BadNumber
-with_coef (Some a) (Err fault) = Err fault
-with_coef (Some a) (Ok row) = Ok (record { coefs = a ∷ row.coefs; bound = row.bound })
+-- the bound whose words behind `<=` these are; the first one has the number
+abbrev pub bound_from : ℕ → List (List ℕ) → Result ℤ LineFault
+bound_from n [] = Err (faults.Word n wanted.Bound)
+bound_from n (word ∷ words) = bound_with n (entry_of word) words
 
--- the row of these words: its coefficients, `<=` and its bound
-abbrev pub row_of : List (List ℕ) → Result Row LineFault
-row_of [] = Err faults.RowForm
-row_of (word ∷ words) = if bytes_eq word (codes "<=") then fault_or (λ b. record { coefs = []; bound = b }) (bound_of words) else with_coef (entry_of word) (row_of words)
+-- one coefficient more in front, the word of this number: the first fault from the left counts
+abbrev pub with_coef : ℕ → Option ℤ → Result Row LineFault → Result Row LineFault
+with_coef n None row = Err (faults.Word n wanted.Coefficient)
+with_coef n (Some a) (Err fault) = Err fault
+with_coef n (Some a) (Ok row) = Ok (record { coefs = a ∷ row.coefs; bound = row.bound })
+
+-- the row of these words, the first of which has the number: its coefficients, `<=` and its bound
+abbrev pub row_from : ℕ → List (List ℕ) → Result Row LineFault
+row_from n [] = Err (faults.Word n wanted.Coefficient)
+row_from n (word ∷ words) = if bytes_eq word (codes "<=") then fault_or (λ b. record { coefs = []; bound = b }) (bound_from (n + 1) words) else with_coef n (entry_of word) (row_from (n + 1) words)
 
 -- what these words say
 abbrev pub said_by : List (List ℕ) → Result Line LineFault
 said_by [] = Ok variants.Nothing
-said_by (word ∷ words) = if bytes_eq word (codes "system") then fault_or variants.Head (head_of words) else fault_or variants.Row (row_of (word ∷ words))
+said_by (word ∷ words) = if bytes_eq word (codes "system") then fault_or variants.Head (head_of words) else fault_or variants.Row (row_from 1 (word ∷ words))
 
 -- the first byte is a `#`
 abbrev pub is_comment : List ℕ → Bool
@@ -84,8 +102,9 @@ line_of-comment = refl
 pub line_of-nothing : line_of (codes " \n") ≡ Ok variants.Nothing
 line_of-nothing = refl
 
-pub line_of-no_bound : line_of (codes "2 -1 <=\n") ≡ Err faults.RowForm
+-- the fourth word is missing, and the second is no number
+pub line_of-no_bound : line_of (codes "2 -1 <=\n") ≡ Err (faults.Word 4 wanted.Bound)
 line_of-no_bound = refl
 
-pub line_of-no_number : line_of (codes "2 x\n") ≡ Err faults.BadNumber
+pub line_of-no_number : line_of (codes "2 x\n") ≡ Err (faults.Word 2 wanted.Coefficient)
 line_of-no_number = refl

@@ -21,9 +21,9 @@ task_with row task = record { name = task.name; missing = task.missing - 1; syst
 abbrev pub open_behind : Option Task → Line → Result (Option Task) LineFault
 open_behind task lines.Nothing = Ok task
 open_behind None (lines.Head head) = Ok (Some (first_task head))
-open_behind (Some task) (lines.Head head) = Err faults.MissingRows
+open_behind (Some task) (lines.Head head) = Err (faults.MissingRows task.missing)
 open_behind None (lines.Row row) = Err faults.NoSystem
-open_behind (Some task) (lines.Row row) = if length row.coefs == task.system.vars then Ok (Some (task_with row task)) else Err faults.WrongCount
+open_behind (Some task) (lines.Row row) = if length row.coefs == task.system.vars then Ok (Some (task_with row task)) else Err (faults.WrongCount (length row.coefs) task.system.vars)
 
 -- the numbers of a row are at most 2 ^ 126 in size
 abbrev pub IsNarrowLine : Line → Type 0

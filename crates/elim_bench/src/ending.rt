@@ -1,7 +1,8 @@
 // How a run ends.
 
 ghost use Rattle.std.specs.Prelude.{◌≡◌};
-ghost use Rattle.elim_bench.specs.Endings.{code_of};
+ghost use Rattle.std.specs.Option.{option_map};
+ghost use Rattle.elim_bench.specs.Endings.{code_of, message_of};
 
 /// How a run ends.
 #[derive(Clone, Copy, Debug, PartialEq, Eq)]
@@ -36,7 +37,9 @@ impl Ending {
     }
 
     /// What is told on standard error.
-    pub fn message(self) -> Option<&'static str> {
+    pub fn message(self) -> Option<&'static str>
+        ensures { option_map (λ message. message.now) result ≡ message_of self }
+    {
         match self {
             Ending::Done | Ending::BadLine | Ending::BadCertificate => None,
             Ending::BadWords => Some("the only word that is taken is --times"),

@@ -1,6 +1,6 @@
 // What a line of the input says.
 
-ghost use Rattle.std.specs.Prelude.{◌≡◌, ◌≢◌, ◌↔◌, IfOk, IfErr, IsTrue, Ok, Err, [], ◌∷◌, map};
+ghost use Rattle.std.specs.Prelude.{◌≡◌, ◌≢◌, ◌↔◌, ◌+◌, ◌<◌, ◌^◌, IfOk, IfErr, IsTrue, Ok, Err, map};
 ghost use Rattle.std.specs.List.{All, list_all};
 ghost use Rattle.farkas_cert.specs.Combination.{is_narrow};
 ghost use Rattle.std.specs.Str.{bytes_eq};
@@ -57,27 +57,37 @@ pub enum Line {
     Row(Row),
 }
 
+/// What has to stand at a place of a line.
+#[derive(Clone, Copy, Debug, PartialEq, Eq, Error)]
+pub enum Wanted {
+    #[error("a name of printable characters")]
+    Name,
+    #[error("the number of variables, 0 to 1000 in decimal digits")]
+    Variables,
+    #[error("the number of rows, 0 to 4294967295 in decimal digits")]
+    Rows,
+    #[error("a coefficient, a whole number of at most 2 ^ 126 in size, or <=")]
+    Coefficient,
+    #[error("the bound, a whole number of at most 2 ^ 126 in size")]
+    Bound,
+    #[error("the end of the line")]
+    End,
+}
+
 /// What is wrong with a line.
 #[derive(Clone, Copy, Debug, PartialEq, Eq, Error)]
 pub enum LineFault {
-    #[error("a system begins with: system NAME VARS ROWS")]
-    HeadForm,
-    #[error("the name has a character that is not printable")]
-    BadName,
-    #[error("the number of variables is not 0 to 1000 in decimal digits")]
-    BadVariables,
-    #[error("the number of rows is not 0 to 4294967295 in decimal digits")]
-    BadRows,
-    #[error("a coefficient or a bound is no whole number of at most 2 ^ 126 in size")]
-    BadNumber,
-    #[error("a row ends with: <= BOUND")]
-    RowForm,
-    #[error("the row has not one coefficient for each variable")]
-    WrongCount,
-    #[error("a row where a system has to begin")]
+    /// The word of this number, from 1, is not what has to stand there, or is missing.
+    #[error("word {0}: wanted is {1}")]
+    Word(u64, Wanted),
+    /// A row has so many coefficients, where the system has so many variables.
+    #[error("a row of {0} coefficients: wanted is one for each of {1} variables")]
+    WrongCount(u64, u32),
+    #[error("a row: wanted is a line that begins with the word system")]
     NoSystem,
-    #[error("the system before has too few rows")]
-    MissingRows,
+    /// A system begins where so many rows are missing of the one before.
+    #[error("wanted are {0} more rows of the system before")]
+    MissingRows(u32),
     /// Memory ran out. It says nothing of the line.
     #[error("out of memory")]
     NoMemory,
@@ -167,64 +177,94 @@ fn head_of(alloc: Global, words: &[&[u8]]) -> Result<Head, LineFault>
     ensures head { IfOk result (λ head. spec.head_of (map (λ w. w.now) words.now) ≡ Ok head) }
     ensures malformed { IfErr result (λ fault. fault ≢ NoMemory → spec.head_of (map (λ w. w.now) words.now) ≡ Err fault) }
 {
-    match words {
-        [name, variables, rows] => named_head(alloc, name, variables, rows),
-        _ => Err(LineFault::HeadForm),
+    let [name, rest @ ..] = words else {
+        return Err(LineFault::Word(2, Wanted::Name));
+    };
+    if !is_name(name) {
+        return Err(LineFault::Word(2, Wanted::Name));
     }
+    variables_after(alloc, name, rest)
 }
 
-// The head of these three words.
-fn named_head(alloc: Global, name: &[u8], variables: &[u8], rows: &[u8]) -> Result<Head, LineFault>
-    ensures head { IfOk result (λ head. spec.head_of (name.now ∷ variables.now ∷ rows.now ∷ []) ≡ Ok head) }
-    ensures malformed { IfErr result (λ fault. fault ≢ NoMemory → spec.head_of (name.now ∷ variables.now ∷ rows.now ∷ []) ≡ Err fault) }
+// The head of this name, whose variables and rows these words give.
+fn variables_after(alloc: Global, name: &[u8], words: &[&[u8]]) -> Result<Head, LineFault>
+    ensures head { IfOk result (λ head. spec.variables_after name.now (map (λ w. w.now) words.now) ≡ Ok head) }
+    ensures malformed { IfErr result (λ fault. fault ≢ NoMemory → spec.variables_after name.now (map (λ w. w.now) words.now) ≡ Err fault) }
 {
-    if !is_name(name) {
-        return Err(LineFault::BadName);
+    let [word, rest @ ..] = words else {
+        return Err(LineFault::Word(3, Wanted::Variables));
+    };
+    let Some(variables) = natural_up_to(MOST_VARIABLES as u128, word) else {
+        return Err(LineFault::Word(3, Wanted::Variables));
+    };
+    rows_after(alloc, name, variables as u32, rest)
+}
+
+// The head of this name and so many variables, whose rows these words give.
+fn rows_after(
+    alloc: Global,
+    name: &[u8],
+    variables: u32,
+    words: &[&[u8]],
+) -> Result<Head, LineFault>
+    ensures head { IfOk result (λ head. spec.rows_after name.now variables (map (λ w. w.now) words.now) ≡ Ok head) }
+    ensures malformed { IfErr result (λ fault. fault ≢ NoMemory → spec.rows_after name.now variables (map (λ w. w.now) words.now) ≡ Err fault) }
+{
+    let [word, rest @ ..] = words else {
+        return Err(LineFault::Word(4, Wanted::Rows));
+    };
+    let Some(rows) = natural_up_to(u32::MAX as u128, word) else {
+        return Err(LineFault::Word(4, Wanted::Rows));
+    };
+    if !rest.is_empty() {
+        return Err(LineFault::Word(5, Wanted::End));
     }
-    let Some(variables) = natural_up_to(MOST_VARIABLES as u128, variables) else {
-        return Err(LineFault::BadVariables);
-    };
-    let Some(rows) = natural_up_to(u32::MAX as u128, rows) else {
-        return Err(LineFault::BadRows);
-    };
     Ok(Head {
         name: Name {
             bytes: name.to_vec(alloc)?,
         },
-        variables: variables as u32,
+        variables,
         rows: rows as u32,
     })
 }
 
 // The row that the words give: coefficients, `<=` and a bound.
 fn row_of(alloc: Global, words: &[&[u8]]) -> Result<Row, LineFault>
-    ensures row { IfOk result (λ row. spec.row_of (map (λ w. w.now) words.now) ≡ Ok row) }
-    ensures malformed { IfErr result (λ fault. fault ≢ NoMemory → spec.row_of (map (λ w. w.now) words.now) ≡ Err fault) }
+    ensures row { IfOk result (λ row. spec.row_from 1 (map (λ w. w.now) words.now) ≡ Ok row) }
+    ensures malformed { IfErr result (λ fault. fault ≢ NoMemory → spec.row_from 1 (map (λ w. w.now) words.now) ≡ Err fault) }
     ensures coefs { IfOk result (λ row. All (λ a. IsTrue (is_narrow a)) row.coefs) }
     ensures bound { IfOk result (λ row. IsTrue (is_narrow row.bound)) }
 {
     let mut coefs = Coefs::with_capacity(alloc, words.len())?;
     for (place, word) in words.iter().enumerate() {
+        let number = place as u64 + 1;
         if is_same(word, b"<=") {
-            let bound = bound_of(&words[place + 1..])?;
+            let bound = bound_of(number + 1, &words[place + 1..])?;
             return Ok(Row { coefs, bound });
         }
         let Some(coef) = entry_of(word) else {
-            return Err(LineFault::BadNumber);
+            return Err(LineFault::Word(number, Wanted::Coefficient));
         };
         coefs.push(coef)?;
     }
-    Err(LineFault::RowForm)
+    Err(LineFault::Word(words.len() as u64 + 1, Wanted::Coefficient))
 }
 
-// The bound that the words behind `<=` give.
-fn bound_of(words: &[&[u8]]) -> Result<i128, LineFault>
-    ensures bound { IfOk result (λ bound. spec.bound_of (map (λ w. w.now) words.now) ≡ Ok bound) }
-    ensures malformed { IfErr result (λ fault. spec.bound_of (map (λ w. w.now) words.now) ≡ Err fault) }
+// The bound that the words behind `<=` give, the first of which has this number.
+fn bound_of(number: u64, words: &[&[u8]]) -> Result<i128, LineFault>
+    requires { number + 1 < 2 ^ 64 }
+    ensures bound { IfOk result (λ bound. spec.bound_from number (map (λ w. w.now) words.now) ≡ Ok bound) }
+    ensures malformed { IfErr result (λ fault. spec.bound_from number (map (λ w. w.now) words.now) ≡ Err fault) }
     ensures narrow { IfOk result (λ bound. IsTrue (is_narrow bound)) }
 {
-    let [word] = words else {
-        return Err(LineFault::RowForm);
+    let [word, rest @ ..] = words else {
+        return Err(LineFault::Word(number, Wanted::Bound));
     };
-    entry_of(word).ok_or(LineFault::BadNumber)
+    let Some(bound) = entry_of(word) else {
+        return Err(LineFault::Word(number, Wanted::Bound));
+    };
+    if !rest.is_empty() {
+        return Err(LineFault::Word(number + 1, Wanted::End));
+    }
+    Ok(bound)
 }

@@ -1,7 +1,9 @@
 // The run over the lines of standard input.
 
-ghost use Rattle.std.specs.Prelude.{◌≡◌, ◌≢◌, ◌⊎◌};
+ghost use Rattle.std.specs.Prelude.{◌≡◌, ◌≢◌, ◌⊎◌, IfErr};
 ghost use Rattle.farkas_cert.specs.declared.certificate.CertRefusal.TheVariants as refusals;
+ghost use Rattle.farkas_cert.specs.declared.certificate.CertRefusal.{CertRefusal};
+ghost use Rattle.elim_bench.specs.declared.ending.Ending.TheVariants as endings;
 ghost use Rattle.elim_bench.specs.declared.line.LineFault.TheVariants as faults;
 ghost use Rattle.elim_bench.specs.declared.run.Stop.TheVariants as stops;
 
@@ -75,7 +77,10 @@ impl From<CertRefusal> for Stop {
 }
 
 /// Reads standard input to its end, and decides each system as soon as its rows are there.
-pub fn run(rt: &HostRuntime, times: bool) -> Ending {
+pub fn run(rt: &HostRuntime, times: bool) -> Ending
+    ensures words { result ≢ endings.BadWords }
+    ensures certificates { result ≢ endings.BadCertificate }
+{
     let mut number = 0;
     match decide_all(rt, times, &mut number) {
         Ok(()) => Ending::Done,
@@ -89,7 +94,10 @@ pub fn run(rt: &HostRuntime, times: bool) -> Ending {
     }
 }
 
-fn told(written: io::Result<()>, ending: Ending) -> Ending {
+// How a run ends whose last line was written or not.
+fn told(written: io::Result<()>, ending: Ending) -> Ending
+    ensures { (result ≡ ending) ⊎ (result ≡ endings.Fault) }
+{
     match written {
         Ok(()) => ending,
         Err(_) => Ending::Fault,
@@ -97,7 +105,9 @@ fn told(written: io::Result<()>, ending: Ending) -> Ending {
 }
 
 // Counts the lines in `number`, which is that of the line at fault, if there is one.
-fn decide_all(rt: &HostRuntime, times: bool, number: &mut u64) -> Result<(), Stop> {
+fn decide_all(rt: &HostRuntime, times: bool, number: &mut u64) -> Result<(), Stop>
+    ensures { IfErr result (λ stop. (refusal : CertRefusal) → stop ≢ stops.Certificate refusal) }
+{
     let alloc = rt.alloc();
     let mut input = BufReader::new(alloc, rt.reader())?;
     let mut bytes = Vec::new(alloc);
@@ -119,12 +129,14 @@ fn decide_all(rt: &HostRuntime, times: bool, number: &mut u64) -> Result<(), Sto
     }
     match open {
         None => Ok(()),
-        Some(_) => Err(Stop::Line(LineFault::MissingRows)),
+        Some(task) => Err(Stop::Line(LineFault::MissingRows(task.missing))),
     }
 }
 
 // Decides a system and writes its line.
-fn finish(rt: &HostRuntime, times: bool, task: &Task) -> Result<(), Stop> {
+fn finish(rt: &HostRuntime, times: bool, task: &Task) -> Result<(), Stop>
+    ensures { IfErr result (λ stop. (refusal : CertRefusal) → stop ≢ stops.Certificate refusal) }
+{
     let alloc = rt.alloc();
     let system = task.system.as_system();
     let begun = Instant::now(rt)?;

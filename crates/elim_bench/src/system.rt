@@ -70,7 +70,7 @@ pub fn open_behind(
     match (line, pending) {
         (Line::Nothing, pending) => Ok(pending),
         (Line::Head(head), None) => Ok(Some(Task::new(alloc, head))),
-        (Line::Head(_), Some(_)) => Err(LineFault::MissingRows),
+        (Line::Head(_), Some(task)) => Err(LineFault::MissingRows(task.missing)),
         (Line::Row(row), Some(task)) => with_row(task, row),
         (Line::Row(_), None) => Err(LineFault::NoSystem),
     }
@@ -82,8 +82,10 @@ fn with_row(mut task: Task, row: Row) -> Result<Option<Task>, LineFault>
     ensures task { IfOk result (λ next. spec.open_behind (Some task) (lines.Row row) ≡ Ok next) }
     ensures misplaced { IfErr result (λ fault. fault ≢ NoMemory → spec.open_behind (Some task) (lines.Row row) ≡ Err fault) }
 {
-    if row.coefs.as_slice().len() != task.system.as_system().vars() as usize {
-        return Err(LineFault::WrongCount);
+    let count = row.coefs.as_slice().len();
+    let variables = task.system.as_system().vars();
+    if count != variables as usize {
+        return Err(LineFault::WrongCount(count as u64, variables));
     }
     task.add(row)?;
     Ok(Some(task))

@@ -1,6 +1,6 @@
 // Lines, one after the other, and what is refused.
 
-use crate::line::{Head, Line, LineFault, read_line};
+use crate::line::{Head, Line, LineFault, Wanted, read_line};
 use crate::system::{Task, open_behind};
 use crate::verdict::{answer_line, decided};
 use std::alloc::Global;
@@ -65,27 +65,30 @@ fn a_system_is_decided(rt: HostRuntime) -> Result<(), Fail> {
 #[test]
 fn heads_are_refused(rt: HostRuntime) {
     let alloc = rt.alloc();
-    assert_eq!(rt; fault(alloc, &["system a 1"]), Some(LineFault::HeadForm));
-    assert_eq!(rt;
-        fault(alloc, &["system a 1 1 1"]),
-        Some(LineFault::HeadForm)
-    );
-    assert_eq!(rt;
-        fault(alloc, &["system \u{e9} 1 1"]),
-        Some(LineFault::BadName)
-    );
     assert_eq!(rt; fault(alloc, &["system a 1000 0"]), None);
     assert_eq!(rt;
+        fault(alloc, &["system \u{e9} 1 1"]),
+        Some(LineFault::Word(2, Wanted::Name))
+    );
+    assert_eq!(rt;
         fault(alloc, &["system a 1001 0"]),
-        Some(LineFault::BadVariables)
+        Some(LineFault::Word(3, Wanted::Variables))
+    );
+    assert_eq!(rt;
+        fault(alloc, &["system a 1"]),
+        Some(LineFault::Word(4, Wanted::Rows))
     );
     assert_eq!(rt;
         fault(alloc, &["system a 1 4294967296"]),
-        Some(LineFault::BadRows)
+        Some(LineFault::Word(4, Wanted::Rows))
+    );
+    assert_eq!(rt;
+        fault(alloc, &["system a 1 1 1"]),
+        Some(LineFault::Word(5, Wanted::End))
     );
     assert_eq!(rt;
         fault(alloc, &["system a 1 1", "system b 1 1"]),
-        Some(LineFault::MissingRows)
+        Some(LineFault::MissingRows(1))
     );
 }
 
@@ -94,23 +97,40 @@ fn rows_are_refused(rt: HostRuntime) {
     let alloc = rt.alloc();
     let head = "system a 2 1";
     assert_eq!(rt; fault(alloc, &[head, "1 2 <= 3"]), None);
-    assert_eq!(rt; fault(alloc, &[head, "1 2 3"]), Some(LineFault::RowForm));
-    assert_eq!(rt; fault(alloc, &[head, "1 2 <="]), Some(LineFault::RowForm));
     assert_eq!(rt;
-        fault(alloc, &[head, "1 2 <= 3 4"]),
-        Some(LineFault::RowForm)
+        fault(alloc, &[head, "1 2 3"]),
+        Some(LineFault::Word(4, Wanted::Coefficient))
     );
     assert_eq!(rt;
         fault(alloc, &[head, "1 +2 <= 3"]),
-        Some(LineFault::BadNumber)
+        Some(LineFault::Word(2, Wanted::Coefficient))
+    );
+    assert_eq!(rt;
+        fault(alloc, &[head, "1 2 <="]),
+        Some(LineFault::Word(4, Wanted::Bound))
     );
     assert_eq!(rt;
         fault(alloc, &[head, "1 2 <= -"]),
-        Some(LineFault::BadNumber)
+        Some(LineFault::Word(4, Wanted::Bound))
+    );
+    assert_eq!(rt;
+        fault(alloc, &[head, "1 2 <= 3 4"]),
+        Some(LineFault::Word(5, Wanted::End))
     );
     assert_eq!(rt;
         fault(alloc, &[head, "1 <= 3"]),
-        Some(LineFault::WrongCount)
+        Some(LineFault::WrongCount(1, 2))
     );
     assert_eq!(rt; fault(alloc, &["1 2 <= 3"]), Some(LineFault::NoSystem));
+}
+
+#[test]
+fn a_refusal_names_the_word_and_what_is_wanted(rt: HostRuntime) -> Result<(), Fail> {
+    let alloc = rt.alloc();
+    let fault = fault(alloc, &["system a 2 1", "1 x <= 3"]).ok_or("no fault")?;
+    assert_eq!(rt;
+        format!(in alloc; "{fault}")?.as_str(),
+        "word 2: wanted is a coefficient, a whole number of at most 2 ^ 126 in size, or <="
+    );
+    Ok(())
 }

@@ -8,7 +8,7 @@ use Rattle.farkas_cert.specs.declared.system.Row.{Row}
 use Rattle.farkas_cert.specs.declared.certificate.Step.{Step}
 use Rattle.farkas_cert.specs.Combination.{no_row, row_at, entry_at, products_at, total, sum_at, made_row, stays_narrow}
 use Rattle.farkas_cert.specs.Good.{IsGoodStep, AreGoodSteps, rows_after}
-use Rattle.fm_elim.specs.Lean.{Names, renumbered}
+use Rattle.fm_elim.specs.Lean.{Names, renamed, renumbered}
 use Rattle.fm_elim.proofs.Steps.{IsGoodStep-append, made_row-append, map-agree}
 
 -- the first steps are good too
@@ -53,35 +53,38 @@ step_at vars rows (s ∷ steps) (suc k) d good h =
     }
 
 -- the terms' rows by their new numbers
-pub record AreSame (old new : List Row) (numbers : List ℕ) (number : ℕ) : Type 0 where
-  pub low : 1 ≤ slice_index numbers (number - 1)
-  pub high : slice_index numbers (number - 1) ≤ length new
-  pub row : row_at new (slice_index numbers (number - 1)) ≡ row_at old number
+pub record AreSameBy (old new : List Row) (f : ℕ → ℕ) (number : ℕ) : Type 0 where
+  pub low : 1 ≤ f number
+  pub high : f number ≤ length new
+  pub row : row_at new (f number) ≡ row_at old number
 
-products-renumbered : (vars : ℕ) (old new : List Row) (numbers : List ℕ) (terms : List (ℕ × ℤ)) (k : ℕ) → All (λ t. AreSame old new numbers t.0) terms → products_at vars new (map (λ t. (slice_index numbers (t.0 - 1), t.1)) terms) k ≡ products_at vars old terms k
-products-renumbered vars old new numbers [] k same = refl
-products-renumbered vars old new numbers (t ∷ terms) k same =
-    let first = All-head (λ u. AreSame old new numbers u.0) t terms same in
-    let rest = products-renumbered vars old new numbers terms k (All-tail (λ u. AreSame old new numbers u.0) t terms same) in
-    ap (λ r. (t.1 *ℤ entry_at vars r k) ∷ products_at vars new (map (λ u. (slice_index numbers (u.0 - 1), u.1)) terms) k) first.row ∙ ap (λ ps. (t.1 *ℤ entry_at vars (row_at old t.0) k) ∷ ps) rest
+abbrev pub AreSame : List Row → List Row → List ℕ → ℕ → Type 0
+AreSame old new numbers number = AreSameBy old new (λ n. slice_index numbers (n - 1)) number
 
-module _ (vars : ℕ) (old new : List Row) (numbers : List ℕ) (step : Step) (same : All (λ t. AreSame old new numbers t.0) step.terms) (good : IsGoodStep vars old step) where
-  products-same : (k : ℕ) → products_at vars new (renumbered numbers step).terms k ≡ products_at vars old step.terms k
-  products-same k = products-renumbered vars old new numbers step.terms k same
+products-renumbered : (vars : ℕ) (old new : List Row) (f : ℕ → ℕ) (terms : List (ℕ × ℤ)) (k : ℕ) → All (λ t. AreSameBy old new f t.0) terms → products_at vars new (map (λ t. (f t.0, t.1)) terms) k ≡ products_at vars old terms k
+products-renumbered vars old new f [] k same = refl
+products-renumbered vars old new f (t ∷ terms) k same =
+    let first = All-head (λ u. AreSameBy old new f u.0) t terms same in
+    let rest = products-renumbered vars old new f terms k (All-tail (λ u. AreSameBy old new f u.0) t terms same) in
+    ap (λ r. (t.1 *ℤ entry_at vars r k) ∷ products_at vars new (map (λ u. (f u.0, u.1)) terms) k) first.row ∙ ap (λ ps. (t.1 *ℤ entry_at vars (row_at old t.0) k) ∷ ps) rest
 
-  pub IsGoodStep-renumbered : IsGoodStep vars new (renumbered numbers step)
-  IsGoodStep-renumbered = record {
-    multipliers = All-map (λ t. pos 0 ≤ℤ t.1) (λ (t : ℕ × ℤ). (slice_index numbers (t.0 - 1), t.1)) step.terms good.multipliers;
-    named = All-map (λ t. (1 ≤ t.0) × (t.0 ≤ length new)) (λ (t : ℕ × ℤ). (slice_index numbers (t.0 - 1), t.1)) step.terms (λ k d h. let at = same k d h in (at.low, at.high));
+module _ (vars : ℕ) (old new : List Row) (f : ℕ → ℕ) (step : Step) (same : All (λ t. AreSameBy old new f t.0) step.terms) (good : IsGoodStep vars old step) where
+  products-same : (k : ℕ) → products_at vars new (renamed f step).terms k ≡ products_at vars old step.terms k
+  products-same k = products-renumbered vars old new f step.terms k same
+
+  pub IsGoodStep-renamed : IsGoodStep vars new (renamed f step)
+  IsGoodStep-renamed = record {
+    multipliers = All-map (λ t. pos 0 ≤ℤ t.1) (λ (t : ℕ × ℤ). (f t.0, t.1)) step.terms good.multipliers;
+    named = All-map (λ t. (1 ≤ t.0) × (t.0 ≤ length new)) (λ (t : ℕ × ℤ). (f t.0, t.1)) step.terms (λ k d h. let at = same k d h in (at.low, at.high));
     narrow = λ k h. subst (λ ps. IsTrue (stays_narrow (pos 0) ps)) (sym (products-same k)) (good.narrow k h);
     divisor = good.divisor;
     divides = λ k h. ap (λ ps. int_rem (total ps) step.divisor) (products-same k) ∙ good.divides k h;
   }
 
-  pub made_row-renumbered : made_row vars new (renumbered numbers step) ≡ made_row vars old step
-  made_row-renumbered =
-      let sums : (k : ℕ) → sum_at vars new (renumbered numbers step).terms k ≡ sum_at vars old step.terms k = λ k. ap total (products-same k) in
-      ap (λ xs. record { coefs = xs; bound = int_div_euclid (sum_at vars new (renumbered numbers step).terms vars) step.divisor }) (map-agree (λ k. int_div (sum_at vars new (renumbered numbers step).terms k) step.divisor) (λ k. int_div (sum_at vars old step.terms k) step.divisor) (range_with_len 0 vars) (λ k. ap (λ z. int_div z step.divisor) (sums k)))
+  pub made_row-renamed : made_row vars new (renamed f step) ≡ made_row vars old step
+  made_row-renamed =
+      let sums : (k : ℕ) → sum_at vars new (renamed f step).terms k ≡ sum_at vars old step.terms k = λ k. ap total (products-same k) in
+      ap (λ xs. record { coefs = xs; bound = int_div_euclid (sum_at vars new (renamed f step).terms vars) step.divisor }) (map-agree (λ k. int_div (sum_at vars new (renamed f step).terms k) step.divisor) (λ k. int_div (sum_at vars old step.terms k) step.divisor) (range_with_len 0 vars) (λ k. ap (λ z. int_div z step.divisor) (sums k)))
       ∙ ap (λ z. record { coefs = map (λ k. int_div (sum_at vars old step.terms k) step.divisor) (range_with_len 0 vars); bound = int_div_euclid z step.divisor }) (sums vars)
 
 -- a named row is named by its new number

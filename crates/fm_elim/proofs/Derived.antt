@@ -7,7 +7,7 @@ use Rattle.farkas_cert.specs.declared.system.Row.{Row}
 use Rattle.farkas_cert.specs.Inequalities.{Inequalities, AreFull}
 use Rattle.fm_elim.specs.Reduction.{IsReduced}
 use Rattle.fm_elim.specs.Pairs.{coef_of}
-use Rattle.fm_elim.specs.Levels.{IsEmpty, IsLevelRow, IsRaw, IsDerived}
+use Rattle.fm_elim.specs.Levels.{IsEmpty, IsRaw, IsDerived}
 use Rattle.fm_elim.specs.Reached.{IsExact}
 use Rattle.fm_elim.proofs.Combined.{by_lt}
 use Rattle.fm_elim.proofs.Steps.{length-combined}

@@ -1,5 +1,5 @@
 -- Each level is a finite list of rows, and covers the raw rows that it is formed from.
-use Rattle.std.proofs.Common.{◌≡◌, ℕ, zero, suc, ℤ, pos, ◌≤ℤ◌, ◌<ℤ◌, ◌<◌, ◌⊎◌, ⊎_elim, inl, inr, slice_index, List, [], ◌∷◌, length, get_or, refl, ap, sym, ◌∙◌, subst, arith}
+use Rattle.std.proofs.Common.{◌≡◌, ℕ, zero, suc, ℤ, pos, ◌≤ℤ◌, ◌<◌, ◌⊎◌, ⊎_elim, inl, inr, slice_index, List, [], ◌∷◌, length, get_or, refl, ap, sym, ◌∙◌, subst, arith}
 use Rattle.std.specs.List.{All, Contains}
 use Rattle.std.specs.Ordering.{int_eq}
 use Rattle.std.proofs.lemmas.Int.{ints, by_lt_z}
@@ -11,12 +11,11 @@ use Rattle.farkas_cert.specs.Inequalities.{Inequalities}
 use Rattle.fm_elim.specs.Reduction.{IsReduced}
 use Rattle.fm_elim.specs.Pairs.{coef_of}
 use Rattle.fm_elim.specs.Levels.{IsEmpty, IsLevelRow, IsRaw, IsDerived}
-use Rattle.fm_elim.specs.Forming.{Covers}
 use Rattle.fm_elim.specs.Gathering.{IsUseful}
 use Rattle.fm_elim.specs.Reached.{IsExact}
 use Rattle.fm_elim.proofs.Exactness.{IsReduced-unique, row_same, raw_of_other}
 use Rattle.fm_elim.proofs.Back.{IsComplete}
-use Rattle.fm_elim.proofs.Least.{IsListed, Listed, listed_one, listed_each, listed_alone, listed_raws, reduction_exists, kept_exists}
+use Rattle.fm_elim.proofs.Least.{Listed, listed_one, listed_each, listed_alone, listed_raws, reduction_exists, kept_exists}
 
 -- a row has coefficients or not
 empty_or_not : (coefs : List ℤ) → All (λ a. a ≡ pos 0) coefs ⊎ (All (λ a. a ≡ pos 0) coefs → ⊥)

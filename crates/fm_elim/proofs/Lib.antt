@@ -27,3 +27,7 @@ pub mod Putting
 pub mod AtMost
 pub mod Finite
 pub mod Derived
+pub mod Further
+pub mod Moving
+pub mod Joining
+pub mod Extending

@@ -1,7 +1,7 @@
 -- What a level that elimination has reached is known to be, and what its answers rest on.
 use Rattle.std.proofs.Common.{◌≡◌, ℕ, suc, ◌+◌, ◌-◌, ◌≤◌, ◌<◌, max, ℤ, pos, ◌<ℤ◌, List, length, get_or, slice_index, sym, ◌∙◌, subst, arith}
 use Rattle.std.specs.List.{All, Contains, range_with_len}
-use Rattle.std.proofs.lemmas.List.{get_or_default, get_or-map, length-map}
+use Rattle.std.proofs.lemmas.List.{get_or_default, length-map}
 use Rattle.std.proofs.lemmas.List.FromFn.{length-range_with_len, get_or-range_with_len}
 use Rattle.std.proofs.lemmas.List.Elements.{All-contains, All-map, All-weaker, Contains-get_or}
 use Rattle.std.proofs.lemmas.List.Sorted.{Contains-permutation, length_permutation, IsPermutation-sym}
@@ -10,7 +10,7 @@ use Rattle.farkas_cert.specs.Inequalities.{Inequalities, AreFull}
 use Rattle.fm_elim.specs.declared.derivation.Derivation.{Derivation}
 use Rattle.fm_elim.specs.declared.level.Held.{Held}
 use Rattle.fm_elim.specs.declared.level.HeldRows.{HeldRows}
-use Rattle.fm_elim.specs.Pairs.{coef_of, IsPair, IsWide}
+use Rattle.fm_elim.specs.Pairs.{IsPair, IsWide}
 use Rattle.fm_elim.specs.Levels.{IsEmpty, IsLevelRow, IsRaw, IsDerived, IsClearTo, HasMoreThan}
 use Rattle.fm_elim.specs.Forming.{IsFormed}
 use Rattle.fm_elim.specs.Table.{IsTable}

@@ -15,7 +15,7 @@ use Rattle.fm_elim.specs.Lean.{Names, IsMarked, AreNeeded, IsLean, renumbered}
 use Rattle.fm_elim.proofs.Combined.{by_lt}
 use Rattle.fm_elim.proofs.Steps.{AreGoodSteps-push, rows_after-push, length-rows_after}
 use Rattle.fm_elim.proofs.Marks.{within_named}
-use Rattle.fm_elim.proofs.Copies.{rows_after-begins, IsStepAt, step_at, AreSame, IsGoodStep-renumbered, made_row-renumbered, Names-renumbered}
+use Rattle.fm_elim.proofs.Copies.{rows_after-begins, IsStepAt, step_at, AreSame, IsGoodStep-renamed, made_row-renamed, Names-renumbered}
 
 -- the step of this number of steps is that of a derivation, by new numbers
 pub record IsCopy (system : Inequalities) (log : List Derivation) (numbers : List ℕ) (steps : List Step) (place k : ℕ) : Type 0 where
@@ -136,8 +136,8 @@ module _ (system : Inequalities) (log : List Derivation) (needed : List Bool) (p
       let new = rows_after system.vars system.rows steps in
       let at = derivation_at system log place d good within in
       let same = terms_same d marked in
-      let good_step : IsGoodStep system.vars new step = subst (IsGoodStep system.vars new) (sym is) (IsGoodStep-renumbered system.vars old new numbers (step_of (get_or log place d)) same at.good) in
-      let made : made_row system.vars new step ≡ row_at old (length system.rows + place + 1) = ap (made_row system.vars new) is ∙ made_row-renumbered system.vars old new numbers (step_of (get_or log place d)) same at.good ∙ sym at.makes in
+      let good_step : IsGoodStep system.vars new step = subst (IsGoodStep system.vars new) (sym is) (IsGoodStep-renamed system.vars old new (λ n. slice_index numbers (n - 1)) (step_of (get_or log place d)) same at.good) in
+      let made : made_row system.vars new step ≡ row_at old (length system.rows + place + 1) = ap (made_row system.vars new) is ∙ made_row-renamed system.vars old new (λ n. slice_index numbers (n - 1)) (step_of (get_or log place d)) same at.good ∙ sym at.makes in
       let new' : rows_after system.vars system.rows (steps ++ step ∷ []) ≡ new ++ made_row system.vars new step ∷ [] = rows_after-push system.vars system.rows steps step in
       let size : length new ≡ length system.rows + length steps = length-rows_after system.vars system.rows steps in
       let more : length (steps ++ step ∷ []) ≡ length steps + 1 = length_push steps step in

@@ -1,11 +1,13 @@
 -- A level as its callers see it, and what it comes to when its next variable is removed.
-use Rattle.std.specs.Prelude.{ℕ, ◌+◌, ◌-◌, ◌≤◌, List, length, ◌≡◌}
+use Rattle.std.specs.Prelude.{ℕ, ◌+◌, ◌-◌, ◌≤◌, ◌<◌, pos, List, ◌++◌, length, slice_index, ◌≡◌}
+use Rattle.std.specs.List.{All}
 use Rattle.farkas_cert.specs.declared.system.Row.{Row}
 use Rattle.farkas_cert.specs.Inequalities.{Inequalities}
 use Rattle.fm_elim.specs.declared.elimination.Level.{Level}
 use Rattle.fm_elim.specs.declared.elimination.Advance.{Advance}
 use Rattle.fm_elim.specs.declared.elimination.Advance.TheVariants as advances
 use Rattle.fm_elim.specs.declared.answer.Answer.{Answer}
+use Rattle.fm_elim.specs.Pairs.{coef_of}
 use Rattle.fm_elim.specs.Lean.{IsLean}
 use Rattle.fm_elim.specs.Levels.{IsDerived}
 use Rattle.fm_elim.specs.Logs.{rows_of}
@@ -33,6 +35,19 @@ pub record IsLevel (level : Level) : Type 0 where
   pub order : NamesEachOnce (system_of level).vars (order_of level)
   pub gone : gone_of level ≤ length (order_of level)
   pub reached : IsReached (system_of level) (order_of level) (gone_of level) level.most level.log.items level.rows
+
+-- no level of this elimination from 1 on has had more rows
+abbrev pub most_of : Level → ℕ
+most_of level = level.most
+
+-- the system has further rows behind those of the level's system, all without the variables that are gone, and the order begins with these; the levels stay within 20,000 rows
+pub record IsExtension (level : Level) (whole : Inequalities) (order : List ℕ) : Type 0 where
+  pub further : List Row
+  pub vars : whole.vars ≡ (system_of level).vars
+  pub rows : whole.rows ≡ (system_of level).rows ++ further
+  pub begins : (j : ℕ) → j < gone_of level → slice_index (order_of level) j ≡ slice_index order j
+  pub without : (j : ℕ) → j < gone_of level → All (λ r. coef_of (slice_index order j) r ≡ pos 0) further
+  pub few : most_of level + length further ≤ 20000
 
 -- one variable more is gone
 pub record IsNextOf (old new : Level) : Type 0 where

@@ -108,8 +108,12 @@ IsSound raws c = IsUseful c.row × ((raw : Row) × raws raw × IsReduced raw c.r
 abbrev pub IsCovered : List Candidate → Row → Type 0
 IsCovered candidates raw = (row : Row) × IsReduced raw row × Covers (rows_among candidates) row
 
--- the candidates come of these rows of the system, and cover them
-pub record AreGiven (system : Inequalities) (rows : List Row) (candidates : List Candidate) : Type 0 where
-  pub sound : All (IsSound (Contains system.rows)) candidates
-  pub founded : All (IsFounded system []) candidates
+-- the candidates come of raw rows, and cover these of them
+pub record AreTaken (system : Inequalities) (log : List Derivation) (raws : Row → Type 0) (rows : List Row) (candidates : List Candidate) : Type 0 where
+  pub sound : All (IsSound raws) candidates
+  pub founded : All (IsFounded system log) candidates
   pub covered : All (IsCovered candidates) rows
+
+-- the candidates come of the system's rows, and cover these of them
+abbrev pub AreGiven : Inequalities → List Row → List Candidate → Type 0
+AreGiven system rows candidates = AreTaken system [] (Contains system.rows) rows candidates

@@ -32,6 +32,10 @@ pub record AreNeeded (given : ℕ) (log : List Derivation) (low : ℕ) (marks : 
   pub named : (k : ℕ) (d : Derivation) → low ≤ k → k < length log → IsMarked marks (given + k + 1) → All (λ t. IsMarked marks t.0) (step_of (slice_index_or log k d)).terms
   pub only : (k : ℕ) (d : Derivation) → k + 1 < length log → IsMarked marks (given + k + 1) → (later : ℕ) × (k < later) × (low ≤ later) × (later < length log) × IsMarked marks (given + later + 1) × Names (step_of (slice_index_or log later d)) (given + k + 1)
 
+-- the step with a new number for each row
+abbrev pub renamed : (ℕ → ℕ) → Step → Step
+renamed f step = record { divisor = step.divisor; terms = map (λ t. (f t.0, t.1)) step.terms }
+
 -- the step by new numbers of the rows
 abbrev pub renumbered : List ℕ → Step → Step
-renumbered numbers step = record { divisor = step.divisor; terms = map (λ t. (slice_index numbers (t.0 - 1), t.1)) step.terms }
+renumbered numbers step = renamed (λ n. slice_index numbers (n - 1)) step

@@ -6,6 +6,7 @@ pub mod Logs
 pub mod Gathering
 pub mod Next
 pub mod Answers
+pub mod Moved
 pub mod Reached
 pub mod Advances
 pub mod Lean

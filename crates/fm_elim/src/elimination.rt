@@ -1,14 +1,15 @@
 // Elimination, level by level.
 
-ghost use Rattle.std.specs.Prelude.{◌≡◌, ◌-◌, IfOk};
+ghost use Rattle.std.specs.Prelude.{◌≡◌, ◌+◌, ◌-◌, nat_le, IfOk};
 ghost use Rattle.farkas_cert.specs.Narrow.{AreNarrow};
 ghost use Rattle.fm_elim.specs.Levels.{IsDerived};
 ghost use Rattle.fm_elim.specs.Lean.{IsLean};
 ghost use Rattle.fm_elim.specs.Answers.{NamesEachOnce, IsDecided, IfInfeasible, IfWide, IfMany, IsFreeOfClashes};
-ghost use Rattle.fm_elim.specs.Advances.{IsLevel, IsAdvance, system_of, order_of, gone_of};
+ghost use Rattle.fm_elim.specs.Advances.{IsLevel, IsExtension, IsAdvance, system_of, order_of, gone_of, most_of};
 
 use crate::answer::{Answer, NoMemory};
 use crate::derivation::Derivation;
+use crate::extension::{extended_rows, moved_log};
 use crate::level::{Formed, HeldRows, MOST_ROWS, first_level, next_level};
 use crate::refutation::refutation;
 use farkas_cert::System;
@@ -57,6 +58,51 @@ impl<'a> Level<'a> {
             order,
             gone: 0,
             most: 0,
+            rows,
+            log,
+        })
+    }
+
+    /// Whether the level takes so many further rows: no level from 1 on may have more than 20,000.
+    pub fn has_room_for(&self, rows: usize) -> bool
+        ensures { result ≡ nat_le (most_of self.now + rows) 20000 }
+    {
+        match self.most.checked_add(rows) {
+            Some(count) => count <= MOST_ROWS,
+            None => false,
+        }
+    }
+
+    /// The level of this number of a system with further rows behind those of the level's system.
+    ///
+    /// The system has as many variables, its further rows are without those that are gone, and its order
+    /// begins with these; `has_room_for` its further rows. Its coefficients and bounds are at most
+    /// 2 ^ 126 in size. The level itself stays, and can be extended again. An error says that memory
+    /// ran out.
+    pub fn extend<'b>(
+        &self,
+        alloc: Global,
+        whole: &'b System,
+        order: &'b [u32],
+    ) -> Result<Level<'b>, NoMemory>
+        requires level { IsLevel self.now }
+        requires extension { IsExtension self.now whole.now order.now }
+        requires order { NamesEachOnce whole.now.vars order.now }
+        requires narrow { AreNarrow whole.now.rows }
+        ensures level { IfOk result (λ level. IsLevel level) }
+        ensures system { IfOk result (λ level. system_of level ≡ whole.now) }
+        ensures order { IfOk result (λ level. order_of level ≡ order.now) }
+        ensures gone { IfOk result (λ level. gone_of level ≡ gone_of self.now) }
+    {
+        let given = self.system.rows().len();
+        let further = whole.rows().len() - given;
+        let mut log = moved_log(alloc, given as u64, further as u64, self.log.as_slice())?;
+        let rows = extended_rows(alloc, whole, &self.rows, given, &mut log)?;
+        Ok(Level {
+            system: whole,
+            order,
+            gone: self.gone,
+            most: self.most + further,
             rows,
             log,
         })

@@ -109,8 +109,9 @@ fn given_origin(number: u64, divisor: i128) -> Origin
     })
 }
 
-// Puts a given row, with its number, among the others. Its coefficients are at most 2 ^ 126 in size.
-fn put_given(
+/// Puts a given row, with its number, among the others. Its coefficients are at most 2 ^ 126 in size. An
+/// error says that memory ran out.
+pub fn put_given(
     alloc: Global,
     table: &mut Table,
     coefs: &mut Vec<i128>,
@@ -156,8 +157,8 @@ fn number_of(
     }
 }
 
-// The rows of the candidates, each with its number.
-fn numbered(
+/// The rows of the candidates, each with its number. An error says that memory ran out.
+pub fn numbered(
     alloc: Global,
     system: &System,
     candidates: Vec<Candidate>,

@@ -9,6 +9,7 @@
 //!
 //! - `answer`: the answers.
 //! - `elimination`: levels, and the decision over them.
+//! - `extension`: a level with further rows.
 //! - `refutation`: contradictions, and rows that clash.
 //! - `level`, with `forming` and `pairs`: level 0, and each level from the one before it.
 //! - `table` and `chains`: rows that are found by a hash of their coefficients.
@@ -23,6 +24,7 @@ mod chains;
 mod combination;
 mod derivation;
 mod elimination;
+mod extension;
 mod forming;
 mod level;
 mod pairs;

@@ -1,4 +1,4 @@
-use Rattle.std.proofs.Common.{◌≡◌, drop, map, IsTrue}
+use Rattle.std.proofs.Common.{◌≡◌, ◌+◌, drop, map, IsTrue}
 use Rattle.std.specs.List.{All}
 use Rattle.farkas_cert.specs.Combination.{is_narrow}
 use Rattle.elim_bench.specs.Lines as spec
@@ -8,6 +8,6 @@ use Rattle.elim_bench.proofs.line.row_of.Given as goal
 -- the row is that of the words left, behind the coefficients so far
 abbrev pub invariant-loop-place : goal.invariant-loop-place
 invariant-loop-place l = record {
-  row : spec.row_of (map (λ w. w.now) l.words) ≡ with_coefs l.coefs (spec.row_of (map (λ w. w.now) (drop l.place l.words)));
+  row : spec.row_from 1 (map (λ w. w.now) l.words) ≡ with_coefs l.coefs (spec.row_from (l.place + 1) (map (λ w. w.now) (drop l.place l.words)));
   narrow : All (λ a. IsTrue (is_narrow a)) l.coefs;
 }

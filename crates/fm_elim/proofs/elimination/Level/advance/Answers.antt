@@ -1,4 +1,4 @@
-use Rattle.std.proofs.Common.{◌≡◌, ◌+◌, ◌<◌, IfNone, Fits, w32, length, get_or, subst, refl, sym, ◌∙◌, arith}
+use Rattle.std.proofs.Common.{◌≡◌, ◌+◌, ◌<◌, IfNone, Fits, w32, length, get_or, subst, refl, ◌∙◌, arith}
 use Rattle.std.specs.List.{All, Contains}
 use Rattle.fm_elim.specs.Levels.{IsEmpty}
 use Rattle.fm_elim.specs.Logs.{rows_of}
