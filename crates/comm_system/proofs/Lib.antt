@@ -32,3 +32,7 @@ pub mod Ordered
 pub mod Waiting
 pub mod SamePhase
 pub mod ObligationOrder
+mod Steps
+mod Heads
+mod Looks
+mod RowSteps

@@ -8,3 +8,12 @@ pub mod OwnerRows
 pub mod Obligations
 pub mod Meetings
 pub mod Rows
+pub mod Seen
+pub mod PhaseViews
+pub mod SlotViews
+pub mod SideViews
+pub mod SignatureViews
+pub mod RowViews
+pub mod OwnerViews
+pub mod Certain
+pub mod LoopsAt

@@ -1,9 +1,8 @@
 -- The obligations of a plan: two trips of a Doall loop, then slot by slot two instances of phases s and t at a level.
 use Rattle.std.specs.Prelude.{ℕ, suc, ◌+◌, ◌-◌, ℤ, pos, neg_ℤ, List, [], ◌∷◌, ◌++◌, length, map, Option, Some, None, slice_get, if◌then◌else◌}
-use Rattle.std.specs.List.{filter, flat_map, range_with_len}
+use Rattle.std.specs.List.{flat_map}
 use Rattle.farkas_cert.specs.Inequalities.{Inequalities}
-use Rattle.nest_tree.specs.Form.{Form}
-use Rattle.nest_tree.specs.Tree.{Head, Tree}
+use Rattle.nest_tree.specs.Tree.{Tree}
 use Rattle.nest_rows.specs.declared.constraint.Constraint.{Constraint}
 use Rattle.nest_rows.specs.Constraints.{system_of}
 use Rattle.owner_partition.specs.declared.anchor.Anchor.{Anchor}
@@ -12,7 +11,7 @@ use Rattle.sync_plan.specs.declared.plan.Kind.{Kind}
 use Rattle.sync_plan.specs.declared.plan.Plan.{Plan}
 use Rattle.sync_plan.specs.declared.plan.Version.{Version}
 use Rattle.sync_plan.specs.Fit.{is_dealt}
-use Rattle.comm_system.specs.Boundaries.{Boundary, Side, of_first, of_second, certain_boundaries}
+use Rattle.comm_system.specs.Boundaries.{Side, of_first, of_second, certain_boundaries}
 use Rattle.comm_system.specs.Levels.{common, levels, order_at, two_trips}
 use Rattle.comm_system.specs.OwnerRows.{Piece, Placed, distance, last_rows, owner_numbers, owners_have, owners_unknowns, pieces, below, above}
 use Rattle.comm_system.specs.PairRows.{behind_pair, first_of, pair_rows, second_of}

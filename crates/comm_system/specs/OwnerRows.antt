@@ -1,17 +1,15 @@
 -- The rows of the owners of two instances and of the producers between them, and where the owners lie.
 use Rattle.std.specs.Prelude.{ℕ, zero, suc, ◌+◌, ℤ, pos, negsuc, ◌-ℤ◌, neg_ℤ, List, [], ◌∷◌, ◌++◌, map}
 use Rattle.std.specs.List.{flat_map}
-use Rattle.nest_tree.specs.Form.{Form}
 use Rattle.nest_tree.specs.Tree.{Head}
 use Rattle.nest_rows.specs.declared.constraint.Constraint.{Constraint}
 use Rattle.nest_rows.specs.declared.constraint.Sign.{Sign}
 use Rattle.nest_rows.specs.declared.constraint.Sign.TheVariants.{Plus, Minus}
 use Rattle.nest_rows.specs.Places.{terms_of}
-use Rattle.nest_rows.specs.Signs.{flipped, with_sign}
+use Rattle.nest_rows.specs.Signs.{with_sign}
 use Rattle.owner_partition.specs.declared.anchor.Anchor.{Anchor}
 use Rattle.owner_partition.specs.declared.anchor.Dist.{Dist}
 use Rattle.owner_partition.specs.declared.anchor.Dist.TheVariants.{Block, Cyclic}
-use Rattle.comm_system.specs.Boundaries.{Side, of_first, of_second}
 use Rattle.comm_system.specs.PairRows.{apart}
 
 -- an anchor at the loops of an instance, whose first value has this number

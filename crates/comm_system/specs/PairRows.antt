@@ -1,5 +1,5 @@
 -- The rows of two instances that access one element: their loops and comparisons, their subscripts, and their order.
-use Rattle.std.specs.Prelude.{ℕ, zero, suc, ◌+◌, ◌*◌, ℤ, pos, negsuc, ◌-ℤ◌, ◌+ℤ◌, neg_ℤ, List, [], ◌∷◌, ◌++◌, length, map, if◌then◌else◌}
+use Rattle.std.specs.Prelude.{ℕ, zero, suc, ◌+◌, ◌*◌, ℤ, pos, negsuc, ◌-ℤ◌, neg_ℤ, List, [], ◌∷◌, ◌++◌, length, map, if◌then◌else◌}
 use Rattle.nest_tree.specs.Form.{Form}
 use Rattle.nest_tree.specs.Layout.{bounds_of}
 use Rattle.nest_tree.specs.Tree.{Head, Tree, param_values}

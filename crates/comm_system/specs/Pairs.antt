@@ -1,5 +1,5 @@
 -- Which two accesses conflict, and the pairs of two phases.
-use Rattle.std.specs.Prelude.{ℕ, ◌==◌, Bool, ◌&&◌, ◌||◌, List, map}
+use Rattle.std.specs.Prelude.{◌==◌, Bool, ◌&&◌, ◌||◌, List, map}
 use Rattle.std.specs.List.{filter, flat_map}
 use Rattle.comm_system.specs.References.{Reference, StaticPhase, references_of, variable_of}
 

@@ -1,7 +1,6 @@
 -- The static phases of a program with the Outer loops round them, and the accesses of each.
 use Rattle.std.specs.Prelude.{ℕ, Bool, true, false, List, [], ◌∷◌, ◌++◌, map, Option, if◌then◌else◌}
 use Rattle.std.specs.List.{flat_map}
-use Rattle.nest_tree.specs.declared.tree.Access.{Access}
 use Rattle.nest_tree.specs.declared.tree.Guard.{Guard}
 use Rattle.nest_tree.specs.Limits.{line_of_work}
 use Rattle.nest_tree.specs.Tree.{Head, Statement, Statements, do_loop, work, continue, done, next, Tree}

@@ -1,13 +1,12 @@
 -- Worked rows: the obligations of small programs and plans.
-use Rattle.std.specs.Prelude.{ℕ, ◌≡◌, ℤ, pos, negsuc, List, [], ◌∷◌, map, length, None, refl}
-use Rattle.farkas_cert.specs.Inequalities.{Inequalities}
+use Rattle.std.specs.Prelude.{ℕ, ◌≡◌, ℤ, pos, negsuc, List, [], ◌∷◌, map, None, refl}
 use Rattle.farkas_cert.specs.declared.system.Row.{Row}
 use Rattle.nest_tree.specs.declared.tree.Access.{Access}
 use Rattle.nest_tree.specs.declared.tree.Spread.TheVariants.{Block as Blocks}
 use Rattle.nest_tree.specs.Form.{Form}
-use Rattle.nest_tree.specs.Tree.{Statement, Statements, assign, do_loop, done, load, loop_value, next, number, print, value, work, Expression, Tree, Declaration}
+use Rattle.nest_tree.specs.Tree.{Statement, assign, do_loop, done, load, loop_value, next, print, value, work, Expression, Tree, Declaration}
 use Rattle.owner_partition.specs.declared.anchor.Anchor.{Anchor}
-use Rattle.owner_partition.specs.declared.anchor.Dist.TheVariants.{Block, Cyclic}
+use Rattle.owner_partition.specs.declared.anchor.Dist.TheVariants.{Block}
 use Rattle.owner_partition.specs.declared.cut.Mark.TheVariants.{Doall, Outer}
 use Rattle.sync_plan.specs.declared.plan.Conditions.TheVariants.{Values}
 use Rattle.sync_plan.specs.declared.plan.Kind.TheVariants.{Nothing, Barrier, Both}

@@ -1,5 +1,5 @@
 -- What the certain boundaries of a slot make of the plan's kinds.
-use Rattle.std.specs.Prelude.{ℕ, ◌+◌, ◌-◌, min, Bool, true, false, List, [], ◌∷◌, ◌++◌, drop, length, Option, Some, None, slice_get, if◌then◌else◌}
+use Rattle.std.specs.Prelude.{ℕ, ◌-◌, min, Bool, true, false, List, [], ◌∷◌, drop, length, Option, Some, None, slice_get, if◌then◌else◌}
 use Rattle.std.specs.List.{flat_map, list_any}
 use Rattle.std.specs.Prelude.{sum_by}
 use Rattle.owner_partition.specs.declared.anchor.Anchor.{Anchor}
@@ -42,7 +42,7 @@ right_waits Barrier = 0
 right_waits Join = 0
 
 -- the kind in front of a phase; Nothing where there is none
-abbrev or_nothing : Option Kind → Kind
+abbrev pub or_nothing : Option Kind → Kind
 or_nothing None = Nothing
 or_nothing (Some k) = k
 

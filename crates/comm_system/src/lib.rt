@@ -3,6 +3,8 @@
 //! solution the plan orders all accesses that conflict.
 //!
 //! - [`obligation`]: an obligation with what it speaks of.
+//! - [`phases`], [`phase`], [`reference`]: the static phases with their accesses.
+//! - [`slot`], [`signature`]: two phases at a level, and what they see of a plan's kinds.
 //! - [`laws`]: which slots a kind's change changes; what solves the systems, and that
 //!   where nothing does, the plan is ordered.
 //!
@@ -14,6 +16,14 @@
 
 pub mod laws;
 pub mod obligation;
+mod owner_rows;
+pub mod phase;
+pub mod phases;
+pub mod reference;
+mod references;
+mod rows;
+pub mod signature;
+pub mod slot;
 
 pub use laws::{
     meeting_owners_solve, meeting_trips_solve, obligations_order, slots_see_certain_boundaries,

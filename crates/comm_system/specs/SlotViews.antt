@@ -1,0 +1,7 @@
+-- Slots as plain data.
+use Rattle.comm_system.specs.Obligations.{Slot}
+use Rattle.comm_system.specs.PhaseViews.{phase_seen}
+use Rattle.comm_system.specs.declared.slot.Slot.{Slot as Held}
+
+abbrev pub slot_seen : Held → Slot
+slot_seen x = record { s = x.s; first = phase_seen x.first.now; t = x.t; second = phase_seen x.second.now; level = x.level }

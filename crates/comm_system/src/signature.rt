@@ -1,0 +1,190 @@
+// What a slot sees of a plan's kinds.
+
+ghost use Rattle.std.specs.Prelude.{◌≡◌, ◌+◌, ◌*◌, ◌++◌, ◌<◌, ◌≤◌, ◌^◌, List, IfOk, OnOk, length, map, slice_get};
+ghost use Rattle.std.specs.Option.{option_copied};
+ghost use Rattle.sync_plan.specs.declared.plan.Kind.{Kind as Kinds};
+ghost use Rattle.comm_system.specs.Boundaries.{Boundary};
+ghost use Rattle.comm_system.specs.Certain.{certain_on};
+ghost use Rattle.comm_system.specs.Signatures.{counted as counted_in, or_nothing, signature_of};
+ghost use Rattle.comm_system.specs.Obligations.{slot_signature as signature_under};
+ghost use Rattle.comm_system.specs.PhaseViews.{phase_seen};
+ghost use Rattle.comm_system.specs.SlotViews.{slot_seen};
+ghost use Rattle.comm_system.specs.SideViews.{side_seen};
+ghost use Rattle.comm_system.specs.SignatureViews.{Adds, HasSeen, LooksAt, signature_seen};
+
+use crate::phase::Phase;
+use crate::slot::Slot;
+use owner_partition::Anchor;
+use std::alloc::{AllocError, Global};
+use sync_plan::{Kind, Version};
+
+/// At the Outer values of which instance a boundary stands.
+#[derive(Clone, Copy, Debug, PartialEq, Eq)]
+pub enum Side {
+    First,
+    Second,
+}
+
+/// A producer that is waited for.
+#[derive(Clone, Copy)]
+pub struct Producer<'p> {
+    pub anchor: &'p Anchor,
+    pub side: Side,
+}
+
+/// What the certain boundaries of a slot make of the kinds in front of them.
+#[derive(Drop)]
+pub enum Signature<'p> {
+    /// A barrier stands between the instances.
+    Blocked,
+    /// Nobody but neighbours and producers is waited for.
+    Waits(Waits<'p>),
+}
+
+/// How often the neighbours to the left and to the right are waited for, and the last three
+/// producers.
+#[derive(Drop)]
+pub struct Waits<'p> {
+    pub left: u32,
+    pub right: u32,
+    pub producers: Vec<Producer<'p>>,
+}
+
+// What was seen of some boundaries.
+#[derive(Drop)]
+pub(crate) struct Seen<'p> {
+    barrier: bool,
+    left: u32,
+    right: u32,
+    producers: Vec<Producer<'p>>,
+}
+
+impl<'p> Seen<'p> {
+    // One boundary more.
+    fn count(&mut self, kind: Option<&'p Kind>, side: Side) -> Result<(), AllocError>
+        requires left { self.old.left < 2 ^ 31 }
+        requires right { self.old.right < 2 ^ 31 }
+        ensures adds { OnOk result (Adds (or_nothing (option_copied kind.entry)) side self.old self.new) }
+        ensures left { OnOk result (self.new.left ≤ self.old.left + 1) }
+        ensures right { OnOk result (self.new.right ≤ self.old.right + 1) }
+    {
+        match kind {
+            None | Some(Kind::Nothing) => {}
+            Some(Kind::Producer(anchor)) => self.producers.push(Producer { anchor, side })?,
+            Some(Kind::Left) => self.left += 1,
+            Some(Kind::Right) => self.right += 1,
+            Some(Kind::Both) => {
+                self.left += 1;
+                self.right += 1;
+            }
+            Some(Kind::Barrier | Kind::Join) => self.barrier = true,
+        }
+        Ok(())
+    }
+
+    // The certain boundaries of a slot on one side, behind those that were seen.
+    fn see(
+        &mut self,
+        kinds: &'p [Kind],
+        phases: &[Phase],
+        slot: &Slot,
+        side: Side,
+    ) -> Result<(), AllocError>
+        requires few { length phases.now < 2 ^ 20 }
+        requires left { self.old.left < 2 ^ 30 }
+        requires right { self.old.right < 2 ^ 30 }
+        ensures seen { (us : List Boundary) → HasSeen kinds.now us self.old → OnOk result (HasSeen kinds.now (us ++ certain_on (side_seen side) (slot_seen slot.now) (map phase_seen phases.now)) self.new) }
+        ensures left { OnOk result (self.new.left ≤ self.old.left + length phases.now) }
+        ensures right { OnOk result (self.new.right ≤ self.old.right + length phases.now) }
+    {
+        for (index, phase) in phases.iter().enumerate() {
+            let is_certain = slot.is_certain(side, index as u32 + 1, phase.outer.as_slice());
+            self.look(is_certain, kind_in_front(kinds, index), side)?;
+        }
+        Ok(())
+    }
+
+    // One boundary more, where it is certain.
+    fn look(
+        &mut self,
+        is_certain: bool,
+        kind: Option<&'p Kind>,
+        side: Side,
+    ) -> Result<(), AllocError>
+        requires left { self.old.left < 2 ^ 31 }
+        requires right { self.old.right < 2 ^ 31 }
+        ensures looks { OnOk result (LooksAt is_certain (or_nothing (option_copied kind.entry)) side self.old self.new) }
+        ensures left { OnOk result (self.new.left ≤ self.old.left + 1) }
+        ensures right { OnOk result (self.new.right ≤ self.old.right + 1) }
+    {
+        if is_certain {
+            self.count(kind, side)
+        } else {
+            Ok(())
+        }
+    }
+
+    // What is left of it in this version.
+    fn signature(self, alloc: Global, version: Version) -> Result<Signature<'p>, AllocError>
+        ensures { (kinds : List Kinds) (us : List Boundary) → HasSeen kinds us self.entry → IfOk result (λ g. signature_seen g ≡ signature_of version kinds us) }
+    {
+        let Seen {
+            barrier,
+            left,
+            right,
+            producers,
+        } = self;
+        if barrier {
+            return Ok(Signature::Blocked);
+        }
+        let begin = producers.len().saturating_sub(3);
+        Ok(Signature::Waits(Waits {
+            left: counted(version, left),
+            right: counted(version, right),
+            producers: Vec::from_slice(alloc, &producers[begin..])?,
+        }))
+    }
+}
+
+// The kind at this place, from 0.
+fn kind_in_front(kinds: &[Kind], place: usize) -> Option<&Kind>
+    ensures { option_copied result ≡ slice_get kinds.now place }
+{
+    if place < kinds.len() {
+        Some(&kinds[place])
+    } else {
+        None
+    }
+}
+
+// In version One neighbours don't add up.
+fn counted(version: Version, count: u32) -> u32
+    ensures { result ≡ counted_in version count }
+{
+    match version {
+        Version::One => count.min(1),
+        Version::Two | Version::Three => count,
+    }
+}
+
+/// The signature of a slot under these kinds.
+pub fn slot_signature<'p>(
+    alloc: Global,
+    version: Version,
+    kinds: &'p [Kind],
+    phases: &[Phase],
+    slot: &Slot,
+) -> Result<Signature<'p>, AllocError>
+    requires { length phases.now < 2 ^ 20 }
+    ensures { IfOk result (λ g. signature_seen g ≡ signature_under version kinds.now (map phase_seen phases.now) (slot_seen slot.now)) }
+{
+    let mut seen = Seen {
+        barrier: false,
+        left: 0,
+        right: 0,
+        producers: Vec::new(alloc),
+    };
+    seen.see(kinds, phases, slot, Side::First)?;
+    seen.see(kinds, phases, slot, Side::Second)?;
+    seen.signature(alloc, version)
+}
