@@ -1,0 +1,291 @@
+// The anchors of the static phases.
+
+ghost use Rattle.std.specs.Prelude.{◌≡◌, ◌≤◌, ◌<◌, ◌^◌, ◌-◌, IfOk, IfSome, IsTrue, Some, slice_get, length};
+ghost use Rattle.nest_tree.specs.Limits.{IsWithinLimits};
+ghost use Rattle.nest_tree.specs.View.{declaration_of, statement_of, statements_from, tree_of};
+ghost use Rattle.nest_tree.specs.WellFormed.{IsWellFormed, loops_of};
+ghost use Rattle.nest_walk.specs.Texts.{placed};
+ghost use Rattle.owner_partition.specs.Marks.{enters_outer};
+ghost use Rattle.owner_partition.specs.Placement.{phase_ends};
+ghost use Rattle.owner_partition.specs.StaticPhases.{loops_round};
+ghost use Rattle.sync_plan.specs.Fit.{has_print, have_print};
+ghost use Rattle.nest_tree.specs.Form.{is_given};
+ghost use Rattle.plan_maker.specs.Anchors.{along, along_axis, if_good, if_one_good, less, maker_anchors, phase_anchor, placed_anchor, span_of, stored_among, stored_anchor, value_of};
+ghost use Rattle.plan_maker.specs.Seats.{constants_at, found_anchor, good_element_anchor, good_own_anchor, loops_at};
+
+use crate::places::{dealt_as, extent, first_processor, in_blocks, item_at, less};
+use crate::seat::{Seat, own_loop};
+use nest_tree::{Access, Affine, Item, Pairs, Program, Spread, Variable};
+use owner_partition::{Anchor, Cut, Dist, StaticPhase, check_anchor};
+use std::alloc::{AllocError, Global};
+
+/// The anchors of a program's static phases under a cut, in text order, for so many workers.
+pub fn anchors_of(
+    alloc: Global,
+    program: &Program,
+    cut: &Cut,
+    workers: u32,
+) -> Result<Vec<Anchor>, AllocError>
+    requires formed { IsWellFormed (tree_of program.now) }
+    requires limits { IsWithinLimits (tree_of program.now) }
+    requires some { 1 ≤ workers }
+    ensures { IfOk result (λ anchors. anchors.items ≡ maker_anchors (tree_of program.now) cut.now workers) }
+{
+    let mut anchors = Vec::new(alloc);
+    for place in 0..StaticPhase::count(program, cut) {
+        let number = place + 1;
+        let Some(phase) = StaticPhase::at(program, cut, number) else {
+            return Ok(anchors);
+        };
+        anchors.push(phase_anchor(alloc, program, cut, workers, number, &phase)?)?;
+    }
+    Ok(anchors)
+}
+
+// The anchor of a static phase: the one with this number.
+fn phase_anchor(
+    alloc: Global,
+    program: &Program,
+    cut: &Cut,
+    workers: u32,
+    number: u32,
+    phase: &StaticPhase,
+) -> Result<Anchor, AllocError>
+    requires formed { IsWellFormed (tree_of program.now) }
+    requires limits { IsWithinLimits (tree_of program.now) }
+    requires some { 1 ≤ workers }
+    requires phase { slice_get (placed (tree_of program.now) (enters_outer cut.now)) (number - 1) ≡ Some (record { what = statement_of phase.now.item.now; around = loops_round phase.now }) }
+    ensures { IfOk result (λ a. a ≡ phase_anchor (tree_of program.now) cut.now workers number (record { what = statement_of phase.now.item.now; around = loops_round phase.now })) }
+{
+    if has_print(phase.item) {
+        return Ok(first_processor(alloc));
+    }
+    let seat = Seat {
+        program,
+        phase,
+        own: own_loop(cut.as_slice(), phase.item),
+        workers,
+    };
+    match found_anchor(alloc, seat, cut, number)? {
+        Some(anchor) => Ok(placed(program, cut, workers, number, anchor)),
+        None => Ok(first_processor(alloc)),
+    }
+}
+
+// The first good anchor of what a phase stores, and then of its own loop's value.
+fn found_anchor(
+    alloc: Global,
+    seat: Seat,
+    cut: &Cut,
+    number: u32,
+) -> Result<Option<Anchor>, AllocError>
+    requires formed { IsWellFormed (tree_of seat.program.now) }
+    requires limits { IsWithinLimits (tree_of seat.program.now) }
+    requires some { 1 ≤ seat.workers }
+    requires own { IfSome seat.own (λ n. (1 ≤ n) × (n ≤ loops_of (tree_of seat.program.now).items)) }
+    ensures { IfOk result (λ o. o ≡ found_anchor seat.entry cut.now number (statement_of seat.entry.phase.now.item.now)) }
+{
+    if let Some(anchor) = stored_anchor(alloc, seat, seat.phase.item)? {
+        return Ok(Some(anchor));
+    }
+    own_anchor(alloc, seat, cut, number)
+}
+
+// The anchor, or the same places in turn where blocks of them would be left.
+fn placed(program: &Program, cut: &Cut, workers: u32, number: u32, anchor: Anchor) -> Anchor
+    requires formed { IsWellFormed (tree_of program.now) }
+    requires limits { IsWithinLimits (tree_of program.now) }
+    requires given { IsTrue (is_given anchor.form (loops_of (tree_of program.now).items) (length (tree_of program.now).params)) }
+    ensures { result ≡ placed_anchor (tree_of program.now) cut.now workers number (Some anchor) }
+{
+    match check_anchor(program, cut, number, &anchor, workers) {
+        Ok(()) => anchor,
+        Err(_) => Anchor {
+            form: anchor.form,
+            dist: Dist::Cyclic,
+        },
+    }
+}
+
+// The first good anchor of what these statements store.
+#[cycle(stored)]
+fn stored_among(alloc: Global, seat: Seat, items: &[Item]) -> Result<Option<Anchor>, AllocError>
+    requires { 1 ≤ seat.workers }
+    ensures { IfOk result (λ o. o ≡ stored_among (good_element_anchor seat.entry) (statements_from items.now)) }
+{
+    for item in items {
+        if let Some(anchor) = stored_anchor(alloc, seat, item)? {
+            return Ok(Some(anchor));
+        }
+    }
+    Ok(None)
+}
+
+#[cycle(stored)]
+fn stored_anchor(alloc: Global, seat: Seat, item: &Item) -> Result<Option<Anchor>, AllocError>
+    requires { 1 ≤ seat.workers }
+    ensures { IfOk result (λ o. o ≡ stored_anchor (good_element_anchor seat.entry) (statement_of item.now)) }
+{
+    match item {
+        Item::Loop(nest) => stored_among(alloc, seat, &nest.items),
+        Item::Assign(target, ..) => element_anchor(alloc, seat, target),
+        Item::Print(..) | Item::Continue(_) => Ok(None),
+    }
+}
+
+// The place of an element along its array's distributed dimension, if it is a good anchor.
+fn element_anchor(alloc: Global, seat: Seat, access: &Access) -> Result<Option<Anchor>, AllocError>
+    requires { 1 ≤ seat.workers }
+    ensures { IfOk result (λ o. o ≡ good_element_anchor seat.entry access.now) }
+{
+    let number = (access.variable as usize).saturating_sub(1);
+    match item_at(seat.program.variables.as_slice(), number) {
+        Some(variable) => { variable_anchor(alloc, seat, variable, access.subscripts.as_slice()) }
+        None => Ok(None),
+    }
+}
+
+// The same for an element of this variable.
+fn variable_anchor(
+    alloc: Global,
+    seat: Seat,
+    variable: &Variable,
+    subscripts: &[Affine],
+) -> Result<Option<Anchor>, AllocError>
+    requires { 1 ≤ seat.workers }
+    ensures { IfOk result (λ o. o ≡ if_one_good (constants_at seat.entry) (loops_at seat.entry) (along_axis seat.entry.workers subscripts.now (Some (declaration_of variable.now)))) }
+{
+    let axis = (variable.axis as usize).saturating_sub(1);
+    let Some(subscript) = item_at(subscripts, axis) else {
+        return Ok(None);
+    };
+    match item_at(variable.bounds.as_slice(), axis) {
+        Some(&bounds) => along_anchor(alloc, seat, variable.spread, subscript, bounds),
+        None => Ok(None),
+    }
+}
+
+// The same for a subscript along a dimension with these bounds. Past 2 ^ 127 places it is as if
+// memory had run out; no bounds of 64 bits have so many.
+fn along_anchor(
+    alloc: Global,
+    seat: Seat,
+    spread: Spread,
+    subscript: &Affine,
+    bounds: (i64, i64),
+) -> Result<Option<Anchor>, AllocError>
+    requires { 1 ≤ seat.workers }
+    ensures { IfOk result (λ o. o ≡ if_one_good (constants_at seat.entry) (loops_at seat.entry) (along seat.entry.workers spread (Some subscript.now) (Some bounds))) }
+{
+    let low = i128::from(bounds.0);
+    let Some(places) = extent(low, i128::from(bounds.1)) else {
+        return Err(AllocError);
+    };
+    let dist = dealt_as(spread, seat.workers, places);
+    good_anchor(alloc, seat, subscript, low, dist)
+}
+
+// The anchor of a form less a number, if it is a good one.
+fn good_anchor(
+    alloc: Global,
+    seat: Seat,
+    form: &Affine,
+    low: i128,
+    dist: Dist,
+) -> Result<Option<Anchor>, AllocError>
+    ensures { IfOk result (λ o. o ≡ if_good (constants_at seat.entry) (loops_at seat.entry) (record { form = less form.now low; dist = dist })) }
+{
+    let Some(form) = less(alloc, form, low)? else {
+        return Ok(None);
+    };
+    let anchor = Anchor { form, dist };
+    if seat.is_good_anchor(&anchor) {
+        Ok(Some(anchor))
+    } else {
+        Ok(None)
+    }
+}
+
+// The value of a Doall loop, if it is a good anchor.
+fn own_anchor(
+    alloc: Global,
+    seat: Seat,
+    cut: &Cut,
+    number: u32,
+) -> Result<Option<Anchor>, AllocError>
+    requires formed { IsWellFormed (tree_of seat.program.now) }
+    requires limits { IsWithinLimits (tree_of seat.program.now) }
+    requires some { 1 ≤ seat.workers }
+    requires own { IfSome seat.own (λ n. (1 ≤ n) × (n ≤ loops_of (tree_of seat.program.now).items)) }
+    ensures { IfOk result (λ o. o ≡ good_own_anchor seat.entry cut.now number) }
+{
+    let Some(own) = seat.own else {
+        return Ok(None);
+    };
+    let value = loop_value(alloc, own)?;
+    let (low, width) = span_of(alloc, seat.program, cut, number, own)?;
+    good_anchor(alloc, seat, &value, low, in_blocks(seat.workers, width))
+}
+
+// The form of a loop's value.
+fn loop_value(alloc: Global, number: u32) -> Result<Affine, AllocError>
+    requires { 1 ≤ number }
+    ensures { IfOk result (λ f. f ≡ value_of number) }
+{
+    let mut loops = Pairs::new(alloc);
+    loops.push(number, 1)?;
+    Ok(Affine::new(0, loops, Pairs::new(alloc)))
+}
+
+// The least value of a loop at a static phase and how many there are to the greatest: an interval
+// leaves blocks of no place at its ends. Past 2 ^ 127 values it is as if memory had run out; no
+// program within its limits has so many.
+fn span_of(
+    alloc: Global,
+    program: &Program,
+    cut: &Cut,
+    phase: u32,
+    number: u32,
+) -> Result<(i128, u128), AllocError>
+    requires formed { IsWellFormed (tree_of program.now) }
+    requires limits { IsWithinLimits (tree_of program.now) }
+    requires one { 1 ≤ number }
+    requires there { number ≤ loops_of (tree_of program.now).items }
+    ensures { IfOk result (λ span. span ≡ span_of number (phase_ends (tree_of program.now) cut.now (phase - 1))) }
+{
+    let anchor = Anchor {
+        form: loop_value(alloc, number)?,
+        dist: Dist::Block(0),
+    };
+    let Err(ends) = check_anchor(program, cut, phase, &anchor, 1) else {
+        return Ok((0, 0));
+    };
+    match extent(ends.low, ends.high) {
+        Some(width) => Ok((ends.low, width)),
+        None => Err(AllocError),
+    }
+}
+
+// Whether a PRINT stands in these statements.
+#[cycle(print)]
+fn have_print(items: &[Item]) -> bool
+    ensures { result ≡ have_print (statements_from items.now) }
+{
+    for item in items {
+        if has_print(item) {
+            return true;
+        }
+    }
+    false
+}
+
+#[cycle(print)]
+pub(crate) fn has_print(item: &Item) -> bool
+    ensures { result ≡ has_print (statement_of item.now) }
+{
+    match item {
+        Item::Loop(nest) => have_print(&nest.items),
+        Item::Print(..) => true,
+        Item::Assign(..) | Item::Continue(_) => false,
+    }
+}
