@@ -19,3 +19,12 @@ is_load_within cells values (Array first count) = nat_le (first + count) cells
 -- the cell of a store is among so many
 abbrev pub is_store_within : ℕ → List ℤ → CellForm → Bool
 is_store_within cells values form = nat_lt (cell_at form values) cells
+
+-- the first cell of a load
+abbrev pub first_of_load : List ℤ → LoadCells → ℕ
+first_of_load values (Element form) = cell_at form values
+first_of_load values (Array first count) = first
+
+-- it is among so many
+abbrev pub is_first_within : ℕ → List ℤ → LoadCells → Bool
+is_first_within cells values load = nat_lt (first_of_load values load) cells

@@ -4,7 +4,7 @@ ghost use Rattle.std.specs.Prelude.{◌≡◌, ◌++◌, IsTrue, OnOk, length, m
 ghost use Rattle.std.specs.List.{flat_map, list_all};
 ghost use Rattle.std.specs.Option.{option_to_list};
 ghost use Rattle.nest_model.specs.Memory.{cell_value};
-ghost use Rattle.seq_meaning.specs.Loads.{cells_of_load, is_load_within, is_store_within};
+ghost use Rattle.seq_meaning.specs.Loads.{cells_of_load, first_of_load, is_load_within, is_store_within};
 
 use nest_walk::{CellForm, LoadCells, MOST_LOOPS};
 use std::alloc::AllocError;
@@ -46,5 +46,15 @@ fn push_loaded(
             loaded.extend_from_slice(&memory[first..][..*count as usize])?;
             Ok(())
         }
+    }
+}
+
+// The first cell of a load where the loops have these values by depth.
+pub(crate) fn first_cell(load: &LoadCells, values: &[i64; MOST_LOOPS]) -> usize
+    ensures { result ≡ first_of_load values.now load.now }
+{
+    match load {
+        LoadCells::Element(form) => form.at(values),
+        LoadCells::Array { first, .. } => *first as usize,
     }
 }
