@@ -1,18 +1,25 @@
 -- What a piece of work does where the loops have these values by number: memory and the output behind it.
-use Rattle.std.specs.Prelude.{ℕ, ◌≤◌, ℤ, List, [], ◌∷◌, map, length, ◌≡◌, IsTrue}
+use Rattle.std.specs.Prelude.{ℕ, ◌≤◌, ℤ, None, List, [], ◌∷◌, map, length, ◌≡◌, IsTrue}
 use Rattle.std.specs.List.{list_all}
 use Rattle.nest_tree.specs.Layout.{cell_count}
 use Rattle.nest_tree.specs.Tree.{Work, work, Statement, Tree, param_values}
-use Rattle.nest_tree.specs.View.{tree_of}
+use Rattle.nest_tree.specs.View.{statement_of, tree_of}
+use Rattle.nest_tree.specs.declared.tree.Access.{Access}
+use Rattle.nest_tree.specs.declared.tree.Expr.{Expr}
+use Rattle.nest_tree.specs.declared.tree.Item.{Item}
+use Rattle.nest_tree.specs.declared.tree.Item.TheVariants.{Assign}
 use Rattle.nest_tree.specs.WellFormed.{is_number_of, loops_of}
+use Rattle.nest_model.specs.Instances.{Instance, instances_of}
 use Rattle.nest_model.specs.Accesses.{work_loads, work_store}
 use Rattle.nest_model.specs.Memory.{assigned, cell_value, printed_text, with_store}
 use Rattle.nest_model.specs.Ranges.{accesses_of, is_access_inside}
 use Rattle.nest_walk.specs.Cursors.{loops_in}
+use Rattle.nest_walk.specs.ByNumber.{with_rounds}
 use Rattle.nest_walk.specs.Paths.{Round}
 use Rattle.nest_walk.specs.Places.{numbers_of}
 use Rattle.nest_walk.specs.Tables.{IsCellTable}
 use Rattle.nest_walk.specs.Texts.{StandFrom, works}
+use Rattle.nest_walk.specs.declared.cursor.Stop.{Stop}
 use Rattle.seq_meaning.specs.declared.run.Run.{Run}
 
 -- what its loads give in a memory
@@ -35,9 +42,23 @@ pub record IsPlacedWork (tree : Tree) (rounds : List Round) (number : ℕ) (s : 
   pub numbered : IsTrue (list_all (λ (r : Round). is_number_of (loops_of tree.items) r.number) rounds)
   pub inside : IsTrue (list_all (is_access_inside tree (loops_in tree rounds)) (accesses_of what))
 
+-- the instances of the statement of a stop with these loops round it
+abbrev pub instances_there : Tree → List Round → Stop → List Instance
+instances_there tree rounds s = instances_of (param_values tree) (statement_of s.item.now) s.first (loops_in tree rounds)
+
+-- statements are one assignment of this value, without a comparison
+abbrev pub IsOnlyValue : List Item → Expr → Type 0
+IsOnlyValue items e = (target : Access) × (line : ℕ) × (items ≡ Assign target e None line ∷ [])
+
 -- a run of a program is ready for an instance
 pub record IsReady (run : Run) : Type 0 where
   pub table : IsCellTable (tree_of run.program.now) run.table
   pub params : run.params.items ≡ param_values (tree_of run.program.now)
   pub loops : loops_of (tree_of run.program.now).items ≤ length run.loops.items
   pub memory : length run.memory.items ≡ cell_count (tree_of run.program.now)
+
+-- its values of loops by number are those of these loops, and of others whatever they were
+pub record IsWritten (run : Run) (rounds : List Round) : Type 0 where
+  pub before : List ℤ
+  pub long : loops_of (tree_of run.program.now).items ≤ length before
+  pub is : run.loops.items ≡ with_rounds before rounds

@@ -1,21 +1,30 @@
 // The sequential run.
 
-ghost use Rattle.std.specs.Prelude.{◌≡◌, ◌++◌, IfOk, IsTrue, OnOk, slice_set};
+ghost use Rattle.std.specs.Prelude.{◌≡◌, ◌++◌, ℕ, IfOk, IfSome, IsTrue, OnOk, Option, fold, slice_set};
+ghost use Rattle.std.specs.List.{list_all};
 ghost use Rattle.nest_tree.specs.Limits.{IsWithinLimits};
 ghost use Rattle.nest_tree.specs.Tree.{Work, work};
 ghost use Rattle.nest_tree.specs.View.{statement_of, tree_of};
 ghost use Rattle.nest_tree.specs.WellFormed.{IsWellFormed};
-ghost use Rattle.nest_model.specs.Memory.{last_memory, output_of};
-ghost use Rattle.nest_model.specs.Ranges.{IsInRange};
+ghost use Rattle.nest_tree.specs.declared.tree.Access.{Access};
+ghost use Rattle.nest_tree.specs.declared.tree.Guard.{Guard};
+ghost use Rattle.nest_model.specs.Memory.{last_memory, memory_after, output_from, output_of};
+ghost use Rattle.nest_model.specs.Ranges.{IsInRange, is_instance_inside};
+ghost use Rattle.nest_model.specs.Visits.{every};
 ghost use Rattle.nest_walk.specs.CellForms.{cell_at};
-ghost use Rattle.nest_walk.specs.Cursors.{loops_in};
+ghost use Rattle.nest_walk.specs.Cursors.{is_reached, loops_in};
+ghost use Rattle.nest_walk.specs.InstancesLeft.{instances_left, instances_tree};
+ghost use Rattle.nest_walk.specs.Places.{numbers_of};
+ghost use Rattle.nest_walk.specs.Texts.{StandFrom, placed_in, works};
+ghost use Rattle.seq_meaning.specs.Executions.{IsOnlyValue};
 ghost use Rattle.nest_walk.specs.RoundsOf.{rounds_of};
 
 use crate::load::load;
 use crate::output::Output;
-use crate::value::{Given, eval};
-use nest_tree::{Item, Program};
-use nest_walk::{CellTable, Instances, Path, Stop};
+use crate::trips::trips_of;
+use crate::value::{Given, Source, Valuation};
+use nest_tree::{Expr, Item, Nest, Program};
+use nest_walk::{CellTable, Cursor, Instances, Path, Stop};
 use std::alloc::{AllocError, Global};
 
 // The most statements that a program has, and so the most loops.
@@ -31,9 +40,11 @@ pub fn run_sequential(alloc: Global, program: &Program) -> Result<(Vec<i64>, Out
     ensures output { IfOk result (λ end. end.1.bytes ≡ output_of (tree_of program.now)) }
 {
     let mut run = Run::new(alloc, program)?;
-    let mut instances = Instances::new(program);
-    while let Some(stop) = instances.next() {
-        run.execute(stop, instances.path())?;
+    let mut marks = vec![in alloc; false; MOST_STATEMENTS]?;
+    mark(&program.items, &mut marks);
+    let mut stops = Cursor::new(program, &marks);
+    while let Some(stop) = stops.next() {
+        run.execute_all(stop, stops.path())?;
     }
     let Run { memory, output, .. } = run;
     Ok((memory, output))
@@ -55,7 +66,7 @@ struct Run<'a> {
 impl<'a> Run<'a> {
     ghost use Rattle.std.specs.Prelude.{[]};
     ghost use Rattle.nest_model.specs.Memory.{first_memory};
-    ghost use Rattle.seq_meaning.specs.Executions.{IsPlacedWork, IsReady, memory_behind, printed_behind};
+    ghost use Rattle.seq_meaning.specs.Executions.{IsPlacedWork, IsReady, IsWritten, instances_there, memory_behind, printed_behind};
 
     // A run in front of its first instance.
     fn new(alloc: Global, program: &'a Program) -> Result<Self, AllocError>
@@ -81,6 +92,107 @@ impl<'a> Run<'a> {
         })
     }
 
+    // The executions of the statement of a stop, with these loops round it.
+    fn execute_all(&mut self, stop: Stop, path: &Path) -> Result<(), AllocError>
+        requires formed { IsWellFormed (tree_of self.old.program.now) }
+        requires ready { IsReady self.old }
+        requires reached { IsTrue (is_reached (tree_of self.old.program.now) (rounds_of path.now) stop) }
+        requires text { StandFrom (works (tree_of self.old.program.now)) stop.first (placed_in every (numbers_of (rounds_of path.now)) (statement_of stop.item.now)) }
+        requires inside { IsTrue (list_all (is_instance_inside (tree_of self.old.program.now)) (instances_there (tree_of self.old.program.now) (rounds_of path.now) stop)) }
+        ensures ready { OnOk result (IsReady self.new) }
+        ensures program { OnOk result (self.new.program.now ≡ self.old.program.now) }
+        ensures memory { OnOk result (self.new.memory.items ≡ fold (memory_after (tree_of self.old.program.now)) self.old.memory.items (instances_there (tree_of self.old.program.now) (rounds_of path.now) stop.entry)) }
+        ensures output { OnOk result (self.new.output.bytes ≡ self.old.output.bytes ++ output_from (tree_of self.old.program.now) self.old.memory.items (instances_there (tree_of self.old.program.now) (rounds_of path.now) stop.entry)) }
+    {
+        if let Item::Loop(nest) = stop.item {
+            if let Some(e) = only_value(&nest.items) {
+                self.repeat(stop, nest, e, path);
+                return Ok(());
+            }
+        }
+        self.execute_each(Instances::over(self.program, path, stop))
+    }
+
+    // The execution of these instances.
+    fn execute_each(&mut self, instances: Instances) -> Result<(), AllocError>
+        requires formed { IsWellFormed (tree_of self.old.program.now) }
+        requires ready { IsReady self.old }
+        requires walked { instances_tree instances ≡ (tree_of self.old.program.now) }
+        requires inside { IsTrue (list_all (is_instance_inside (tree_of self.old.program.now)) (instances_left instances)) }
+        ensures ready { OnOk result (IsReady self.new) }
+        ensures program { OnOk result (self.new.program.now ≡ self.old.program.now) }
+        ensures memory { OnOk result (self.new.memory.items ≡ fold (memory_after (tree_of self.old.program.now)) self.old.memory.items (instances_left instances.entry)) }
+        ensures output { OnOk result (self.new.output.bytes ≡ self.old.output.bytes ++ output_from (tree_of self.old.program.now) self.old.memory.items (instances_left instances.entry)) }
+    {
+        let mut left = instances;
+        while let Some(stop) = left.next() {
+            self.execute(stop, left.path())?;
+        }
+        Ok(())
+    }
+
+    // The trips of a loop round one assignment, which is always executed.
+    fn repeat(&mut self, stop: Stop, nest: &Nest, e: &Expr, path: &Path)
+        requires formed { IsWellFormed (tree_of self.old.program.now) }
+        requires ready { IsReady self.old }
+        requires reached { IsTrue (is_reached (tree_of self.old.program.now) (rounds_of path.now) stop) }
+        requires text { StandFrom (works (tree_of self.old.program.now)) stop.first (placed_in every (numbers_of (rounds_of path.now)) (statement_of stop.item.now)) }
+        requires inside { IsTrue (list_all (is_instance_inside (tree_of self.old.program.now)) (instances_there (tree_of self.old.program.now) (rounds_of path.now) stop)) }
+        requires nest { stop.item.now ≡ Item.Loop nest.now }
+        requires only { IsOnlyValue nest.now.items.items e.now }
+        ensures ready { IsReady self.new }
+        ensures program { self.new.program.now ≡ self.old.program.now }
+        ensures memory { self.new.memory.items ≡ fold (memory_after (tree_of self.old.program.now)) self.old.memory.items (instances_there (tree_of self.old.program.now) (rounds_of path.now) stop.entry) }
+        ensures output { self.new.output.bytes ≡ self.old.output.bytes }
+    {
+        let mut trips = trips_of(self.program, nest, path);
+        let mut inner = *path;
+        inner.push(nest.number, 0);
+        inner.write_to(&mut self.loops);
+        let place = nest.number as usize - 1;
+        let first = stop.first;
+        let work = Stop {
+            item: &nest.items[0],
+            place: first,
+            first,
+        };
+        while !trips.is_empty() {
+            let value = trips.take();
+            inner.set(value);
+            self.loops[place] = value;
+            self.assign(work, e, &inner);
+        }
+    }
+
+    // The execution of an assignment with these loops round it, whose values are written.
+    fn assign(&mut self, stop: Stop, e: &Expr, path: &Path)
+        requires formed { IsWellFormed (tree_of self.old.program.now) }
+        requires ready { IsReady self.old }
+        requires written { IsWritten self.old (rounds_of path.now) }
+        requires placed { IsPlacedWork (tree_of self.old.program.now) (rounds_of path.now) stop.first (statement_of stop.item.now) }
+        requires statement { (target : Access) × (guard : Option Guard) × (line : ℕ) × (stop.item.now ≡ Item.Assign target e.now guard line) }
+        ensures ready { IsReady self.new }
+        ensures program { self.new.program.now ≡ self.old.program.now }
+        ensures loops { self.new.loops.items ≡ self.old.loops.items }
+        ensures memory { (w : Work) → statement_of stop.entry.item.now ≡ work w → self.new.memory.items ≡ memory_behind (tree_of self.old.program.now) (loops_in (tree_of self.old.program.now) (rounds_of path.now)) w self.old.memory.items }
+        ensures output { self.new.output.bytes ≡ self.old.output.bytes }
+    {
+        let cells = self.table.work(stop.first);
+        let valuation = Valuation {
+            loops: &self.loops,
+            params: &self.params,
+            source: Source::Memory {
+                memory: &self.memory,
+                loads: &cells.loads,
+                values: path.values(),
+            },
+        };
+        let value = valuation.value(e, &mut 0);
+        if let Some(form) = &cells.store {
+            self.memory[form.at(path.values())] = value;
+        }
+    }
+
     // The execution of a piece of work with these loops round it.
     fn execute(&mut self, stop: Stop, path: &Path) -> Result<(), AllocError>
         requires formed { IsWellFormed (tree_of self.old.program.now) }
@@ -92,17 +204,19 @@ impl<'a> Run<'a> {
         ensures output { OnOk result ((w : Work) → statement_of stop.entry.item.now ≡ work w → self.new.output.bytes ≡ self.old.output.bytes ++ printed_behind (tree_of self.old.program.now) (loops_in (tree_of self.old.program.now) (rounds_of path.now)) w self.old.memory.items) }
     {
         path.write_to(&mut self.loops);
-        let cells = self.table.work(stop.first);
-        load(&self.memory, &cells.loads, path.values(), &mut self.loaded)?;
         match stop.item {
             Item::Assign(_, e, _, _) => {
-                let value = eval(e, &self.loops, &self.params, &self.loaded);
-                if let Some(form) = &cells.store {
-                    self.memory[form.at(path.values())] = value;
-                }
+                self.assign(stop, e, path);
                 Ok(())
             }
             Item::Print(items, _) => {
+                let cells = self.table.work(stop.first);
+                load(
+                    &self.memory,
+                    &cells.loads,
+                    path.values(),
+                    &mut self.loaded,
+                )?;
                 let given = Given {
                     loops: &self.loops,
                     params: &self.params,
@@ -113,4 +227,32 @@ impl<'a> Run<'a> {
             Item::Loop(_) | Item::Continue(_) => unreachable!(),
         }
     }
+}
+
+// The value of the one assignment in these statements, where there is no other statement and it
+// has no comparison.
+fn only_value(items: &[Item]) -> Option<&Expr>
+    ensures { IfSome result (λ e. IsOnlyValue items.now e.now) }
+{
+    match items {
+        [Item::Assign(_, e, None, _)] => Some(e),
+        _ => None,
+    }
+}
+
+// Marks the loops with no loop inside that has one assignment alone; whether one of these has, or
+// has one inside.
+fn mark(items: &[Item], marks: &mut [bool]) -> bool {
+    let mut found = false;
+    for item in items {
+        if let Item::Loop(nest) = item {
+            let inside = mark(&nest.items, marks);
+            let place = (nest.number as usize).saturating_sub(1);
+            if place < marks.len() {
+                marks[place] = !inside;
+            }
+            found = found || inside || only_value(&nest.items).is_some();
+        }
+    }
+    found
 }
