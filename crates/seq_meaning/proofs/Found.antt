@@ -24,7 +24,7 @@ use Rattle.nest_walk.specs.declared.path.Path.{Path}
 use Rattle.nest_walk.specs.declared.table.LoadCells.{LoadCells}
 use Rattle.nest_walk.specs.declared.table.LoadCells.TheVariants.{Element, Array}
 use Rattle.nest_walk.specs.declared.table.WorkCells.{WorkCells}
-use Rattle.seq_meaning.specs.Loads.{cells_of_load, is_load_within, is_store_within}
+use Rattle.seq_meaning.specs.Loads.{cells_of_load, first_of_load, is_first_within, is_load_within, is_store_within}
 
 -- the cells of a load, and whether it is in range
 abbrev loaded_cells : Tree → List ℤ → Loaded → List ℕ
@@ -133,3 +133,31 @@ module _ (tree : Tree) (path : Path) (numbered : list_all (λ (r : Round). is_nu
         store = stored.0;
         store_within = stored.1;
       }
+
+  -- the first cells of an assignment's loads are those that it loads
+  pub record FoundFirsts (a : Assignment) (cells : List LoadCells) : Type 0 where
+    pub firsts : map (first_of_load (by_depth (rounds_of path))) cells ≡ work_loads tree (loops_in tree (rounds_of path)) (assign a)
+    pub within : list_all (is_first_within (cell_count tree) (by_depth (rounds_of path))) cells ≡ true
+
+  firsts_found : (xs : List Access) (cells : List LoadCells) → AllZip (AreLoadCells tree (numbers_of (rounds_of path))) (map element xs) cells → list_all (is_access_inside tree (loops_in tree (rounds_of path))) xs ≡ true →
+      (map (first_of_load (by_depth (rounds_of path))) cells ≡ map (access_cell tree (loops_in tree (rounds_of path))) xs) × (list_all (is_first_within (cell_count tree) (by_depth (rounds_of path))) cells ≡ true)
+  firsts_found [] [] are inside = (refl, refl)
+  firsts_found [] (c ∷ cells) are inside = absurd are
+  firsts_found (a ∷ xs) [] are inside = absurd are
+  firsts_found (a ∷ xs) (Element form ∷ cells) are inside =
+      let parts = and_parts (is_access_inside tree (loops_in tree (rounds_of path)) a) (list_all (is_access_inside tree (loops_in tree (rounds_of path))) xs) inside in
+      let at = are.0 path refl numbered parts.0 in
+      let rest = firsts_found xs cells are.1 parts.1 in
+      let here : is_first_within (cell_count tree) (by_depth (rounds_of path)) (Element form) ≡ true = grind (arith, nat_tests, at.1) in (
+        ap (λ c. c ∷ map (first_of_load (by_depth (rounds_of path))) cells) at.0 ∙ ap (λ cs. access_cell tree (loops_in tree (rounds_of path)) a ∷ cs) rest.0,
+        and_from (is_first_within (cell_count tree) (by_depth (rounds_of path)) (Element form)) (list_all (is_first_within (cell_count tree) (by_depth (rounds_of path))) cells) here rest.1,
+      )
+  firsts_found (a ∷ xs) (Array first count ∷ cells) are inside = absurd are.0
+
+  pub assign_firsts : (a : Assignment) (cells : WorkCells) → AreCells tree (numbers_of (rounds_of path)) (loaded_in_work (assign a)) (stores_in (assign a)) cells →
+      list_all (is_access_inside tree (loops_in tree (rounds_of path))) (accesses_of (assign a)) ≡ true → FoundFirsts a cells.loads.items
+  assign_firsts a cells are inside =
+      let test = is_access_inside tree (loops_in tree (rounds_of path)) in
+      let loads = (and_parts (list_all test (loads_in a.value)) (test a.target && true) (sym (list_all-append test (loads_in a.value) (a.target ∷ [])) ∙ inside)).0 in
+      let found = firsts_found (loads_in a.value) cells.loads.items are.loaded loads in
+      record { firsts = found.0; within = found.1 }

@@ -1,5 +1,5 @@
 -- The execution of a piece of work, step by step.
-use Rattle.std.proofs.Common.{◌≡◌, ℕ, ◌+◌, ◌-◌, ◌<◌, ◌≤◌, ◌&&◌, ◌||◌, ◌==◌, ℤ, true, false, nat_le, nat_lt, Option, Some, None, List, [], ◌∷◌, ◌++◌, map, length, length-append, append-nil, drop, take, set, ⊎_elim, refl, ap, sym, ◌∙◌, arith}
+use Rattle.std.proofs.Common.{◌≡◌, ℕ, ◌+◌, ◌-◌, ◌<◌, ◌≤◌, ◌&&◌, ◌||◌, ◌==◌, ℤ, true, false, nat_le, nat_lt, Option, Some, None, List, [], ◌∷◌, ◌++◌, map, length, length-append, append-nil, drop, take, set, ⊎_elim, refl, ap, sym, ◌∙◌, subst, arith}
 use Rattle.std.specs.List.{flat_map, list_all, list_any, slice_get}
 use Rattle.std.specs.Option.{option_to_list}
 use Rattle.std.proofs.Math.Logic.{∥∥₁_elim}
@@ -16,6 +16,7 @@ use Rattle.nest_tree.specs.Tree.{Assignment, Constant, Printed, value, whole, te
 use Rattle.nest_tree.specs.WellFormed.{IsWellFormed, is_good_access, is_good_expression, is_good_guard, is_good_item, is_good_work, is_number_of, loops_of, rank, rank_of, scope_of}
 use Rattle.nest_model.specs.Accesses.{access_cell, item_loads, work_store}
 use Rattle.nest_model.specs.Meaning.{has_value, value_of}
+use Rattle.nest_model.specs.Ranges.{accesses_of, is_access_inside}
 use Rattle.nest_model.specs.Memory.{assigned, cell_value, items_text, number_text, with_store}
 use Rattle.nest_walk.specs.ByNumber.{with_rounds}
 use Rattle.nest_walk.specs.CellForms.{cell_at}
@@ -23,7 +24,7 @@ use Rattle.nest_walk.specs.Cursors.{loops_in}
 use Rattle.nest_walk.specs.Paths.{Round, by_depth}
 use Rattle.nest_walk.specs.Places.{numbers_of}
 use Rattle.nest_walk.specs.RoundsOf.{rounds_of}
-use Rattle.nest_walk.specs.Tables.{ArePlacedCells, IsCellTable, entries}
+use Rattle.nest_walk.specs.Tables.{AreCells, ArePlacedCells, IsCellTable, entries, loaded_in_work, stores_in}
 use Rattle.nest_walk.specs.Texts.{works}
 use Rattle.nest_walk.specs.declared.cells.CellForm.{CellForm}
 use Rattle.nest_walk.specs.declared.path.Path.{Path}
@@ -34,8 +35,8 @@ use Rattle.nest_walk.proofs.PlacedWorks.{standing-good, standing-number, standin
 use Rattle.nest_walk.proofs.ByNumberLists.{with_rounds-length, with_rounds-numbered}
 use Rattle.seq_meaning.specs.Executions.{IsPlacedWork, loaded_at, memory_behind}
 use Rattle.seq_meaning.specs.Lines.{has_text, item_load_count, items_load_count}
-use Rattle.seq_meaning.specs.Loads.{cells_of_load, is_load_within, is_store_within}
-use Rattle.seq_meaning.proofs.Found.{Found, work_found}
+use Rattle.seq_meaning.specs.Loads.{cells_of_load, first_of_load, is_first_within, is_load_within, is_store_within}
+use Rattle.seq_meaning.proofs.Found.{Found, FoundFirsts, assign_firsts, work_found}
 use Rattle.seq_meaning.proofs.Meanings.{good_has_value, value_same}
 
 -- a loop that is named among these has a number of the program
@@ -134,6 +135,11 @@ pub written_back : (count : ℕ) (new items : List ℤ) → count ≡ length ite
 written_back count new items all same =
     ap (λ xs. take count (new ++ xs)) (drop_all (length new) items (omega (arith, same))) ∙ ap (take count) (append-nil new) ∙ take_all count new (omega (arith, all, same))
 
+-- values of cells, one function behind another
+values_of_cells : (f : LoadCells → ℕ) (g : ℕ → ℤ) (xs : List LoadCells) → map (λ x. g (f x)) xs ≡ map g (map f xs)
+values_of_cells f g [] = refl
+values_of_cells f g (x ∷ xs) = ap (λ vs. g (f x) ∷ vs) (values_of_cells f g xs)
+
 only_one : (o : Option ℕ) (n : ℕ) → n ∷ [] ≡ option_to_list o → o ≡ Some n
 only_one None n h = cc
 only_one (Some m) n h = cc
@@ -202,3 +208,22 @@ module _ (tree : Tree) (path : Path) (number : ℕ) (s : Statement) (placed : Is
   no_store cells found memory none =
       let nothing : [] ≡ option_to_list (work_store tree (loops_in tree (rounds_of path)) placed.what) = sym (ap (λ o. map (λ g. cell_at g (by_depth (rounds_of path))) (option_to_list o)) none) ∙ found.store in
       sym (ap (λ o. with_store memory o (assigned tree (loops_in tree (rounds_of path)) placed.what (loaded_at tree (loops_in tree (rounds_of path)) placed.what memory))) (nothing_at (work_store tree (loops_in tree (rounds_of path)) placed.what) nothing))
+
+  -- of an assignment, by the first cell of each load
+  pub placed-firsts : (a : Assignment) → placed.what ≡ assign a → (table : CellTable) (cells : WorkCells) → IsCellTable tree table → slice_get (entries table) (number - 1) ≡ Some cells → FoundFirsts tree path placed.numbered a cells.loads.items
+  placed-firsts a what table cells are at =
+      let inside = sym (ap (λ w. list_all (is_access_inside tree (loops_in tree (rounds_of path))) (accesses_of w)) what) ∙ placed.inside in
+      ∥∥₁_elim placed.text (hlevel props)
+      (λ h. assign_firsts tree path placed.numbered a cells (subst (λ w. AreCells tree (numbers_of (rounds_of path)) (loaded_in_work w) (stores_in w) cells) what (standing-zip (ArePlacedCells tree) (works tree) number _ (entries table) cells h are at)) inside)
+
+  pub firsts_are : (a : Assignment) (loads : List LoadCells) → FoundFirsts tree path placed.numbered a loads → (memory read values : List ℤ) (listed : List LoadCells) → read ≡ memory → values ≡ by_depth (rounds_of path) → listed ≡ loads →
+      map (λ l. cell_value read (first_of_load values l)) listed ≡ loaded_at tree (loops_in tree (rounds_of path)) (assign a) memory
+  firsts_are a loads found memory read values listed same depth is =
+      values_of_cells (first_of_load values) (cell_value read) listed ∙ ap (λ m. map (cell_value m) (map (first_of_load values) listed)) same ∙ ap (λ vs. map (cell_value memory) (map (first_of_load vs) listed)) depth
+      ∙ ap (λ ls. map (cell_value memory) (map (first_of_load (by_depth (rounds_of path))) ls)) is ∙ ap (map (cell_value memory)) found.firsts
+
+  pub firsts_within : (a : Assignment) (loads : List LoadCells) → FoundFirsts tree path placed.numbered a loads → (memory read values : List ℤ) (listed : List LoadCells) → length memory ≡ cell_count tree → read ≡ memory → values ≡ by_depth (rounds_of path) → listed ≡ loads →
+      list_all (is_first_within (length read) values) listed ≡ true
+  firsts_within a loads found memory read values listed long same depth is =
+      ap (λ n. list_all (is_first_within n values) listed) (ap (λ (m : List ℤ). length m) same ∙ long) ∙ ap (λ vs. list_all (is_first_within (cell_count tree) vs) listed) depth
+      ∙ ap (list_all (is_first_within (cell_count tree) (by_depth (rounds_of path)))) is ∙ found.within
