@@ -6,3 +6,5 @@ pub mod Found
 pub mod Meanings
 pub mod RunSteps
 pub mod RunInstances
+pub mod StopInstances
+pub mod Repeats

@@ -1,5 +1,5 @@
 -- One instance after another of a run.
-use Rattle.std.proofs.Common.{◌≡◌, ℕ, ℤ, true, List, [], ◌∷◌, ◌++◌, append_assoc, ap, sym, ◌∙◌, subst}
+use Rattle.std.proofs.Common.{◌≡◌, ℕ, ℤ, true, List, [], ◌∷◌, ◌++◌, append_assoc, ap, sym, ◌∙◌, subst, refl}
 use Rattle.std.specs.List.{fold}
 use Rattle.nest_tree.specs.Tree.{Work, Statement, work, Tree, param_values}
 use Rattle.nest_tree.specs.View.{statement_of}
@@ -52,3 +52,25 @@ pub output_rest : (tree : Tree) (old new : List ℤ) (said saying end : List ℕ
 output_rest tree old new said saying end left rest i is step line h =
     ap (λ m. saying ++ output_from tree m rest) step ∙ ap (λ xs. xs ++ output_from tree (memory_after tree old i) rest) line
     ∙ append_assoc said (line_of tree i (loaded_in tree old i)) (output_from tree (memory_after tree old i) rest) ∙ sym (ap (λ xs. said ++ output_from tree old xs) is) ∙ h
+
+-- some instances, and others behind them
+pub ran_append : (tree : Tree) (memory : List ℤ) (xs ys : List Instance) → fold (memory_after tree) memory (xs ++ ys) ≡ fold (memory_after tree) (fold (memory_after tree) memory xs) ys
+ran_append tree memory [] ys = refl
+ran_append tree memory (x ∷ xs) ys = ran_append tree (memory_after tree memory x) xs ys
+
+pub said_append : (tree : Tree) (memory : List ℤ) (xs ys : List Instance) → output_from tree memory (xs ++ ys) ≡ output_from tree memory xs ++ output_from tree (fold (memory_after tree) memory xs) ys
+said_append tree memory [] ys = refl
+said_append tree memory (x ∷ xs) ys =
+    let line = line_of tree x (loaded_in tree memory x) in
+    let next = memory_after tree memory x in
+    ap (λ o. line ++ o) (said_append tree next xs ys) ∙ sym (append_assoc line (output_from tree next xs) (output_from tree (fold (memory_after tree) next xs) ys))
+
+-- the rest of the run behind the instances of a stop
+pub memory_behind_stop : (tree : Tree) (old new end : List ℤ) (left here rest : List Instance) → left ≡ here ++ rest → new ≡ fold (memory_after tree) old here → fold (memory_after tree) old left ≡ end → fold (memory_after tree) new rest ≡ end
+memory_behind_stop tree old new end left here rest is ran h = ap (λ m. fold (memory_after tree) m rest) ran ∙ sym (ran_append tree old here rest) ∙ sym (ap (fold (memory_after tree) old) is) ∙ h
+
+pub output_behind_stop : (tree : Tree) (old new : List ℤ) (said saying end : List ℕ) (left here rest : List Instance) → left ≡ here ++ rest → new ≡ fold (memory_after tree) old here → saying ≡ said ++ output_from tree old here →
+    said ++ output_from tree old left ≡ end → saying ++ output_from tree new rest ≡ end
+output_behind_stop tree old new said saying end left here rest is ran lines h =
+    ap (λ m. saying ++ output_from tree m rest) ran ∙ ap (λ xs. xs ++ output_from tree (fold (memory_after tree) old here) rest) lines
+    ∙ append_assoc said (output_from tree old here) (output_from tree (fold (memory_after tree) old here) rest) ∙ ap (λ o. said ++ o) (sym (said_append tree old here rest)) ∙ sym (ap (λ xs. said ++ output_from tree old xs) is) ∙ h

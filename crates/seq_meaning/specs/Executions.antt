@@ -12,6 +12,7 @@ use Rattle.nest_tree.specs.WellFormed.{is_number_of, loops_of}
 use Rattle.nest_model.specs.Instances.{Instance, instances_of}
 use Rattle.nest_model.specs.Accesses.{work_loads, work_store}
 use Rattle.nest_model.specs.Memory.{assigned, cell_value, printed_text, with_store}
+use Rattle.nest_model.specs.Visits.{Visit}
 use Rattle.nest_model.specs.Ranges.{accesses_of, is_access_inside}
 use Rattle.nest_walk.specs.Cursors.{loops_in}
 use Rattle.nest_walk.specs.ByNumber.{with_rounds}
@@ -45,6 +46,10 @@ pub record IsPlacedWork (tree : Tree) (rounds : List Round) (number : ℕ) (s : 
 -- the instances of the statement of a stop with these loops round it
 abbrev pub instances_there : Tree → List Round → Stop → List Instance
 instances_there tree rounds s = instances_of (param_values tree) (statement_of s.item.now) s.first (loops_in tree rounds)
+
+-- and of a stop of the program's walk
+abbrev pub stop_instances : List ℤ → Visit → List Instance
+stop_instances params v = instances_of params v.what v.first v.loops
 
 -- statements are one assignment of this value, without a comparison
 abbrev pub IsOnlyValue : List Item → Expr → Type 0
