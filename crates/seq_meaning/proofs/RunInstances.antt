@@ -1,19 +1,19 @@
 -- One instance after another of a run.
 use Rattle.std.proofs.Common.{◌≡◌, ℕ, ℤ, true, List, [], ◌∷◌, ◌++◌, append_assoc, ap, sym, ◌∙◌, subst, refl}
-use Rattle.std.specs.List.{fold}
+use Rattle.std.specs.List.{flat_map, fold}
 use Rattle.nest_tree.specs.Tree.{Work, Statement, work, Tree, param_values}
 use Rattle.nest_tree.specs.View.{statement_of}
-use Rattle.nest_model.specs.Instances.{Instance}
+use Rattle.nest_model.specs.Instances.{Instance, instances_of}
 use Rattle.nest_model.specs.Memory.{line_of, loaded_in, memory_after, output_from}
 use Rattle.nest_model.specs.Ranges.{is_instance_inside}
-use Rattle.nest_model.specs.Visits.{every, executed_at}
-use Rattle.nest_walk.specs.Cursors.{is_reached, loops_in}
+use Rattle.nest_model.specs.Visits.{Visit, every, executed_at}
+use Rattle.nest_walk.specs.Cursors.{is_reached, loops_in, visit_at}
 use Rattle.nest_walk.specs.Paths.{Round}
 use Rattle.nest_walk.specs.Places.{numbers_of}
 use Rattle.nest_walk.specs.Texts.{StandFrom, placed_in, works}
 use Rattle.nest_walk.specs.declared.cursor.Stop.{Stop}
 use Rattle.nest_walk.proofs.PlacedWorks.{instance_at, reached_numbered}
-use Rattle.seq_meaning.specs.Executions.{IsPlacedWork, memory_behind, printed_behind}
+use Rattle.seq_meaning.specs.Executions.{IsPlacedWork, instances_there, memory_behind, printed_behind, stop_instances}
 
 -- its statement is a piece of work of the text
 pub placed_work : (tree : Tree) (rounds : List Round) (s : Stop) (i : Instance) → executed_at (param_values tree) s.first (statement_of s.item.now) (loops_in tree rounds) ≡ i ∷ [] → is_reached tree rounds s ≡ true →
@@ -74,3 +74,10 @@ pub output_behind_stop : (tree : Tree) (old new : List ℤ) (said saying end : L
 output_behind_stop tree old new said saying end left here rest is ran lines h =
     ap (λ m. saying ++ output_from tree m rest) ran ∙ ap (λ xs. xs ++ output_from tree (fold (memory_after tree) old here) rest) lines
     ∙ append_assoc said (output_from tree old here) (output_from tree (fold (memory_after tree) old here) rest) ∙ ap (λ o. said ++ o) (sym (said_append tree old here rest)) ∙ sym (ap (λ xs. said ++ output_from tree old xs) is) ∙ h
+
+-- those of the next stop of a walk, and those behind it
+pub stop_first : (tree walked : Tree) (rounds : List Round) (s : Stop) (left rest : List Visit) → walked ≡ tree → left ≡ visit_at walked rounds s ∷ rest →
+    flat_map (stop_instances (param_values tree)) left ≡ instances_there tree rounds s ++ flat_map (stop_instances (param_values tree)) rest
+stop_first tree walked rounds s left rest same is =
+    ap (flat_map (stop_instances (param_values tree))) is
+    ∙ ap (λ t. instances_of (param_values tree) (statement_of s.item.now) s.first (loops_in t rounds) ++ flat_map (stop_instances (param_values tree)) rest) same
