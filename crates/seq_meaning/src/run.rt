@@ -211,12 +211,7 @@ impl<'a> Run<'a> {
             }
             Item::Print(items, _) => {
                 let cells = self.table.work(stop.first);
-                load(
-                    &self.memory,
-                    &cells.loads,
-                    path.values(),
-                    &mut self.loaded,
-                )?;
+                load(&self.memory, &cells.loads, path.values(), &mut self.loaded)?;
                 let given = Given {
                     loops: &self.loops,
                     params: &self.params,

@@ -1,4 +1,4 @@
-use Rattle.std.proofs.Common.{◌≡◌, ◌++◌, ◌∷◌, IsTrue, List, length, refl, ap, sym, ◌∙◌, subst, arith}
+use Rattle.std.proofs.Common.{◌++◌, IsTrue, ap, sym, ◌∙◌, subst}
 use Rattle.std.specs.List.{flat_map, fold, list_all}
 use Rattle.std.proofs.lemmas.Bool.{and_parts}
 use Rattle.std.proofs.lemmas.List.Folds.{list_all-append}
@@ -6,8 +6,8 @@ use Rattle.nest_tree.specs.Tree.{param_values}
 use Rattle.nest_tree.specs.View.{statement_of, tree_of}
 use Rattle.nest_model.specs.Memory.{first_memory, last_memory, memory_after, output_from, output_of}
 use Rattle.nest_model.specs.Ranges.{is_instance_inside}
-use Rattle.nest_model.specs.Visits.{Visit, every}
-use Rattle.nest_walk.specs.Cursors.{is_reached, left_of, loops_in, marks_in, rounds_in, tree_in}
+use Rattle.nest_model.specs.Visits.{every}
+use Rattle.nest_walk.specs.Cursors.{is_reached, left_of, rounds_in, tree_in}
 use Rattle.nest_walk.specs.Places.{numbers_of}
 use Rattle.nest_walk.specs.RoundsOf.{rounds_of}
 use Rattle.nest_walk.specs.Texts.{StandFrom, placed_in, works}

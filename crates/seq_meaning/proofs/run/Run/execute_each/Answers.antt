@@ -1,8 +1,7 @@
-use Rattle.std.proofs.Common.{◌++◌, ap, sym, ◌∙◌, subst}
-use Rattle.std.specs.List.{fold, list_all}
+use Rattle.std.proofs.Common.{ap, sym, ◌∙◌, subst}
+use Rattle.std.specs.List.{list_all}
 use Rattle.std.proofs.lemmas.Bool.{and_parts}
 use Rattle.nest_tree.specs.View.{statement_of, tree_of}
-use Rattle.nest_model.specs.Memory.{memory_after, output_from}
 use Rattle.nest_model.specs.Ranges.{is_instance_inside}
 use Rattle.nest_walk.specs.InstancesLeft.{instances_left, instances_rounds, instances_tree}
 use Rattle.nest_walk.specs.RoundsOf.{rounds_of}

@@ -1,9 +1,9 @@
-use Rattle.std.proofs.Common.{◌≡◌, ◌-◌, ◌≤◌, ℤ, IsTrue, List, ◌∷◌, length, get_or, set, take, drop, ◌++◌, nat_le, pos, w64, FitsSigned, to_z, of_z, refl, ap, sym, ◌∙◌, subst, rules, arith}
+use Rattle.std.proofs.Common.{◌-◌, ◌≤◌, ℤ, IsTrue, List, ◌∷◌, length, get_or, set, nat_le, pos, w64, FitsSigned, to_z, of_z, refl, ap, sym, ◌∙◌, subst, rules, arith}
 use Rattle.std.specs.List.{fold, list_all}
 use Rattle.std.proofs.lemmas.Bool.{and_parts, leb-true}
 use Rattle.std.proofs.lemmas.Int.{to_z-of_z}
 use Rattle.nest_tree.specs.Form.{is_small}
-use Rattle.nest_tree.specs.Tree.{Assignment, Work, assign, param_values, work}
+use Rattle.nest_tree.specs.Tree.{assign, param_values}
 use Rattle.nest_tree.specs.View.{statement_of, statements_from, tree_of}
 use Rattle.nest_tree.specs.WellFormed.{is_number_of, loops_of}
 use Rattle.nest_model.specs.Memory.{memory_after}
@@ -15,7 +15,7 @@ use Rattle.nest_walk.specs.RoundsOf.{rounds_of}
 use Rattle.nest_walk.specs.TripsLeft.{trips_left}
 use Rattle.nest_walk.proofs.ByNumberLists.{with_rounds-length}
 use Rattle.seq_meaning.specs.Executions.{IsPlacedWork, memory_behind}
-use Rattle.seq_meaning.proofs.Repeats.{body_is, loop_there, one_trip, round_numbered, sole, there_are, trip_instance, trip_placed, trips_instances, trips_quiet, written_again}
+use Rattle.seq_meaning.proofs.Repeats.{body_is, loop_there, one_trip, round_numbered, sole, there_are, trip_instance, trip_placed, trips_instances, written_again}
 use Rattle.seq_meaning.proofs.RunInstances.{memory_rest}
 use Rattle.seq_meaning.proofs.RunSteps.{numbered_more, written_back}
 use Rattle.seq_meaning.proofs.run.Run.repeat.Goals as goal

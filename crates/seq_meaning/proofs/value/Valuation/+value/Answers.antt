@@ -9,7 +9,7 @@ use Rattle.nest_tree.proofs.tree.Expr.TheLaws.{the_size}
 use Rattle.nest_tree.proofs.Rows.{expression_of-Max, expression_of-Min}
 use Rattle.nest_model.specs.Meaning.{has_value, value_of}
 use Rattle.seq_meaning.proofs.Values.{arguments_valued-Min, arguments_valued-Max, Remains-cast, Remains-head, most_behind_first}
-use Rattle.seq_meaning.specs.Sources.{are_there, found_in}
+use Rattle.seq_meaning.specs.Sources.{found_in}
 use Rattle.seq_meaning.proofs.value.Valuation.+value.Goals as goal
 use Rattle.nest_tree.specs.Loads.{loads_in}
 

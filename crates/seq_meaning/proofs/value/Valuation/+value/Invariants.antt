@@ -4,7 +4,7 @@ use Rattle.nest_tree.specs.Loads.{loads_among}
 use Rattle.nest_tree.specs.View.{expressions_from}
 use Rattle.nest_model.specs.Meaning.{greatest, least, values_of}
 use Rattle.seq_meaning.proofs.Values.{Remains}
-use Rattle.seq_meaning.specs.Sources.{are_there, found_in}
+use Rattle.seq_meaning.specs.Sources.{found_in}
 use Rattle.seq_meaning.proofs.value.Valuation.+value.Given as goal
 
 abbrev pub invariant-greatest-loop-e : goal.invariant-greatest-loop-e
