@@ -1,5 +1,5 @@
 -- What a piece of work does where the loops have these values by number: memory and the output behind it.
-use Rattle.std.specs.Prelude.{ℕ, ◌≤◌, ℤ, None, List, [], ◌∷◌, map, length, ◌≡◌, IsTrue}
+use Rattle.std.specs.Prelude.{ℕ, ◌≤◌, ℤ, Option, None, Some, List, [], ◌∷◌, map, length, ◌≡◌, IsTrue}
 use Rattle.std.specs.List.{list_all}
 use Rattle.nest_tree.specs.Layout.{cell_count}
 use Rattle.nest_tree.specs.Tree.{Work, work, Statement, Tree, param_values}
@@ -7,7 +7,7 @@ use Rattle.nest_tree.specs.View.{statement_of, tree_of}
 use Rattle.nest_tree.specs.declared.tree.Access.{Access}
 use Rattle.nest_tree.specs.declared.tree.Expr.{Expr}
 use Rattle.nest_tree.specs.declared.tree.Item.{Item}
-use Rattle.nest_tree.specs.declared.tree.Item.TheVariants.{Assign}
+use Rattle.nest_tree.specs.declared.tree.Item.TheVariants.{Assign, Continue}
 use Rattle.nest_tree.specs.WellFormed.{is_number_of, loops_of}
 use Rattle.nest_model.specs.Instances.{Instance, instances_of}
 use Rattle.nest_model.specs.Accesses.{work_loads, work_store}
@@ -51,9 +51,14 @@ instances_there tree rounds s = instances_of (param_values tree) (statement_of s
 abbrev pub stop_instances : List ℤ → Visit → List Instance
 stop_instances params v = instances_of params v.what v.first v.loops
 
--- statements are one assignment of this value, without a comparison
+-- the CONTINUE at the end of a loop's body, where there is one
+abbrev pub ending : Option ℕ → List Item
+ending None = []
+ending (Some line) = Continue line ∷ []
+
+-- statements are one assignment of this value, without a comparison, and at most a CONTINUE behind it
 abbrev pub IsOnlyValue : List Item → Expr → Type 0
-IsOnlyValue items e = (target : Access) × (line : ℕ) × (items ≡ Assign target e None line ∷ [])
+IsOnlyValue items e = (target : Access) × (line : ℕ) × (end : Option ℕ) × (items ≡ Assign target e None line ∷ ending end)
 
 -- a run of a program is ready for an instance
 pub record IsReady (run : Run) : Type 0 where

@@ -1,6 +1,6 @@
 // The sequential run.
 
-ghost use Rattle.std.specs.Prelude.{◌≡◌, ◌++◌, ℕ, IfOk, IfSome, IsTrue, OnOk, Option, fold, slice_set};
+ghost use Rattle.std.specs.Prelude.{◌≡◌, ◌++◌, ℕ, IfOk, IfSome, IsTrue, None, OnOk, Option, fold, slice_set, true};
 ghost use Rattle.std.specs.List.{list_all};
 ghost use Rattle.nest_tree.specs.Limits.{IsWithinLimits};
 ghost use Rattle.nest_tree.specs.Tree.{Work, work};
@@ -224,19 +224,42 @@ impl<'a> Run<'a> {
     }
 }
 
-// The value of the one assignment in these statements, where there is no other statement and it
-// has no comparison.
+// The value of the one assignment in these statements, where it has no comparison, and no other
+// statement stands there but one CONTINUE behind it.
 fn only_value(items: &[Item]) -> Option<&Expr>
     ensures { IfSome result (λ e. IsOnlyValue items.now e.now) }
 {
     match items {
-        [Item::Assign(_, e, None, _)] => Some(e),
+        [only] => plain_value(only),
+        [first, last] => {
+            let e = plain_value(first)?;
+            if is_continue(last) { Some(e) } else { None }
+        }
         _ => None,
     }
 }
 
-// Marks the loops with no loop inside that has one assignment alone; whether one of these has, or
-// has one inside.
+fn is_continue(item: &Item) -> bool
+    ensures { result ≡ true → (line : ℕ) × (item.now ≡ Item.Continue line) }
+{
+    match item {
+        Item::Continue(_) => true,
+        _ => false,
+    }
+}
+
+// The value of an assignment without a comparison.
+fn plain_value(item: &Item) -> Option<&Expr>
+    ensures { IfSome result (λ e. (target : Access) × (line : ℕ) × (item.now ≡ Item.Assign target e.now None line)) }
+{
+    match item {
+        Item::Assign(_, e, None, _) => Some(e),
+        _ => None,
+    }
+}
+
+// Marks the loops with no loop inside that has one assignment alone; whether one of these has that,
+// or has such a loop inside.
 fn mark(items: &[Item], marks: &mut [bool]) -> bool {
     let mut found = false;
     for item in items {

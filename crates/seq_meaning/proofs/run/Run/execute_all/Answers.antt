@@ -18,8 +18,8 @@ returns-in-Some-clause-output c =
     let nest = c.in-Loop.nest in
     let only = c.in-Some.ensures in
     let items = c.deref.ensures.value in
-    let body = ap statements_from (sym items) ∙ body_is c.deref.result.now only.0 c.in-Some.e.now only.1 only.2 in
+    let body = ap statements_from (sym items) ∙ body_is c.deref.result.now only.0 c.in-Some.e.now only.1 only.2 only.3 in
     let loops = loops_in tree rounds in
     let quiet = ap (output_from tree memory) (there_are tree rounds c.args.stop nest c.in-Loop.is)
-    ∙ trips_quiet tree (statements_from nest.items.items) (sole only.0 c.in-Some.e.now only.1) c.args.stop.first nest.number loops (head_trips (param_values tree) (head_of nest) loops) memory refl body in
+    ∙ trips_quiet tree (statements_from nest.items.items) (sole only.0 c.in-Some.e.now only.1) only.2 c.args.stop.first nest.number loops (head_trips (param_values tree) (head_of nest) loops) memory refl body in
     c.repeat.ensures.output ∙ sym (append-nil said) ∙ ap (λ o. said ++ o) (sym quiet)

@@ -87,13 +87,13 @@ assign-requires-clause-placed c =
     let fits : FitsSigned w64 c.take-value.result = search rules in
     let set_is = c.set.ensures (record { number = nest.number; value = inv.at.0 }) rounds inv.at.1 in
     let a = sole c.requires.only.0 c.args.e.now c.requires.only.1 in
-    let body = body_is nest.items.items c.requires.only.0 c.args.e.now c.requires.only.1 c.requires.only.2 in
+    let body = body_is nest.items.items c.requires.only.0 c.args.e.now c.requires.only.1 c.requires.only.2 c.requires.only.3 in
     let trips = trips_instances (param_values tree) (statements_from nest.items.items) first nest.number (loops_in tree rounds) in
     let taken = c.take-value.ensures ∙ ap (λ x. x ∷ trips_left c.take-value.new.self) (sym (to_z-of_z w64 c.take-value.result fits)) in
-    let left = one_trip (param_values tree) (statements_from nest.items.items) a first nest.number (loops_in tree rounds) (trips_left c.loop-work.trips) (trips_left c.take-value.new.self) v refl body taken in
+    let left = one_trip (param_values tree) (statements_from nest.items.items) a c.requires.only.2 first nest.number (loops_in tree rounds) (trips_left c.loop-work.trips) (trips_left c.take-value.new.self) v refl body taken in
     let insides = and_parts (is_instance_inside tree (trip_instance a first nest.number (loops_in tree rounds) v)) (list_all (is_instance_inside tree) (trips (trips_left c.take-value.new.self))) (sym (ap (list_all (is_instance_inside tree)) left) ∙ inv.inside) in
-    let item_is = c.index.ensures ∙ ap (λ xs. get_or xs 0 c.index.result.now) c.requires.only.2 in
-    let placed = trip_placed tree rounds c.args.stop nest a v (statement_of c.index.result.now) (ap statement_of item_is) c.requires.nest c.requires.reached body c.requires.text insides.0 in
+    let item_is = c.index.ensures ∙ ap (λ xs. get_or xs 0 c.index.result.now) c.requires.only.3 in
+    let placed = trip_placed tree rounds c.args.stop nest a c.requires.only.2 v (statement_of c.index.result.now) (ap statement_of item_is) c.requires.nest c.requires.reached body c.requires.text insides.0 in
     let here = subst (λ rs. IsPlacedWork tree rs first (statement_of c.index.result.now)) (sym set_is) placed in
     subst (λ p. IsPlacedWork (tree_of p) (rounds_of c.set.new.self) first (statement_of c.index.result.now)) (sym inv.program) here
 
@@ -109,14 +109,14 @@ loop-work-preserved c =
     let fits : FitsSigned w64 c.take-value.result = search rules in
     let set_is = c.set.ensures (record { number = n; value = inv.at.0 }) rounds inv.at.1 in
     let a = sole c.requires.only.0 c.args.e.now c.requires.only.1 in
-    let body = body_is nest.items.items c.requires.only.0 c.args.e.now c.requires.only.1 c.requires.only.2 in
+    let body = body_is nest.items.items c.requires.only.0 c.args.e.now c.requires.only.1 c.requires.only.2 c.requires.only.3 in
     let trips = trips_instances (param_values tree) (statements_from nest.items.items) first n (loops_in tree rounds) in
     let taken = c.take-value.ensures ∙ ap (λ x. x ∷ trips_left c.take-value.new.self) (sym (to_z-of_z w64 c.take-value.result fits)) in
     let i = trip_instance a first n (loops_in tree rounds) v in
     let rest = trips (trips_left c.take-value.new.self) in
-    let left = one_trip (param_values tree) (statements_from nest.items.items) a first n (loops_in tree rounds) (trips_left c.loop-work.trips) (trips_left c.take-value.new.self) v refl body taken in
+    let left = one_trip (param_values tree) (statements_from nest.items.items) a c.requires.only.2 first n (loops_in tree rounds) (trips_left c.loop-work.trips) (trips_left c.take-value.new.self) v refl body taken in
     let insides = and_parts (is_instance_inside tree i) (list_all (is_instance_inside tree) rest) (sym (ap (list_all (is_instance_inside tree)) left) ∙ inv.inside) in
-    let item_is = c.index.ensures ∙ ap (λ xs. get_or xs 0 c.index.result.now) c.requires.only.2 in
+    let item_is = c.index.ensures ∙ ap (λ xs. get_or xs 0 c.index.result.now) c.requires.only.3 in
     let old = c.loop-work.self.memory.items in
     let new = c.assign.new.self.memory.items in
     let step = c.assign.ensures.memory (assign a) (ap statement_of item_is) ∙ ap (λ p. memory_behind (tree_of p) (loops_in (tree_of p) (rounds_of c.set.new.self)) (assign a) old) inv.program
