@@ -24,7 +24,6 @@ IsTable-alike rows more links latest count same table = record {
   chained = table.chained;
   count = table.count ∙ count;
   hashes = λ k h. let low : k < length rows = omega (arith, count, h) in table.hashes k low ∙ ap hash_of (same k low);
-  opposites = λ k h. let low : k < length rows = omega (arith, count, h) in table.opposites k low ∙ ap (λ xs. hash_of (map neg_ℤ xs)) (same k low);
   distinct = λ i j d lt h e.
       let low : j < length rows = omega (arith, count, h) in
       let at : (k : ℕ) → k < length rows → (get_or rows k d).coefs ≡ (get_or more k d).coefs = λ k within. ap (λ r. r.coefs) (get_or_default rows k d no_row within) ∙ same k within ∙ ap (λ r. r.coefs) (get_or_default more k no_row d (omega (arith, count, within))) in

@@ -19,11 +19,11 @@ hash_of coefs = hash_from 0 coefs
 abbrev pub place_of : ℕ → ℕ → ℕ
 place_of places hash = hash / 2 ^ 64 * places / 2 ^ 64
 
-abbrev pub link_of : ℕ → ℕ → ℕ → Link
-link_of hash opposite earlier = record { hash = hash; opposite = opposite; earlier = earlier }
+abbrev pub link_of : ℕ → ℕ → Link
+link_of hash earlier = record { hash = hash; earlier = earlier }
 
 abbrev pub link_at : List Link → ℕ → Link
-link_at links k = slice_index_or links k (link_of 0 0 0)
+link_at links k = slice_index_or links k (link_of 0 0)
 
 -- the number is one more than that of the last row before the end that has the place, or 0 where none has
 pub record IsNewest (links : List Link) (places place end number : ℕ) : Type 0 where

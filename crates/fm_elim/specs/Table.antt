@@ -1,5 +1,5 @@
 -- Rows of which no two have equal coefficients, and how one more is put among them.
-use Rattle.std.specs.Prelude.{ℕ, ◌<◌, ℤ, pos, neg_ℤ, ◌≤ℤ◌, ◌<ℤ◌, List, map, length, slice_index_or, slice_set, None, if◌then◌else◌, ◌⊎◌, ◌≡◌}
+use Rattle.std.specs.Prelude.{ℕ, ◌<◌, ℤ, pos, ◌≤ℤ◌, ◌<ℤ◌, List, length, slice_index_or, slice_set, None, if◌then◌else◌, ◌⊎◌, ◌≡◌}
 use Rattle.std.specs.List.{All, AllPairs, Contains}
 use Rattle.farkas_cert.specs.declared.system.Row.{Row}
 use Rattle.farkas_cert.specs.Combination.{no_row}
@@ -13,12 +13,11 @@ use Rattle.fm_elim.specs.Forming.{Covers}
 use Rattle.fm_elim.specs.Gathering.{IsUseful}
 use Rattle.fm_elim.specs.Logs.{rows_among}
 
--- the rows differ in their coefficients, and their links have the hashes
+-- the rows differ in their coefficients, and their links have the hashes of these
 pub record IsTable (rows : List Row) (links : List Link) (latest : List ℕ) : Type 0 where
   pub chained : AreChained links latest
   pub count : length links ≡ length rows
   pub hashes : (k : ℕ) → k < length rows → (link_at links k).hash ≡ hash_of (slice_index_or rows k no_row).coefs
-  pub opposites : (k : ℕ) → k < length rows → (link_at links k).opposite ≡ hash_of (map neg_ℤ (slice_index_or rows k no_row).coefs)
   pub distinct : AllPairs (λ r s. r.coefs ≡ s.coefs → ⊥) rows
 
 -- the candidate was put among the others: it was added, or took the place of one with its coefficients, or one of them says as much

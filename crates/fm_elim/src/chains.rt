@@ -1,8 +1,6 @@
 // Rows by a hash of their coefficients.
 
-ghost use Rattle.std.specs.Prelude.{◌≡◌, ◌<◌, ℕ, neg_ℤ, IsTrue, map, IfOk, OnOk, [], ◌∷◌, ◌++◌, length};
-ghost use Rattle.std.specs.List.{All};
-ghost use Rattle.farkas_cert.specs.Combination.{is_narrow as narrow};
+ghost use Rattle.std.specs.Prelude.{◌≡◌, ◌<◌, ℕ, IfOk, OnOk, [], ◌∷◌, ◌++◌, length};
 ghost use Rattle.fm_elim.specs.Chains.{mixed as mixed_with, hash_of as hash, place_of as place, AreChained, IsNewest, link_of};
 
 use std::alloc::{AllocError, Global};
@@ -29,34 +27,10 @@ pub fn hash_of(coefs: &[i128]) -> u128
     sum
 }
 
-// The hash with one coefficient more, with the other sign.
-#[inline(always)]
-fn mixed_opposite(hash: u128, coef: i128) -> u128
-    requires { IsTrue (narrow coef) }
-    ensures { result ≡ mixed_with hash (neg_ℤ coef) }
-{
-    mixed(hash, -coef)
-}
-
-/// The hash of coefficients, each with the other sign.
-pub fn opposite_hash(coefs: &[i128]) -> u128
-    requires { All (λ a. IsTrue (narrow a)) coefs.now }
-    ensures { result ≡ hash (map neg_ℤ coefs.now) }
-{
-    let mut sum = 0;
-    for coef in coefs {
-        sum = mixed_opposite(sum, *coef);
-    }
-    sum
-}
-
-/// The hashes of a row's coefficients, and how its place leads to an earlier row.
+/// The hash of a row's coefficients, and how its place leads to an earlier row.
 #[derive(Clone, Copy)]
 pub struct Link {
-    /// Of the coefficients.
     pub hash: u128,
-    /// Of the coefficients, each with the other sign.
-    pub opposite: u128,
     /// One more than the number of the last row before this one with the same place, 0 if there is none.
     pub earlier: usize,
 }
@@ -103,18 +77,15 @@ impl Chains {
     }
 
     /// One more row. Where memory runs out nothing has changed.
-    pub fn push(&mut self, hash: u128, opposite: u128) -> Result<(), AllocError>
+    #[inline(always)]
+    pub fn push(&mut self, hash: u128) -> Result<(), AllocError>
         requires { AreChained self.old.links.items self.old.latest.items }
-        ensures pushed { OnOk result ((earlier : ℕ) × (self.new.links.items ≡ self.old.links.items ++ link_of hash opposite earlier ∷ [])) }
+        ensures pushed { OnOk result ((earlier : ℕ) × (self.new.links.items ≡ self.old.links.items ++ link_of hash earlier ∷ [])) }
         ensures chained { OnOk result (AreChained self.new.links.items self.new.latest.items) }
     {
         let place = place_of(hash, self.latest.len());
         let earlier = self.latest[place];
-        self.links.push(Link {
-            hash,
-            opposite,
-            earlier,
-        })?;
+        self.links.push(Link { hash, earlier })?;
         self.latest[place] = self.links.len();
         Ok(())
     }

@@ -60,6 +60,9 @@ fn narrow_weighted_sum(m: i128, a: i128, n: i128, b: i128) -> i128
     requires { IsTrue (stays_narrow (pos 0) ((m *ℤ a) ∷ (n *ℤ b) ∷ [])) }
     ensures { result ≡ m *ℤ a +ℤ n *ℤ b }
 {
+    if m == 1 && n == 1 {
+        return a + b;
+    }
     m * a + n * b
 }
 

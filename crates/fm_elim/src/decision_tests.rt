@@ -1,11 +1,13 @@
 // Worked decisions, each answer as a text. A level begins with the rows that it keeps, and the given ones are in their order.
 
-ghost use Rattle.std.specs.Prelude.{◌≡◌, IfOk};
+ghost use Rattle.std.specs.Prelude.{◌≡◌, IfOk, pos, [], ◌∷◌, ◌++◌, length};
 ghost use Rattle.std.specs.List.{range_with_len};
+ghost use Rattle.farkas_cert.specs.declared.system.Row.{Row as RowOf};
 ghost use Rattle.fm_elim.specs.Answers.{NamesEachOnce};
 
 use crate::answer::{Answer, NoMemory};
-use crate::elimination::decide;
+use crate::elimination::{Advance, Level, decide};
+use crate::level::copy_of;
 use crate::tests::{Given, row_of};
 use farkas_cert::narrow::are_narrow_rows;
 use farkas_cert::{Certificate, Row, System, check_cert};
@@ -13,7 +15,9 @@ use std::alloc::{AllocError, Global};
 use std::test::Fail;
 
 // The system of these rows, those of another number of coefficients left out.
-fn system_of(alloc: Global, vars: u32, rows: &[Given<'_>]) -> Result<System, AllocError> {
+fn system_of(alloc: Global, vars: u32, rows: &[Given<'_>]) -> Result<System, AllocError>
+    ensures { IfOk result (λ system. system.vars ≡ vars) }
+{
     let mut system = System::empty(alloc, vars);
     for (coefs, bound) in rows {
         if coefs.len() == vars as usize {
@@ -100,6 +104,64 @@ fn decided(alloc: Global, system: &System, back: bool) -> Result<String, NoMemor
 // The answer for rows over so many variables, in order.
 fn told(alloc: Global, vars: u32, rows: &[Given<'_>]) -> Result<String, NoMemory> {
     decided(alloc, &system_of(alloc, vars, rows)?, false)
+}
+
+// The system with one row more, j times the coefficient at most the bound, over i and j.
+fn with_row(alloc: Global, system: &System, coef: i128, bound: i128) -> Result<System, AllocError>
+    requires { system.now.vars ≡ 2 }
+    ensures vars { IfOk result (λ whole. whole.vars ≡ system.now.vars) }
+    ensures rows { IfOk result (λ whole. (row : RowOf) × (row.coefs ≡ pos 0 ∷ coef ∷ []) × (whole.rows ≡ system.now.rows ++ row ∷ [])) }
+{
+    let given = system.rows();
+    let mut whole = System::empty(alloc, system.vars());
+    for row in given {
+        whole.push(copy_of(alloc, row)?)?;
+    }
+    whole.push(row_of(alloc, &[0, coef], bound)?)?;
+    Ok(whole)
+}
+
+// The answer for the rows over i and j and one row more, with which the level without i goes on.
+fn told_behind(
+    alloc: Global,
+    rows: &[Given<'_>],
+    coef: i128,
+    bound: i128,
+) -> Result<String, NoMemory> {
+    let system = system_of(alloc, 2, rows)?;
+    let whole = with_row(alloc, &system, coef, bound)?;
+    if !are_narrow_rows(system.rows()) || !are_narrow_rows(whole.rows()) {
+        return Ok(format!(in alloc; "too large")?);
+    }
+    let order = in_order(alloc, 2)?;
+    let level = match Level::start(alloc, &system, order.as_slice())?.advance(alloc)? {
+        Advance::Level(level) => level,
+        Advance::Answer(answer) => return Ok(answer_text(alloc, &system, &answer)?),
+    };
+    if !level.has_room_for(1) {
+        return Ok(format!(in alloc; "no room")?);
+    }
+    let level = level.extend(alloc, &whole, order.as_slice())?;
+    let answer = level.answer(alloc)?;
+    Ok(answer_text(alloc, &whole, &answer)?)
+}
+
+// Behind i >= 1 and i <= j: without i, j >= 1, which is row 4 behind one row more. Open with that row where
+// it leaves room, and else infeasible: at once, or where it is reduced first.
+#[test]
+fn a_level_goes_on_with_a_row_more(rt: HostRuntime) -> Result<(), Fail> {
+    let alloc = rt.alloc();
+    let rows: &[Given<'_>] = &[(&[-1, 0], -1), (&[1, -1], 0)];
+    let table = [
+        (1, 1, "open"),
+        (-1, 0, "open"),
+        (1, 0, "infeasible, good true, 1 2*1 1*1, 1 4*1 3*1"),
+        (2, 1, "infeasible, good true, 1 2*1 1*1, 2 3*1, 1 4*1 5*1"),
+    ];
+    for (coef, bound, told) in table {
+        assert_eq!(rt; told_behind(alloc, rows, coef, bound)?.as_str(), told);
+    }
+    Ok(())
 }
 
 // i is 1; and 2i is 1, which holds at i = 1/2 alone.

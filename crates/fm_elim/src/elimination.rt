@@ -15,6 +15,9 @@ use crate::refutation::refutation;
 use farkas_cert::System;
 use std::alloc::Global;
 
+/// How many derived rows there is room for at first.
+const DERIVED: usize = 100;
+
 /// A level of the elimination of a system's variables in an order: its rows, and how each of them
 /// follows from the system's. Level 0 comes first, and each level removes one variable more.
 #[derive(Drop)]
@@ -51,7 +54,7 @@ impl<'a> Level<'a> {
         ensures order { IfOk result (λ level. order_of level ≡ order.now) }
         ensures gone { IfOk result (λ level. gone_of level ≡ 0) }
     {
-        let mut log = Vec::with_capacity(alloc, system.rows().len())?;
+        let mut log = Vec::with_capacity(alloc, system.rows().len().saturating_add(DERIVED))?;
         let rows = first_level(alloc, system, &mut log)?;
         Ok(Level {
             system,
@@ -152,6 +155,24 @@ impl<'a> Level<'a> {
             })),
         }
     }
+
+    /// Removes the variables that are left, and answers for the level's system in its order as `decide`
+    /// does. An error says that memory ran out.
+    pub fn answer(self, alloc: Global) -> Result<Answer, NoMemory>
+        requires level { IsLevel self }
+        ensures decided { IfOk result (IsDecided (system_of self.entry) (order_of self.entry)) }
+        ensures lean { IfOk result (λ a. IfInfeasible a (λ c. IsLean (system_of self.entry) c)) }
+        ensures before_wide { IfOk result (λ a. IfWide a (λ k upper lower. IsFreeOfClashes (IsDerived (system_of self.entry) (order_of self.entry) (k - 1)))) }
+        ensures before_many { IfOk result (λ a. IfMany a (λ k count. IsFreeOfClashes (IsDerived (system_of self.entry) (order_of self.entry) (k - 1)))) }
+    {
+        let mut level = self;
+        loop {
+            match level.advance(alloc)? {
+                Advance::Level(next) => level = next,
+                Advance::Answer(answer) => return Ok(answer),
+            }
+        }
+    }
 }
 
 /// Decides a system by Fourier's elimination, which removes the variables in the order that is given.
@@ -175,11 +196,5 @@ pub fn decide(alloc: Global, system: &System, order: &[u32]) -> Result<Answer, N
     ensures before_wide { IfOk result (λ a. IfWide a (λ k upper lower. IsFreeOfClashes (IsDerived system.now order.now (k - 1)))) }
     ensures before_many { IfOk result (λ a. IfMany a (λ k count. IsFreeOfClashes (IsDerived system.now order.now (k - 1)))) }
 {
-    let mut level = Level::start(alloc, system, order)?;
-    loop {
-        match level.advance(alloc)? {
-            Advance::Level(next) => level = next,
-            Advance::Answer(answer) => return Ok(answer),
-        }
-    }
+    Level::start(alloc, system, order)?.answer(alloc)
 }

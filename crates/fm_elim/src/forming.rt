@@ -1,6 +1,6 @@
 // The candidates of the next level.
 
-ghost use Rattle.std.specs.Prelude.{◌≡◌, ◌≤◌, ◌<◌, ℕ, neg_ℤ, pos, int_lt, IsTrue, IfOk, OnOk, MatchOption, List, [], ◌∷◌, ◌++◌, map, length};
+ghost use Rattle.std.specs.Prelude.{◌≡◌, ◌≤◌, ◌<◌, ℕ, pos, int_lt, IsTrue, IfOk, OnOk, MatchOption, List, [], ◌∷◌, ◌++◌, map, length};
 ghost use Rattle.std.specs.Bool.{MatchBool};
 ghost use Rattle.std.specs.List.{All, filter};
 ghost use Rattle.std.specs.Ordering.{int_eq};
@@ -37,7 +37,6 @@ fn place(split: &mut BySign, held: Held, link: Link, variable: u32) -> Result<()
     requires known { variable ≤ length held.row.coefs }
     requires table { IsTable (rows_among split.old.apart.rows.items) split.old.apart.chains.links.items split.old.apart.chains.latest.items }
     requires hash { link.hash ≡ hash_by held.row.coefs }
-    requires opposite { link.opposite ≡ hash_by (map neg_ℤ held.row.coefs) }
     requires distinct { All (λ r. r.coefs ≡ held.row.coefs → ⊥) (rows_among split.old.apart.rows.items) }
     ensures table { OnOk result (IsTable (rows_among split.new.apart.rows.items) split.new.apart.chains.links.items split.new.apart.chains.latest.items) }
     ensures apart { OnOk result (split.new.apart.rows.items ≡ split.old.apart.rows.items ++ map candidate_of (filter (λ h. int_eq (coef variable h.row) (pos 0)) (held ∷ []))) }
@@ -48,9 +47,7 @@ fn place(split: &mut BySign, held: Held, link: Link, variable: u32) -> Result<()
     if coef == 0 {
         let Held { row, number } = held;
         let origin = Origin::Numbered(number);
-        split
-            .apart
-            .push(Candidate { row, origin }, link.hash, link.opposite)?;
+        split.apart.push(Candidate { row, origin }, link.hash)?;
     } else if coef > 0 {
         split.uppers.push(held)?;
     } else {
@@ -165,6 +162,14 @@ fn join_pairs(
     Ok(true)
 }
 
+// As many coefficients as a row has: it says how much room to make, and nothing rests on it.
+fn width_of(rows: &[Held]) -> usize {
+    match rows.first() {
+        Some(held) => held.row.coefs.as_slice().len(),
+        None => 0,
+    }
+}
+
 /// Puts what each pair makes among the rows without the variable, and tells whether that was all: it ends
 /// where there are too many rows. No pair is wide. An error says that memory ran out.
 pub fn join_all(
@@ -181,7 +186,7 @@ pub fn join_all(
     ensures joined { IfOk result (λ whole. (apart : List HeldRow) → IsGathered variable apart [] lowers.now table.old.rows.items →
         MatchBool whole (IsGathered variable apart uppers.now lowers.now table.new.rows.items) (HasApart 20000 (IsSource variable apart uppers.now lowers.now))) }
 {
-    let mut coefs = Vec::new(alloc);
+    let mut coefs = Vec::with_capacity(alloc, width_of(uppers))?;
     for upper in uppers {
         if !join_pairs(alloc, table, &mut coefs, upper, lowers, variable)? {
             return Ok(false);

@@ -86,7 +86,8 @@ pub fn is_empty(row: &Row) -> bool
     are_zero(row.coefs.as_slice())
 }
 
-fn copy_of(alloc: Global, row: &Row) -> Result<Row, AllocError>
+/// The same row. An error says that memory ran out.
+pub fn copy_of(alloc: Global, row: &Row) -> Result<Row, AllocError>
     ensures { IfOk result (λ copy. copy ≡ row.now) }
 {
     Ok(Row {

@@ -45,6 +45,12 @@ pub fn greatest_common_divisor(a: u128, b: u128) -> u128
     ensures common { IsGcd a b result }
     ensures size { result ≤ max a b }
 {
+    if a == 0 {
+        return b;
+    }
+    if a == 1 || b == 1 {
+        return 1;
+    }
     if a.max(b) < WORD {
         return small_common_divisor(a as u64, b as u64) as u128;
     }

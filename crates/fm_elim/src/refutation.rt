@@ -81,7 +81,7 @@ fn opponent(level: &HeldRows, number: usize) -> Option<usize>
     ensures { MatchOption result (All (λ r. AreClashing (slice_index_or (rows_of level.now.rows.items) number no_row) r → ⊥) (rows_of level.now.rows.items))
         (λ k. (k < length level.now.rows.items) × AreClashing (slice_index_or (rows_of level.now.rows.items) number no_row) (slice_index_or (rows_of level.now.rows.items) k no_row)) }
 {
-    let hash = level.chains.links[number].opposite;
+    let hash = level.chains.links[number].hash.wrapping_neg();
     let row = &level.rows[number].row;
     let mut end = level.chains.last(hash);
     while end > 0 {

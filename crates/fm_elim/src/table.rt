@@ -1,6 +1,6 @@
 // The rows of a level, found by their coefficients.
 
-ghost use Rattle.std.specs.Prelude.{◌≡◌, ◌↔◌, ◌<◌, neg_ℤ, pos, ◌≤ℤ◌, IsTrue, IfOk, OnOk, MatchOption, ◌++◌, ◌∷◌, [], map, length, slice_index_or};
+ghost use Rattle.std.specs.Prelude.{◌≡◌, ◌↔◌, ◌<◌, pos, ◌≤ℤ◌, IsTrue, IfOk, OnOk, MatchOption, ◌++◌, ◌∷◌, [], length, slice_index_or};
 ghost use Rattle.std.specs.List.{All, AllPairs, Contains};
 ghost use Rattle.farkas_cert.specs.Combination.{is_narrow as narrow, no_row};
 ghost use Rattle.fm_elim.specs.Chains.{hash_of as hash_by};
@@ -8,7 +8,7 @@ ghost use Rattle.fm_elim.specs.Table.{IsTable, IsPut, IsLowered, candidate_with}
 ghost use Rattle.fm_elim.specs.Levels.{IsEmpty};
 ghost use Rattle.fm_elim.specs.Logs.{rows_among};
 
-use crate::chains::{Chains, hash_of, opposite_hash};
+use crate::chains::{Chains, hash_of};
 use crate::level::{Candidate, Origin};
 use farkas_cert::{Coefs, Row};
 use std::alloc::{AllocError, Global};
@@ -81,20 +81,15 @@ impl Table {
     }
 
     /// One more row, whose coefficients no other has. An error says that memory ran out.
-    pub fn push(
-        &mut self,
-        candidate: Candidate,
-        hash: u128,
-        opposite: u128,
-    ) -> Result<(), AllocError>
+    #[inline(always)]
+    pub fn push(&mut self, candidate: Candidate, hash: u128) -> Result<(), AllocError>
         requires table { IsTable (rows_among self.old.rows.items) self.old.chains.links.items self.old.chains.latest.items }
         requires hash { hash ≡ hash_by candidate.row.coefs }
-        requires opposite { opposite ≡ hash_by (map neg_ℤ candidate.row.coefs) }
         requires apart { All (λ r. r.coefs ≡ candidate.row.coefs → ⊥) (rows_among self.old.rows.items) }
         ensures table { OnOk result (IsTable (rows_among self.new.rows.items) self.new.chains.links.items self.new.chains.latest.items) }
         ensures pushed { OnOk result (self.new.rows.items ≡ self.old.rows.items ++ candidate ∷ []) }
     {
-        self.chains.push(hash, opposite)?;
+        self.chains.push(hash)?;
         self.rows.push(candidate)?;
         Ok(())
     }
@@ -139,7 +134,7 @@ impl Table {
             coefs: Coefs::from_slice(alloc, coefs)?,
             bound,
         };
-        self.push(Candidate { row, origin }, hash, opposite_hash(coefs))?;
+        self.push(Candidate { row, origin }, hash)?;
         Ok(())
     }
 }

@@ -13,7 +13,7 @@ use std::test::Fail;
 pub(crate) type Given<'a> = (&'a [i128], i128);
 
 pub(crate) fn row_of(alloc: Global, coefs: &[i128], bound: i128) -> Result<Row, AllocError>
-    ensures { IfOk result (λ row. row.coefs ≡ coefs.now) }
+    ensures { IfOk result (λ row. row ≡ record { coefs = coefs.now; bound = bound }) }
 {
     Ok(Row {
         coefs: Coefs::from_slice(alloc, coefs)?,

@@ -14,4 +14,4 @@ returns-clause-table c =
     let pushed = c.in_ok-push.ensures.pushed in
     let rows : rows_among c.push-2.new.self.items ≡ rows_among old ++ c.args.candidate.row ∷ [] = ap rows_among c.in_ok-push-2.ensures.items ∙ map-append (λ (c : Candidate). c.row) old (c.args.candidate ∷ []) in
     subst (λ rs. IsTable rs more c.push.new.self.latest.items) (sym rows)
-    (IsTable-push (rows_among old) c.args.candidate.row c.args.self.now.chains.links.items more (link_of c.args.hash c.args.opposite pushed.0) c.args.self.now.chains.latest.items c.push.new.self.latest.items c.requires.table c.in_ok-push.ensures.chained pushed.1 c.requires.hash c.requires.opposite c.requires.apart)
+    (IsTable-push (rows_among old) c.args.candidate.row c.args.self.now.chains.links.items more (link_of c.args.hash pushed.0) c.args.self.now.chains.latest.items c.push.new.self.latest.items c.requires.table c.in_ok-push.ensures.chained pushed.1 c.requires.hash c.requires.apart)

@@ -1,15 +1,15 @@
 use Rattle.std.proofs.Common.{◌≡◌, ◌-◌, length}
 use Rattle.fm_elim.specs.Advances.{IsLevel, system_of, order_of, gone_of}
-use Rattle.fm_elim.proofs.elimination.decide.Given as goal
+use Rattle.fm_elim.proofs.elimination.Level.answer.Given as goal
 
--- a level of the system
+-- a level of the same system
 abbrev pub invariant-loop-next : goal.invariant-loop-next
 invariant-loop-next l = record {
   level : IsLevel l.level;
-  system : system_of l.level ≡ l.system;
-  order : order_of l.level ≡ l.order;
+  system : system_of l.level ≡ system_of l.fn.self;
+  order : order_of l.level ≡ order_of l.fn.self;
 }
 
 -- the variables that are left
 abbrev pub decreases-loop-next : goal.decreases-loop-next
-decreases-loop-next l = length l.order - gone_of l.level
+decreases-loop-next l = length (order_of l.level) - gone_of l.level
