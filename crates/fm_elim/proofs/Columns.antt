@@ -13,7 +13,8 @@ use Rattle.farkas_cert.specs.declared.system.Row.{Row}
 use Rattle.fm_elim.specs.Reduction.{IsReduced}
 use Rattle.fm_elim.specs.Pairs.{coef_of, combined, combination, IsPair}
 use Rattle.fm_elim.specs.Levels.{IsEmpty, IsRaw, IsCombined}
-use Rattle.fm_elim.proofs.Integers.{mul_assoc_ℤ, mul_swap, mul-neg}
+use Rattle.farkas_cert.proofs.Integers.{mul_assoc_ℤ}
+use Rattle.fm_elim.proofs.Integers.{mul_swap, mul-neg}
 use Rattle.fm_elim.proofs.Combined.{by_lt}
 use Rattle.fm_elim.proofs.Removal.{IsSolvable}
 

@@ -22,6 +22,11 @@ combined-drop m n xs ys k d h same =
     let f = drop-cons ys k d there in
     rw (e, f, add-one) refl
 
+pub all_three : (a b c : Bool) → IsTrue a → IsTrue b → IsTrue c → IsTrue (a && b && c)
+all_three true true c x y z = z
+all_three true false c x y z = y
+all_three false b c x y z = x
+
 -- two products, then their sum
 pub both_narrow : (p q : ℤ) → stays_narrow (pos 0) (p ∷ q ∷ []) ≡ (is_narrow p && is_narrow q && is_narrow (p +ℤ q))
 both_narrow p q = rw (+ℤ_idl p) (cases (is_narrow p) (is_narrow q) (is_narrow (p +ℤ q)))

@@ -12,18 +12,12 @@ use Rattle.fm_elim.specs.declared.level.Candidate.{Candidate}
 use Rattle.fm_elim.specs.declared.level.Origin.{Origin}
 use Rattle.fm_elim.specs.declared.level.Origin.TheVariants.{Numbered, Made}
 use Rattle.fm_elim.specs.Logs.{step_of, all_rows, IsLog, IsContinued, IsNumber, IsOrigin, IsFounded, IsHeld}
+use Rattle.fm_elim.proofs.Copies.{rows_after-begins}
 use Rattle.fm_elim.proofs.Steps.{AreGoodSteps-push, rows_after-push, length-rows_after, IsNumber-append, IsGoodStep-append, made_row-append}
 
 pub rows_after-append : (vars : ℕ) (rows : List Row) (xs ys : List Step) → rows_after vars rows (xs ++ ys) ≡ rows_after vars (rows_after vars rows xs) ys
 rows_after-append vars rows [] ys = refl
 rows_after-append vars rows (x ∷ xs) ys = rows_after-append vars (rows ++ made_row vars rows x ∷ []) xs ys
-
--- the rows that were there come first
-pub rows_after-more : (vars : ℕ) (rows : List Row) (steps : List Step) → (more : List Row) × (rows_after vars rows steps ≡ rows ++ more)
-rows_after-more vars rows [] = ([], sym (append-nil rows))
-rows_after-more vars rows (s ∷ steps) =
-    let rest = rows_after-more vars (rows ++ made_row vars rows s ∷ []) steps in
-    (made_row vars rows s ∷ rest.0, rest.1 ∙ append_assoc rows (made_row vars rows s ∷ []) rest.0)
 
 pub IsContinued-refl : (log : List Derivation) → IsContinued log log
 IsContinued-refl log = ([], sym (append-nil log))
@@ -33,7 +27,7 @@ IsContinued-push log d = (d ∷ [], refl)
 
 pub all_rows-continued : (system : Inequalities) (old new : List Derivation) → IsContinued old new → (more : List Row) × (all_rows system new ≡ all_rows system old ++ more)
 all_rows-continued system old new h =
-    let rest = rows_after-more system.vars (all_rows system old) (map step_of h.0) in
+    let rest = rows_after-begins system.vars (all_rows system old) (map step_of h.0) in
     (rest.0, ap (all_rows system) h.1 ∙ ap (rows_after system.vars system.rows) (map-append step_of old h.0) ∙ rows_after-append system.vars system.rows (map step_of old) (map step_of h.0) ∙ rest.1)
 
 pub IsNumber-continued : (system : Inequalities) (old new : List Derivation) (number : ℕ) (row : Row) → IsContinued old new → IsNumber (all_rows system old) number row → IsNumber (all_rows system new) number row

@@ -16,7 +16,7 @@ use Rattle.fm_elim.specs.Table.{IsPut, candidate_with}
 use Rattle.fm_elim.specs.Logs.{step_of, all_rows, IsNumber, IsFounded, IsHeld, rows_of, rows_among}
 use Rattle.fm_elim.specs.Gathering.{IsCovered, AreTaken}
 use Rattle.fm_elim.proofs.Covering.{Contains-map}
-use Rattle.fm_elim.proofs.Continuing.{rows_after-more}
+use Rattle.fm_elim.proofs.Copies.{rows_after-begins}
 use Rattle.fm_elim.proofs.Steps.{IsNumber-append}
 use Rattle.fm_elim.proofs.Leveling.{formed_from}
 use Rattle.fm_elim.proofs.Given.{given_number, AreTaken-more}
@@ -32,7 +32,7 @@ rest_whole k xs = take_all (length xs - k) (drop k xs) (omega (arith, length-dro
 -- a given row's number among all rows
 pub number_given : (system : Inequalities) (log : List Derivation) (k : ℕ) (raw : Row) → k < length system.rows → raw ≡ get_or system.rows k raw → IsNumber (all_rows system log) (k + 1) raw
 number_given system log k raw h at =
-    let more = rows_after-more system.vars system.rows (map step_of log) in
+    let more = rows_after-begins system.vars system.rows (map step_of log) in
     subst (λ rows. IsNumber rows (k + 1) raw) (sym more.1) (IsNumber-append system.rows more.0 (k + 1) raw (given_number system.rows k raw h at))
 
 module _ (whole : Inequalities) (log : List Derivation) (rows : List Held) (further : List Row) where

@@ -16,7 +16,7 @@ use Rattle.fm_elim.specs.Pairs.{combined, combination, IsNarrow}
 use Rattle.fm_elim.specs.Logs.{step_of, all_rows, IsLog, IsNumber, IsSuited, IsHeld}
 use Rattle.fm_elim.specs.Answers.{AreClashing}
 use Rattle.fm_elim.proofs.Divisors.{divided-one}
-use Rattle.fm_elim.proofs.Combined.{by_lt, both_narrow, entry_at-coef, entry_at-bound}
+use Rattle.fm_elim.proofs.Combined.{all_three, by_lt, both_narrow, entry_at-coef, entry_at-bound}
 use Rattle.fm_elim.proofs.Steps.{AreGoodSteps-push, rows_after-push, narrow-entry, once, good_combination, combination_makes}
 use Rattle.fm_elim.proofs.Lowest.{IsSuited-combination}
 use Rattle.fm_elim.proofs.Endings.{length-all_rows}
@@ -25,11 +25,6 @@ use Rattle.fm_elim.proofs.Endings.{length-all_rows}
 combined-opposite : (us : List ℤ) → All (λ a. a ≡ pos 0) (combined (pos 1) us (pos 1) (map neg_ℤ us))
 combined-opposite [] = All-nil (λ a. a ≡ pos 0)
 combined-opposite (u ∷ us) = All-cons (λ a. a ≡ pos 0) (pos 1 *ℤ u +ℤ pos 1 *ℤ neg_ℤ u) (combined (pos 1) us (pos 1) (map neg_ℤ us)) (omega (arith, ints, once u, once (neg_ℤ u))) (combined-opposite us)
-
-all_three : (a b c : Bool) → IsTrue a → IsTrue b → IsTrue c → IsTrue (a && b && c)
-all_three true true c x y z = z
-all_three true false c x y z = y
-all_three false b c x y z = x
 
 -- two narrow numbers with a narrow sum, each taken once
 once_narrow : (u l : ℤ) → IsTrue (is_narrow u) → IsTrue (is_narrow l) → IsTrue (is_narrow (u +ℤ l)) → IsTrue (stays_narrow (pos 0) ((pos 1 *ℤ u) ∷ (pos 1 *ℤ l) ∷ []))

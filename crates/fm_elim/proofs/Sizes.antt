@@ -11,7 +11,7 @@ use Rattle.farkas_cert.specs.Combination.{entry_at, is_narrow, stays_narrow}
 use Rattle.fm_elim.specs.Pairs.{coef_of, IsPair, IsWide, IsNarrow}
 use Rattle.fm_elim.specs.Gathering.{IsWithin, IsNarrowPair, IsTooWide}
 use Rattle.fm_elim.proofs.Divisors.{narrow_from_le}
-use Rattle.fm_elim.proofs.Combined.{both_narrow, entry_at-coef, entry_at-bound, by_lt, quotient_le}
+use Rattle.fm_elim.proofs.Combined.{all_three, both_narrow, entry_at-coef, entry_at-bound, by_lt, quotient_le}
 use Rattle.fm_elim.proofs.Exactness.{IsPair-unique}
 
 -- the pair of the least multipliers
@@ -51,16 +51,10 @@ entry_within vars size row k within h =
     (by_lt {P = unsigned_abs (get_or row.coefs k (pos 0)) ≤ size} k (length row.coefs) (λ there. within.coefs k (pos 0) there) (λ past. subst (λ z. unsigned_abs z ≤ size) (sym (get_or_past row.coefs k (pos 0) past)) (omega arith))))
     (λ ge. let e : vars ≡ k = omega arith in subst (λ i. unsigned_abs (entry_at vars row i) ≤ size) e (subst (λ z. unsigned_abs z ≤ size) (sym (entry_at-bound vars row)) within.bound))
 
-all_true : (a b c : Bool) → IsTrue a → IsTrue b → IsTrue c → IsTrue (a && b && c)
-all_true true true true x y z = refl
-all_true true true false x y z = z
-all_true true false c x y z = y
-all_true false b c x y z = x
-
 -- two products of at most 2 ^ 125
 half_products : (p q : ℤ) → unsigned_abs p ≤ 2 ^ 125 → unsigned_abs q ≤ 2 ^ 125 → IsTrue (stays_narrow (pos 0) (p ∷ q ∷ []))
 half_products p q hp hq =
-    subst IsTrue (sym (both_narrow p q)) (all_true (is_narrow p) (is_narrow q) (is_narrow (p +ℤ q)) (narrow_from_le p (omega (arith, hp))) (narrow_from_le q (omega (arith, hq))) (narrow_from_le (p +ℤ q) (omega (arith, size_sum p q, hp, hq))))
+    subst IsTrue (sym (both_narrow p q)) (all_three (is_narrow p) (is_narrow q) (is_narrow (p +ℤ q)) (narrow_from_le p (omega (arith, hp))) (narrow_from_le q (omega (arith, hq))) (narrow_from_le (p +ℤ q) (omega (arith, size_sum p q, hp, hq))))
 
 -- a product of sizes within a bound
 product_within : (m e : ℤ) (a b : ℕ) → unsigned_abs m ≤ a → unsigned_abs e ≤ b → a * b ≤ 2 ^ 125 → unsigned_abs (m *ℤ e) ≤ 2 ^ 125

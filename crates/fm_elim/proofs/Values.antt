@@ -10,7 +10,8 @@ use Rattle.std.proofs.Math.IntN.{*ℤ_comm, *ℤ-zero, zero-*ℤ}
 use Rattle.farkas_cert.specs.Inequalities.{left_side as dot}
 use Rattle.fm_elim.specs.Reduction.{DividesEach}
 use Rattle.fm_elim.specs.Pairs.{combined}
-use Rattle.fm_elim.proofs.Integers.{add-mul, mul-add, mul_assoc_ℤ, mul_swap}
+use Rattle.farkas_cert.proofs.Integers.{add-mul, mul_assoc_ℤ}
+use Rattle.fm_elim.proofs.Integers.{mul-add, mul_swap}
 
 -- all values times q, and t added to the one at place k
 abbrev pub moved : ℤ → ℤ → ℕ → List ℤ → List ℤ

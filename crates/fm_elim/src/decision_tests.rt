@@ -152,14 +152,14 @@ fn told_behind(
 fn a_level_goes_on_with_a_row_more(rt: HostRuntime) -> Result<(), Fail> {
     let alloc = rt.alloc();
     let rows: &[Given<'_>] = &[(&[-1, 0], -1), (&[1, -1], 0)];
-    let table = [
+    let table: &[(i128, i128, &str)] = &[
         (1, 1, "open"),
         (-1, 0, "open"),
         (1, 0, "infeasible, good true, 1 2*1 1*1, 1 4*1 3*1"),
         (2, 1, "infeasible, good true, 1 2*1 1*1, 2 3*1, 1 4*1 5*1"),
     ];
     for (coef, bound, told) in table {
-        assert_eq!(rt; told_behind(alloc, rows, coef, bound)?.as_str(), told);
+        assert_eq!(rt; told_behind(alloc, rows, *coef, *bound)?.as_str(), *told);
     }
     Ok(())
 }

@@ -21,6 +21,9 @@ use crate::reduction::reduce;
 use crate::table::{Table, places_for};
 use std::alloc::{AllocError, Global};
 
+/// As many rows of one sign there is room for at first: most levels have no more.
+const FEW: usize = 8;
+
 /// The rows of a level by the sign of a variable's coefficient.
 #[derive(Drop)]
 pub struct BySign {
@@ -80,8 +83,8 @@ pub fn split_by_sign(
 {
     let mut split = BySign {
         apart: Table::new(alloc, places_after(level.len()), level.len())?,
-        uppers: Vec::with_capacity(alloc, level.len())?,
-        lowers: Vec::with_capacity(alloc, level.len())?,
+        uppers: Vec::with_capacity(alloc, level.len().min(FEW))?,
+        lowers: Vec::with_capacity(alloc, level.len().min(FEW))?,
     };
     let mut index = 0;
     for held in level {
