@@ -1,9 +1,11 @@
 // Worked decisions, each answer as a text. A level begins with the rows that it keeps, and the given ones are in their order.
 
-ghost use Rattle.std.specs.Prelude.{◌≡◌, IfOk, pos, [], ◌∷◌, ◌++◌, length};
+ghost use Rattle.std.specs.Prelude.{◌≡◌, IfOk, IfSome, pos, [], ◌∷◌, ◌++◌};
 ghost use Rattle.std.specs.List.{range_with_len};
 ghost use Rattle.farkas_cert.specs.declared.system.Row.{Row as RowOf};
+ghost use Rattle.farkas_cert.specs.Narrow.{AreNarrow};
 ghost use Rattle.fm_elim.specs.Answers.{NamesEachOnce};
+ghost use Rattle.fm_elim.specs.Advances.{IsLevel, IsExtension, system_of as its_system, order_of as its_order, gone_of};
 
 use crate::answer::{Answer, NoMemory};
 use crate::elimination::{Advance, Level, decide};
@@ -121,6 +123,39 @@ fn with_row(alloc: Global, system: &System, coef: i128, bound: i128) -> Result<S
     Ok(whole)
 }
 
+// The level of a system without the first variable of the order, unless level 0 is the answer.
+fn without_first<'a>(
+    alloc: Global,
+    system: &'a System,
+    order: &'a [u32],
+) -> Result<Option<Level<'a>>, NoMemory>
+    requires order { NamesEachOnce system.now.vars order.now }
+    requires narrow { AreNarrow system.now.rows }
+    ensures { IfOk result (λ found. IfSome found (λ level. IsLevel level × (its_system level ≡ system.now) × (its_order level ≡ order.now) × (gone_of level ≡ 1))) }
+{
+    let start = Level::start(alloc, system, order)?;
+    match start.advance(alloc)? {
+        Advance::Level(level) => Ok(Some(level)),
+        Advance::Answer(_) => Ok(None),
+    }
+}
+
+// The answer for a system, by a level of the rows before its last one.
+fn gone_on(
+    alloc: Global,
+    level: &Level<'_>,
+    whole: &System,
+    order: &[u32],
+) -> Result<String, NoMemory>
+    requires level { IsLevel level.now }
+    requires extension { IsExtension level.now whole.now order.now }
+    requires order { NamesEachOnce whole.now.vars order.now }
+    requires narrow { AreNarrow whole.now.rows }
+{
+    let answer = level.extend(alloc, whole, order)?.answer(alloc)?;
+    Ok(answer_text(alloc, whole, &answer)?)
+}
+
 // The answer for the rows over i and j and one row more, with which the level without i goes on.
 fn told_behind(
     alloc: Global,
@@ -131,19 +166,15 @@ fn told_behind(
     let system = system_of(alloc, 2, rows)?;
     let whole = with_row(alloc, &system, coef, bound)?;
     if !are_narrow_rows(system.rows()) || !are_narrow_rows(whole.rows()) {
-        return Ok(format!(in alloc; "too large")?);
+        return Ok(String::new(alloc));
     }
     let order = in_order(alloc, 2)?;
-    let level = match Level::start(alloc, &system, order.as_slice())?.advance(alloc)? {
-        Advance::Level(level) => level,
-        Advance::Answer(answer) => return Ok(answer_text(alloc, &system, &answer)?),
-    };
-    if !level.has_room_for(1) {
-        return Ok(format!(in alloc; "no room")?);
+    if let Some(level) = without_first(alloc, &system, order.as_slice())? {
+        if level.has_room_for(1) {
+            return gone_on(alloc, &level, &whole, order.as_slice());
+        }
     }
-    let level = level.extend(alloc, &whole, order.as_slice())?;
-    let answer = level.answer(alloc)?;
-    Ok(answer_text(alloc, &whole, &answer)?)
+    Ok(String::new(alloc))
 }
 
 // Behind i >= 1 and i <= j: without i, j >= 1, which is row 4 behind one row more. Open with that row where
