@@ -1,7 +1,6 @@
-use Rattle.std.proofs.Common.{◌≡◌, ℤ, pos, ◌+ℤ◌, ◌*ℤ◌, FitsSigned, IsTrue, [], ◌∷◌, to_z, of_z, refl, sym, ap, ◌∙◌, subst}
+use Rattle.std.proofs.Common.{◌≡◌, ℤ, pos, ◌+ℤ◌, ◌*ℤ◌, FitsSigned, to_z, of_z, refl, sym, ap, ◌∙◌, subst}
 use Rattle.std.specs.Int.{w128}
 use Rattle.std.proofs.lemmas.Int.{to_z-of_z}
-use Rattle.farkas_cert.specs.Combination.{stays_narrow}
 use Rattle.fm_elim.proofs.Combined.{fits_narrow, narrow_parts}
 use Rattle.fm_elim.proofs.Steps.{once}
 use Rattle.fm_elim.proofs.combination.narrow_weighted_sum.Goals as goal
