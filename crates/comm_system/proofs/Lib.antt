@@ -32,6 +32,13 @@ pub mod Ordered
 pub mod Waiting
 pub mod SamePhase
 pub mod ObligationOrder
+pub mod GroupLists
+pub mod PhaseCounts
+mod GroupSteps
+mod ListSteps
+mod SystemParts
+pub mod ShapeParts
+mod SmallLoops
 mod Steps
 mod Heads
 mod Looks

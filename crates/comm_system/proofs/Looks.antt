@@ -1,8 +1,9 @@
 -- What is seen of kinds, boundary by boundary.
-use Rattle.std.proofs.Common.{◌≡◌, ℕ, suc, ◌+◌, ◌-◌, ◌<◌, ◌≤◌, Bool, true, false, ◌||◌, List, [], ◌∷◌, ◌++◌, append_assoc, length, map, drop, take, get_or, if◌then◌else◌, refl, ap, sym, ◌∙◌, arith}
-use Rattle.std.specs.List.{flat_map, list_any}
+use Rattle.std.proofs.Common.{◌≡◌, ℕ, zero, suc, slice_get, ◌+◌, ◌-◌, ◌<◌, ◌≤◌, Bool, true, false, ◌||◌, List, [], ◌∷◌, ◌++◌, append_assoc, length, map, drop, take, get_or, if◌then◌else◌, refl, ap, sym, ◌∙◌, arith}
+use Rattle.std.specs.List.{flat_map, list_all, list_any}
 use Rattle.std.specs.Prelude.{sum_by}
 use Rattle.std.proofs.Math.Bool.{or-false}
+use Rattle.std.proofs.lemmas.Bool.{and_parts}
 use Rattle.std.proofs.lemmas.List.{append-nil, drop_more, drop-map, length-drop, length-map, take_all}
 use Rattle.std.proofs.lemmas.List.Concat.{flat_map-cons}
 use Rattle.std.proofs.lemmas.List.Folds.{list_any-append}
@@ -15,13 +16,13 @@ use Rattle.comm_system.specs.Boundaries.{Boundary, Side, boundaries_where}
 use Rattle.comm_system.specs.PhaseViews.{phase_seen}
 use Rattle.owner_partition.specs.declared.anchor.Anchor.{Anchor}
 use Rattle.sync_plan.specs.declared.plan.Version.{Version}
-use Rattle.comm_system.specs.Signatures.{blocked, counted, is_barrier, kind_at, last_three, left_waits, producers_at, right_waits, signature_of, waits}
+use Rattle.comm_system.specs.Signatures.{blocked, counted, has_places_in, is_barrier, kind_at, last_three, left_waits, or_nothing, producers_at, right_waits, signature_of, waits}
 use Rattle.comm_system.specs.SideViews.{producer_seen, side_seen}
 use Rattle.comm_system.specs.SignatureViews.{Adds, HasSeen, LooksAt}
 use Rattle.comm_system.specs.declared.phase.Phase.{Phase}
-use Rattle.comm_system.specs.declared.signature.Producer.{Producer}
+use Rattle.comm_system.specs.declared.producer.Producer.{Producer}
 use Rattle.comm_system.specs.declared.signature.Seen.{Seen}
-use Rattle.comm_system.specs.declared.signature.Side.{Side as Held}
+use Rattle.comm_system.specs.declared.producer.Side.{Side as Held}
 
 one_sum : (f : Boundary → ℕ) (u : Boundary) → sum_by f (u ∷ []) ≡ f u
 one_sum f u = let h = sum_by-cons f u [] in omega (arith, h)
@@ -102,3 +103,9 @@ last_seen xs ds ys k same e is =
     let few : length (drop k ds) ≤ length ds - k = let h = length-drop k ds in omega (arith, h) in
     ap (map producer_seen) (e ∙ take_all (length ds - k) (drop k ds) few) ∙ sym (drop-map producer_seen k ds) ∙ ap (λ n. drop n (map producer_seen ds)) (is ∙ ap (λ n. n - 3) (sym (length-map ds producer_seen)))
     ∙ ap (λ zs. last_three (map producer_seen zs)) same
+
+-- the places of a kind's producer, where all kinds have them
+pub places_at : (kinds : List Kind) (k : ℕ) → list_all has_places_in kinds ≡ true → has_places_in (or_nothing (slice_get kinds k)) ≡ true
+places_at [] k all = refl
+places_at (x ∷ kinds) zero all = (and_parts (has_places_in x) (list_all has_places_in kinds) all).0
+places_at (x ∷ kinds) (suc k) all = places_at kinds k (and_parts (has_places_in x) (list_all has_places_in kinds) all).1

@@ -17,3 +17,9 @@ pub mod RowViews
 pub mod OwnerViews
 pub mod Certain
 pub mod LoopsAt
+pub mod SmallSteps
+pub mod Subjects
+pub mod SubjectViews
+pub mod GroupViews
+pub mod PieceViews
+pub mod SystemViews

@@ -118,9 +118,12 @@ tasks_of tree plan =
     flat_map (trips_tasks tree plan) phases ++ flat_map (λ slot. slot_tasks tree plan slot (slot_signature plan.version plan.kinds phases slot)) (slots_of phases)
 
 -- an obligation: a task with its number
+abbrev pub numbered : ℕ → Task → Obligation
+numbered n k = record { number = n; system = k.system; lines = k.lines; variable = k.variable; level = k.level; piece = k.piece; range = k.range }
+
 abbrev pub numbered_from : ℕ → List Task → List Obligation
 numbered_from n [] = []
-numbered_from n (k ∷ rest) = record { number = n; system = k.system; lines = k.lines; variable = k.variable; level = k.level; piece = k.piece; range = k.range } ∷ numbered_from (suc n) rest
+numbered_from n (k ∷ rest) = numbered n k ∷ numbered_from (suc n) rest
 
 abbrev pub obligations_of : Tree → Plan → List Obligation
 obligations_of tree plan = numbered_from 1 (tasks_of tree plan)

@@ -2,7 +2,6 @@
 use Rattle.std.specs.Prelude.{ℕ, ℤ, pos, negsuc, neg_ℤ, List, [], ◌∷◌, Bool}
 use Rattle.std.specs.List.{list_all}
 use Rattle.nest_tree.specs.Form.{is_small}
-use Rattle.nest_tree.specs.Tree.{Head}
 use Rattle.nest_rows.specs.declared.constraint.Constraint.{Constraint}
 use Rattle.sync_plan.specs.declared.plan.ConditionRow.{ConditionRow}
 use Rattle.comm_system.specs.Levels.{Order}
@@ -19,10 +18,6 @@ sum_seen s = record { terms = s.terms; constant = s.constant }
 -- each coefficient is within plus or minus 2147483647
 abbrev pub is_small_sum : HeldSum → Bool
 is_small_sum s = list_all (λ p. is_small p.1) s.terms
-
--- the steps of these loops are small
-abbrev pub are_small_steps : List Head → Bool
-are_small_steps heads = list_all (λ (h : Head). is_small h.step) heads
 
 -- a row of conditions as a constraint
 abbrev pub condition_of : ConditionRow → Constraint

@@ -8,7 +8,7 @@ use Rattle.comm_system.specs.Pairs.{Pair}
 use Rattle.comm_system.specs.declared.reference.Reference.{Reference as Held}
 use Rattle.comm_system.specs.declared.reference.Target.{Target}
 use Rattle.comm_system.specs.declared.reference.Target.TheVariants.{Element, Whole}
-use Rattle.comm_system.specs.declared.references.Place.{Place}
+use Rattle.comm_system.specs.declared.place.Place.{Place}
 
 abbrev pub target_seen : Target → Loaded
 target_seen (Element access) = element access.now

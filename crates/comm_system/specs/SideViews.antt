@@ -1,9 +1,9 @@
 -- Sides and producers as plain data.
 use Rattle.owner_partition.specs.declared.anchor.Anchor.{Anchor}
 use Rattle.comm_system.specs.Boundaries.{Side, of_first, of_second}
-use Rattle.comm_system.specs.declared.signature.Side.{Side as Held}
-use Rattle.comm_system.specs.declared.signature.Side.TheVariants.{First, Second}
-use Rattle.comm_system.specs.declared.signature.Producer.{Producer}
+use Rattle.comm_system.specs.declared.producer.Side.{Side as Held}
+use Rattle.comm_system.specs.declared.producer.Side.TheVariants.{First, Second}
+use Rattle.comm_system.specs.declared.producer.Producer.{Producer}
 
 abbrev pub side_seen : Held → Side
 side_seen First = of_first

@@ -7,7 +7,7 @@ use Rattle.comm_system.specs.Boundaries.{Boundary}
 use Rattle.comm_system.specs.Signatures.{Signature, blocked, waits, is_barrier, kind_at, left_waits, producers_at, right_waits}
 use Rattle.comm_system.specs.SideViews.{producer_seen, side_seen}
 use Rattle.comm_system.specs.declared.signature.Seen.{Seen}
-use Rattle.comm_system.specs.declared.signature.Side.{Side}
+use Rattle.comm_system.specs.declared.producer.Side.{Side}
 use Rattle.comm_system.specs.declared.signature.Signature.{Signature as Held}
 use Rattle.comm_system.specs.declared.signature.Signature.TheVariants.{Blocked, Waits as Wait}
 

@@ -7,6 +7,7 @@ use Rattle.sync_plan.specs.declared.plan.Kind.{Kind}
 use Rattle.sync_plan.specs.declared.plan.Kind.TheVariants.{Nothing, Producer, Left, Right, Both, Barrier, Join}
 use Rattle.sync_plan.specs.declared.plan.Version.{Version}
 use Rattle.sync_plan.specs.declared.plan.Version.TheVariants.{One, Two, Three}
+use Rattle.sync_plan.specs.Shape.{has_places}
 use Rattle.comm_system.specs.Boundaries.{Boundary, Side}
 
 -- a barrier stands between the instances; or so many waits for the processor to the left, so many for the one to the right, and the last three producers that are waited for, each with the side of its boundary
@@ -22,6 +23,16 @@ is_barrier Right = false
 is_barrier Both = false
 is_barrier Barrier = true
 is_barrier Join = true
+
+-- a producer's blocks have 1 to 2147483647 places
+abbrev pub has_places_in : Kind → Bool
+has_places_in Nothing = true
+has_places_in (Producer a) = has_places a.dist
+has_places_in Left = true
+has_places_in Right = true
+has_places_in Both = true
+has_places_in Barrier = true
+has_places_in Join = true
 
 abbrev pub left_waits : Kind → ℕ
 left_waits Nothing = 0

@@ -1,7 +1,7 @@
 // Laws: there is nothing to run.
 
-ghost use Rattle.std.specs.Prelude.{◌≡◌, ℕ, List, [], ◌∷◌, length, map};
-ghost use Rattle.std.specs.List.{AllByRecursion, Contains};
+ghost use Rattle.std.specs.Prelude.{◌≡◌, ◌+◌, ◌-◌, ◌≤◌, ℕ, List, [], ◌∷◌, length, map, take};
+ghost use Rattle.std.specs.List.{AllByRecursion, Contains, flat_map};
 ghost use Rattle.farkas_cert.specs.Inequalities.{HasNoWholeSolution, IsWholeSolution};
 ghost use Rattle.nest_tree.specs.Tree.{Tree};
 ghost use Rattle.nest_tree.specs.WellFormed.{IsWellFormed};
@@ -19,6 +19,7 @@ ghost use Rattle.comm_system.specs.OwnerRows.{Piece, distance};
 ghost use Rattle.comm_system.specs.Pairs.{Pair, pairs_of};
 ghost use Rattle.comm_system.specs.References.{StaticPhase, phases_of};
 ghost use Rattle.comm_system.specs.Signatures.{kind_at};
+ghost use Rattle.comm_system.specs.Subjects.{groups_of, obligations_in};
 ghost use Rattle.comm_system.specs.declared.obligation.Obligation.{Obligation};
 
 /// Kinds that agree in front of the certain boundaries of a slot give it the same systems: a
@@ -43,6 +44,14 @@ pub fn meeting_owners_solve()
         Contains (phases_of tree plan.cut) slot.first → Contains (phases_of tree plan.cut) slot.second → Contains (pairs_of slot.first slot.second) pair → Meet tree (order_at (common slot.first.outer slot.second.outer) slot.level) pair x y →
         AreHolders tree plan.workers pair x y ((anchor_at plan slot.s, of_first) ∷ (anchor_at plan slot.t, of_second) ∷ producers) (q ∷ p ∷ os) → LiesBeside piece.range (distance piece.range left right) q.owner p.owner → LiesAmong q.owner (map (λ (o : Holder). o.owner) os) piece.producers →
         IsWholeSolution (piece_task tree plan slot left right producers pair n piece).system (values_of tree pair x y (holders_values (owners_of tree plan slot producers pair) (q ∷ p ∷ os))) }
+{}
+
+/// The obligations of the groups up to a number, one behind another, are the first of the plan. They
+/// are all where the number behind them isn't past it, and in any case no more.
+pub fn groups_make_obligations()
+    ensures first { (tree : Tree) (plan : Plan) (most : ℕ) → flat_map (obligations_in tree plan) (groups_of tree plan most).groups ≡ take ((groups_of tree plan most).next - 1) (obligations_of tree plan) }
+    ensures all { (tree : Tree) (plan : Plan) (most : ℕ) → (groups_of tree plan most).next ≤ most → length (obligations_of tree plan) + 1 ≡ (groups_of tree plan most).next }
+    ensures some { (tree : Tree) (plan : Plan) (most : ℕ) → (groups_of tree plan most).next ≤ length (obligations_of tree plan) + 1 }
 {}
 
 /// Where each system of a plan that fits a well-formed program, whose subscripts are in range, has

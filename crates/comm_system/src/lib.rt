@@ -4,7 +4,9 @@
 //!
 //! - [`obligation`]: an obligation with what it speaks of.
 //! - [`phases`], [`phase`], [`reference`]: the static phases with their accesses.
-//! - [`slot`], [`signature`]: two phases at a level, and what they see of a plan's kinds.
+//! - [`slot`], [`slot_list`], [`signature`], [`waits`], [`producer`]: two phases at a level, and what they see of a plan's kinds.
+//! - [`pair_systems`], [`group`], [`groups`]: the obligations of a pair of accesses, of a phase, of a slot, of a
+//!   plan; and in groups, each of which can be made without the others.
 //! - [`laws`]: which slots a kind's change changes; what solves the systems, and that
 //!   where nothing does, the plan is ordered.
 //!
@@ -14,18 +16,30 @@
 //! and the list (`Obligations`).
 #![tactic(auto)]
 
+pub mod conflict;
+pub mod group;
+pub mod groups;
 pub mod laws;
 pub mod obligation;
+pub mod obligations;
 mod owner_rows;
+pub mod pair_systems;
 pub mod phase;
 pub mod phases;
+mod pieces;
+mod place;
+pub mod producer;
 pub mod reference;
 mod references;
 mod rows;
 pub mod signature;
 pub mod slot;
+pub mod slot_list;
+pub mod subject;
+pub mod waits;
 
 pub use laws::{
-    meeting_owners_solve, meeting_trips_solve, obligations_order, slots_see_certain_boundaries,
+    groups_make_obligations, meeting_owners_solve, meeting_trips_solve, obligations_order,
+    slots_see_certain_boundaries,
 };
 pub use obligation::Obligation;

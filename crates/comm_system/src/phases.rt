@@ -1,10 +1,12 @@
 // The static phases of a program.
 
-ghost use Rattle.std.specs.Prelude.{◌≡◌, ◌++◌, ◌-◌, [], ◌∷◌, IfOk, OnOk, map, false, slice_index_or};
+ghost use Rattle.std.specs.Prelude.{◌≡◌, ◌<◌, ◌++◌, ◌-◌, [], ◌∷◌, IfOk, IsTrue, OnOk, length, map, false, slice_index_or};
 ghost use Rattle.nest_tree.specs.View.{statement_of, statements_from, tree_of};
+ghost use Rattle.nest_tree.specs.WellFormed.{IsWellFormed};
 ghost use Rattle.nest_walk.specs.Walks.{enters_but};
 ghost use Rattle.nest_rows.specs.Views.{heads_of};
 ghost use Rattle.comm_system.specs.References.{phases_among, phases_in, phases_of};
+ghost use Rattle.comm_system.specs.SmallSteps.{are_small_steps, has_small_steps, have_small_steps};
 ghost use Rattle.comm_system.specs.PhaseViews.{phase_seen};
 
 use crate::phase::Phase;
@@ -20,7 +22,9 @@ pub fn phases<'a>(
     program: &'a Program,
     cut: &Cut,
 ) -> Result<Vec<Phase<'a>>, AllocError>
-    ensures { IfOk result (λ found. map phase_seen found.items ≡ phases_of (tree_of program.now) cut.now) }
+    requires { IsWellFormed (tree_of program.now) }
+    ensures phases { IfOk result (λ found. map phase_seen found.items ≡ phases_of (tree_of program.now) cut.now) }
+    ensures few { IfOk result (λ found. length found.items < 400) }
 {
     let mut outer = Vec::new(alloc);
     let mut found = Vec::new(alloc);
@@ -37,6 +41,8 @@ fn push_all_phases<'a>(
     outer: &mut Vec<Around<'a>>,
     found: &mut Vec<Phase<'a>>,
 ) -> Result<(), AllocError>
+    requires outer { IsTrue (are_small_steps (heads_of outer.old.items)) }
+    requires steps { IsTrue (have_small_steps (statements_from items.now)) }
     ensures found { OnOk result (map phase_seen found.new.items ≡ map phase_seen found.old.items ++ phases_among (enters_but closed.now) (heads_of outer.old.items) (statements_from items.now)) }
     ensures outer { OnOk result (outer.new.items ≡ outer.old.items) }
 {
@@ -54,6 +60,8 @@ fn push_phases<'a>(
     outer: &mut Vec<Around<'a>>,
     found: &mut Vec<Phase<'a>>,
 ) -> Result<(), AllocError>
+    requires outer { IsTrue (are_small_steps (heads_of outer.old.items)) }
+    requires steps { IsTrue (has_small_steps (statement_of item.now)) }
     ensures found { OnOk result (map phase_seen found.new.items ≡ map phase_seen found.old.items ++ phases_in (enters_but closed.now) (heads_of outer.old.items) (statement_of item.now)) }
     ensures outer { OnOk result (outer.new.items ≡ outer.old.items) }
 {
@@ -87,6 +95,8 @@ fn push_phase<'a>(
     outer: &mut Vec<Around<'a>>,
     found: &mut Vec<Phase<'a>>,
 ) -> Result<(), AllocError>
+    requires outer { IsTrue (are_small_steps (heads_of outer.old.items)) }
+    requires steps { IsTrue (has_small_steps (statement_of item.now)) }
     ensures found { OnOk result (map phase_seen found.new.items ≡ map phase_seen found.old.items ++ record { what = statement_of item.now; outer = heads_of outer.old.items } ∷ []) }
     ensures outer { OnOk result (outer.new.items ≡ outer.old.items) }
 {

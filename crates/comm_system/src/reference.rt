@@ -1,9 +1,8 @@
 // The accesses of a phase.
 
-ghost use Rattle.std.specs.Prelude.{◌≡◌};
-ghost use Rattle.comm_system.specs.References.{variable_of};
-ghost use Rattle.comm_system.specs.Pairs.{conflict as conflict_under};
-ghost use Rattle.comm_system.specs.Seen.{reference_seen, target_seen};
+ghost use Rattle.std.specs.Prelude.{IsTrue};
+ghost use Rattle.nest_rows.specs.Views.{heads_of};
+ghost use Rattle.comm_system.specs.SmallSteps.{are_small_steps};
 
 use nest_rows::Around;
 use nest_tree::{Access, Guard};
@@ -18,6 +17,10 @@ pub enum Target<'a> {
 }
 
 impl Target<'_> {
+    ghost use Rattle.std.specs.Prelude.{◌≡◌};
+    ghost use Rattle.comm_system.specs.References.{variable_of};
+    ghost use Rattle.comm_system.specs.Seen.{target_seen};
+
     /// The variable, from 1.
     pub fn variable(&self) -> u32
         ensures { result ≡ variable_of (target_seen self.now) }
@@ -41,11 +44,5 @@ pub struct Reference<'a> {
     pub guard: Option<&'a Guard>,
     /// Its statement's line, from 1.
     pub line: u32,
-}
-
-/// Whether two accesses name one variable, and one of them stores.
-pub fn conflict(a: &Reference, b: &Reference) -> bool
-    ensures { result ≡ conflict_under (reference_seen a.now) (reference_seen b.now) }
-{
-    a.target.variable() == b.target.variable() && (a.stores || b.stores)
+    ghost steps: { IsTrue (are_small_steps (heads_of around.items)) },
 }

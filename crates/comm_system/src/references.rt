@@ -1,6 +1,6 @@
 // The accesses of a piece of the text, in text order.
 
-ghost use Rattle.std.specs.Prelude.{◌≡◌, ◌++◌, [], ◌∷◌, IfOk, OnOk, map, false, true};
+ghost use Rattle.std.specs.Prelude.{◌≡◌, ◌++◌, [], ◌∷◌, IsTrue, OnOk, map, false, true};
 ghost use Rattle.std.specs.List.{flat_map};
 ghost use Rattle.nest_tree.specs.Loads.{loads_among, loads_in};
 ghost use Rattle.nest_tree.specs.View.{expression_of, expressions_from, printed_of, statement_of, statements_from};
@@ -8,20 +8,14 @@ ghost use Rattle.nest_walk.specs.Tables.{element, loaded_in_item};
 ghost use Rattle.nest_rows.specs.Nested.{nested_among, nested_in};
 ghost use Rattle.nest_rows.specs.Views.{heads_of};
 ghost use Rattle.comm_system.specs.References.{references_in};
+ghost use Rattle.comm_system.specs.SmallSteps.{are_small_steps, has_small_steps, have_small_steps};
 ghost use Rattle.comm_system.specs.Seen.{reference_seen, referred, target_seen};
 
+use crate::place::Place;
 use crate::reference::{Reference, Target};
 use nest_rows::Around;
-use nest_tree::{Expr, Guard, Item, PrintItem};
+use nest_tree::{Expr, Item, PrintItem};
 use std::alloc::{AllocError, Global};
-
-// Where an access stands: the loops round it, its statement's comparison and line.
-#[derive(Clone, Copy)]
-pub(crate) struct Place<'b, 'a> {
-    around: &'b [Around<'a>],
-    guard: Option<&'a Guard>,
-    line: u32,
-}
 
 // The accesses of a statement, behind the others.
 #[cycle(works)]
@@ -31,6 +25,8 @@ pub(crate) fn push_references<'a>(
     around: &mut Vec<Around<'a>>,
     found: &mut Vec<Reference<'a>>,
 ) -> Result<(), AllocError>
+    requires around { IsTrue (are_small_steps (heads_of around.old.items)) }
+    requires steps { IsTrue (has_small_steps (statement_of item.now)) }
     ensures found { OnOk result (map reference_seen found.new.items ≡ map reference_seen found.old.items ++ flat_map references_in (nested_in (heads_of around.old.items) (statement_of item.now))) }
     ensures around { OnOk result (around.new.items ≡ around.old.items) }
 {
@@ -70,6 +66,8 @@ fn push_all_references<'a>(
     around: &mut Vec<Around<'a>>,
     found: &mut Vec<Reference<'a>>,
 ) -> Result<(), AllocError>
+    requires around { IsTrue (are_small_steps (heads_of around.old.items)) }
+    requires steps { IsTrue (have_small_steps (statements_from items.now)) }
     ensures found { OnOk result (map reference_seen found.new.items ≡ map reference_seen found.old.items ++ flat_map references_in (nested_among (heads_of around.old.items) (statements_from items.now))) }
     ensures around { OnOk result (around.new.items ≡ around.old.items) }
 {

@@ -1,11 +1,12 @@
 // What a slot sees of a plan's kinds.
 
-ghost use Rattle.std.specs.Prelude.{◌≡◌, ◌+◌, ◌*◌, ◌++◌, ◌<◌, ◌≤◌, ◌^◌, List, IfOk, OnOk, length, map, slice_get};
+ghost use Rattle.std.specs.Prelude.{◌≡◌, ◌+◌, ◌*◌, ◌++◌, ◌<◌, ◌≤◌, ◌^◌, List, IfOk, IsTrue, OnOk, length, map, slice_get};
+ghost use Rattle.std.specs.List.{list_all};
 ghost use Rattle.std.specs.Option.{option_copied};
 ghost use Rattle.sync_plan.specs.declared.plan.Kind.{Kind as Kinds};
 ghost use Rattle.comm_system.specs.Boundaries.{Boundary};
 ghost use Rattle.comm_system.specs.Certain.{certain_on};
-ghost use Rattle.comm_system.specs.Signatures.{counted as counted_in, or_nothing, signature_of};
+ghost use Rattle.comm_system.specs.Signatures.{counted as counted_in, has_places_in, or_nothing, signature_of};
 ghost use Rattle.comm_system.specs.Obligations.{slot_signature as signature_under};
 ghost use Rattle.comm_system.specs.PhaseViews.{phase_seen};
 ghost use Rattle.comm_system.specs.SlotViews.{slot_seen};
@@ -13,24 +14,11 @@ ghost use Rattle.comm_system.specs.SideViews.{side_seen};
 ghost use Rattle.comm_system.specs.SignatureViews.{Adds, HasSeen, LooksAt, signature_seen};
 
 use crate::phase::Phase;
+use crate::producer::{Producer, Side};
 use crate::slot::Slot;
-use owner_partition::Anchor;
+use crate::waits::Waits;
 use std::alloc::{AllocError, Global};
 use sync_plan::{Kind, Version};
-
-/// At the Outer values of which instance a boundary stands.
-#[derive(Clone, Copy, Debug, PartialEq, Eq)]
-pub enum Side {
-    First,
-    Second,
-}
-
-/// A producer that is waited for.
-#[derive(Clone, Copy)]
-pub struct Producer<'p> {
-    pub anchor: &'p Anchor,
-    pub side: Side,
-}
 
 /// What the certain boundaries of a slot make of the kinds in front of them.
 #[derive(Drop)]
@@ -39,15 +27,6 @@ pub enum Signature<'p> {
     Blocked,
     /// Nobody but neighbours and producers is waited for.
     Waits(Waits<'p>),
-}
-
-/// How often the neighbours to the left and to the right are waited for, and the last three
-/// producers.
-#[derive(Drop)]
-pub struct Waits<'p> {
-    pub left: u32,
-    pub right: u32,
-    pub producers: Vec<Producer<'p>>,
 }
 
 // What was seen of some boundaries.
@@ -62,6 +41,7 @@ pub(crate) struct Seen<'p> {
 impl<'p> Seen<'p> {
     // One boundary more.
     fn count(&mut self, kind: Option<&'p Kind>, side: Side) -> Result<(), AllocError>
+        requires places { IsTrue (has_places_in (or_nothing (option_copied kind))) }
         requires left { self.old.left < 2 ^ 31 }
         requires right { self.old.right < 2 ^ 31 }
         ensures adds { OnOk result (Adds (or_nothing (option_copied kind.entry)) side self.old self.new) }
@@ -90,6 +70,7 @@ impl<'p> Seen<'p> {
         slot: &Slot,
         side: Side,
     ) -> Result<(), AllocError>
+        requires places { IsTrue (list_all has_places_in kinds.now) }
         requires few { length phases.now < 2 ^ 20 }
         requires left { self.old.left < 2 ^ 30 }
         requires right { self.old.right < 2 ^ 30 }
@@ -111,6 +92,7 @@ impl<'p> Seen<'p> {
         kind: Option<&'p Kind>,
         side: Side,
     ) -> Result<(), AllocError>
+        requires places { IsTrue (has_places_in (or_nothing (option_copied kind))) }
         requires left { self.old.left < 2 ^ 31 }
         requires right { self.old.right < 2 ^ 31 }
         ensures looks { OnOk result (LooksAt is_certain (or_nothing (option_copied kind.entry)) side self.old self.new) }
@@ -126,6 +108,8 @@ impl<'p> Seen<'p> {
 
     // What is left of it in this version.
     fn signature(self, alloc: Global, version: Version) -> Result<Signature<'p>, AllocError>
+        requires left { self.left < 2 ^ 30 }
+        requires right { self.right < 2 ^ 30 }
         ensures { (kinds : List Kinds) (us : List Boundary) → HasSeen kinds us self.entry → IfOk result (λ g. signature_seen g ≡ signature_of version kinds us) }
     {
         let Seen {
@@ -159,7 +143,8 @@ fn kind_in_front(kinds: &[Kind], place: usize) -> Option<&Kind>
 
 // In version One neighbours don't add up.
 fn counted(version: Version, count: u32) -> u32
-    ensures { result ≡ counted_in version count }
+    ensures count { result ≡ counted_in version count }
+    ensures few { result ≤ count }
 {
     match version {
         Version::One => count.min(1),
@@ -175,7 +160,8 @@ pub fn slot_signature<'p>(
     phases: &[Phase],
     slot: &Slot,
 ) -> Result<Signature<'p>, AllocError>
-    requires { length phases.now < 2 ^ 20 }
+    requires places { IsTrue (list_all has_places_in kinds.now) }
+    requires few { length phases.now < 2 ^ 20 }
     ensures { IfOk result (λ g. signature_seen g ≡ signature_under version kinds.now (map phase_seen phases.now) (slot_seen slot.now)) }
 {
     let mut seen = Seen {

@@ -11,7 +11,7 @@ ghost use Rattle.comm_system.specs.SlotViews.{slot_seen};
 ghost use Rattle.nest_rows.specs.Views.{heads_of};
 
 use crate::phase::Phase;
-use crate::signature::Side;
+use crate::producer::Side;
 use nest_rows::Around;
 
 /// Two static phases by their numbers, from 1, and a level: the common loop, from 1, that is at an

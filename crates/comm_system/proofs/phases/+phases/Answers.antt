@@ -1,4 +1,10 @@
 use Rattle.std.proofs.Common.{◌≡◌, ◌++◌, ◌∷◌, [], List, map, not, if◌then◌else◌, ap, sym, ◌∙◌}
+use Rattle.std.proofs.Common.{rules}
+use Rattle.std.proofs.lemmas.Bool.{and_parts}
+use Rattle.nest_tree.specs.Form.{is_small}
+use Rattle.nest_tree.specs.declared.tree.Item.{the_lemmas}
+use Rattle.comm_system.specs.SmallSteps.{are_small_steps, has_small_steps, have_small_steps}
+use Rattle.comm_system.proofs.SmallLoops.{small_at, small_behind}
 use Rattle.std.proofs.lemmas.List.{map-append}
 use Rattle.nest_tree.specs.Tree.{Head, do_loop}
 use Rattle.nest_tree.specs.View.{head_of, statement_of, statements_from}
@@ -22,3 +28,14 @@ push_phases-returns-in_ok-push_all_phases-in-Loop-clause-found t c =
     let text = ap (phases_in enters (heads_of outer)) same ∙ ap (λ b. if b then phases_among enters (heads_of outer ++ head_of nest ∷ []) body else record { what = do_loop (head_of nest) body; outer = heads_of outer } ∷ []) enters-it
     ∙ ap (λ (hs : List Head). phases_among enters hs body) (sym inside) ∙ ap (λ xs. phases_among enters (heads_of c.push.new.self.items) (statements_from xs)) (sym c.deref.ensures.value) in
     c.in_ok-push_all_phases-in-Loop.ensures.found ∙ ap (λ (ps : List StaticPhase). map phase_seen c.args.found.now.items ++ ps) (sym text)
+
+pub push_all_phases-push_phases-requires : goal.push_all_phases-push_phases-requires
+push_all_phases-push_phases-requires t c =
+    (search (rules, the_lemmas), (ap (λ xs. are_small_steps (heads_of xs)) c.loop-item.invariant.outer ∙ c.requires.outer, small_at c.args.items.now c.loop-item.item-index c.item-item.result c.loop-item-test.true c.item-item.is c.requires.steps))
+
+pub push_phases-push_all_phases-requires : goal.push_phases-push_all_phases-requires
+push_phases-push_all_phases-requires t c =
+    let nest = c.in-Loop.nest in
+    let same = ap statement_of c.in-Loop.is ∙ statement_of-Loop nest in
+    let parts = and_parts (is_small nest.step) (have_small_steps (statements_from nest.items.items)) (sym (ap has_small_steps same) ∙ c.requires.steps) in
+    (search (rules, the_lemmas), (small_behind c.args.outer.now.items c.push.new.self.items _ c.requires.outer parts.0 c.in_ok-push-in-Loop.ensures.items, ap (λ xs. have_small_steps (statements_from xs)) c.deref.ensures.value ∙ parts.1))

@@ -4,11 +4,14 @@ use Rattle.nest_rows.specs.Views.{heads_of}
 use Rattle.comm_system.specs.Boundaries.{Boundary, boundaries_where}
 use Rattle.comm_system.specs.Certain.{certain_on, is_certain}
 use Rattle.comm_system.specs.PhaseViews.{phase_seen}
-use Rattle.comm_system.specs.Signatures.{or_nothing}
+use Rattle.comm_system.specs.Signatures.{has_places_in, or_nothing}
 use Rattle.comm_system.specs.SideViews.{side_seen}
 use Rattle.comm_system.specs.SlotViews.{slot_seen}
-use Rattle.comm_system.proofs.Looks.{boundaries_next, seen_next}
+use Rattle.comm_system.proofs.Looks.{boundaries_next, places_at, seen_next}
 use Rattle.comm_system.proofs.signature.Seen.see.Goals as goal
+
+pub look-requires-clause-places : goal.look-requires-clause-places
+look-requires-clause-places c = ap (λ k. has_places_in (or_nothing k)) c.kind_in_front.ensures ∙ places_at c.args.kinds.now c.loop-index.index c.requires.places
 
 pub loop-index-preserved : goal.loop-index-preserved
 loop-index-preserved c =

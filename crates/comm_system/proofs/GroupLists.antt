@@ -1,0 +1,240 @@
+-- The obligations of groups, one behind another, are those of the plan.
+use Rattle.std.proofs.Common.{◌≡◌, ℕ, suc, ◌+◌, ◌-◌, ◌≤◌, nat_le, Bool, true, false, List, [], ◌∷◌, ◌++◌, append_assoc, length, map, take, if◌then◌else◌, refl, ap, sym, ◌∙◌, inl, inr, arith, length-append}
+use Rattle.std.specs.List.{flat_map}
+use Rattle.std.proofs.Math.Seq.{take-append-add}
+use Rattle.std.proofs.lemmas.Bool.{cases_Bool, leb-false}
+use Rattle.std.proofs.lemmas.Grind.{flat_map-append}
+use Rattle.std.proofs.lemmas.List.{append-nil, take_all}
+use Rattle.nest_tree.specs.Tree.{Tree}
+use Rattle.owner_partition.specs.declared.anchor.Anchor.{Anchor}
+use Rattle.sync_plan.specs.declared.plan.Plan.{Plan}
+use Rattle.sync_plan.specs.Fit.{is_dealt}
+use Rattle.comm_system.specs.Boundaries.{Side}
+use Rattle.comm_system.specs.Obligations.{Slot, Task, numbered_from, obligations_of, pair_tasks, piece_task, pieces_from, slot_signature, slot_tasks, slots_of, tasks_of, trips_task, trips_tasks}
+use Rattle.comm_system.specs.OwnerRows.{Piece, pieces}
+use Rattle.comm_system.specs.Pairs.{Pair, pairs_of}
+use Rattle.comm_system.specs.References.{StaticPhase, phases_of}
+use Rattle.comm_system.specs.Signatures.{Signature, blocked, waits}
+use Rattle.comm_system.specs.Subjects.{Listed, Subject, count_about, groups_of, obligations_in, of_slot, of_trips, slot_subjects, subjects_of, tasks_about, trips_subjects, with_subject, with_subjects}
+use Rattle.comm_system.specs.declared.obligation.Obligation.{Obligation}
+
+-- ---- numbers
+
+pub numbered_behind : (n : ℕ) (xs ys : List Task) → numbered_from n (xs ++ ys) ≡ numbered_from n xs ++ numbered_from (n + length xs) ys
+numbered_behind n [] ys = let same : n + 0 ≡ n = omega arith in ap (λ m. numbered_from m ys) (sym same)
+numbered_behind n (x ∷ xs) ys =
+    let same : suc n + length xs ≡ n + suc (length xs) = omega arith in
+    ap (λ os. record { number = n; system = x.system; lines = x.lines; variable = x.variable; level = x.level; piece = x.piece; range = x.range } ∷ os) (numbered_behind (suc n) xs ys ∙ ap (λ m. numbered_from (suc n) xs ++ numbered_from m ys) same)
+
+pub numbered_length : (n : ℕ) (xs : List Task) → length (numbered_from n xs) ≡ length xs
+numbered_length n [] = refl
+numbered_length n (x ∷ xs) = ap suc (numbered_length (suc n) xs)
+
+pub pieces_length : (f : ℕ → Piece → Task) (n : ℕ) (ps : List Piece) → length (pieces_from f n ps) ≡ length ps
+pieces_length f n [] = refl
+pieces_length f n (p ∷ ps) = ap suc (pieces_length f (suc n) ps)
+
+pub count_is : (tree : Tree) (plan : Plan) (s : Subject) → length (tasks_about tree plan s) ≡ count_about s
+count_is tree plan (of_trips s pair) = refl
+count_is tree plan (of_slot slot left right producers pair) = pieces_length (piece_task tree plan slot left right producers pair) 1 (pieces (length producers))
+
+-- ---- the systems of all subjects are those of the plan
+
+trips_systems : (tree : Tree) (plan : Plan) (s : StaticPhase) (ps : List Pair) → flat_map (tasks_about tree plan) (map (of_trips s) ps) ≡ map (trips_task tree plan s) ps
+trips_systems tree plan s [] = refl
+trips_systems tree plan s (p ∷ ps) = ap (λ ts. trips_task tree plan s p ∷ ts) (trips_systems tree plan s ps)
+
+phase_systems : (tree : Tree) (plan : Plan) (s : StaticPhase) → flat_map (tasks_about tree plan) (trips_subjects plan s) ≡ trips_tasks tree plan s
+phase_systems tree plan s = by (is_dealt plan.cut s.what)
+  where
+    by : (b : Bool) → flat_map (tasks_about tree plan) (if b then map (of_trips s) (pairs_of s s) else []) ≡ (if b then map (trips_task tree plan s) (pairs_of s s) else [])
+    by true = trips_systems tree plan s (pairs_of s s)
+    by false = refl
+
+pub pairs_systems : (tree : Tree) (plan : Plan) (slot : Slot) (left right : ℕ) (producers : List (Anchor × Side)) (ps : List Pair) →
+    flat_map (tasks_about tree plan) (map (of_slot slot left right producers) ps) ≡ flat_map (pair_tasks tree plan slot left right producers) ps
+pairs_systems tree plan slot left right producers [] = refl
+pairs_systems tree plan slot left right producers (p ∷ ps) = ap (λ ts. pair_tasks tree plan slot left right producers p ++ ts) (pairs_systems tree plan slot left right producers ps)
+
+slot_systems : (tree : Tree) (plan : Plan) (slot : Slot) (signature : Signature) → flat_map (tasks_about tree plan) (slot_subjects slot signature) ≡ slot_tasks tree plan slot signature
+slot_systems tree plan slot blocked = refl
+slot_systems tree plan slot (waits left right producers) = pairs_systems tree plan slot left right producers (pairs_of slot.first slot.second)
+
+flat_twice : {A : Type 0} (tree : Tree) (plan : Plan) (subjects : A → List Subject) (tasks : A → List Task) → ((x : A) → flat_map (tasks_about tree plan) (subjects x) ≡ tasks x) → (xs : List A) →
+    flat_map (tasks_about tree plan) (flat_map subjects xs) ≡ flat_map tasks xs
+flat_twice tree plan subjects tasks each [] = refl
+flat_twice tree plan subjects tasks each (x ∷ xs) =
+    flat_map-append (tasks_about tree plan) (subjects x) (flat_map subjects xs) ∙ ap (λ ts. ts ++ flat_map (tasks_about tree plan) (flat_map subjects xs)) (each x) ∙ ap (λ ts. tasks x ++ ts) (flat_twice tree plan subjects tasks each xs)
+
+pub all_systems : (tree : Tree) (plan : Plan) → flat_map (tasks_about tree plan) (subjects_of tree plan) ≡ tasks_of tree plan
+all_systems tree plan =
+    let phases = phases_of tree plan.cut in
+    let signature = λ (slot : Slot). slot_signature plan.version plan.kinds phases slot in
+    let first = flat_map (trips_subjects plan) phases in
+    let second = flat_map (λ (slot : Slot). slot_subjects slot (slot_signature plan.version plan.kinds phases slot)) (slots_of phases) in
+    flat_map-append (tasks_about tree plan) first second
+    ∙ ap (λ ts. ts ++ flat_map (tasks_about tree plan) second) (flat_twice tree plan (trips_subjects plan) (trips_tasks tree plan) (phase_systems tree plan) phases)
+    ∙ ap (λ ts. flat_map (trips_tasks tree plan) phases ++ ts) (flat_twice tree plan (λ slot. slot_subjects slot (slot_signature plan.version plan.kinds phases slot)) (λ slot. slot_tasks tree plan slot (slot_signature plan.version plan.kinds phases slot)) (λ slot. slot_systems tree plan slot (slot_signature plan.version plan.kinds phases slot)) (slots_of phases))
+
+-- ---- what is listed
+
+-- a list that has passed the number stays
+stays : (most : ℕ) (l : Listed) (ss : List Subject) → nat_le l.next most ≡ false → with_subjects most l ss ≡ l
+stays most l [] past = refl
+stays most l (s ∷ ss) past =
+    let here : with_subject most l s ≡ l = ap (λ b. if b then record { groups = l.groups ++ record { number = l.next; subject = s } ∷ []; next = l.next + count_about s } else l) past in
+    ap (λ m. with_subjects most m ss) here ∙ stays most l ss past
+
+abbrev one_more : Listed → Subject → Listed
+one_more l s = record { groups = l.groups ++ record { number = l.next; subject = s } ∷ []; next = l.next + count_about s }
+
+grows : (most : ℕ) (l : Listed) (s : Subject) → nat_le l.next most ≡ true → with_subject most l s ≡ one_more l s
+grows most l s within = ap (λ b. if b then one_more l s else l) within
+
+pub rises : (most : ℕ) (l : Listed) (ss : List Subject) → l.next ≤ (with_subjects most l ss).next
+rises most l [] = omega arith
+rises most l (s ∷ ss) = elim (cases_Bool (nat_le l.next most)) [
+  | inl within ↦
+      let rest = rises most (one_more l s) ss in
+      let same = ap (λ m. (with_subjects most m ss).next) (grows most l s within) in
+      omega (arith, rest, same)
+  | inr past ↦ let same = ap (λ (m : Listed). m.next) (stays most l (s ∷ ss) past) in omega (arith, same)
+]
+
+-- the systems of some subjects, from a number on
+abbrev made : Tree → Plan → ℕ → List Subject → List Obligation
+made tree plan n ss = numbered_from n (flat_map (tasks_about tree plan) ss)
+
+-- those of one subject more
+made_more : (tree : Tree) (plan : Plan) (n : ℕ) (s : Subject) (ss : List Subject) → made tree plan n (s ∷ ss) ≡ numbered_from n (tasks_about tree plan s) ++ made tree plan (n + count_about s) ss
+made_more tree plan n s ss =
+    numbered_behind n (tasks_about tree plan s) (flat_map (tasks_about tree plan) ss)
+    ∙ ap (λ k. numbered_from n (tasks_about tree plan s) ++ made tree plan (n + k) ss) (count_is tree plan s)
+
+abbrev listed_obligations : Tree → Plan → Listed → List Obligation
+listed_obligations tree plan l = flat_map (obligations_in tree plan) l.groups
+
+one_behind : (tree : Tree) (plan : Plan) (l : Listed) (s : Subject) → listed_obligations tree plan (one_more l s) ≡ listed_obligations tree plan l ++ numbered_from l.next (tasks_about tree plan s)
+one_behind tree plan l s =
+    flat_map-append (obligations_in tree plan) l.groups (record { number = l.next; subject = s } ∷ [])
+    ∙ ap (λ os. listed_obligations tree plan l ++ os) (append-nil (numbered_from l.next (tasks_about tree plan s)))
+
+taken_behind : (xs ys : List Obligation) (k m n : ℕ) → length xs ≡ k → n ≡ k + m → take n (xs ++ ys) ≡ xs ++ take m ys
+taken_behind xs ys k m n long is = ap (λ j. take j (xs ++ ys)) (is ∙ ap (λ j. j + m) (sym long)) ∙ take-append-add xs ys m
+
+-- the obligations of the groups listed are the first of all
+pub listed_are : (tree : Tree) (plan : Plan) (most : ℕ) (l : Listed) (ss : List Subject) →
+    listed_obligations tree plan (with_subjects most l ss) ≡ listed_obligations tree plan l ++ take ((with_subjects most l ss).next - l.next) (made tree plan l.next ss)
+listed_are tree plan most l [] =
+    let none : l.next - l.next ≡ 0 = omega arith in
+    sym (ap (λ n. listed_obligations tree plan l ++ take n (made tree plan l.next [])) none ∙ append-nil (listed_obligations tree plan l))
+listed_are tree plan most l (s ∷ ss) = elim (cases_Bool (nat_le l.next most)) [
+  | inl within ↦
+      let same = ap (λ m. with_subjects most m ss) (grows most l s within) in
+      let end = with_subjects most (one_more l s) ss in
+      let here = numbered_from l.next (tasks_about tree plan s) in
+      let later = made tree plan (l.next + count_about s) ss in
+      let low : l.next + count_about s ≤ end.next = rises most (one_more l s) ss in
+      let m = end.next - (l.next + count_about s) in
+      let split : end.next - l.next ≡ count_about s + m = omega (arith, low) in
+      let long : length here ≡ count_about s = numbered_length l.next (tasks_about tree plan s) ∙ count_is tree plan s in
+      ap (listed_obligations tree plan) same
+      ∙ listed_are tree plan most (one_more l s) ss
+      ∙ ap (λ os. os ++ take m later) (one_behind tree plan l s)
+      ∙ append_assoc (listed_obligations tree plan l) here (take m later)
+      ∙ ap (λ os. listed_obligations tree plan l ++ os) (sym (ap (take (end.next - l.next)) (made_more tree plan l.next s ss) ∙ taken_behind here later (count_about s) m (end.next - l.next) long split))
+      ∙ ap (λ (e : Listed). listed_obligations tree plan l ++ take (e.next - l.next) (made tree plan l.next (s ∷ ss))) (sym same)
+  | inr past ↦
+      let same = stays most l (s ∷ ss) past in
+      let none : l.next - l.next ≡ 0 = omega arith in
+      ap (listed_obligations tree plan) same
+      ∙ sym (ap (λ (e : Listed). listed_obligations tree plan l ++ take (e.next - l.next) (made tree plan l.next (s ∷ ss))) same
+      ∙ ap (λ n. listed_obligations tree plan l ++ take n (made tree plan l.next (s ∷ ss))) none ∙ append-nil (listed_obligations tree plan l))
+]
+
+-- how many systems there are: so many as are listed, where the number isn't passed
+pub listed_all : (tree : Tree) (plan : Plan) (most : ℕ) (l : Listed) (ss : List Subject) → (with_subjects most l ss).next ≤ most → l.next + length (flat_map (tasks_about tree plan) ss) ≡ (with_subjects most l ss).next
+listed_all tree plan most l [] within = omega arith
+listed_all tree plan most l (s ∷ ss) within = elim (cases_Bool (nat_le l.next most)) [
+  | inl here ↦
+      let same = ap (λ m. (with_subjects most m ss).next) (grows most l s here) in
+      let rest = listed_all tree plan most (one_more l s) ss (omega (arith, same, within)) in
+      let both = length-append (tasks_about tree plan s) (flat_map (tasks_about tree plan) ss) in
+      let count = count_is tree plan s in
+      omega (arith, same, rest, both, count)
+  | inr past ↦ let same = ap (λ (m : Listed). m.next) (stays most l (s ∷ ss) past) in let over = leb-false l.next most past in absurd (omega (arith, same, over, within))
+]
+
+-- and at least so many in any case
+pub listed_some : (tree : Tree) (plan : Plan) (most : ℕ) (l : Listed) (ss : List Subject) → (with_subjects most l ss).next ≤ l.next + length (flat_map (tasks_about tree plan) ss)
+listed_some tree plan most l [] = omega arith
+listed_some tree plan most l (s ∷ ss) = elim (cases_Bool (nat_le l.next most)) [
+  | inl here ↦
+      let same = ap (λ m. (with_subjects most m ss).next) (grows most l s here) in
+      let rest = listed_some tree plan most (one_more l s) ss in
+      let both = length-append (tasks_about tree plan s) (flat_map (tasks_about tree plan) ss) in
+      let count = count_is tree plan s in
+      omega (arith, same, rest, both, count)
+  | inr past ↦ let same = ap (λ (m : Listed). m.next) (stays most l (s ∷ ss) past) in omega (arith, same)
+]
+
+-- where the number isn't passed, they are all
+pub listed_whole : (tree : Tree) (plan : Plan) (most n : ℕ) (ss : List Subject) → (with_subjects most (record { groups = []; next = n }) ss).next ≤ most →
+    flat_map (obligations_in tree plan) (with_subjects most (record { groups = []; next = n }) ss).groups ≡ numbered_from n (flat_map (tasks_about tree plan) ss)
+listed_whole tree plan most n ss within =
+    let from : Listed = record { groups = []; next = n } in
+    let count = listed_all tree plan most from ss within in
+    let all = made tree plan n ss in
+    let long = numbered_length n (flat_map (tasks_about tree plan) ss) in
+    let reach : length all ≤ (with_subjects most from ss).next - n = omega (arith, count, long) in
+    listed_are tree plan most from ss ∙ take_all ((with_subjects most from ss).next - n) all reach
+
+-- the systems of two trips of a phase, and of a slot
+pub of_phase : (tree : Tree) (plan : Plan) (most n : ℕ) (s : StaticPhase) (l : Listed) → l ≡ with_subjects most (record { groups = []; next = n }) (map (of_trips s) (pairs_of s s)) → l.next ≤ most →
+    flat_map (obligations_in tree plan) l.groups ≡ numbered_from n (map (trips_task tree plan s) (pairs_of s s))
+of_phase tree plan most n s l is within =
+    let ss = map (of_trips s) (pairs_of s s) in
+    let next = ap (λ (m : Listed). m.next) is in
+    ap (λ (m : Listed). flat_map (obligations_in tree plan) m.groups) is ∙ listed_whole tree plan most n ss (omega (arith, next, within)) ∙ ap (numbered_from n) (trips_systems tree plan s (pairs_of s s))
+
+pub of_waits : (tree : Tree) (plan : Plan) (most n : ℕ) (slot : Slot) (signature : Signature) (l : Listed) → l ≡ with_subjects most (record { groups = []; next = n }) (slot_subjects slot signature) → l.next ≤ most →
+    flat_map (obligations_in tree plan) l.groups ≡ numbered_from n (slot_tasks tree plan slot signature)
+of_waits tree plan most n slot signature l is within =
+    let next = ap (λ (m : Listed). m.next) is in
+    ap (λ (m : Listed). flat_map (obligations_in tree plan) m.groups) is ∙ listed_whole tree plan most n (slot_subjects slot signature) (omega (arith, next, within)) ∙ ap (numbered_from n) (slot_systems tree plan slot signature)
+
+-- ---- of a plan
+
+pub of_plan : (tree : Tree) (plan : Plan) (most : ℕ) (l : Listed) → l ≡ groups_of tree plan most → l.next ≤ most → flat_map (obligations_in tree plan) l.groups ≡ obligations_of tree plan
+of_plan tree plan most l is within =
+    let next = ap (λ (m : Listed). m.next) is in
+    ap (λ (m : Listed). flat_map (obligations_in tree plan) m.groups) is ∙ listed_whole tree plan most 1 (subjects_of tree plan) (omega (arith, next, within)) ∙ ap (numbered_from 1) (all_systems tree plan)
+
+abbrev start : Listed
+start = record { groups = []; next = 1 }
+
+pub groups_first : (tree : Tree) (plan : Plan) (most : ℕ) → flat_map (obligations_in tree plan) (groups_of tree plan most).groups ≡ take ((groups_of tree plan most).next - 1) (obligations_of tree plan)
+groups_first tree plan most =
+    listed_are tree plan most start (subjects_of tree plan) ∙ ap (λ ts. take ((groups_of tree plan most).next - 1) (numbered_from 1 ts)) (all_systems tree plan)
+
+obligations_length : (tree : Tree) (plan : Plan) → length (flat_map (tasks_about tree plan) (subjects_of tree plan)) ≡ length (obligations_of tree plan)
+obligations_length tree plan = ap length (all_systems tree plan) ∙ sym (numbered_length 1 (tasks_of tree plan))
+
+pub groups_all : (tree : Tree) (plan : Plan) (most : ℕ) → (groups_of tree plan most).next ≤ most → length (obligations_of tree plan) + 1 ≡ (groups_of tree plan most).next
+groups_all tree plan most within =
+    let all = listed_all tree plan most start (subjects_of tree plan) within in
+    let long = obligations_length tree plan in
+    omega (arith, all, long)
+
+pub groups_some : (tree : Tree) (plan : Plan) (most : ℕ) → (groups_of tree plan most).next ≤ length (obligations_of tree plan) + 1
+groups_some tree plan most =
+    let some = listed_some tree plan most start (subjects_of tree plan) in
+    let long = obligations_length tree plan in
+    omega (arith, some, long)
+
+-- how many there are
+pub count_of_plan : (tree : Tree) (plan : Plan) (most : ℕ) (l : Listed) → l ≡ groups_of tree plan most → l.next ≤ most → l.next - 1 ≡ length (obligations_of tree plan)
+count_of_plan tree plan most l is within =
+    let next = ap (λ (m : Listed). m.next) is in
+    let all = groups_all tree plan most (omega (arith, next, within)) in
+    omega (arith, next, all)

@@ -1,0 +1,70 @@
+-- What a plan of a fitting shape has: few workers, blocks with places, and good conditions.
+use Rattle.std.proofs.Common.{◌≡◌, ℕ, ◌≤◌, ◌==◌, nat_le, not, ◌&&◌, Bool, true, false, Option, Some, None, List, [], ◌∷◌, length, if◌then◌else◌, refl, arith}
+use Rattle.std.specs.List.{list_all}
+use Rattle.std.proofs.lemmas.Bool.{and_from, and_parts, eqb-true, leb-true}
+use Rattle.nest_tree.specs.Tree.{Tree}
+use Rattle.nest_tree.specs.WellFormed.{loops_of, names_only}
+use Rattle.nest_walk.specs.Texts.{Placed}
+use Rattle.owner_partition.specs.declared.anchor.Anchor.{Anchor}
+use Rattle.owner_partition.specs.declared.cut.Mark.{Mark}
+use Rattle.sync_plan.specs.declared.plan.Kind.{Kind}
+use Rattle.sync_plan.specs.declared.plan.Kind.TheVariants.{Nothing, Producer, Left, Right, Both, Barrier, Join}
+use Rattle.sync_plan.specs.declared.plan.Plan.{Plan}
+use Rattle.sync_plan.specs.Shape.{are_good_anchors, are_good_conditions, are_good_kinds, are_marked_well, has_places, is_good_anchor, is_good_kind, own_loops, static_phases, wrong_field}
+use Rattle.comm_system.specs.Signatures.{has_places_in}
+
+pub record IsShaped (tree : Tree) (plan : Plan) : Type 0 where
+  pub some : 1 ≤ plan.workers
+  pub workers : plan.workers ≤ 64
+  pub anchors : list_all (λ (a : Anchor). has_places a.dist) plan.anchors ≡ true
+  pub kinds : list_all has_places_in plan.kinds ≡ true
+  pub conditions : are_good_conditions (length tree.params) plan.version plan.conditions ≡ true
+
+right_field : (b : Bool) (n : ℕ) (rest : Option ℕ) → (if not b then Some n else rest) ≡ None → (b ≡ true) × (rest ≡ None)
+right_field true n rest e = (refl, e)
+right_field false n rest e = absurd (cc)
+
+kind_places : (constants : ℕ) (loops : List ℕ) (k : Kind) → is_good_kind constants loops k ≡ true → has_places_in k ≡ true
+kind_places constants loops Nothing good = refl
+kind_places constants loops (Producer a) good = (and_parts (names_only constants loops a.form) (has_places a.dist) good).1
+kind_places constants loops Left good = refl
+kind_places constants loops Right good = refl
+kind_places constants loops Both good = refl
+kind_places constants loops Barrier good = refl
+kind_places constants loops Join good = refl
+
+all_anchors : (constants : ℕ) (marks : List Mark) (text : List Placed) (anchors : List Anchor) → length anchors ≡ length text → are_good_anchors constants marks text anchors ≡ true → list_all (λ (a : Anchor). has_places a.dist) anchors ≡ true
+all_anchors constants marks text [] many good = refl
+all_anchors constants marks [] (a ∷ anchors) many good = absurd (omega (arith, many))
+all_anchors constants marks (s ∷ text) (a ∷ anchors) many good =
+    let parts = and_parts (is_good_anchor constants (own_loops marks s.what s.around) a) (are_good_anchors constants marks text anchors) good in
+    and_from (has_places a.dist) (list_all (λ (a : Anchor). has_places a.dist) anchors) (and_parts (names_only constants (own_loops marks s.what s.around) a.form) (has_places a.dist) parts.0).1
+    (all_anchors constants marks text anchors (omega (arith, many)) parts.1)
+
+all_kinds : (constants : ℕ) (text : List Placed) (kinds : List Kind) → length kinds ≡ length text → are_good_kinds constants text kinds ≡ true → list_all has_places_in kinds ≡ true
+all_kinds constants text [] many good = refl
+all_kinds constants [] (k ∷ kinds) many good = absurd (omega (arith, many))
+all_kinds constants (s ∷ text) (k ∷ kinds) many good =
+    let parts = and_parts (is_good_kind constants s.around k) (are_good_kinds constants text kinds) good in
+    and_from (has_places_in k) (list_all has_places_in kinds) (kind_places constants s.around k parts.0) (all_kinds constants text kinds (omega (arith, many)) parts.1)
+
+pub shaped : (tree : Tree) (plan : Plan) → wrong_field tree plan ≡ None → IsShaped tree plan
+shaped tree plan none =
+    let text = static_phases tree plan.cut in
+    let constants = length tree.params in
+    let workers = right_field (nat_le 1 plan.workers && nat_le plan.workers 64) 1 _ none in
+    let marks = right_field (length plan.cut == loops_of tree.items) 2 _ workers.1 in
+    let marked = right_field (are_marked_well plan.cut false tree.items) 3 _ marks.1 in
+    let counts = right_field (length plan.anchors == length text && length plan.kinds == length text) 4 _ marked.1 in
+    let anchors = right_field (are_good_anchors constants plan.cut text plan.anchors) 5 _ counts.1 in
+    let kinds = right_field (are_good_kinds constants text plan.kinds) 6 _ anchors.1 in
+    let conditions = right_field (are_good_conditions constants plan.version plan.conditions) 8 None kinds.1 in
+    let range = and_parts (nat_le 1 plan.workers) (nat_le plan.workers 64) workers.0 in
+    let many = and_parts (length plan.anchors == length text) (length plan.kinds == length text) counts.0 in
+    record {
+      some = leb-true 1 plan.workers range.0;
+      workers = leb-true plan.workers 64 range.1;
+      anchors = all_anchors constants plan.cut text plan.anchors (eqb-true (length plan.anchors) (length text) many.0) anchors.0;
+      kinds = all_kinds constants text plan.kinds (eqb-true (length plan.kinds) (length text) many.1) kinds.0;
+      conditions = conditions.0;
+    }

@@ -1,0 +1,125 @@
+-- The systems of a pair's pieces, part by part.
+use Rattle.std.proofs.Common.{◌≡◌, ℕ, zero, suc, ◌+◌, ◌*◌, ◌-◌, ◌<◌, ◌≤◌, ℤ, pos, neg_ℤ, negsuc, List, [], ◌∷◌, ◌++◌, length, map, drop, get_or, take, refl, ap, sym, ◌∙◌, arith}
+use Rattle.std.proofs.lemmas.List.{drop_more, length-drop, length-map, map-append, take_all}
+use Rattle.farkas_cert.specs.Inequalities.{Inequalities}
+use Rattle.nest_tree.specs.Tree.{Tree}
+use Rattle.nest_tree.specs.View.{head_of}
+use Rattle.nest_rows.specs.Constraints.{row_of, system_of}
+use Rattle.nest_rows.specs.More.{HasMore}
+use Rattle.nest_rows.specs.declared.constraint.Constraint.{Constraint}
+use Rattle.nest_rows.specs.declared.terms.Around.{Around}
+use Rattle.nest_rows.proofs.RowLists.{more-both}
+use Rattle.owner_partition.specs.declared.anchor.Anchor.{Anchor}
+use Rattle.sync_plan.specs.declared.plan.Plan.{Plan}
+use Rattle.comm_system.specs.Boundaries.{Side}
+use Rattle.comm_system.specs.Levels.{Order, common, order_at}
+use Rattle.comm_system.specs.Obligations.{Slot, Task, last_of, numbered, numbered_from, owners_of, piece_task, pieces_from}
+use Rattle.comm_system.specs.OwnerRows.{Piece, Placed, above, below, beside, distance, owner_numbers, owners_have, owners_unknowns, pieces, sign_of}
+use Rattle.comm_system.specs.PairRows.{apart, behind_pair, pair_rows, unknowns_of}
+use Rattle.comm_system.specs.Pairs.{Pair}
+use Rattle.comm_system.specs.PieceViews.{direction_seen, piece_seen}
+use Rattle.comm_system.specs.Seen.{reference_seen}
+use Rattle.comm_system.specs.SystemViews.{AreUnknowns, IsShared}
+use Rattle.comm_system.specs.References.{variable_of}
+use Rattle.comm_system.specs.declared.pair_systems.Shared.{Shared}
+use Rattle.comm_system.specs.declared.pair_systems.Unknowns.{Unknowns}
+use Rattle.comm_system.specs.declared.pieces.Direction.{Direction}
+use Rattle.comm_system.specs.declared.pieces.Piece.{Piece as Held}
+use Rattle.comm_system.specs.declared.reference.Reference.{Reference}
+use Rattle.comm_system.proofs.RowSteps.{left_more}
+
+-- an access's loops have unknowns
+pub loops_within : (tree : Tree) (a : Reference) (n : ℕ) → n ≡ unknowns_of tree (reference_seen a) → 2 * length a.around.items ≤ n
+loops_within tree a n is =
+    let long = length-map a.around.items (λ (x : Around). head_of x.nest.now) in
+    omega (arith, is, long)
+
+-- a system and its further rows
+pub system_more : (vars : ℕ) (rows last : List Constraint) (old new : Inequalities) → old ≡ system_of vars rows → HasMore last old new → new ≡ system_of vars (rows ++ last)
+system_more vars rows last old new is more =
+    more ∙ ap (λ (s : Inequalities). record { vars = s.vars; rows = s.rows ++ map (row_of s.vars) last }) is
+    ∙ ap (λ rs. record { vars = vars; rows = rs }) (sym (map-append (row_of vars) rows last))
+
+-- a system that had no row
+pub system_first : (vars : ℕ) (rows : List Constraint) (old new : Inequalities) → old ≡ record { vars = vars; rows = [] } → HasMore rows old new → new ≡ system_of vars rows
+system_first vars rows old new is more = more ∙ ap (λ (s : Inequalities). record { vars = s.vars; rows = s.rows ++ map (row_of s.vars) rows }) is
+
+-- one side more
+pub beside_more : (q : ℕ) (os : List ℕ) (sides : List Direction) (k d : ℕ) (e : Direction) → k < length os → k < length sides →
+    beside q (drop k os) (map direction_seen (drop k sides)) ≡ (apart (sign_of (direction_seen (get_or sides k e))) q (get_or os k d) (negsuc 0) ∷ []) ++ beside q (drop (k + 1) os) (map direction_seen (drop (k + 1) sides))
+beside_more q os sides k d e lo ls =
+    ap (λ xs. beside q xs (map direction_seen (drop k sides))) (drop_more os k d lo)
+    ∙ ap (λ ds. beside q (get_or os k d ∷ drop (k + 1) os) (map direction_seen ds)) (drop_more sides k e ls)
+
+-- the first two of some owners
+pub two_first : (xs : List ℕ) → 2 ≤ length xs → xs ≡ get_or xs 0 0 ∷ get_or xs 1 0 ∷ drop 2 xs
+two_first [] le = absurd (omega (arith, le))
+two_first (x ∷ []) le = absurd (omega (arith, le))
+two_first (x ∷ y ∷ xs) le = refl
+
+-- those behind the first two
+pub rest_taken : (xs : List ℕ) → take (length xs - 2) (drop 2 xs) ≡ drop 2 xs
+rest_taken xs = let long = length-drop 2 xs in take_all (length xs - 2) (drop 2 xs) (omega (arith, long))
+
+-- the obligation of one piece more
+pub obligations_more : (f : ℕ → Piece → Task) (n : ℕ) (ps : List Held) (k : ℕ) (p : Held) → k < length ps → p ≡ get_or ps k p →
+    numbered_from (n + k) (pieces_from f (k + 1) (map piece_seen (drop k ps))) ≡ numbered (n + k) (f (k + 1) (piece_seen p)) ∷ numbered_from (n + (k + 1)) (pieces_from f (k + 1 + 1) (map piece_seen (drop (k + 1) ps)))
+obligations_more f n ps k p lt is =
+    let first : suc (n + k) ≡ n + (k + 1) = omega arith in
+    let second : suc (k + 1) ≡ k + 1 + 1 = omega arith in
+    ap (λ qs. numbered_from (n + k) (pieces_from f (k + 1) qs)) (left_more piece_seen ps k p lt is)
+    ∙ ap (λ m. numbered (n + k) (f (k + 1) (piece_seen p)) ∷ numbered_from m (pieces_from f (suc (k + 1)) (map piece_seen (drop (k + 1) ps)))) first
+    ∙ ap (λ m. numbered (n + k) (f (k + 1) (piece_seen p)) ∷ numbered_from (n + (k + 1)) (pieces_from f m (map piece_seen (drop (k + 1) ps)))) second
+
+-- three producers have 16 pieces
+pub few_pieces : (n : ℕ) → n ≤ 3 → length (pieces n) ≤ 16
+few_pieces zero le = omega arith
+few_pieces (suc zero) le = omega arith
+few_pieces (suc (suc zero)) le = omega arith
+few_pieces (suc (suc (suc zero))) le = omega arith
+few_pieces (suc (suc (suc (suc n)))) le = absurd (omega (arith, le))
+
+pub few_made : (n : ℕ) (ps : List Held) → map piece_seen ps ≡ pieces n → n ≤ 3 → length ps ≤ 16
+few_made n ps is le =
+    let few = few_pieces n le in
+    let long : length ps ≡ length (pieces n) = sym (length-map ps piece_seen) ∙ ap length is in
+    omega (arith, few, long)
+
+-- the rows that all pieces share, and the owners' unknowns
+pub shared_system : (tree : Tree) (plan : Plan) (slot : Slot) (producers : List (Anchor × Side)) (pair : Pair) (n : Unknowns) (placed : List Placed) (order : Order) (old middle new : Inequalities) (count : ℕ) →
+    AreUnknowns tree pair n → placed ≡ owners_of tree plan slot producers pair → order ≡ order_at (common slot.first.outer slot.second.outer) slot.level → count ≡ owners_unknowns (owners_of tree plan slot producers pair) →
+    old ≡ record { vars = n.behind + count - 1; rows = [] } → HasMore (pair_rows tree plan.conditions order pair) old middle → HasMore (owners_have plan.workers n.behind placed) middle new →
+    new ≡ system_of (behind_pair tree pair + owners_unknowns (owners_of tree plan slot producers pair) - 1)
+    (pair_rows tree plan.conditions (order_at (common slot.first.outer slot.second.outer) slot.level) pair ++ owners_have plan.workers (behind_pair tree pair) (owners_of tree plan slot producers pair))
+shared_system tree plan slot producers pair n placed order old middle new count are owners ordered counted empty first second =
+    let of_pair = pair_rows tree plan.conditions order pair in
+    let of_owners = owners_have plan.workers n.behind placed in
+    let all = owners_of tree plan slot producers pair in
+    let vars : n.behind + count - 1 ≡ behind_pair tree pair + owners_unknowns all - 1 = let b = are.behind in omega (arith, b, counted) in
+    system_first (n.behind + count - 1) (of_pair ++ of_owners) old new empty (more-both of_pair of_owners old middle new first second)
+    ∙ ap (λ v. system_of v (of_pair ++ of_owners)) vars
+    ∙ ap (λ o. system_of (behind_pair tree pair + owners_unknowns all - 1) (pair_rows tree plan.conditions o pair ++ of_owners)) ordered
+    ∙ ap (λ m. system_of (behind_pair tree pair + owners_unknowns all - 1) (pair_rows tree plan.conditions (order_at (common slot.first.outer slot.second.outer) slot.level) pair ++ owners_have plan.workers m placed)) are.behind
+    ∙ ap (λ ps. system_of (behind_pair tree pair + owners_unknowns all - 1) (pair_rows tree plan.conditions (order_at (common slot.first.outer slot.second.outer) slot.level) pair ++ owners_have plan.workers (behind_pair tree pair) ps)) owners
+
+pub shared_numbers : (tree : Tree) (plan : Plan) (slot : Slot) (producers : List (Anchor × Side)) (pair : Pair) (n : Unknowns) (placed : List Placed) → AreUnknowns tree pair n → placed ≡ owners_of tree plan slot producers pair →
+    owner_numbers n.behind placed ≡ owner_numbers (behind_pair tree pair) (owners_of tree plan slot producers pair)
+shared_numbers tree plan slot producers pair n placed are owners = ap (λ m. owner_numbers m placed) are.behind ∙ ap (owner_numbers (behind_pair tree pair)) owners
+
+-- the system of a piece, and its obligation
+pub piece_system : (tree : Tree) (plan : Plan) (slot : Slot) (left right : ℕ) (producers : List (Anchor × Side)) (pair : Pair) (shared : Shared) (p : Piece) (system : Inequalities) → IsShared tree plan slot producers pair shared →
+    HasMore (last_of left right shared.owners.items p) shared.system system → system ≡ (piece_task tree plan slot left right producers pair 1 p).system
+piece_system tree plan slot left right producers pair shared p system is more =
+    let q = behind_pair tree pair in
+    let owners = owners_of tree plan slot producers pair in
+    let vars = q + owners_unknowns owners - 1 in
+    let rows = pair_rows tree plan.conditions (order_at (common slot.first.outer slot.second.outer) slot.level) pair ++ owners_have plan.workers q owners in
+    system_more vars rows (last_of left right shared.owners.items p) shared.system system is.system more ∙ ap (λ os. system_of vars (rows ++ last_of left right os p)) is.owners
+
+pub piece_obligation : (tree : Tree) (plan : Plan) (slot : Slot) (left right : ℕ) (producers : List (Anchor × Side)) (pair : Pair) (p : Piece) (number place : ℕ) (system : Inequalities) (variable : ℕ) (range : ℤ × ℤ) →
+    system ≡ (piece_task tree plan slot left right producers pair 1 p).system → variable ≡ variable_of pair.first.what → range ≡ (neg_ℤ (pos (distance below left right)), pos (distance above left right)) →
+    record { number = number; system = system; lines = (pair.first.line, pair.second.line); variable = variable; level = slot.level; piece = place; range = range } ≡ numbered number (piece_task tree plan slot left right producers pair place p)
+piece_obligation tree plan slot left right producers pair p number place system variable range is named far =
+    ap (λ (s : Inequalities). record { number = number; system = s; lines = (pair.first.line, pair.second.line); variable = variable; level = slot.level; piece = place; range = range }) is
+    ∙ ap (λ (v : ℕ). record { number = number; system = (piece_task tree plan slot left right producers pair 1 p).system; lines = (pair.first.line, pair.second.line); variable = v; level = slot.level; piece = place; range = range }) named
+    ∙ ap (λ (r : ℤ × ℤ). record { number = number; system = (piece_task tree plan slot left right producers pair 1 p).system; lines = (pair.first.line, pair.second.line); variable = variable_of pair.first.what; level = slot.level; piece = place; range = r }) far

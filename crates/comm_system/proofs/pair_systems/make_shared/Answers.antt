@@ -1,0 +1,40 @@
+use Rattle.std.proofs.Common.{◌∷◌, map, ap, ◌∙◌}
+use Rattle.nest_tree.specs.View.{tree_of}
+use Rattle.comm_system.specs.Boundaries.{of_first, of_second}
+use Rattle.comm_system.specs.Obligations.{anchor_at, placed_at}
+use Rattle.comm_system.specs.OwnerRows.{owners_unknowns}
+use Rattle.comm_system.specs.OwnerViews.{placed_seen}
+use Rattle.comm_system.specs.RowViews.{order_seen}
+use Rattle.comm_system.specs.Seen.{pair_of}
+use Rattle.comm_system.specs.SideViews.{producer_seen}
+use Rattle.comm_system.specs.SlotViews.{slot_seen}
+use Rattle.comm_system.proofs.ShapeParts.{shaped}
+use Rattle.comm_system.proofs.SystemParts.{shared_numbers, shared_system}
+use Rattle.comm_system.proofs.pair_systems.make_shared.Goals as goal
+
+pub anchor_at-first-requires-clause-places : goal.anchor_at-first-requires-clause-places
+anchor_at-first-requires-clause-places c = (shaped (tree_of c.args.program.now) c.args.plan.now c.requires).anchors
+
+pub anchor_at-second-requires-clause-places : goal.anchor_at-second-requires-clause-places
+anchor_at-second-requires-clause-places c = (shaped (tree_of c.args.program.now) c.args.plan.now c.requires).anchors
+
+pub returns : goal.returns
+returns c =
+    let tree = tree_of c.args.program.now in
+    let plan = c.args.plan.now in
+    let slot = slot_seen c.args.slot.now in
+    let producers = map producer_seen c.args.waits.now.producers.items in
+    let pair = pair_of c.args.a.now c.args.b.now in
+    let n = c.in_ok-n.n in
+    let are = c.in_ok-n.ensures.are in
+    let placed = c.in_ok-placed.placed.items in
+    let owners = c.in_ok-placed.ensures.placed tree are
+    ∙ ap (λ x. placed_at tree pair (x, of_first) ∷ placed_at tree pair (c.anchor_at-second.result.now, of_second) ∷ map (placed_at tree pair) producers) c.anchor_at-first.ensures.anchor
+    ∙ ap (λ x. placed_at tree pair (anchor_at plan slot.s, of_first) ∷ placed_at tree pair (x, of_second) ∷ map (placed_at tree pair) producers) c.anchor_at-second.ensures.anchor in
+    let first = ap (map placed_seen) c.as_slice.ensures.value ∙ owners in
+    let second = ap (map placed_seen) c.as_slice-2.ensures.value ∙ owners in
+    record {
+      system = shared_system tree plan slot producers pair n (map placed_seen c.as_slice-2.result.now) (order_seen c.in_ok-order.order) c.empty-system.result c.push_pair.new.system c.push_owners.new.system c.owners_unknowns.result
+          are second c.in_ok-order.ensures.order (c.owners_unknowns.ensures.unknowns ∙ ap owners_unknowns first) c.empty-system.ensures c.in_ok-push_pair.ensures c.in_ok-owners.ensures.rows;
+      owners = c.in_ok-owners.ensures.numbers ∙ shared_numbers tree plan slot producers pair n (map placed_seen c.as_slice-2.result.now) are second;
+    }

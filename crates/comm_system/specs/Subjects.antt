@@ -1,0 +1,71 @@
+-- What the systems of a plan speak of, one after another, and the systems of each.
+use Rattle.std.specs.Prelude.{ℕ, ◌+◌, nat_le, List, [], ◌∷◌, ◌++◌, length, map, if◌then◌else◌}
+use Rattle.std.specs.List.{flat_map}
+use Rattle.nest_tree.specs.Tree.{Tree}
+use Rattle.owner_partition.specs.declared.anchor.Anchor.{Anchor}
+use Rattle.sync_plan.specs.declared.plan.Plan.{Plan}
+use Rattle.sync_plan.specs.Fit.{is_dealt}
+use Rattle.comm_system.specs.Boundaries.{Side}
+use Rattle.comm_system.specs.Obligations.{Slot, Task, numbered_from, pair_tasks, slot_signature, slots_of, trips_task}
+use Rattle.comm_system.specs.OwnerRows.{pieces}
+use Rattle.comm_system.specs.Pairs.{Pair, pairs_of}
+use Rattle.comm_system.specs.References.{StaticPhase, phases_of}
+use Rattle.comm_system.specs.Signatures.{Signature, blocked, waits}
+use Rattle.comm_system.specs.declared.obligation.Obligation.{Obligation}
+
+-- a pair of accesses in two trips of a phase, or at a slot, of whose waits the plan shows so many for neighbours and these producers
+pub data Subject : Type 0 where
+  of_trips : StaticPhase → Pair → Subject
+  of_slot : Slot → (left right : ℕ) (producers : List (Anchor × Side)) → Pair → Subject
+
+abbrev pub tasks_about : Tree → Plan → Subject → List Task
+tasks_about tree plan (of_trips s pair) = trips_task tree plan s pair ∷ []
+tasks_about tree plan (of_slot slot left right producers pair) = pair_tasks tree plan slot left right producers pair
+
+-- how many systems it has
+abbrev pub count_about : Subject → ℕ
+count_about (of_trips s pair) = 1
+count_about (of_slot slot left right producers pair) = length (pieces (length producers))
+
+-- the subjects of a Doall phase, and of a slot, of which the kinds show only its signature
+abbrev pub trips_subjects : Plan → StaticPhase → List Subject
+trips_subjects plan s = if is_dealt plan.cut s.what then map (of_trips s) (pairs_of s s) else []
+
+abbrev pub slot_subjects : Slot → Signature → List Subject
+slot_subjects slot blocked = []
+slot_subjects slot (waits left right producers) = map (of_slot slot left right producers) (pairs_of slot.first slot.second)
+
+-- all of a plan with these static phases, and all of a plan
+abbrev pub subjects_among : Plan → List StaticPhase → List Subject
+subjects_among plan phases = flat_map (trips_subjects plan) phases ++ flat_map (λ slot. slot_subjects slot (slot_signature plan.version plan.kinds phases slot)) (slots_of phases)
+
+abbrev pub subjects_of : Tree → Plan → List Subject
+subjects_of tree plan = subjects_among plan (phases_of tree plan.cut)
+
+-- a subject with the number of its first system
+pub record Group : Type 0 where
+  pub number : ℕ
+  pub subject : Subject
+
+abbrev pub obligations_in : Tree → Plan → Group → List Obligation
+obligations_in tree plan g = numbered_from g.number (tasks_about tree plan g.subject)
+
+-- groups, and the number of the first system behind them
+pub record Listed : Type 0 where
+  pub groups : List Group
+  pub next : ℕ
+
+-- one subject more, unless the systems before it pass a number
+abbrev pub with_subject : ℕ → Listed → Subject → Listed
+with_subject most l s = if nat_le l.next most then record { groups = l.groups ++ record { number = l.next; subject = s } ∷ []; next = l.next + count_about s } else l
+
+abbrev pub with_subjects : ℕ → Listed → List Subject → Listed
+with_subjects most l [] = l
+with_subjects most l (s ∷ rest) = with_subjects most (with_subject most l s) rest
+
+-- the groups whose first systems have at most this number
+abbrev pub groups_among : Plan → List StaticPhase → ℕ → Listed
+groups_among plan phases most = with_subjects most (record { groups = []; next = 1 }) (subjects_among plan phases)
+
+abbrev pub groups_of : Tree → Plan → ℕ → Listed
+groups_of tree plan most = groups_among plan (phases_of tree plan.cut) most

@@ -1,0 +1,26 @@
+-- Where the unknowns of a pair of accesses stand, and the rows that all pieces of a pair have.
+use Rattle.std.specs.Prelude.{◌+◌, ◌-◌, ◌<◌, ◌^◌, ◌≡◌, List, ◌++◌}
+use Rattle.nest_tree.specs.Tree.{Tree}
+use Rattle.nest_rows.specs.Constraints.{system_of}
+use Rattle.owner_partition.specs.declared.anchor.Anchor.{Anchor}
+use Rattle.sync_plan.specs.declared.plan.Plan.{Plan}
+use Rattle.comm_system.specs.Boundaries.{Side}
+use Rattle.comm_system.specs.Levels.{common, order_at}
+use Rattle.comm_system.specs.Obligations.{Slot, owners_of}
+use Rattle.comm_system.specs.OwnerRows.{owner_numbers, owners_have, owners_unknowns}
+use Rattle.comm_system.specs.PairRows.{behind_pair, first_of, pair_rows, second_of}
+use Rattle.comm_system.specs.Pairs.{Pair}
+use Rattle.comm_system.specs.declared.pair_systems.Unknowns.{Unknowns}
+use Rattle.comm_system.specs.declared.pair_systems.Shared.{Shared}
+
+pub record AreUnknowns (tree : Tree) (pair : Pair) (n : Unknowns) : Type 0 where
+  pub first : n.first ≡ first_of tree
+  pub second : n.second ≡ second_of tree pair
+  pub behind : n.behind ≡ behind_pair tree pair
+  pub few : n.behind < 2 ^ 31
+
+-- the system of a pair without its last rows, and the owners' unknowns
+pub record IsShared (tree : Tree) (plan : Plan) (slot : Slot) (producers : List (Anchor × Side)) (pair : Pair) (shared : Shared) : Type 0 where
+  pub system : shared.system ≡ system_of (behind_pair tree pair + owners_unknowns (owners_of tree plan slot producers pair) - 1)
+      (pair_rows tree plan.conditions (order_at (common slot.first.outer slot.second.outer) slot.level) pair ++ owners_have plan.workers (behind_pair tree pair) (owners_of tree plan slot producers pair))
+  pub owners : shared.owners.items ≡ owner_numbers (behind_pair tree pair) (owners_of tree plan slot producers pair)

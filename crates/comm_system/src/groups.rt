@@ -1,0 +1,299 @@
+// The groups of a plan.
+
+ghost use Rattle.std.specs.Prelude.{◌≡◌, ◌-◌, ◌<◌, ◌^◌, [], ◌∷◌, IfOk, IsTrue, None, OnOk, length, map};
+ghost use Rattle.std.specs.List.{filter, flat_map, list_all};
+ghost use Rattle.nest_tree.specs.View.{statement_of, tree_of};
+ghost use Rattle.sync_plan.specs.Fit.{is_dealt as is_dealt_in};
+ghost use Rattle.sync_plan.specs.Shape.{wrong_field};
+ghost use Rattle.comm_system.specs.GroupViews.{listed_seen, paired};
+ghost use Rattle.comm_system.specs.Obligations.{slot_signature as signature_under};
+ghost use Rattle.comm_system.specs.Pairs.{conflict, pairs_of};
+ghost use Rattle.comm_system.specs.PhaseViews.{phase_seen};
+ghost use Rattle.comm_system.specs.References.{phases_of};
+ghost use Rattle.comm_system.specs.Seen.{reference_seen};
+ghost use Rattle.comm_system.specs.Signatures.{has_places_in, waits as waits_of};
+ghost use Rattle.comm_system.specs.SideViews.{producer_seen};
+ghost use Rattle.comm_system.specs.SlotViews.{slot_seen};
+ghost use Rattle.comm_system.specs.Subjects.{groups_of, of_trips, slot_subjects, trips_subjects, with_subject, with_subjects};
+ghost use Rattle.comm_system.specs.SubjectViews.{subject_at, subject_seen};
+
+use crate::conflict::are_conflicting;
+use crate::group::Group;
+use crate::phase::Phase;
+use crate::reference::Reference;
+use crate::signature::{Signature, slot_signature};
+use crate::slot::Slot;
+use crate::slot_list::slots;
+use crate::subject::{Scene, Subject};
+use crate::waits::Waits;
+use nest_tree::{Item, Program};
+use owner_partition::Mark;
+use std::alloc::{AllocError, Global};
+use sync_plan::Plan;
+
+/// Groups in order, and the number of the first system behind them.
+#[derive(Drop)]
+pub struct Groups<'b, 'a, 'p> {
+    pub items: Vec<Group<'b, 'a, 'p>>,
+    pub next: u64,
+}
+
+impl<'b, 'a, 'p> Groups<'b, 'a, 'p> {
+    /// How many systems there are up to the last group.
+    pub fn count(&self) -> u64
+        ensures { result ≡ self.now.next - 1 }
+    {
+        self.next.saturating_sub(1)
+    }
+
+    // One subject more, unless the systems before it pass a number. So many systems that their
+    // numbers pass 64 bits have no room.
+    fn add(&mut self, most: u64, subject: Subject<'b, 'a, 'p>) -> Result<(), AllocError>
+        ensures { OnOk result (listed_seen self.new ≡ with_subject most (listed_seen self.old) (subject_seen subject.entry)) }
+    {
+        if self.next > most {
+            return Ok(());
+        }
+        let number = self.next;
+        match number.checked_add(subject.count()) {
+            Some(next) => {
+                self.items.push(Group { number, subject })?;
+                self.next = next;
+                Ok(())
+            }
+            None => Err(AllocError),
+        }
+    }
+
+    // A pair of accesses, if they conflict.
+    fn add_pair(
+        &mut self,
+        alloc: Global,
+        most: u64,
+        scene: Scene<'_, 'b, 'a, 'p>,
+        a: &'b Reference<'a>,
+        b: &'b Reference<'a>,
+    ) -> Result<(), AllocError>
+        ensures { OnOk result (listed_seen self.new ≡ with_subjects most (listed_seen self.old) (map (subject_at scene.entry) (map (paired (reference_seen a.entry.now)) (filter (conflict (reference_seen a.entry.now)) (reference_seen b.entry.now ∷ []))))) }
+    {
+        if are_conflicting(a, b) {
+            self.add(most, scene.subject(alloc, a, b)?)
+        } else {
+            Ok(())
+        }
+    }
+
+    // The pairs of an access with those of these that conflict with it.
+    fn add_partners(
+        &mut self,
+        alloc: Global,
+        most: u64,
+        scene: Scene<'_, 'b, 'a, 'p>,
+        a: &'b Reference<'a>,
+        seconds: &'b [Reference<'a>],
+    ) -> Result<(), AllocError>
+        ensures { OnOk result (listed_seen self.new ≡ with_subjects most (listed_seen self.old) (map (subject_at scene.entry) (map (paired (reference_seen a.entry.now)) (filter (conflict (reference_seen a.entry.now)) (map reference_seen seconds.entry.now))))) }
+    {
+        for b in seconds {
+            if self.next > most {
+                return Ok(());
+            }
+            self.add_pair(alloc, most, scene, a, b)?;
+        }
+        Ok(())
+    }
+
+    // The pairs of two phases' accesses that conflict.
+    fn add_pairs(
+        &mut self,
+        alloc: Global,
+        most: u64,
+        scene: Scene<'_, 'b, 'a, 'p>,
+        firsts: &'b [Reference<'a>],
+        seconds: &'b [Reference<'a>],
+    ) -> Result<(), AllocError>
+        ensures { OnOk result (listed_seen self.new ≡ with_subjects most (listed_seen self.old) (map (subject_at scene.entry) (flat_map (λ a. map (paired a) (filter (conflict a) (map reference_seen seconds.entry.now))) (map reference_seen firsts.entry.now)))) }
+    {
+        for a in firsts {
+            if self.next > most {
+                return Ok(());
+            }
+            self.add_partners(alloc, most, scene, a, seconds)?;
+        }
+        Ok(())
+    }
+
+    // Two trips of a phase, if it is a Doall loop.
+    fn add_trips(
+        &mut self,
+        alloc: Global,
+        plan: &Plan,
+        most: u64,
+        phase: &'b Phase<'a>,
+    ) -> Result<(), AllocError>
+        ensures { OnOk result (listed_seen self.new ≡ with_subjects most (listed_seen self.old) (trips_subjects plan.now (phase_seen phase.entry.now))) }
+    {
+        if !is_dealt(plan.cut.as_slice(), phase.item) {
+            return Ok(());
+        }
+        self.add_phase(alloc, most, phase)
+    }
+
+    // Two trips of a phase.
+    fn add_phase(
+        &mut self,
+        alloc: Global,
+        most: u64,
+        phase: &'b Phase<'a>,
+    ) -> Result<(), AllocError>
+        ensures { OnOk result (listed_seen self.new ≡ with_subjects most (listed_seen self.old) (map (of_trips (phase_seen phase.entry.now)) (pairs_of (phase_seen phase.entry.now) (phase_seen phase.entry.now)))) }
+    {
+        let references = phase.references.as_slice();
+        self.add_pairs(alloc, most, Scene::Trips(phase), references, references)
+    }
+
+    // A slot with what the second instance waits for.
+    fn add_waits(
+        &mut self,
+        alloc: Global,
+        most: u64,
+        slot: Slot<'b, 'a>,
+        waits: &Waits<'p>,
+    ) -> Result<(), AllocError>
+        ensures { OnOk result (listed_seen self.new ≡ with_subjects most (listed_seen self.old) (slot_subjects (slot_seen slot.entry) (waits_of waits.now.left waits.now.right (map producer_seen waits.now.producers.items)))) }
+    {
+        let firsts = slot.first.references.as_slice();
+        let seconds = slot.second.references.as_slice();
+        self.add_pairs(alloc, most, Scene::Slot(slot, waits), firsts, seconds)
+    }
+
+    // A slot, unless a barrier stands there.
+    fn add_slot(
+        &mut self,
+        alloc: Global,
+        plan: &'p Plan,
+        phases: &[Phase],
+        most: u64,
+        slot: Slot<'b, 'a>,
+    ) -> Result<(), AllocError>
+        requires places { IsTrue (list_all has_places_in plan.now.kinds) }
+        requires few { length phases.now < 2 ^ 20 }
+        ensures { OnOk result (listed_seen self.new ≡ with_subjects most (listed_seen self.old) (slot_subjects (slot_seen slot.entry) (signature_under plan.entry.now.version plan.entry.now.kinds (map phase_seen phases.now) (slot_seen slot.entry)))) }
+    {
+        if self.next > most {
+            return Ok(());
+        }
+        match slot_signature(alloc, plan.version, plan.kinds.as_slice(), phases, &slot)? {
+            Signature::Blocked => Ok(()),
+            Signature::Waits(waits) => self.add_waits(alloc, most, slot, &waits),
+        }
+    }
+
+    // Two trips of each Doall phase.
+    fn add_all_trips(
+        &mut self,
+        alloc: Global,
+        plan: &Plan,
+        most: u64,
+        phases: &'b [Phase<'a>],
+    ) -> Result<(), AllocError>
+        ensures { OnOk result (listed_seen self.new ≡ with_subjects most (listed_seen self.old) (flat_map (trips_subjects plan.now) (map phase_seen phases.entry.now))) }
+    {
+        for phase in phases {
+            self.add_trips(alloc, plan, most, phase)?;
+        }
+        Ok(())
+    }
+
+    // These slots.
+    fn add_all_slots(
+        &mut self,
+        alloc: Global,
+        plan: &'p Plan,
+        phases: &[Phase],
+        most: u64,
+        slots: &[Slot<'b, 'a>],
+    ) -> Result<(), AllocError>
+        requires places { IsTrue (list_all has_places_in plan.now.kinds) }
+        requires few { length phases.now < 2 ^ 20 }
+        ensures { OnOk result (listed_seen self.new ≡ with_subjects most (listed_seen self.old) (flat_map (λ slot. slot_subjects slot (signature_under plan.entry.now.version plan.entry.now.kinds (map phase_seen phases.now) slot)) (map slot_seen slots.now))) }
+    {
+        for &slot in slots {
+            self.add_slot(alloc, plan, phases, most, slot)?;
+        }
+        Ok(())
+    }
+}
+
+// Whether a static phase is a Doall loop.
+fn is_dealt(marks: &[Mark], item: &Item) -> bool
+    ensures { result ≡ is_dealt_in marks.now (statement_of item.now) }
+{
+    match item {
+        Item::Loop(nest) => {
+            let place = (nest.number as usize).saturating_sub(1);
+            place < marks.len() && marks[place] == Mark::Doall
+        }
+        Item::Assign(..) | Item::Print(..) | Item::Continue(_) => false,
+    }
+}
+
+/// The groups of a plan with these static phases, in order, whose first systems have at most this
+/// number. Those behind them are not made.
+pub fn list_groups<'b, 'a, 'p>(
+    alloc: Global,
+    program: &Program,
+    plan: &'p Plan,
+    phases: &'b [Phase<'a>],
+    most: u64,
+) -> Result<Groups<'b, 'a, 'p>, AllocError>
+    requires shape { wrong_field (tree_of program.now) plan.now ≡ None }
+    requires phases { map phase_seen phases.now ≡ phases_of (tree_of program.now) plan.now.cut }
+    requires few { length phases.now < 2 ^ 20 }
+    ensures { IfOk result (λ found. listed_seen found ≡ groups_of (tree_of program.now) plan.entry.now most) }
+{
+    let mut found = Groups {
+        items: Vec::new(alloc),
+        next: 1,
+    };
+    let slots = slots(alloc, phases)?;
+    found.add_all_trips(alloc, plan, most, phases)?;
+    found.add_all_slots(alloc, plan, phases, most, slots.as_slice())?;
+    Ok(found)
+}
+
+// The groups of two trips of a phase, from this number on, whose first systems have at most a number.
+pub(crate) fn phase_groups<'b, 'a, 'p>(
+    alloc: Global,
+    most: u64,
+    phase: &'b Phase<'a>,
+    number: u64,
+) -> Result<Groups<'b, 'a, 'p>, AllocError>
+    ensures { IfOk result (λ found. listed_seen found ≡ with_subjects most (record { groups = []; next = number }) (map (of_trips (phase_seen phase.entry.now)) (pairs_of (phase_seen phase.entry.now) (phase_seen phase.entry.now)))) }
+{
+    let mut found = Groups {
+        items: Vec::new(alloc),
+        next: number,
+    };
+    found.add_phase(alloc, most, phase)?;
+    Ok(found)
+}
+
+// The groups of a slot under these waits, from this number on, whose first systems have at most a
+// number.
+pub(crate) fn slot_groups<'b, 'a, 'p>(
+    alloc: Global,
+    most: u64,
+    slot: Slot<'b, 'a>,
+    waits: &Waits<'p>,
+    number: u64,
+) -> Result<Groups<'b, 'a, 'p>, AllocError>
+    ensures { IfOk result (λ found. listed_seen found ≡ with_subjects most (record { groups = []; next = number }) (slot_subjects (slot_seen slot.entry) (waits_of waits.now.left waits.now.right (map producer_seen waits.now.producers.items)))) }
+{
+    let mut found = Groups {
+        items: Vec::new(alloc),
+        next: number,
+    };
+    found.add_waits(alloc, most, slot, waits)?;
+    Ok(found)
+}

@@ -1,0 +1,405 @@
+// The systems of a pair of accesses.
+
+ghost use Rattle.std.specs.Prelude.{◌≡◌, ◌+◌, ◌*◌, ◌-◌, ◌<◌, ◌≤◌, ◌^◌, ◌++◌, [], ◌∷◌, IfOk, IsTrue, None, OnOk, length, map, neg_ℤ, pos};
+ghost use Rattle.std.specs.List.{list_all};
+ghost use Rattle.nest_tree.specs.Form.{is_small};
+ghost use Rattle.nest_tree.specs.Tree.{Tree};
+ghost use Rattle.nest_tree.specs.View.{tree_of};
+ghost use Rattle.nest_rows.specs.Constraints.{is_tame};
+ghost use Rattle.nest_rows.specs.More.{HasMore};
+ghost use Rattle.owner_partition.specs.declared.anchor.Dist.TheVariants.{Cyclic};
+ghost use Rattle.sync_plan.specs.Shape.{has_places, wrong_field};
+ghost use Rattle.comm_system.specs.Levels.{common as in_common, order_at, two_trips as two_trips_of};
+ghost use Rattle.comm_system.specs.Obligations.{anchor_at as anchor_under, last_of, numbered, numbered_from, owners_of, pair_tasks, placed_at, trips_task};
+ghost use Rattle.comm_system.specs.Boundaries.{of_first, of_second};
+ghost use Rattle.comm_system.specs.OwnerRows.{above, below, beside, distance as distance_of, pieces as pieces_of};
+ghost use Rattle.comm_system.specs.OwnerViews.{fits_owner, placed_seen};
+ghost use Rattle.comm_system.specs.PhaseViews.{phase_seen};
+ghost use Rattle.comm_system.specs.PieceViews.{direction_seen, piece_seen};
+ghost use Rattle.comm_system.specs.RowViews.{order_seen};
+ghost use Rattle.comm_system.specs.Seen.{pair_of};
+ghost use Rattle.comm_system.specs.SideViews.{producer_seen, side_seen};
+ghost use Rattle.comm_system.specs.SlotViews.{slot_seen};
+ghost use Rattle.comm_system.specs.SystemViews.{AreUnknowns, IsShared};
+
+use crate::obligation::Obligation;
+use crate::owner_rows::{Placed, owners_unknowns, push_owners};
+use crate::phase::Phase;
+use crate::pieces::{Direction, Piece, pieces};
+use crate::producer::Side;
+use crate::reference::Reference;
+use crate::rows::{Order, apart, push_pair, unknowns};
+use crate::slot::{Slot, common};
+use crate::waits::Waits;
+use farkas_cert::{Coefs, NarrowSystem, Row, System};
+use nest_rows::Constraint;
+use nest_rows::rows::row;
+use nest_tree::{Affine, Pairs, Program};
+use owner_partition::{Anchor, Dist};
+use std::alloc::{AllocError, Global};
+use sync_plan::Plan;
+
+// The numbers of the first unknowns of two accesses, and of the one behind both.
+#[derive(Clone, Copy)]
+pub(crate) struct Unknowns {
+    first: u32,
+    second: u32,
+    behind: u32,
+}
+
+// So many unknowns that their numbers pass 31 bits have no room.
+fn unknowns_of_pair(program: &Program, a: &Reference, b: &Reference) -> Result<Unknowns, AllocError>
+    ensures are { IfOk result (λ n. AreUnknowns (tree_of program.now) (pair_of a.now b.now) n) }
+    ensures first { IfOk result (λ n. n.first + 2 * length a.now.around.items < 2 ^ 31) }
+    ensures second { IfOk result (λ n. n.second + 2 * length b.now.around.items < 2 ^ 31) }
+{
+    let constants = program.params.len();
+    if constants >= 536_870_912 {
+        return Err(AllocError);
+    }
+    match (unknowns(program, a), unknowns(program, b)) {
+        (Some(of_first), Some(of_second)) => {
+            let first = constants as u32 + 1;
+            let second = first + of_first;
+            let behind = second + of_second;
+            Ok(Unknowns {
+                first,
+                second,
+                behind,
+            })
+        }
+        _ => Err(AllocError),
+    }
+}
+
+// A copy of a system.
+fn copied(alloc: Global, system: &System) -> Result<System, AllocError>
+    ensures { IfOk result (λ copy. copy ≡ system.now) }
+{
+    let mut copy = System::empty(alloc, system.vars());
+    for row in system.rows() {
+        let coefs = Coefs::from_slice(alloc, row.coefs.as_slice())?;
+        copy.push(Row {
+            coefs,
+            bound: row.bound,
+        })?;
+    }
+    Ok(copy)
+}
+
+// Two trips of a loop inside so many Outer loops. So many that their number passes 29 bits have no
+// room.
+fn two_trips(outer: usize) -> Result<Order, AllocError>
+    ensures order { IfOk result (λ o. order_seen o ≡ two_trips_of outer) }
+    ensures few { IfOk result (λ o. o.equal < 2 ^ 29) }
+{
+    if outer >= 536_870_912 {
+        return Err(AllocError);
+    }
+    Ok(Order {
+        equal: outer as u32,
+        earlier: true,
+    })
+}
+
+/// The obligation, with this number, that two accesses don't meet in two trips of a phase.
+pub fn trips_obligation(
+    alloc: Global,
+    program: &Program,
+    plan: &Plan,
+    phase: &Phase,
+    a: &Reference,
+    b: &Reference,
+    number: u64,
+) -> Result<Obligation, AllocError>
+    requires { wrong_field (tree_of program.now) plan.now ≡ None }
+    ensures { IfOk result (λ o. o ≡ numbered number (trips_task (tree_of program.now) plan.now (phase_seen phase.now) (pair_of a.now b.now))) }
+{
+    let n = unknowns_of_pair(program, a, b)?;
+    let order = two_trips(phase.outer.len())?;
+    let mut system = NarrowSystem::empty(alloc, n.behind - 1);
+    push_pair(
+        alloc,
+        &mut system,
+        program,
+        &plan.conditions,
+        order,
+        (n.first, a),
+        (n.second, b),
+    )?;
+    Ok(Obligation {
+        number,
+        system: copied(alloc, system.as_system())?,
+        lines: (a.line, b.line),
+        variable: a.target.variable(),
+        level: 0,
+        piece: 0,
+        range: (0, 0),
+    })
+}
+
+// How the loops round the phases of a slot stand. So many that their number passes 29 bits have no
+// room.
+fn order(slot: &Slot) -> Result<Order, AllocError>
+    ensures order { IfOk result (λ o. order_seen o ≡ order_at (in_common (phase_seen slot.now.first.now).outer (phase_seen slot.now.second.now).outer) slot.now.level) }
+    ensures few { IfOk result (λ o. o.equal < 2 ^ 29) }
+{
+    let loops = common(slot.first.outer.as_slice(), slot.second.outer.as_slice());
+    if loops >= 536_870_912 || slot.level >= 536_870_912 {
+        return Err(AllocError);
+    }
+    if slot.level == 0 {
+        Ok(Order {
+            equal: loops as u32,
+            earlier: false,
+        })
+    } else {
+        Ok(Order {
+            equal: slot.level - 1,
+            earlier: true,
+        })
+    }
+}
+
+// The anchor of the static phase with this number; the other one where there is none.
+fn anchor_at<'p>(plan: &'p Plan, none: &'p Anchor, s: u32) -> &'p Anchor
+    requires none { none.now ≡ record { form = record { constant = pos 0; loops = []; params = [] }; dist = Cyclic } }
+    requires places { IsTrue (list_all (λ a. has_places a.dist) plan.now.anchors) }
+    ensures anchor { result.now ≡ anchor_under plan.now s }
+    ensures places { IsTrue (has_places result.now.dist) }
+{
+    let anchors = plan.anchors.as_slice();
+    let place = s.saturating_sub(1) as usize;
+    if place < anchors.len() {
+        &anchors[place]
+    } else {
+        none
+    }
+}
+
+// An anchor at the loops of an access.
+fn placed<'b, 'a>(
+    n: Unknowns,
+    a: &'b Reference<'a>,
+    b: &'b Reference<'a>,
+    anchor: &'b Anchor,
+    side: Side,
+) -> Placed<'b, 'a>
+    requires places { IsTrue (has_places anchor.now.dist) }
+    requires first { n.first + 2 * length a.now.around.items < 2 ^ 31 }
+    requires second { n.second + 2 * length b.now.around.items < 2 ^ 31 }
+    ensures placed { (tree : Tree) → AreUnknowns tree (pair_of a.now b.now) n → placed_seen result ≡ placed_at tree (pair_of a.now b.now) (anchor.now, side_seen side) }
+    ensures fits { IsTrue (fits_owner result) }
+{
+    match side {
+        Side::First => Placed {
+            anchor,
+            first: n.first,
+            around: a.around.as_slice(),
+        },
+        Side::Second => Placed {
+            anchor,
+            first: n.second,
+            around: b.around.as_slice(),
+        },
+    }
+}
+
+// The anchors of both instances and of the producers, each at the loops of its side.
+fn placed_anchors<'b, 'a>(
+    alloc: Global,
+    n: Unknowns,
+    a: &'b Reference<'a>,
+    b: &'b Reference<'a>,
+    first: &'b Anchor,
+    second: &'b Anchor,
+    waits: &'b Waits,
+) -> Result<Vec<Placed<'b, 'a>>, AllocError>
+    requires first_places { IsTrue (has_places first.now.dist) }
+    requires second_places { IsTrue (has_places second.now.dist) }
+    requires first { n.first + 2 * length a.now.around.items < 2 ^ 31 }
+    requires second { n.second + 2 * length b.now.around.items < 2 ^ 31 }
+    ensures placed { (tree : Tree) → AreUnknowns tree (pair_of a.now b.now) n → IfOk result (λ all. map placed_seen all.items ≡ placed_at tree (pair_of a.now b.now) (first.now, of_first) ∷ placed_at tree (pair_of a.now b.now) (second.now, of_second) ∷ map (placed_at tree (pair_of a.now b.now)) (map producer_seen waits.now.producers.items)) }
+    ensures fit { IfOk result (λ all. IsTrue (list_all fits_owner all.items)) }
+    ensures count { IfOk result (λ all. length all.items ≤ 5) }
+{
+    let mut all = Vec::new(alloc);
+    all.push(placed(n, a, b, first, Side::First))?;
+    all.push(placed(n, a, b, second, Side::Second))?;
+    for &producer in waits.producers.as_slice() {
+        all.push(placed(n, a, b, producer.anchor, producer.side))?;
+    }
+    Ok(all)
+}
+
+// What all pieces of a pair have: the rows before the last ones, and the owners' unknowns.
+#[derive(Drop)]
+pub(crate) struct Shared {
+    system: NarrowSystem,
+    owners: Vec<u32>,
+}
+
+fn make_shared<'a>(
+    alloc: Global,
+    program: &Program,
+    plan: &Plan,
+    slot: &Slot,
+    waits: &Waits,
+    a: &Reference<'a>,
+    b: &Reference<'a>,
+) -> Result<Shared, AllocError>
+    requires { wrong_field (tree_of program.now) plan.now ≡ None }
+    ensures { IfOk result (λ shared. IsShared (tree_of program.now) plan.now (slot_seen slot.now) (map producer_seen waits.now.producers.items) (pair_of a.now b.now) shared) }
+{
+    let n = unknowns_of_pair(program, a, b)?;
+    let order = order(slot)?;
+    let none = Anchor {
+        form: Affine::new(0, Pairs::new(alloc), Pairs::new(alloc)),
+        dist: Dist::Cyclic,
+    };
+    let first = anchor_at(plan, &none, slot.s);
+    let second = anchor_at(plan, &none, slot.t);
+    let placed = placed_anchors(alloc, n, a, b, first, second, waits)?;
+    let vars = n.behind + owners_unknowns(placed.as_slice()) - 1;
+    let mut system = NarrowSystem::empty(alloc, vars);
+    push_pair(
+        alloc,
+        &mut system,
+        program,
+        &plan.conditions,
+        order,
+        (n.first, a),
+        (n.second, b),
+    )?;
+    let owners = push_owners(
+        alloc,
+        &mut system,
+        plan.workers,
+        n.behind,
+        placed.as_slice(),
+    )?;
+    Ok(Shared { system, owners })
+}
+
+// One row more.
+fn push_row(alloc: Global, system: &mut System, constraint: &Constraint) -> Result<(), AllocError>
+    requires { IsTrue (is_tame constraint.now) }
+    ensures { OnOk result (HasMore (constraint.now ∷ []) system.old system.new) }
+{
+    let vars = system.vars();
+    system.push(row(alloc, vars, constraint)?)
+}
+
+// How far the first owner lies from the second on this side.
+fn distance(range: Direction, waits: &Waits) -> u32
+    ensures distance { result ≡ distance_of (direction_seen range) waits.now.left waits.now.right }
+    ensures small { result < 2 ^ 31 }
+{
+    match range {
+        Direction::Below => waits.left + 1,
+        Direction::Above => waits.right + 1,
+    }
+}
+
+// The greatest difference of the owners below those that are waited for, and the least above.
+fn range(waits: &Waits) -> (i32, i32)
+    ensures { result ≡ (neg_ℤ (pos (distance_of below waits.now.left waits.now.right)), pos (distance_of above waits.now.left waits.now.right)) }
+{
+    let low = distance(Direction::Below, waits) as i32;
+    let high = distance(Direction::Above, waits) as i32;
+    (-low, high)
+}
+
+// The difference of the owners, with the sign of this side, is at most this number.
+fn farthest(range: Direction, waits: &Waits) -> i64
+    ensures { result ≡ neg_ℤ (pos (distance_of (direction_seen range) waits.now.left waits.now.right)) }
+{
+    -i64::from(distance(range, waits))
+}
+
+// The last rows of a piece, behind the others.
+fn push_last(
+    alloc: Global,
+    system: &mut System,
+    waits: &Waits,
+    owners: &[u32],
+    piece: &Piece,
+) -> Result<(), AllocError>
+    ensures { OnOk result (HasMore (last_of waits.now.left waits.now.right owners.now (piece_seen piece.now)) system.old system.new) }
+{
+    if owners.len() < 2 {
+        return Ok(());
+    }
+    let far = farthest(piece.range, waits);
+    let range = apart(alloc, piece.range.sign(), owners[0], owners[1], far)?;
+    push_row(alloc, system, &range)?;
+    let sides = piece.producers.as_slice();
+    push_beside(alloc, system, owners[0], &owners[2..], sides)?;
+    Ok(())
+}
+
+// The first owner lies on these sides of the others.
+fn push_beside(
+    alloc: Global,
+    system: &mut System,
+    q: u32,
+    others: &[u32],
+    sides: &[Direction],
+) -> Result<(), AllocError>
+    ensures { OnOk result (HasMore (beside q others.now (map direction_seen sides.now)) system.old system.new) }
+{
+    for (index, &other) in others.iter().enumerate() {
+        if index >= sides.len() {
+            return Ok(());
+        }
+        let row = apart(alloc, sides[index].sign(), q, other, -1)?;
+        push_row(alloc, system, &row)?;
+    }
+    Ok(())
+}
+
+impl Shared {
+    // The system of a piece.
+    fn system(&self, alloc: Global, waits: &Waits, piece: &Piece) -> Result<System, AllocError>
+        ensures { IfOk result (λ s. HasMore (last_of waits.now.left waits.now.right self.now.owners.items (piece_seen piece.now)) self.now.system s) }
+    {
+        let mut system = copied(alloc, self.system.as_system())?;
+        push_last(alloc, &mut system, waits, self.owners.as_slice(), piece)?;
+        Ok(system)
+    }
+}
+
+/// The obligations of two accesses in the phases of a slot, from this number on. Of the plan's
+/// kinds they see these waits alone.
+pub fn pair_obligations<'a>(
+    alloc: Global,
+    program: &Program,
+    plan: &Plan,
+    slot: &Slot,
+    waits: &Waits,
+    a: &Reference<'a>,
+    b: &Reference<'a>,
+    number: u64,
+) -> Result<Vec<Obligation>, AllocError>
+    requires shape { wrong_field (tree_of program.now) plan.now ≡ None }
+    requires room { number + length (pieces_of (length waits.now.producers.items)) < 2 ^ 64 }
+    ensures { IfOk result (λ found. found.items ≡ numbered_from number (pair_tasks (tree_of program.now) plan.now (slot_seen slot.now) waits.now.left waits.now.right (map producer_seen waits.now.producers.items) (pair_of a.now b.now))) }
+{
+    let shared = make_shared(alloc, program, plan, slot, waits, a, b)?;
+    let producers = waits.producers.as_slice();
+    let pieces = pieces(alloc, producers.len())?;
+    let range = range(waits);
+    let mut found = Vec::with_capacity(alloc, pieces.len())?;
+    for (index, piece) in pieces.iter().enumerate() {
+        found.push(Obligation {
+            number: number + index as u64,
+            system: shared.system(alloc, waits, piece)?,
+            lines: (a.line, b.line),
+            variable: a.target.variable(),
+            level: slot.level,
+            piece: index as u32 + 1,
+            range,
+        })?;
+    }
+    Ok(found)
+}
