@@ -1,5 +1,5 @@
 -- Accepted plans are those without a failure.
-use Rattle.std.proofs.Common.{◌≡◌, ℕ, ◌≤◌, Bool, true, false, List, [], ◌∷◌, length, Option, Some, None, if◌then◌else◌, refl, ap, arith}
+use Rattle.std.proofs.Common.{◌≡◌, ℕ, ◌<◌, ◌≤◌, Bool, true, false, List, [], ◌∷◌, length, Option, Some, None, if◌then◌else◌, refl, ap, arith}
 use Rattle.std.specs.Prelude.{nat_lt}
 use Rattle.std.specs.Option.{option_map, option_or}
 use Rattle.farkas_cert.specs.declared.certificate.Certificate.{Certificate}
@@ -40,7 +40,7 @@ none_where_certified (o ∷ os) [] certified = absurd certified
 none_where_certified (o ∷ os) (c ∷ cs) certified =
     rw (none_where_good o.system c certified.0) (none_where_certified os cs certified.1)
 
-as_many : (os : List Obligation) (cs : List Certificate) → AreCertified os cs → length cs ≡ length os
+pub as_many : (os : List Obligation) (cs : List Certificate) → AreCertified os cs → length cs ≡ length os
 as_many [] [] certified = refl
 as_many [] (c ∷ cs) certified = absurd certified
 as_many (o ∷ os) [] certified = absurd certified
@@ -49,14 +49,17 @@ as_many (o ∷ os) (c ∷ cs) certified = let h = as_many os cs certified.1 in o
 few_where_false : (m n : ℕ) → nat_lt m n ≡ false → n ≤ m
 few_where_false m n h = grind arith
 
-false_where_few : (m n : ℕ) → n ≤ m → nat_lt m n ≡ false
+pub false_where_few : (m n : ℕ) → n ≤ m → nat_lt m n ≡ false
 false_where_few m n h = grind arith
+
+pub true_where_more : (m n : ℕ) → m < n → nat_lt m n ≡ true
+true_where_more m n h = grind arith
 
 none_joined : {A : Type 0} (a b : Option A) → a ≡ None → b ≡ None → option_or a b ≡ None
 none_joined None b none others = others
 none_joined (Some x) b none others = absurd cc
 
-fit_shape : (tree : Tree) (plan : Plan) → IsFit tree plan → wrong_field tree plan ≡ None
+pub fit_shape : (tree : Tree) (plan : Plan) → IsFit tree plan → wrong_field tree plan ≡ None
 fit_shape tree plan fits = field (wrong_field tree plan) (none_parts (as_misfit shape (wrong_field tree plan)) _ fits).0
   where
     field : (f : Option ℕ) → as_misfit shape f ≡ None → f ≡ None

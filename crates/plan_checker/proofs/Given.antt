@@ -112,7 +112,7 @@ conditions_three constants version Values good = refl
 conditions_three constants version (Rows rows) good = (and_parts (has_rows version) (list_all (is_good_row constants) rows) good).1
 
 -- a field that isn't wrong
-field_right : (b : Bool) (n : ℕ) (rest : Option ℕ) → (if not b then Some n else rest) ≡ None → (b ≡ true) × (rest ≡ None)
+pub field_right : (b : Bool) (n : ℕ) (rest : Option ℕ) → (if not b then Some n else rest) ≡ None → (b ≡ true) × (rest ≡ None)
 field_right true n rest e = (refl, e)
 field_right false n rest e = absurd (cc)
 

@@ -3,4 +3,6 @@ pub mod Named
 pub mod Worked
 pub mod Accepted
 pub mod Failures
+pub mod Certificates
+pub mod Barriers
 pub mod RefusalText

@@ -2,12 +2,16 @@
 //!
 //! - [`refusal`]: why a plan is refused, with the lines that are printed.
 //! - [`fit`]: whether a plan fits a program.
+//! - [`accept`]: whether a plan is accepted for a program.
 //! - [`laws`]: a plan is accepted exactly where it has no failure, and accepted plans are ordered.
+//! - `certificates`: certificates, each against its obligation, side by side.
 //! - `shape`, `marks`, `anchors`, `conditions`: the fields of its shape.
 //! - `places`: where its anchors lie, and who prints.
 #![tactic(auto)]
 
+pub mod accept;
 mod anchors;
+mod certificates;
 mod conditions;
 pub mod fit;
 pub mod laws;
@@ -16,5 +20,6 @@ mod places;
 pub mod refusal;
 mod shape;
 
+pub use accept::check;
 pub use fit::check_fit;
 pub use refusal::PlanRefusal;

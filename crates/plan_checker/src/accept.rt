@@ -1,0 +1,70 @@
+// Whether a plan is accepted.
+
+ghost use Rattle.std.specs.Prelude.{◌≡◌, ◌≢◌, IfErr, IfOk, OnOk, Some};
+ghost use Rattle.nest_tree.specs.Limits.{IsWithinLimits};
+ghost use Rattle.nest_tree.specs.View.{tree_of};
+ghost use Rattle.nest_tree.specs.WellFormed.{IsWellFormed};
+ghost use Rattle.plan_checker.specs.Accepted.{IsAccepted};
+ghost use Rattle.plan_checker.specs.Failures.{first_failure};
+ghost use Rattle.plan_checker.specs.declared.refusal.PlanRefusal.TheVariants.{NoMemory};
+
+use crate::certificates::first_fault;
+use crate::fit::check_fit;
+use crate::refusal::PlanRefusal;
+use crate::shape::wrong_field;
+use comm_system::groups::list_groups;
+use comm_system::phases::phases;
+use nest_tree::Program;
+use std::alloc::{AllocError, Global};
+use std::thread::Threads;
+use sync_plan::Plan;
+
+// Into how many pieces the groups are cut, each checked by a thread.
+const PIECES: u32 = 16;
+
+/// Whether a plan is accepted for a program; else its first failure, by the order in which
+/// failures are told. Certificates are checked side by side, and the refusal is the same however
+/// many threads there are. `NoMemory` says nothing of the plan.
+pub fn check<R: Threads + Sync>(
+    rt: &R,
+    alloc: Global,
+    program: &Program,
+    plan: &Plan,
+) -> Result<(), PlanRefusal>
+    requires formed { IsWellFormed (tree_of program.now) }
+    requires limits { IsWithinLimits (tree_of program.now) }
+    ensures accepted { OnOk result (IsAccepted (tree_of program.now) plan.now) }
+    ensures refused { IfErr result (λ refusal. refusal ≢ NoMemory → first_failure (tree_of program.now) plan.now ≡ Some refusal) }
+{
+    match failure(rt, alloc, program, plan)? {
+        None => Ok(()),
+        Some(refusal) => Err(refusal),
+    }
+}
+
+// The first failure of a plan. Of its obligations no more are made than it takes to find the first
+// one without a certificate.
+fn failure<R: Threads + Sync>(
+    rt: &R,
+    alloc: Global,
+    program: &Program,
+    plan: &Plan,
+) -> Result<Option<PlanRefusal>, AllocError>
+    requires formed { IsWellFormed (tree_of program.now) }
+    requires limits { IsWithinLimits (tree_of program.now) }
+    ensures { IfOk result (λ found. found ≡ first_failure (tree_of program.now) plan.now) }
+{
+    if let Some(field) = wrong_field(program, plan) {
+        return Ok(Some(PlanRefusal::Shape(field)));
+    }
+    let certificates = plan.certificates.as_slice().len() as u64;
+    let phases = phases(alloc, program, &plan.cut)?;
+    let groups = list_groups(alloc, program, plan, phases.as_slice(), certificates + 1)?;
+    if groups.next <= certificates {
+        return Ok(Some(PlanRefusal::Shape(7)));
+    }
+    if let Err(refusal) = check_fit(program, plan) {
+        return Ok(Some(refusal));
+    }
+    first_fault(rt, alloc, program, plan, groups.items.as_slice(), PIECES)
+}
