@@ -6,7 +6,7 @@ use Rattle.std.proofs.lemmas.Bool.{and_parts}
 use Rattle.std.proofs.lemmas.Bool.Decides.{nat_tests}
 use Rattle.clap.specs.Words.{Row, Text, first_of}
 use Rattle.command_words.specs.declared.request.PlanChoice.{PlanChoice}
-use Rattle.command_words.specs.Wanted.{IsCounted, Wanted, is_by, is_digit, plan_of, run, run_of, sequential, settings_of, wanted_by, wanted_in, within, workers_of}
+use Rattle.command_words.specs.Wanted.{IsCounted, Wanted, is_by, is_digit, plan_of, run, run_of, sequential, settings_of, verify, wanted_by, wanted_in, within, workers_of}
 
 -- where a choice gives a value, the value is of the kind that its parts are
 chosen : {X : Type 0} (P : X → Type 0) (b : Bool) (x y : X) → (b ≡ true → P x) → (if b then Some x else None) ≡ Some y → P y
@@ -41,12 +41,13 @@ run_counted rows w = bound IsCounted _ (option_and_then workers_of (first_of (co
     chosen IsCounted (is_by (first_of (codes "by") rows)) (run n p (settings_of rows)) w (λ _. bound IsCount workers_of (first_of (codes "workers") rows) n (λ t t_is. workers_count t n) n_is)))
 
 in_counted : (name : Text) (rows : List Row) (w : Wanted) → wanted_in name rows ≡ Some w → IsCounted w
-in_counted name rows w = by_name (bytes_eq name (codes "seq")) (bytes_eq name (codes "run"))
+in_counted name rows w = by_name (bytes_eq name (codes "seq")) (bytes_eq name (codes "run")) (bytes_eq name (codes "verify"))
   where
-    by_name : (a b : Bool) → (if a then Some (sequential (settings_of rows)) else (if b then run_of rows else None)) ≡ Some w → IsCounted w
-    by_name true b e = subst IsCounted (ap (λ o. unwrap_or o (sequential [])) e) tt
-    by_name false true e = run_counted rows w e
-    by_name false false e = absent IsCounted w e
+    by_name : (a b c : Bool) → (if a then Some (sequential (settings_of rows)) else (if b then run_of rows else (if c then Some (verify (settings_of rows)) else None))) ≡ Some w → IsCounted w
+    by_name true b c e = subst IsCounted (ap (λ o. unwrap_or o (sequential [])) e) tt
+    by_name false true c e = run_counted rows w e
+    by_name false false true e = subst IsCounted (ap (λ o. unwrap_or o (sequential [])) e) tt
+    by_name false false false e = absent IsCounted w e
 
 pub wanted_counted : (sub : Option (Text × List Row)) (w : Wanted) → wanted_by sub ≡ Some w → IsCounted w
 wanted_counted sub w = bound IsCounted (λ p. wanted_in p.0 p.1) sub w (λ p p_is. in_counted p.0 p.1 w)

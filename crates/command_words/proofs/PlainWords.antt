@@ -23,20 +23,22 @@ use Rattle.clap.specs.Values.{reading_of}
 use Rattle.clap.specs.declared.builder.value_parser.ValueParser.TheVariants as vp
 use Rattle.clap.proofs.OnLiterals.{clap_on_literals}
 use Rattle.command_words.specs.Rule.{tool_app}
-use Rattle.command_words.specs.Wanted.{run, sequential, run_of, wanted_by, workers_of, plan_of, settings_of}
+use Rattle.command_words.specs.Wanted.{run, sequential, verify, run_of, wanted_by, workers_of, plan_of, settings_of}
 use Rattle.clap.specs.Walk.{walk}
 use Rattle.clap.specs.Takes.{is_given}
 use Rattle.clap.specs.Faults.{check_fault}
 use Rattle.clap.specs.Simple.{entered}
-use Rattle.command_words.specs.Plain.{Name, workers, which, how, name_text, Given, value_ok, written, names, each_once, value_of, is_setting, EveryPlainRunIsTaken, EveryPlainSequentialIsTaken}
+use Rattle.command_words.specs.Plain.{Name, workers, which, how, name_text, Given, value_ok, written, names, each_once, value_of, is_setting, EveryPlainRunIsTaken, EveryPlainSequentialIsTaken, EveryPlainVerifyIsTaken}
 
 -- a command
 data Sub : Type 0 where
   of_seq : Sub
+  of_verify : Sub
   of_run : Sub
 
 abbrev sub_text : Sub → Text
 sub_text of_seq = codes "seq"
+sub_text of_verify = codes "verify"
 sub_text of_run = codes "run"
 
 abbrev shape : Sub → Shape
@@ -85,14 +87,19 @@ step_first of_run (Some (workers, v)) R x xs h = rw h (rw h refl)
 step_first of_run (Some (which, v)) R x xs h = rw h (rw h refl)
 step_first of_run (Some (how, v)) R x xs h = rw h (rw h refl)
 step_first of_seq None R x xs h = rw h (rw h refl)
+step_first of_verify None R x xs h = rw h (rw h refl)
 step_first of_seq (Some (workers, v)) R x xs h = rw h (rw h refl)
+step_first of_verify (Some (workers, v)) R x xs h = rw h (rw h refl)
 step_first of_seq (Some (which, v)) R x xs h = rw h (rw h refl)
+step_first of_verify (Some (which, v)) R x xs h = rw h (rw h refl)
 step_first of_seq (Some (how, v)) R x xs h = rw h (rw h refl)
+step_first of_verify (Some (how, v)) R x xs h = rw h (rw h refl)
 
 step_more : (c : Sub) (R : List Row) (acc : List Text) (x : ℕ) (xs : Text) → (x == 45) ≡ false → walked (rules c) [] (at R (Some (settings_id, acc)) positional) (x ∷ xs) ≡ at R (Some (settings_id, acc ++ (x ∷ xs) ∷ [])) positional
 unfolding clap_on_literals
 step_more of_run R acc x xs h = rw h (rw h refl)
 step_more of_seq R acc x xs h = rw h (rw h refl)
+step_more of_verify R acc x xs h = rw h (rw h refl)
 
 -- ---- what an option leaves
 
@@ -142,9 +149,13 @@ fault_settle of_run (Some (workers, v)) R h = rw h refl
 fault_settle of_run (Some (which, v)) R h = rw h refl
 fault_settle of_run (Some (how, v)) R h = rw h refl
 fault_settle of_seq None R h = refl
+fault_settle of_verify None R h = refl
 fault_settle of_seq (Some (workers, v)) R h = refl
+fault_settle of_verify (Some (workers, v)) R h = refl
 fault_settle of_seq (Some (which, v)) R h = refl
+fault_settle of_verify (Some (which, v)) R h = refl
 fault_settle of_seq (Some (how, v)) R h = refl
+fault_settle of_verify (Some (how, v)) R h = refl
 
 fault_name : (a : Name) (P : Option Given) (R : List Row) → IsFresh P R → turn_fault (shape of_run) [] (at R (pend P) idle) (45 ∷ 45 ∷ name_text a) ≡ []
 unfolding clap_on_literals
@@ -165,14 +176,19 @@ fault_first of_run (Some (workers, v)) R x xs f h = rw h (rw (h, f) refl)
 fault_first of_run (Some (which, v)) R x xs f h = rw h (rw (h, f) refl)
 fault_first of_run (Some (how, v)) R x xs f h = rw h (rw (h, f) refl)
 fault_first of_seq None R x xs f h = rw h (rw h refl)
+fault_first of_verify None R x xs f h = rw h (rw h refl)
 fault_first of_seq (Some (workers, v)) R x xs f h = rw h (rw h refl)
+fault_first of_verify (Some (workers, v)) R x xs f h = rw h (rw h refl)
 fault_first of_seq (Some (which, v)) R x xs f h = rw h (rw h refl)
+fault_first of_verify (Some (which, v)) R x xs f h = rw h (rw h refl)
 fault_first of_seq (Some (how, v)) R x xs f h = rw h (rw h refl)
+fault_first of_verify (Some (how, v)) R x xs f h = rw h (rw h refl)
 
 fault_more : (c : Sub) (R : List Row) (acc : List Text) (x : ℕ) (xs : Text) → (x == 45) ≡ false → turn_fault (shape c) [] (at R (Some (settings_id, acc)) positional) (x ∷ xs) ≡ []
 unfolding clap_on_literals
 fault_more of_run R acc x xs h = rw h (rw h refl)
 fault_more of_seq R acc x xs h = rw h (rw h refl)
+fault_more of_verify R acc x xs h = rw h (rw h refl)
 
 -- ---- the walk over options
 
@@ -278,6 +294,7 @@ no_settings ((how, v) ∷ os) = no_settings os
 settled_settings : (c : Sub) (R : List Row) (s : Text) (ss : List Text) → has_row settings_id R ≡ false → settled_rows (rules c) (Some (settings_id, s ∷ ss)) R ≡ R ++ settings_row (s ∷ ss) ∷ []
 settled_settings of_run R s ss h = at_none settings_id (λ r. more_values CommandLine (s ∷ ss) r) (settings_row (s ∷ ss) ∷ []) R h
 settled_settings of_seq R s ss h = at_none settings_id (λ r. more_values CommandLine (s ∷ ss) r) (settings_row (s ∷ ss) ∷ []) R h
+settled_settings of_verify R s ss h = at_none settings_id (λ r. more_values CommandLine (s ∷ ss) r) (settings_row (s ∷ ss) ∷ []) R h
 
 range_ok : (n : ℕ) → 1 ≤ n → n < 2 ^ 64 → range_kinds 1 usize_max n ≡ []
 range_ok n low high = grind (arith, nat_tests)
@@ -289,6 +306,7 @@ all_strings (v ∷ vs) = all_strings vs
 settings_settle : (c : Sub) (R : List Row) (s : Text) (ss : List Text) → length (s ∷ ss) < 2 ^ 64 → settle_fault (rules c) false (record { rows = R; pending = Some (settings_id, s ∷ ss); skip = 0 }) ≡ []
 settings_settle of_run R s ss few = ap (λ k. or_else k (values_kinds false vp.String (s ∷ ss))) (range_ok (length (s ∷ ss)) (omega arith) few) ∙ all_strings (s ∷ ss)
 settings_settle of_seq R s ss few = ap (λ k. or_else k (values_kinds false vp.String (s ∷ ss))) (range_ok (length (s ∷ ss)) (omega arith) few) ∙ all_strings (s ∷ ss)
+settings_settle of_verify R s ss few = ap (λ k. or_else k (values_kinds false vp.String (s ∷ ss))) (range_ok (length (s ∷ ss)) (omega arith) few) ∙ all_strings (s ∷ ss)
 
 record Ended (c : Sub) (ws : List Text) (rows : List Row) : Type 0 where
   pub held : Held
@@ -334,6 +352,7 @@ all_empty : (c : Sub) → list_all (λ a. is_empty a.defaults) (rules c) ≡ tru
 unfolding clap_on_literals
 all_empty of_run = refl
 all_empty of_seq = refl
+all_empty of_verify = refl
 
 no_defaults : (c : Sub) (rows : List Row) → fold with_default rows (rules c) ≡ rows
 no_defaults c rows = go (rules c) (all_empty c)
@@ -422,6 +441,7 @@ sub_fault c ws rows e h =
     never_overrides : (c : Sub) → (shape c).args_override_self ≡ false
     never_overrides of_run = refl
     never_overrides of_seq = refl
+    never_overrides of_verify = refl
 
 abbrev top : App
 top = built tool_app
@@ -443,11 +463,13 @@ enters : (c : Sub) → walked top.top.rules (names_of top) (walk_from nothing_he
 unfolding clap_on_literals
 enters of_run = refl
 enters of_seq = refl
+enters of_verify = refl
 
 enter_fault : (c : Sub) → turn_fault top.top (names_of top) (walk_from nothing_held) (sub_text c) ≡ []
 unfolding clap_on_literals
 enter_fault of_run = refl
 enter_fault of_seq = refl
+enter_fault of_verify = refl
 
 top_walk : (c : Sub) (ws : List Text) → walk top.top.rules (names_of top) nothing_held (sub_text c ∷ ws) ≡ stopped_at c ws
 top_walk c ws = ap (λ s. fold (walked top.top.rules (names_of top)) s ws) (enters c) ∙ stop_more c [] ws
@@ -476,6 +498,10 @@ taken of_seq ws rows e check = (
   ap₂ whole_fault (top_fault of_seq ws) (top_walk of_seq ws) ∙ rest_fault _ (sub_fault of_seq ws rows e check),
   ap (λ (w : Walk). entered top w.stopped) (top_walk of_seq ws) ∙ ap (λ rs. Some (codes "seq", rs)) (ap (finished (rules of_seq)) e.walk_is ∙ (no_defaults of_seq (settled (rules of_seq) e.held).rows ∙ e.rows_is)),
 )
+taken of_verify ws rows e check = (
+  ap₂ whole_fault (top_fault of_verify ws) (top_walk of_verify ws) ∙ rest_fault _ (sub_fault of_verify ws rows e check),
+  ap (λ (w : Walk). entered top w.stopped) (top_walk of_verify ws) ∙ ap (λ rs. Some (codes "verify", rs)) (ap (finished (rules of_verify)) e.walk_is ∙ (no_defaults of_verify (settled (rules of_verify) e.held).rows ∙ e.rows_is)),
+)
 
 pub every_plain_run : EveryPlainRunIsTaken
 every_plain_run os ss n p h =
@@ -488,8 +514,18 @@ every_plain_run os ss n p h =
     let run_is : run_of rows ≡ Some (run n p ss) = rw (first_is workers os ss, first_is which os ss, first_is how os ss, settings_are os ss, h.workers_is, h.plan_is, h.by_is) refl in
     (found.0, ap wanted_by found.1 ∙ run_is)
 
+-- a command with settings alone
+settings_alone : (c : Sub) → (ss : List Text) → Reached c (walk_from nothing_held) ss ss []
+settings_alone of_seq ss = record { D = []; P = None; fresh = tt; settled_is = refl; walk_is = refl; faults = refl }
+settings_alone of_verify ss = record { D = []; P = None; fresh = tt; settled_is = refl; walk_is = refl; faults = refl }
+settings_alone of_run ss = record { D = []; P = None; fresh = tt; settled_is = refl; walk_is = refl; faults = refl }
+
 pub every_plain_sequential : EveryPlainSequentialIsTaken
 every_plain_sequential ss good few =
-    let reached : Reached of_seq (walk_from nothing_held) ss ss [] = record { D = []; P = None; fresh = tt; settled_is = refl; walk_is = refl; faults = refl } in
-    let found = taken of_seq ss (tail_rows ss) (ended of_seq ss ss [] reached good few) refl in
+    let found = taken of_seq ss (tail_rows ss) (ended of_seq ss ss [] (settings_alone of_seq ss) good few) refl in
     (found.0, ap wanted_by found.1 ∙ ap (λ ts. Some (sequential ts)) (settings_are [] ss))
+
+pub every_plain_verify : EveryPlainVerifyIsTaken
+every_plain_verify ss good few =
+    let found = taken of_verify ss (tail_rows ss) (ended of_verify ss ss [] (settings_alone of_verify ss) good few) refl in
+    (found.0, ap wanted_by found.1 ∙ ap (λ ts. Some (verify ts)) (settings_are [] ss))

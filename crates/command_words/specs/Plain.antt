@@ -4,7 +4,7 @@ use Rattle.std.specs.List.{list_any, list_all}
 use Rattle.std.specs.Str.{bytes_eq}
 use Rattle.clap.specs.Words.{Text}
 use Rattle.command_words.specs.declared.request.PlanChoice.{PlanChoice}
-use Rattle.command_words.specs.Wanted.{Takes, run, sequential, workers_of, plan_of, is_by}
+use Rattle.command_words.specs.Wanted.{Takes, run, sequential, verify, workers_of, plan_of, is_by}
 
 -- the options of `run`
 pub data Name : Type 0 where
@@ -63,3 +63,7 @@ EveryPlainRunIsTaken = (os : List Given) (settings : List Text) (n : ℕ) (p : P
 abbrev pub EveryPlainSequentialIsTaken : Type 0
 EveryPlainSequentialIsTaken = (settings : List Text) → list_all is_setting settings ≡ true → length settings < 2 ^ 64
     → Takes (codes "seq" ∷ settings) (sequential settings)
+
+abbrev pub EveryPlainVerifyIsTaken : Type 0
+EveryPlainVerifyIsTaken = (settings : List Text) → list_all is_setting settings ≡ true → length settings < 2 ^ 64
+    → Takes (codes "verify" ∷ settings) (verify settings)

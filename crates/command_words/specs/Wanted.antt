@@ -15,10 +15,12 @@ use Rattle.command_words.specs.declared.request.Request.TheVariants as request
 -- a request without where its texts lie in memory
 pub data Wanted : Type 0 where
   sequential : (settings : List Text) → Wanted
+  verify : (settings : List Text) → Wanted
   run : (workers : ℕ) (plan : PlanChoice) (settings : List Text) → Wanted
 
 abbrev pub wanted : Request → Wanted
 wanted (request.Sequential settings) = sequential (texts settings.items)
+wanted (request.Verify settings) = verify (texts settings.items)
 wanted (request.Run workers plan settings) = run workers plan (texts settings.items)
 
 -- 1 to 64
@@ -36,7 +38,8 @@ workers_of (c ∷ d ∷ []) = if nat_le 49 c && (nat_le c 57 && is_digit d) then
 workers_of (c ∷ d ∷ e ∷ rest) = None
 
 abbrev pub plan_of : Text → Option PlanChoice
-plan_of t = if bytes_eq t (codes "barrier") then Some plan.Barrier else None
+plan_of t = if bytes_eq t (codes "barrier") then Some plan.Barrier
+    else (if bytes_eq t (codes "given") then Some plan.Given else None)
 
 -- by what a program is run: core, where left out too
 abbrev pub is_by : Option Text → Bool
@@ -53,7 +56,8 @@ run_of rows = option_and_then (λ n. option_and_then (λ p. if is_by (first_of (
 
 abbrev pub wanted_in : Text → List Row → Option Wanted
 wanted_in name rows = if bytes_eq name (codes "seq") then Some (sequential (settings_of rows))
-    else (if bytes_eq name (codes "run") then run_of rows else None)
+    else (if bytes_eq name (codes "run") then run_of rows
+    else (if bytes_eq name (codes "verify") then Some (verify (settings_of rows)) else None))
 
 abbrev pub wanted_by : Option (Text × List Row) → Option Wanted
 wanted_by sub = option_and_then (λ p. wanted_in p.0 p.1) sub
@@ -61,6 +65,7 @@ wanted_by sub = option_and_then (λ p. wanted_in p.0 p.1) sub
 -- a run has 1 to 64 workers
 abbrev pub IsCounted : Wanted → Type 0
 IsCounted (sequential settings) = ⊤
+IsCounted (verify settings) = ⊤
 IsCounted (run workers plan settings) = (1 ≤ workers) × (workers ≤ 64)
 
 -- The words are taken, as this request.

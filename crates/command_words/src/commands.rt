@@ -3,7 +3,7 @@
 ghost use Rattle.std.specs.Prelude.{◌≡◌, [], IfOk, false};
 ghost use Rattle.clap.specs.Words.{app_of, rule_of};
 ghost use Rattle.clap.specs.declared.builder.command.Command.TheViews.{out-Command};
-ghost use Rattle.command_words.specs.Rule.{option_rule, top_shape, required_rule, settings_rule, seq_app, run_app, tool_app};
+ghost use Rattle.command_words.specs.Rule.{option_rule, top_shape, required_rule, settings_rule, seq_app, verify_app, run_app, tool_app};
 
 use clap::{Arg, Command};
 use std::alloc::{AllocError, Global};
@@ -45,6 +45,16 @@ fn seq<'a>(alloc: Global) -> Result<Command<'a>, AllocError>
     Ok(command.about("Runs the program on one processor, and writes what it prints"))
 }
 
+fn verify<'a>(alloc: Global) -> Result<Command<'a>, AllocError>
+    ensures app { IfOk result (λ c. app_of c ≡ verify_app) }
+    ensures local { IfOk result (λ c. (out-Command c).has_globals ≡ false) }
+{
+    let command = Command::new(alloc, "verify").arg(settings(alloc))?;
+    Ok(command.about(
+        "Says whether the plan behind the source's END line is accepted for the program",
+    ))
+}
+
 fn run<'a>(alloc: Global) -> Result<Command<'a>, AllocError>
     ensures app { IfOk result (λ c. app_of c ≡ run_app) }
     ensures local { IfOk result (λ c. (out-Command c).has_globals ≡ false) }
@@ -54,7 +64,7 @@ fn run<'a>(alloc: Global) -> Result<Command<'a>, AllocError>
         alloc,
         "plan",
         "PLAN",
-        "barrier: a barrier in front of each phase",
+        "barrier: a barrier in front of each phase; given: the plan behind the source's END line",
     );
     let by = option(
         alloc,
@@ -71,22 +81,28 @@ fn run<'a>(alloc: Global) -> Result<Command<'a>, AllocError>
 }
 
 // The command without its subcommands.
-fn top<'a>(alloc: Global) -> Command<'a>
-    ensures { app_of result ≡ record { top = top_shape; subs = [] } }
+fn top<'a>(alloc: Global) -> Result<Command<'a>, AllocError>
+    ensures { IfOk result (λ c. app_of c ≡ record { top = top_shape; subs = [] }) }
 {
-    Command::new(alloc, "seagrynt")
-        .no_binary_name(true)
-        .subcommand_required(true)
-        .disable_help_subcommand(true)
-        .version("0.1.0")
-        .about(
-            "Plans and runs FORTRAN 77 DO nests on several processors; reads the source from standard input",
-        )
+    let named = Command::new(alloc, "seagrynt").bin_name("seagrynt")?;
+    Ok(
+        named
+            .no_binary_name(true)
+            .subcommand_required(true)
+            .disable_help_subcommand(true)
+            .version("0.1.0")
+            .about(
+                "Plans and runs FORTRAN 77 DO nests on several processors; reads the source from standard input",
+            ),
+    )
 }
 
-/// The tool's command: `seq` and `run`.
+/// The tool's command: `seq`, `run` and `verify`.
 pub fn tool<'a>(alloc: Global) -> Result<Command<'a>, AllocError>
     ensures { IfOk result (λ c. app_of c ≡ tool_app) }
 {
-    top(alloc).subcommand(seq(alloc)?)?.subcommand(run(alloc)?)
+    top(alloc)?
+        .subcommand(seq(alloc)?)?
+        .subcommand(run(alloc)?)?
+        .subcommand(verify(alloc)?)
 }

@@ -4,12 +4,13 @@ ghost use Rattle.std.specs.Prelude.{◌≡◌, ◌∷◌, [], codes};
 ghost use Rattle.clap.specs.Words.{fault_of};
 ghost use Rattle.clap.specs.declared.error.kind.ErrorKind.TheVariants as kinds;
 ghost use Rattle.command_words.specs.Rule.{tool_app};
-ghost use Rattle.command_words.specs.Plain.{EveryPlainRunIsTaken, EveryPlainSequentialIsTaken};
+ghost use Rattle.command_words.specs.Plain.{EveryPlainRunIsTaken, EveryPlainSequentialIsTaken, EveryPlainVerifyIsTaken};
 
 /// Each plain list of words is taken, as what it says.
 pub fn plain_words_are_taken()
     ensures run { EveryPlainRunIsTaken }
     ensures sequential { EveryPlainSequentialIsTaken }
+    ensures verify { EveryPlainVerifyIsTaken }
 {}
 
 /// Words that ask for help or for the version have that fault alone.

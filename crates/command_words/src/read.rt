@@ -62,6 +62,8 @@ fn request_in<'a>(alloc: Global, name: &str, inner: &ArgMatches<'a>) -> Result<R
         Ok(Request::Sequential(settings))
     } else if says(name, "run") {
         run(inner, settings).ok_or(Refused::Faulty)
+    } else if says(name, "verify") {
+        Ok(Request::Verify(settings))
     } else {
         Err(Refused::Faulty)
     }
@@ -125,6 +127,8 @@ fn plan_in(word: &str) -> Option<PlanChoice>
 {
     if says(word, "barrier") {
         Some(PlanChoice::Barrier)
+    } else if says(word, "given") {
+        Some(PlanChoice::Given)
     } else {
         None
     }

@@ -11,6 +11,8 @@ use std::alloc::AllocError;
 pub enum PlanChoice {
     /// A barrier in front of each phase.
     Barrier,
+    /// The plan whose text stands behind the END line of the source.
+    Given,
 }
 
 /// A command with its settings of named constants, as they are written.
@@ -18,6 +20,8 @@ pub enum PlanChoice {
 pub enum Request<'a> {
     /// `seq`: run the program on one processor and write its output.
     Sequential(Vec<&'a str>),
+    /// `verify`: say whether the plan behind the END line of the source is accepted.
+    Verify(Vec<&'a str>),
     /// `run`: write the plan for this many processors, 1 to 64, then run the program by it and write its output.
     Run(u32, PlanChoice, Vec<&'a str>),
 }

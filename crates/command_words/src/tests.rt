@@ -29,10 +29,21 @@ fn show_request(out: &mut String, request: &Request) -> Result<(), AllocError> {
             write!(out, "seq")?;
             show(out, settings)
         }
-        Request::Run(workers, PlanChoice::Barrier, settings) => {
-            write!(out, "run {workers} barrier")?;
+        Request::Verify(settings) => {
+            write!(out, "verify")?;
             show(out, settings)
         }
+        Request::Run(workers, plan, settings) => {
+            write!(out, "run {workers} {}", name_of(*plan))?;
+            show(out, settings)
+        }
+    }
+}
+
+fn name_of(plan: PlanChoice) -> &'static str {
+    match plan {
+        PlanChoice::Barrier => "barrier",
+        PlanChoice::Given => "given",
     }
 }
 
@@ -45,7 +56,7 @@ fn show(out: &mut String, settings: &[&str]) -> Result<(), AllocError> {
 
 #[test]
 fn reads_words(rt: HostRuntime) -> Result<(), Fail> {
-    let lists: [(&[&str], &str); 12] = [
+    let lists: [(&[&str], &str); 17] = [
         (&["seq"], "seq"),
         (&["seq", "N=5", "M=-1"], "seq N=5 M=-1"),
         (
@@ -65,6 +76,14 @@ fn reads_words(rt: HostRuntime) -> Result<(), Fail> {
             ],
             "run 64 barrier N=5",
         ),
+        (&["verify"], "verify"),
+        (&["verify", "n=5"], "verify n=5"),
+        (
+            &["run", "--plan", "given", "--workers", "3", "N=6"],
+            "run 3 given N=6",
+        ),
+        (&["verify", "--workers", "2"], "faulty"),
+        (&["run", "--workers", "2", "--plan", "other"], "faulty"),
         (&["--help"], "shown"),
         (&["run", "--help"], "shown"),
         (&["--version"], "shown"),

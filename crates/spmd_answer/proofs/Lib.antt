@@ -1,2 +1,5 @@
-mod Shown
-mod Statuses
+pub mod Answering
+pub mod Existence
+pub mod Shown
+pub mod Statuses
+pub mod Unique

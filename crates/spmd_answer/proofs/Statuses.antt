@@ -1,6 +1,6 @@
--- What is due for a request has one of three statuses.
-use Rattle.std.proofs.Common.{◌≡◌, ℕ, true, refl, List, Option, None, Some}
-use Rattle.std.specs.Prelude.{ℤ, IfSome, unwrap_or}
+-- What is due for a request has one of four statuses.
+use Rattle.std.proofs.Common.{◌≡◌, ◌∙◌, ℕ, true, ap, refl, List, Option, None, Some}
+use Rattle.std.specs.Prelude.{ℤ, IfSome}
 use Rattle.std.specs.Option.{option_map, option_or}
 use Rattle.nest_tree.specs.Limits.{first_limit}
 use Rattle.nest_tree.specs.Tree.{Tree}
@@ -14,7 +14,10 @@ use Rattle.f77_scene.specs.Scene.{Name}
 use Rattle.nest_tree.specs.LimitText.{text_of_limit}
 use Rattle.range_check.specs.Outside.{outside_of}
 use Rattle.range_check.specs.OutsideText.{text_of_outside}
-use Rattle.spmd_answer.specs.Due.{Due, due_of_fault, due_of_lines, due_of_refusal, due_of_tree, refused}
+use Rattle.command_words.specs.Wanted.{Wanted}
+use Rattle.spmd_answer.specs.declared.source.Behind.{Behind}
+use Rattle.spmd_answer.specs.declared.source.Behind.TheVariants.{Comments, PlanText}
+use Rattle.spmd_answer.specs.Due.{Due, IsDueOf, IsDueOn, IsFirstOr, behind_end, behind_of, due_of_fault, due_of_lines, due_of_refusal, due_of_rest, due_of_tree, refused, unaccepted, written}
 use Rattle.spmd_answer.specs.Statuses.{is_due}
 
 abbrev IsDue : Due → Type 0
@@ -28,10 +31,6 @@ either : (o p : Option Due) → IfSome o IsDue → IfSome p IsDue → IfSome (op
 either None p one other = other
 either (Some a) p one other = one
 
-unwrapped : (o : Option Due) (due : Due) → IfSome o IsDue → IsDue due → IsDue (unwrap_or o due)
-unwrapped None due one other = other
-unwrapped (Some a) due one other = one
-
 of_fault : (r : Refusal) → IsDue (due_of_fault r)
 of_fault (bad_line refusal) = refl
 of_fault (bad_statement fault n) = refl
@@ -42,18 +41,35 @@ of_tree tree =
     either (option_map (λ l. refused (text_of_limit l)) (first_limit tree)) (option_map (λ o. refused (text_of_outside o)) (outside_of tree))
     (mapped (first_limit tree) (λ l. refused (text_of_limit l)) (λ l. refl)) (mapped (outside_of tree) (λ o. refused (text_of_outside o)) (λ o. refl))
 
-of_lines : (bytes : List ℕ) → IfSome (due_of_lines bytes) IsDue
-of_lines bytes =
-    let fault = first_line_fault bytes in
+of_rest : (behind : Behind) (bytes : List ℕ) → IfSome (due_of_rest behind bytes) IsDue
+of_rest Comments bytes =
     let rest = first_behind bytes (size_to_end (lines_of bytes)) in
-    either (option_map (λ r. refused (text_of_refusal r)) fault) (option_map (λ n. refused (text_of_refusal (AfterEnd n))) rest)
-    (mapped fault (λ r. refused (text_of_refusal r)) (λ r. refl)) (mapped rest (λ n. refused (text_of_refusal (AfterEnd n))) (λ n. refl))
+    mapped rest (λ n. refused (text_of_refusal (AfterEnd n))) (λ n. refl)
+of_rest PlanText bytes = tt
 
-pub of_refusal : (bytes : List ℕ) (settings : List (Name × ℤ)) (due : Due) → IsDue due → is_due (unwrap_or (due_of_refusal bytes settings) due).status ≡ true
-of_refusal bytes settings due done =
+of_lines : (behind : Behind) (bytes : List ℕ) → IfSome (due_of_lines behind bytes) IsDue
+of_lines behind bytes =
+    let fault = first_line_fault bytes in
+    either (option_map (λ r. refused (text_of_refusal r)) fault) (due_of_rest behind bytes)
+    (mapped fault (λ r. refused (text_of_refusal r)) (λ r. refl)) (of_rest behind bytes)
+
+of_refusal : (behind : Behind) (bytes : List ℕ) (settings : List (Name × ℤ)) → IfSome (due_of_refusal behind bytes settings) IsDue
+of_refusal behind bytes settings =
     let fault = first_fault_in (entries_of bytes) settings in
     let tree = due_of_tree (program_in (entries_of bytes) settings) in
-    unwrapped (due_of_refusal bytes settings) due
-    (either (due_of_lines bytes) (option_or (option_map due_of_fault fault) tree) (of_lines bytes)
-    (either (option_map due_of_fault fault) tree (mapped fault due_of_fault of_fault) (of_tree (program_in (entries_of bytes) settings))))
-    done
+    either (due_of_lines behind bytes) (option_or (option_map due_of_fault fault) tree) (of_lines behind bytes)
+    (either (option_map due_of_fault fault) tree (mapped fault due_of_fault of_fault) (of_tree (program_in (entries_of bytes) settings)))
+
+on_program : (wanted : Wanted) (tree : Tree) (bytes : List ℕ) (due : Due) → IsDueOn wanted tree bytes due → IsDue due
+on_program wanted tree bytes due (unaccepted reason is e) = ap (λ d. is_due d.status) e
+on_program wanted tree bytes due (written text is e) = ap (λ d. is_due d.status) e
+
+first : (o : Option Due) (IsElse : Due → Type 0) (due : Due) → IfSome o IsDue → (IsElse due → IsDue due) → IsFirstOr o IsElse due → IsDue due
+first None IsElse due one other h = other h
+first (Some d) IsElse due one other e = ap (λ d. is_due d.status) e ∙ one
+
+pub is_due-status : (wanted : Wanted) (settings : List (Name × ℤ)) (bytes : List ℕ) (due : Due) → IsDueOf wanted settings bytes due → is_due due.status ≡ true
+is_due-status wanted settings bytes due =
+    let tree = program_in (entries_of bytes) settings in
+    first (due_of_refusal (behind_of wanted) bytes settings) (IsDueOn wanted tree (behind_end bytes)) due
+    (of_refusal (behind_of wanted) bytes settings) (on_program wanted tree (behind_end bytes) due)

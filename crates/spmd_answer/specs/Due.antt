@@ -1,5 +1,5 @@
 -- What is due for a request: the status and the text, from the request, its settings and the bytes of the source alone.
-use Rattle.std.specs.Prelude.{ℕ, ℤ, List, [], ◌∷◌, ◌++◌, Option, codes, unwrap_or}
+use Rattle.std.specs.Prelude.{ℕ, ℤ, ◌≡◌, List, [], ◌∷◌, ◌++◌, drop, Option, Some, None, codes}
 use Rattle.std.specs.Fmt.{decimal, signed_decimal}
 use Rattle.std.specs.Option.{option_map, option_or}
 use Rattle.nest_tree.specs.LimitText.{text_of_limit}
@@ -15,11 +15,17 @@ use Rattle.f77_scene.specs.Reading.{first_fault_in, program_in}
 use Rattle.f77_scene.specs.Scene.{Name}
 use Rattle.range_check.specs.Outside.{outside_of}
 use Rattle.range_check.specs.OutsideText.{text_of_outside}
-use Rattle.command_words.specs.Wanted.{Wanted, sequential, run}
+use Rattle.command_words.specs.Wanted.{Wanted, sequential, verify, run}
+use Rattle.command_words.specs.declared.request.PlanChoice.{PlanChoice}
+use Rattle.command_words.specs.declared.request.PlanChoice.TheVariants.{Barrier, Given}
 use Rattle.plan_text.specs.PlanText.{plan_text}
 use Rattle.serial_plan.specs.Serial.{serial_plan}
+use Rattle.sync_plan.specs.declared.plan.Plan.{Plan}
+use Rattle.spmd_answer.specs.Given.{IsRefusedPlan, IsTakenPlan}
+use Rattle.spmd_answer.specs.declared.source.Behind.{Behind}
+use Rattle.spmd_answer.specs.declared.source.Behind.TheVariants.{Comments, PlanText}
 use Rattle.spmd_answer.specs.declared.status.Status.{Status}
-use Rattle.spmd_answer.specs.declared.status.Status.TheVariants.{Done, SourceRefused, BadWords}
+use Rattle.spmd_answer.specs.declared.status.Status.TheVariants.{Done, SourceRefused, BadWords, PlanRefused}
 
 -- a status and the text that is due with it
 pub record Due : Type 0 where
@@ -33,6 +39,14 @@ line text = text ++ 10 ∷ []
 -- a source that is refused with this line
 abbrev pub refused : List ℕ → Due
 refused text = record { status = SourceRefused; text = line text }
+
+-- a plan that is refused with this line
+abbrev pub plan_refused : List ℕ → Due
+plan_refused text = record { status = PlanRefused; text = line text }
+
+-- all was done, with this text
+abbrev pub done : List ℕ → Due
+done text = record { status = Done; text = text }
 
 -- the number of a fault of a statement
 abbrev pub fault_number : Fault → ℕ
@@ -67,24 +81,61 @@ due_of_fault (bad_setting index) = wrong_setting index
 abbrev pub due_of_tree : Tree → Option Due
 due_of_tree tree = option_or (option_map (λ l. refused (text_of_limit l)) (first_limit tree)) (option_map (λ o. refused (text_of_outside o)) (outside_of tree))
 
--- due with the first fault of a source's lines, or else with the first line behind END that is no comment
-abbrev pub due_of_lines : List ℕ → Option Due
-due_of_lines bytes =
-    option_or (option_map (λ r. refused (text_of_refusal r)) (first_line_fault bytes))
-    (option_map (λ n. refused (text_of_refusal (AfterEnd n))) (first_behind bytes (size_to_end (lines_of bytes))))
+-- due with the first line behind END that is no comment, where no plan may stand there
+abbrev pub due_of_rest : Behind → List ℕ → Option Due
+due_of_rest Comments bytes = option_map (λ n. refused (text_of_refusal (AfterEnd n))) (first_behind bytes (size_to_end (lines_of bytes)))
+due_of_rest PlanText bytes = None
+
+-- due with the first fault of a source's lines, or else with what may not stand behind END
+abbrev pub due_of_lines : Behind → List ℕ → Option Due
+due_of_lines behind bytes = option_or (option_map (λ r. refused (text_of_refusal r)) (first_line_fault bytes)) (due_of_rest behind bytes)
 
 -- due with the first refusal of a source, where there is one: of its lines, of its statements, of the settings' names, of its limits, of its subscripts
-abbrev pub due_of_refusal : List ℕ → List (Name × ℤ) → Option Due
-due_of_refusal bytes settings =
-    option_or (due_of_lines bytes)
+abbrev pub due_of_refusal : Behind → List ℕ → List (Name × ℤ) → Option Due
+due_of_refusal behind bytes settings =
+    option_or (due_of_lines behind bytes)
     (option_or (option_map due_of_fault (first_fault_in (entries_of bytes) settings))
     (due_of_tree (program_in (entries_of bytes) settings)))
 
--- what a program's run writes: of a sequential run the output; else the plan and then the sequential output
-abbrev pub text_of_run : Wanted → Tree → List ℕ
-text_of_run (sequential settings) tree = output_of tree
-text_of_run (run workers plan settings) tree = plan_text (serial_plan workers tree) ++ output_of tree
+-- what may stand behind the END line for a request
+abbrev pub behind_of : Wanted → Behind
+behind_of (sequential settings) = Comments
+behind_of (verify settings) = PlanText
+behind_of (run workers Barrier settings) = Comments
+behind_of (run workers Given settings) = PlanText
 
--- due for a request with these settings, from the source's bytes
-abbrev pub due_of : Wanted → List (Name × ℤ) → List ℕ → Due
-due_of wanted settings bytes = unwrap_or (due_of_refusal bytes settings) (record { status = Done; text = text_of_run wanted (program_in (entries_of bytes) settings) })
+-- the bytes behind the line end of END
+abbrev pub behind_end : List ℕ → List ℕ
+behind_end bytes = drop (size_to_end (lines_of bytes)) bytes
+
+-- The plan by which a run goes, for so many workers: that where processor 0 does everything, or the one that is given behind END.
+abbrev pub IsPlanFor : PlanChoice → ℕ → Tree → List ℕ → Plan → Type 0
+IsPlanFor Barrier workers tree bytes plan = plan ≡ serial_plan workers tree
+IsPlanFor Given workers tree bytes plan = IsTakenPlan (Some workers) tree bytes plan
+
+-- What is written for a request on a program, with these bytes behind its END line: of a sequential run the output; that the plan is accepted; of a run by a plan the plan's text and then the sequential output.
+abbrev pub IsTextFor : Wanted → Tree → List ℕ → List ℕ → Type 0
+IsTextFor (sequential settings) tree bytes text = text ≡ output_of tree
+IsTextFor (verify settings) tree bytes text = (plan : Plan) × IsTakenPlan None tree bytes plan × (text ≡ line (codes "ACCEPTED"))
+IsTextFor (run workers choice settings) tree bytes text = (plan : Plan) × IsPlanFor choice workers tree bytes plan × (text ≡ plan_text plan ++ output_of tree)
+
+-- The line with which the plan is refused that stands behind END: no request has one where no plan may stand there.
+abbrev pub IsRefusalFor : Wanted → Tree → List ℕ → List ℕ → Type 0
+IsRefusalFor (sequential settings) tree bytes reason = ⊥
+IsRefusalFor (verify settings) tree bytes reason = IsRefusedPlan None tree bytes reason
+IsRefusalFor (run workers Barrier settings) tree bytes reason = ⊥
+IsRefusalFor (run workers Given settings) tree bytes reason = IsRefusedPlan (Some workers) tree bytes reason
+
+-- Due for a request on a program, with these bytes behind its END line.
+pub data IsDueOn (wanted : Wanted) (tree : Tree) (bytes : List ℕ) (due : Due) : Type 0 where
+  unaccepted : (reason : List ℕ) (is : IsRefusalFor wanted tree bytes reason) (due_is : due ≡ plan_refused reason) → IsDueOn wanted tree bytes due
+  written : (text : List ℕ) (is : IsTextFor wanted tree bytes text) (due_is : due ≡ done text) → IsDueOn wanted tree bytes due
+
+-- a refusal, where there is one, or else what is due without
+abbrev pub IsFirstOr : Option Due → (Due → Type 0) → Due → Type 0
+IsFirstOr (Some refusal) IsElse due = due ≡ refusal
+IsFirstOr None IsElse due = IsElse due
+
+-- Due for a request with these settings, from the source's bytes.
+abbrev pub IsDueOf : Wanted → List (Name × ℤ) → List ℕ → Due → Type 0
+IsDueOf wanted settings bytes due = IsFirstOr (due_of_refusal (behind_of wanted) bytes settings) (IsDueOn wanted (program_in (entries_of bytes) settings) (behind_end bytes)) due

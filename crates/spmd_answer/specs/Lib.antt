@@ -1,4 +1,5 @@
 pub mod Due
 pub mod Faults
+pub mod Given
 pub mod Statuses
 pub mod Stops

@@ -1,11 +1,12 @@
 -- The statuses of what is due for a request.
 use Rattle.std.specs.Prelude.{Bool, true, false}
 use Rattle.spmd_answer.specs.declared.status.Status.{Status}
-use Rattle.spmd_answer.specs.declared.status.Status.TheVariants.{Done, SourceRefused, BadWords}
+use Rattle.spmd_answer.specs.declared.status.Status.TheVariants.{Done, SourceRefused, BadWords, PlanRefused}
 
--- 0, 1 and 2
+-- 0, 1, 2 and 6
 abbrev pub is_due : Status → Bool
 is_due Done = true
 is_due SourceRefused = true
 is_due BadWords = true
+is_due PlanRefused = true
 is_due _ = false

@@ -1,6 +1,8 @@
 -- Answers and stops without where they lie in memory.
-use Rattle.std.specs.Prelude.{◌≡◌, ⊤, Option, Some}
-use Rattle.spmd_answer.specs.Due.{Due}
+use Rattle.std.specs.Prelude.{ℕ, ◌≡◌, ⊤, List, Option, Some}
+use Rattle.nest_tree.specs.Tree.{Tree}
+use Rattle.spmd_answer.specs.Due.{Due, plan_refused}
+use Rattle.spmd_answer.specs.Given.{IsRefusedPlan}
 use Rattle.spmd_answer.specs.declared.status.Answer.{Answer}
 use Rattle.spmd_answer.specs.declared.status.Stop.{Stop}
 use Rattle.spmd_answer.specs.declared.status.Stop.TheVariants as stop
@@ -12,3 +14,8 @@ due_in a = record { status = a.status; text = a.text.items }
 abbrev pub IsStop : Option Due → Stop → Type 0
 IsStop due (stop.Refused answer) = due ≡ Some (due_in answer)
 IsStop due stop.NoMemory = ⊤
+
+-- A refusal is the line with which bytes are refused as a plan.
+abbrev pub IsPlanStop : Option ℕ → Tree → List ℕ → Stop → Type 0
+IsPlanStop asked tree bytes (stop.Refused answer) = (reason : List ℕ) × IsRefusedPlan asked tree bytes reason × (due_in answer ≡ plan_refused reason)
+IsPlanStop asked tree bytes stop.NoMemory = ⊤

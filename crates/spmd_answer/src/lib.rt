@@ -4,14 +4,16 @@
 //! - [`answer`]: what is due; the others are its parts.
 //! - [`program`]: the program of a source, or its first refusal.
 //! - [`laws`]: laws of what is due.
-//! - [`source`]: the statements of a source, or its first fault by line.
+//! - [`source`]: the statements of a source and where its plan begins, or its first fault by line.
+//! - [`given`]: the plan that is given, or the first reason against it.
 //! - [`tree`]: whether a program keeps within its limits and its subscripts in their ranges.
 //! - [`run`]: what a program's run writes.
-//! - [`refusals`]: the lines with which a source or a setting is refused.
+//! - [`refusals`]: the lines with which a source, a setting or a plan is refused.
 //! - [`status`]: how a command ends, answers, and why there is no program to run.
 #![tactic(auto)]
 
 pub mod answer;
+pub mod given;
 pub mod laws;
 pub mod program;
 pub mod refusals;
@@ -20,11 +22,12 @@ pub mod source;
 pub mod status;
 pub mod tree;
 
-pub use crate::answer::answer_to;
-pub use crate::laws::three_statuses_are_due;
+pub use crate::answer::{answer_on, answer_to};
+pub use crate::given::given_plan;
+pub use crate::laws::{four_statuses_are_due, never_none, one_due};
 pub use crate::program::program_of;
-pub use crate::run::text_of_run;
-pub use crate::source::lines_of;
+pub use crate::run::{barrier_plan, sequential_output, text_of_run};
+pub use crate::source::{Behind, behind_of, lines_of};
 pub use crate::status::{Answer, Status, Stop};
 pub use crate::tree::check_tree;
 

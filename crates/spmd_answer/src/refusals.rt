@@ -1,11 +1,13 @@
-// The lines with which a source or a setting is refused.
+// The lines with which a source, a setting or a plan is refused.
 
-ghost use Rattle.std.specs.Prelude.{◌≡◌, ◌≢◌, IfOk, Some};
+ghost use Rattle.std.specs.Prelude.{◌≡◌, ◌≢◌, ◌++◌, IfOk, Some, codes};
+ghost use Rattle.std.specs.Fmt.{decimal};
 ghost use Rattle.nest_tree.specs.LimitText.{text_of_limit};
 ghost use Rattle.f77_lines.specs.RefusalText.{text_of_refusal};
+ghost use Rattle.plan_checker.specs.RefusalText.{text_of_refusal as text_of_reason};
 ghost use Rattle.range_check.specs.OutsideText.{text_of_outside};
 ghost use Rattle.f77_program.specs.declared.refusal.Refusal.TheVariants as variants;
-ghost use Rattle.spmd_answer.specs.Due.{due_of_fault, refused};
+ghost use Rattle.spmd_answer.specs.Due.{due_of_fault, plan_refused, refused};
 ghost use Rattle.spmd_answer.specs.Faults.{fault_in};
 ghost use Rattle.spmd_answer.specs.Stops.{due_in};
 
@@ -13,6 +15,7 @@ use crate::status::{Answer, Status};
 use f77_lines::LineRefusal;
 use f77_program::Refusal;
 use nest_tree::Limit;
+use plan_checker::PlanRefusal;
 use range_check::OutOfRange;
 use std::alloc::{AllocError, Global};
 use std::fmt::Write;
@@ -62,6 +65,28 @@ pub fn fault_answer(alloc: Global, refusal: Refusal) -> Result<Answer, AllocErro
     let text = format!(in alloc; "{refusal}\n")?;
     Ok(Answer {
         status,
+        text: text.into_bytes(),
+    })
+}
+
+/// Bytes that are no plan's text: the first line, from 1, that no plan's text has.
+pub fn syntax_answer(alloc: Global, number: u32) -> Result<Answer, AllocError>
+    ensures { IfOk result (λ a. due_in a ≡ plan_refused (codes "PLAN SYNTAX " ++ decimal number)) }
+{
+    let text = format!(in alloc; "PLAN SYNTAX {number}\n")?;
+    Ok(Answer {
+        status: Status::PlanRefused,
+        text: text.into_bytes(),
+    })
+}
+
+/// A plan against which this is the first reason.
+pub fn plan_answer(alloc: Global, reason: PlanRefusal) -> Result<Answer, AllocError>
+    ensures { IfOk result (λ a. due_in a ≡ plan_refused (text_of_reason reason)) }
+{
+    let text = format!(in alloc; "{reason}\n")?;
+    Ok(Answer {
+        status: Status::PlanRefused,
         text: text.into_bytes(),
     })
 }

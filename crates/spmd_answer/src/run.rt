@@ -1,4 +1,4 @@
-// What a run writes.
+// What a run by a plan writes, and what a sequential one does.
 
 ghost use Rattle.std.specs.Prelude.{◌≡◌, ◌≤◌, ◌++◌, IfOk};
 ghost use Rattle.nest_tree.specs.Limits.{IsWithinLimits};
@@ -6,14 +6,11 @@ ghost use Rattle.nest_tree.specs.View.{tree_of};
 ghost use Rattle.nest_tree.specs.WellFormed.{IsWellFormed};
 ghost use Rattle.nest_model.specs.Memory.{output_of};
 ghost use Rattle.nest_model.specs.Ranges.{IsInRange};
-ghost use Rattle.command_words.specs.Wanted.{IsCounted, wanted};
 ghost use Rattle.plan_text.specs.PlanText.{HasText, plan_text};
 ghost use Rattle.serial_plan.specs.Serial as serial;
 ghost use Rattle.sync_plan.specs.Fit.{IsFit};
 ghost use Rattle.sync_plan.specs.Ordered.{IsOrdered};
-ghost use Rattle.spmd_answer.specs.Due as due;
 
-use command_words::{PlanChoice, Request};
 use nest_tree::Program;
 use plan_text::write_plan;
 use seq_meaning::run_sequential;
@@ -22,37 +19,30 @@ use spmd_machine::Machine;
 use std::alloc::{AllocError, Global};
 use sync_plan::Plan;
 
-/// What a program's run writes: of a sequential run the output; else the plan's text and then the
-/// output of the run by the plan. The error is that memory ran out.
-pub fn text_of_run(
-    alloc: Global,
-    request: &Request,
-    program: &Program,
-) -> Result<Vec<u8>, AllocError>
-    requires counted { IsCounted (wanted request.now) }
+/// What a program prints. The error is that memory ran out.
+pub fn sequential_output(alloc: Global, program: &Program) -> Result<Vec<u8>, AllocError>
     requires formed { IsWellFormed (tree_of program.now) }
     requires limits { IsWithinLimits (tree_of program.now) }
     requires ranges { IsInRange (tree_of program.now) }
-    ensures { IfOk result (λ text. text.items ≡ due.text_of_run (wanted request.now) (tree_of program.now)) }
+    ensures { IfOk result (λ text. text.items ≡ output_of (tree_of program.now)) }
 {
-    match request {
-        Request::Sequential(_) => sequential_output(alloc, program),
-        Request::Run(workers, PlanChoice::Barrier, _) => planned_text(alloc, program, *workers),
-    }
+    let (_, output) = run_sequential(alloc, program)?;
+    output.as_slice().to_vec(alloc)
 }
 
-// The text of the plan where processor 0 does everything, and the output of the run by it.
-fn planned_text(alloc: Global, program: &Program, workers: u32) -> Result<Vec<u8>, AllocError>
+/// The text of a plan, and then the output of the run by it, which is the sequential one. The error
+/// is that memory ran out.
+pub fn text_of_run(alloc: Global, program: &Program, plan: &Plan) -> Result<Vec<u8>, AllocError>
     requires formed { IsWellFormed (tree_of program.now) }
     requires limits { IsWithinLimits (tree_of program.now) }
     requires ranges { IsInRange (tree_of program.now) }
-    requires some { 1 ≤ workers }
-    requires few { workers ≤ 64 }
-    ensures { IfOk result (λ text. text.items ≡ plan_text (serial.serial_plan workers (tree_of program.now)) ++ output_of (tree_of program.now)) }
+    requires fits { IsFit (tree_of program.now) plan.now }
+    requires ordered { IsOrdered (tree_of program.now) plan.now }
+    requires text { HasText plan.now }
+    ensures { IfOk result (λ text. text.items ≡ plan_text plan.now ++ output_of (tree_of program.now)) }
 {
-    let plan = shown_plan(alloc, program, workers)?;
-    let text = write_plan(alloc, &plan)?;
-    let output = planned_output(alloc, program, &plan)?;
+    let text = write_plan(alloc, plan)?;
+    let output = planned_output(alloc, program, plan)?;
     joined(text, &output)
 }
 
@@ -63,18 +53,9 @@ fn joined(mut front: Vec<u8>, behind: &[u8]) -> Result<Vec<u8>, AllocError>
     Ok(front)
 }
 
-fn sequential_output(alloc: Global, program: &Program) -> Result<Vec<u8>, AllocError>
-    requires formed { IsWellFormed (tree_of program.now) }
-    requires limits { IsWithinLimits (tree_of program.now) }
-    requires ranges { IsInRange (tree_of program.now) }
-    ensures { IfOk result (λ text. text.items ≡ output_of (tree_of program.now)) }
-{
-    let (_, output) = run_sequential(alloc, program)?;
-    output.as_slice().to_vec(alloc)
-}
-
-// The plan where processor 0 does everything, which has a text.
-fn shown_plan(alloc: Global, program: &Program, workers: u32) -> Result<Plan, AllocError>
+/// The plan where processor 0 does everything, for so many workers. It may be run, and has a text.
+/// The error is that memory ran out.
+pub fn barrier_plan(alloc: Global, program: &Program, workers: u32) -> Result<Plan, AllocError>
     requires formed { IsWellFormed (tree_of program.now) }
     requires some { 1 ≤ workers }
     requires few { workers ≤ 64 }

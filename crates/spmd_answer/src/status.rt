@@ -20,6 +20,8 @@ pub enum Status {
     WriteFault,
     /// 5: memory ran out.
     NoMemory,
+    /// 6: the plan that is given is refused.
+    PlanRefused,
     /// 7: the source is too long.
     TooLong,
 }
@@ -31,10 +33,10 @@ pub struct Answer {
     pub text: Vec<u8>,
 }
 
-/// Why there is no program to run.
+/// Why there is no program, or no plan, to run.
 #[derive(Drop)]
 pub enum Stop {
-    /// The source or a setting is refused.
+    /// The source, a setting or the plan is refused.
     Refused(Answer),
     /// Memory ran out.
     NoMemory,

@@ -10,6 +10,7 @@ use f77_source::Setting;
 use std::alloc::{AllocError, Global};
 use std::fmt::Write;
 use std::test::Fail;
+use std::thread::Threads;
 
 /// A sequential run where there are no workers, else a run by the plan with barriers.
 fn request_of(alloc: Global, workers: u32) -> Request<'static>
@@ -22,7 +23,8 @@ fn request_of(alloc: Global, workers: u32) -> Request<'static>
     }
 }
 
-fn answer_of(
+fn answer_of<R: Threads + Sync>(
+    rt: &R,
     alloc: Global,
     source: &[u8],
     workers: u32,
@@ -32,7 +34,7 @@ fn answer_of(
         return Err(AllocError);
     }
     let request = request_of(alloc, workers);
-    answer_to(alloc, &request, settings, source)
+    answer_to(rt, alloc, &request, settings, source)
 }
 
 fn source_of(alloc: Global, lines: &[&str]) -> Result<String, AllocError> {
@@ -224,7 +226,7 @@ fn requests_are_answered(rt: HostRuntime) -> Result<(), Fail> {
     ];
     for (workers, lines, status, text) in rows {
         let source = source_of(alloc, lines)?;
-        let answer = answer_of(alloc, source.as_bytes(), workers, &[])?;
+        let answer = answer_of(&rt, alloc, source.as_bytes(), workers, &[])?;
         assert_eq!(rt; answer.status, status);
         assert_eq!(rt; answer.text.as_slice(), text.as_bytes());
     }
@@ -250,7 +252,7 @@ fn settings_count(rt: HostRuntime) -> Result<(), Fail> {
             "      PARAMETER (M=3)\n      K = 8/(M-2)\n      PRINT *, {printed}\n      END\n"
         )?;
         let settings = vec![in alloc; setting]?;
-        let answer = answer_of(alloc, source.as_bytes(), 0, &settings)?;
+        let answer = answer_of(&rt, alloc, source.as_bytes(), 0, &settings)?;
         assert_eq!(rt; answer.status, status);
         assert_eq!(rt; answer.text.as_slice(), text.as_bytes());
     }
@@ -299,11 +301,134 @@ fn large(alloc: Global) -> Result<String, AllocError> {
 fn long_sources_are_answered(rt: HostRuntime) -> Result<(), Fail> {
     let alloc = rt.alloc();
     let settings = many_settings(alloc)?;
-    let answer = answer_of(alloc, many_statements(alloc)?.as_bytes(), 64, &settings)?;
+    let answer = answer_of(
+        &rt,
+        alloc,
+        many_statements(alloc)?.as_bytes(),
+        64,
+        &settings,
+    )?;
     assert_eq!(rt; answer.status, Status::Done);
     assert!(rt; answer.text.ends_with(b"\nEND PLAN\n 1001\n"));
-    let answer = answer_of(alloc, large(alloc)?.as_bytes(), 3, &[])?;
+    let answer = answer_of(&rt, alloc, large(alloc)?.as_bytes(), 3, &[])?;
     assert_eq!(rt; answer.status, Status::Done);
     assert!(rt; answer.text.ends_with(b" -29999 -30000\n"));
+    Ok(())
+}
+
+/// An array, and another one from its elements in opposite order.
+const MIRROR: [&str; 7] = [
+    "      INTEGER A(6), B(6)",
+    "      DO 10 I = 1, 6",
+    "   10 A(I) = I",
+    "      DO 20 I = 1, 6",
+    "   20 B(I) = A(7-I)",
+    "      PRINT *, B(1)",
+    "      END",
+];
+
+/// A plan for it, which is accepted.
+const MIRROR_PLAN: [&str; 15] = [
+    "SPMD PLAN 1",
+    "WORKERS 3",
+    "LOOPS 2",
+    "1 DOALL",
+    "2 DOALL",
+    "PHASES 3",
+    "1 BARRIER AT -1 1*L1 BLOCK 2",
+    "2 BARRIER AT -1 1*L2 BLOCK 2",
+    "3 BARRIER AT 0 CYCLIC",
+    "CERTIFICATES 2",
+    "1 STEPS 1",
+    "1 1*1 6*1 10*1 11*1",
+    "2 STEPS 1",
+    "1 1*1 6*1 10*1 11*1",
+    "END PLAN",
+];
+
+/// The source with the plan behind it, of which one line, by its number, is another.
+fn mirror_with(alloc: Global, number: usize, changed: &str) -> Result<String, AllocError> {
+    let mut source = source_of(alloc, &MIRROR)?;
+    for (place, line) in MIRROR_PLAN.iter().enumerate() {
+        let shown = if place + 1 == number { changed } else { *line };
+        write!(source, "{shown}\n")?;
+    }
+    Ok(source)
+}
+
+/// What is due for `verify` where there are no workers, else for a run by the plan that is given.
+fn given_answer<R: Threads + Sync>(
+    rt: &R,
+    alloc: Global,
+    workers: u32,
+    source: &[u8],
+) -> Result<Answer, AllocError> {
+    if source.len() > MOST_BYTES {
+        return Err(AllocError);
+    }
+    let request = if workers == 0 {
+        Request::Verify(Vec::new(alloc))
+    } else {
+        Request::Run(workers.min(64), PlanChoice::Given, Vec::new(alloc))
+    };
+    answer_to(rt, alloc, &request, &[], source)
+}
+
+#[test]
+fn given_plans_are_answered(rt: HostRuntime) -> Result<(), Fail> {
+    let alloc = rt.alloc();
+    let rows: [(u32, usize, &str, &str); 14] = [
+        (0, 0, "", "ACCEPTED\n"),
+        (
+            3,
+            15,
+            "END PLAN",
+            "CERTIFICATES 2\n1 STEPS 1\n1 1*1 6*1 10*1 11*1\n2 STEPS 1\n1 1*1 6*1 10*1 11*1\nEND PLAN\n 6\n",
+        ),
+        (2, 0, "", "PLAN P1 1\n"),
+        (2, 10, "CERTIFICATES 1", "PLAN SYNTAX 13\n"),
+        (0, 2, "WORKERS 65", "PLAN P1 1\n"),
+        (0, 4, "1 INNER", "PLAN P1 3\n"),
+        (
+            0,
+            8,
+            "2 PRODUCER 0 1*L1 CYCLIC AT -1 1*L2 BLOCK 2",
+            "PLAN P1 6\n",
+        ),
+        (0, 7, "1 BARRIER AT -1 1*L1 BLOCK 1", "PLAN P2 1 0 5\n"),
+        (0, 9, "3 BARRIER AT 5 CYCLIC", "PLAN P3 3\n"),
+        (0, 8, "2 BOTH AT -1 1*L2 BLOCK 2", "PLAN P4 3\n"),
+        (3, 12, "1 1*1 6*1 10*1 11*-1", "PLAN P5 1 C1 1\n"),
+        (0, 12, "1 1*1 6*1 10*1 11*-0", "PLAN SYNTAX 12\n"),
+        (0, 15, "END PLAN\n ", "PLAN SYNTAX 16\n"),
+        (0, 1, "C no plan", "PLAN SYNTAX 1\n"),
+    ];
+    for (workers, number, changed, text) in rows {
+        let source = mirror_with(alloc, number, changed)?;
+        let answer = given_answer(&rt, alloc, workers, source.as_bytes())?;
+        assert!(rt; answer.text.ends_with(text.as_bytes()), "{changed}");
+        assert_eq!(rt;
+            answer.status == Status::PlanRefused,
+            text.starts_with("PLAN ")
+        );
+    }
+    Ok(())
+}
+
+/// A plan with more certificates than obligations, in 4,194,304 bytes or nearly.
+#[test]
+fn long_plans_are_answered(rt: HostRuntime) -> Result<(), Fail> {
+    let alloc = rt.alloc();
+    let mut source = source_of(alloc, &MIRROR)?;
+    for line in &MIRROR_PLAN[..9] {
+        write!(source, "{line}\n")?;
+    }
+    source.push_str("CERTIFICATES 110000\n")?;
+    for number in 1..110_001 {
+        write!(source, "{number} STEPS 1\n1 1*1 6*1 10*1 11*1\n")?;
+    }
+    source.push_str("END PLAN\n")?;
+    let answer = given_answer(&rt, alloc, 0, source.as_bytes())?;
+    assert_eq!(rt; answer.text.as_slice(), b"PLAN P1 7\n".as_slice());
     Ok(())
 }

@@ -6,7 +6,8 @@ use Rattle.f77_scene.specs.Scene.{Name}
 use Rattle.clap.specs.Words.{Text}
 use Rattle.command_words.specs.Settings.{first_fault_from, settings_in}
 use Rattle.command_words.specs.Wanted.{Wanted, Takes, AreFaulty, asks_to_show}
-use Rattle.spmd_answer.specs.Due.{Due, due_of, wrong_setting}
+use Rattle.spmd_answer.specs.Due as answer
+use Rattle.spmd_answer.specs.Due.{Due, wrong_setting}
 use Rattle.spmd_answer.specs.Stops.{due_in}
 use Rattle.spmd_answer.specs.declared.status.Answer.{Answer}
 use Rattle.spmd_answer.specs.declared.status.Status.TheVariants.{Done}
@@ -14,7 +15,7 @@ use Rattle.spmd_tool.specs.declared.answer.Trouble.{Trouble}
 use Rattle.spmd_tool.specs.Due.{asked, faulty, first_wrong, most_bytes, settings_of, shown, too_long, wrong_words}
 use Rattle.spmd_tool.specs.Outside.{TakesBytes}
 use Rattle.spmd_tool.specs.Written.{IsDueFrom, IsDueOf}
-use Rattle.spmd_tool.proofs.Dues.{request-long, request-short, request-wrong}
+use Rattle.spmd_tool.proofs.Dues.{for_long, for_source, for_wrong}
 use Rattle.spmd_tool.proofs.Told.{read_told, some_told, taken_told}
 
 -- of a request with a word that should be a setting and is none
@@ -22,11 +23,11 @@ pub wrong-of : (w : Wanted) (told : Option (List ℕ)) (words : List Text) (n : 
 wrong-of w told words n d e first is =
     let some = some_told told in
     let wrong : first_wrong w ≡ Some n = ap (first_fault_from 1) (sym e) ∙ first in
-    record { bytes = some.0; told = some.1; due_is = is ∙ sym (request-wrong w some.0 n wrong) }
+    record { bytes = some.0; told = some.1; is_due = for_wrong w some.0 d n wrong is }
 
 -- of a request whose source was read to its end
 pub read-of : (w : Wanted) (old new : Option (List ℕ)) (read bytes : List ℕ) (words : List Text) (settings : List (Name × ℤ)) (d : Due)
-    → words ≡ settings_of w → (first_fault_from 1 words ≡ None) × (settings ≡ settings_in words) → Consumes old new read → IsAtEnd new → bytes ≡ read → length read ≤ most_bytes → d ≡ due_of w settings bytes → IsDueOf w old d
+    → words ≡ settings_of w → (first_fault_from 1 words ≡ None) × (settings ≡ settings_in words) → Consumes old new read → IsAtEnd new → bytes ≡ read → length read ≤ most_bytes → answer.IsDueOf w settings bytes d → IsDueOf w old d
 read-of w old new read bytes words settings d e first consumed ended same short is =
     let none : first_wrong w ≡ None = ap (first_fault_from 1) (sym e) ∙ first.0 in
     let few : length bytes ≤ most_bytes = subst (λ (b : List ℕ). length b ≤ most_bytes) (sym same) short in
@@ -34,7 +35,7 @@ read-of w old new read bytes words settings d e first consumed ended same short 
     record {
       bytes = bytes;
       told = read_told old new read bytes consumed ended same;
-      due_is = is ∙ ap (λ s. due_of w s bytes) those ∙ sym (request-short w bytes none few);
+      is_due = for_source w bytes d none few (subst (λ (s : List (Name × ℤ)). answer.IsDueOf w s bytes d) those is);
     }
 
 -- of a request whose source has too many bytes
@@ -43,11 +44,11 @@ long-of w old new words d e first takes is =
     let all = taken_told old new (most_bytes + 1) takes in
     let none : first_wrong w ≡ None = ap (first_fault_from 1) (sym e) ∙ first in
     let more : most_bytes < length all.0 = let h = all.2 in omega arith in
-    record { bytes = all.0; told = all.1; due_is = is ∙ sym (request-long w all.0 none more) }
+    record { bytes = all.0; told = all.1; is_due = for_long w all.0 d none more is }
 
 -- for words that stand for a request
 pub from-asked : (words : List Text) (told : Option (List ℕ)) (w : Wanted) (r : Result Answer Trouble) → Takes words w → IfOk r (λ a. IsDueOf w told (due_in a)) → IfOk r (λ a. IsDueFrom words told (due_in a))
-from-asked words told w (Ok a) takes h = record { bytes = h.bytes; told = h.told; is_due = asked w takes h.due_is }
+from-asked words told w (Ok a) takes h = record { bytes = h.bytes; told = h.told; is_due = asked w takes h.is_due }
 from-asked words told w (Err e) takes h = tt
 
 -- for words that ask for help or for the version

@@ -1,26 +1,35 @@
 -- What is due, by its cases.
-use Rattle.std.proofs.Common.{◌≡◌, ◌≢◌, ◌≤◌, ◌<◌, ℕ, ℤ, Bool, true, false, List, [], ◌∷◌, length, Option, Some, None, IfSome, nat_lt, if◌then◌else◌, unwrap_or, option_map, ◌⊎◌, inl, inr, ⊎_elim, refl, sym, ap, subst, ◌∙◌, arith, ltb-false, ltb-true}
+use Rattle.std.proofs.Common.{◌≡◌, ◌≢◌, ◌≤◌, ◌<◌, ℕ, ℤ, Bool, true, false, List, [], ◌∷◌, ◌++◌, length, Option, Some, None, IfSome, nat_lt, if◌then◌else◌, option_map, ◌⊎◌, inl, inr, ⊎_elim, refl, sym, ap, subst, ◌∙◌, arith, ltb-false, ltb-true}
 use Rattle.std.specs.Option.{option_or}
 use Rattle.std.proofs.lemmas.Bool.{cases_Bool}
+use Rattle.std.proofs.lemmas.Bool.Decides.{nat_tests}
 use Rattle.std.specs.List.{list_any}
 use Rattle.nest_tree.specs.Limits.{first_limit}
 use Rattle.nest_tree.specs.Tree.{Tree}
+use Rattle.nest_model.specs.Memory.{output_of}
+use Rattle.plan_text.specs.PlanText.{plan_text}
+use Rattle.serial_plan.specs.Serial.{serial_plan}
 use Rattle.f77_lines.specs.Columns.{lines_of}
 use Rattle.f77_lines.specs.Listing.{entries_of, first_behind, first_line_fault, size_to_end}
 use Rattle.f77_scene.specs.Fault.{Fault, Refusal, bad_line, bad_setting, bad_statement}
 use Rattle.f77_scene.specs.Reading.{SourceStatement, at_line, fault_from, fault_with, first_fault_in, given_with, program_in, scene_with, statements_in}
-use Rattle.f77_scene.specs.Scene.{Given, Name, Scene, first_scene}
+use Rattle.f77_scene.specs.Scene.{Given as SceneGiven, Name, Scene, first_scene}
 use Rattle.range_check.specs.Outside.{outside_of}
 use Rattle.clap.specs.Words.{Text, fault_of, subcommand_of}
 use Rattle.clap.specs.declared.error.kind.ErrorKind.{ErrorKind}
 use Rattle.command_words.specs.Rule.{tool_app}
 use Rattle.command_words.specs.Settings.{first_fault_from, settings_in}
-use Rattle.command_words.specs.Wanted.{Wanted, Takes, AreFaulty, asks_to_show, is_shown, wanted_by}
-use Rattle.spmd_answer.specs.Due.{Due, due_of, due_of_fault, due_of_lines, due_of_refusal, due_of_tree, text_of_run, wrong_setting}
+use Rattle.command_words.specs.Wanted.{Wanted, sequential, verify, run, Takes, AreFaulty, asks_to_show, is_shown, wanted_by}
+use Rattle.command_words.specs.declared.request.PlanChoice.TheVariants.{Barrier, Given}
+use Rattle.spmd_answer.specs.Due as answer
+use Rattle.spmd_answer.specs.Due.{Due, IsDueOn, IsFirstOr, IsRefusalFor, IsTextFor, behind_end, behind_of, done, due_of_fault, due_of_lines, due_of_refusal, due_of_rest, due_of_tree, line, plan_refused, unaccepted, written, wrong_setting}
+use Rattle.spmd_answer.specs.declared.source.Behind.{Behind}
+use Rattle.spmd_answer.specs.declared.source.Behind.TheVariants.{Comments, PlanText}
 use Rattle.spmd_answer.specs.declared.status.Status.{Status}
-use Rattle.spmd_answer.specs.declared.status.Status.TheVariants.{Done, SourceRefused, BadWords, ReadFault, WriteFault, NoMemory, TooLong}
-use Rattle.spmd_tool.specs.Due.{AreWrong, AskFor, IsDue, IsRunnable, asked, due_by, due_for, due_with, faulty, first_wrong, is_said, most_bytes, settings_of, shown, too_long, wrong_words}
-use Rattle.spmd_tool.specs.Written.{program_for}
+use Rattle.spmd_answer.specs.declared.status.Status.TheVariants.{Done, SourceRefused, BadWords, ReadFault, WriteFault, NoMemory, PlanRefused, TooLong}
+use Rattle.spmd_answer.proofs.Existence.{first_never, never_none}
+use Rattle.spmd_answer.proofs.Unique.{first_one, one_is_due, refused_or_taken}
+use Rattle.spmd_tool.specs.Due.{AreWrong, AskFor, HasPlan, IsDue, IsDueFor, IsRunnable, IsUnplanned, asked, due_of_form, faulty, first_wrong, is_said, most_bytes, program_for, settings_of, shown, too_long, wrong_words}
 
 -- ---- what words stand for
 
@@ -57,10 +66,15 @@ each_some : {A : Type 0} (P : Due → Type 0) (f : A → Due) (o : Option A) →
 each_some P f None p = tt
 each_some P f (Some x) p = p x
 
+-- what holds of what may not stand behind END
+rest_some : (P : Due → Type 0) (behind : Behind) (bytes : List ℕ) → ((text : List ℕ) → P (record { status = SourceRefused; text = text })) → IfSome (due_of_rest behind bytes) P
+rest_some P Comments bytes p = each_some P _ (first_behind bytes (size_to_end (lines_of bytes))) (λ n. p _)
+rest_some P PlanText bytes p = tt
+
 -- what holds of each refusal of a source, by the statuses that it may have
-refusal_some : (P : Due → Type 0) (bytes : List ℕ) (settings : List (Name × ℤ)) → ((text : List ℕ) → P (record { status = SourceRefused; text = text })) → IfSome (first_fault_in (entries_of bytes) settings) (λ r. P (due_of_fault r)) → IfSome (due_of_refusal bytes settings) P
-refusal_some P bytes settings p faults =
-    let lines : IfSome (due_of_lines bytes) P = or_some P _ _ (each_some P _ (first_line_fault bytes) (λ r. p _)) (each_some P _ (first_behind bytes (size_to_end (lines_of bytes))) (λ n. p _)) in
+refusal_some : (P : Due → Type 0) (behind : Behind) (bytes : List ℕ) (settings : List (Name × ℤ)) → ((text : List ℕ) → P (record { status = SourceRefused; text = text })) → IfSome (first_fault_in (entries_of bytes) settings) (λ r. P (due_of_fault r)) → IfSome (due_of_refusal behind bytes settings) P
+refusal_some P behind bytes settings p faults =
+    let lines : IfSome (due_of_lines behind bytes) P = or_some P _ _ (each_some P _ (first_line_fault bytes) (λ r. p _)) (rest_some P behind bytes p) in
     let tree : Tree = program_in (entries_of bytes) settings in
     let limits : IfSome (due_of_tree tree) P = or_some P _ _ (each_some P _ (first_limit tree) (λ l. p _)) (each_some P _ (outside_of tree) (λ o. p _)) in
     or_some P _ _ lines (or_some P _ _ (map_some P due_of_fault (first_fault_in (entries_of bytes) settings) faults) limits)
@@ -72,6 +86,7 @@ refuses BadWords = true
 refuses ReadFault = false
 refuses WriteFault = false
 refuses NoMemory = false
+refuses PlanRefused = false
 refuses TooLong = false
 
 fault_refuses : (r : Refusal) → refuses (due_of_fault r).status ≡ true
@@ -84,9 +99,9 @@ faults_refuse : (o : Option Refusal) → IfSome o (λ r. refuses (due_of_fault r
 faults_refuse None = tt
 faults_refuse (Some r) = fault_refuses r
 
-refusal_refuses : (bytes : List ℕ) (settings : List (Name × ℤ)) → IfSome (due_of_refusal bytes settings) (λ d. refuses d.status ≡ true)
+refusal_refuses : (behind : Behind) (bytes : List ℕ) (settings : List (Name × ℤ)) → IfSome (due_of_refusal behind bytes settings) (λ d. refuses d.status ≡ true)
 unfolding refuses
-refusal_refuses bytes settings = refusal_some (λ d. refuses d.status ≡ true) bytes settings (λ text. refl) (faults_refuse (first_fault_in (entries_of bytes) settings))
+refusal_refuses behind bytes settings = refusal_some (λ d. refuses d.status ≡ true) behind bytes settings (λ text. refl) (faults_refuse (first_fault_in (entries_of bytes) settings))
 
 refuses-said : (s : Status) → refuses s ≡ true → is_said s ≡ true
 unfolding refuses
@@ -97,28 +112,11 @@ refuses-said TooLong e = refl
 refuses-said ReadFault e = cc
 refuses-said WriteFault e = cc
 refuses-said NoMemory e = cc
+refuses-said PlanRefused e = cc
 
-or_said : (o : Option Due) (d : Due) → IfSome o (λ r. refuses r.status ≡ true) → is_said d.status ≡ true → is_said (unwrap_or o d).status ≡ true
-or_said None d p e = e
-or_said (Some r) d p e = refuses-said r.status p
-
--- a status that is due for a source is one with which a text is due
-source-said : (w : Wanted) (settings : List (Name × ℤ)) (bytes : List ℕ) → is_said (due_of w settings bytes).status ≡ true
-source-said w settings bytes = or_said (due_of_refusal bytes settings) _ (refusal_refuses bytes settings) refl
-
-or_done : (o : Option Due) (d : Due) → IfSome o (λ r. refuses r.status ≡ true) → (unwrap_or o d).status ≡ Done → o ≡ None
-unfolding refuses
-or_done None d p e = refl
-or_done (Some r) d p e = let h : refuses Done ≡ true = subst (λ s. refuses s ≡ true) e p in cc
-
--- with status 0 nothing is refused
-source-done : (w : Wanted) (settings : List (Name × ℤ)) (bytes : List ℕ) → (due_of w settings bytes).status ≡ Done → due_of_refusal bytes settings ≡ None
-source-done w settings bytes e = or_done (due_of_refusal bytes settings) _ (refusal_refuses bytes settings) e
-
--- and then the text is that of the run
-source-text : (w : Wanted) (settings : List (Name × ℤ)) (bytes : List ℕ) → due_of_refusal bytes settings ≡ None
-    → due_of w settings bytes ≡ record { status = Done; text = text_of_run w (program_in (entries_of bytes) settings) }
-source-text w settings bytes e = ap (λ o. unwrap_or o (record { status = Done; text = text_of_run w (program_in (entries_of bytes) settings) })) e
+at_some : (P : Due → Type 0) (o : Option Due) (d : Due) → IfSome o P → o ≡ Some d → P d
+at_some P None d p e = absurd (cc)
+at_some P (Some r) d p e = subst P (let same : r ≡ d = cc in same) p
 
 -- ---- without settings no status 2 is due
 
@@ -130,89 +128,214 @@ either_source : (a b : Option Refusal) → IfSome a (λ r. (due_of_fault r).stat
 either_source None b p q = q
 either_source (Some r) b p q = p
 
-faults-source : (given : Given) (s : Scene) (ps : List SourceStatement) → IfSome (fault_from given s ps) (λ r. (due_of_fault r).status ≡ SourceRefused)
+faults-source : (given : SceneGiven) (s : Scene) (ps : List SourceStatement) → IfSome (fault_from given s ps) (λ r. (due_of_fault r).status ≡ SourceRefused)
 unfolding fault_from
 faults-source given s [] = tt
 faults-source given s (p ∷ ps) =
     either_source _ _ (at_line-source p.line (fault_with given s (length ps) p.label p.reading)) (faults-source given (scene_with given s p.label p.reading) ps)
 
-or_unnamed : (o : Option Due) (d : Due) → IfSome o (λ r. r.status ≡ SourceRefused) → d.status ≡ Done → (unwrap_or o d).status ≢ BadWords
-or_unnamed None d p e b = let h : Done ≡ BadWords = sym e ∙ b in cc
-or_unnamed (Some r) d p e b = let h : SourceRefused ≡ BadWords = sym p ∙ b in cc
-
-source-unnamed : (w : Wanted) (bytes : List ℕ) → (due_of w [] bytes).status ≢ BadWords
-source-unnamed w bytes =
+source-unnamed : (behind : Behind) (bytes : List ℕ) → IfSome (due_of_refusal behind bytes []) (λ d. d.status ≡ SourceRefused)
+source-unnamed behind bytes =
     let statements : List SourceStatement = statements_in (entries_of bytes) in
-    or_unnamed (due_of_refusal bytes []) _
-    (refusal_some (λ d. d.status ≡ SourceRefused) bytes [] (λ text. refl) (either_source _ None (faults-source (given_with statements []) first_scene statements) tt)) refl
+    refusal_some (λ d. d.status ≡ SourceRefused) behind bytes [] (λ text. refl) (either_source _ None (faults-source (given_with statements []) first_scene statements) tt)
 
 -- ---- due for a request
 
-pick : (b : Bool) (d e : Due) (P : Due → Type 0) → (b ≡ true → P d) → (b ≡ false → P e) → P (if b then d else e)
-pick true d e P f g = f refl
-pick false d e P f g = g refl
+abbrev refusal_for : Wanted → List ℕ → Option Due
+refusal_for w bytes = due_of_refusal (behind_of w) bytes (settings_in (settings_of w))
 
--- a source that is too long, or not
-by_length : (w : Wanted) (settings : List (Name × ℤ)) (bytes : List ℕ) (P : Due → Type 0) → (most_bytes < length bytes → P too_long) → (length bytes ≤ most_bytes → P (due_of w settings bytes)) → P (due_with w settings bytes)
-unfolding due_with
-by_length w settings bytes P long short =
-    pick (nat_lt most_bytes (length bytes)) too_long (due_of w settings bytes) P (λ e. long (ltb-true most_bytes (length bytes) e)) (λ e. short (ltb-false most_bytes (length bytes) e))
+-- what is due for a request, by its cases: a wrong setting, too long a source, a refusal of the source, one of the plan, or the text that is asked for
+data Case (w : Wanted) (bytes : List ℕ) (d : Due) : Type 0 where
+  case_wrong : (index : ℕ) (first : first_wrong w ≡ Some index) (is : d ≡ wrong_setting index) → Case w bytes d
+  case_long : (right : first_wrong w ≡ None) (more : most_bytes < length bytes) (is : d ≡ too_long) → Case w bytes d
+  case_refused : (right : first_wrong w ≡ None) (short : length bytes ≤ most_bytes) (r : Due) (first : refusal_for w bytes ≡ Some r) (is : d ≡ r) → Case w bytes d
+  case_unfit : (right : first_wrong w ≡ None) (short : length bytes ≤ most_bytes) (none : refusal_for w bytes ≡ None) (reason : List ℕ) (refusing : IsRefusalFor w (program_for w bytes) (behind_end bytes) reason) (is : d ≡ plan_refused reason) → Case w bytes d
+  case_runs : (right : first_wrong w ≡ None) (short : length bytes ≤ most_bytes) (none : refusal_for w bytes ≡ None) (text : List ℕ) (writes : IsTextFor w (program_for w bytes) (behind_end bytes) text) (is : d ≡ done text) → Case w bytes d
 
--- the words that should be settings are, or not
-by_first : (o : Option ℕ) (w : Wanted) (bytes : List ℕ) (P : Due → Type 0) → ((index : ℕ) → o ≡ Some index → P (wrong_setting index)) → (o ≡ None → P (due_with w (settings_in (settings_of w)) bytes)) → P (due_by o w bytes)
-unfolding due_by
-by_first None w bytes P some none = none refl
-by_first (Some index) w bytes P some none = some index refl
+case_of : (w : Wanted) (bytes : List ℕ) (d : Due) → IsDueFor w bytes d → Case w bytes d
+unfolding IsDueFor
+case_of w bytes d h = by_form (first_wrong w) (nat_lt most_bytes (length bytes)) refl refl h
+  where
+    on_program : first_wrong w ≡ None → length bytes ≤ most_bytes → refusal_for w bytes ≡ None → IsDueOn w (program_for w bytes) (behind_end bytes) d → Case w bytes d
+    on_program right short none (unaccepted reason is e) = case_unfit right short none reason is e
+    on_program right short none (written text is e) = case_runs right short none text is e
 
--- all three
-by_cases : (w : Wanted) (bytes : List ℕ) (P : Due → Type 0) → ((index : ℕ) → first_wrong w ≡ Some index → P (wrong_setting index)) → (first_wrong w ≡ None → most_bytes < length bytes → P too_long)
-    → (first_wrong w ≡ None → length bytes ≤ most_bytes → P (due_of w (settings_in (settings_of w)) bytes)) → P (due_for w bytes)
-by_cases w bytes P wrong long short =
-    by_first (first_wrong w) w bytes P wrong (λ none. by_length w (settings_in (settings_of w)) bytes P (long none) (short none))
+    by_source : (o : Option Due) → first_wrong w ≡ None → length bytes ≤ most_bytes → refusal_for w bytes ≡ o → IsFirstOr o (IsDueOn w (program_for w bytes) (behind_end bytes)) d → Case w bytes d
+    by_source (Some r) right short e h = case_refused right short r e h
+    by_source None right short e h = on_program right short e h
 
-pub request-said : (w : Wanted) (bytes : List ℕ) → is_said (due_for w bytes).status ≡ true
-request-said w bytes = by_cases w bytes (λ d. is_said d.status ≡ true) (λ index e. refl) (λ e more. refl) (λ e few. source-said w (settings_in (settings_of w)) bytes)
+    by_form : (o : Option ℕ) (b : Bool) → first_wrong w ≡ o → nat_lt most_bytes (length bytes) ≡ b
+        → IsFirstOr (option_or (option_map wrong_setting o) (if b then Some too_long else None)) (answer.IsDueOf w (settings_in (settings_of w)) bytes) d → Case w bytes d
+    by_form (Some index) b p q h = case_wrong index p h
+    by_form None true p q h = case_long p (ltb-true most_bytes (length bytes) q) h
+    by_form None false p q h = by_source (refusal_for w bytes) p (ltb-false most_bytes (length bytes) q) refl h
 
--- with status 0 the source may be run, and the text is that of its run
+pub request-said : (w : Wanted) (bytes : List ℕ) (d : Due) → IsDueFor w bytes d → is_said d.status ≡ true
+request-said w bytes d h = by_case (case_of w bytes d h)
+  where
+    by_case : Case w bytes d → is_said d.status ≡ true
+    by_case (case_wrong index first is) = ap (λ x. is_said x.status) is
+    by_case (case_long right more is) = ap (λ x. is_said x.status) is
+    by_case (case_refused right short r first is) =
+        ap (λ x. is_said x.status) is ∙ refuses-said r.status (at_some (λ x. refuses x.status ≡ true) (refusal_for w bytes) r (refusal_refuses (behind_of w) bytes (settings_in (settings_of w))) first)
+    by_case (case_unfit right short none reason refusing is) = ap (λ x. is_said x.status) is
+    by_case (case_runs right short none text writes is) = ap (λ x. is_said x.status) is
+
+-- a plan stands behind END, where one is needed, exactly where a text is due
+plan_of_text : (w : Wanted) (tree : Tree) (bytes text : List ℕ) → IsTextFor w tree bytes text → HasPlan w tree bytes
+plan_of_text (sequential settings) tree bytes text is = tt
+plan_of_text (verify settings) tree bytes text (plan, is, e) = (plan, is)
+plan_of_text (run workers Barrier settings) tree bytes text is = tt
+plan_of_text (run workers Given settings) tree bytes text (plan, is, e) = (plan, is)
+
+plan_or_refusal : (w : Wanted) (tree : Tree) (bytes reason : List ℕ) → HasPlan w tree bytes → IsRefusalFor w tree bytes reason → ⊥
+plan_or_refusal (sequential settings) tree bytes reason has is = is
+plan_or_refusal (verify settings) tree bytes reason (plan, taken) is = refused_or_taken None tree bytes reason plan is taken
+plan_or_refusal (run workers Barrier settings) tree bytes reason has is = is
+plan_or_refusal (run workers Given settings) tree bytes reason (plan, taken) is = refused_or_taken (Some workers) tree bytes reason plan is taken
+
+-- with status 0 the source may be run, and the text is what is asked for
 pub record IsRunOf (w : Wanted) (bytes : List ℕ) (d : Due) : Type 0 where
   pub settings_are : first_wrong w ≡ None
   pub runnable : IsRunnable w bytes
-  pub text_is : d.text ≡ text_of_run w (program_for w bytes)
+  pub is_text : IsTextFor w (program_for w bytes) (behind_end bytes) d.text
 
-pub request-done : (w : Wanted) (bytes : List ℕ) → (due_for w bytes).status ≡ Done → IsRunOf w bytes (due_for w bytes)
-request-done w bytes =
-    by_cases w bytes (λ d. d.status ≡ Done → IsRunOf w bytes d) (λ index e h. absurd (cc)) (λ e more h. absurd (cc))
-    (λ e few h.
-    let none = source-done w (settings_in (settings_of w)) bytes h in
-    record { settings_are = e; runnable = record { short = few; unrefused = none }; text_is = ap (λ d. d.text) (source-text w (settings_in (settings_of w)) bytes none) })
+refuses-done : (d r : Due) → d ≡ r → d.status ≡ Done → refuses r.status ≡ true → ⊥
+unfolding refuses
+refuses-done d r is e h = let f : refuses Done ≡ true = ap refuses (sym e ∙ ap (λ x. x.status) is) ∙ h in cc
+
+pub request-done : (w : Wanted) (bytes : List ℕ) (d : Due) → IsDueFor w bytes d → d.status ≡ Done → IsRunOf w bytes d
+request-done w bytes d h e = by_case (case_of w bytes d h)
+  where
+    by_case : Case w bytes d → IsRunOf w bytes d
+    by_case (case_wrong index first is) = absurd (let f : BadWords ≡ Done = ap (λ x. x.status) (sym is) ∙ e in cc)
+    by_case (case_long right more is) = absurd (let f : TooLong ≡ Done = ap (λ x. x.status) (sym is) ∙ e in cc)
+    by_case (case_refused right short r first is) =
+        absurd (refuses-done d r is e (at_some (λ x. refuses x.status ≡ true) (refusal_for w bytes) r (refusal_refuses (behind_of w) bytes (settings_in (settings_of w))) first))
+    by_case (case_unfit right short none reason refusing is) = absurd (let f : PlanRefused ≡ Done = ap (λ x. x.status) (sym is) ∙ e in cc)
+    by_case (case_runs right short none text writes is) = record {
+      settings_are = right;
+      runnable = record { short = short; unrefused = none; planned = plan_of_text w (program_for w bytes) (behind_end bytes) text writes };
+      is_text = subst (IsTextFor w (program_for w bytes) (behind_end bytes)) (ap (λ x. x.text) (sym is)) writes;
+    }
+
+-- with status 6 the plan is refused, and nothing before it
+pub record IsUnfitOf (w : Wanted) (bytes : List ℕ) (d : Due) : Type 0 where
+  pub settings_are : first_wrong w ≡ None
+  pub unplanned : IsUnplanned w bytes
+  pub reason : List ℕ
+  pub is_reason : IsRefusalFor w (program_for w bytes) (behind_end bytes) reason
+  pub text_is : d.text ≡ line reason
+
+refuses-plan : (d r : Due) → d ≡ r → d.status ≡ PlanRefused → refuses r.status ≡ true → ⊥
+unfolding refuses
+refuses-plan d r is e h = let f : refuses PlanRefused ≡ true = ap refuses (sym e ∙ ap (λ x. x.status) is) ∙ h in cc
+
+pub request-unfit : (w : Wanted) (bytes : List ℕ) (d : Due) → IsDueFor w bytes d → d.status ≡ PlanRefused → IsUnfitOf w bytes d
+request-unfit w bytes d h e = by_case (case_of w bytes d h)
+  where
+    by_case : Case w bytes d → IsUnfitOf w bytes d
+    by_case (case_wrong index first is) = absurd (let f : BadWords ≡ PlanRefused = ap (λ x. x.status) (sym is) ∙ e in cc)
+    by_case (case_long right more is) = absurd (let f : TooLong ≡ PlanRefused = ap (λ x. x.status) (sym is) ∙ e in cc)
+    by_case (case_refused right short r first is) =
+        absurd (refuses-plan d r is e (at_some (λ x. refuses x.status ≡ true) (refusal_for w bytes) r (refusal_refuses (behind_of w) bytes (settings_in (settings_of w))) first))
+    by_case (case_unfit right short none reason is_reason is) = record {
+      settings_are = right;
+      unplanned = record { short = short; unrefused = none; unplanned = λ has. plan_or_refusal w (program_for w bytes) (behind_end bytes) reason has is_reason };
+      reason = reason;
+      is_reason = is_reason;
+      text_is = ap (λ x. x.text) is;
+    }
+    by_case (case_runs right short none text writes is) = absurd (let f : Done ≡ PlanRefused = ap (λ x. x.status) (sym is) ∙ e in cc)
 
 -- with status 1 it was read
-pub request-refused : (w : Wanted) (bytes : List ℕ) → (due_for w bytes).status ≡ SourceRefused → first_wrong w ≡ None
-request-refused w bytes = by_cases w bytes (λ d. d.status ≡ SourceRefused → first_wrong w ≡ None) (λ index e h. absurd (cc)) (λ e more h. e) (λ e few h. e)
+pub request-refused : (w : Wanted) (bytes : List ℕ) (d : Due) → IsDueFor w bytes d → d.status ≡ SourceRefused → first_wrong w ≡ None
+request-refused w bytes d h e = by_case (case_of w bytes d h)
+  where
+    by_case : Case w bytes d → first_wrong w ≡ None
+    by_case (case_wrong index first is) = absurd (let f : BadWords ≡ SourceRefused = ap (λ x. x.status) (sym is) ∙ e in cc)
+    by_case (case_long right more is) = right
+    by_case (case_refused right short r first is) = right
+    by_case (case_unfit right short none reason refusing is) = right
+    by_case (case_runs right short none text writes is) = right
 
 -- a word that should be a setting and is none
-pub request-wrong : (w : Wanted) (bytes : List ℕ) (n : ℕ) → first_wrong w ≡ Some n → due_for w bytes ≡ wrong_setting n
-unfolding due_by
-request-wrong w bytes n e = ap (λ o. due_by o w bytes) e
+pub request-wrong : (w : Wanted) (bytes : List ℕ) (d : Due) (n : ℕ) → IsDueFor w bytes d → first_wrong w ≡ Some n → d ≡ wrong_setting n
+request-wrong w bytes d n h e = by_case (case_of w bytes d h)
+  where
+    wrong_or_right : first_wrong w ≡ None → d ≡ wrong_setting n
+    wrong_or_right right = absurd (let f : Some n ≡ None = sym e ∙ right in cc)
 
-pub request-long : (w : Wanted) (bytes : List ℕ) → first_wrong w ≡ None → most_bytes < length bytes → due_for w bytes ≡ too_long
-request-long w bytes e more =
-    by_cases w bytes (λ d. d ≡ too_long) (λ index some. absurd (let h : Some index ≡ None = sym some ∙ e in cc)) (λ none more. refl) (λ none few. absurd (omega arith))
-
-pub request-short : (w : Wanted) (bytes : List ℕ) → first_wrong w ≡ None → length bytes ≤ most_bytes → due_for w bytes ≡ due_of w (settings_in (settings_of w)) bytes
-request-short w bytes e few =
-    by_cases w bytes (λ d. d ≡ due_of w (settings_in (settings_of w)) bytes) (λ index some. absurd (let h : Some index ≡ None = sym some ∙ e in cc)) (λ none more. absurd (omega arith)) (λ none short. refl)
+    by_case : Case w bytes d → d ≡ wrong_setting n
+    by_case (case_wrong index first is) = is ∙ ap wrong_setting (let f : Some index ≡ Some n = sym first ∙ e in let same : index ≡ n = cc in same)
+    by_case (case_long right more is) = wrong_or_right right
+    by_case (case_refused right short r first is) = wrong_or_right right
+    by_case (case_unfit right short none reason refusing is) = wrong_or_right right
+    by_case (case_runs right short none text writes is) = wrong_or_right right
 
 -- a source that may be run is
-pub request-runs : (w : Wanted) (bytes : List ℕ) → first_wrong w ≡ None → IsRunnable w bytes → (due_for w bytes).status ≡ Done
-request-runs w bytes e r =
-    ap (λ d. d.status) (request-short w bytes e r.short ∙ source-text w (settings_in (settings_of w)) bytes r.unrefused)
+pub request-runs : (w : Wanted) (bytes : List ℕ) (d : Due) → IsDueFor w bytes d → first_wrong w ≡ None → IsRunnable w bytes → d.status ≡ Done
+request-runs w bytes d h e r = by_case (case_of w bytes d h)
+  where
+    by_case : Case w bytes d → d.status ≡ Done
+    by_case (case_wrong index first is) = absurd (let f : Some index ≡ None = sym first ∙ e in cc)
+    by_case (case_long right more is) = absurd (let short = r.short in omega arith)
+    by_case (case_refused right short x first is) = absurd (let f : Some x ≡ None = sym first ∙ r.unrefused in cc)
+    by_case (case_unfit right short none reason refusing is) = absurd (plan_or_refusal w (program_for w bytes) (behind_end bytes) reason r.planned refusing)
+    by_case (case_runs right short none text writes is) = ap (λ x. x.status) is
 
-pub request-unnamed : (w : Wanted) (bytes : List ℕ) → settings_of w ≡ [] → (due_for w bytes).status ≢ BadWords
-request-unnamed w bytes none =
-    by_cases w bytes (λ d. d.status ≢ BadWords)
-    (λ index some b. let h : None ≡ Some index = sym (ap (first_fault_from 1) none) ∙ some in absurd (cc)) (λ e more b. absurd (cc))
-    (λ e few b. source-unnamed w bytes (subst (λ words. (due_of w (settings_in words) bytes).status ≡ BadWords) none b))
+-- and one without its plan has status 6
+pub request-unplanned : (w : Wanted) (bytes : List ℕ) (d : Due) → IsDueFor w bytes d → first_wrong w ≡ None → IsUnplanned w bytes → d.status ≡ PlanRefused
+request-unplanned w bytes d h e r = by_case (case_of w bytes d h)
+  where
+    by_case : Case w bytes d → d.status ≡ PlanRefused
+    by_case (case_wrong index first is) = absurd (let f : Some index ≡ None = sym first ∙ e in cc)
+    by_case (case_long right more is) = absurd (let short = r.short in omega arith)
+    by_case (case_refused right short x first is) = absurd (let f : Some x ≡ None = sym first ∙ r.unrefused in cc)
+    by_case (case_unfit right short none reason refusing is) = ap (λ x. x.status) is
+    by_case (case_runs right short none text writes is) = absurd (r.unplanned (plan_of_text w (program_for w bytes) (behind_end bytes) text writes))
+
+pub request-unnamed : (w : Wanted) (bytes : List ℕ) (d : Due) → IsDueFor w bytes d → settings_of w ≡ [] → d.status ≢ BadWords
+request-unnamed w bytes d h none b = by_case (case_of w bytes d h)
+  where
+    by_case : Case w bytes d → ⊥
+    by_case (case_wrong index first is) = let f : None ≡ Some index = sym (ap (first_fault_from 1) none) ∙ first in cc
+    by_case (case_long right more is) = let f : TooLong ≡ BadWords = ap (λ x. x.status) (sym is) ∙ b in cc
+    by_case (case_refused right short r first is) =
+        let source : r.status ≡ SourceRefused = at_some (λ x. x.status ≡ SourceRefused) (due_of_refusal (behind_of w) bytes []) r (source-unnamed (behind_of w) bytes) (subst (λ words. due_of_refusal (behind_of w) bytes (settings_in words) ≡ Some r) none first) in
+        let f : SourceRefused ≡ BadWords = sym source ∙ (ap (λ x. x.status) (sym is) ∙ b) in cc
+    by_case (case_unfit right short nothing reason refusing is) = let f : PlanRefused ≡ BadWords = ap (λ x. x.status) (sym is) ∙ b in cc
+    by_case (case_runs right short nothing text writes is) = let f : Done ≡ BadWords = ap (λ x. x.status) (sym is) ∙ b in cc
+
+-- one status with one text is due for a request
+one_for : (w : Wanted) (bytes : List ℕ) (a b : Due) → IsDueFor w bytes a → IsDueFor w bytes b → a ≡ b
+unfolding IsDueFor
+one_for w bytes a b = first_one (due_of_form w bytes) (answer.IsDueOf w (settings_in (settings_of w)) bytes) a b (one_is_due w (settings_in (settings_of w)) bytes a b)
+
+-- ---- what was found is due
+
+pub for_wrong : (w : Wanted) (bytes : List ℕ) (d : Due) (n : ℕ) → first_wrong w ≡ Some n → d ≡ wrong_setting n → IsDueFor w bytes d
+unfolding IsDueFor
+for_wrong w bytes d n e is = by_form (first_wrong w) e
+  where
+    by_form : (o : Option ℕ) → o ≡ Some n → IsFirstOr (option_or (option_map wrong_setting o) (if nat_lt most_bytes (length bytes) then Some too_long else None)) (answer.IsDueOf w (settings_in (settings_of w)) bytes) d
+    by_form (Some index) p = is ∙ ap wrong_setting (let same : n ≡ index = cc in same)
+    by_form None p = absurd (cc)
+
+pub for_form : (w : Wanted) (bytes : List ℕ) (d : Due) (b : Bool) → first_wrong w ≡ None → nat_lt most_bytes (length bytes) ≡ b
+    → IsFirstOr (if b then Some too_long else None) (answer.IsDueOf w (settings_in (settings_of w)) bytes) d → IsDueFor w bytes d
+unfolding IsDueFor
+for_form w bytes d b e q h = by_form (first_wrong w) (nat_lt most_bytes (length bytes)) e q
+  where
+    by_form : (o : Option ℕ) (c : Bool) → o ≡ None → c ≡ b → IsFirstOr (option_or (option_map wrong_setting o) (if c then Some too_long else None)) (answer.IsDueOf w (settings_in (settings_of w)) bytes) d
+    by_form (Some index) c p s = absurd (cc)
+    by_form None c p s = subst (λ (x : Bool). IsFirstOr (if x then Some too_long else None) (answer.IsDueOf w (settings_in (settings_of w)) bytes) d) (sym s) h
+
+pub for_long : (w : Wanted) (bytes : List ℕ) (d : Due) → first_wrong w ≡ None → most_bytes < length bytes → d ≡ too_long → IsDueFor w bytes d
+for_long w bytes d e more is = for_form w bytes d true e (grind (arith, nat_tests)) is
+
+pub for_source : (w : Wanted) (bytes : List ℕ) (d : Due) → first_wrong w ≡ None → length bytes ≤ most_bytes → answer.IsDueOf w (settings_in (settings_of w)) bytes d → IsDueFor w bytes d
+for_source w bytes d e short is = for_form w bytes d false e (grind (arith, nat_tests)) is
 
 -- ---- due for words
 
@@ -227,7 +350,7 @@ one_status words bytes a b (faulty are e) (asked w takes e') = absurd (taken_or_
 one_status words bytes a b (asked w takes e) (shown asks s) = absurd (taken_or_shown words w takes asks)
 one_status words bytes a b (asked w takes e) (faulty are e') = absurd (taken_or_faulty words w takes are)
 one_status words bytes a b (asked v takes e) (asked w takes' e') =
-    ap (λ d. d.status) (e ∙ ap (λ u. due_for u bytes) (one_request words v w takes takes') ∙ sym e')
+    ap (λ d. d.status) (one_for w bytes a b (subst (λ u. IsDueFor u bytes a) (one_request words v w takes takes') e) e')
 
 -- and one text, where they ask for nothing to be shown
 pub one_due : (words : List Text) (bytes : List ℕ) (a b : Due) → asks_to_show words ≡ false → IsDue words bytes a → IsDue words bytes b → a ≡ b
@@ -237,12 +360,13 @@ one_due words bytes a b quiet (faulty are e) (faulty are' e') = e ∙ sym e'
 one_due words bytes a b quiet (faulty are e) (asked w takes e') = absurd (taken_or_faulty words w takes are)
 one_due words bytes a b quiet (asked w takes e) (shown asks s) = absurd (taken_or_shown words w takes asks)
 one_due words bytes a b quiet (asked w takes e) (faulty are e') = absurd (taken_or_faulty words w takes are)
-one_due words bytes a b quiet (asked v takes e) (asked w takes' e') =
-    e ∙ ap (λ u. due_for u bytes) (one_request words v w takes takes') ∙ sym e'
+one_due words bytes a b quiet (asked v takes e) (asked w takes' e') = one_for w bytes a b (subst (λ u. IsDueFor u bytes a) (one_request words v w takes takes') e) e'
 
 -- for words that stand for a request what is due for it
-pub asked-due : (words : List Text) (bytes : List ℕ) (w : Wanted) (d : Due) → Takes words w → IsDue words bytes d → d ≡ due_for w bytes
-asked-due words bytes w d takes due = one_due words bytes d (due_for w bytes) (taken-unshown words w takes) due (asked w takes refl)
+pub asked-due : (words : List Text) (bytes : List ℕ) (w : Wanted) (d : Due) → Takes words w → IsDue words bytes d → IsDueFor w bytes d
+asked-due words bytes w d takes (shown asks s) = absurd (taken_or_shown words w takes asks)
+asked-due words bytes w d takes (faulty are e) = absurd (taken_or_faulty words w takes are)
+asked-due words bytes w d takes (asked v takes' e) = subst (λ u. IsDueFor u bytes d) (one_request words v w takes' takes) e
 
 -- for words that ask for it help or the version
 pub shown-due : (words : List Text) (bytes : List ℕ) (d : Due) → asks_to_show words ≡ true → IsDue words bytes d → d.status ≡ Done
@@ -253,7 +377,7 @@ pub wrong-due : (words : List Text) (bytes : List ℕ) (d : Due) → AreWrong wo
 wrong-due words bytes d wrong due =
     ⊎_elim (λ are. one_status words bytes d wrong_words due (faulty are refl))
     (λ (some : (w : Wanted) × (index : ℕ) × Takes words w × (first_wrong w ≡ Some index)).
-    ap (λ e. e.status) (asked-due words bytes some.0 d some.2 due ∙ request-wrong some.0 bytes some.1 some.3)) wrong
+    ap (λ e. e.status) (request-wrong some.0 bytes d some.1 (asked-due words bytes some.0 d some.2 due) some.3)) wrong
 
 -- wrong words stand for no request with right settings
 pub wrong_or_asked : (words : List Text) (w : Wanted) → AreWrong words → AskFor words w → ⊥
@@ -267,13 +391,19 @@ pub refused-asks : (words : List Text) (bytes : List ℕ) (d : Due) → IsDue wo
 refused-asks words bytes d (shown asks s) e = absurd (let h : Done ≡ SourceRefused = sym s ∙ e in cc)
 refused-asks words bytes d (faulty are f) e = absurd (let h : BadWords ≡ SourceRefused = ap (λ x. x.status) (sym f) ∙ e in cc)
 refused-asks words bytes d (asked w takes f) e =
-    (w, record { takes = takes; settings_are = request-refused w bytes (ap (λ x. x.status) (sym f) ∙ e) })
+    (w, record { takes = takes; settings_are = request-refused w bytes d f e })
+
+-- and status 6
+pub unfit-asks : (words : List Text) (bytes : List ℕ) (d : Due) → IsDue words bytes d → d.status ≡ PlanRefused → (w : Wanted) × AskFor words w
+unfit-asks words bytes d (shown asks s) e = absurd (let h : Done ≡ PlanRefused = sym s ∙ e in cc)
+unfit-asks words bytes d (faulty are f) e = absurd (let h : BadWords ≡ PlanRefused = ap (λ x. x.status) (sym f) ∙ e in cc)
+unfit-asks words bytes d (asked w takes f) e = (w, record { takes = takes; settings_are = (request-unfit w bytes d f e).settings_are })
 
 -- a text is due with each status that is due
 pub due-said : (words : List Text) (bytes : List ℕ) (d : Due) → IsDue words bytes d → is_said d.status ≡ true
 due-said words bytes d (shown asks s) = ap is_said s
 due-said words bytes d (faulty are e) = ap (λ x. is_said x.status) e
-due-said words bytes d (asked w takes e) = ap (λ x. is_said x.status) e ∙ request-said w bytes
+due-said words bytes d (asked w takes e) = request-said w bytes d e
 
 -- ---- at least one
 
@@ -285,16 +415,55 @@ option_cases : (o : Option Wanted) → (o ≡ None) ⊎ ((w : Wanted) × (o ≡ 
 option_cases None = inl refl
 option_cases (Some w) = inr (w, refl)
 
--- some status and text are due
-pub some_due : (words : List Text) (bytes : List ℕ) → (due : Due) × IsDue words bytes due
-some_due words bytes =
+-- a refusal, or else something that is due without
+first_some : (o : Option Due) (IsElse : Due → Type 0) → (d : Due) × IsElse d → (d : Due) × IsFirstOr o IsElse d
+first_some None IsElse some = some
+first_some (Some r) IsElse some = (r, refl)
+
+on_program : (w : Wanted) (tree : Tree) (bytes : List ℕ) → behind_of w ≡ Comments → (d : Due) × IsDueOn w tree bytes d
+on_program (sequential settings) tree bytes e = (done (output_of tree), written (output_of tree) refl refl)
+on_program (verify settings) tree bytes e = absurd (cc)
+on_program (run workers Barrier settings) tree bytes e =
+    let text = plan_text (serial_plan workers tree) ++ output_of tree in
+    (done text, written text (serial_plan workers tree, refl, refl) refl)
+on_program (run workers Given settings) tree bytes e = absurd (cc)
+
+some_for : (w : Wanted) (bytes : List ℕ) → behind_of w ≡ Comments → (d : Due) × IsDueFor w bytes d
+unfolding IsDueFor
+some_for w bytes e =
+    first_some (due_of_form w bytes) (answer.IsDueOf w (settings_in (settings_of w)) bytes)
+    (first_some (refusal_for w bytes) (IsDueOn w (program_for w bytes) (behind_end bytes)) (on_program w (program_for w bytes) (behind_end bytes) e))
+
+-- some status and text are due, where no plan may stand behind END
+pub some_due : (words : List Text) (bytes : List ℕ) → ((w : Wanted) → Takes words w → behind_of w ≡ Comments) → (due : Due) × IsDue words bytes due
+some_due words bytes bare =
     ⊎_elim (λ (asks : asks_to_show words ≡ true). (record { status = Done; text = [] }, shown asks refl))
     (λ (quiet : asks_to_show words ≡ false).
     ⊎_elim
     (λ (fine : fault_of tool_app words ≡ []).
     ⊎_elim (λ (none : wanted_by (subcommand_of tool_app words) ≡ None). (wrong_words, faulty (quiet, inr none) refl))
-    (λ (some : (w : Wanted) × (wanted_by (subcommand_of tool_app words) ≡ Some w)). (due_for some.0 bytes, asked some.0 (fine, some.1) refl))
+    (λ (some : (w : Wanted) × (wanted_by (subcommand_of tool_app words) ≡ Some w)).
+    let found = some_for some.0 bytes (bare some.0 (fine, some.1)) in
+    (found.0, asked some.0 (fine, some.1) found.1))
     (option_cases (wanted_by (subcommand_of tool_app words))))
     (λ (fault : fault_of tool_app words ≢ []). (wrong_words, faulty (quiet, inl fault) refl))
+    (list_cases (fault_of tool_app words)))
+    (cases_Bool (asks_to_show words))
+
+never_for : (w : Wanted) (bytes : List ℕ) → ((d : Due) → IsDueFor w bytes d → ⊥) → ⊥
+unfolding IsDueFor
+never_for w bytes = first_never (due_of_form w bytes) (answer.IsDueOf w (settings_in (settings_of w)) bytes) (never_none w (settings_in (settings_of w)) bytes)
+
+-- for no words and bytes nothing is due
+pub never_due : (words : List Text) (bytes : List ℕ) → ((due : Due) → IsDue words bytes due → ⊥) → ⊥
+never_due words bytes none =
+    ⊎_elim (λ (asks : asks_to_show words ≡ true). none (record { status = Done; text = [] }) (shown asks refl))
+    (λ (quiet : asks_to_show words ≡ false).
+    ⊎_elim
+    (λ (fine : fault_of tool_app words ≡ []).
+    ⊎_elim (λ (no : wanted_by (subcommand_of tool_app words) ≡ None). none wrong_words (faulty (quiet, inr no) refl))
+    (λ (some : (w : Wanted) × (wanted_by (subcommand_of tool_app words) ≡ Some w)). never_for some.0 bytes (λ d is. none d (asked some.0 (fine, some.1) is)))
+    (option_cases (wanted_by (subcommand_of tool_app words))))
+    (λ (fault : fault_of tool_app words ≢ []). none wrong_words (faulty (quiet, inl fault) refl))
     (list_cases (fault_of tool_app words)))
     (cases_Bool (asks_to_show words))

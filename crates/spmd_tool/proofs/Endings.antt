@@ -5,11 +5,11 @@ use Rattle.clap.specs.Words.{Text}
 use Rattle.command_words.specs.Wanted.{Wanted, Takes}
 use Rattle.spmd_answer.specs.Due.{Due}
 use Rattle.spmd_answer.specs.declared.status.Status.{Status}
-use Rattle.spmd_answer.specs.declared.status.Status.TheVariants.{Done, SourceRefused, BadWords, ReadFault, WriteFault, NoMemory, TooLong}
-use Rattle.spmd_tool.specs.Due.{AreWrong, AskFor, IsDue, IsRunnable, asked, due_for, is_said, settings_of}
+use Rattle.spmd_answer.specs.declared.status.Status.TheVariants.{Done, SourceRefused, BadWords, ReadFault, WriteFault, NoMemory, PlanRefused, TooLong}
+use Rattle.spmd_tool.specs.Due.{AreWrong, AskFor, IsDue, IsRunnable, IsUnplanned, is_said, settings_of}
 use Rattle.spmd_tool.specs.Outside.{WhereTold}
-use Rattle.spmd_tool.specs.Written.{IsDueFrom, WritesDue, WritesRun}
-use Rattle.spmd_tool.proofs.Dues.{asked-due, one_status, refused-asks, request-done, request-runs, request-unnamed, wrong-due}
+use Rattle.spmd_tool.specs.Written.{IsDueFrom, WritesDue, WritesRefusal, WritesRun}
+use Rattle.spmd_tool.proofs.Dues.{asked-due, one_status, refused-asks, request-done, request-runs, request-unfit, request-unnamed, request-unplanned, unfit-asks, wrong-due}
 use Rattle.spmd_tool.proofs.Told.{at_told}
 
 not_fault : (r : Status) → is_said r ≡ true → r ≢ WriteFault
@@ -33,13 +33,14 @@ said-due words told status r text t a b is e outcome said h =
 run-due : (words : List Text) (w : Wanted) (told a b : Option (List ℕ)) → Takes words w → WritesDue words told Done a b → WritesRun w told a b
 run-due words w told a b takes wrote =
     let bytes = wrote.due.bytes in
-    let e = asked-due words bytes w (due Done wrote.text) takes wrote.due.is_due in
-    let run = request-done w bytes (ap (λ d. d.status) (sym e)) in
+    let run = request-done w bytes (due Done wrote.text) (asked-due words bytes w (due Done wrote.text) takes wrote.due.is_due) refl in
     record {
       bytes = bytes;
       told = wrote.due.told;
       runnable = run.runnable;
-      written = subst (λ (t : List ℕ). Appends a b t) (ap (λ d. d.text) e ∙ run.text_is) wrote.written;
+      text = wrote.text;
+      is_text = run.is_text;
+      written = wrote.written;
     }
 
 pub run-said : (words : List Text) (told : Option (List ℕ)) (status r : Status) (text t : List ℕ) (w : Wanted) (a b : Option (List ℕ))
@@ -47,16 +48,40 @@ pub run-said : (words : List Text) (told : Option (List ℕ)) (status r : Status
 run-said words told status r text t w a b is q outcome said takes e =
     run-due words w told a b takes (subst (λ (s : Status). WritesDue words told s a b) e (said-due words told status r text t a b is q outcome said (ap is_said e)))
 
+-- what was written with status 6 is the line with which the plan is refused
+unfit-due : (words : List Text) (w : Wanted) (told a b : Option (List ℕ)) → Takes words w → WritesDue words told PlanRefused a b → WritesRefusal w told a b
+unfit-due words w told a b takes wrote =
+    let bytes = wrote.due.bytes in
+    let unfit = request-unfit w bytes (due PlanRefused wrote.text) (asked-due words bytes w (due PlanRefused wrote.text) takes wrote.due.is_due) refl in
+    record {
+      bytes = bytes;
+      told = wrote.due.told;
+      unplanned = unfit.unplanned;
+      reason = unfit.reason;
+      is_reason = unfit.is_reason;
+      written = subst (λ (t : List ℕ). Appends a b t) unfit.text_is wrote.written;
+    }
+
+pub unfit-said : (words : List Text) (told : Option (List ℕ)) (status r : Status) (text t : List ℕ) (w : Wanted) (a b : Option (List ℕ))
+    → IsDueFrom words told (due status text) → t ≡ text → (r ≢ WriteFault → r ≡ status) → (r ≢ WriteFault → Appends a b t) → Takes words w → r ≡ PlanRefused → WritesRefusal w told a b
+unfit-said words told status r text t w a b is q outcome said takes e =
+    unfit-due words w told a b takes (subst (λ (s : Status). WritesDue words told s a b) e (said-due words told status r text t a b is q outcome said (ap is_said e)))
+
 -- the status that is due
 pub status-exact : (words : List Text) (told : Option (List ℕ)) (d : Due) (r : Status) (P : Status → Status → Type 0) → IsDueFrom words told d → ((s : Status) → s ≡ d.status → P s r) → WhereTold told (λ bytes. (e : Due) → IsDue words bytes e → P e.status r)
 status-exact words told d r P is p = at_told told is.bytes _ is.told (λ e due. p e.status (one_status words is.bytes e d due is.is_due))
 
 -- so with a source that may be run
-pub where_runnable : (words : List Text) (told : Option (List ℕ)) (r : Status) (P : Status → Status → Type 0) → WhereTold told (λ bytes. (e : Due) → IsDue words bytes e → P e.status r)
+pub where_runnable : (words : List Text) (told : Option (List ℕ)) (d : Due) (r : Status) (P : Status → Status → Type 0) → IsDueFrom words told d → ((s : Status) → s ≡ d.status → P s r)
     → WhereTold told (λ bytes. (w : Wanted) → AskFor words w → IsRunnable w bytes → P Done r)
-where_runnable words None r P h = tt
-where_runnable words (Some bytes) r P h =
-    λ w ask runnable. subst (λ (s : Status). P s r) (request-runs w bytes ask.settings_are runnable) (h (due_for w bytes) (asked w ask.takes refl))
+where_runnable words told d r P is p =
+    at_told told is.bytes _ is.told (λ w ask runnable. p Done (sym (request-runs w is.bytes d (asked-due words is.bytes w d ask.takes is.is_due) ask.settings_are runnable)))
+
+-- and with one without its plan
+pub where_unplanned : (words : List Text) (told : Option (List ℕ)) (d : Due) (r : Status) (P : Status → Status → Type 0) → IsDueFrom words told d → ((s : Status) → s ≡ d.status → P s r)
+    → WhereTold told (λ bytes. (w : Wanted) → AskFor words w → IsUnplanned w bytes → P PlanRefused r)
+where_unplanned words told d r P is p =
+    at_told told is.bytes _ is.told (λ w ask unplanned. p PlanRefused (sym (request-unplanned w is.bytes d (asked-due words is.bytes w d ask.takes is.is_due) ask.settings_are unplanned)))
 
 pub where_each : (told : Option (List ℕ)) (P : List ℕ → Type 0) → ((bytes : List ℕ) → P bytes) → WhereTold told P
 where_each None P h = tt
@@ -68,15 +93,18 @@ from-wrong words told d is wrong = wrong-due words is.bytes d wrong is.is_due
 pub from-refused : (words : List Text) (told : Option (List ℕ)) (d : Due) → IsDueFrom words told d → d.status ≡ SourceRefused → (w : Wanted) × AskFor words w
 from-refused words told d is e = refused-asks words is.bytes d is.is_due e
 
+pub from-unfit : (words : List Text) (told : Option (List ℕ)) (d : Due) → IsDueFrom words told d → d.status ≡ PlanRefused → (w : Wanted) × AskFor words w
+from-unfit words told d is e = unfit-asks words is.bytes d is.is_due e
+
 -- with status 0 the settings have the form of settings
 pub from-done : (words : List Text) (told : Option (List ℕ)) (d : Due) (w : Wanted) → IsDueFrom words told d → Takes words w → d.status ≡ Done → AskFor words w
 from-done words told d w is takes e =
-    let run = request-done w is.bytes (ap (λ x. x.status) (sym (asked-due words is.bytes w d takes is.is_due)) ∙ e) in
+    let run = request-done w is.bytes d (asked-due words is.bytes w d takes is.is_due) e in
     record { takes = takes; settings_are = run.settings_are }
 
 pub from-unnamed : (words : List Text) (told : Option (List ℕ)) (d : Due) (w : Wanted) → IsDueFrom words told d → AskFor words w → settings_of w ≡ [] → d.status ≢ BadWords
 from-unnamed words told d w is ask none e =
-    request-unnamed w is.bytes none (ap (λ x. x.status) (sym (asked-due words is.bytes w d ask.takes is.is_due)) ∙ e)
+    request-unnamed w is.bytes d (asked-due words is.bytes w d ask.takes is.is_due) none e
 
 -- the status that was found, or that a write failed
 pub said_or_fault : (r s : Status) → (r ≢ WriteFault → r ≡ s) → (r ≡ s) ⊎ ((r ≡ WriteFault) ⊎ (r ≡ NoMemory))
@@ -86,4 +114,5 @@ said_or_fault SourceRefused s h = inl (h (λ e. absurd (cc)))
 said_or_fault BadWords s h = inl (h (λ e. absurd (cc)))
 said_or_fault ReadFault s h = inl (h (λ e. absurd (cc)))
 said_or_fault NoMemory s h = inl (h (λ e. absurd (cc)))
+said_or_fault PlanRefused s h = inl (h (λ e. absurd (cc)))
 said_or_fault TooLong s h = inl (h (λ e. absurd (cc)))

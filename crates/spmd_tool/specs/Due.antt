@@ -1,12 +1,19 @@
 -- What is due for a command: the status and the text, from its words and the bytes of the source alone.
-use Rattle.std.specs.Prelude.{ℕ, ℤ, ◌≡◌, ◌≤◌, ◌⊎◌, Bool, true, false, List, length, codes, Option, Some, None, nat_lt, if◌then◌else◌}
-use Rattle.f77_scene.specs.Scene.{Name}
+use Rattle.std.specs.Prelude.{ℕ, ◌≡◌, ◌≤◌, ◌⊎◌, ⊤, Bool, true, false, List, length, codes, Option, Some, None, nat_lt, if◌then◌else◌}
+use Rattle.std.specs.Option.{option_map, option_or}
+use Rattle.nest_tree.specs.Tree.{Tree}
+use Rattle.f77_lines.specs.Listing.{entries_of}
+use Rattle.f77_scene.specs.Reading.{program_in}
+use Rattle.sync_plan.specs.declared.plan.Plan.{Plan}
 use Rattle.clap.specs.Words.{Text}
 use Rattle.command_words.specs.Settings.{first_fault_from, settings_in}
-use Rattle.command_words.specs.Wanted.{Wanted, sequential, run, Takes, AreFaulty, asks_to_show}
-use Rattle.spmd_answer.specs.Due.{Due, line, due_of, due_of_refusal, wrong_setting}
+use Rattle.command_words.specs.Wanted.{Wanted, sequential, verify, run, Takes, AreFaulty, asks_to_show}
+use Rattle.command_words.specs.declared.request.PlanChoice.TheVariants.{Barrier, Given}
+use Rattle.spmd_answer.specs.Due as answer
+use Rattle.spmd_answer.specs.Due.{Due, IsFirstOr, behind_end, behind_of, due_of_refusal, line, wrong_setting}
+use Rattle.spmd_answer.specs.Given.{IsTakenPlan}
 use Rattle.spmd_answer.specs.declared.status.Status.{Status}
-use Rattle.spmd_answer.specs.declared.status.Status.TheVariants.{Done, SourceRefused, BadWords, ReadFault, WriteFault, NoMemory, TooLong}
+use Rattle.spmd_answer.specs.declared.status.Status.TheVariants.{Done, SourceRefused, BadWords, ReadFault, WriteFault, NoMemory, PlanRefused, TooLong}
 
 -- the most bytes of a source
 abbrev pub most_bytes : ℕ
@@ -15,6 +22,7 @@ most_bytes = 4194304
 -- the words of a request that are to be settings
 abbrev pub settings_of : Wanted → List Text
 settings_of (sequential settings) = settings
+settings_of (verify settings) = settings
 settings_of (run workers plan settings) = settings
 
 -- due with a source of too many bytes
@@ -25,27 +33,22 @@ too_long = record { status = TooLong; text = line (codes "TOO LONG") }
 abbrev pub wrong_words : Due
 wrong_words = record { status = BadWords; text = line (codes "WORDS 0") }
 
--- due for a request with these settings, from all bytes of the source
-unfoldable pub due_with : Wanted → List (Name × ℤ) → List ℕ → Due
-due_with wanted settings bytes = if nat_lt most_bytes (length bytes) then too_long else due_of wanted settings bytes
-
--- due for a request, by the number of its first word that should be a setting and is none
-unfoldable pub due_by : Option ℕ → Wanted → List ℕ → Due
-due_by (Some index) wanted bytes = wrong_setting index
-due_by None wanted bytes = due_with wanted (settings_in (settings_of wanted)) bytes
-
 abbrev pub first_wrong : Wanted → Option ℕ
 first_wrong wanted = first_fault_from 1 (settings_of wanted)
 
--- due for a request, from all bytes of the source
-abbrev pub due_for : Wanted → List ℕ → Due
-due_for wanted bytes = due_by (first_wrong wanted) wanted bytes
+-- due with the first word that should be a setting and is none, or else with a source of too many bytes
+abbrev pub due_of_form : Wanted → List ℕ → Option Due
+due_of_form wanted bytes = option_or (option_map wrong_setting (first_wrong wanted)) (if nat_lt most_bytes (length bytes) then Some too_long else None)
+
+-- Due for a request, from all bytes of the source.
+unfoldable pub IsDueFor : Wanted → List ℕ → Due → Type 0
+IsDueFor wanted bytes due = IsFirstOr (due_of_form wanted bytes) (answer.IsDueOf wanted (settings_in (settings_of wanted)) bytes) due
 
 -- What is due for words and bytes: help or the version, whose text is left open; the refusal of words that are none that is offered; or what is due for the request that they stand for.
 pub data IsDue (words : List Text) (bytes : List ℕ) (due : Due) : Type 0 where
   shown : (asks : asks_to_show words ≡ true) (status_is : due.status ≡ Done) → IsDue words bytes due
   faulty : (are : AreFaulty words) (due_is : due ≡ wrong_words) → IsDue words bytes due
-  asked : (wanted : Wanted) (takes : Takes words wanted) (due_is : due ≡ due_for wanted bytes) → IsDue words bytes due
+  asked : (wanted : Wanted) (takes : Takes words wanted) (is_due : IsDueFor wanted bytes due) → IsDue words bytes due
 
 -- The words stand for this request, and its settings have the form of settings: then the source is read.
 pub record AskFor (words : List Text) (wanted : Wanted) : Type 0 where
@@ -56,16 +59,35 @@ pub record AskFor (words : List Text) (wanted : Wanted) : Type 0 where
 abbrev pub AreWrong : List Text → Type 0
 AreWrong words = AreFaulty words ⊎ ((wanted : Wanted) × (index : ℕ) × Takes words wanted × (first_wrong wanted ≡ Some index))
 
--- The bytes stand for a program that is within its limits and has its subscripts in range, where its named constants have the values of the request's settings.
+-- the program that the bytes stand for, with the request's settings
+abbrev pub program_for : Wanted → List ℕ → Tree
+program_for wanted bytes = program_in (entries_of bytes) (settings_in (settings_of wanted))
+
+-- behind END stands the text of an accepted plan, with the workers that are asked for, where the request takes one from there
+abbrev pub HasPlan : Wanted → Tree → List ℕ → Type 0
+HasPlan (sequential settings) tree bytes = ⊤
+HasPlan (verify settings) tree bytes = (plan : Plan) × IsTakenPlan None tree bytes plan
+HasPlan (run workers Barrier settings) tree bytes = ⊤
+HasPlan (run workers Given settings) tree bytes = (plan : Plan) × IsTakenPlan (Some workers) tree bytes plan
+
+-- The bytes stand for a program that is within its limits and has its subscripts in range, where its named constants have the values of the request's settings; and what stands behind END may.
 pub record IsRunnable (wanted : Wanted) (bytes : List ℕ) : Type 0 where
   pub short : length bytes ≤ most_bytes
-  pub unrefused : due_of_refusal bytes (settings_in (settings_of wanted)) ≡ None
+  pub unrefused : due_of_refusal (behind_of wanted) bytes (settings_in (settings_of wanted)) ≡ None
+  pub planned : HasPlan wanted (program_for wanted bytes) (behind_end bytes)
 
--- the statuses with which a text is due: 0, 1, 2 and 7
+-- The same, but that no such plan stands behind END, where the request takes one from there.
+pub record IsUnplanned (wanted : Wanted) (bytes : List ℕ) : Type 0 where
+  pub short : length bytes ≤ most_bytes
+  pub unrefused : due_of_refusal (behind_of wanted) bytes (settings_in (settings_of wanted)) ≡ None
+  pub unplanned : HasPlan wanted (program_for wanted bytes) (behind_end bytes) → ⊥
+
+-- the statuses with which a text is due: 0, 1, 2, 6 and 7
 abbrev pub is_said : Status → Bool
 is_said Done = true
 is_said SourceRefused = true
 is_said BadWords = true
+is_said PlanRefused = true
 is_said TooLong = true
 is_said ReadFault = false
 is_said WriteFault = false
@@ -83,4 +105,5 @@ code_of BadWords = 2
 code_of ReadFault = 3
 code_of WriteFault = 4
 code_of NoMemory = 5
+code_of PlanRefused = 6
 code_of TooLong = 7

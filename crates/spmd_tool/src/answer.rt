@@ -19,6 +19,7 @@ use spmd_answer::{Answer, Status, answer_to};
 use spmd_ports::Source;
 use std::alloc::{AllocError, Global};
 use std::fmt::Write;
+use std::thread::Threads;
 
 /// Why there is no answer.
 #[derive(Clone, Copy, Debug, PartialEq, Eq)]
@@ -39,7 +40,8 @@ impl From<AllocError> for Trouble {
 
 /// The answer to words, which stand without the program's name, from the bytes of the source. It
 /// is read only where the words stand for a request and its settings have the form of settings.
-pub fn answer_in<S: Source>(
+pub fn answer_in<R: Threads + Sync, S: Source>(
+    rt: &R,
     alloc: Global,
     words: &[&str],
     source: &mut S,
@@ -54,7 +56,7 @@ pub fn answer_in<S: Source>(
     ensures no_fault { S.faults source.old < S.faults source.new → result ≡ Err Trouble.ReadFault }
 {
     match read_words(alloc, words) {
-        Ok(request) => answer_for(alloc, &request, source),
+        Ok(request) => answer_for(rt, alloc, &request, source),
         Err(Refused::Shown(error)) => Ok(shown(alloc, &error)?),
         Err(Refused::Faulty) => Ok(wrong_words(alloc, 0)?),
         Err(Refused::NoMemory) => Err(Trouble::NoMemory),
@@ -62,7 +64,8 @@ pub fn answer_in<S: Source>(
 }
 
 // The answer to a request.
-fn answer_for<S: Source>(
+fn answer_for<R: Threads + Sync, S: Source>(
+    rt: &R,
     alloc: Global,
     request: &Request,
     source: &mut S,
@@ -83,7 +86,7 @@ fn answer_for<S: Source>(
         Err(SettingFault::NoMemory) => return Err(Trouble::NoMemory),
     };
     match read_all(alloc, source) {
-        Ok(bytes) => Ok(answer_to(alloc, request, &settings, &bytes)?),
+        Ok(bytes) => Ok(answer_to(rt, alloc, request, &settings, &bytes)?),
         Err(ReadTrouble::TooLong) => Ok(too_long(alloc)?),
         Err(ReadTrouble::Fault) => Err(Trouble::ReadFault),
         Err(ReadTrouble::NoMemory) => Err(Trouble::NoMemory),
@@ -95,7 +98,8 @@ fn settings_in<'a>(request: &'a Request<'a>) -> &'a [&'a str]
     ensures { texts result.now ≡ settings_of (wanted request.entry.now) }
 {
     match request {
-        Request::Sequential(settings) | Request::Run(_, _, settings) => settings,
+        Request::Sequential(settings) | Request::Verify(settings) | Request::Run(_, _, settings) =>
+            settings,
     }
 }
 

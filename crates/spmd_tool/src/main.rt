@@ -1,5 +1,6 @@
-//! Seagrynt's command: it reads a source program on standard input, makes a plan for a parallel
-//! run of it, runs it by the plan, and writes the plan and what the program prints.
+//! Seagrynt's command: it reads a source program on standard input, makes or reads a plan for a
+//! parallel run of it, checks a plan that it read, runs the program by the plan, and writes the plan
+//! and what the program prints.
 //!
 //! `tool` is the top call, over any source and any sink; `main` makes the standard ones, calls it
 //! and ends with its status.
@@ -35,7 +36,7 @@ fn main(rt: HostRuntime) -> ExitCode {
         Ok(texts) => {
             let mut source = StdSource::new(rt.stdin());
             let mut sink = StdSink::new(rt.stdout());
-            tool(rt.alloc(), &texts, &mut source, &mut sink)
+            tool(&rt, rt.alloc(), &texts, &mut source, &mut sink)
         }
         Err(_) => Status::NoMemory,
     };
@@ -73,6 +74,7 @@ fn number_of(status: Status) -> u8
         Status::ReadFault => 3,
         Status::WriteFault => 4,
         Status::NoMemory => 5,
+        Status::PlanRefused => 6,
         Status::TooLong => 7,
     }
 }

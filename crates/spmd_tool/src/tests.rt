@@ -8,6 +8,7 @@ use spmd_ports::{MemSink, MemSource};
 use std::alloc::Global;
 use std::fmt::Write;
 use std::test::Fail;
+use std::thread::Threads;
 
 const FIRST: &[u8] =
     b"      PROGRAM ONE\n      K = 20\n      K = K*2 + 2\n      PRINT *, 'K', K\n      END\n";
@@ -21,7 +22,8 @@ const WORDS: [&str; 7] = ["run", "--workers", "2", "--plan", "barrier", "--by", 
 type Calls<'a> = (&'a [u64], &'a [u64], &'a [u64]);
 
 // What a run with the usual words writes, and its status.
-fn run_of(
+fn run_of<R: Threads + Sync>(
+    rt: &R,
     alloc: Global,
     pieces: (usize, usize),
     calls: Calls<'_>,
@@ -31,15 +33,20 @@ fn run_of(
 {
     let mut source = MemSource::new(alloc, FIRST, pieces.0, calls.0)?;
     let mut sink = MemSink::new(alloc, 1000, pieces.1, calls.1, calls.2)?;
-    let status = tool(alloc, &WORDS, &mut source, &mut sink);
+    let status = tool(rt, alloc, &WORDS, &mut source, &mut sink);
     Ok((status, sink))
 }
 
 // What these words write for a source, and their status.
-fn said_to(alloc: Global, words: &[&str], bytes: &[u8]) -> Result<(Status, MemSink), Fail> {
+fn said_to<R: Threads + Sync>(
+    rt: &R,
+    alloc: Global,
+    words: &[&str],
+    bytes: &[u8],
+) -> Result<(Status, MemSink), Fail> {
     let mut source = MemSource::new(alloc, bytes, 100_000, &[])?;
     let mut sink = MemSink::new(alloc, 20_000, 20_000, &[], &[])?;
-    let status = tool(alloc, words, &mut source, &mut sink);
+    let status = tool(rt, alloc, words, &mut source, &mut sink);
     Ok((status, sink))
 }
 
@@ -47,11 +54,11 @@ fn said_to(alloc: Global, words: &[&str], bytes: &[u8]) -> Result<(Status, MemSi
 fn runs_the_first_program(rt: HostRuntime) -> Result<(), Fail> {
     for pieces in [(1000, 1000), (1, 1), (7, 3)] {
         prove!(pieces.0 > 0 && pieces.1 > 0);
-        let (status, sink) = run_of(rt.alloc(), pieces, (&[], &[], &[]))?;
+        let (status, sink) = run_of(&rt, rt.alloc(), pieces, (&[], &[], &[]))?;
         assert_eq!(rt; status, Status::Done);
         assert_eq!(rt; sink.written(), FIRST_RUN);
     }
-    let (status, sink) = said_to(rt.alloc(), &["seq"], FIRST)?;
+    let (status, sink) = said_to(&rt, rt.alloc(), &["seq"], FIRST)?;
     assert_eq!(rt; status, Status::Done);
     assert_eq!(rt; sink.written(), b" K 42\n".as_slice());
     Ok(())
@@ -61,22 +68,27 @@ fn runs_the_first_program(rt: HostRuntime) -> Result<(), Fail> {
 #[test]
 fn a_read_that_fails_writes_nothing(rt: HostRuntime) -> Result<(), Fail> {
     for call in 1..83 {
-        let (status, sink) = run_of(rt.alloc(), (1, 1000), (&[call], &[], &[]))?;
+        let (status, sink) = run_of(&rt, rt.alloc(), (1, 1000), (&[call], &[], &[]))?;
         assert_eq!(rt; status, Status::ReadFault, "{call}");
         assert!(rt; sink.written().is_empty(), "{call}");
     }
-    let (status, sink) = run_of(rt.alloc(), (1, 1000), (&[83], &[], &[]))?;
+    let (status, sink) = run_of(&rt, rt.alloc(), (1, 1000), (&[83], &[], &[]))?;
     assert_eq!(rt; status, Status::Done);
     assert_eq!(rt; sink.written(), FIRST_RUN);
     Ok(())
 }
 
 // What the first run writes 1 byte a call where this call of the sink fails, or takes nothing.
-fn run_to(alloc: Global, call: u64, fails: bool) -> Result<(Status, MemSink), Fail> {
+fn run_to<R: Threads + Sync>(
+    rt: &R,
+    alloc: Global,
+    call: u64,
+    fails: bool,
+) -> Result<(Status, MemSink), Fail> {
     if fails {
-        run_of(alloc, (1000, 1), (&[], &[call], &[]))
+        run_of(rt, alloc, (1000, 1), (&[], &[call], &[]))
     } else {
-        run_of(alloc, (1000, 1), (&[], &[], &[call]))
+        run_of(rt, alloc, (1000, 1), (&[], &[], &[call]))
     }
 }
 
@@ -84,12 +96,12 @@ fn run_to(alloc: Global, call: u64, fails: bool) -> Result<(Status, MemSink), Fa
 fn a_write_that_fails_or_takes_nothing_leaves_a_front(rt: HostRuntime) -> Result<(), Fail> {
     for fails in [true, false] {
         for call in 1..136 {
-            let (status, sink) = run_to(rt.alloc(), call, fails)?;
+            let (status, sink) = run_to(&rt, rt.alloc(), call, fails)?;
             assert_eq!(rt; status, Status::WriteFault, "{call}");
             assert_eq!(rt; sink.written().len() as u64, call - 1);
             assert!(rt; FIRST_RUN.starts_with(sink.written()), "{call}");
         }
-        let (status, sink) = run_to(rt.alloc(), 136, fails)?;
+        let (status, sink) = run_to(&rt, rt.alloc(), 136, fails)?;
         assert_eq!(rt; status, Status::Done);
         assert_eq!(rt; sink.written(), FIRST_RUN);
     }
@@ -154,7 +166,7 @@ fn says_what_is_wrong(rt: HostRuntime) -> Result<(), Fail> {
         (&["seq"], b"      PRINT *\n      END", Status::Done, b"\n"),
     ];
     for (words, source, wanted, text) in rows {
-        let (status, sink) = said_to(rt.alloc(), words, source)?;
+        let (status, sink) = said_to(&rt, rt.alloc(), words, source)?;
         assert_eq!(rt; sink.written(), text);
         assert_eq!(rt; status, wanted);
     }
@@ -168,7 +180,7 @@ fn shows_help_and_the_version(rt: HostRuntime) -> Result<(), Fail> {
         ["run", "-h"].as_slice(),
         ["--version"].as_slice(),
     ] {
-        let (status, sink) = said_to(rt.alloc(), words, b"")?;
+        let (status, sink) = said_to(&rt, rt.alloc(), words, b"")?;
         assert_eq!(rt; status, Status::Done);
         assert!(rt; !sink.written().is_empty());
     }
@@ -186,7 +198,7 @@ fn refuses_a_source_that_is_too_long(rt: HostRuntime) -> Result<(), Fail> {
         let long = vec![in rt.alloc(); b'\n'; length]?;
         let mut source = MemSource::new(rt.alloc(), &long, piece, &[])?;
         let mut sink = MemSink::new(rt.alloc(), 1000, 1000, &[], &[])?;
-        let ended = tool(rt.alloc(), &["seq"], &mut source, &mut sink);
+        let ended = tool(&rt, rt.alloc(), &["seq"], &mut source, &mut sink);
         assert_eq!(rt; ended, status);
         let line = sink.written() == b"TOO LONG\n".as_slice();
         assert_eq!(rt; line, status == Status::TooLong);
@@ -209,7 +221,7 @@ fn runs_a_long_program(rt: HostRuntime) -> Result<(), Fail> {
     for _ in 0..300 {
         words.push("N=3")?;
     }
-    let (status, sink) = said_to(rt.alloc(), &words, source.as_bytes())?;
+    let (status, sink) = said_to(&rt, rt.alloc(), &words, source.as_bytes())?;
     assert_eq!(rt; status, Status::Done);
     assert_eq!(rt; sink.written(), due.as_bytes());
     Ok(())

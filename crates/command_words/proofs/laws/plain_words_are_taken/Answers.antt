@@ -1,4 +1,4 @@
-use Rattle.command_words.proofs.PlainWords.{every_plain_run, every_plain_sequential}
+use Rattle.command_words.proofs.PlainWords.{every_plain_run, every_plain_sequential, every_plain_verify}
 use Rattle.command_words.proofs.laws.plain_words_are_taken.Goals as goal
 
 pub returns-clause-run : goal.returns-clause-run
@@ -6,3 +6,6 @@ returns-clause-run c = every_plain_run
 
 pub returns-clause-sequential : goal.returns-clause-sequential
 returns-clause-sequential c = every_plain_sequential
+
+pub returns-clause-verify : goal.returns-clause-verify
+returns-clause-verify c = every_plain_verify

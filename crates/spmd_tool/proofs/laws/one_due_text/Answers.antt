@@ -1,4 +1,4 @@
-use Rattle.spmd_tool.proofs.Dues.{one_due, shown-due, some_due}
+use Rattle.spmd_tool.proofs.Dues.{never_due, one_due, shown-due, some_due}
 use Rattle.spmd_tool.proofs.laws.one_due_text.Goals as goal
 
 pub returns-clause-some : goal.returns-clause-some
@@ -9,3 +9,6 @@ returns-clause-only c = one_due
 
 pub returns-clause-shown : goal.returns-clause-shown
 returns-clause-shown c = shown-due
+
+pub returns-clause-never_none : goal.returns-clause-never_none
+returns-clause-never_none c = never_due

@@ -3,7 +3,7 @@ use Rattle.nest_tree.specs.View.{tree_of}
 use Rattle.plan_text.specs.PlanText.{HasText}
 use Rattle.sync_plan.specs.declared.plan.Plan.{Plan}
 use Rattle.spmd_answer.proofs.Shown.{has_text, of_both}
-use Rattle.spmd_answer.proofs.run.shown_plan.Goals as goal
+use Rattle.spmd_answer.proofs.run.barrier_plan.Goals as goal
 
 pub returns-clause-text : goal.returns-clause-text
 returns-clause-text c =

@@ -1,0 +1,115 @@
+-- It is not so that nothing is due for a request.
+use Rattle.std.proofs.Common.{◌≡◌, ◌∙◌, ◌==◌, ◌≤◌, ◌+◌, ℕ, suc, zero, ℤ, Bool, true, false, ap, sym, subst, refl, List, [], ◌∷◌, ◌++◌, append_assoc, append-nil, length, Option, None, Some, codes, if◌then◌else◌, arith, eqb-true}
+use Rattle.std.specs.Fmt.{decimal}
+use Rattle.std.specs.List.{flat_map}
+use Rattle.std.proofs.lemmas.List.{length-append}
+use Rattle.nest_tree.specs.Tree.{Tree}
+use Rattle.nest_model.specs.Memory.{output_of}
+use Rattle.f77_lines.specs.Listing.{entries_of}
+use Rattle.f77_scene.specs.Reading.{program_in}
+use Rattle.f77_scene.specs.Scene.{Name}
+use Rattle.sync_plan.specs.declared.plan.Conditions.TheVariants.{Values}
+use Rattle.sync_plan.specs.declared.plan.Plan.{Plan}
+use Rattle.sync_plan.specs.declared.plan.Version.TheVariants.{One}
+use Rattle.plan_text.specs.PlanText.{HasText, IsPlanText, plan_lines, plan_text, text_of}
+use Rattle.plan_text.specs.Refused.{IsFirstAlien, Opens}
+use Rattle.plan_checker.specs.Accepted.{IsAccepted}
+use Rattle.plan_checker.specs.Failures.{first_failure}
+use Rattle.plan_checker.specs.RefusalText.{text_of_refusal}
+use Rattle.plan_checker.specs.declared.refusal.PlanRefusal.{PlanRefusal}
+use Rattle.plan_checker.specs.declared.refusal.PlanRefusal.TheVariants.{Shape}
+use Rattle.plan_checker.proofs.Certified.{accepted_where_none}
+use Rattle.serial_plan.specs.Serial.{serial_plan}
+use Rattle.command_words.specs.Wanted.{Wanted, sequential, verify, run}
+use Rattle.command_words.specs.declared.request.PlanChoice.TheVariants.{Barrier, Given}
+use Rattle.spmd_answer.specs.Due.{Due, IsDueOf, IsDueOn, IsFirstOr, IsRefusalFor, IsTextFor, behind_end, behind_of, done, due_of_refusal, line, plan_refused, unaccepted, written}
+use Rattle.spmd_answer.specs.Given.{HasWorkers, IsRefusedPlan, IsTakenPlan, first_reason, no_text, unfit}
+
+-- ---- bytes are a plan's text or have a first line that no plan's text has
+
+text-append : (front : List (List ℕ)) (l : List ℕ) → text_of (front ++ l ∷ []) ≡ text_of front ++ (l ++ 10 ∷ [])
+text-append [] l = append-nil (l ++ 10 ∷ [])
+text-append (x ∷ front) l = ap (λ t. (x ++ 10 ∷ []) ++ t) (text-append front l) ∙ sym (append_assoc (x ++ 10 ∷ []) (text_of front) (l ++ 10 ∷ []))
+
+cut_further : (front : List (List ℕ)) (behind l rest : List ℕ) → behind ≡ l ++ 10 ∷ rest → text_of front ++ behind ≡ text_of (front ++ l ∷ []) ++ rest
+cut_further front behind l rest is =
+    ap (λ t. text_of front ++ t) (is ∙ sym (append_assoc l (10 ∷ []) rest)) ∙ (sym (append_assoc (text_of front) (l ++ 10 ∷ []) rest) ∙ ap (λ t. t ++ rest) (sym (text-append front l)))
+
+shorter : (behind l rest : List ℕ) → behind ≡ l ++ 10 ∷ rest → length rest + 1 ≤ length behind
+shorter behind l rest is = omega (arith, ap length is, length-append l (10 ∷ rest))
+
+module _ (bytes : List ℕ) (unread : IsPlanText bytes → ⊥) (unrefused : (n : ℕ) → IsFirstAlien bytes n → ⊥) where
+  never_open : (fuel : ℕ) (front : List (List ℕ)) (behind : List ℕ) → length behind ≤ fuel → bytes ≡ text_of front ++ behind → Opens front → ⊥
+  never_open zero front behind few cut opens = unrefused (length front + 1) (record {
+    front = front;
+    behind = behind;
+    cut = cut;
+    count = refl;
+    opens = opens;
+    alien = λ l rest is opened. omega (arith, few, shorter behind l rest is);
+    no_text = unread;
+  })
+  never_open (suc fuel) front behind few cut opens = unrefused (length front + 1) (record {
+    front = front;
+    behind = behind;
+    cut = cut;
+    count = refl;
+    opens = opens;
+    alien = λ l rest is opened. never_open fuel (front ++ l ∷ []) rest (omega (arith, few, shorter behind l rest is)) (cut ∙ cut_further front behind l rest is) opened;
+    no_text = unread;
+  })
+
+empty_plan : Plan
+empty_plan = record { version = One; conditions = Values; workers = 1; cut = []; anchors = []; kinds = []; certificates = [] }
+
+empty_text : HasText empty_plan
+unfolding empty_plan
+empty_text = record { workers = refl; conditions = refl; loops = refl; pairs = refl; phases = refl; certificates = refl }
+
+pub read_or_alien : (bytes : List ℕ) → (IsPlanText bytes → ⊥) → ((n : ℕ) → IsFirstAlien bytes n → ⊥) → ⊥
+read_or_alien bytes unread unrefused = never_open bytes unread unrefused (length bytes) [] bytes (omega arith) refl (empty_plan, empty_text, (plan_lines empty_plan, refl))
+
+-- ---- a plan is taken or has a first reason against it
+
+same_workers : (b : Bool) (plan : Plan) (workers : ℕ) (o : Option PlanRefusal) → (plan.workers == workers) ≡ b → (if b then o else Some (Shape 1)) ≡ None → (plan.workers ≡ workers) × (o ≡ None)
+same_workers true plan workers o is none = (eqb-true plan.workers workers is, none)
+same_workers false plan workers o is none = absurd (cc)
+
+taken_where_none : (asked : Option ℕ) (tree : Tree) (bytes : List ℕ) (plan : Plan) → HasText plan → bytes ≡ plan_text plan → first_reason asked tree plan ≡ None → IsTakenPlan asked tree bytes plan
+taken_where_none None tree bytes plan shown is none = record { shown = shown; bytes_are = is; workers_are = tt; accepted = accepted_where_none tree plan none }
+taken_where_none (Some workers) tree bytes plan shown is none =
+    let both = same_workers (plan.workers == workers) plan workers (first_failure tree plan) refl none in
+    record { shown = shown; bytes_are = is; workers_are = both.0; accepted = accepted_where_none tree plan both.1 }
+
+refused_or_taken : (asked : Option ℕ) (tree : Tree) (bytes : List ℕ) → ((text : List ℕ) → IsRefusedPlan asked tree bytes text → ⊥) → ((plan : Plan) → IsTakenPlan asked tree bytes plan → ⊥) → ⊥
+refused_or_taken asked tree bytes unrefused untaken =
+    read_or_alien bytes (λ text. by_reason text.0 text.1 text.2 (first_reason asked tree text.0) refl)
+    (λ n alien. unrefused (codes "PLAN SYNTAX " ++ decimal n) (no_text n alien refl))
+  where
+    by_reason : (plan : Plan) → HasText plan → bytes ≡ plan_text plan → (o : Option PlanRefusal) → first_reason asked tree plan ≡ o → ⊥
+    by_reason plan shown is None first = untaken plan (taken_where_none asked tree bytes plan shown is first)
+    by_reason plan shown is (Some reason) first = unrefused (text_of_refusal reason) (unfit plan shown is reason first refl)
+
+-- ---- due for a request
+
+on_program : (wanted : Wanted) (tree : Tree) (bytes : List ℕ) → ((due : Due) → IsDueOn wanted tree bytes due → ⊥) → ⊥
+on_program (sequential settings) tree bytes none = none (done (output_of tree)) (written (output_of tree) refl refl)
+on_program (verify settings) tree bytes none =
+    refused_or_taken None tree bytes (λ text is. none (plan_refused text) (unaccepted text is refl))
+    (λ plan is. none (done (line (codes "ACCEPTED"))) (written (line (codes "ACCEPTED")) (plan, is, refl) refl))
+on_program (run workers Barrier settings) tree bytes none =
+    let text = plan_text (serial_plan workers tree) ++ output_of tree in
+    none (done text) (written text (serial_plan workers tree, refl, refl) refl)
+on_program (run workers Given settings) tree bytes none =
+    refused_or_taken (Some workers) tree bytes (λ text is. none (plan_refused text) (unaccepted text is refl))
+    (λ plan is. none (done (plan_text plan ++ output_of tree)) (written (plan_text plan ++ output_of tree) (plan, is, refl) refl))
+
+-- a refusal, or else what is due without
+pub first_never : (o : Option Due) (IsElse : Due → Type 0) → (((due : Due) → IsElse due → ⊥) → ⊥) → ((due : Due) → IsFirstOr o IsElse due → ⊥) → ⊥
+first_never None IsElse never none = never none
+first_never (Some d) IsElse never none = none d refl
+
+pub never_none : (wanted : Wanted) (settings : List (Name × ℤ)) (bytes : List ℕ) → ((due : Due) → IsDueOf wanted settings bytes due → ⊥) → ⊥
+never_none wanted settings bytes =
+    let tree = program_in (entries_of bytes) settings in
+    first_never (due_of_refusal (behind_of wanted) bytes settings) (IsDueOn wanted tree (behind_end bytes)) (on_program wanted tree (behind_end bytes))

@@ -1,0 +1,91 @@
+-- One status with one text is due for a request.
+use Rattle.std.proofs.Common.{◌≡◌, ◌∙◌, ◌==◌, ℕ, ℤ, Bool, true, false, ap, sym, subst, refl, List, [], ◌++◌, append-nil, Option, None, Some, codes}
+use Rattle.std.specs.Fmt.{decimal}
+use Rattle.std.proofs.lemmas.Bool.Decides.{nat_tests}
+use Rattle.std.proofs.Common.{arith}
+use Rattle.nest_tree.specs.Tree.{Tree}
+use Rattle.nest_model.specs.Memory.{output_of}
+use Rattle.f77_lines.specs.Listing.{entries_of}
+use Rattle.f77_scene.specs.Reading.{program_in}
+use Rattle.f77_scene.specs.Scene.{Name}
+use Rattle.sync_plan.specs.declared.plan.Plan.{Plan}
+use Rattle.plan_text.specs.PlanText.{HasText, plan_text}
+use Rattle.plan_text.specs.Refused.{IsFirstAlien}
+use Rattle.plan_text.proofs.PlanLaws.{one_alien, text_front}
+use Rattle.plan_checker.specs.Accepted.{IsAccepted}
+use Rattle.plan_checker.specs.Failures.{first_failure}
+use Rattle.plan_checker.specs.RefusalText.{text_of_refusal}
+use Rattle.plan_checker.specs.declared.refusal.PlanRefusal.{PlanRefusal}
+use Rattle.plan_checker.proofs.Certified.{none_where_accepted}
+use Rattle.command_words.specs.Wanted.{Wanted, sequential, verify, run}
+use Rattle.command_words.specs.declared.request.PlanChoice.TheVariants.{Barrier, Given}
+use Rattle.spmd_answer.specs.Due.{Due, IsDueOf, IsDueOn, IsFirstOr, IsRefusalFor, IsTextFor, behind_end, behind_of, done, due_of_refusal, plan_refused, unaccepted, written}
+use Rattle.spmd_answer.specs.Given.{HasWorkers, IsRefusedPlan, IsTakenPlan, first_reason, no_text, unfit}
+
+-- two plans with one text are one
+one_plan : (x y : Plan) (bytes : List ℕ) → HasText x → HasText y → bytes ≡ plan_text x → bytes ≡ plan_text y → x ≡ y
+one_plan x y bytes hx hy p q = text_front x y [] hx hy (sym p ∙ q ∙ sym (append-nil (plan_text y)))
+
+one_some : {A : Type 0} (o : Option A) (a b : A) → o ≡ Some a → o ≡ Some b → a ≡ b
+one_some o a b p q = cc
+
+eqb-refl : (n m : ℕ) → m ≡ n → (m == n) ≡ true
+eqb-refl n m h = grind (arith, nat_tests)
+
+-- there is no reason against a plan that is taken
+no_reason : (asked : Option ℕ) (tree : Tree) (plan : Plan) → HasWorkers asked plan → IsAccepted tree plan → first_reason asked tree plan ≡ None
+no_reason None tree plan workers accepted = none_where_accepted tree plan accepted
+no_reason (Some n) tree plan workers accepted = rw (eqb-refl n plan.workers workers) (none_where_accepted tree plan accepted)
+
+one_reason : (asked : Option ℕ) (tree : Tree) (bytes s t : List ℕ) → IsRefusedPlan asked tree bytes s → IsRefusedPlan asked tree bytes t → s ≡ t
+one_reason asked tree bytes s t (no_text m u p) (no_text n v q) = p ∙ ap (λ k. codes "PLAN SYNTAX " ++ decimal k) (one_alien bytes m n u v) ∙ sym q
+one_reason asked tree bytes s t (no_text m u p) (unfit y hy by r first q) = absurd (u.no_text (y, hy, by))
+one_reason asked tree bytes s t (unfit x hx bx r first p) (no_text n v q) = absurd (v.no_text (x, hx, bx))
+one_reason asked tree bytes s t (unfit x hx bx r first p) (unfit y hy by r' first' q) =
+    let same = one_plan x y bytes hx hy bx by in
+    let reasons : r ≡ r' = one_some (first_reason asked tree y) r r' (ap (first_reason asked tree) (sym same) ∙ first) first' in
+    p ∙ ap text_of_refusal reasons ∙ sym q
+
+pub refused_or_taken : (asked : Option ℕ) (tree : Tree) (bytes s : List ℕ) (plan : Plan) → IsRefusedPlan asked tree bytes s → IsTakenPlan asked tree bytes plan → ⊥
+refused_or_taken asked tree bytes s plan (no_text m u p) is = u.no_text (plan, is.shown, is.bytes_are)
+refused_or_taken asked tree bytes s plan (unfit x hx bx r first p) is =
+    let same = one_plan x plan bytes hx is.shown bx is.bytes_are in
+    let none : None ≡ Some r = sym (no_reason asked tree plan is.workers_are is.accepted) ∙ ap (first_reason asked tree) (sym same) ∙ first in
+    cc
+
+-- one text is written
+one_text : (wanted : Wanted) (tree : Tree) (bytes s t : List ℕ) → IsTextFor wanted tree bytes s → IsTextFor wanted tree bytes t → s ≡ t
+one_text (sequential settings) tree bytes s t p q = p ∙ sym q
+one_text (verify settings) tree bytes s t (x, is, p) (y, is', q) = p ∙ sym q
+one_text (run workers Barrier settings) tree bytes s t (x, is, p) (y, is', q) = p ∙ ap (λ plan. plan_text plan ++ output_of tree) (is ∙ sym is') ∙ sym q
+one_text (run workers Given settings) tree bytes s t (x, is, p) (y, is', q) =
+    p ∙ ap (λ plan. plan_text plan ++ output_of tree) (one_plan x y bytes is.shown is'.shown is.bytes_are is'.bytes_are) ∙ sym q
+
+one_refusal : (wanted : Wanted) (tree : Tree) (bytes s t : List ℕ) → IsRefusalFor wanted tree bytes s → IsRefusalFor wanted tree bytes t → s ≡ t
+one_refusal (sequential settings) tree bytes s t p q = absurd p
+one_refusal (verify settings) tree bytes s t p q = one_reason None tree bytes s t p q
+one_refusal (run workers Barrier settings) tree bytes s t p q = absurd p
+one_refusal (run workers Given settings) tree bytes s t p q = one_reason (Some workers) tree bytes s t p q
+
+-- nothing is written where the plan is refused
+pub refused_or_written : (wanted : Wanted) (tree : Tree) (bytes s t : List ℕ) → IsRefusalFor wanted tree bytes s → IsTextFor wanted tree bytes t → ⊥
+refused_or_written (sequential settings) tree bytes s t p q = p
+refused_or_written (verify settings) tree bytes s t p (plan, is, q) = refused_or_taken None tree bytes s plan p is
+refused_or_written (run workers Barrier settings) tree bytes s t p q = p
+refused_or_written (run workers Given settings) tree bytes s t p (plan, is, q) = refused_or_taken (Some workers) tree bytes s plan p is
+
+on_program : (wanted : Wanted) (tree : Tree) (bytes : List ℕ) (a b : Due) → IsDueOn wanted tree bytes a → IsDueOn wanted tree bytes b → a ≡ b
+on_program wanted tree bytes a b (unaccepted s x p) (unaccepted t y q) = p ∙ ap plan_refused (one_refusal wanted tree bytes s t x y) ∙ sym q
+on_program wanted tree bytes a b (unaccepted s x p) (written t y q) = absurd (refused_or_written wanted tree bytes s t x y)
+on_program wanted tree bytes a b (written s x p) (unaccepted t y q) = absurd (refused_or_written wanted tree bytes t s y x)
+on_program wanted tree bytes a b (written s x p) (written t y q) = p ∙ ap done (one_text wanted tree bytes s t x y) ∙ sym q
+
+-- what holds of either case
+pub first_one : (o : Option Due) (IsElse : Due → Type 0) (a b : Due) → (IsElse a → IsElse b → a ≡ b) → IsFirstOr o IsElse a → IsFirstOr o IsElse b → a ≡ b
+first_one None IsElse a b same p q = same p q
+first_one (Some d) IsElse a b same p q = p ∙ sym q
+
+pub one_is_due : (wanted : Wanted) (settings : List (Name × ℤ)) (bytes : List ℕ) (a b : Due) → IsDueOf wanted settings bytes a → IsDueOf wanted settings bytes b → a ≡ b
+one_is_due wanted settings bytes a b =
+    let tree = program_in (entries_of bytes) settings in
+    first_one (due_of_refusal (behind_of wanted) bytes settings) (IsDueOn wanted tree (behind_end bytes)) a b (on_program wanted tree (behind_end bytes) a b)
