@@ -3,3 +3,15 @@ pub mod Counts
 pub mod Spans
 pub mod Found
 pub mod Phases
+pub mod OrderOnce
+pub mod Questions
+pub mod Judgements
+pub mod Numbers
+pub mod Memories
+pub mod Verdicts
+pub mod Same
+pub mod SlotSteps
+pub mod Choices
+pub mod Weakest
+pub mod Made
+pub mod Singles

@@ -2,3 +2,16 @@ pub mod Anchors
 pub mod Allowed
 pub mod Seats
 pub mod Marks
+pub mod Orders
+pub mod Asked
+pub mod Judged
+pub mod Cut
+pub mod Bars
+pub mod Loops
+pub mod Candidates
+pub mod Memories
+pub mod Trials
+pub mod Grounds
+pub mod Weakest
+pub mod Settled
+pub mod Made

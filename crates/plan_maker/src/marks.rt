@@ -10,7 +10,7 @@ use std::alloc::AllocError;
 
 // Each loop in these statements is Inner.
 #[cycle(inner)]
-pub(crate) fn push_inner(marks: &mut Vec<Mark>, items: &[Item]) -> Result<(), AllocError>
+fn push_inner(marks: &mut Vec<Mark>, items: &[Item]) -> Result<(), AllocError>
     ensures { OnOk result (marks.new.items ≡ marks.old.items ++ inner_of (statements_from items.now)) }
 {
     for item in items {
@@ -75,8 +75,8 @@ fn is_free(barred: &[bool], number: u32, items: &[Item]) -> bool
     !is_barred(barred, number) || have_free(barred, items)
 }
 
-// The marks of a loop that is a phase, and of the loops in its body.
-fn push_closed(marks: &mut Vec<Mark>, mark: Mark, items: &[Item]) -> Result<(), AllocError>
+/// The marks of a loop that is a phase, and of the loops in its body.
+pub(crate) fn push_closed(marks: &mut Vec<Mark>, mark: Mark, items: &[Item]) -> Result<(), AllocError>
     ensures { OnOk result (marks.new.items ≡ marks.old.items ++ mark ∷ inner_of (statements_from items.now)) }
 {
     marks.push(mark)?;

@@ -121,3 +121,12 @@ pub(crate) fn dealt_as(spread: Spread, workers: u32, places: u128) -> Dist
         Spread::Cyclic => Dist::Cyclic,
     }
 }
+
+/// So many anchors to processor 0.
+pub(crate) fn first_processors(alloc: Global, count: u32) -> Result<Vec<Anchor>, AllocError> {
+    let mut anchors = Vec::new(alloc);
+    for _ in 0..count {
+        anchors.push(first_processor(alloc))?;
+    }
+    Ok(anchors)
+}

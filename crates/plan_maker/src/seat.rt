@@ -103,8 +103,8 @@ fn are_numbers_of(count: usize, pairs: &[(u32, i64)]) -> bool
     true
 }
 
-// A block has 1 to 2147483647 places.
-fn has_places(dist: Dist) -> bool
+/// Whether a block has 1 to 2147483647 places.
+pub(crate) fn has_places(dist: Dist) -> bool
     ensures { result ≡ has_places dist }
 {
     match dist {

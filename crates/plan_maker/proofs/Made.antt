@@ -1,0 +1,144 @@
+-- The plan that is made.
+use Rattle.std.proofs.Common.{◌≡◌, ℕ, zero, suc, ◌-◌, ◌<◌, ◌≤◌, ◌++◌, Bool, true, false, List, [], ◌∷◌, length, map, get_or, if◌then◌else◌, refl, ap, ap₂, sym, ◌∙◌, subst, inl, inr, arith}
+use Rattle.std.specs.Prelude.{IsTrue, slice_get, Some, slice_set}
+use Rattle.std.specs.List.{AllZip, flat_map}
+use Rattle.std.proofs.lemmas.List.{map-append}
+use Rattle.farkas_cert.specs.declared.certificate.Certificate.{Certificate}
+use Rattle.farkas_cert.specs.Good.{IsGood}
+use Rattle.nest_tree.specs.Tree.{Tree}
+use Rattle.nest_tree.specs.WellFormed.{loops_of}
+use Rattle.owner_partition.specs.declared.anchor.Anchor.{Anchor}
+use Rattle.owner_partition.specs.declared.anchor.Dist.{Dist}
+use Rattle.owner_partition.specs.declared.cut.Mark.{Mark}
+use Rattle.sync_plan.specs.Barriers.{barrier_plan}
+use Rattle.sync_plan.specs.Fit.{IsFit}
+use Rattle.sync_plan.specs.declared.plan.Kind.{Kind}
+use Rattle.sync_plan.specs.declared.plan.Plan.{Plan}
+use Rattle.sync_plan.specs.declared.plan.Version.TheVariants.{Two}
+use Rattle.comm_system.specs.Obligations.{Slot, Task, numbered_from, slot_signature, slot_tasks, slots_of, tasks_of, trips_tasks}
+use Rattle.comm_system.specs.References.{StaticPhase, phases_of}
+use Rattle.comm_system.specs.Signatures.{Signature, blocked, waits}
+use Rattle.comm_system.specs.declared.obligation.Obligation.{Obligation}
+use Rattle.plan_checker.specs.Accepted.{AreCertified}
+use Rattle.plan_maker.specs.declared.loops.LoopVerdict.{LoopVerdict}
+use Rattle.plan_maker.specs.declared.loops.LoopVerdict.TheVariants.{Free, Barred}
+use Rattle.plan_maker.specs.declared.maker.Weakest.{Weakest}
+use Rattle.plan_maker.specs.declared.reasons.Bar.{Bar}
+use Rattle.plan_maker.specs.declared.reasons.Bar.TheVariants.{Print, Meeting}
+use Rattle.plan_maker.specs.declared.reasons.LoopReason.{LoopReason}
+use Rattle.plan_maker.specs.declared.reasons.PhaseReason.{PhaseReason}
+use Rattle.plan_maker.specs.declared.reasons.Reasons.{Reasons}
+use Rattle.plan_maker.specs.Anchors.{maker_anchors}
+use Rattle.plan_maker.specs.Asked.{AreRefuted, Asked, IsCause, all_asked, asked, slot_asked, trips_asked}
+use Rattle.plan_maker.specs.Bars.{IsBar, IsLoopReason, open_loops}
+use Rattle.plan_maker.specs.Candidates.{Choice, candidates_of, kinds_taken, weaker_from}
+use Rattle.plan_maker.specs.Cut.{IsBarred, IsReasonedCut}
+use Rattle.plan_maker.specs.Loops.{AreLoopVerdicts, IsLoopVerdict, is_barred}
+use Rattle.plan_maker.specs.Made.{IsMade, IsPhaseReason, with_choice, with_found}
+use Rattle.plan_maker.specs.Marks.{flagged, marks_of}
+use Rattle.plan_maker.specs.Weakest.{IsWeakReason, IsWeakest, asked_under, candidates_in}
+use Rattle.plan_maker.proofs.Verdicts.{trips_same}
+use Rattle.plan_maker.proofs.Weakest.{zip_weaker}
+
+tasks_asked : (dists : List Dist) (tasks : List Task) → map (λ (q : Asked). q.task) (map (asked dists) tasks) ≡ tasks
+tasks_asked dists [] = refl
+tasks_asked dists (k ∷ tasks) = ap (λ ks. k ∷ ks) (tasks_asked dists tasks)
+
+map-flat : {X A B : Type 0} (f : A → B) (g : X → List A) (h : X → List B) → ((x : X) → map f (g x) ≡ h x) → (xs : List X) → map f (flat_map g xs) ≡ flat_map h xs
+map-flat f g h each [] = refl
+map-flat f g h each (x ∷ xs) = map-append f (g x) (flat_map g xs) ∙ ap₂ (λ a b. a ++ b) (each x) (map-flat f g h each xs)
+
+flat-same : {X A : Type 0} (g h : X → List A) → ((x : X) → g x ≡ h x) → (xs : List X) → flat_map g xs ≡ flat_map h xs
+flat-same g h each [] = refl
+flat-same g h each (x ∷ xs) = ap₂ (λ a b. a ++ b) (each x) (flat-same g h each xs)
+
+certified-numbered : (n : ℕ) (qs : List Asked) (cs : List Certificate) → AreRefuted qs cs → AreCertified (numbered_from n (map (λ (q : Asked). q.task) qs)) cs
+certified-numbered n [] [] h = tt
+certified-numbered n [] (c ∷ cs) h = absurd h
+certified-numbered n (q ∷ qs) [] h = absurd h
+certified-numbered n (q ∷ qs) (c ∷ cs) h = (h.0, certified-numbered (suc n) qs cs h.1)
+
+module _ (tree : Tree) (base : Plan) (kinds : List Kind) (certificates : List Certificate) (two : base.version ≡ Two) where
+  abbrev found : Plan
+  found = with_found base kinds certificates
+
+  trips-tasks : (s : StaticPhase) → map (λ (q : Asked). q.task) (trips_asked tree base s) ≡ trips_tasks tree found s
+  trips-tasks s = tasks_asked [] (trips_tasks tree base s)
+
+  slot-tasks : (slot : Slot) (sig : Signature) → map (λ (q : Asked). q.task) (slot_asked tree base slot sig) ≡ slot_tasks tree found slot sig
+  slot-tasks slot blocked = refl
+  slot-tasks slot (waits left right producers) = tasks_asked _ (slot_tasks tree base slot (waits left right producers))
+
+  all-tasks : map (λ (q : Asked). q.task) (asked_under tree base kinds) ≡ tasks_of tree found
+  all-tasks =
+      let phases = phases_of tree base.cut in
+      let trips = map-flat (λ (q : Asked). q.task) (trips_asked tree base) (trips_tasks tree found) trips-tasks phases in
+      let slots = map-flat (λ (q : Asked). q.task) (λ slot. slot_asked tree base slot (slot_signature Two kinds phases slot)) (λ slot. slot_tasks tree found slot (slot_signature base.version kinds phases slot))
+      (λ slot. slot-tasks slot (slot_signature Two kinds phases slot) ∙ ap (λ v. slot_tasks tree found slot (slot_signature v kinds phases slot)) (sym two)) (slots_of phases) in
+      map-append (λ (q : Asked). q.task) (flat_map (trips_asked tree base) phases) (flat_map (λ slot. slot_asked tree base slot (slot_signature Two kinds phases slot)) (slots_of phases)) ∙ ap₂ (λ a b. a ++ b) trips slots
+
+  slot-same : (ks : List Kind) (slot : Slot) (sig : Signature) → slot_asked tree base slot sig ≡ slot_asked tree (record found { kinds = ks }) slot sig
+  slot-same ks slot blocked = refl
+  slot-same ks slot (waits left right producers) = refl
+
+  -- what is asked of the plan with other kinds
+  all-asked : (ks : List Kind) → asked_under tree base ks ≡ all_asked tree (record found { kinds = ks })
+  all-asked ks =
+      let phases = phases_of tree base.cut in
+      ap₂ (λ a b. a ++ b) (trips_same tree base (record found { kinds = ks }) refl refl phases)
+      (flat-same (λ slot. slot_asked tree base slot (slot_signature Two ks phases slot)) (λ slot. slot_asked tree (record found { kinds = ks }) slot (slot_signature base.version ks phases slot))
+      (λ slot. slot-same ks slot (slot_signature Two ks phases slot) ∙ ap (λ v. slot_asked tree (record found { kinds = ks }) slot (slot_signature v ks phases slot)) (sym two)) (slots_of phases))
+
+  pub certified : AreRefuted (asked_under tree base kinds) certificates → AreCertified (numbered_from 1 (tasks_of tree found)) certificates
+  certified h = subst (λ ks. AreCertified (numbered_from 1 ks) certificates) all-tasks (certified-numbered 1 (asked_under tree base kinds) certificates h)
+
+  pub phase_reasons : (taken : List ℕ) (rs : List PhaseReason) → AllZip (IsWeakReason tree base taken) (weaker_from 0 taken) rs → AllZip (IsPhaseReason tree found (candidates_in tree base) taken) (weaker_from 0 taken) rs
+  phase_reasons taken rs h =
+      zip_weaker (IsWeakReason tree base taken) (IsPhaseReason tree found (candidates_in tree base) taken) (weaker_from 0 taken) rs
+      (λ c r w. record { phase = w.phase; kind = w.kind; cause = subst (λ qs. IsCause qs r.cause) (all-asked (kinds_taken (candidates_in tree base) (slice_set taken c.phase c.place))) w.cause }) h
+
+-- the whole
+pub made_is : (tree : Tree) (workers : ℕ) (marks : List Mark) (anchors : List Anchor) (base : Plan) (w : Weakest) (plan : Plan) (reasons : Reasons) → base ≡ barrier_plan marks anchors workers [] → plan ≡ with_found base w.kinds.items w.certificates.items →
+    IsFit tree plan → IsWeakest tree base w → IsReasonedCut tree marks → AllZip (IsLoopReason tree) (open_loops 1 marks) reasons.loops.items → anchors ≡ maker_anchors tree marks workers → reasons.phases.items ≡ w.reasons.items → IsMade tree workers plan reasons
+made_is tree workers marks anchors base w plan reasons base-is plan-is fit weak cut loops anchors-are phases =
+    let kinds = w.kinds.items in
+    let certificates = w.certificates.items in
+    let start = barrier_plan marks anchors workers [] in
+    let whole : plan ≡ with_found start kinds certificates = plan-is ∙ ap (λ b. with_found b kinds certificates) base-is in
+    let here = subst (λ b. IsWeakest tree b w) base-is weak in
+    let made : IsMade tree workers (with_found start kinds certificates) reasons = record {
+      version = refl;
+      conditions = refl;
+      workers_are = refl;
+      accepted = record { fits = subst (IsFit tree) whole fit; certified = certified tree start kinds certificates refl here.certified };
+      cut = cut;
+      loops = loops;
+      anchors = anchors-are;
+      taken = here.taken;
+      kinds = here.kinds;
+      phases = subst (λ rs. AllZip (IsPhaseReason tree (with_found start kinds certificates) (candidates_in tree start) here.taken) (weaker_from 0 here.taken) rs) (sym phases) (phase_reasons tree start kinds certificates refl here.taken w.reasons.items here.reasons);
+    } in
+    subst (λ p. IsMade tree workers p reasons) (sym whole) made
+
+-- a flag says that a loop is barred where its verdict does
+bar_of : (tree : Tree) (n : ℕ) (bar : Bar) → IsBar tree n bar → IsBarred tree n
+bar_of tree n Print h = inl h
+bar_of tree n (Meeting cause) h = inr (cause, h.1)
+
+flag_at : (vs : List LoopVerdict) (k : ℕ) → k < length vs → (v : LoopVerdict) × (slice_get vs k ≡ Some v) × (get_or (map is_barred vs) k true ≡ is_barred v)
+flag_at [] k lt = absurd (omega (arith, lt))
+flag_at (v ∷ vs) zero lt = (v, refl, refl)
+flag_at (v ∷ vs) (suc k) lt = flag_at vs k (omega (arith, lt))
+
+barred_by : (tree : Tree) (n : ℕ) (v : LoopVerdict) → IsLoopVerdict tree n v → is_barred v ≡ true → IsBarred tree n
+barred_by tree n Free h e = absurd (let no : false ≡ true = e in cc)
+barred_by tree n (Barred bar) h e = bar_of tree n bar h
+
+pub reasoned : (tree : Tree) (vs : List LoopVerdict) (marks : List Mark) → length vs ≡ loops_of tree.items → AreLoopVerdicts tree vs → marks ≡ marks_of (flagged (map is_barred vs)) tree.items → IsReasonedCut tree marks
+reasoned tree vs marks long all is = record {
+  barred = flagged (map is_barred vs);
+  marks = is;
+  why = λ n from to flag.
+      let there = flag_at vs (n - 1) (omega (arith, long, from, to)) in
+      barred_by tree n there.0 (all n there.0 from there.1) (sym there.2 ∙ flag);
+}

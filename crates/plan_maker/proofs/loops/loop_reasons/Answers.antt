@@ -1,0 +1,17 @@
+use Rattle.std.proofs.Common.{◌≡◌, ◌+◌, ◌++◌, List, ℕ, take, sym, subst}
+use Rattle.std.specs.List.{AllZip}
+use Rattle.nest_walk.proofs.Grown.{AllZip-append}
+use Rattle.plan_maker.specs.Bars.{IsLoopReason, open_loop, open_loops}
+use Rattle.plan_maker.proofs.Verdicts.{open_taken}
+use Rattle.plan_maker.proofs.loops.loop_reasons.Goals as goal
+
+pub loop-place-preserved : goal.loop-place-preserved
+loop-place-preserved c = λ tree all.
+    let marks = c.args.marks.now in
+    let i = c.loop-place.place in
+    let old = c.loop-place.reasons.items in
+    let h = c.in_ok-push_reason.ensures tree all in
+    let split = open_taken marks i c.mark_in-mark.result c.mark_in-mark.ensures in
+    subst (λ rs. AllZip (IsLoopReason tree) (open_loops 1 (take (i + 1) marks)) rs) (sym h.behind)
+    (subst (λ ns. AllZip (IsLoopReason tree) ns (old ++ h.more)) (sym split)
+    (AllZip-append (IsLoopReason tree) (open_loops 1 (take i marks)) (open_loop (i + 1) c.mark_in-mark.result) old h.more (c.loop-place.invariant tree all) h.reasons))

@@ -1,0 +1,8 @@
+use Rattle.std.proofs.Common.{map}
+use Rattle.nest_tree.specs.View.{tree_of}
+use Rattle.comm_system.specs.SlotViews.{slot_seen}
+use Rattle.plan_maker.specs.Trials.{AreMemories}
+use Rattle.plan_maker.proofs.passes.settle_all.Given as goal
+
+abbrev pub invariant-loop : goal.invariant-loop
+invariant-loop l = AreMemories (tree_of l.ground.program.now) l.ground.plan.now (map slot_seen l.ground.slots.now) l.memories

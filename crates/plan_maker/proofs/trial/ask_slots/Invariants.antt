@@ -1,0 +1,15 @@
+use Rattle.std.proofs.Common.{◌≡◌, map, take}
+use Rattle.std.specs.Prelude.{List}
+use Rattle.farkas_cert.specs.declared.certificate.Certificate.{Certificate}
+use Rattle.nest_tree.specs.View.{tree_of}
+use Rattle.comm_system.specs.PhaseViews.{phase_seen}
+use Rattle.comm_system.specs.SlotViews.{slot_seen}
+use Rattle.plan_maker.specs.Asked.{AreRefuted}
+use Rattle.plan_maker.specs.Trials.{AreMemories, slots_asked}
+use Rattle.plan_maker.proofs.trial.ask_slots.Given as goal
+
+abbrev pub invariant-loop-place : goal.invariant-loop-place
+invariant-loop-place l = record {
+  memories : AreMemories (tree_of l.ground.program.now) l.ground.plan.now (map slot_seen l.ground.slots.now) l.memories;
+  refuted : (certificates : List Certificate) × AreRefuted (slots_asked (tree_of l.ground.program.now) l.ground.plan.now l.kinds (map phase_seen l.ground.phases.now) (map slot_seen (take l.place l.ground.slots.now))) certificates;
+}

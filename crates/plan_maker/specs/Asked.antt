@@ -1,0 +1,84 @@
+-- What elimination is asked of a plan: its systems one behind another, each with the order in which its unknowns are removed; and what is known of the answers.
+use Rattle.std.specs.Prelude.{ℕ, ◌≡◌, List, [], ◌∷◌, ◌++◌, map, take, slice_get, Option, Some, None}
+use Rattle.std.specs.List.{AllZip, flat_map}
+use Rattle.farkas_cert.specs.declared.certificate.Certificate.{Certificate}
+use Rattle.farkas_cert.specs.Good.{IsGood}
+use Rattle.fm_elim.specs.declared.answer.Answer.{Answer}
+use Rattle.fm_elim.specs.declared.answer.Answer.TheVariants as answers
+use Rattle.fm_elim.specs.Answers.{IsKept}
+use Rattle.nest_tree.specs.Tree.{Tree}
+use Rattle.owner_partition.specs.declared.anchor.Anchor.{Anchor}
+use Rattle.owner_partition.specs.declared.anchor.Dist.{Dist}
+use Rattle.sync_plan.specs.declared.plan.Plan.{Plan}
+use Rattle.comm_system.specs.Boundaries.{Side}
+use Rattle.comm_system.specs.Obligations.{Slot, Task, anchor_at, slot_signature, slot_tasks, slots_of, trips_tasks}
+use Rattle.comm_system.specs.References.{StaticPhase, phases_of}
+use Rattle.comm_system.specs.Signatures.{Signature, blocked, waits}
+use Rattle.plan_maker.specs.declared.cause.Cause.{Cause}
+use Rattle.plan_maker.specs.declared.cause.Word.{Word}
+use Rattle.plan_maker.specs.declared.cause.Word.TheVariants.{Open, Wide, Many}
+use Rattle.plan_maker.specs.Orders.{elimination_order}
+
+-- a system with the order of its unknowns
+pub record Asked : Type 0 where
+  pub task : Task
+  pub order : List ℕ
+
+-- with owners that are dealt so
+abbrev pub asked : List Dist → Task → Asked
+asked dists k = record { task = k; order = elimination_order k.system.vars dists }
+
+-- of two trips of a Doall phase, which have no owners
+abbrev pub trips_asked : Tree → Plan → StaticPhase → List Asked
+trips_asked tree plan s = map (asked []) (trips_tasks tree plan s)
+
+-- how the owners of a slot are dealt, and then the producers
+abbrev pub owners_dealt : Plan → Slot → List (Anchor × Side) → List Dist
+owners_dealt plan slot producers = (anchor_at plan slot.s).dist ∷ (anchor_at plan slot.t).dist ∷ map (λ p. p.0.dist) producers
+
+-- of a slot, by what it sees of the kinds
+abbrev pub slot_asked : Tree → Plan → Slot → Signature → List Asked
+slot_asked tree plan slot blocked = []
+slot_asked tree plan slot (waits left right producers) = map (asked (owners_dealt plan slot producers)) (slot_tasks tree plan slot (waits left right producers))
+
+-- of a plan
+abbrev pub all_trips_asked : Tree → Plan → List Asked
+all_trips_asked tree plan = flat_map (trips_asked tree plan) (phases_of tree plan.cut)
+
+abbrev pub all_slots_asked : Tree → Plan → List Asked
+all_slots_asked tree plan =
+    let phases = phases_of tree plan.cut in
+    flat_map (λ slot. slot_asked tree plan slot (slot_signature plan.version plan.kinds phases slot)) (slots_of phases)
+
+abbrev pub all_asked : Tree → Plan → List Asked
+all_asked tree plan = all_trips_asked tree plan ++ all_slots_asked tree plan
+
+-- each of them has a good certificate
+abbrev pub AreRefuted : List Asked → List Certificate → Type 0
+AreRefuted questions certificates = AllZip (λ q c. IsGood q.task.system c) questions certificates
+
+-- the word for an answer by which a system is kept
+abbrev pub word_for : Answer → Option Word
+word_for (answers.Infeasible certificate) = None
+word_for answers.Open = Some Open
+word_for (answers.Wide level upper lower) = Some Wide
+word_for (answers.Many level count) = Some Many
+
+-- what is said of a system that is kept, with this answer
+pub record IsSaid (q : Asked) (answer : Answer) (cause : Cause) : Type 0 where
+  pub kept : IsKept q.task.system q.order answer
+  pub word : word_for answer ≡ Some cause.word
+  pub lines : cause.lines ≡ q.task.lines
+  pub variable : cause.variable ≡ q.task.variable
+  pub level : cause.level ≡ q.task.level
+  pub piece : cause.piece ≡ q.task.piece
+
+-- the first of these that isn't refuted: those before it have good certificates, and it is kept
+pub record IsCause (questions : List Asked) (cause : Cause) : Type 0 where
+  pub place : ℕ
+  pub certificates : List Certificate
+  pub before : AreRefuted (take place questions) certificates
+  pub question : Asked
+  pub at : slice_get questions place ≡ Some question
+  pub answer : Answer
+  pub said : IsSaid question answer cause

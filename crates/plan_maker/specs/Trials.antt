@@ -1,0 +1,27 @@
+-- The systems of slots under kinds.
+use Rattle.std.specs.Prelude.{◌≡◌, ◌++◌, List}
+use Rattle.std.specs.List.{AllZip, flat_map}
+use Rattle.nest_tree.specs.Tree.{Tree}
+use Rattle.sync_plan.specs.declared.plan.Kind.{Kind}
+use Rattle.sync_plan.specs.declared.plan.Plan.{Plan}
+use Rattle.sync_plan.specs.declared.plan.Version.TheVariants.{Two}
+use Rattle.comm_system.specs.Obligations.{Slot, slot_signature}
+use Rattle.comm_system.specs.References.{StaticPhase}
+use Rattle.plan_maker.specs.declared.memory.Memory.{Memory}
+use Rattle.farkas_cert.specs.declared.certificate.Certificate.{Certificate}
+use Rattle.plan_maker.specs.Asked.{AreRefuted, Asked, slot_asked}
+use Rattle.plan_maker.specs.Memories.{IsMemory}
+
+-- a memory for each slot
+abbrev pub AreMemories : Tree → Plan → List Slot → List Memory → Type 0
+AreMemories tree plan slots memories = AllZip (IsMemory tree plan) slots memories
+
+-- what is asked of the slots, where these kinds stand in front of the phases
+abbrev pub slots_asked : Tree → Plan → List Kind → List StaticPhase → List Slot → List Asked
+slots_asked tree plan kinds phases slots = flat_map (λ slot. slot_asked tree plan slot (slot_signature Two kinds phases slot)) slots
+
+-- certificates that refute these systems, behind others
+pub record HasMoreCertificates (questions : List Asked) (old new : List Certificate) : Type 0 where
+  pub more : List Certificate
+  pub behind : new ≡ old ++ more
+  pub refuted : AreRefuted questions more

@@ -1,0 +1,233 @@
+// What may stand in front of a phase.
+
+ghost use Rattle.std.specs.Prelude.{◌≡◌, ◌&&◌, ◌++◌, [], IfOk, OnOk, map, not, slice_get};
+ghost use Rattle.std.specs.List.{list_any};
+ghost use Rattle.nest_rows.specs.Views.{heads_of};
+ghost use Rattle.sync_plan.specs.declared.plan.Kind.TheVariants.{Producer};
+ghost use Rattle.sync_plan.specs.Fit.{is_dealt as dealt};
+ghost use Rattle.comm_system.specs.Boundaries.{is_prefix as are_first_of};
+ghost use Rattle.comm_system.specs.PhaseViews.{phase_seen};
+ghost use Rattle.plan_maker.specs.Candidates.{are_same_pairs, candidate as candidate_of, candidates_at, each_once, is_same_anchor, is_same_dist, kinds_taken, or_barrier, single_anchors, single_more};
+
+use crate::dealt::is_dealt;
+use crate::places::{copy_of_anchor, item_at};
+use comm_system::phase::Phase;
+use nest_rows::Around;
+use owner_partition::{Anchor, Dist, Mark};
+use std::alloc::{AllocError, Global};
+use sync_plan::{Kind, Kinds};
+
+// Whether two lists of pairs are the same.
+fn are_same_pairs(these: &[(u32, i64)], those: &[(u32, i64)]) -> bool
+    ensures { result ≡ are_same_pairs these.now those.now }
+{
+    match these {
+        [] => those.is_empty(),
+        [a, these @ ..] => match those {
+            [] => false,
+            [b, those @ ..] => a.0 == b.0 && a.1 == b.1 && are_same_pairs(these, those),
+        },
+    }
+}
+
+fn is_same_dist(a: Dist, b: Dist) -> bool
+    ensures { result ≡ is_same_dist a b }
+{
+    match a {
+        Dist::Block(a) => match b {
+            Dist::Block(b) => a == b,
+            Dist::Cyclic => false,
+        },
+        Dist::Cyclic => match b {
+            Dist::Block(_) => false,
+            Dist::Cyclic => true,
+        },
+    }
+}
+
+/// Whether two anchors have the same form and deal its places the same way.
+pub(crate) fn is_same_anchor(a: &Anchor, b: &Anchor) -> bool
+    ensures { result ≡ is_same_anchor a.now b.now }
+{
+    a.form.constant() == b.form.constant()
+        && are_same_pairs(a.form.loops(), b.form.loops())
+        && are_same_pairs(a.form.params(), b.form.params())
+        && is_same_dist(a.dist, b.dist)
+}
+
+// Whether an anchor is among these.
+fn is_among(anchor: &Anchor, anchors: &[Anchor]) -> bool
+    ensures { result ≡ list_any (is_same_anchor anchor.now) anchors.now }
+{
+    for one in anchors {
+        if is_same_anchor(anchor, one) {
+            return true;
+        }
+    }
+    false
+}
+
+// Whether these loops are the first of those.
+fn is_prefix(these: &[Around], those: &[Around]) -> bool
+    ensures { result ≡ are_first_of (heads_of these.now) (heads_of those.now) }
+{
+    match these {
+        [] => true,
+        [a, these @ ..] => match those {
+            [] => false,
+            [b, those @ ..] => a.nest.number == b.nest.number && is_prefix(these, those),
+        },
+    }
+}
+
+// Whether a phase isn't dealt out and its Outer loops are the first of those round another.
+fn can_produce(marks: &[Mark], one: &Phase, phase: &Phase) -> bool
+    ensures { result ≡ (not (dealt marks.now (phase_seen one.now).what) && are_first_of (phase_seen one.now).outer (phase_seen phase.now).outer) }
+{
+    !is_dealt(marks, one.item) && is_prefix(one.outer.as_slice(), phase.outer.as_slice())
+}
+
+// The anchor of a phase behind these, where it can produce for another one and isn't among them.
+fn push_single(
+    alloc: Global,
+    marks: &[Mark],
+    one: &Phase,
+    phase: &Phase,
+    found: &mut Vec<Anchor>,
+    anchor: &Anchor,
+) -> Result<(), AllocError>
+    ensures { OnOk result (found.new.items ≡ single_more marks.now (phase_seen phase.now) found.old.items (phase_seen one.now) anchor.now) }
+{
+    if !can_produce(marks, one, phase) || is_among(anchor, found.as_slice()) {
+        return Ok(());
+    }
+    found.push(copy_of_anchor(alloc, anchor)?)?;
+    Ok(())
+}
+
+// The anchors of the phases that aren't dealt out and whose Outer loops are the first of those
+// round this phase, each once.
+fn single_anchors(
+    alloc: Global,
+    marks: &[Mark],
+    phases: &[Phase],
+    anchors: &[Anchor],
+    phase: &Phase,
+) -> Result<Vec<Anchor>, AllocError>
+    ensures { IfOk result (λ found. found.items ≡ each_once [] (single_anchors marks.now (phase_seen phase.now) (map phase_seen phases.now) anchors.now)) }
+{
+    let mut found = Vec::new(alloc);
+    for (place, one) in phases.iter().enumerate() {
+        let Some(anchor) = item_at(anchors, place) else {
+            return Ok(found);
+        };
+        push_single(alloc, marks, one, phase, &mut found, anchor)?;
+    }
+    Ok(found)
+}
+
+// Producers with these anchors, behind the others.
+fn push_producers(kinds: &mut Vec<Kind>, anchors: Vec<Anchor>) -> Result<(), AllocError>
+    ensures { OnOk result (kinds.new.items ≡ kinds.old.items ++ map Producer anchors.items) }
+{
+    for anchor in anchors {
+        kinds.push(Kind::Producer(anchor))?;
+    }
+    Ok(())
+}
+
+// The candidates in front of a phase, from the weakest on.
+fn candidates_at(
+    alloc: Global,
+    marks: &[Mark],
+    phases: &[Phase],
+    anchors: &[Anchor],
+    phase: &Phase,
+) -> Result<Vec<Kind>, AllocError>
+    ensures { IfOk result (λ kinds. kinds.items ≡ candidates_at marks.now (map phase_seen phases.now) anchors.now (phase_seen phase.now)) }
+{
+    let singles = single_anchors(alloc, marks, phases, anchors, phase)?;
+    let mut kinds = Vec::new(alloc);
+    kinds.push(Kind::Nothing)?;
+    push_producers(&mut kinds, singles)?;
+    kinds.push(Kind::Left)?;
+    kinds.push(Kind::Right)?;
+    kinds.push(Kind::Both)?;
+    kinds.push(Kind::Barrier)?;
+    Ok(kinds)
+}
+
+/// The candidates in front of each phase.
+pub(crate) fn all_candidates(
+    alloc: Global,
+    marks: &[Mark],
+    phases: &[Phase],
+    anchors: &[Anchor],
+) -> Result<Vec<Kinds>, AllocError>
+    ensures { IfOk result (λ all. all.items ≡ map (candidates_at marks.now (map phase_seen phases.now) anchors.now) (map phase_seen phases.now)) }
+{
+    let mut all = Vec::new(alloc);
+    for phase in phases {
+        let kinds = candidates_at(alloc, marks, phases, anchors, phase)?;
+        all.push(Kinds::from_vec(kinds))?;
+    }
+    Ok(all)
+}
+
+/// A kind like this one.
+pub(crate) fn copy_of_kind(alloc: Global, kind: &Kind) -> Result<Kind, AllocError>
+    ensures { IfOk result (λ copy. copy ≡ kind.now) }
+{
+    Ok(match kind {
+        Kind::Nothing => Kind::Nothing,
+        Kind::Producer(anchor) => Kind::Producer(copy_of_anchor(alloc, anchor)?),
+        Kind::Left => Kind::Left,
+        Kind::Right => Kind::Right,
+        Kind::Both => Kind::Both,
+        Kind::Barrier => Kind::Barrier,
+        Kind::Join => Kind::Join,
+    })
+}
+
+// The candidate at this place; a barrier where there is none.
+fn kind_at(alloc: Global, candidates: &[Kind], place: usize) -> Result<Kind, AllocError>
+    ensures { IfOk result (λ kind. kind ≡ or_barrier (slice_get candidates.now place)) }
+{
+    match item_at(candidates, place) {
+        Some(kind) => copy_of_kind(alloc, kind),
+        None => Ok(Kind::Barrier),
+    }
+}
+
+/// The candidate of a phase at a place; a barrier where there is none.
+pub(crate) fn candidate(
+    alloc: Global,
+    candidates: &[Kinds],
+    phase: usize,
+    place: usize,
+) -> Result<Kind, AllocError>
+    ensures { IfOk result (λ kind. kind ≡ candidate_of candidates.now (record { phase = phase; place = place })) }
+{
+    match item_at(candidates, phase) {
+        Some(kinds) => kind_at(alloc, kinds.as_slice(), place),
+        None => Ok(Kind::Barrier),
+    }
+}
+
+/// The kinds that are taken, each by its place among the candidates.
+pub(crate) fn kinds_taken(
+    alloc: Global,
+    candidates: &[Kinds],
+    taken: &[usize],
+) -> Result<Vec<Kind>, AllocError>
+    ensures { IfOk result (λ kinds. kinds.items ≡ kinds_taken candidates.now taken.now) }
+{
+    let mut kinds = Vec::new(alloc);
+    for (phase, all) in candidates.iter().enumerate() {
+        if phase >= taken.len() {
+            return Ok(kinds);
+        }
+        kinds.push(kind_at(alloc, all.as_slice(), taken[phase])?)?;
+    }
+    Ok(kinds)
+}

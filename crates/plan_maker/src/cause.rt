@@ -1,0 +1,27 @@
+// Why a system is kept.
+
+/// The answer by which elimination keeps a system.
+#[derive(Clone, Copy, Debug, PartialEq, Eq)]
+pub enum Word {
+    /// It has a rational solution.
+    Open,
+    /// A number gets too large.
+    Wide,
+    /// A level has too many rows.
+    Many,
+}
+
+/// A system that is kept: what it speaks of, and the answer.
+#[derive(Clone, Copy, Debug, PartialEq, Eq)]
+pub struct Cause {
+    /// The lines of the two accesses' statements, from 1.
+    pub lines: (u32, u32),
+    /// The variable that both access, from 1.
+    pub variable: u32,
+    /// The common loop, from 1, that is at an earlier trip for the first access; 0 where all
+    /// common loops are equal, and for two trips of a loop.
+    pub level: u32,
+    /// The piece, from 1; 0 for two trips of a loop.
+    pub piece: u32,
+    pub word: Word,
+}

@@ -1,0 +1,192 @@
+// The plan of a program.
+
+ghost use Rattle.std.specs.Prelude.{◌≡◌, ◌≤◌, ◌<◌, ◌^◌, IfOk, None, length, map};
+ghost use Rattle.nest_tree.specs.Limits.{IsWithinLimits};
+ghost use Rattle.nest_tree.specs.Tree.{Tree};
+ghost use Rattle.nest_tree.specs.View.{tree_of};
+ghost use Rattle.nest_tree.specs.WellFormed.{IsWellFormed};
+ghost use Rattle.sync_plan.specs.Fit.{IsFit};
+ghost use Rattle.sync_plan.specs.declared.plan.Plan.{Plan as HeldPlan};
+ghost use Rattle.comm_system.specs.SlotViews.{slot_seen};
+ghost use Rattle.std.specs.List.{AllZip};
+ghost use Rattle.plan_maker.specs.Bars.{IsLoopReason, open_loops};
+ghost use Rattle.plan_maker.specs.Cut.{IsReasonedCut};
+ghost use Rattle.plan_maker.specs.Made.{IsMade, with_found};
+ghost use Rattle.plan_maker.specs.Trials.{AreMemories};
+ghost use Rattle.sync_plan.specs.Shape.{wrong_field};
+ghost use Rattle.plan_maker.specs.Settled.{IsSettled};
+ghost use Rattle.plan_maker.specs.Weakest.{IsWeakest};
+
+use crate::anchors::anchors_of;
+use crate::candidates::{all_candidates, kinds_taken};
+use crate::dealt::judge_trips;
+use crate::judge::Verdict;
+use crate::loops::{barred_loops, fitting, judge_loops, loop_reasons};
+use crate::marks::push_marks;
+use crate::memory::Memory;
+use crate::passes::settle_all;
+use crate::reasons::{LoopReason, PhaseReason, Reasons};
+use crate::trial::{Ground, push_certificates};
+use comm_system::phases::phases;
+use comm_system::slot::Slot;
+use comm_system::slot_list::slots;
+use farkas_cert::Certificate;
+use nest_tree::Program;
+use owner_partition::Cut;
+use std::alloc::{AllocError, Global};
+use sync_plan::{Certificates, Kind, Kinds, Plan, all_barrier};
+
+// The weakest kinds that were found, their certificates, and why there are no weaker ones.
+#[derive(Drop)]
+struct Weakest {
+    kinds: Vec<Kind>,
+    certificates: Vec<Certificate>,
+    reasons: Vec<PhaseReason>,
+}
+
+/// The plan of a program for 1 to 64 workers, with its reasons. The error is that memory ran out.
+pub fn make(
+    alloc: Global,
+    program: &Program,
+    workers: u32,
+) -> Result<(Plan, Reasons), AllocError>
+    requires formed { IsWellFormed (tree_of program.now) }
+    requires limits { IsWithinLimits (tree_of program.now) }
+    requires some { 1 ≤ workers }
+    requires few { workers ≤ 64 }
+    ensures { IfOk result (λ made. IsMade (tree_of program.now) workers made.0 made.1) }
+{
+    let (cut, loops) = make_cut(alloc, program)?;
+    let anchors = anchors_of(alloc, program, &cut, workers)?;
+    let base = all_barrier(alloc, cut, anchors, workers, Vec::new(alloc))?;
+    let base = fitting(program, base)?;
+    let Weakest {
+        kinds,
+        certificates,
+        reasons,
+    } = find_weakest(alloc, program, &base)?;
+    let plan = fitting(program, with(base, kinds, certificates))?;
+    let reasons = Reasons {
+        loops,
+        phases: reasons,
+    };
+    Ok((plan, reasons))
+}
+
+// Which loops are what, and why those that are Outer or Single aren't dealt out. A program with
+// 2 ^ 20 loops or more would be answered as if memory had run out; no well-formed one has so many.
+fn make_cut(alloc: Global, program: &Program) -> Result<(Cut, Vec<LoopReason>), AllocError>
+    requires formed { IsWellFormed (tree_of program.now) }
+    requires limits { IsWithinLimits (tree_of program.now) }
+    ensures reasoned { IfOk result (λ made. IsReasonedCut (tree_of program.now) made.0) }
+    ensures loops { IfOk result (λ made. AllZip (IsLoopReason (tree_of program.now)) (open_loops 1 made.0) made.1.items) }
+{
+    let verdicts = judge_loops(alloc, program)?;
+    let barred = barred_loops(alloc, verdicts.as_slice())?;
+    let mut marks = Vec::new(alloc);
+    push_marks(&mut marks, barred.as_slice(), &program.items)?;
+    if marks.len() >= 1 << 20 {
+        return Err(AllocError);
+    }
+    let loops = loop_reasons(alloc, marks.as_slice(), verdicts.as_slice())?;
+    let cut = Cut::new(alloc, marks)?;
+    Ok((cut, loops))
+}
+
+// The plan with these kinds and certificates.
+fn with(plan: Plan, kinds: Vec<Kind>, certificates: Vec<Certificate>) -> Plan
+    ensures { result ≡ with_found plan kinds.items certificates.items }
+{
+    Plan {
+        version: plan.version,
+        conditions: plan.conditions,
+        workers: plan.workers,
+        cut: plan.cut,
+        anchors: plan.anchors,
+        kinds: Kinds::from_vec(kinds),
+        certificates: Certificates::from_vec(certificates),
+    }
+}
+
+// A memory without a verdict for each slot.
+fn memories(alloc: Global, slots: &[Slot]) -> Result<Vec<Memory>, AllocError>
+    ensures { (tree : Tree) (plan : HeldPlan) → IfOk result (λ memories. AreMemories tree plan (map slot_seen slots.now) memories.items) }
+{
+    let mut memories = Vec::new(alloc);
+    for _place in 0..slots.len() {
+        memories.push(Memory::new(alloc))?;
+    }
+    Ok(memories)
+}
+
+// Of each phase the place of its last candidate.
+fn last_places(alloc: Global, candidates: &[Kinds]) -> Result<Vec<usize>, AllocError>
+    ensures { IfOk result (λ places. length places.items ≡ length candidates.now) }
+{
+    let mut places = Vec::new(alloc);
+    for kinds in candidates {
+        places.push(kinds.as_slice().len().saturating_sub(1))?;
+    }
+    Ok(places)
+}
+
+// The weakest kinds in front of the phases of a plan that fits. Where two trips of a Doall loop are
+// kept, or a slot's systems weren't asked about, it is as if memory had run out.
+fn find_weakest(alloc: Global, program: &Program, plan: &Plan) -> Result<Weakest, AllocError>
+    requires formed { IsWellFormed (tree_of program.now) }
+    requires fits { IsFit (tree_of program.now) plan.now }
+    ensures { IfOk result (IsWeakest (tree_of program.now) plan.now) }
+{
+    let phases = phases(alloc, program, &plan.cut)?;
+    let Verdict::Refuted(certificates) =
+        judge_trips(alloc, program, plan, phases.as_slice())?
+    else {
+        return Err(AllocError);
+    };
+    let slots = slots(alloc, phases.as_slice())?;
+    let ground = Ground {
+        program,
+        plan,
+        phases: phases.as_slice(),
+        slots: slots.as_slice(),
+    };
+    let (marks, anchors) = (plan.cut.as_slice(), plan.anchors.as_slice());
+    let candidates = all_candidates(alloc, marks, phases.as_slice(), anchors)?;
+    let mut memories = memories(alloc, slots.as_slice())?;
+    let mut taken = last_places(alloc, candidates.as_slice())?;
+    let found = settled(
+        alloc,
+        ground,
+        memories.as_mut_slice(),
+        candidates.as_slice(),
+        taken.as_mut_slice(),
+        certificates,
+    )?;
+    Ok(found)
+}
+
+// The kinds that are left when no pass changes anything, with their certificates behind these.
+fn settled(
+    alloc: Global,
+    ground: Ground,
+    memories: &mut [Memory],
+    candidates: &[Kinds],
+    taken: &mut [usize],
+    certificates: Vec<Certificate>,
+) -> Result<Weakest, AllocError>
+    requires shape { wrong_field (tree_of ground.program.now) ground.plan.now ≡ None }
+    requires few { length ground.phases.now < 2 ^ 20 }
+    requires phases { length taken.old < 2 ^ 20 }
+    requires memories { AreMemories (tree_of ground.program.now) ground.plan.now (map slot_seen ground.slots.now) memories.old }
+    ensures { IfOk result (IsSettled ground.entry candidates.now certificates.items) }
+{
+    let reasons = settle_all(alloc, ground, memories, candidates, taken)?;
+    let kinds = kinds_taken(alloc, candidates, taken)?;
+    let mut certificates = certificates;
+    push_certificates(alloc, ground, memories, kinds.as_slice(), &mut certificates)?;
+    Ok(Weakest {
+        kinds,
+        certificates,
+        reasons,
+    })
+}

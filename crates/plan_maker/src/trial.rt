@@ -1,0 +1,151 @@
+// The systems of a plan's slots under other kinds.
+
+ghost use Rattle.std.specs.Prelude.{◌≡◌, ◌<◌, ◌^◌, IfOk, IsTrue, None, OnOk, length, map, [], ◌++◌};
+ghost use Rattle.std.specs.List.{AllZip, flat_map, list_all};
+ghost use Rattle.nest_tree.specs.Tree.{Tree};
+ghost use Rattle.nest_tree.specs.View.{tree_of};
+ghost use Rattle.sync_plan.specs.Shape.{wrong_field};
+ghost use Rattle.sync_plan.specs.declared.plan.Version.TheVariants.{Two};
+ghost use Rattle.comm_system.specs.Obligations.{slot_signature as signature_under};
+ghost use Rattle.comm_system.specs.PhaseViews.{phase_seen};
+ghost use Rattle.comm_system.specs.SlotViews.{slot_seen};
+ghost use Rattle.comm_system.specs.Signatures.{has_places_in};
+ghost use Rattle.plan_maker.specs.Asked.{AreRefuted, slot_asked};
+ghost use Rattle.plan_maker.specs.Judged.{IsOutcome};
+ghost use Rattle.plan_maker.specs.Memories.{IsMemory};
+ghost use Rattle.plan_maker.specs.Trials.{AreMemories, HasMoreCertificates, slots_asked};
+
+use crate::cause::Cause;
+use crate::memory::Memory;
+use crate::seat::has_places;
+use comm_system::phase::Phase;
+use comm_system::signature::{Signature, slot_signature};
+use comm_system::slot::Slot;
+use farkas_cert::Certificate;
+use nest_tree::Program;
+use std::alloc::{AllocError, Global};
+use sync_plan::{Kind, Plan, Version};
+
+/// A program and a plan of it, of whose kinds nothing is looked at, with its static phases and
+/// slots.
+#[derive(Clone, Copy)]
+pub(crate) struct Ground<'b, 'a> {
+    pub(crate) program: &'b Program,
+    pub(crate) plan: &'b Plan,
+    pub(crate) phases: &'b [Phase<'a>],
+    pub(crate) slots: &'b [Slot<'b, 'a>],
+}
+
+// Whether the producers among these kinds have blocks of a length, as those of a plan that fits.
+fn have_places(kinds: &[Kind]) -> bool
+    ensures { result ≡ list_all has_places_in kinds.now }
+{
+    for kind in kinds {
+        if !has_places_in(kind) {
+            return false;
+        }
+    }
+    true
+}
+
+fn has_places_in(kind: &Kind) -> bool
+    ensures { result ≡ has_places_in kind.now }
+{
+    match kind {
+        Kind::Producer(anchor) => has_places(anchor.dist),
+        Kind::Nothing | Kind::Left | Kind::Right | Kind::Both | Kind::Barrier | Kind::Join => true,
+    }
+}
+
+// The first system of a slot under these kinds that is kept, if any.
+fn ask_slot(
+    alloc: Global,
+    ground: Ground,
+    slot: &Slot,
+    memory: &mut Memory,
+    kinds: &[Kind],
+) -> Result<Option<Cause>, AllocError>
+    requires shape { wrong_field (tree_of ground.program.now) ground.plan.now ≡ None }
+    requires few { length ground.phases.now < 2 ^ 20 }
+    requires places { IsTrue (list_all has_places_in kinds.now) }
+    requires memory { IsMemory (tree_of ground.program.now) ground.plan.now (slot_seen slot.now) memory.old }
+    ensures memory { OnOk result (IsMemory (tree_of ground.entry.program.now) ground.entry.plan.now (slot_seen slot.now) memory.new) }
+    ensures outcome { IfOk result (IsOutcome (slot_asked (tree_of ground.entry.program.now) ground.entry.plan.now (slot_seen slot.now) (signature_under Two kinds.now (map phase_seen ground.entry.phases.now) (slot_seen slot.now)))) }
+{
+    match slot_signature(alloc, Version::Two, kinds, ground.phases, slot)? {
+        Signature::Blocked => Ok(None),
+        Signature::Waits(waits) => memory.ask(alloc, ground.program, ground.plan, slot, &waits),
+    }
+}
+
+/// The first system of the slots under these kinds that is kept, if any.
+pub(crate) fn ask_slots(
+    alloc: Global,
+    ground: Ground,
+    memories: &mut [Memory],
+    kinds: &[Kind],
+) -> Result<Option<Cause>, AllocError>
+    requires shape { wrong_field (tree_of ground.program.now) ground.plan.now ≡ None }
+    requires few { length ground.phases.now < 2 ^ 20 }
+    requires memories { AreMemories (tree_of ground.program.now) ground.plan.now (map slot_seen ground.slots.now) memories.old }
+    ensures memories { OnOk result (AreMemories (tree_of ground.entry.program.now) ground.entry.plan.now (map slot_seen ground.entry.slots.now) memories.new) }
+    ensures outcome { IfOk result (IsOutcome (slots_asked (tree_of ground.entry.program.now) ground.entry.plan.now kinds.now (map phase_seen ground.entry.phases.now) (map slot_seen ground.entry.slots.now))) }
+{
+    if !have_places(kinds) {
+        return Err(AllocError);
+    }
+    for place in 0..memories.len() {
+        let slot = &ground.slots[place];
+        if let Some(cause) = ask_slot(alloc, ground, slot, &mut memories[place], kinds)? {
+            return Ok(Some(cause));
+        }
+    }
+    Ok(None)
+}
+
+// The certificates of a slot's systems under these kinds, if those were asked about. Where they
+// weren't, or one is kept, it is as if memory had run out.
+fn slot_certificates(
+    alloc: Global,
+    ground: Ground,
+    slot: &Slot,
+    memory: &mut Memory,
+    kinds: &[Kind],
+) -> Result<Vec<Certificate>, AllocError>
+    requires few { length ground.phases.now < 2 ^ 20 }
+    requires places { IsTrue (list_all has_places_in kinds.now) }
+    requires memory { IsMemory (tree_of ground.program.now) ground.plan.now (slot_seen slot.now) memory.old }
+    ensures memory { OnOk result (IsMemory (tree_of ground.entry.program.now) ground.entry.plan.now (slot_seen slot.now) memory.new) }
+    ensures certificates { IfOk result (λ cs. AreRefuted (slot_asked (tree_of ground.entry.program.now) ground.entry.plan.now (slot_seen slot.now) (signature_under Two kinds.now (map phase_seen ground.entry.phases.now) (slot_seen slot.now))) cs.items) }
+{
+    match slot_signature(alloc, Version::Two, kinds, ground.phases, slot)? {
+        Signature::Blocked => Ok(Vec::new(alloc)),
+        Signature::Waits(waits) => match memory.take(alloc, &waits) {
+            Some(certificates) => Ok(certificates),
+            None => Err(AllocError),
+        },
+    }
+}
+
+/// The certificates of the slots' systems under these kinds, behind the others.
+pub(crate) fn push_certificates(
+    alloc: Global,
+    ground: Ground,
+    memories: &mut [Memory],
+    kinds: &[Kind],
+    certificates: &mut Vec<Certificate>,
+) -> Result<(), AllocError>
+    requires few { length ground.phases.now < 2 ^ 20 }
+    requires memories { AreMemories (tree_of ground.program.now) ground.plan.now (map slot_seen ground.slots.now) memories.old }
+    ensures { OnOk result (HasMoreCertificates (slots_asked (tree_of ground.entry.program.now) ground.entry.plan.now kinds.now (map phase_seen ground.entry.phases.now) (map slot_seen ground.entry.slots.now)) certificates.old.items certificates.new.items) }
+{
+    if !have_places(kinds) {
+        return Err(AllocError);
+    }
+    for place in 0..memories.len() {
+        let slot = &ground.slots[place];
+        let mut more = slot_certificates(alloc, ground, slot, &mut memories[place], kinds)?;
+        certificates.append(&mut more)?;
+    }
+    Ok(())
+}
