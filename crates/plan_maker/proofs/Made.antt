@@ -29,7 +29,7 @@ use Rattle.plan_maker.specs.declared.reasons.LoopReason.{LoopReason}
 use Rattle.plan_maker.specs.declared.reasons.PhaseReason.{PhaseReason}
 use Rattle.plan_maker.specs.declared.reasons.Reasons.{Reasons}
 use Rattle.plan_maker.specs.Anchors.{maker_anchors}
-use Rattle.plan_maker.specs.Asked.{AreRefuted, Asked, IsCause, all_asked, asked, slot_asked, trips_asked}
+use Rattle.plan_maker.specs.Asked.{AreRefuted, Asked, IsCause, all_asked, asked, owners_dealt, slot_asked, trips_asked}
 use Rattle.plan_maker.specs.Bars.{IsBar, IsLoopReason, open_loops}
 use Rattle.plan_maker.specs.Candidates.{Choice, candidates_of, kinds_taken, weaker_from}
 use Rattle.plan_maker.specs.Cut.{IsBarred, IsReasonedCut}
@@ -67,7 +67,7 @@ module _ (tree : Tree) (base : Plan) (kinds : List Kind) (certificates : List Ce
 
   slot-tasks : (slot : Slot) (sig : Signature) → map (λ (q : Asked). q.task) (slot_asked tree base slot sig) ≡ slot_tasks tree found slot sig
   slot-tasks slot blocked = refl
-  slot-tasks slot (waits left right producers) = tasks_asked _ (slot_tasks tree base slot (waits left right producers))
+  slot-tasks slot (waits left right producers) = tasks_asked (owners_dealt base slot producers) (slot_tasks tree base slot (waits left right producers))
 
   all-tasks : map (λ (q : Asked). q.task) (asked_under tree base kinds) ≡ tasks_of tree found
   all-tasks =
