@@ -42,6 +42,7 @@ module _ (marks : List Mark) (t : StaticPhase) where
           let rs = single_anchors marks t phases anchors in
           ap (λ b. seen ++ (if b then each_once seen rs else a ∷ each_once (seen ++ a ∷ []) rs)) e ∙ sym (append_assoc seen (a ∷ []) (each_once (seen ++ a ∷ []) rs))
           ∙ sym (ap (λ b. (if b then seen else seen ++ a ∷ []) ++ each_once (if b then seen else seen ++ a ∷ []) rs) e)
+
       by : (can same : Bool) → list_any (is_same_anchor a) seen ≡ same →
           seen ++ each_once seen (if can then a ∷ single_anchors marks t phases anchors else single_anchors marks t phases anchors)
           ≡ (if can then (if list_any (is_same_anchor a) seen then seen else seen ++ a ∷ []) else seen) ++ each_once (if can then (if list_any (is_same_anchor a) seen then seen else seen ++ a ∷ []) else seen) (single_anchors marks t phases anchors)

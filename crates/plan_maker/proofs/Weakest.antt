@@ -55,17 +55,17 @@ module _ (g : Ground) (trips : List Certificate) (candidates : List (List Kind))
       let tree = tree_of g.program.now in
       let plan = g.plan.now in
       let under : (ks : List Kind) → slots_asked tree plan ks (map phase_seen g.phases.now) (map slot_seen g.slots.now) ≡ slots_asked tree plan ks (phases_of tree plan.cut) (slots_of (phases_of tree plan.cut)) =
-          λ ks. ap (λ ps. slots_asked tree plan ks ps (map slot_seen g.slots.now)) phases ∙ ap (slots_asked tree plan ks (phases_of tree plan.cut)) slots in
+      λ ks. ap (λ ps. slots_asked tree plan ks ps (map slot_seen g.slots.now)) phases ∙ ap (slots_asked tree plan ks (phases_of tree plan.cut)) slots in
       let all = refuted-append (all_trips_asked tree plan) (slots_asked tree plan w.kinds.items (phases_of tree plan.cut) (slots_of (phases_of tree plan.cut))) trips more.more refuted (subst (λ qs. AreRefuted qs more.more) (under w.kinds.items) more.refuted) in
       let weak : (c : Choice) (r : PhaseReason) → IsTrialReason g candidates taken c r → IsWeakReason tree plan taken c r =
-          λ c r h.
-          let ks = kinds_taken candidates (slice_set taken c.phase c.place) in
-          let behind = cause-behind (all_trips_asked tree plan) (slots_asked tree plan ks (phases_of tree plan.cut) (slots_of (phases_of tree plan.cut))) trips r.cause refuted (subst (λ qs. IsCause qs r.cause) (under ks) h.cause) in
-          record {
-            phase = h.phase;
-            kind = h.kind ∙ ap (λ cs. candidate cs c) cands;
-            cause = subst (λ cs. IsCause (asked_under tree plan (kinds_taken cs (slice_set taken c.phase c.place))) r.cause) cands behind;
-          } in
+      λ c r h.
+      let ks = kinds_taken candidates (slice_set taken c.phase c.place) in
+      let behind = cause-behind (all_trips_asked tree plan) (slots_asked tree plan ks (phases_of tree plan.cut) (slots_of (phases_of tree plan.cut))) trips r.cause refuted (subst (λ qs. IsCause qs r.cause) (under ks) h.cause) in
+      record {
+        phase = h.phase;
+        kind = h.kind ∙ ap (λ cs. candidate cs c) cands;
+        cause = subst (λ cs. IsCause (asked_under tree plan (kinds_taken cs (slice_set taken c.phase c.place))) r.cause) cands behind;
+      } in
       record {
         taken = taken;
         kinds = kinds ∙ ap (λ cs. kinds_taken cs taken) cands;

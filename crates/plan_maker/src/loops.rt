@@ -12,10 +12,10 @@ ghost use Rattle.plan_maker.specs.Cut.{alone as alone_marks, alone_among, alone_
 ghost use Rattle.plan_maker.specs.Loops.{AreLoopVerdicts, IsLoopVerdict, is_barred};
 ghost use Rattle.plan_maker.specs.Bars.{HasLoopReasons, IsLoopReason, is_open, open_loop, open_loops};
 
-use crate::marks::push_closed;
-use crate::places::{first_processors, item_at};
 use crate::dealt::{does_dealt_print, judge_trips};
 use crate::judge::Verdict;
+use crate::marks::push_closed;
+use crate::places::{first_processors, item_at};
 use crate::reasons::{Bar, LoopReason};
 use comm_system::phases::phases;
 use nest_tree::{Item, Program};
@@ -32,10 +32,7 @@ pub(crate) enum LoopVerdict {
 }
 
 /// Verdicts on a program's loops, by number.
-pub(crate) fn judge_loops(
-    alloc: Global,
-    program: &Program,
-) -> Result<Vec<LoopVerdict>, AllocError>
+pub(crate) fn judge_loops(alloc: Global, program: &Program) -> Result<Vec<LoopVerdict>, AllocError>
     requires formed { IsWellFormed (tree_of program.now) }
     requires limits { IsWithinLimits (tree_of program.now) }
     ensures long { IfOk result (λ verdicts. length verdicts.items ≡ loops_of (tree_of program.now).items) }
@@ -135,10 +132,7 @@ fn push_alone_loop(
 }
 
 /// Of each loop, whether it is barred.
-pub(crate) fn barred_loops(
-    alloc: Global,
-    verdicts: &[LoopVerdict],
-) -> Result<Vec<bool>, AllocError>
+pub(crate) fn barred_loops(alloc: Global, verdicts: &[LoopVerdict]) -> Result<Vec<bool>, AllocError>
     ensures { IfOk result (λ barred. barred.items ≡ map is_barred verdicts.now) }
 {
     let mut barred = Vec::new(alloc);

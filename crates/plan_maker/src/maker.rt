@@ -45,11 +45,7 @@ struct Weakest {
 }
 
 /// The plan of a program for 1 to 64 workers, with its reasons. The error is that memory ran out.
-pub fn make(
-    alloc: Global,
-    program: &Program,
-    workers: u32,
-) -> Result<(Plan, Reasons), AllocError>
+pub fn make(alloc: Global, program: &Program, workers: u32) -> Result<(Plan, Reasons), AllocError>
     requires formed { IsWellFormed (tree_of program.now) }
     requires limits { IsWithinLimits (tree_of program.now) }
     requires some { 1 ≤ workers }
@@ -138,8 +134,7 @@ fn find_weakest(alloc: Global, program: &Program, plan: &Plan) -> Result<Weakest
     ensures { IfOk result (IsWeakest (tree_of program.now) plan.now) }
 {
     let phases = phases(alloc, program, &plan.cut)?;
-    let Verdict::Refuted(certificates) =
-        judge_trips(alloc, program, plan, phases.as_slice())?
+    let Verdict::Refuted(certificates) = judge_trips(alloc, program, plan, phases.as_slice())?
     else {
         return Err(AllocError);
     };

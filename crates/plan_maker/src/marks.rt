@@ -76,7 +76,11 @@ fn is_free(barred: &[bool], number: u32, items: &[Item]) -> bool
 }
 
 /// The marks of a loop that is a phase, and of the loops in its body.
-pub(crate) fn push_closed(marks: &mut Vec<Mark>, mark: Mark, items: &[Item]) -> Result<(), AllocError>
+pub(crate) fn push_closed(
+    marks: &mut Vec<Mark>,
+    mark: Mark,
+    items: &[Item],
+) -> Result<(), AllocError>
     ensures { OnOk result (marks.new.items ≡ marks.old.items ++ mark ∷ inner_of (statements_from items.now)) }
 {
     marks.push(mark)?;

@@ -76,11 +76,7 @@ fn push_rounds(order: &mut Vec<u32>, first: u32, dists: &[Dist]) -> Result<(), A
 }
 
 // The order by which the unknowns are removed.
-fn removal_order(
-    alloc: Global,
-    unknowns: u32,
-    dists: &[Dist],
-) -> Result<Vec<u32>, AllocError>
+fn removal_order(alloc: Global, unknowns: u32, dists: &[Dist]) -> Result<Vec<u32>, AllocError>
     requires owners { unknowns_of_all dists.now ≤ unknowns }
     requires room { unknowns < 2 ^ 32 - 1 }
     requires few { length dists.now < 2 ^ 20 }

@@ -110,7 +110,15 @@ fn pass(
     let mut reasons = Vec::new(alloc);
     let mut changed = false;
     for phase in 0..taken.len() {
-        if settle(alloc, ground, memories, candidates, taken, phase, &mut reasons)? {
+        if settle(
+            alloc,
+            ground,
+            memories,
+            candidates,
+            taken,
+            phase,
+            &mut reasons,
+        )? {
             changed = true;
         }
     }

@@ -16,14 +16,14 @@ loop-phase-preserved c =
     let new = c.settle.new.taken in
     let within : k < length old = omega (arith, c.loop-phase.auto.taken, c.loop-phase-test.true) in
     let step : (unsettled : c.in_ok-settle.field-0 ≡ false) → c.loop-phase.changed ≡ false → AllZip (IsTrialReason ground candidates new) (weaker_from 0 (take (k + 1) new)) c.settle.new.reasons.items =
-        λ unsettled unchanged.
-        let more = c.in_ok-settle.ensures.reasons unsettled in
-        let at : 0 + k ≡ k = omega arith in
-        let split = weaker_more 0 old k within ∙ ap (λ j. weaker_from 0 (take k old) ++ weaker_at j (get_or old k 0)) at in
-        subst (λ ts. AllZip (IsTrialReason ground candidates ts) (weaker_from 0 (take (k + 1) ts)) c.settle.new.reasons.items) (sym (c.in_ok-settle.ensures.same unsettled))
-        (subst (λ rs. AllZip (IsTrialReason ground candidates old) (weaker_from 0 (take (k + 1) old)) rs) (sym more.behind)
-        (subst (λ cs. AllZip (IsTrialReason ground candidates old) cs (c.loop-phase.reasons.items ++ more.more)) (sym split)
-        (AllZip-append (IsTrialReason ground candidates old) (weaker_from 0 (take k old)) (weaker_at k (get_or old k 0)) c.loop-phase.reasons.items more.more (c.loop-phase.invariant.reasons unchanged) more.reasons))) in
+    λ unsettled unchanged.
+    let more = c.in_ok-settle.ensures.reasons unsettled in
+    let at : 0 + k ≡ k = omega arith in
+    let split = weaker_more 0 old k within ∙ ap (λ j. weaker_from 0 (take k old) ++ weaker_at j (get_or old k 0)) at in
+    subst (λ ts. AllZip (IsTrialReason ground candidates ts) (weaker_from 0 (take (k + 1) ts)) c.settle.new.reasons.items) (sym (c.in_ok-settle.ensures.same unsettled))
+    (subst (λ rs. AllZip (IsTrialReason ground candidates old) (weaker_from 0 (take (k + 1) old)) rs) (sym more.behind)
+    (subst (λ cs. AllZip (IsTrialReason ground candidates old) cs (c.loop-phase.reasons.items ++ more.more)) (sym split)
+    (AllZip-append (IsTrialReason ground candidates old) (weaker_from 0 (take k old)) (weaker_at k (get_or old k 0)) c.loop-phase.reasons.items more.more (c.loop-phase.invariant.reasons unchanged) more.reasons))) in
     record {
       memories = c.in_ok-settle.ensures.memories;
       reasons = elim c.if-branch.branch [

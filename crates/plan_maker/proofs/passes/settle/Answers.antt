@@ -28,6 +28,6 @@ loop-place-preserved c =
         more = old.more ++ r ∷ [];
         behind = c.in_ok-push-in-Some.ensures.items ∙ ap (λ xs. xs ++ r ∷ []) old.behind ∙ append_assoc c.args.reasons.now.items old.more (r ∷ []);
         reasons = subst (λ cs. AllZip (IsTrialReason ground candidates taken) cs (old.more ++ r ∷ [])) (sym (weaker_next c.args.phase c.loop-place.place))
-        (AllZip-append (IsTrialReason ground candidates taken) (weaker_at c.args.phase c.loop-place.place) (choice ∷ []) old.more (r ∷ []) old.reasons (here, tt));
+            (AllZip-append (IsTrialReason ground candidates taken) (weaker_at c.args.phase c.loop-place.place) (choice ∷ []) old.more (r ∷ []) old.reasons (here, tt));
       };
     }
