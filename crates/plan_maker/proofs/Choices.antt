@@ -1,9 +1,8 @@
 -- Choices that are weaker than what is taken, phase by phase.
-use Rattle.std.proofs.Common.{◌≡◌, ℕ, zero, suc, ◌+◌, ◌<◌, List, [], ◌∷◌, ◌++◌, take, length, map, get_or, append_assoc, refl, ap, ap₂, sym, ◌∙◌, arith}
-use Rattle.std.specs.List.{range_with_len}
+use Rattle.std.proofs.Common.{◌≡◌, ℕ, zero, suc, ◌+◌, ◌<◌, List, [], ◌∷◌, ◌++◌, take, length, get_or, append_assoc, ap, sym, ◌∙◌, arith}
 use Rattle.std.proofs.lemmas.List.{append-nil}
 use Rattle.std.proofs.lemmas.List.FromFn.{map-range_with_len_more}
-use Rattle.plan_maker.specs.Candidates.{Choice, weaker_at, weaker_from}
+use Rattle.plan_maker.specs.Candidates.{weaker_at, weaker_from}
 
 pub weaker_next : (t n : ℕ) → weaker_at t (n + 1) ≡ weaker_at t n ++ record { phase = t; place = n } ∷ []
 weaker_next t n = map-range_with_len_more (λ i. record { phase = t; place = i }) 0 n n (omega arith)

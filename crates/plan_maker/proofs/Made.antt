@@ -1,10 +1,9 @@
 -- The plan that is made.
-use Rattle.std.proofs.Common.{◌≡◌, ℕ, zero, suc, ◌-◌, ◌<◌, ◌≤◌, ◌++◌, Bool, true, false, List, [], ◌∷◌, length, map, get_or, if◌then◌else◌, refl, ap, ap₂, sym, ◌∙◌, subst, inl, inr, arith}
-use Rattle.std.specs.Prelude.{IsTrue, slice_get, Some, slice_set}
+use Rattle.std.proofs.Common.{◌≡◌, ℕ, zero, suc, ◌-◌, ◌<◌, ◌++◌, true, false, List, [], ◌∷◌, length, map, get_or, refl, ap, ap₂, sym, ◌∙◌, subst, inl, inr, arith}
+use Rattle.std.specs.Prelude.{slice_get, Some, slice_set}
 use Rattle.std.specs.List.{AllZip, flat_map}
 use Rattle.std.proofs.lemmas.List.{map-append}
 use Rattle.farkas_cert.specs.declared.certificate.Certificate.{Certificate}
-use Rattle.farkas_cert.specs.Good.{IsGood}
 use Rattle.nest_tree.specs.Tree.{Tree}
 use Rattle.nest_tree.specs.WellFormed.{loops_of}
 use Rattle.owner_partition.specs.declared.anchor.Anchor.{Anchor}
@@ -18,23 +17,21 @@ use Rattle.sync_plan.specs.declared.plan.Version.TheVariants.{Two}
 use Rattle.comm_system.specs.Obligations.{Slot, Task, numbered_from, slot_signature, slot_tasks, slots_of, tasks_of, trips_tasks}
 use Rattle.comm_system.specs.References.{StaticPhase, phases_of}
 use Rattle.comm_system.specs.Signatures.{Signature, blocked, waits}
-use Rattle.comm_system.specs.declared.obligation.Obligation.{Obligation}
 use Rattle.plan_checker.specs.Accepted.{AreCertified}
 use Rattle.plan_maker.specs.declared.loops.LoopVerdict.{LoopVerdict}
 use Rattle.plan_maker.specs.declared.loops.LoopVerdict.TheVariants.{Free, Barred}
 use Rattle.plan_maker.specs.declared.maker.Weakest.{Weakest}
 use Rattle.plan_maker.specs.declared.reasons.Bar.{Bar}
 use Rattle.plan_maker.specs.declared.reasons.Bar.TheVariants.{Print, Meeting}
-use Rattle.plan_maker.specs.declared.reasons.LoopReason.{LoopReason}
 use Rattle.plan_maker.specs.declared.reasons.PhaseReason.{PhaseReason}
 use Rattle.plan_maker.specs.declared.reasons.Reasons.{Reasons}
 use Rattle.plan_maker.specs.Anchors.{maker_anchors}
 use Rattle.plan_maker.specs.Asked.{AreRefuted, Asked, IsCause, all_asked, asked, owners_dealt, slot_asked, trips_asked}
 use Rattle.plan_maker.specs.Bars.{IsBar, IsLoopReason, open_loops}
-use Rattle.plan_maker.specs.Candidates.{Choice, candidates_of, kinds_taken, weaker_from}
+use Rattle.plan_maker.specs.Candidates.{kinds_taken, weaker_from}
 use Rattle.plan_maker.specs.Cut.{IsBarred, IsReasonedCut}
 use Rattle.plan_maker.specs.Loops.{AreLoopVerdicts, IsLoopVerdict, is_barred}
-use Rattle.plan_maker.specs.Made.{IsMade, IsPhaseReason, with_choice, with_found}
+use Rattle.plan_maker.specs.Made.{IsMade, IsPhaseReason, with_found}
 use Rattle.plan_maker.specs.Marks.{flagged, marks_of}
 use Rattle.plan_maker.specs.Weakest.{IsWeakReason, IsWeakest, asked_under, candidates_in}
 use Rattle.plan_maker.proofs.Verdicts.{trips_same}

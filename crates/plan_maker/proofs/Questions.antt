@@ -1,7 +1,7 @@
 -- Systems one behind another: which are refuted, and the first that is kept.
-use Rattle.std.proofs.Common.{◌≡◌, ℕ, zero, suc, ◌+◌, ◌≤◌, ◌<◌, List, [], ◌∷◌, ◌++◌, take, drop, get_or, length, map, refl, ap, sym, ◌∙◌, subst, arith}
-use Rattle.std.specs.Prelude.{slice_get, Option, Some, None}
-use Rattle.std.specs.List.{AllZip, flat_map}
+use Rattle.std.proofs.Common.{◌≡◌, ℕ, zero, suc, ◌+◌, ◌<◌, List, [], ◌∷◌, ◌++◌, take, drop, get_or, length, map, refl, ap, sym, ◌∙◌, subst, arith}
+use Rattle.std.specs.Prelude.{slice_get, Some}
+use Rattle.std.specs.List.{flat_map}
 use Rattle.farkas_cert.specs.declared.certificate.Certificate.{Certificate}
 use Rattle.farkas_cert.specs.Good.{IsGood}
 use Rattle.std.proofs.lemmas.Grind.{flat_map-append}
@@ -11,10 +11,7 @@ use Rattle.std.proofs.lemmas.List.Folds.{flat_map-map}
 use Rattle.fm_elim.specs.declared.answer.Answer.{Answer}
 use Rattle.nest_walk.proofs.Grown.{AllZip-append}
 use Rattle.plan_maker.specs.Asked.{AreRefuted, Asked, IsCause, IsSaid}
-use Rattle.plan_maker.specs.Judged.{IsOutcome, IsVerdict}
 use Rattle.plan_maker.specs.declared.cause.Cause.{Cause}
-use Rattle.plan_maker.specs.declared.judge.Verdict.{Verdict}
-use Rattle.plan_maker.specs.declared.judge.Verdict.TheVariants.{Refuted, Kept}
 
 pub refuted-append : (qs rs : List Asked) (cs ds : List Certificate) → AreRefuted qs cs → AreRefuted rs ds → AreRefuted (qs ++ rs) (cs ++ ds)
 refuted-append qs rs cs ds h k = AllZip-append (λ (q : Asked) (c : Certificate). IsGood q.task.system c) qs rs cs ds h k

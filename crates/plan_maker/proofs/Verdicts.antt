@@ -1,5 +1,5 @@
 -- Verdicts on loops, and their reasons.
-use Rattle.std.proofs.Common.{◌≡◌, ℕ, zero, suc, ◌+◌, ◌-◌, ◌<◌, ◌≤◌, Bool, true, false, List, [], ◌∷◌, ◌++◌, take, length, map, get_or, Option, Some, None, if◌then◌else◌, refl, ap, ap₂, sym, ◌∙◌, subst, inl, inr, arith, length-take}
+use Rattle.std.proofs.Common.{◌≡◌, ℕ, suc, ◌+◌, ◌-◌, Bool, true, false, List, [], ◌∷◌, ◌++◌, take, length, Some, if◌then◌else◌, refl, ap, ap₂, ◌∙◌, subst, inl, inr, arith, length-take}
 use Rattle.std.specs.Prelude.{slice_get}
 use Rattle.std.specs.List.{flat_map}
 use Rattle.nest_tree.specs.Tree.{Tree}
@@ -7,9 +7,8 @@ use Rattle.owner_partition.specs.declared.cut.Mark.{Mark}
 use Rattle.sync_plan.specs.declared.plan.Plan.{Plan}
 use Rattle.comm_system.specs.References.{StaticPhase}
 use Rattle.plan_maker.specs.declared.loops.LoopVerdict.{LoopVerdict}
-use Rattle.plan_maker.specs.declared.reasons.LoopReason.{LoopReason}
 use Rattle.plan_maker.specs.Asked.{trips_asked}
-use Rattle.plan_maker.specs.Bars.{IsLoopReason, is_open, open_loops}
+use Rattle.plan_maker.specs.Bars.{is_open, open_loops}
 use Rattle.plan_maker.specs.Loops.{AreLoopVerdicts, IsLoopVerdict}
 use Rattle.plan_maker.proofs.Memories.{get_pushed, got_within, take_got}
 

@@ -1,5 +1,5 @@
 -- Verdicts on systems one behind another.
-use Rattle.std.specs.Prelude.{List, map, Option, Some, None}
+use Rattle.std.specs.Prelude.{List, Option, Some, None}
 use Rattle.owner_partition.specs.declared.anchor.Dist.{Dist}
 use Rattle.comm_system.specs.Obligations.{Task}
 use Rattle.comm_system.specs.declared.obligation.Obligation.{Obligation}

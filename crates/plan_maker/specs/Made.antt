@@ -1,5 +1,5 @@
 -- What a made plan is.
-use Rattle.std.specs.Prelude.{ℕ, suc, ◌≡◌, ◌++◌, List, slice_set}
+use Rattle.std.specs.Prelude.{ℕ, suc, ◌≡◌, List, slice_set}
 use Rattle.std.specs.List.{AllZip}
 use Rattle.farkas_cert.specs.declared.certificate.Certificate.{Certificate}
 use Rattle.nest_tree.specs.Tree.{Tree}

@@ -1,4 +1,4 @@
-use Rattle.std.proofs.Common.{◌+◌, [], ◌++◌, drop, map, ap, sym, ◌∙◌}
+use Rattle.std.proofs.Common.{◌+◌, ◌++◌, drop, map, ap, sym, ◌∙◌}
 use Rattle.comm_system.specs.PhaseViews.{phase_seen}
 use Rattle.plan_maker.specs.Candidates.{each_once, single_anchors}
 use Rattle.plan_maker.proofs.Singles.{single_end, single_step}

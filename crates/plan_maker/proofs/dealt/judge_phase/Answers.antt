@@ -1,11 +1,11 @@
 use Rattle.std.proofs.Common.{◌≡◌, Bool, true, [], map, if◌then◌else◌, ap, sym, ◌∙◌, subst}
-use Rattle.std.specs.Prelude.{IfOk, List}
-use Rattle.nest_tree.specs.View.{statement_of, tree_of}
+use Rattle.std.specs.Prelude.{IfOk}
+use Rattle.nest_tree.specs.View.{tree_of}
 use Rattle.sync_plan.specs.Fit.{is_dealt}
-use Rattle.comm_system.specs.Obligations.{Task, trips_task}
+use Rattle.comm_system.specs.Obligations.{trips_task}
 use Rattle.comm_system.specs.Pairs.{pairs_of}
 use Rattle.comm_system.specs.PhaseViews.{phase_seen}
-use Rattle.plan_maker.specs.Asked.{Asked, asked, trips_asked}
+use Rattle.plan_maker.specs.Asked.{asked}
 use Rattle.plan_maker.specs.Judged.{IsVerdict, asked_about}
 use Rattle.plan_maker.proofs.Numbers.{asked_numbered}
 use Rattle.plan_maker.proofs.dealt.judge_phase.Goals as goal

@@ -7,7 +7,7 @@ use Rattle.sync_plan.specs.Fit.{has_print, is_dealt}
 use Rattle.comm_system.specs.PhaseViews.{phase_seen}
 use Rattle.comm_system.specs.References.{StaticPhase, phases_of}
 use Rattle.plan_maker.specs.Asked.{IsCause, trips_asked}
-use Rattle.plan_maker.specs.Cut.{alone, loop_asked, loop_prints}
+use Rattle.plan_maker.specs.Cut.{alone, loop_prints}
 use Rattle.plan_maker.specs.Judged.{IsVerdict}
 use Rattle.plan_maker.proofs.Verdicts.{trips_same}
 use Rattle.plan_maker.proofs.loops.judge_loop.Goals as goal

@@ -1,4 +1,4 @@
-use Rattle.std.proofs.Common.{◌≡◌, ◌+◌, ◌++◌, length, length-append, ap, sym, ◌∙◌, subst, arith}
+use Rattle.std.proofs.Common.{◌≡◌, ◌+◌, length, length-append, ap, sym, ◌∙◌, subst, arith}
 use Rattle.nest_tree.specs.View.{statements_from, tree_of}
 use Rattle.nest_tree.specs.WellFormed.{loops_of}
 use Rattle.nest_tree.proofs.Good.{loops-few}

@@ -1,4 +1,4 @@
-use Rattle.std.proofs.Common.{◌≡◌, ◌+◌, ◌++◌, List, ℕ, take, sym, subst}
+use Rattle.std.proofs.Common.{◌+◌, ◌++◌, take, sym, subst}
 use Rattle.std.specs.List.{AllZip}
 use Rattle.nest_walk.proofs.Grown.{AllZip-append}
 use Rattle.plan_maker.specs.Bars.{IsLoopReason, open_loop, open_loops}

@@ -1,4 +1,4 @@
-use Rattle.std.proofs.Common.{◌≡◌, List, map, ap, sym, ◌∙◌, subst}
+use Rattle.std.proofs.Common.{◌≡◌, List, map, ap, ◌∙◌, subst}
 use Rattle.std.specs.List.{flat_map}
 use Rattle.nest_tree.specs.View.{tree_of}
 use Rattle.owner_partition.specs.declared.anchor.Anchor.{Anchor}
@@ -6,13 +6,12 @@ use Rattle.owner_partition.specs.declared.cut.Mark.{Mark}
 use Rattle.sync_plan.specs.declared.plan.Kind.{Kind}
 use Rattle.comm_system.specs.Obligations.{slots_of}
 use Rattle.comm_system.specs.PhaseViews.{phase_seen}
-use Rattle.comm_system.specs.References.{StaticPhase, phases_of}
+use Rattle.comm_system.specs.References.{StaticPhase}
 use Rattle.comm_system.specs.SlotViews.{slot_seen}
 use Rattle.plan_maker.specs.declared.trial.Ground.{Ground}
 use Rattle.plan_maker.specs.Asked.{AreRefuted, trips_asked}
-use Rattle.plan_maker.specs.Candidates.{candidates_at, kinds_taken}
+use Rattle.plan_maker.specs.Candidates.{candidates_at}
 use Rattle.plan_maker.specs.Judged.{IsVerdict}
-use Rattle.plan_maker.specs.Trials.{HasMoreCertificates, slots_asked}
 use Rattle.plan_maker.specs.Weakest.{candidates_in}
 use Rattle.plan_maker.proofs.Weakest.{weakest_is}
 use Rattle.plan_maker.proofs.maker.find_weakest.Goals as goal

@@ -1,4 +1,4 @@
-use Rattle.std.proofs.Common.{◌≡◌, ◌++◌, [], List, map, ap, ap₂, sym, ◌∙◌, subst}
+use Rattle.std.proofs.Common.{◌≡◌, ◌++◌, map, ap, ap₂, ◌∙◌}
 use Rattle.nest_tree.specs.View.{statements_from, tree_of}
 use Rattle.plan_maker.specs.Loops.{is_barred}
 use Rattle.plan_maker.specs.Marks.{flagged, marks_of}

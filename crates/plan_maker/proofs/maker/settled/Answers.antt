@@ -1,4 +1,4 @@
-use Rattle.std.proofs.Common.{map, subst}
+use Rattle.std.proofs.Common.{subst}
 use Rattle.plan_maker.specs.Grounds.{asked_under}
 use Rattle.plan_maker.specs.Trials.{HasMoreCertificates}
 use Rattle.plan_maker.proofs.maker.settled.Goals as goal

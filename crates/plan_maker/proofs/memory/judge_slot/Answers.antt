@@ -1,10 +1,10 @@
-use Rattle.std.proofs.Common.{◌≡◌, map, ap, sym, ◌∙◌, subst}
+use Rattle.std.proofs.Common.{map, ap, ◌∙◌, subst}
 use Rattle.std.specs.Prelude.{IfOk}
 use Rattle.nest_tree.specs.View.{tree_of}
 use Rattle.comm_system.specs.Obligations.{slot_tasks}
 use Rattle.comm_system.specs.SideViews.{producer_seen}
 use Rattle.comm_system.specs.SlotViews.{slot_seen}
-use Rattle.plan_maker.specs.Asked.{asked, owners_dealt}
+use Rattle.plan_maker.specs.Asked.{owners_dealt}
 use Rattle.plan_maker.specs.Judged.{IsVerdict, asked_about}
 use Rattle.plan_maker.specs.Memories.{waits_seen}
 use Rattle.plan_maker.proofs.Numbers.{asked_numbered}

@@ -1,4 +1,4 @@
-use Rattle.std.proofs.Common.{◌≡◌, ◌++◌, ◌∷◌, [], map, take}
+use Rattle.std.proofs.Common.{◌≡◌, map, take}
 use Rattle.comm_system.specs.SlotViews.{slot_seen}
 use Rattle.comm_system.specs.SideViews.{producer_seen}
 use Rattle.plan_maker.specs.Asked.{owners_dealt}

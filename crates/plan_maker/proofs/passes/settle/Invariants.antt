@@ -1,4 +1,4 @@
-use Rattle.std.proofs.Common.{◌≡◌, map, take}
+use Rattle.std.proofs.Common.{◌≡◌, map}
 use Rattle.nest_tree.specs.View.{tree_of}
 use Rattle.comm_system.specs.SlotViews.{slot_seen}
 use Rattle.plan_maker.specs.Candidates.{weaker_at}

@@ -1,7 +1,5 @@
-use Rattle.std.proofs.Common.{◌++◌, get_or, map, take, ap, ◌∙◌, subst, arith}
-use Rattle.std.specs.Prelude.{List}
+use Rattle.std.proofs.Common.{◌++◌, get_or, map, subst, arith}
 use Rattle.std.proofs.lemmas.List.{take_all}
-use Rattle.farkas_cert.specs.declared.certificate.Certificate.{Certificate}
 use Rattle.nest_tree.specs.View.{tree_of}
 use Rattle.sync_plan.specs.declared.plan.Version.TheVariants.{Two}
 use Rattle.comm_system.specs.Obligations.{slot_signature}

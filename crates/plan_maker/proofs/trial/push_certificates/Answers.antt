@@ -1,4 +1,4 @@
-use Rattle.std.proofs.Common.{◌++◌, map, take, append_assoc, ap, ◌∙◌, subst, arith}
+use Rattle.std.proofs.Common.{◌++◌, map, append_assoc, ap, ◌∙◌, subst, arith}
 use Rattle.std.proofs.lemmas.List.{take_all}
 use Rattle.nest_tree.specs.View.{tree_of}
 use Rattle.comm_system.specs.PhaseViews.{phase_seen}

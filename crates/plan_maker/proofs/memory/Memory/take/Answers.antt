@@ -1,4 +1,3 @@
-use Rattle.std.proofs.Common.{ap, sym, subst}
 use Rattle.std.specs.List.{All}
 use Rattle.plan_maker.specs.Memories.{IsEntry}
 use Rattle.plan_maker.proofs.memory.Memory.take.Goals as goal
