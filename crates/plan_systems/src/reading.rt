@@ -1,0 +1,45 @@
+// A program and a plan that fits it, read from bytes.
+
+ghost use Rattle.std.specs.Prelude.{◌≡◌, ◌≤◌, IfOk, None, OnOk, length};
+ghost use Rattle.nest_tree.specs.Limits.{IsWithinLimits};
+ghost use Rattle.nest_tree.specs.View.{tree_of};
+ghost use Rattle.nest_tree.specs.WellFormed.{IsWellFormed};
+ghost use Rattle.sync_plan.specs.Shape.{wrong_field};
+
+use crate::stop::Stop;
+use f77_lines::{MOST_BYTES, statements};
+use f77_source::read_program;
+use nest_tree::{Program, program_limits};
+use plan_checker::check_fit;
+use plan_text::read_plan;
+use std::alloc::Global;
+use sync_plan::Plan;
+
+/// The program of the source that the bytes begin with, and where the rest begins.
+pub(crate) fn read_source(alloc: Global, bytes: &[u8]) -> Result<(Program, usize), Stop>
+    requires { length bytes.now ≤ MOST_BYTES }
+    ensures formed { IfOk result (λ read. IsWellFormed (tree_of read.0)) }
+    ensures limits { IfOk result (λ read. IsWithinLimits (tree_of read.0)) }
+    ensures within { IfOk result (λ read. read.1 ≤ length bytes.now) }
+{
+    let (lines, rest) = statements(alloc, bytes)?;
+    let program = read_program(alloc, &lines, &[])?;
+    match program_limits(&program) {
+        Ok(()) => Ok((program, rest)),
+        Err(limit) => Err(Stop::Limit(limit)),
+    }
+}
+
+/// The plan whose text the bytes are, where it fits the program.
+pub(crate) fn read_fitting(alloc: Global, program: &Program, bytes: &[u8]) -> Result<Plan, Stop>
+    requires short { length bytes.now ≤ MOST_BYTES }
+    requires formed { IsWellFormed (tree_of program.now) }
+    requires limits { IsWithinLimits (tree_of program.now) }
+    ensures { IfOk result (λ plan. wrong_field (tree_of program.now) plan ≡ None) }
+{
+    let plan = read_plan(alloc, bytes)?;
+    match check_fit(program, &plan) {
+        Ok(()) => Ok(plan),
+        Err(refusal) => Err(Stop::from(refusal)),
+    }
+}

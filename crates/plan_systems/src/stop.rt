@@ -1,0 +1,133 @@
+// Why there are no systems.
+
+ghost use Rattle.std.specs.Prelude.{◌≡◌, ◌≢◌};
+ghost use Rattle.f77_lines.specs.declared.refusal.LineRefusal.TheVariants as line_refusals;
+ghost use Rattle.f77_program.specs.declared.refusal.Refusal.TheVariants as refusals;
+ghost use Rattle.plan_checker.specs.declared.refusal.PlanRefusal.TheVariants as misfits;
+ghost use Rattle.plan_text.specs.declared.syntax.PlanSyntax.TheVariants as syntaxes;
+ghost use Rattle.plan_systems.specs.Statuses.{code_of};
+ghost use Rattle.plan_systems.specs.declared.stop.Stop.TheVariants as stops;
+
+use f77_lines::LineRefusal;
+use f77_program::Refusal;
+use plan_checker::PlanRefusal;
+use plan_text::PlanSyntax;
+use std::alloc::AllocError;
+use std::fmt;
+
+/// Why there are no systems.
+#[derive(Clone, Copy, Debug)]
+pub enum Stop {
+    /// There are other words than `--times`.
+    BadWords,
+    /// The input is too long.
+    TooLong,
+    /// The source is refused by its lines.
+    Line(LineRefusal),
+    /// The source is refused by a statement.
+    Statement(Refusal),
+    /// The program passes a limit.
+    Limit(nest_tree::Limit),
+    /// What stands behind the source is no plan's text.
+    Syntax(PlanSyntax),
+    /// The plan does not fit the program.
+    Misfit(PlanRefusal),
+    /// A read failed.
+    ReadFault,
+    /// A write failed.
+    WriteFault,
+    /// Memory ran out.
+    NoMemory,
+}
+
+impl Stop {
+    /// The status of the process.
+    pub fn code(self) -> u8
+        ensures { result ≡ code_of self }
+    {
+        match self {
+            Stop::Line(_) | Stop::Statement(_) | Stop::Limit(_) => 1,
+            Stop::BadWords => 2,
+            Stop::ReadFault => 3,
+            Stop::WriteFault => 4,
+            Stop::NoMemory => 5,
+            Stop::Syntax(_) | Stop::Misfit(_) => 6,
+            Stop::TooLong => 7,
+        }
+    }
+
+    /// Whether a line is written to standard output that tells it.
+    pub fn is_told(self) -> bool {
+        !matches!(self, Stop::ReadFault | Stop::WriteFault | Stop::NoMemory)
+    }
+}
+
+/// The line that tells it, without its line end.
+impl fmt::Display for Stop {
+    fn fmt<W: fmt::Write>(&self, f: &mut fmt::Formatter<W>) -> fmt::Result {
+        match self {
+            Stop::BadWords => write!(f, "WORDS 0"),
+            Stop::TooLong => write!(f, "TOO LONG"),
+            Stop::Line(refusal) => write!(f, "{refusal}"),
+            Stop::Statement(refusal) => write!(f, "{refusal}"),
+            Stop::Limit(limit) => write!(f, "{limit}"),
+            Stop::Syntax(refusal) => write!(f, "{refusal}"),
+            Stop::Misfit(refusal) => write!(f, "{refusal}"),
+            Stop::ReadFault => write!(f, "a read failed"),
+            Stop::WriteFault => write!(f, "a write failed"),
+            Stop::NoMemory => write!(f, "memory ran out"),
+        }
+    }
+}
+
+impl From<AllocError> for Stop {
+    ghost from_gives = { λ _ stop. stop ≡ stops.NoMemory };
+
+    fn from(_error: AllocError) -> Stop {
+        Stop::NoMemory
+    }
+}
+
+impl From<LineRefusal> for Stop {
+    ghost from_gives = { λ refusal stop. (refusal ≡ line_refusals.NoMemory → stop ≡ stops.NoMemory) × (refusal ≢ line_refusals.NoMemory → stop ≡ stops.Line refusal) };
+
+    fn from(refusal: LineRefusal) -> Stop {
+        match refusal {
+            LineRefusal::NoMemory => Stop::NoMemory,
+            refusal => Stop::Line(refusal),
+        }
+    }
+}
+
+impl From<Refusal> for Stop {
+    ghost from_gives = { λ refusal stop. (refusal ≡ refusals.NoMemory → stop ≡ stops.NoMemory) × (refusal ≢ refusals.NoMemory → stop ≡ stops.Statement refusal) };
+
+    fn from(refusal: Refusal) -> Stop {
+        match refusal {
+            Refusal::NoMemory => Stop::NoMemory,
+            refusal => Stop::Statement(refusal),
+        }
+    }
+}
+
+impl From<PlanSyntax> for Stop {
+    ghost from_gives = { λ refusal stop. (refusal ≡ syntaxes.NoMemory → stop ≡ stops.NoMemory) × (refusal ≢ syntaxes.NoMemory → stop ≡ stops.Syntax refusal) };
+
+    fn from(refusal: PlanSyntax) -> Stop {
+        match refusal {
+            PlanSyntax::NoMemory => Stop::NoMemory,
+            refusal => Stop::Syntax(refusal),
+        }
+    }
+}
+
+impl From<PlanRefusal> for Stop {
+    ghost from_gives = { λ refusal stop. (refusal ≡ misfits.NoMemory → stop ≡ stops.NoMemory) × (refusal ≢ misfits.NoMemory → stop ≡ stops.Misfit refusal) };
+
+    fn from(refusal: PlanRefusal) -> Stop {
+        match refusal {
+            PlanRefusal::NoMemory => Stop::NoMemory,
+            refusal => Stop::Misfit(refusal),
+        }
+    }
+}
