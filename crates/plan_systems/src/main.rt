@@ -12,7 +12,7 @@
 //! | 1 | the source is refused | `REFUSED`, a code, and `LINE n` or the number that passes a limit |
 //! | 2 | there are words other than `--times`, and nothing was read | `WORDS 0` |
 //! | 3 | a read failed | nothing |
-//! | 4 | a write failed | the beginning of what was due |
+//! | 4 | a write failed, or with `--times` the clock | the beginning of what was due |
 //! | 5 | memory ran out | nothing |
 //! | 6 | what stands behind the source is no plan's text, or the plan doesn't fit the program | `PLAN SYNTAX n`; `PLAN P1 n` and others |
 //! | 7 | the input is too long | `TOO LONG` |
