@@ -51,29 +51,36 @@ fn judge_loop(alloc: Global, program: &Program, number: u32) -> Result<LoopVerdi
     requires limits { IsWithinLimits (tree_of program.now) }
     ensures { IfOk result (IsLoopVerdict (tree_of program.now) number) }
 {
-    let plan = alone(alloc, program, number)?;
-    let phases = phases(alloc, program, &plan.cut)?;
-    if does_dealt_print(plan.cut.as_slice(), phases.as_slice()) {
+    let cut = alone(alloc, program, number)?;
+    let phases = phases(alloc, program, &cut)?;
+    if does_dealt_print(cut.as_slice(), phases.as_slice()) {
         return Ok(LoopVerdict::Barred(Bar::Print));
     }
+    let plan = serial(alloc, program, cut)?;
     match judge_trips(alloc, program, &plan, phases.as_slice())? {
         Verdict::Refuted(_) => Ok(LoopVerdict::Free),
         Verdict::Kept(cause) => Ok(LoopVerdict::Barred(Bar::Meeting(cause))),
     }
 }
 
-// A plan in which this loop alone is dealt out, and processor 0 does all else. Where it doesn't fit
-// it is as if memory had run out; no well-formed program is so.
-fn alone(alloc: Global, program: &Program, number: u32) -> Result<Plan, AllocError>
-    requires formed { IsWellFormed (tree_of program.now) }
-    requires limits { IsWithinLimits (tree_of program.now) }
-    ensures cut { IfOk result (λ plan. plan.cut ≡ alone_marks (tree_of program.now) number) }
-    ensures conditions { IfOk result (λ plan. plan.conditions ≡ Values) }
-    ensures fits { IfOk result (λ plan. IsFit (tree_of program.now) plan) }
+// A cut in which this loop alone is dealt out.
+fn alone(alloc: Global, program: &Program, number: u32) -> Result<Cut, AllocError>
+    ensures { IfOk result (λ cut. cut ≡ alone_marks (tree_of program.now) number) }
 {
     let mut marks = Vec::new(alloc);
     push_alone_among(&mut marks, number, &program.items)?;
-    let cut = Cut::new(alloc, marks)?;
+    Cut::new(alloc, marks)
+}
+
+// A plan with this cut in which processor 0 does all. Where it doesn't fit it is as if memory had
+// run out; it fits where no PRINT stands in a Doall loop.
+fn serial(alloc: Global, program: &Program, cut: Cut) -> Result<Plan, AllocError>
+    requires formed { IsWellFormed (tree_of program.now) }
+    requires limits { IsWithinLimits (tree_of program.now) }
+    ensures cut { IfOk result (λ plan. plan.cut ≡ cut) }
+    ensures conditions { IfOk result (λ plan. plan.conditions ≡ Values) }
+    ensures fits { IfOk result (λ plan. IsFit (tree_of program.now) plan) }
+{
     let anchors = first_processors(alloc, StaticPhase::count(program, &cut))?;
     let plan = all_barrier(alloc, cut, anchors, 1, Vec::new(alloc))?;
     fitting(program, plan)

@@ -21,12 +21,12 @@ returns c =
     let n = c.args.number in
     let plan = c.in_ok-plan.plan in
     let whole = barrier_plan (alone tree n) [] 1 [] in
-    let cut = c.in_ok-plan.ensures.cut in
+    let cut = c.in_ok-plan.ensures.cut ∙ c.in_ok-cut.ensures in
     let prints : loop_prints tree n ≡ false =
-    ap (λ cs. print_in cs (phases_of tree cs)) (sym cut)
+    ap (λ cs. print_in cs (phases_of tree cs)) (sym c.in_ok-cut.ensures)
     ∙ ap₂ print_in (sym c.as_slice.ensures) (sym c.in_ok-phases.ensures.phases ∙ ap (map phase_seen) (sym c.as_slice-2.ensures.value))
     ∙ sym c.does_dealt_print.ensures ∙ c.if-does_dealt_print.false in
     let here = subst (IsVerdict (flat_map (trips_asked tree plan) (map phase_seen c.as_slice-3.result.now))) c.in-Kept.is c.in_ok-judge_trips.ensures in
-    let phases : map phase_seen c.as_slice-3.result.now ≡ phases_of tree (alone tree n) = ap (map phase_seen) c.as_slice-3.ensures.value ∙ c.in_ok-phases.ensures.phases ∙ ap (phases_of tree) cut in
+    let phases : map phase_seen c.as_slice-3.result.now ≡ phases_of tree (alone tree n) = ap (map phase_seen) c.as_slice-3.ensures.value ∙ c.in_ok-phases.ensures.phases ∙ ap (phases_of tree) c.in_ok-cut.ensures in
     let same = trips_same tree plan whole cut c.in_ok-plan.ensures.conditions (map phase_seen c.as_slice-3.result.now) ∙ ap (flat_map (trips_asked tree whole)) phases in
     (prints, subst (λ qs. IsCause qs c.in-Kept.cause) same here)
