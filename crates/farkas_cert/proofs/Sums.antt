@@ -39,7 +39,7 @@ pub weighted-add : (f g : ℕ → ℤ) (a : ℕ) (xs : List ℤ) → weighted (�
 weighted-add f g a [] = refl
 weighted-add f g a (x ∷ xs) = omega (arith, ints, add-mul (f a) (g a) x, weighted-add f g (a + 1) xs)
 
-mul-add : (a b c : ℤ) → a *ℤ (b +ℤ c) ≡ a *ℤ b +ℤ a *ℤ c
+pub mul-add : (a b c : ℤ) → a *ℤ (b +ℤ c) ≡ a *ℤ b +ℤ a *ℤ c
 mul-add a b c = *ℤ_comm a (b +ℤ c) ∙ add-mul b c a ∙ omega (arith, ints, *ℤ_comm a b, *ℤ_comm a c)
 
 pub weighted-mul : (m : ℤ) (f : ℕ → ℤ) (a : ℕ) (xs : List ℤ) → weighted (λ k. m *ℤ f k) a xs ≡ m *ℤ weighted f a xs

@@ -14,7 +14,8 @@ use Rattle.fm_elim.specs.Pairs.{coef_of, IsPair, combination}
 use Rattle.fm_elim.specs.Levels.{IsRaw}
 use Rattle.fm_elim.specs.Forming.{Covers}
 use Rattle.farkas_cert.proofs.Integers.{add-mul, mul_assoc_ℤ, mul_le_ℤ}
-use Rattle.fm_elim.proofs.Integers.{mul-add, mul-neg, mul_swap}
+use Rattle.farkas_cert.proofs.Sums.{mul-add}
+use Rattle.fm_elim.proofs.Integers.{mul-neg, mul_swap}
 use Rattle.fm_elim.proofs.Values.{dot-zero, dot-quotients, floor_le, dot-combined}
 use Rattle.fm_elim.proofs.Removal.{slack, AllHold, IsSolvable, solvable}
 

@@ -58,9 +58,6 @@ narrow_parts p q h = let parts : IsTrue (is_narrow p && is_narrow q && is_narrow
 pub entry_at-coef : (vars : ℕ) (row : Row) (k : ℕ) → k < vars → entry_at vars row k ≡ get_or row.coefs k (pos 0)
 entry_at-coef vars row k h = grind (arith, nat_tests)
 
-pub entry_at-bound : (vars : ℕ) (row : Row) → entry_at vars row vars ≡ row.bound
-entry_at-bound vars row = grind (arith, nat_tests)
-
 -- two narrow products, and their sum if it is narrow
 pub weighted_sum_is : (p q x y : ℤ) (r : Option ℤ) → Some x ≡ (if is_narrow p then Some p else None) → Some y ≡ (if is_narrow q then Some q else None) → r ≡ (if is_narrow (x +ℤ y) then Some (x +ℤ y) else None) → r ≡ (if is_narrow p && is_narrow q && is_narrow (p +ℤ q) then Some (p +ℤ q) else None)
 weighted_sum_is p q x y r first second sum =

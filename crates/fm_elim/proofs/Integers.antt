@@ -2,10 +2,8 @@
 use Rattle.std.proofs.Common.{◌≡◌, ℤ, pos, ◌+ℤ◌, ◌*ℤ◌, ◌≤ℤ◌, ◌<ℤ◌, neg_ℤ, ap, sym, ◌∙◌, arith}
 use Rattle.std.proofs.Math.IntN.{*ℤ_comm, *ℤ-zero, +ℤ_invr}
 use Rattle.std.proofs.lemmas.Int.{ints, by_lt_z}
-use Rattle.farkas_cert.proofs.Integers.{add-mul, mul_assoc_ℤ, mul_le_ℤ}
-
-pub mul-add : (a b c : ℤ) → a *ℤ (b +ℤ c) ≡ a *ℤ b +ℤ a *ℤ c
-mul-add a b c = *ℤ_comm a (b +ℤ c) ∙ add-mul b c a ∙ omega (arith, ints, *ℤ_comm a b, *ℤ_comm a c)
+use Rattle.farkas_cert.proofs.Integers.{mul_assoc_ℤ, mul_le_ℤ}
+use Rattle.farkas_cert.proofs.Sums.{mul-add}
 
 *ℤ-one' : (m : ℤ) → m *ℤ pos 1 ≡ m
 *ℤ-one' m = omega (arith, ints)

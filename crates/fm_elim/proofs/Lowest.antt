@@ -11,7 +11,8 @@ use Rattle.fm_elim.specs.Reduction.{DividesEach, IsCommonDivisor, IsReducedBy, I
 use Rattle.fm_elim.specs.Pairs.{combined, combination, IsNarrow}
 use Rattle.fm_elim.specs.Logs.{IsSuited}
 use Rattle.fm_elim.proofs.Divisors.{divided-one, le_from_narrow, narrow_from_le}
-use Rattle.fm_elim.proofs.Combined.{both_narrow, entry_at-coef, entry_at-bound}
+use Rattle.farkas_cert.proofs.Sums.{entry_at-last}
+use Rattle.fm_elim.proofs.Combined.{both_narrow, entry_at-coef}
 use Rattle.fm_elim.proofs.Steps.{length-combined, entry-combination}
 
 -- the size of a quotient that is exact
@@ -92,7 +93,7 @@ IsSuited-combination vars m n upper lower hu hl narrow =
       coefs = λ k d h.
           let within : k < vars = omega (arith, h, long) in
           subst (λ z. IsTrue (is_narrow z)) (entry_at-coef vars (combination m upper n lower) k within ∙ get_or_default (combined m upper.coefs n lower.coefs) k (pos 0) d h) (at k (omega arith));
-      bound = subst (λ z. IsTrue (is_narrow z)) (entry_at-bound vars (combination m upper n lower)) (at vars (omega arith));
+      bound = subst (λ z. IsTrue (is_narrow z)) (entry_at-last vars (combination m upper n lower)) (at vars (omega arith));
     }
 
 -- and so is what it is reduced to

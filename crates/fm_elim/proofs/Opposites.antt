@@ -16,7 +16,8 @@ use Rattle.fm_elim.specs.Pairs.{combined, combination, IsNarrow}
 use Rattle.fm_elim.specs.Logs.{step_of, all_rows, IsLog, IsNumber, IsSuited, IsHeld}
 use Rattle.fm_elim.specs.Answers.{AreClashing}
 use Rattle.fm_elim.proofs.Divisors.{divided-one}
-use Rattle.fm_elim.proofs.Combined.{all_three, by_lt, both_narrow, entry_at-coef, entry_at-bound}
+use Rattle.farkas_cert.proofs.Sums.{entry_at-last}
+use Rattle.fm_elim.proofs.Combined.{all_three, by_lt, both_narrow, entry_at-coef}
 use Rattle.fm_elim.proofs.Steps.{AreGoodSteps-push, rows_after-push, narrow-entry, once, good_combination, combination_makes}
 use Rattle.fm_elim.proofs.Lowest.{IsSuited-combination}
 use Rattle.fm_elim.proofs.Endings.{length-all_rows}
@@ -47,7 +48,7 @@ module _ (vars : ℕ) (upper lower : Row) (su : IsSuited vars upper) (sl : IsSui
       (λ ge.
       let e : vars ≡ k = omega arith in
       subst (λ i. IsTrue (is_narrow (entry_at vars upper i +ℤ entry_at vars lower i))) e
-      (subst (λ z. IsTrue (is_narrow (z +ℤ entry_at vars lower vars))) (sym (entry_at-bound vars upper)) (subst (λ z. IsTrue (is_narrow (upper.bound +ℤ z))) (sym (entry_at-bound vars lower)) clash.narrow))))
+      (subst (λ z. IsTrue (is_narrow (z +ℤ entry_at vars lower vars))) (sym (entry_at-last vars upper)) (subst (λ z. IsTrue (is_narrow (upper.bound +ℤ z))) (sym (entry_at-last vars lower)) clash.narrow))))
 
   clash_sum : Row
   clash_sum = combination (pos 1) upper (pos 1) lower

@@ -9,7 +9,8 @@ use Rattle.farkas_cert.specs.declared.system.Row.{Row}
 use Rattle.farkas_cert.specs.Inequalities.{left_side as dot}
 use Rattle.fm_elim.specs.Pairs.{coef_of}
 use Rattle.farkas_cert.proofs.Integers.{mul_assoc_ℤ, mul_le_ℤ}
-use Rattle.fm_elim.proofs.Integers.{mul-add, mul-neg, mul_swap, mul_le_cancel}
+use Rattle.farkas_cert.proofs.Sums.{mul-add}
+use Rattle.fm_elim.proofs.Integers.{mul-neg, mul_swap, mul_le_cancel}
 use Rattle.fm_elim.proofs.Values.{moved, dot-moved, length-moved}
 
 -- how far the row is from its bound at x / d, times d

@@ -11,7 +11,8 @@ use Rattle.farkas_cert.specs.Combination.{entry_at, is_narrow, stays_narrow}
 use Rattle.fm_elim.specs.Pairs.{coef_of, IsPair, IsWide, IsNarrow}
 use Rattle.fm_elim.specs.Gathering.{IsWithin, IsNarrowPair, IsTooWide}
 use Rattle.fm_elim.proofs.Divisors.{narrow_from_le}
-use Rattle.fm_elim.proofs.Combined.{all_three, both_narrow, entry_at-coef, entry_at-bound, by_lt, quotient_le}
+use Rattle.farkas_cert.proofs.Sums.{entry_at-last}
+use Rattle.fm_elim.proofs.Combined.{all_three, both_narrow, entry_at-coef, by_lt, quotient_le}
 use Rattle.fm_elim.proofs.Exactness.{IsPair-unique}
 
 -- the pair of the least multipliers
@@ -49,7 +50,7 @@ entry_within vars size row k within h =
     by_lt {P = unsigned_abs (entry_at vars row k) ≤ size} k vars
     (λ lt. subst (λ z. unsigned_abs z ≤ size) (sym (entry_at-coef vars row k lt))
     (by_lt {P = unsigned_abs (get_or row.coefs k (pos 0)) ≤ size} k (length row.coefs) (λ there. within.coefs k (pos 0) there) (λ past. subst (λ z. unsigned_abs z ≤ size) (sym (get_or_past row.coefs k (pos 0) past)) (omega arith))))
-    (λ ge. let e : vars ≡ k = omega arith in subst (λ i. unsigned_abs (entry_at vars row i) ≤ size) e (subst (λ z. unsigned_abs z ≤ size) (sym (entry_at-bound vars row)) within.bound))
+    (λ ge. let e : vars ≡ k = omega arith in subst (λ i. unsigned_abs (entry_at vars row i) ≤ size) e (subst (λ z. unsigned_abs z ≤ size) (sym (entry_at-last vars row)) within.bound))
 
 -- two products of at most 2 ^ 125
 half_products : (p q : ℤ) → unsigned_abs p ≤ 2 ^ 125 → unsigned_abs q ≤ 2 ^ 125 → IsTrue (stays_narrow (pos 0) (p ∷ q ∷ []))

@@ -15,7 +15,8 @@ use Rattle.farkas_cert.specs.Good.{IsGoodStep, AreGoodSteps, rows_after}
 use Rattle.fm_elim.specs.Reduction.{DividesEach, divided}
 use Rattle.fm_elim.specs.Pairs.{combined, combination, IsNarrow}
 use Rattle.fm_elim.specs.Logs.{IsNumber, IsSuited}
-use Rattle.fm_elim.proofs.Combined.{by_lt, entry_at-coef, entry_at-bound}
+use Rattle.farkas_cert.proofs.Sums.{entry_at-last}
+use Rattle.fm_elim.proofs.Combined.{by_lt, entry_at-coef}
 use Rattle.fm_elim.proofs.Columns.{combined-at}
 
 -- one step more
@@ -74,7 +75,7 @@ module _ (vars : ℕ) (rows : List Row) (step : Step) (raw : Row) (g : ℕ) (ful
       let at : (k : ℕ) → k < vars → get_or (map (λ a. int_div a (pos g)) raw.coefs) k (pos 0) ≡ f k =
       λ k h. quotient-at k raw.coefs (omega arith) ∙ ap (λ z. int_div z (pos g)) (sym (sums k (omega arith) ∙ entry_at-coef vars raw k h)) ∙ ap (λ z. int_div (sum_at vars rows step.terms k) z) (sym divisor) in
       let coefs = fill_by_all f (map (λ a. int_div a (pos g)) raw.coefs) vars (pos 0) (length-map raw.coefs (λ a. int_div a (pos g)) ∙ full) at in
-      let bound : int_div_euclid (sum_at vars rows step.terms vars) step.divisor ≡ int_div_euclid raw.bound (pos g) = ap (λ z. int_div_euclid z step.divisor) (sums vars (omega arith) ∙ entry_at-bound vars raw) ∙ ap (int_div_euclid raw.bound) divisor in
+      let bound : int_div_euclid (sum_at vars rows step.terms vars) step.divisor ≡ int_div_euclid raw.bound (pos g) = ap (λ z. int_div_euclid z step.divisor) (sums vars (omega arith) ∙ entry_at-last vars raw) ∙ ap (int_div_euclid raw.bound) divisor in
       ap (λ xs. record { coefs = xs; bound = int_div_euclid (sum_at vars rows step.terms vars) step.divisor }) (sym coefs) ∙ ap (λ b. record { coefs = map (λ a. int_div a (pos g)) raw.coefs; bound = b }) bound
     where
       quotient-at : (k : ℕ) (xs : List ℤ) → k < length xs → get_or (map (λ a. int_div a (pos g)) xs) k (pos 0) ≡ int_div (get_or xs k (pos 0)) (pos g)
@@ -95,7 +96,7 @@ pub narrow-entry : (vars : ℕ) (row : Row) (k : ℕ) → IsSuited vars row → 
 narrow-entry vars row k suited h =
     by_lt {P = IsTrue (is_narrow (entry_at vars row k))} k vars
     (λ lt. subst (λ z. IsTrue (is_narrow z)) (sym (entry_at-coef vars row k lt)) (suited.coefs k (pos 0) (omega (arith, suited.full))))
-    (λ ge. let e : vars ≡ k = omega arith in subst (λ i. IsTrue (is_narrow (entry_at vars row i))) e (subst (λ z. IsTrue (is_narrow z)) (sym (entry_at-bound vars row)) suited.bound))
+    (λ ge. let e : vars ≡ k = omega arith in subst (λ i. IsTrue (is_narrow (entry_at vars row i))) e (subst (λ z. IsTrue (is_narrow z)) (sym (entry_at-last vars row)) suited.bound))
 
 pub once : (z : ℤ) → pos 1 *ℤ z ≡ z
 once z = omega (arith, ints)
@@ -139,7 +140,7 @@ entry-combination vars m n upper lower k hu hl h =
     by_lt {P = entry_at vars (combination m upper n lower) k ≡ m *ℤ entry_at vars upper k +ℤ n *ℤ entry_at vars lower k} k vars
     (λ lt. entry_at-coef vars (combination m upper n lower) k lt ∙ combined-at m n upper.coefs lower.coefs k (hl ∙ sym hu) ∙ ap (λ z. m *ℤ z +ℤ n *ℤ get_or lower.coefs k (pos 0)) (sym (entry_at-coef vars upper k lt)) ∙ ap (λ z. m *ℤ entry_at vars upper k +ℤ n *ℤ z) (sym (entry_at-coef vars lower k lt)))
     (λ ge. let e : vars ≡ k = omega arith in subst (λ i. entry_at vars (combination m upper n lower) i ≡ m *ℤ entry_at vars upper i +ℤ n *ℤ entry_at vars lower i) e
-    (entry_at-bound vars (combination m upper n lower) ∙ ap (λ z. m *ℤ z +ℤ n *ℤ lower.bound) (sym (entry_at-bound vars upper)) ∙ ap (λ z. m *ℤ entry_at vars upper vars +ℤ n *ℤ z) (sym (entry_at-bound vars lower))))
+    (entry_at-last vars (combination m upper n lower) ∙ ap (λ z. m *ℤ z +ℤ n *ℤ lower.bound) (sym (entry_at-last vars upper)) ∙ ap (λ z. m *ℤ entry_at vars upper vars +ℤ n *ℤ z) (sym (entry_at-last vars lower))))
 
 -- a combination
 module _ (vars : ℕ) (rows : List Row) (a b g : ℕ) (m n : ℤ) (upper lower : Row) (hu : length upper.coefs ≡ vars) (hl : length lower.coefs ≡ vars) (na : IsNumber rows a upper) (nb : IsNumber rows b lower) (hm : pos 0 ≤ℤ m) (hn : pos 0 ≤ℤ n) (narrow : IsNarrow vars m upper n lower) (positive : 0 < g) (each : DividesEach g (combination m upper n lower).coefs) where

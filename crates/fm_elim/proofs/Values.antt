@@ -11,7 +11,8 @@ use Rattle.farkas_cert.specs.Inequalities.{left_side as dot}
 use Rattle.fm_elim.specs.Reduction.{DividesEach}
 use Rattle.fm_elim.specs.Pairs.{combined}
 use Rattle.farkas_cert.proofs.Integers.{add-mul, mul_assoc_ℤ}
-use Rattle.fm_elim.proofs.Integers.{mul-add, mul_swap}
+use Rattle.farkas_cert.proofs.Sums.{mul-add}
+use Rattle.fm_elim.proofs.Integers.{mul_swap}
 
 -- all values times q, and t added to the one at place k
 abbrev pub moved : ℤ → ℤ → ℕ → List ℤ → List ℤ

@@ -12,7 +12,7 @@ use Rattle.nest_tree.specs.Limits.{no_ends, work_estimate, work_in, work_of}
 use Rattle.nest_tree.specs.Tree.{Head, Statement, Statements, do_loop, work, continue, done, next, Tree, param_values}
 use Rattle.nest_tree.specs.WellFormed.{IsWellFormed, Scope, are_good_statements, is_good_statement, is_number_of, loops_in, loops_of, scope_of}
 use Rattle.nest_tree.proofs.Cells.{well_formed_parts}
-use Rattle.nest_tree.proofs.FirstLimits.{no_ends-at, no_ends-length}
+use Rattle.nest_tree.proofs.FirstLimits.{at_replicate, no_ends-at, no_ends-length}
 use Rattle.nest_tree.proofs.Good.{GoodLoop, good_loop, loops-few}
 use Rattle.nest_tree.proofs.Works.{work_of-linear}
 use Rattle.nest_model.specs.Instances.{Instance, head_trips, instances, instances_in, instances_of, is_executed, no_values, trip_count, trips, with_loop, works_in}
@@ -117,11 +117,6 @@ mutual
       )
 
 -- before the first statement
-at_replicate : {X : Type 0} (n k : ℕ) (d : X) → get_or (replicate n d) k d ≡ d
-at_replicate zero k d = refl
-at_replicate (suc n) zero d = refl
-at_replicate (suc n) (suc k) d = at_replicate n k d
-
 pub at_start : (tree : Tree) → IsWellFormed tree → IsInEnds no_ends (no_values tree)
 at_start tree formed =
     let count = loops_of tree.items in record {

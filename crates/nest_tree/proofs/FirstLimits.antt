@@ -32,7 +32,7 @@ under most total shown make small is h =
     let within : nat_lt most total ≡ false = grind (arith, nat_tests) in
     sym (ap (λ b. if b then Some (make (capped total)) else None) within)
 
-at_replicate : {X : Type 0} (n k : ℕ) (d : X) → get_or (replicate n d) k d ≡ d
+pub at_replicate : {X : Type 0} (n k : ℕ) (d : X) → get_or (replicate n d) k d ≡ d
 at_replicate zero k d = refl
 at_replicate (suc n) zero d = refl
 at_replicate (suc n) (suc k) d = at_replicate n k d

@@ -40,7 +40,7 @@ pub printed_more : (items : List PrintItem) (i : ℕ) (item : PrintItem) → i <
 printed_more items i item lt is =
     ap (λ xs. flat_map loads_in_item (map printed_of xs)) (drop_more items i item lt) ∙ ap (λ x. loads_in_item (printed_of x) ++ flat_map loads_in_item (map printed_of (drop (i + 1) items))) (sym is)
 
-statements_from-row : (n : _) (row : Row_of-Item n) → statements_from (items-the_row-Item n row) ≡ statements_of row
+pub statements_from-row : (n : _) (row : Row_of-Item n) → statements_from (items-the_row-Item n row) ≡ statements_of row
 statements_from-row n end_of-Item = refl
 statements_from-row n (more_of-Item s rest) = ap (next (statement_of s)) (statements_from-row _ rest)
 

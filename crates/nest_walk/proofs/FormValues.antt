@@ -6,9 +6,9 @@ use Rattle.std.proofs.lemmas.List.{get_or-set_same, get_or-set_other}
 use Rattle.nest_tree.specs.Form.{Form, dot, form_value, is_form, is_small, numbered, rises_above}
 use Rattle.nest_tree.specs.Values.{wrapped}
 use Rattle.nest_tree.specs.WellFormed.{is_number_of}
+use Rattle.nest_tree.proofs.FirstLimits.{at_replicate}
 use Rattle.nest_model.specs.Instances.{with_loop}
 use Rattle.nest_walk.specs.Paths.{Round, by_number, value_among, dot_among, form_among}
-use Rattle.nest_walk.proofs.PathLists.{at_replicate}
 use Rattle.nest_walk.proofs.Steps.{small_wrapped}
 use Rattle.nest_walk.proofs.WalkMoves.{by_number-length}
 

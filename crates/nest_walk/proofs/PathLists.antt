@@ -4,13 +4,9 @@ use Rattle.std.specs.List.{list_all}
 use Rattle.std.proofs.lemmas.Bool.{and_parts, cases_lt}
 use Rattle.std.proofs.lemmas.Bool.Decides.{Decides-int_eq}
 use Rattle.std.proofs.lemmas.List.{drop-replicate, drop-set-lt, get_or-drop, get_or-replicate, get_or-set_same, get_or-set_other, get_or_past, length-replicate, reverse-append, take_more, take-append-drop, length-drop}
+use Rattle.nest_tree.proofs.FirstLimits.{at_replicate}
 use Rattle.nest_walk.specs.Places.{numbers_of}
 use Rattle.nest_walk.specs.Paths.{Round, rounds_to, by_depth, origin, value_among, is_zero}
-
--- an element of a list of equal ones, also past its end
-pub at_replicate : {A : Type 0} (count i : ℕ) (a : A) → get_or (replicate count a) i a ≡ a
-at_replicate count i a =
-    ⊎_elim (λ h. get_or-replicate count i a a h) (λ h. let past : length (replicate count a) ≤ i = omega (arith, length-replicate count a) in get_or_past (replicate count a) i a past) (cases_lt i count)
 
 pub rounds_to-length : (ns : List ℕ) (vs : List ℤ) (k : ℕ) → length (rounds_to ns vs k) ≡ k
 rounds_to-length ns vs zero = refl

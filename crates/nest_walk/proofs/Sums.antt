@@ -17,12 +17,6 @@ pub loops_step : (pairs : List (ℕ × ℤ)) (rounds : List Round) (i : ℕ) (d 
 loops_step pairs rounds i d sum next h e =
     sum_step sum _ (dot_among (drop (i + 1) pairs) rounds) next e ∙ ap (λ z. wrapped (sum +ℤ z)) (sym (at_drop_more (λ ps. dot_among ps rounds) pairs i d h))
 
-pub params_step : (pairs : List (ℕ × ℤ)) (values : List ℤ) (i : ℕ) (d : ℕ × ℤ) (sum next : ℤ) → i < length pairs →
-    next ≡ wrapped (sum +ℤ (get_or pairs i d).1 *ℤ numbered values (get_or pairs i d).0) →
-    wrapped (next +ℤ dot (drop (i + 1) pairs) values) ≡ wrapped (sum +ℤ dot (drop i pairs) values)
-params_step pairs values i d sum next h e =
-    sum_step sum _ (dot (drop (i + 1) pairs) values) next e ∙ ap (λ z. wrapped (sum +ℤ z)) (sym (at_drop_more (λ ps. dot ps values) pairs i d h))
-
 -- two sums one behind the other
 pub sum_both : (a b c first all : ℤ) → first ≡ wrapped (a +ℤ b) → all ≡ wrapped (first +ℤ c) → all ≡ wrapped (a +ℤ b +ℤ c)
 sum_both a b c first all e f = f ∙ ap (λ z. wrapped (z +ℤ c)) e ∙ int_wrap-add_left w64 (a +ℤ b) c

@@ -6,15 +6,12 @@ use Rattle.nest_tree.specs.Tree.{do_loop, next}
 use Rattle.nest_tree.specs.View.{statement_of, statements_of, statements_from}
 use Rattle.nest_tree.specs.declared.tree.Item.{Item, Loop, Loop', Row_of-Item, end_of-Item, more_of-Item, items-the_row-Item, items_hidden-the_row-Item-0}
 use Rattle.nest_tree.specs.declared.tree.Nest.{Nest}
+use Rattle.nest_tree.proofs.Rows.{statements_from-row}
 use Rattle.nest_model.specs.Instances.{works_in, works_of}
 use Rattle.nest_model.specs.Visits.{stops_in, stops_of}
 use Rattle.nest_walk.specs.Frames.{head_of}
 use Rattle.nest_walk.specs.Walks.{enters_but}
 use mathlib.Core.Former.{Count}
-
-statements_from-row : (n : _) (row : Row_of-Item n) → statements_from (items-the_row-Item n row) ≡ statements_of row
-statements_from-row n end_of-Item = refl
-statements_from-row n (more_of-Item s rest) = ap (next (statement_of s)) (statements_from-row _ rest)
 
 abbrev row_of : Item → (n : Count) × Row_of-Item n
 row_of (Loop' n m1 m2 step shape row line) = (_, row)
