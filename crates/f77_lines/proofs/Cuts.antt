@@ -1,6 +1,7 @@
 -- Bytes that are cut behind their first line.
 use Rattle.std.proofs.Common.{◌≡◌, ℕ, ◌+◌, ◌<◌, Bool, true, false, cond, eqb, List, [], ◌∷◌, ◌++◌, length, Some, None, refl, ap, ◌∙◌, arith, add-one}
 use Rattle.std.specs.Prelude.{codes, drop}
+use Rattle.std.specs.Option.{option_or}
 use Rattle.std.specs.Str.{bytes_eq}
 use Rattle.f77_lines.specs.Texts.{squeezed}
 use Rattle.f77_lines.specs.declared.row.Kind.{Kind}
@@ -8,7 +9,7 @@ use Rattle.f77_lines.specs.declared.row.Kind.TheVariants.{Initial, Continuation}
 use Rattle.f77_lines.specs.declared.refusal.LineRefusal.TheVariants.{NoEnd}
 use Rattle.f77_lines.specs.Columns.{lines_of, columns_of, kind_of, is_comment, body_of}
 use Rattle.f77_lines.specs.Statements.{is_initial, is_end, added, continued, begun, label_of, entries_from, statement}
-use Rattle.f77_lines.specs.Faults.{fault_with, room_after, or_else, fault_from}
+use Rattle.f77_lines.specs.Faults.{fault_with, room_after, fault_from}
 use Rattle.f77_lines.specs.Listing.{size_to_end, first_kept}
 use Rattle.f77_lines.specs.Walk.{first_of, after_first}
 
@@ -70,7 +71,7 @@ unfolding fault_from
 fault_from-none room n bytes h = rw (lines_of-none bytes h) refl
 
 pub fault_from-cut : (room n : ℕ) (bytes : List ℕ) → 0 < length bytes
-    → fault_from room n (lines_of bytes) ≡ or_else (fault_with (kind_of (columns_of (first_of bytes))) room n (columns_of (first_of bytes)))
+    → fault_from room n (lines_of bytes) ≡ option_or (fault_with (kind_of (columns_of (first_of bytes))) room n (columns_of (first_of bytes)))
     (cond (is_end (columns_of (first_of bytes))) None (fault_from (room_after (kind_of (columns_of (first_of bytes))) room) (n + 1) (lines_of (after_first bytes))))
 unfolding fault_from
 fault_from-cut room n bytes h = rw (lines_of-cut bytes h, add-one) refl

@@ -1,13 +1,14 @@
 -- A list ends with END.
 use Rattle.std.proofs.Common.{◌≡◌, ℕ, suc, Bool, true, false, List, [], ◌∷◌, ◌++◌, Option, Some, None, refl, sym, ap, subst, ◌∙◌, append_assoc}
 use Rattle.std.specs.Prelude.{codes}
+use Rattle.std.specs.Option.{option_or}
 use Rattle.f77_lines.specs.declared.refusal.LineRefusal.{LineRefusal}
 use Rattle.f77_lines.specs.Columns.{lines_of, columns_of, kind_of}
 use Rattle.f77_lines.specs.Statements.{Entry, statement, is_end, label_of, begun, entries_from}
-use Rattle.f77_lines.specs.Faults.{fault_with, room_after, or_else, fault_from}
+use Rattle.f77_lines.specs.Faults.{fault_with, room_after, fault_from}
 use Rattle.f77_lines.specs.Listing.{Lists, EndsWithEnd}
 
-later_none : (f g : Option LineRefusal) → or_else f g ≡ None → g ≡ None
+later_none : (f g : Option LineRefusal) → option_or f g ≡ None → g ≡ None
 later_none None g h = h
 later_none (Some fault) g h = cc
 

@@ -2,6 +2,7 @@
 use Rattle.std.proofs.Common.{◌≡◌, ℕ, suc, Bool, true, false, not, cond, List, [], ◌∷◌, Option, Some, None, Ok, Err, subst, sym}
 use Rattle.std.specs.Prelude.{Result, IsErrAnd, IfErr, is_none, ◌||◌, ◌==◌, take}
 use Rattle.std.specs.List.{list_all}
+use Rattle.std.specs.Option.{option_or}
 use Rattle.f77_lines.specs.declared.row.Kind.{Kind}
 use Rattle.f77_lines.specs.declared.row.Kind.TheVariants.{Comment, Directive, Initial, Continuation}
 use Rattle.f77_lines.specs.declared.refusal.LineRefusal.{LineRefusal}
@@ -9,7 +10,7 @@ use Rattle.f77_lines.specs.declared.refusal.LineRefusal.TheVariants.{BadCharacte
 use Rattle.f77_lines.specs.Columns.{lines_of, columns_of, kind_of, is_blank, label_field}
 use Rattle.f77_lines.specs.Texts.{label_at}
 use Rattle.f77_lines.specs.Statements.{is_end}
-use Rattle.f77_lines.specs.Faults.{is_printable, fault_with, room_after, or_else, fault_from}
+use Rattle.f77_lines.specs.Faults.{is_printable, fault_with, room_after, fault_from}
 use Rattle.f77_lines.specs.Listing.{first_line_fault, Refuses}
 
 abbrev IsOfLines : Option LineRefusal → Type 0
@@ -25,7 +26,7 @@ chosen : (b : Bool) (f g : Option LineRefusal) → IsOfLines f → IsOfLines g �
 chosen true f g hf hg = hf
 chosen false f g hf hg = hg
 
-either : (f g : Option LineRefusal) → IsOfLines f → IsOfLines g → IsOfLines (or_else f g)
+either : (f g : Option LineRefusal) → IsOfLines f → IsOfLines g → IsOfLines (option_or f g)
 either None g hf hg = hg
 either (Some e) g hf hg = hf
 

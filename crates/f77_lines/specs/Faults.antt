@@ -1,6 +1,7 @@
 -- The fault of a line, and the first of lines (ANSI X3.9-1978, 3.1, 3.2 and 3.4).
 use Rattle.std.specs.Prelude.{ℕ, suc, ◌-◌, ◌==◌, nat_le, Bool, ◌&&◌, ◌||◌, not, is_none, if◌then◌else◌, List, [], ◌∷◌, take, Option, Some, None}
 use Rattle.std.specs.List.{list_all}
+use Rattle.std.specs.Option.{option_or}
 use Rattle.f77_lines.specs.declared.row.Kind.{Kind}
 use Rattle.f77_lines.specs.declared.row.Kind.TheVariants.{Comment, Directive, Initial, Continuation}
 use Rattle.f77_lines.specs.declared.refusal.LineRefusal.{LineRefusal}
@@ -29,14 +30,9 @@ room_after Directive room = room
 room_after Initial room = 19
 room_after Continuation room = room - 1
 
--- the first of two faults
-abbrev pub or_else : Option LineRefusal → Option LineRefusal → Option LineRefusal
-or_else None later = later
-or_else (Some fault) later = Some fault
-
 -- the first fault of lines up to END, where the first line has number n; a missing END is at fault in the line behind the last
 unfoldable pub fault_from : ℕ → ℕ → List (List ℕ) → Option LineRefusal
 fault_from room n [] = Some (NoEnd n)
 fault_from room n (line ∷ lines) =
-    or_else (fault_with (kind_of (columns_of line)) room n (columns_of line))
+    option_or (fault_with (kind_of (columns_of line)) room n (columns_of line))
     (if is_end (columns_of line) then None else fault_from (room_after (kind_of (columns_of line)) room) (suc n) lines)
