@@ -2,6 +2,7 @@
 use Rattle.std.proofs.Common.{◌≡◌, ℕ, zero, suc, ◌<◌, Bool, true, false, ◌&&◌, List, [], ◌∷◌, ◌++◌, drop, take, ◌-◌, length, take-append-drop, Option, Some, None, refl, sym, ap, subst, ◌∙◌, append_assoc, append-nil, if◌then◌else◌, inl, inr, arith}
 use Rattle.std.specs.Prelude.{not, ◌==◌, nat_lt, codes}
 use Rattle.std.specs.List.{list_all}
+use Rattle.std.specs.Option.{option_or}
 use Rattle.std.specs.Str.{bytes_eq}
 use Rattle.std.proofs.lemmas.Bool.Decides.{nat_tests}
 use Rattle.std.proofs.lemmas.Slice.Eq.{bytes_eq-Decides}
@@ -12,7 +13,7 @@ use Rattle.f77_forms.specs.Characters.{is_digit, is_name}
 use Rattle.f77_forms.specs.Form.{ExpressionForm, number, name, call, parenthesized, signed, binary, no_more, one_more, DeclaratorForm, DefinitionForm, TargetForm, AssignmentForm, ComparisonForm, PrintedForm, value, constant, StatementForm, program, integer, dimension, parameter, do_loop, assign, logical_if, print, continue, stop, end}
 use Rattle.f77_forms.specs.Text.{expression_text, behind_commas, between_commas, declarator_text, definition_text, target_expression, assignment_text, compare_text, comparison_text, comma_text, step_text, printed_text, statement_text, sum, is_expression, are_expressions, is_optional, is_declarator, has_bounds, is_definition, is_target, is_assignment, is_comparison, is_label, is_printed, is_statement}
 use Rattle.f77_forms.specs.Reading.{◌>>=◌, ItemForm, printed, declared, PieceForm, pieces_at}
-use Rattle.f77_forms.specs.Statements.{Next, name_of, target_from, printed_in, value_in, declarator_in, compare_from, item_next, value_next, name_next, compare_next, assignment_next, comparison_next, step_next, all_taken, declarator_next, printed_next, definition_next, listed_from, listed, program_at, declarators_at, before_parenthesis, parameter_at, print_at, assign_at, if_at, digits_in, behind_digits, label_at, has_comma, behind_comma, loop_at, do_at, begins_with, or_else, branch_at, executed_at, declared_at, statement_at}
+use Rattle.f77_forms.specs.Statements.{Next, name_of, target_from, printed_in, value_in, declarator_in, compare_from, item_next, value_next, name_next, compare_next, assignment_next, comparison_next, step_next, all_taken, declarator_next, printed_next, definition_next, listed_from, listed, program_at, declarators_at, before_parenthesis, parameter_at, print_at, assign_at, if_at, digits_in, behind_digits, label_at, has_comma, behind_comma, loop_at, do_at, begins_with, branch_at, executed_at, declared_at, statement_at}
 use Rattle.f77_forms.proofs.Read.{and_parts, and_from}
 use Rattle.f77_forms.proofs.Written.{bind_some, guard_some, some_is, item_text, pieces_text, good_item, good_piece, pieces-written, chosen, all-last}
 
@@ -449,12 +450,12 @@ branch-told text f h = elim (chosen (begins_with (codes "IF(") text) (if_at (dro
 
 executed-told : (text : List ℕ) (f : StatementForm) → executed_at text ≡ Some f → Tells text f
 unfolding executed_at
-executed-told text f h = elim (chosen (begins_with (codes "PRINT*") text) (print_at (drop 6 text)) (or_else (assign_at text) (branch_at text)) f h) [
+executed-told text f h = elim (chosen (begins_with (codes "PRINT*") text) (print_at (drop 6 text)) (option_or (assign_at text) (branch_at text)) f h) [
   | inl p ↦ subst (λ x. Tells x f) (word-front (codes "PRINT*") text p.0) (print-told (drop 6 text) f p.1)
   | inr h ↦ either (assign_at text) refl h.1
 ]
   where
-    either : (o : Option StatementForm) → assign_at text ≡ o → or_else o (branch_at text) ≡ Some f → Tells text f
+    either : (o : Option StatementForm) → assign_at text ≡ o → option_or o (branch_at text) ≡ Some f → Tells text f
     either None e k = branch-told text f k
     either (Some g) e k = assign-told text f (e ∙ k)
 

@@ -1,5 +1,6 @@
 -- From the pieces of a text to a statement, as the private functions do it. The laws of proofs/ tie this to the texts of statements.
 use Rattle.std.specs.Prelude.{ℕ, zero, suc, ◌-◌, ◌==◌, Bool, true, false, ◌&&◌, not, if◌then◌else◌, List, [], ◌∷◌, ◌++◌, length, take, drop, Option, Some, None, codes}
+use Rattle.std.specs.Option.{option_or}
 use Rattle.std.specs.Str.{bytes_eq}
 use Rattle.f77_forms.specs.declared.form.Compare.{Compare}
 use Rattle.f77_forms.specs.declared.form.Compare.TheVariants.{Lt, Le, Eq, Ge, Gt}
@@ -163,17 +164,13 @@ do_at text = label_at (digits_in text) >>= λ label. loop_at label (has_comma (b
 abbrev pub begins_with : List ℕ → List ℕ → Bool
 begins_with word text = bytes_eq (take (length word) text) word
 
-abbrev pub or_else : {A : Type 0} → Option A → Option A → Option A
-or_else None other = other
-or_else (Some x) other = Some x
-
 unfoldable pub branch_at : List ℕ → Option StatementForm
 branch_at text =
     if begins_with (codes "IF(") text then if_at (drop 3 text)
     else (if begins_with (codes "DO") text then do_at (drop 2 text) else None)
 
 unfoldable pub executed_at : List ℕ → Option StatementForm
-executed_at text = if begins_with (codes "PRINT*") text then print_at (drop 6 text) else or_else (assign_at text) (branch_at text)
+executed_at text = if begins_with (codes "PRINT*") text then print_at (drop 6 text) else option_or (assign_at text) (branch_at text)
 
 unfoldable pub declared_at : List ℕ → Option StatementForm
 declared_at text =
