@@ -1,9 +1,11 @@
 -- Sums of terms at values: with a sign, one behind another, and those of a form inside loops.
-use Rattle.std.proofs.Common.{◌≡◌, ℕ, ◌+◌, ◌==◌, ◌&&◌, ◌||◌, ℤ, ◌+ℤ◌, ◌*ℤ◌, neg_ℤ, Bool, true, false, List, [], ◌∷◌, ◌++◌, map, length, if◌then◌else◌, ⊎_elim, refl, ap, sym, ◌∙◌, arith}
+use Rattle.std.proofs.Common.{◌≡◌, ℕ, ◌+◌, ◌-◌, ◌==◌, ◌&&◌, ◌||◌, nat_le, ℤ, pos, ◌+ℤ◌, ◌*ℤ◌, neg_ℤ, Bool, true, false, List, [], ◌∷◌, ◌++◌, map, get_or, length, if◌then◌else◌, ⊎_elim, refl, ap, sym, ◌∙◌, arith}
 use Rattle.std.specs.List.{list_all, list_any}
-use Rattle.std.proofs.lemmas.Bool.{and_parts, cases_Bool, eqb-true}
+use Rattle.std.proofs.lemmas.Bool.{and_parts, cases_Bool, eqb-true, leb-true}
 use Rattle.std.proofs.lemmas.Int.{ints}
+use Rattle.std.proofs.lemmas.List.{get_or_append_left}
 use Rattle.std.proofs.Math.IntN.{zero-*ℤ, +ℤ_invl}
+use Rattle.std.proofs.Math.Seq.{get_or-append_seam}
 use Rattle.nest_tree.specs.Form.{Form, dot, form_value, is_form, numbered}
 use Rattle.nest_tree.specs.Tree.{Head}
 use Rattle.nest_tree.specs.WellFormed.{is_number_of, names_only}
@@ -32,7 +34,20 @@ dot-append (t ∷ ts) us xs = omega (arith, ints, dot-append ts us xs)
 pub record AreConstants (values params : List ℤ) : Type 0 where
   pub same : (n : ℕ) → is_number_of (length params) n ≡ true → numbered values n ≡ numbered params n
 
-dot-constants : (values params : List ℤ) (pairs : List (ℕ × ℤ)) → AreConstants values params → list_all (λ p. is_number_of (length params) p.0) pairs ≡ true → dot pairs values ≡ dot pairs params
+pub constants-in-front : (params rest : List ℤ) → AreConstants (params ++ rest) params
+constants-in-front params rest = record {
+  same = λ n number.
+      let parts = and_parts (nat_le 1 n) (nat_le n (length params)) number in
+      get_or_append_left params rest (pos 0) (n - 1) (omega (arith, leb-true 1 n parts.0, leb-true n (length params) parts.1));
+}
+
+-- the value behind others, by its number
+pub at-seam : (before : List ℤ) (v : ℤ) (rest : List ℤ) → numbered (before ++ v ∷ rest) (length before + 1) ≡ v
+at-seam before v rest =
+    let place : length before + 1 - 1 ≡ length before = omega arith in
+    ap (λ n. get_or (before ++ v ∷ rest) n (pos 0)) place ∙ get_or-append_seam before v rest (pos 0)
+
+pub dot-constants : (values params : List ℤ) (pairs : List (ℕ × ℤ)) → AreConstants values params → list_all (λ p. is_number_of (length params) p.0) pairs ≡ true → dot pairs values ≡ dot pairs params
 dot-constants values params [] are named = refl
 dot-constants values params (p ∷ pairs) are named =
     let parts = and_parts (is_number_of (length params) p.0) (list_all (λ (p : ℕ × ℤ). is_number_of (length params) p.0) pairs) named in

@@ -17,19 +17,19 @@ use Rattle.nest_rows.proofs.Nesting.{all-append, all-weaker}
 abbrev pub AreAmong : List ℕ → List ℕ → Type 0
 AreAmong these those = (n : ℕ) → list_any (λ l. l == n) these ≡ true → list_any (λ l. l == n) those ≡ true
 
-any-left : (xs ys : List ℕ) → AreAmong xs (xs ++ ys)
+pub any-left : (xs ys : List ℕ) → AreAmong xs (xs ++ ys)
 any-left [] ys n h = absurd (let no : false ≡ true = h in cc)
 any-left (x ∷ xs) ys n h =
     ⊎_elim (λ e. ap (λ b. b || list_any (λ l. l == n) (xs ++ ys)) e)
     (λ e. ap (λ b. b || list_any (λ l. l == n) (xs ++ ys)) e ∙ any-left xs ys n (sym (ap (λ b. b || list_any (λ l. l == n) xs) e) ∙ h)) (cases_Bool (x == n))
 
-any-right : (xs ys : List ℕ) → AreAmong ys (xs ++ ys)
+pub any-right : (xs ys : List ℕ) → AreAmong ys (xs ++ ys)
 any-right [] ys n h = h
 any-right (x ∷ xs) ys n h =
     ⊎_elim (λ e. ap (λ b. b || list_any (λ l. l == n) (xs ++ ys)) e) (λ e. ap (λ b. b || list_any (λ l. l == n) (xs ++ ys)) e ∙ any-right xs ys n h) (cases_Bool (x == n))
 
 -- one loop more, in front of the ones and behind the others
-any-more : (xs ys : List ℕ) (k : ℕ) → AreAmong xs ys → AreAmong (k ∷ xs) (ys ++ k ∷ [])
+pub any-more : (xs ys : List ℕ) (k : ℕ) → AreAmong xs ys → AreAmong (k ∷ xs) (ys ++ k ∷ [])
 any-more xs ys k h n named =
     ⊎_elim (λ e. any-right ys (k ∷ []) n (ap (λ b. b || false) e)) (λ e. any-left ys (k ∷ []) n (h n (sym (ap (λ b. b || list_any (λ l. l == n) xs) e) ∙ named))) (cases_Bool (k == n))
 

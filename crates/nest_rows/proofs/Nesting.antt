@@ -38,7 +38,7 @@ all-range P f value a (suc n) h =
     all-append P (f (value a)) (flat_map f (map value (range_with_len (a + 1) n))) here (all-range P f value (a + 1) n later)
 
 -- the loops that a form names are among the first ones
-abbrev is_below : ℕ → Form → Bool
+abbrev pub is_below : ℕ → Form → Bool
 is_below number f = list_all (λ p. nat_lt 0 p.0 && nat_lt p.0 number) f.loops
 
 more-above : (least middle : ℕ) (qs : List (ℕ × ℤ)) → least ≤ middle → list_all (λ q. nat_lt middle q.0) qs ≡ true → list_all (λ q. nat_lt least q.0) qs ≡ true
@@ -64,7 +64,7 @@ below-pairs number (p ∷ pairs) low some reach =
     and_from (nat_lt 0 p.0 && nat_lt p.0 number) (list_all (λ (p : ℕ × ℤ). nat_lt 0 p.0 && nat_lt p.0 number) pairs)
     (and_from (nat_lt 0 p.0) (nat_lt p.0 number) a.0 (le-leb (suc p.0) number (omega (arith, low, leb-true p.0 (number - 1) b.0)))) (below-pairs number pairs low a.1 b.1)
 
-form-below : (constants number : ℕ) (around : List ℕ) (f : Form) → 1 ≤ number → AreWithin (number - 1) around → names_only constants around f ≡ true → is_below number f ≡ true
+pub form-below : (constants number : ℕ) (around : List ℕ) (f : Form) → 1 ≤ number → AreWithin (number - 1) around → names_only constants around f ≡ true → is_below number f ≡ true
 form-below constants number around f low within named =
     let given = and_parts (reach_within (number - 1) f.loops) (reach_within constants f.params) (form-given (number - 1) constants around f within named) in
     let last = and_parts (is_form f && list_all (λ (p : ℕ × ℤ). list_any (λ l. l == p.0) around) f.loops) (list_all (λ (p : ℕ × ℤ). is_number_of constants p.0) f.params) named in
@@ -74,7 +74,7 @@ form-below constants number around f low within named =
     below-pairs number f.loops low (rises-some 0 f.loops b.1) given.0
 
 -- another loop's value doesn't change it
-kept-number : (loops : List ℤ) (n : ℕ) (v : ℤ) (m : ℕ) → 1 ≤ m → m < n → numbered (with_loop loops n v) m ≡ numbered loops m
+pub kept-number : (loops : List ℤ) (n : ℕ) (v : ℤ) (m : ℕ) → 1 ≤ m → m < n → numbered (with_loop loops n v) m ≡ numbered loops m
 kept-number loops n v m low high = get_or-set_other loops (n - 1) (m - 1) v (pos 0) (λ (e : m - 1 ≡ n - 1). omega (arith, low, high, e))
 
 kept-dot : (loops : List ℤ) (n : ℕ) (v : ℤ) (pairs : List (ℕ × ℤ)) → list_all (λ p. nat_lt 0 p.0 && nat_lt p.0 n) pairs ≡ true → dot pairs (with_loop loops n v) ≡ dot pairs loops
@@ -84,27 +84,27 @@ kept-dot loops n v (p ∷ pairs) h =
     let b = and_parts (nat_lt 0 p.0) (nat_lt p.0 n) a.0 in
     ap (λ z. p.1 *ℤ z +ℤ dot pairs (with_loop loops n v)) (kept-number loops n v p.0 (ltb-true 0 p.0 b.0) (ltb-true p.0 n b.1)) ∙ ap (λ z. p.1 *ℤ numbered loops p.0 +ℤ z) (kept-dot loops n v pairs a.1)
 
-kept-form : (loops params : List ℤ) (n : ℕ) (v : ℤ) (f : Form) → is_below n f ≡ true → form_value f (with_loop loops n v) params ≡ form_value f loops params
+pub kept-form : (loops params : List ℤ) (n : ℕ) (v : ℤ) (f : Form) → is_below n f ≡ true → form_value f (with_loop loops n v) params ≡ form_value f loops params
 kept-form loops params n v f h = ap (λ z. f.constant +ℤ z +ℤ dot f.params params) (kept-dot loops n v f.loops h)
 
 -- a loop stands before the one with this number
-record IsBefore (number : ℕ) (h : Head) : Type 0 where
+pub record IsBefore (number : ℕ) (h : Head) : Type 0 where
   pub low : 1 ≤ h.number
   pub high : h.number < number
   pub m1 : is_below number h.m1 ≡ true
   pub m2 : is_below number h.m2 ≡ true
 
-below-more : (n m : ℕ) (pairs : List (ℕ × ℤ)) → n ≤ m → list_all (λ p. nat_lt 0 p.0 && nat_lt p.0 n) pairs ≡ true → list_all (λ p. nat_lt 0 p.0 && nat_lt p.0 m) pairs ≡ true
+pub below-more : (n m : ℕ) (pairs : List (ℕ × ℤ)) → n ≤ m → list_all (λ p. nat_lt 0 p.0 && nat_lt p.0 n) pairs ≡ true → list_all (λ p. nat_lt 0 p.0 && nat_lt p.0 m) pairs ≡ true
 below-more n m [] more h = refl
 below-more n m (p ∷ pairs) more h =
     let a = and_parts (nat_lt 0 p.0 && nat_lt p.0 n) (list_all (λ (p : ℕ × ℤ). nat_lt 0 p.0 && nat_lt p.0 n) pairs) h in
     let b = and_parts (nat_lt 0 p.0) (nat_lt p.0 n) a.0 in
     and_from (nat_lt 0 p.0 && nat_lt p.0 m) (list_all (λ (p : ℕ × ℤ). nat_lt 0 p.0 && nat_lt p.0 m) pairs) (and_from (nat_lt 0 p.0) (nat_lt p.0 m) b.0 (le-leb (suc p.0) m (omega (arith, more, ltb-true p.0 n b.1)))) (below-more n m pairs more a.1)
 
-before-more : (n m : ℕ) (h : Head) → n ≤ m → IsBefore n h → IsBefore m h
+pub before-more : (n m : ℕ) (h : Head) → n ≤ m → IsBefore n h → IsBefore m h
 before-more n m h more b = record { low = b.low; high = omega (arith, b.high, more); m1 = below-more n m h.m1.loops more b.m1; m2 = below-more n m h.m2.loops more b.m2 }
 
-kept-trip : (params loops : List ℤ) (n : ℕ) (v : ℤ) (h : Head) (k : ℕ) → IsBefore n h → IsTrip params loops h k → IsTrip params (with_loop loops n v) h k
+pub kept-trip : (params loops : List ℤ) (n : ℕ) (v : ℤ) (h : Head) (k : ℕ) → IsBefore n h → IsTrip params loops h k → IsTrip params (with_loop loops n v) h k
 kept-trip params loops n v h k before trip =
     let one = kept-form loops params n v h.m1 before.m1 in
     let two = kept-form loops params n v h.m2 before.m2 in
@@ -113,14 +113,14 @@ kept-trip params loops n v h k before trip =
       within = subst (λ z. k < trip_count z (form_value h.m2 (with_loop loops n v) params) h.step) (sym one) (subst (λ z. k < trip_count (form_value h.m1 loops params) z h.step) (sym two) trip.within);
     }
 
-trips-inside : (params loops : List ℤ) (n : ℕ) (v : ℤ) (heads : List Head) (ns : List ℕ) (h : Head) (k : ℕ) → AllByRecursion (IsBefore n) heads → AreTrips params loops heads ns → IsTrip params (with_loop loops n v) h k →
+pub trips-inside : (params loops : List ℤ) (n : ℕ) (v : ℤ) (heads : List Head) (ns : List ℕ) (h : Head) (k : ℕ) → AllByRecursion (IsBefore n) heads → AreTrips params loops heads ns → IsTrip params (with_loop loops n v) h k →
     AreTrips params (with_loop loops n v) (heads ++ h ∷ []) (ns ++ k ∷ [])
 trips-inside params loops n v [] [] h k before trips here = (here, tt)
 trips-inside params loops n v [] (m ∷ ns) h k before trips here = absurd trips
 trips-inside params loops n v (g ∷ heads) [] h k before trips here = absurd trips
 trips-inside params loops n v (g ∷ heads) (m ∷ ns) h k before trips here = (kept-trip params loops n v g m before.0 trips.0, trips-inside params loops n v heads ns h k before.1 trips.1 here)
 
-within-more : (n m : ℕ) (around : List ℕ) → n ≤ m → AreWithin n around → AreWithin m around
+pub within-more : (n m : ℕ) (around : List ℕ) → n ≤ m → AreWithin n around → AreWithin m around
 within-more n m [] more h = refl
 within-more n m (l ∷ around) more h =
     let parts = and_parts (nat_le l n) (list_all (λ l. nat_le l n) around) h in

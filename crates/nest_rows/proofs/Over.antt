@@ -21,7 +21,7 @@ use Rattle.nest_rows.proofs.Sums.{is_over}
 abbrev are_over : ℕ → List (ℕ × ℤ) → Bool
 are_over vars terms = list_all (λ t. is_number_of vars t.0) terms
 
-number-from : (vars n : ℕ) → 1 ≤ n → n ≤ vars → is_number_of vars n ≡ true
+pub number-from : (vars n : ℕ) → 1 ≤ n → n ≤ vars → is_number_of vars n ≡ true
 number-from vars n low high = and_from (nat_le 1 n) (nat_le n vars) (le-leb 1 n low) (le-leb n vars high)
 
 signed-over : (vars : ℕ) (sign : Sign) (terms : List (ℕ × ℤ)) → are_over vars terms ≡ true → are_over vars (with_sign sign terms) ≡ true
@@ -30,7 +30,7 @@ signed-over vars sign (t ∷ terms) h =
     let parts = and_parts (is_number_of vars t.0) (are_over vars terms) h in
     and_from (is_number_of vars t.0) (are_over vars (with_sign sign terms)) parts.0 (signed-over vars sign terms parts.1)
 
-both-over : (vars : ℕ) (ts us : List (ℕ × ℤ)) → are_over vars ts ≡ true → are_over vars us ≡ true → are_over vars (ts ++ us) ≡ true
+pub both-over : (vars : ℕ) (ts us : List (ℕ × ℤ)) → are_over vars ts ≡ true → are_over vars us ≡ true → are_over vars (ts ++ us) ≡ true
 both-over vars ts us h k = list_all-append (λ (t : ℕ × ℤ). is_number_of vars t.0) ts us ∙ and_from (are_over vars ts) (are_over vars us) h k
 
 place-over : (vars first : ℕ) (heads : List Head) (n : ℕ) → 1 ≤ first → first + 2 * length heads ≤ vars + 1 → list_any (λ l. l == n) (numbers heads) ≡ true → is_number_of vars (place_of first heads n) ≡ true
