@@ -4,7 +4,8 @@ use Rattle.std.proofs.lemmas.Int.{to_z-of_z}
 use Rattle.std.proofs.lemmas.List.{append-nil}
 use Rattle.farkas_cert.specs.Combination.{stays_narrow}
 use Rattle.fm_elim.specs.Pairs.{combined}
-use Rattle.fm_elim.proofs.Combined.{entry_at-coef, entry_at-bound, combined-drop, combined-done}
+use Rattle.farkas_cert.proofs.Sums.{entry_at-last}
+use Rattle.fm_elim.proofs.Combined.{entry_at-coef, combined-drop, combined-done}
 use Rattle.fm_elim.proofs.combination.combine.Goals as goal
 
 pub narrow_weighted_sum-requires : goal.narrow_weighted_sum-requires
@@ -30,7 +31,7 @@ narrow_weighted_sum-bound-requires c =
     let fits_n : FitsSigned w128 c.args.n = c.ranges.n in
     let fits_u : FitsSigned w128 u.bound = search rules in
     let fits_l : FitsSigned w128 l.bound = search rules in
-    let narrow : IsTrue (stays_narrow (pos 0) ((c.args.m *ℤ u.bound) ∷ (c.args.n *ℤ l.bound) ∷ [])) = rw (entry_at-bound vars u, entry_at-bound vars l) at (c.requires.narrow vars (omega arith)) in
+    let narrow : IsTrue (stays_narrow (pos 0) ((c.args.m *ℤ u.bound) ∷ (c.args.n *ℤ l.bound) ∷ [])) = rw (entry_at-last vars u, entry_at-last vars l) at (c.requires.narrow vars (omega arith)) in
     simp to_z-of_z narrow
 
 pub loop-k-preserved : goal.loop-k-preserved

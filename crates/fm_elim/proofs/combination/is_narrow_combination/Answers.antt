@@ -3,7 +3,8 @@ use Rattle.std.specs.Int.{w128}
 use Rattle.std.proofs.lemmas.Int.{to_z-of_z}
 use Rattle.farkas_cert.specs.Combination.{stays_narrow}
 use Rattle.fm_elim.specs.Pairs.{products_of}
-use Rattle.fm_elim.proofs.Combined.{sum_is_wide, sum_is_narrow, entry_at-coef, entry_at-bound, by_lt}
+use Rattle.farkas_cert.proofs.Sums.{entry_at-last}
+use Rattle.fm_elim.proofs.Combined.{sum_is_wide, sum_is_narrow, entry_at-coef, by_lt}
 use borrow.Author.Count.{below_more}
 use Rattle.fm_elim.proofs.combination.is_narrow_combination.Goals as goal
 
@@ -17,7 +18,7 @@ returns-then-is_none c =
     let fits_u : FitsSigned w128 u.bound = search rules in
     let fits_l : FitsSigned w128 l.bound = search rules in
     let wide = sum_is_wide (c.args.m *ℤ u.bound) (c.args.n *ℤ l.bound) c.weighted_sum.result (simp to_z-of_z at c.weighted_sum.ensures) c.if-is_none.ensures in
-    (vars, omega arith, rw (entry_at-bound vars u, entry_at-bound vars l) wide)
+    (vars, omega arith, rw (entry_at-last vars u, entry_at-last vars l) wide)
 
 pub returns-then-is_none-2 : goal.returns-then-is_none-2
 returns-then-is_none-2 c =
@@ -70,5 +71,5 @@ returns c =
     let whole : vars ≤ k = omega (arith, c.loop-k-test.false, ap length c.as_slice-coef-items.ensures) in
     let bound = sum_is_narrow (c.args.m *ℤ u.bound) (c.args.n *ℤ l.bound) c.weighted_sum.result (simp to_z-of_z at c.weighted_sum.ensures) c.if-is_none.ensures in
     let so_far = simp to_z-of_z at c.loop-k.invariant in
-    let last : IsTrue (stays_narrow (pos 0) (products_of vars c.args.m u c.args.n l vars)) = rw (entry_at-bound vars u, entry_at-bound vars l) bound in
+    let last : IsTrue (stays_narrow (pos 0) (products_of vars c.args.m u c.args.n l vars)) = rw (entry_at-last vars u, entry_at-last vars l) bound in
     λ j h. by_lt j vars (λ lt. so_far j (omega arith)) (λ ge. let e : vars ≡ j = omega arith in subst (λ i. IsTrue (stays_narrow (pos 0) (products_of vars c.args.m u c.args.n l i))) e last)
