@@ -4,7 +4,8 @@ use Rattle.std.specs.Prelude.{slice_get, slice_index_or}
 use Rattle.std.specs.List.{All, flat_map, list_all}
 use Rattle.std.proofs.lemmas.Bool.{and_from, and_parts, le-ltb, lt-ltb}
 use Rattle.std.proofs.lemmas.List.{append_assoc, length-map, length-reverse, reverse-append, length-replicate, length-set}
-use Rattle.std.proofs.lemmas.List.Elements.{All-append, All-cons, All-head, All-nil, All-tail, All-weaker}
+use Rattle.std.proofs.lemmas.List.Elements.{All-append, All-cons, All-get_or, All-head, All-nil, All-tail, All-weaker}
+use Rattle.std.proofs.lemmas.Option.{get_or_from_slice_get, slice_get_within}
 use Rattle.std.proofs.Math.Logic.{∥∥₁_elim}
 use Rattle.std.proofs.Props.{props}
 use Rattle.nest_tree.specs.Form.{is_small}
@@ -86,11 +87,11 @@ pub record IsAtFrom (params : List ℤ) (enters : ℕ → Bool) (count place sto
   pub within : k < stops
   pub there : IsAt params enters count v text (sites k) k
 
-All-flat_map : {X Y : Type 0} (P : Y → Type 0) (f : X → List Y) (xs : List X) → All (λ x. All P (f x)) xs → All P (flat_map f xs)
+pub All-flat_map : {X Y : Type 0} (P : Y → Type 0) (f : X → List Y) (xs : List X) → All (λ x. All P (f x)) xs → All P (flat_map f xs)
 All-flat_map P f [] all = All-nil P
 All-flat_map P f (x ∷ xs) all = All-append P (f x) (flat_map f xs) (All-head (λ x. All P (f x)) x xs all) (All-flat_map P f xs (All-tail (λ x. All P (f x)) x xs all))
 
-all_of : {X : Type 0} (P : X → Type 0) (p : X → Bool) (xs : List X) → list_all p xs ≡ true → ((x : X) → p x ≡ true → P x) → All P xs
+pub all_of : {X : Type 0} (P : X → Type 0) (p : X → Bool) (xs : List X) → list_all p xs ≡ true → ((x : X) → p x ≡ true → P x) → All P xs
 all_of P p [] h f = All-nil P
 all_of P p (x ∷ xs) h f =
     let parts = and_parts (p x) (list_all p xs) h in
@@ -226,10 +227,8 @@ module _ (params : List ℤ) (enters : ℕ → Bool) (count : ℕ) where
           };
         }) (visits_in params enters rest (place + stops) (first + works_in s) loops) (at_among loops around rest (place + stops) (first + works_in s) long numbered both.1))
 
-all_at : {X : Type 0} (P : X → Type 0) (xs : List X) (k : ℕ) (x : X) → All P xs → slice_get xs k ≡ Some x → P x
-all_at P [] k x all at = let clash : None ≡ Some x = at in absurd (cc)
-all_at P (y ∷ xs) zero x all at = let same : Some y ≡ Some x = at in let is : y ≡ x = cc in subst P is (All-head P y xs all)
-all_at P (y ∷ xs) (suc k) x all at = all_at P xs k x (All-tail P y xs all) at
+pub all_at : {X : Type 0} (P : X → Type 0) (xs : List X) (k : ℕ) (x : X) → All P xs → slice_get xs k ≡ Some x → P x
+all_at P xs k x all e = subst P (get_or_from_slice_get xs k x x e) (All-get_or P xs k x (slice_get_within xs k x e) all)
 
 same_around : (s : Statement) (a b : List ℕ) → ◌≡◌ {A = Option Placed} (Some (record { what = s; around = a })) (Some (record { what = s; around = b })) → a ≡ b
 same_around s a b e =
@@ -239,7 +238,7 @@ same_around s a b e =
     let same : one ≡ other = cc in
     ap (λ (p : Placed). p.around) same
 
-at_middle : {X : Type 0} (before : List X) (x : X) (behind : List X) → slice_get (before ++ x ∷ behind) (length before) ≡ Some x
+pub at_middle : {X : Type 0} (before : List X) (x : X) (behind : List X) → slice_get (before ++ x ∷ behind) (length before) ≡ Some x
 at_middle [] x behind = refl
 at_middle (y ∷ before) x behind = at_middle before x behind
 

@@ -10,7 +10,7 @@ use Rattle.std.proofs.lemmas.List.Sums.{fold-append}
 use Rattle.std.proofs.lemmas.Option.{slice_get_within}
 use Rattle.sync_plan.proofs.Gets.{get-behind, get-front}
 use Rattle.spmd_model.specs.Timelines.{Act, post, await, load, store, print, Job, Moment, boundary, job, acts_from, boundary_acts, job_acts, last_act, moment_acts}
-use Rattle.spmd_model.proofs.PlannedSound.{all_at}
+use Rattle.owner_partition.proofs.Sites.{all_at}
 use Rattle.spmd_laws.specs.Machines.{arrived}
 use Rattle.spmd_laws.proofs.Lists.{every}
 

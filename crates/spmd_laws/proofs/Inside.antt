@@ -18,12 +18,11 @@ use Rattle.nest_model.specs.Visits.{Visit}
 use Rattle.owner_partition.specs.Phases.{Execution, executions, executions_from, phase_instances, phases}
 use Rattle.owner_partition.proofs.Instances.{all_executed}
 use Rattle.sync_plan.specs.declared.plan.Plan.{Plan}
-use Rattle.sync_plan.proofs.PhasePlaces.{All-flat_map}
+use Rattle.owner_partition.proofs.Sites.{All-flat_map, all_at}
 use Rattle.spmd_model.specs.Timelines as timeline
 use Rattle.spmd_model.specs.Timelines.{Act, post, await, load, store, Job, Moment, boundary, job, acts_from, boundary_acts, job_acts, last_act, moment_acts}
 use Rattle.spmd_model.specs.Ordered as Ordered
 use Rattle.spmd_model.specs.Planned.{boundary_of, job_of, jobs_of, machine_of, timeline_from, timeline_of}
-use Rattle.spmd_model.proofs.PlannedSound.{all_at}
 use Rattle.spmd_laws.proofs.Lists.{every, passed}
 use Rattle.spmd_laws.proofs.Loads.{access_there, expression_there, items_there}
 

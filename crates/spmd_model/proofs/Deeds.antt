@@ -26,7 +26,7 @@ use Rattle.owner_partition.specs.Placement.{ends_among}
 use Rattle.sync_plan.specs.Fit.{IsFit}
 use Rattle.sync_plan.proofs.Fits.{fit_parts}
 use Rattle.sync_plan.proofs.PhasePlaces.{IsThereFrom, all_there}
-use Rattle.spmd_model.proofs.PlannedSound.{all_at}
+use Rattle.owner_partition.proofs.Sites.{all_at}
 use Rattle.spmd_model.proofs.LastValues.{StandsFrom, stands_here, stands_later}
 
 -- ---- the deeds of acts

@@ -6,6 +6,7 @@ use Rattle.std.proofs.lemmas.Bool.{cases_eq, cases_lt}
 use Rattle.nest_tree.specs.Tree.{Tree, param_values}
 use Rattle.nest_model.specs.Instances.{Instance}
 use Rattle.nest_model.specs.Visits.{Visit}
+use Rattle.owner_partition.proofs.Sites.{all_at}
 use Rattle.owner_partition.specs.Phases.{Execution, phase_instances, phases}
 use Rattle.sync_plan.specs.declared.plan.Kind.{Kind}
 use Rattle.sync_plan.specs.declared.plan.Plan.{Plan}
@@ -13,8 +14,6 @@ use Rattle.sync_plan.specs.Waits.{awaited_behind, does_wait_at, is_awaited_behin
 use Rattle.spmd_model.specs.Timelines.{Job, boundary, job}
 use Rattle.spmd_model.specs.Planned.{boundary_of, job_of, jobs_of, timeline_from, timeline_of}
 use Rattle.std.specs.List.{All}
-use Rattle.std.proofs.lemmas.List.Elements.{All-get_or}
-use Rattle.std.proofs.lemmas.Option.{get_or_from_slice_get, slice_get_within}
 use Rattle.nest_tree.specs.Tree.{Printing, Work, assign, print}
 use Rattle.nest_tree.specs.WellFormed.{IsWellFormed}
 use Rattle.nest_model.specs.Accesses.{access_cell, work_store}
@@ -136,9 +135,6 @@ awaited_on tree plan t n p q posts awaits at inside among =
     awaits_are e v same = cc
 
 -- ---- a plan that fits has a sound timeline
-
-pub all_at : {X : Type 0} (P : X → Type 0) (xs : List X) (k : ℕ) (x : X) → All P xs → slice_get xs k ≡ Some x → P x
-all_at P xs k x all e = subst P (get_or_from_slice_get xs k x x e) (All-get_or P xs k x (slice_get_within xs k x e) all)
 
 owned_along : (tree : Tree) (plan : Plan) → All (λ (x : Execution). owner_under tree plan x < plan.workers) (executions tree plan.cut) → (t : ℕ) (j : Job) → slice_get (timeline_of tree plan) t ≡ Some (job j) → j.owner < plan.workers
 owned_along tree plan below t j at =

@@ -4,7 +4,7 @@ use Rattle.std.specs.Prelude.{slice_get}
 use Rattle.std.specs.List.{All, Contains, filter, list_all, list_any, range_with_len}
 use Rattle.std.proofs.lemmas.Bool.{and_parts, cases_Bool, cases_eq, cases_lt, eqb-true, ltb-true}
 use Rattle.std.proofs.lemmas.List.Elements.{All-cons, All-get_or, All-head, All-nil, All-tail, All-weaker}
-use Rattle.std.proofs.lemmas.Option.{get_or_from_slice_get, slice_get-get_or, slice_get_within}
+use Rattle.std.proofs.lemmas.Option.{slice_get-get_or, slice_get_within}
 use Rattle.nest_tree.specs.Form.{Form, dot, form_value, is_form, is_small, numbered, rises_above}
 use Rattle.nest_tree.specs.Layout.{count_of}
 use Rattle.nest_tree.specs.Limits.{no_ends}
@@ -19,6 +19,7 @@ use Rattle.owner_partition.specs.Marks.{enters_outer}
 use Rattle.owner_partition.specs.Owners.{anchor_owner, dealt, owner_by}
 use Rattle.owner_partition.specs.Phases.{Execution, executions, executions_from, phase_instances, phases}
 use Rattle.owner_partition.specs.Placement.{ends_among}
+use Rattle.owner_partition.proofs.Sites.{all_at}
 use Rattle.sync_plan.specs.declared.plan.Kind.{Kind}
 use Rattle.sync_plan.specs.declared.plan.Kind.TheVariants.{Barrier}
 use Rattle.sync_plan.specs.declared.plan.Plan.{Plan}
@@ -43,7 +44,7 @@ pub record IsOf (params : List ℤ) (e : ℕ) (vs : List Visit) (x : Execution) 
   pub place_is : x.place ≡ visit.place
   pub is : slice_get (phase_instances params visit) index ≡ Some x.instance
 
-mapped : {X Y : Type 0} (f : X → Y) (xs : List X) (k : ℕ) (y : Y) → slice_get (map f xs) k ≡ Some y → (x : X) × (slice_get xs k ≡ Some x) × (f x ≡ y)
+pub mapped : {X Y : Type 0} (f : X → Y) (xs : List X) (k : ℕ) (y : Y) → slice_get (map f xs) k ≡ Some y → (x : X) × (slice_get xs k ≡ Some x) × (f x ≡ y)
 mapped f [] k y e = let clash : None ≡ Some y = e in absurd (cc)
 mapped f (x ∷ xs) zero y e = let same : Some (f x) ≡ Some y = e in (x, refl, cc)
 mapped f (x ∷ xs) (suc k) y e = mapped f xs k y e
@@ -89,9 +90,6 @@ phases_rise params e (v ∷ vs) x y j k lt at at' =
           let more' : length here + (k - length here) ≡ k = omega (arith, past, lt) in
           phases_rise params (suc e) vs x y (j - length here) (k - length here) (omega (arith, lt, past)) (sym (ap (slice_get (here ++ later)) (sym more) ∙ get-behind here later (j - length here)) ∙ at) (sym (ap (slice_get (here ++ later)) (sym more') ∙ get-behind here later (k - length here)) ∙ at')
     ]
-
-all_at : {X : Type 0} (P : X → Type 0) (xs : List X) (k : ℕ) (x : X) → All P xs → slice_get xs k ≡ Some x → P x
-all_at P xs k x all e = subst P (get_or_from_slice_get xs k x x e) (All-get_or P xs k x (slice_get_within xs k x e) all)
 
 -- ---- without a Doall loop the instances of a phase have one owner
 

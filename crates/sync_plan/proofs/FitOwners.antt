@@ -31,12 +31,13 @@ use Rattle.owner_partition.specs.Marks.{enters_outer}
 use Rattle.owner_partition.specs.Owners.{anchor_owner, dealt, owner_by, reaches}
 use Rattle.owner_partition.specs.Phases.{Execution, executions, executions_from, phase_instances, phases}
 use Rattle.owner_partition.specs.Placement.{ends_among, misplaced, misplaced_at, misplaced_within, names_empty, phase_ends, unplaced}
+use Rattle.owner_partition.proofs.Sites.{All-flat_map}
 use Rattle.sync_plan.specs.declared.plan.Plan.{Plan}
 use Rattle.sync_plan.specs.Fit.{IsFit, has_print, have_print, is_dealt, is_zero_form, kind_anchors, misplaced_print, numbered_anchors}
 use Rattle.sync_plan.specs.Ordered.{owner_under}
 use Rattle.sync_plan.specs.Shape.{are_good_anchors, has_places, is_doall, is_good_anchor, mark_of, own_loops, static_phases}
 use Rattle.sync_plan.proofs.Fits.{FitParts, fit_parts}
-use Rattle.sync_plan.proofs.PhasePlaces.{All-flat_map, AreBelow, IsThereFrom, all_there, all_trips_are, own_ends}
+use Rattle.sync_plan.proofs.PhasePlaces.{AreBelow, IsThereFrom, all_there, all_trips_are, own_ends}
 
 -- ---- what stands at a value within the blocks of so many workers is one of theirs
 
@@ -63,7 +64,7 @@ dealt_below Cyclic workers interval (negsuc w) some h between = omega (arith, so
 
 -- ---- no loop that a walk has come to is empty
 
-none_empty : (ends : List (ℤ × ℤ)) (loops : List ℤ) (pairs : List (ℕ × ℤ)) → IsInEnds ends loops → names_empty ends pairs ≡ false
+pub none_empty : (ends : List (ℤ × ℤ)) (loops : List ℤ) (pairs : List (ℕ × ℤ)) → IsInEnds ends loops → names_empty ends pairs ≡ false
 none_empty ends loops [] h = refl
 none_empty ends loops (p ∷ pairs) h =
     ap (λ b. b || list_any (λ (q : ℕ × ℤ). is_empty (ends_of ends q.0)) pairs) (not_empty (ends_of ends p.0) (numbered loops p.0) (h.inside (p.0 - 1))) ∙ none_empty ends loops pairs h

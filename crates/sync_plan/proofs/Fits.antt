@@ -52,7 +52,7 @@ module _ (enters : ℕ → Bool) (scope : Scope) (n : ℕ) where
         (placed_in-within around first s parts.0 (omega arith) within) (placed_of-within around (first + loops_in s) rest parts.1 (omega arith) within)
 
 -- a field that isn't wrong
-field_right : (b : Bool) (n : ℕ) (rest : Option ℕ) → (if not b then Some n else rest) ≡ None → (b ≡ true) × (rest ≡ None)
+pub field_right : (b : Bool) (n : ℕ) (rest : Option ℕ) → (if not b then Some n else rest) ≡ None → (b ≡ true) × (rest ≡ None)
 field_right true n rest e = (refl, e)
 field_right false n rest e = absurd (cc)
 
@@ -67,7 +67,7 @@ pub record FitParts (tree : Tree) (plan : Plan) : Type 0 where
   pub placed : unplaced tree plan.cut plan.workers (placed_anchors plan) ≡ None
   pub prints : misplaced_print 1 plan.cut (static_phases tree plan.cut) plan.anchors ≡ None
 
-nothing_misfits : {A : Type 0} (why : A → Misfit) (found : Option A) → as_misfit why found ≡ None → found ≡ None
+pub nothing_misfits : {A : Type 0} (why : A → Misfit) (found : Option A) → as_misfit why found ≡ None → found ≡ None
 nothing_misfits why None e = refl
 nothing_misfits why (Some a) e = absurd (cc)
 

@@ -41,11 +41,11 @@ one_other f workers zero lt above below = elim (cases_lt 1 workers) [
 one_other f workers (suc q) lt above below =
     any_from _ 0 workers q (omega arith) (omega arith) (passes q (suc q) (f q (suc q)) (λ (e : q ≡ suc q). omega arith) (below q (omega arith))) ∙ sym (lt-ltb 1 workers (omega arith))
 
-or_right_true : (a b : Bool) → b ≡ true → (a || b) ≡ true
+pub or_right_true : (a b : Bool) → b ≡ true → (a || b) ≡ true
 or_right_true true b h = refl
 or_right_true false b h = h
 
-or_left_true : (a b : Bool) → a ≡ true → (a || b) ≡ true
+pub or_left_true : (a b : Bool) → a ≡ true → (a || b) ≡ true
 or_left_true true b h = refl
 or_left_true false b h = absurd (cc)
 

@@ -4,7 +4,7 @@ use Rattle.std.specs.Prelude.{slice_get}
 use Rattle.std.specs.List.{All, flat_map, range_with_len}
 use Rattle.std.proofs.lemmas.Bool.{and_parts, le-ltb, lt-ltb}
 use Rattle.std.proofs.lemmas.List.{length-replicate, length-set}
-use Rattle.std.proofs.lemmas.List.Elements.{All-append, All-get_or, All-cons, All-head, All-nil, All-tail, All-weaker}
+use Rattle.std.proofs.lemmas.List.Elements.{All-append, All-get_or, All-cons, All-nil, All-weaker}
 use Rattle.nest_tree.specs.Form.{form_value}
 use Rattle.nest_tree.specs.Intervals.{head_interval, with_ends}
 use Rattle.nest_tree.specs.Limits.{is_empty, no_ends}
@@ -22,6 +22,7 @@ use Rattle.owner_partition.specs.declared.cut.Mark.{Mark}
 use Rattle.owner_partition.specs.Marks.{enters_outer}
 use Rattle.owner_partition.specs.Phases.{phases}
 use Rattle.owner_partition.specs.Placement.{ends_among, ends_in}
+use Rattle.owner_partition.proofs.Sites.{All-flat_map}
 use Rattle.std.proofs.lemmas.Option.{get_or_from_slice_get, slice_get_within}
 use Rattle.sync_plan.proofs.Gets.{get-behind, get-front}
 
@@ -54,10 +55,6 @@ pub record IsThereFrom (params : List ℤ) (scope : Scope) (place stops : ℕ) (
   pub place_is : v.place ≡ place + k
   pub within : k < stops
   pub there : IsThere params scope v text (ends_at k) k
-
-pub All-flat_map : {X Y : Type 0} (P : Y → Type 0) (f : X → List Y) (xs : List X) → All (λ x. All P (f x)) xs → All P (flat_map f xs)
-All-flat_map P f [] all = All-nil P
-All-flat_map P f (x ∷ xs) all = All-append P (f x) (flat_map f xs) (All-head (λ x. All P (f x)) x xs all) (All-flat_map P f xs (All-tail (λ x. All P (f x)) x xs all))
 
 all_in_range : (P : ℤ → Type 0) (f : ℕ → ℤ) (a n : ℕ) → ((i : ℕ) → i < n → P (f (a + i))) → All P (map f (range_with_len a n))
 all_in_range P f a zero h = All-nil P
