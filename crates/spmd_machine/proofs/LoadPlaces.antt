@@ -1,14 +1,15 @@
 -- The load that comes next among those of a piece of work.
-use Rattle.std.proofs.Common.{◌≡◌, ◌≢◌, ℕ, zero, suc, ◌+◌, ◌<◌, ℤ, Bool, true, List, [], ◌∷◌, ◌++◌, length, drop, take, map, Some, None, refl, sym, ◌∙◌, ap, subst, arith, zero-add, length-append}
+use Rattle.std.proofs.Common.{◌≡◌, ◌≢◌, ℕ, zero, suc, ◌+◌, ◌<◌, ℤ, true, List, [], ◌∷◌, ◌++◌, length, drop, take, Some, None, refl, sym, ◌∙◌, ap, subst, arith, zero-add, length-append}
 use Rattle.std.specs.Prelude.{slice_get}
 use Rattle.std.specs.List.{flat_map, list_all, range_with_len}
-use Rattle.std.proofs.lemmas.Bool.{and_parts, leb-true, ltb-true}
+use Rattle.std.proofs.lemmas.Bool.{leb-true, ltb-true}
 use Rattle.std.proofs.lemmas.List.FromFn.{get_or-range_with_len, length-range_with_len}
 use Rattle.std.proofs.lemmas.List.Sums.{sum_by-cons}
 use Rattle.std.proofs.lemmas.Option.{slice_get-get_or, slice_get_within}
 use Rattle.nest_walk.specs.CellForms.{cell_at}
 use Rattle.nest_walk.specs.declared.table.LoadCells.{LoadCells}
 use Rattle.nest_walk.specs.declared.table.LoadCells.TheVariants.{Element, Array}
+use Rattle.owner_partition.proofs.Sites.{all_at, all_of}
 use Rattle.seq_meaning.specs.Loads.{cells_of_load, is_load_within}
 use Rattle.sync_plan.proofs.Gets.{get-behind, get-front}
 use Rattle.spmd_machine.specs.Processors.{IsLoading, cell_of_load, width, widths}
@@ -17,16 +18,6 @@ pub drop_there : {X : Type 0} (xs : List X) (n : ℕ) (x : X) → slice_get xs n
 drop_there [] n x h = absurd (let no : None ≡ Some x = h in cc)
 drop_there (y ∷ ys) zero x h = let same : y ≡ x = cc in ap (λ z. z ∷ ys) same
 drop_there (y ∷ ys) (suc n) x h = drop_there ys n x h
-
-pub get-map : {X Y : Type 0} (f : X → Y) (xs : List X) (n : ℕ) (x : X) → slice_get xs n ≡ Some x → slice_get (map f xs) n ≡ Some (f x)
-get-map f [] n x h = absurd (let no : None ≡ Some x = h in cc)
-get-map f (y ∷ ys) zero x h = let same : y ≡ x = cc in ap (λ z. Some (f z)) same
-get-map f (y ∷ ys) (suc n) x h = get-map f ys n x h
-
-all_at : {X : Type 0} (q : X → Bool) (xs : List X) (n : ℕ) (x : X) → list_all q xs ≡ true → slice_get xs n ≡ Some x → q x ≡ true
-all_at q [] n x all h = absurd (let no : None ≡ Some x = h in cc)
-all_at q (y ∷ ys) zero x all h = let same : y ≡ x = cc in ap q (sym same) ∙ (and_parts (q y) (list_all q ys) all).0
-all_at q (y ∷ ys) (suc n) x all h = all_at q ys n x (and_parts (q y) (list_all q ys) all).1 h
 
 module _ (values : List ℤ) where
   cells-width : (l : LoadCells) → length (cells_of_load values l) ≡ width l
@@ -67,7 +58,7 @@ module _ (values : List ℤ) where
   loading_cell loads n k e l at h = ap (slice_get (flat_map (cells_of_load values) loads)) (sym at.counted) ∙ cell_among loads k e l h (at.within l h)
 
   pub loading_within : (cells : ℕ) (loads : List LoadCells) (n k e : ℕ) (l : LoadCells) → IsLoading loads n k e → slice_get loads k ≡ Some l → list_all (is_load_within cells values) loads ≡ true → cell_of_load values l e < cells
-  loading_within cells loads n k e l at h all = cell_within cells l e (at.within l h) (all_at (is_load_within cells values) loads k l all h)
+  loading_within cells loads n k e l at h all = cell_within cells l e (at.within l h) (all_at (λ x. is_load_within cells values x ≡ true) loads k l (all_of (λ x. is_load_within cells values x ≡ true) (is_load_within cells values) loads all (λ x passes. passes)) h)
 
   pub loading_below : (loads : List LoadCells) (n k e : ℕ) (l : LoadCells) → IsLoading loads n k e → slice_get loads k ≡ Some l → n < widths loads
   loading_below loads n k e l at h =

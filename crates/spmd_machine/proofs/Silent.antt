@@ -1,22 +1,15 @@
 -- Loops without a PRINT, and how many bytes the PRINTs where a walk stops can write.
-use Rattle.std.proofs.Common.{◌≡◌, ℕ, ◌+◌, ◌<◌, ℤ, Bool, true, false, not, true≢false, if◌then◌else◌, List, [], ◌∷◌, drop, get_or, length, sum_by, refl, sym, ◌∙◌, ap, inl, inr, arith}
+use Rattle.std.proofs.Common.{◌≡◌, ℕ, ◌+◌, ℤ, Bool, true, false, not, true≢false, if◌then◌else◌, List, [], ◌∷◌, sum_by, refl, sym, ◌∙◌, ap, inl, inr, arith}
 use Rattle.std.specs.List.{flat_map}
 use Rattle.std.proofs.lemmas.Bool.{cases_Bool, or_parts}
-use Rattle.std.proofs.lemmas.List.{at_drop_more}
 use Rattle.std.proofs.lemmas.List.Sums.{sum_by-append, sum_by-cons}
 use Rattle.nest_tree.specs.Tree.{assign, print, Statement, Statements, do_loop, work, continue, done, next, Tree, param_values}
-use Rattle.nest_tree.specs.View.{statement_of, statements_from}
-use Rattle.nest_tree.specs.declared.tree.Item.{Item}
 use Rattle.nest_model.specs.Instances.{Instance, head_trips, instances_in, instances_of, is_executed, no_values, with_loop, works_in}
 use Rattle.nest_model.specs.Visits.{Visit, stops_in, visits, visits_in, visits_of}
 use Rattle.nest_walk.specs.Walks.{enters_but}
 use Rattle.seq_meaning.specs.Room.{longest_line}
 use Rattle.sync_plan.specs.Fit.{has_print, have_print}
 use Rattle.spmd_machine.specs.Rooms.{AreSilent, IsSilent, StayOpen, instance_room, is_closed, longest_output, visit_room}
-
--- statements from one on
-pub statements-more : (items : List Item) (i : ℕ) (item : Item) → i < length items → item ≡ get_or items i item → statements_from (drop i items) ≡ next (statement_of item) (statements_from (drop (i + 1) items))
-statements-more items i item lt is = at_drop_more statements_from items i item lt ∙ ap (λ x. next (statement_of x) (statements_from (drop (i + 1) items))) (sym is)
 
 -- fewer marks
 mutual

@@ -2,8 +2,9 @@
 use Rattle.std.proofs.Common.{◌≡◌, ℕ, suc, ◌-◌, ◌<◌, ◌≤◌, ℤ, true, List, [], ◌∷◌, ◌++◌, length, drop, map, Some, refl, sym, ◌∙◌, ap, subst, arith, append_assoc}
 use Rattle.std.specs.Prelude.{slice_get}
 use Rattle.std.specs.List.{flat_map, list_all}
+use Rattle.std.specs.Option.{option_map}
 use Rattle.std.proofs.lemmas.Bool.{and_parts}
-use Rattle.std.proofs.lemmas.Option.{slice_get_past, slice_get_within}
+use Rattle.std.proofs.lemmas.Option.{slice_get-map, slice_get_past, slice_get_within}
 use Rattle.nest_tree.specs.Layout.{cell_count}
 use Rattle.nest_tree.specs.Tree.{Tree, param_values}
 use Rattle.nest_tree.specs.View.{statement_of}
@@ -36,13 +37,13 @@ use Rattle.spmd_machine.specs.Turns.{Turn, turn_deeds, works}
 use Rattle.spmd_machine.specs.TurnsLeft.{IsInstance, turns_left, turns_path, turns_rounds, turns_tree}
 use Rattle.spmd_machine.specs.declared.machine.Machine.{Machine}
 use Rattle.spmd_machine.specs.declared.processor.Processor.{Processor}
-use Rattle.spmd_machine.proofs.LoadPlaces.{cells-widths, drop_there, get-map, loading_below, loading_cell, loading_within}
+use Rattle.spmd_machine.proofs.LoadPlaces.{cells-widths, drop_there, loading_below, loading_cell, loading_within}
 use Rattle.sync_plan.proofs.Gets.{get-front}
 
 -- what is left of an instance of which so many loads are done
 load_first : (f : ℕ → Deed) (cells : List ℕ) (behind : List Deed) (n cell : ℕ) → slice_get cells n ≡ Some cell → drop n (map f cells ++ behind) ≡ f cell ∷ drop (suc n) (map f cells ++ behind)
 load_first f cells behind n cell at =
-    let there = get-map f cells n cell at in
+    let there : slice_get (map f cells) n ≡ Some (f cell) = slice_get-map f cells n ∙ ap (option_map f) at in
     drop_there (map f cells ++ behind) n (f cell) (get-front (map f cells) behind n (slice_get_within (map f cells) n (f cell) there) ∙ there)
 
 last_first : (f : ℕ → Deed) (cells : List ℕ) (d : Deed) (behind : List Deed) (n : ℕ) → length cells ≡ n → drop n (map f cells ++ (d ∷ behind)) ≡ d ∷ behind

@@ -1,9 +1,10 @@
 use Rattle.std.proofs.Common.{◌≡◌, ◌||◌, ◌+◌, Bool, true, false, drop, true≢false, ap, sym, ◌∙◌, subst}
 use Rattle.nest_tree.specs.View.{statement_of, statements_from}
+use Rattle.nest_tree.proofs.Rows.{statements_more}
 use Rattle.nest_walk.proofs.Trees.{statement_of-Loop}
 use Rattle.sync_plan.specs.Fit.{has_print, have_print}
 use Rattle.spmd_machine.specs.Rooms.{AreSilent, IsSilent}
-use Rattle.spmd_machine.proofs.Silent.{silent_all_stay, silent_stays, statements-more}
+use Rattle.spmd_machine.proofs.Silent.{silent_all_stay, silent_stays}
 use Rattle.spmd_machine.proofs.room.+printing.Goals as goal
 use Rattle.spmd_machine.proofs.room.+printing.Goals.{open_printing-then-opens, open_printing-else-opens}
 
@@ -19,7 +20,7 @@ pub open_printing-loop-item-preserved : goal.open_printing-loop-item-preserved
 open_printing-loop-item-preserved t c =
     let items = c.args.items.now in
     let i = c.loop-item.item-index in
-    let more = statements-more items i c.item-item.result c.loop-item-test.true c.item-item.is in
+    let more = statements_more items i c.item-item.result c.loop-item-test.true c.item-item.is in
     let inv = c.loop-item.invariant in
     let before = ap (λ ss. c.loop-item.prints || have_print ss) (sym more) ∙ inv.prints in
     record {
