@@ -1,14 +1,13 @@
 -- The values of an instance whose subscript leaves a bound solve the system of that bound.
-use Rattle.std.proofs.Common.{◌≡◌, ℕ, suc, ◌+◌, ◌*◌, ◌-◌, ◌<◌, ◌&&◌, nat_le, ℤ, pos, ◌-ℤ◌, neg_ℤ, ◌≤ℤ◌, int_le, Bool, true, false, Option, Some, None, List, [], ◌∷◌, ◌++◌, append_assoc, length, length-append, get_or, map, refl, ap, sym, ◌∙◌, subst, arith, ◌≤◌}
+use Rattle.std.proofs.Common.{◌≡◌, ℕ, suc, ◌+◌, ◌*◌, ◌-◌, ◌<◌, ◌&&◌, ℤ, pos, ◌-ℤ◌, neg_ℤ, ◌≤ℤ◌, int_le, Bool, true, false, Option, Some, None, List, [], ◌∷◌, ◌++◌, append_assoc, length, length-append, get_or, map, refl, ap, sym, ◌∙◌, subst, arith, ◌≤◌}
 use Rattle.std.specs.List.{AllByRecursion, Contains, list_all, slice_get}
 use Rattle.farkas_cert.specs.declared.certificate.Certificate.{Certificate}
 use Rattle.farkas_cert.specs.Good.{IsGood}
-use Rattle.std.proofs.lemmas.Bool.{and_from, and_parts, leb-true}
+use Rattle.std.proofs.lemmas.Bool.{and_from, and_parts}
 use Rattle.std.proofs.lemmas.Int.{ints}
 use Rattle.std.proofs.lemmas.List.{get_or_append_left, get_or_default, length-map}
 use Rattle.std.proofs.lemmas.List.Folds.{list_all-append}
 use Rattle.std.proofs.lemmas.List.Sums.{AllPass-from_list_all}
-use Rattle.std.proofs.Math.Seq.{get_or-append_seam}
 use Rattle.nest_tree.specs.declared.tree.Access.{Access}
 use Rattle.nest_tree.specs.declared.tree.Guard.{Guard}
 use Rattle.nest_tree.specs.Form.{Form, form_value, numbered}
@@ -28,7 +27,7 @@ use Rattle.nest_rows.specs.Groups.{at_most, constants_have, guard_has, guard_of,
 use Rattle.nest_rows.specs.Nested.{AreTrips, IsNestedInstance, Nested, nested_works}
 use Rattle.nest_rows.specs.Places.{AreLaid, laid}
 use Rattle.nest_rows.specs.Signs.{signed}
-use Rattle.nest_rows.proofs.Dots.{AreConstants, numbers}
+use Rattle.nest_rows.proofs.Dots.{at-seam, constants-in-front, numbers}
 use Rattle.nest_walk.proofs.GoodAccesses.{good_access-there}
 use Rattle.nest_rows.proofs.GoodNesting.{IsGoodNested, form-among, works_good}
 use Rattle.nest_rows.proofs.Nesting.{all-at, all-contained, instance_nested}
@@ -47,11 +46,6 @@ laid-length params loops [] (n ∷ ns) h = absurd h
 laid-length params loops (g ∷ heads) [] h = absurd h
 laid-length params loops (g ∷ heads) (n ∷ ns) h = omega (arith, laid-length params loops heads ns h.1)
 
-at-seam : (before : List ℤ) (v : ℤ) (rest : List ℤ) → numbered (before ++ v ∷ rest) (length before + 1) ≡ v
-at-seam before v rest =
-    let place : length before + 1 - 1 ≡ length before = omega arith in
-    ap (λ n. get_or (before ++ v ∷ rest) n (pos 0)) place ∙ get_or-append_seam before v rest (pos 0)
-
 laid-behind : (before params loops : List ℤ) (heads : List Head) (ns : List ℕ) → AreTrips params loops heads ns → AreLaid (before ++ laid loops heads ns) (length before + 1) loops heads ns
 laid-behind before params loops [] [] h = tt
 laid-behind before params loops [] (n ∷ ns) h = absurd h
@@ -67,13 +61,6 @@ laid-behind before params loops (g ∷ heads) (n ∷ ns) h =
     let as_more : more ++ rest ≡ before ++ (v ∷ (pos n ∷ rest)) = append_assoc before (v ∷ pos n ∷ []) rest in
     let trip : numbered (before ++ (v ∷ (pos n ∷ rest))) (length before + 1 + 1) ≡ pos n = ap (λ xs. numbered xs (length before + 1 + 1)) as_one ∙ ap (λ k. numbered (one ++ (pos n ∷ rest)) (k + 1)) (sym long) ∙ at-seam one (pos n) rest in
     (at-seam before v (pos n ∷ rest), trip, subst (λ xs. AreLaid xs (length before + 1 + 2) loops heads ns) as_more (subst (λ k. AreLaid (more ++ rest) k loops heads ns) two (laid-behind more params loops heads ns h.1)))
-
-constants-in-front : (params rest : List ℤ) → AreConstants (params ++ rest) params
-constants-in-front params rest = record {
-  same = λ n number.
-      let parts = and_parts (nat_le 1 n) (nat_le n (length params)) number in
-      get_or_append_left params rest (pos 0) (n - 1) (omega (arith, leb-true 1 n parts.0, leb-true n (length params) parts.1));
-}
 
 -- what is known of an access
 module _ (tree : Tree) (formed : IsWellFormed tree) (n : Nested) (good : IsGoodNested (scope_of tree) n) (loops : List ℤ) (ns : List ℕ) (trips : AreTrips (param_values tree) loops n.around ns) (executed : is_executed n.what loops (param_values tree) ≡ true) where

@@ -19,7 +19,6 @@ check_all_loads-check_loads-requires t c =
     let tree = tree_of c.args.program.now in
     let around = numbers_of (rounds_of c.args.path.now) in
     let loops = loops_in tree (rounds_of c.args.path.now) in
-    let out = accesses_outside tree loops c.args.line in
     let e = c.argument-item.result in
     let here = loads_in (expression_of e) in
     let rest = loads_among (expressions_from (drop (c.loop-argument.argument-index + 1) c.args.arguments.now)) in
@@ -30,7 +29,6 @@ check_all_loads-check_loads-requires t c =
 pub check_all_loads-returns-in_err-check_loads : goal.check_all_loads-returns-in_err-check_loads
 check_all_loads-returns-in_err-check_loads t c =
     let tree = tree_of c.args.program.now in
-    let around = numbers_of (rounds_of c.args.path.now) in
     let loops = loops_in tree (rounds_of c.args.path.now) in
     let out = accesses_outside tree loops c.args.line in
     let e = c.argument-item.result in
@@ -63,7 +61,6 @@ check_loads-check_all_loads-requires t c =
     let tree = tree_of c.args.program.now in
     let around = numbers_of (rounds_of c.args.path.now) in
     let loops = loops_in tree (rounds_of c.args.path.now) in
-    let out = accesses_outside tree loops c.args.line in
     let sounds = λ (xs : List Access). are_sound_accesses tree around loops xs in
     let e = ap (λ e. sounds (loads_in (expression_of e))) c.in-Min.is ∙ ap (λ e. sounds (loads_in e)) (expression_of-Min c.in-Min.arguments) in
     (search (rules, the_lemmas), (c.requires.formed, (c.requires.numbered, ap (λ xs. sounds (loads_among (expressions_from xs))) c.deref.ensures.value ∙ sym e ∙ c.requires.sound)))
@@ -73,7 +70,6 @@ check_loads-check_all_loads-requires-in-Max t c =
     let tree = tree_of c.args.program.now in
     let around = numbers_of (rounds_of c.args.path.now) in
     let loops = loops_in tree (rounds_of c.args.path.now) in
-    let out = accesses_outside tree loops c.args.line in
     let sounds = λ (xs : List Access). are_sound_accesses tree around loops xs in
     let e = ap (λ e. sounds (loads_in (expression_of e))) c.in-Max.is ∙ ap (λ e. sounds (loads_in e)) (expression_of-Max c.in-Max.arguments) in
     (search (rules, the_lemmas), (c.requires.formed, (c.requires.numbered, ap (λ xs. sounds (loads_among (expressions_from xs))) c.deref-in-Max.ensures.value ∙ sym e ∙ c.requires.sound)))
@@ -81,7 +77,6 @@ check_loads-check_all_loads-requires-in-Max t c =
 pub check_loads-returns-in-Min : goal.check_loads-returns-in-Min
 check_loads-returns-in-Min t c =
     let tree = tree_of c.args.program.now in
-    let around = numbers_of (rounds_of c.args.path.now) in
     let loops = loops_in tree (rounds_of c.args.path.now) in
     let out = accesses_outside tree loops c.args.line in
     let e = ap (λ e. out (loads_in (expression_of e))) c.in-Min.is ∙ ap (λ e. out (loads_in e)) (expression_of-Min c.in-Min.arguments) in
@@ -90,7 +85,6 @@ check_loads-returns-in-Min t c =
 pub check_loads-returns-in-Max : goal.check_loads-returns-in-Max
 check_loads-returns-in-Max t c =
     let tree = tree_of c.args.program.now in
-    let around = numbers_of (rounds_of c.args.path.now) in
     let loops = loops_in tree (rounds_of c.args.path.now) in
     let out = accesses_outside tree loops c.args.line in
     let e = ap (λ e. out (loads_in (expression_of e))) c.in-Max.is ∙ ap (λ e. out (loads_in e)) (expression_of-Max c.in-Max.arguments) in
@@ -99,7 +93,6 @@ check_loads-returns-in-Max t c =
 pub check_loads-returns-in_err-check_loads-in-Add : goal.check_loads-returns-in_err-check_loads-in-Add
 check_loads-returns-in_err-check_loads-in-Add t c =
     let tree = tree_of c.args.program.now in
-    let around = numbers_of (rounds_of c.args.path.now) in
     let loops = loops_in tree (rounds_of c.args.path.now) in
     let out = accesses_outside tree loops c.args.line in
     let a = loads_in (expression_of c.in-Add.a.value) in
@@ -113,7 +106,6 @@ check_loads-returns-in_err-check_loads-in-Add t c =
 pub check_loads-returns-in_ok-check_loads-in-Add : goal.check_loads-returns-in_ok-check_loads-in-Add
 check_loads-returns-in_ok-check_loads-in-Add t c =
     let tree = tree_of c.args.program.now in
-    let around = numbers_of (rounds_of c.args.path.now) in
     let loops = loops_in tree (rounds_of c.args.path.now) in
     let out = accesses_outside tree loops c.args.line in
     let a = loads_in (expression_of c.in-Add.a.value) in

@@ -18,7 +18,6 @@ check_item-requires-clause-sound c =
     let tree = tree_of c.args.program.now in
     let around = numbers_of (rounds_of c.args.path.now) in
     let loops = loops_in tree (rounds_of c.args.path.now) in
-    let out = accesses_outside tree loops c.args.line in
     let here = loads_in_item (printed_of c.item-item.result) in
     let rest = flat_map loads_in_item (map printed_of (drop (c.loop-item.item-index + 1) c.args.items.now)) in
     let more = printed_more c.args.items.now c.loop-item.item-index c.item-item.result c.loop-item-test.true c.item-item.is in
@@ -28,7 +27,6 @@ check_item-requires-clause-sound c =
 pub returns-in_err-check_item : goal.returns-in_err-check_item
 returns-in_err-check_item c =
     let tree = tree_of c.args.program.now in
-    let around = numbers_of (rounds_of c.args.path.now) in
     let loops = loops_in tree (rounds_of c.args.path.now) in
     let out = accesses_outside tree loops c.args.line in
     let here = loads_in_item (printed_of c.item-item.result) in

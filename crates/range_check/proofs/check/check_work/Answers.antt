@@ -47,7 +47,6 @@ pub returns-in_err-check_loads-in-Assign : goal.returns-in_err-check_loads-in-As
 returns-in_err-check_loads-in-Assign c = λ w is.
     let tree = tree_of c.args.program.now in
     let loops = loops_in tree (rounds_of c.args.path.now) in
-    let around = numbers_of (rounds_of c.args.path.now) in
     let a : Assignment = record { target = c.in-Assign.target; value = expression_of c.in-Assign.value; guard = c.in-Assign.field-2; line = c.in-Assign.line } in
     let out = accesses_outside tree loops c.in-Assign.line in
     let split = outside-append tree loops c.in-Assign.line (loads_in a.value) (a.target ∷ []) ∙ ap (option_or (out (loads_in a.value))) (outside-one tree loops c.in-Assign.line a.target) in
@@ -60,7 +59,6 @@ pub returns-in_ok-check_loads-in-Assign : goal.returns-in_ok-check_loads-in-Assi
 returns-in_ok-check_loads-in-Assign c = λ w is.
     let tree = tree_of c.args.program.now in
     let loops = loops_in tree (rounds_of c.args.path.now) in
-    let around = numbers_of (rounds_of c.args.path.now) in
     let a : Assignment = record { target = c.in-Assign.target; value = expression_of c.in-Assign.value; guard = c.in-Assign.field-2; line = c.in-Assign.line } in
     let out = accesses_outside tree loops c.in-Assign.line in
     let split = outside-append tree loops c.in-Assign.line (loads_in a.value) (a.target ∷ []) ∙ ap (option_or (out (loads_in a.value))) (outside-one tree loops c.in-Assign.line a.target) in
