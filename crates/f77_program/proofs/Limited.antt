@@ -10,7 +10,7 @@ use Rattle.f77_scene.specs.Affine.{kept, times, pairs_times}
 use Rattle.f77_program.specs.declared.linear.Linear.TheVariants.{Past, Within}
 use Rattle.f77_program.specs.Linear.{past, linear_with, limited, first_past}
 use Rattle.f77_program.specs.Sums.{Ascends}
-use Rattle.f77_program.proofs.Summed.{nonzero as summed_nonzero}
+use Rattle.f77_program.proofs.Summed.{nonzero}
 
 -- ---- the first number past the limit
 
@@ -81,10 +81,11 @@ limited-within c loops params h l p = rw h (ap (λ zs. linear_with zs (form c lo
 
 -- ---- ordered pairs without a coefficient past the limit rise
 
-nonzero : (c : ℤ) → int_eq c (pos 0) ≡ false → nat_lt 0 (unsigned_abs c) ≡ true
-nonzero (pos zero) h = absurd cc
-nonzero (pos (suc n)) h = grind (arith, nat_tests)
-nonzero (negsuc n) h = grind (arith, nat_tests)
+-- a number other than 0 has a size
+pub some_size : (c : ℤ) → int_eq c (pos 0) ≡ false → nat_lt 0 (unsigned_abs c) ≡ true
+some_size (pos zero) h = absurd cc
+some_size (pos (suc n)) h = grind (arith, nat_tests)
+some_size (negsuc n) h = grind (arith, nat_tests)
 
 pub rises : (least : ℕ) (pairs : List (ℕ × ℤ)) → Ascends least pairs → first_past pairs ≡ None → IsTrue (rises_above least pairs)
 rises least [] h f = refl
@@ -94,7 +95,7 @@ rises least (p ∷ pairs) h f = by_test (is_small p.1) refl (rises p.0 pairs h.2
     by_test true e rest =
         let above : nat_lt least p.0 ≡ true = grind (arith, nat_tests, h.0) in
         and_from (nat_lt least p.0 && nat_lt 0 (unsigned_abs p.1) && is_small p.1) (rises_above p.0 pairs)
-        (and_from (nat_lt least p.0 && nat_lt 0 (unsigned_abs p.1)) (is_small p.1) (and_from (nat_lt least p.0) (nat_lt 0 (unsigned_abs p.1)) above (nonzero p.1 h.1)) e)
+        (and_from (nat_lt least p.0 && nat_lt 0 (unsigned_abs p.1)) (is_small p.1) (and_from (nat_lt least p.0) (nat_lt 0 (unsigned_abs p.1)) above (some_size p.1 h.1)) e)
         (rest (sym (ap (λ b. if b then first_past pairs else Some p.1) e) ∙ f))
     by_test false e rest = absurd (let there : Some p.1 ≡ None = sym (ap (λ b. if b then first_past pairs else Some p.1) e) ∙ f in cc)
 
@@ -107,7 +108,7 @@ negative_size : (c : ℤ) → unsigned_abs (negsuc 0 *ℤ c) ≡ unsigned_abs c
 negative_size c = unsigned_abs-mul (negsuc 0) c ∙ omega arith
 
 negative_kept : (n : ℕ) (c : ℤ) (pairs : List (ℕ × ℤ)) → nat_lt 0 (unsigned_abs c) ≡ true → kept n (negsuc 0 *ℤ c) pairs ≡ (n, negsuc 0 *ℤ c) ∷ pairs
-negative_kept n c pairs h = let other : int_eq (negsuc 0 *ℤ c) (pos 0) ≡ false = summed_nonzero (negsuc 0 *ℤ c) (ap (nat_lt 0) (negative_size c) ∙ h) in rw other refl
+negative_kept n c pairs h = let other : int_eq (negsuc 0 *ℤ c) (pos 0) ≡ false = nonzero (negsuc 0 *ℤ c) (ap (nat_lt 0) (negative_size c) ∙ h) in rw other refl
 
 rises-negative : (least : ℕ) (pairs : List (ℕ × ℤ)) → IsTrue (rises_above least pairs) → IsTrue (rises_above least (pairs_times (negsuc 0) pairs))
 rises-negative least [] h = refl

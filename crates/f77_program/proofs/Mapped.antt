@@ -11,13 +11,11 @@ use Rattle.std.specs.Ordering.{nat_cmp, is_eq}
 use Rattle.std.specs.Str.{bytes_eq}
 use Rattle.std.specs.declared.cmp.Ordering.{Ordering}
 use Rattle.std.specs.declared.cmp.Ordering.TheVariants.{Less, Equal, Greater}
+use Rattle.f77_forms.proofs.Told.{same_bytes}
 use Rattle.f77_scene.specs.Scene.{Name, is_among}
 use Rattle.f77_program.specs.Numbered.{numbered, number_under, AreNumbered}
 
 -- ---- equal names
-
-pub same_bytes : (xs ys : List ℕ) → bytes_eq xs ys ≡ true → xs ≡ ys
-same_bytes xs ys h = search (rules, bytes_eq-Decides xs ys)
 
 differ : (xs ys : List ℕ) → bytes_eq xs ys ≡ false → xs ≢ ys
 differ xs ys h = search (rules, bytes_eq-Decides xs ys)

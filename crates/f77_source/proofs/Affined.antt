@@ -1,7 +1,6 @@
 -- Affine expressions within the limit have good forms.
-use Rattle.std.proofs.Common.{◌≡◌, ℕ, zero, suc, ◌<◌, ◌≤◌, ◌==◌, nat_lt, nat_le, ℤ, pos, negsuc, ◌+ℤ◌, ◌*ℤ◌, unsigned_abs, Bool, true, false, not, ◌&&◌, ◌||◌, List, [], ◌∷◌, ◌++◌, length, map, if◌then◌else◌, refl, sym, ap, ◌∙◌, arith}
+use Rattle.std.proofs.Common.{◌≡◌, ℕ, suc, ◌<◌, ◌≤◌, ◌==◌, nat_lt, nat_le, ℤ, pos, negsuc, ◌+ℤ◌, ◌*ℤ◌, unsigned_abs, Bool, true, false, not, ◌&&◌, ◌||◌, List, [], ◌∷◌, ◌++◌, length, map, if◌then◌else◌, refl, sym, ap, ◌∙◌, arith}
 use Rattle.std.proofs.lemmas.Bool.{and_from, and_parts, eq-eqb, le-leb, leb-true, lt-ltb, ltb-true, or_left, or_right}
-use Rattle.std.proofs.lemmas.Bool.Decides.{nat_tests}
 use Rattle.std.proofs.lemmas.List.{length-map}
 use Rattle.std.specs.List.{list_all, list_any}
 use Rattle.std.specs.Ordering.{int_eq}
@@ -13,7 +12,7 @@ use Rattle.f77_forms.specs.Characters.{decimal}
 use Rattle.f77_forms.specs.declared.form.Operator.TheVariants.{Add, Subtract, Multiply, Divide}
 use Rattle.f77_forms.specs.declared.form.Sign.TheVariants.{Plus, Minus}
 use Rattle.f77_forms.specs.Form.{ExpressionForm, number, name, call, parenthesized, signed, binary}
-use Rattle.f77_program.proofs.Limited.{past-append, is_form-negative}
+use Rattle.f77_program.proofs.Limited.{past-append, is_form-negative, some_size}
 use Rattle.f77_program.proofs.Reached.{reach_of-one}
 use Rattle.f77_program.proofs.Summed.{Ascends-plus, Ascends-times}
 use Rattle.f77_program.specs.declared.linear.Linear.TheVariants as linear
@@ -190,12 +189,6 @@ affine-placed s (binary Multiply a b) h c =
 affine-placed s (binary Divide a b) h c = fixed-placed (loops_around s) (length s.constants) (value_of s (binary Divide a b))
 
 -- ---- numbers within the limit
-
--- a number other than 0 has a size
-pub some_size : (c : ℤ) → int_eq c (pos 0) ≡ false → nat_lt 0 (unsigned_abs c) ≡ true
-some_size (pos zero) h = absurd cc
-some_size (pos (suc n)) h = grind (arith, nat_tests)
-some_size (negsuc n) h = grind (arith, nat_tests)
 
 rises : (least : ℕ) (pairs : List (ℕ × ℤ)) → Ascends least pairs → past (map (λ (p : ℕ × ℤ). p.1) pairs) ≡ [] → rises_above least pairs ≡ true
 rises least [] a h = refl

@@ -7,9 +7,9 @@ use Rattle.std.specs.List.{list_all, flat_map}
 use Rattle.std.specs.Str.{bytes_eq}
 use Rattle.nest_tree.specs.WellFormed.{Scope, is_good_constant, is_number_of, rank}
 use Rattle.nest_tree.specs.declared.tree.Spread.TheVariants.{Block}
+use Rattle.f77_forms.proofs.Told.{same_bytes}
 use Rattle.f77_forms.specs.declared.fault.TextFault.{TextFault}
 use Rattle.f77_forms.specs.Form.{ExpressionForm, number, name, call, parenthesized, signed, binary, StatementForm, program, integer, dimension, parameter, do_loop, assign, logical_if, print, continue, stop, end}
-use Rattle.f77_program.proofs.Mapped.{same_bytes}
 use Rattle.f77_scene.specs.Behind.{behind, behind_form, is_scalar}
 use Rattle.f77_scene.specs.Directives.{placed}
 use Rattle.f77_scene.specs.Expressions.{name_in, names_in, parts_of}

@@ -16,6 +16,7 @@ use Rattle.f77_forms.specs.declared.form.Sign.TheVariants.{Plus, Minus}
 use Rattle.f77_forms.specs.Characters.{is_name}
 use Rattle.f77_forms.specs.Form.{ExpressionForm, number, name, call, parenthesized, signed, binary, ArgumentForms, no_more, one_more}
 use Rattle.f77_forms.specs.Text.{Rank, sum, term, is_sum_rank, left_rank, right_rank, makes, is_expression, are_expressions}
+use Rattle.f77_program.proofs.Limited.{some_size}
 use Rattle.f77_program.proofs.Mapped.{same_itself}
 use Rattle.f77_program.specs.declared.reach.Reach.TheVariants.{Within}
 use Rattle.f77_program.specs.Reaches.{reach_of}
@@ -25,7 +26,7 @@ use Rattle.f77_scene.specs.Expressions.{parts_of, parts_among, list_of, name_in,
 use Rattle.f77_scene.specs.Scene.{Name, Scene, Array, bounds_named, constant_names, is_among, is_array, is_constant_name, is_function, is_open, loop_named, number_among}
 use Rattle.f77_scene.specs.Tests.{divides_badly, has_wrong_subscripts, is_bad_rank, is_unknown_call, subscripts_at}
 use Rattle.f77_scene.specs.Trees.{access, chosen_tree, name_tree, tree_of, trees_of}
-use Rattle.f77_source.proofs.Affined.{all_names-good, are_counted, loop_there, loops_around, number_there, some_size}
+use Rattle.f77_source.proofs.Affined.{all_names-good, are_counted, loop_there, loops_around, number_there}
 use Rattle.f77_source.proofs.Formed.{reach_both}
 use Rattle.f77_source.proofs.Valued.{expression_value, number_value}
 

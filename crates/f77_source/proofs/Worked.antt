@@ -10,6 +10,7 @@ use Rattle.nest_tree.specs.Tree as tree
 use Rattle.nest_tree.specs.WellFormed.{Scope, is_good_access, is_good_dimension, is_good_expression, is_good_guard, is_good_head, is_good_item, is_good_work, is_number_of, names_only, rank_of}
 use Rattle.f77_forms.specs.Form.{ExpressionForm, number, name, call, parenthesized, signed, binary, ArgumentForms, no_more, one_more, AssignmentForm, ComparisonForm, DoForm, PrintedForm, value, constant, StatementForm, TargetForm}
 use Rattle.f77_forms.specs.Text.{sum, is_assignment, is_expression, is_printed, is_target}
+use Rattle.f77_program.proofs.Limited.{some_size}
 use Rattle.f77_program.proofs.Mapped.{same_itself}
 use Rattle.f77_program.specs.declared.reach.Reach.TheVariants.{Within}
 use Rattle.f77_program.specs.Reaches.{reach_of}
@@ -22,7 +23,7 @@ use Rattle.f77_scene.specs.Statements.{Spot, item_expressions, is_whole, loops_i
 use Rattle.f77_scene.specs.Tests.{declares_again, divides_badly, has_wrong_subscripts, is_bad_loop, is_bad_rank, is_bad_target, is_declaration, is_read_outside, is_unknown_call, somewhere, subscripts_in}
 use Rattle.f77_scene.specs.Trees.{access, guard_of, head_of, item_tree, step_value, tree_of, value_tree}
 use Rattle.f77_source.specs.Limits.{is_good_array}
-use Rattle.f77_source.proofs.Affined.{number_there, some_size}
+use Rattle.f77_source.proofs.Affined.{number_there}
 use Rattle.f77_source.proofs.Declared.{found_good}
 use Rattle.f77_source.proofs.Faultless.{IsFaultless}
 use Rattle.f77_source.proofs.Formed.{reach_both}
