@@ -1,5 +1,5 @@
 -- The parts of a plan's text, one behind another.
-use Rattle.std.proofs.Common.{◌≡◌, ℕ, ◌+◌, Bool, true, false, ◌&&◌, nat_lt, nat_eq, List, [], ◌∷◌, ◌++◌, length, Option, Some, None, refl, sym, ap, subst, ◌∙◌, codes, arith}
+use Rattle.std.proofs.Common.{◌≡◌, ℕ, ◌+◌, Bool, true, false, ◌&&◌, nat_lt, List, [], ◌∷◌, ◌++◌, length, Option, Some, None, refl, sym, ap, subst, ◌∙◌, codes, arith}
 use Rattle.std.specs.List.{list_all}
 use Rattle.std.specs.Prelude.{if◌then◌else◌}
 use Rattle.std.specs.Option.{option_map}
@@ -7,7 +7,8 @@ use Rattle.std.specs.Str.{bytes_eq}
 use Rattle.plan_text.specs.declared.syntax.PlanSyntax.{PlanSyntax}
 use Rattle.plan_text.specs.declared.syntax.PlanSyntax.TheVariants.{Line, NoMemory}
 use Rattle.plan_text.proofs.Anchors.{count-no_values}
-use Rattle.std.proofs.lemmas.Bool.{and_from, and_parts, eqb-true, false≢true}
+use Rattle.std.proofs.lemmas.Bool.{and_from, and_parts, false≢true}
+use Rattle.std.proofs.lemmas.Slice.Eq.{bytes_eq-Decides}
 use Rattle.farkas_cert.specs.declared.certificate.Certificate.{Certificate}
 use Rattle.owner_partition.specs.declared.anchor.Anchor.{Anchor}
 use Rattle.owner_partition.specs.declared.cut.Mark.{Mark}
@@ -185,21 +186,13 @@ rows_refused n fits rest later taken now (Line m) is next h =
       alien = rows_alien n fits rest taken m s h.front refl;
     }
 
-same_bytes : (a b : List ℕ) → bytes_eq a b ≡ true → a ≡ b
-same_bytes [] [] e = refl
-same_bytes [] (y ∷ b) e = absurd (cc)
-same_bytes (x ∷ a) [] e = absurd (cc)
-same_bytes (x ∷ a) (y ∷ b) e =
-    let parts = and_parts (nat_eq x y) (bytes_eq a b) e in
-    ap (λ z. z ∷ a) (eqb-true x y parts.0) ∙ ap (λ zs. y ∷ zs) (same_bytes a b parts.1)
-
 -- words that are told apart
 pub not_same : (a b : List ℕ) → (b ≡ a → ⊥) → bytes_eq a b ≡ false
 not_same a b ne = by_case (bytes_eq a b) refl
   where
     by_case : (t : Bool) → bytes_eq a b ≡ t → bytes_eq a b ≡ false
     by_case false e = e
-    by_case true e = absurd (ne (sym (same_bytes a b e)))
+    by_case true e = absurd (ne (sym ((bytes_eq-Decides a b).0 e)))
 
 -- a line of none of the versions, and one that isn't the last
 pub version_refused : (text rest behind : List ℕ) (e : PlanSyntax) (taken n : ℕ) → e ≡ Line n → n ≡ taken + 1 → is_unbroken text ≡ true → rest ≡ text ++ (10 ∷ behind) →
