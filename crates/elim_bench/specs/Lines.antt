@@ -20,8 +20,8 @@ abbrev pub words_of : List ℕ → List (List ℕ)
 words_of line = filter (λ word. nat_lt 0 (length word)) (slice_split is_blank line)
 
 -- a character of ASCII that shows
-abbrev pub is_printable : ℕ → Bool
-is_printable b = nat_le 33 b && nat_le b 126
+abbrev pub is_visible : ℕ → Bool
+is_visible b = nat_le 33 b && nat_le b 126
 
 -- what f makes of what was read, or the fault
 abbrev pub fault_or : {A B : Type 0} → (A → B) → Result A LineFault → Result B LineFault
@@ -51,10 +51,10 @@ abbrev pub variables_after : List ℕ → List (List ℕ) → Result Head LineFa
 variables_after name [] = Err (faults.Word 3 wanted.Variables)
 variables_after name (word ∷ words) = variables_with name (within 1000 (natural_of word)) words
 
--- the head whose words behind `system` these are, from word 2 on: a printable name, variables and rows
+-- the head whose words behind `system` these are, from word 2 on: a visible name, variables and rows
 abbrev pub head_of : List (List ℕ) → Result Head LineFault
 head_of [] = Err (faults.Word 2 wanted.Name)
-head_of (name ∷ words) = if list_all is_printable name then variables_after name words else Err (faults.Word 2 wanted.Name)
+head_of (name ∷ words) = if list_all is_visible name then variables_after name words else Err (faults.Word 2 wanted.Name)
 
 abbrev pub bound_with : ℕ → Option ℤ → List (List ℕ) → Result ℤ LineFault
 bound_with n None words = Err (faults.Word n wanted.Bound)

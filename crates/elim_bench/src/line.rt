@@ -60,7 +60,7 @@ pub enum Line {
 /// What has to stand at a place of a line.
 #[derive(Clone, Copy, Debug, PartialEq, Eq, Error)]
 pub enum Wanted {
-    #[error("a name of printable characters")]
+    #[error("a name of visible characters")]
     Name,
     #[error("the number of variables, 0 to 1000 in decimal digits")]
     Variables,
@@ -159,17 +159,17 @@ fn words_of(alloc: Global, bytes: &[u8]) -> Result<Vec<&[u8]>, AllocError>
 }
 
 // A character of ASCII that shows, no blank.
-fn is_printable(byte: u8) -> bool
-    ensures { result ≡ spec.is_printable byte }
+fn is_visible(byte: u8) -> bool
+    ensures { result ≡ spec.is_visible byte }
 {
     33 <= byte && byte <= 126
 }
 
-// Whether the word has printable characters alone.
+// Whether the word has visible characters alone.
 fn is_name(word: &[u8]) -> bool
-    ensures { result ≡ list_all spec.is_printable word.now }
+    ensures { result ≡ list_all spec.is_visible word.now }
 {
-    word.iter().all(|byte| is_printable(*byte))
+    word.iter().all(|byte| is_visible(*byte))
 }
 
 // The head that the words behind `system` give.

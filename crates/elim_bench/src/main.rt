@@ -5,7 +5,7 @@
 //! `c1 .. cVARS <= bound`. Words stand between blanks: spaces, tabs and carriage returns. Lines
 //! without words, and lines whose first byte is `#`, are passed over.
 //!
-//! - NAME is one word of printable ASCII characters.
+//! - NAME is one word of visible ASCII characters.
 //! - VARS is 0 to 1,000 and ROWS 0 to 4,294,967,295, in decimal digits. Rows are read as they
 //!   come, so a large ROWS costs nothing until its lines are there.
 //! - Coefficients and bounds are decimal digits, with a minus sign in front or not, at most 2 ^ 126
