@@ -31,10 +31,11 @@ use Rattle.comm_system.specs.References.{Reference, StaticPhase, phases_of, refe
 use Rattle.comm_system.proofs.Cells.{IsSound, IsSoundLoaded, Touches, load_touches, same_element_of, store_touches}
 use Rattle.comm_system.proofs.Contexts.{at_first}
 use Rattle.comm_system.proofs.GoodReferences.{AllIn, IsGoodLoaded, among_phases, loaded_good, stored_good}
-use Rattle.comm_system.proofs.Lists.{contains_cases, contains_nothing, in_filter, in_flat_map, in_map, mapped_back, mapped_get, passes_at}
+use Rattle.comm_system.proofs.Lists.{contains_cases, contains_nothing, in_filter, in_flat_map, in_map, mapped_get, passes_at}
 use Rattle.comm_system.proofs.Places.{IsOf, IsPlaced, instance_placed}
 use Rattle.comm_system.proofs.StationFacts.{IsStation, each_in}
 use Rattle.comm_system.proofs.Stations.{Station, phases-text, stations_in, text_among, visit_in, visits-in}
+use Rattle.sync_plan.proofs.BarrierOrder.{mapped}
 
 -- ---- elements of lists
 
@@ -178,7 +179,7 @@ module _ (tree : Tree) (marks : List Mark) where
 
   pub executed_at_station : (formed : IsWellFormed tree) (ranged : IsInRange tree) (x : Execution) (j : ℕ) → slice_get (executions tree marks) j ≡ Some x → (o : IsOf (param_values tree) 1 (phases tree marks) x) → IsExecutedAt x o.phase
   executed_at_station formed ranged x j at o =
-      let back = mapped_back visit_in (stations_in (param_values tree) (enters_outer marks) tree.items 1 1 (no_values tree)) o.phase o.visit (ap (λ vs. slice_get vs o.phase) visits_are ∙ o.at) in
+      let back = mapped visit_in (stations_in (param_values tree) (enters_outer marks) tree.items 1 1 (no_values tree)) o.phase o.visit (ap (λ vs. slice_get vs o.phase) visits_are ∙ o.at) in
       let known = station_known formed o.phase back.0 back.1 in
       let same : back.0.visit ≡ o.visit = back.2 in
       let instance_at = ap (λ xs. slice_get xs j) (sym (all_executed tree marks)) ∙ mapped_get (λ (y : Execution). y.instance) (executions tree marks) j x at in

@@ -34,7 +34,7 @@ use Rattle.comm_system.proofs.Between.{side_heads, side_trips}
 use Rattle.comm_system.proofs.Certain.{AreTwo, IsSided, between_of, outer, stop_of, trips, valid-length}
 use Rattle.comm_system.proofs.CertainLists.{AreCertain}
 use Rattle.comm_system.proofs.Chains.{IsBetween, barrier_chain, kind_of, left_chain, producer_chain, right_chain}
-use Rattle.comm_system.proofs.Contexts.{IsBefore}
+use Rattle.nest_rows.proofs.Nesting.{IsBefore}
 use Rattle.comm_system.proofs.Holders.{form_keeps}
 use Rattle.comm_system.proofs.Lists.{all_dropped, get_contains}
 use Rattle.comm_system.proofs.Meets.{owners_meet}

@@ -1,21 +1,23 @@
 -- The obligations of groups, one behind another, are those of the plan.
-use Rattle.std.proofs.Common.{◌≡◌, ℕ, suc, ◌+◌, ◌-◌, ◌≤◌, nat_le, Bool, true, false, List, [], ◌∷◌, ◌++◌, append_assoc, length, map, take, if◌then◌else◌, refl, ap, sym, ◌∙◌, inl, inr, arith, length-append}
-use Rattle.std.specs.List.{flat_map}
+use Rattle.std.proofs.Common.{◌≡◌, ℕ, suc, ◌+◌, ◌-◌, ◌≤◌, nat_le, Bool, true, false, None, List, [], ◌∷◌, ◌++◌, append_assoc, length, map, take, drop, if◌then◌else◌, refl, ap, sym, ◌∙◌, subst, inl, inr, arith, length-append, length-take-le, take-append-drop}
+use Rattle.std.specs.List.{flat_map, slice_get}
 use Rattle.std.proofs.Math.Seq.{take-append-add}
-use Rattle.std.proofs.lemmas.Bool.{cases_Bool, leb-false}
+use Rattle.std.proofs.lemmas.Bool.{cases_Bool, leb-false, leb-true}
 use Rattle.std.proofs.lemmas.Grind.{flat_map-append}
-use Rattle.std.proofs.lemmas.List.{append-nil, take_all}
+use Rattle.std.proofs.lemmas.List.{append-nil, same_from_push, take_all}
+use Rattle.std.proofs.lemmas.Option.{slice_get_past}
 use Rattle.nest_tree.specs.Tree.{Tree}
 use Rattle.owner_partition.specs.declared.anchor.Anchor.{Anchor}
 use Rattle.sync_plan.specs.declared.plan.Plan.{Plan}
 use Rattle.sync_plan.specs.Fit.{is_dealt}
+use Rattle.sync_plan.proofs.Gets.{get-behind, get-front}
 use Rattle.comm_system.specs.Boundaries.{Side}
 use Rattle.comm_system.specs.Obligations.{Slot, Task, numbered_from, obligations_of, pair_tasks, piece_task, pieces_from, slot_signature, slot_tasks, slots_of, tasks_of, trips_task, trips_tasks}
 use Rattle.comm_system.specs.OwnerRows.{Piece, pieces}
 use Rattle.comm_system.specs.Pairs.{Pair, pairs_of}
 use Rattle.comm_system.specs.References.{StaticPhase, phases_of}
 use Rattle.comm_system.specs.Signatures.{Signature, blocked, waits}
-use Rattle.comm_system.specs.Subjects.{Listed, Subject, count_about, groups_of, obligations_in, of_slot, of_trips, slot_subjects, subjects_of, tasks_about, trips_subjects, with_subject, with_subjects}
+use Rattle.comm_system.specs.Subjects.{Group, Listed, Subject, count_about, groups_of, obligations_in, of_slot, of_trips, slot_subjects, subjects_of, tasks_about, trips_subjects, with_subject, with_subjects}
 use Rattle.comm_system.specs.declared.obligation.Obligation.{Obligation}
 
 -- ---- numbers
@@ -238,3 +240,70 @@ count_of_plan tree plan most l is within =
     let next = ap (λ (m : Listed). m.next) is in
     let all = groups_all tree plan most (omega (arith, next, within)) in
     omega (arith, next, all)
+
+-- ---- where an obligation stands
+
+-- the systems of the groups listed are counted, and so are those before the last group
+record AreCounted (tree : Tree) (plan : Plan) (most : ℕ) (l : Listed) : Type 0 where
+  pub next : length (listed_obligations tree plan l) + 1 ≡ l.next
+  pub last : (gs : List Group) (g : Group) → l.groups ≡ gs ++ g ∷ [] → (length (flat_map (obligations_in tree plan) gs) + 1 ≡ g.number) × (g.number ≤ most)
+
+counted_one : (tree : Tree) (plan : Plan) (most : ℕ) (l : Listed) (s : Subject) → l.next ≤ most → AreCounted tree plan most l → AreCounted tree plan most (one_more l s)
+counted_one tree plan most l s low h =
+    let more = ap length (one_behind tree plan l s) ∙ length-append (listed_obligations tree plan l) (numbered_from l.next (tasks_about tree plan s)) in
+    let long = numbered_length l.next (tasks_about tree plan s) ∙ count_is tree plan s in
+    record {
+      next = omega (arith, h.next, more, long);
+      last = λ gs g is.
+          let same = same_from_push l.groups gs (record { number = l.next; subject = s }) g is in
+          let number : l.next ≡ g.number = ap (λ (g : Group). g.number) same.1 in
+          let before = ap (λ gs. length (flat_map (obligations_in tree plan) gs)) same.0 in
+          (omega (arith, h.next, number, before), omega (arith, number, low));
+    }
+
+counted : (tree : Tree) (plan : Plan) (most : ℕ) (l : Listed) (ss : List Subject) → AreCounted tree plan most l → AreCounted tree plan most (with_subjects most l ss)
+counted tree plan most l [] h = h
+counted tree plan most l (s ∷ ss) h = elim (cases_Bool (nat_le l.next most)) [
+  | inl within ↦
+      let low : l.next ≤ most = leb-true l.next most within in
+      subst (λ m. AreCounted tree plan most (with_subjects most m ss)) (sym (grows most l s within)) (counted tree plan most (one_more l s) ss (counted_one tree plan most l s low h))
+  | inr past ↦ subst (AreCounted tree plan most) (sym (stays most l (s ∷ ss) past)) h
+]
+
+groups_counted : (tree : Tree) (plan : Plan) (most : ℕ) → AreCounted tree plan most (groups_of tree plan most)
+groups_counted tree plan most =
+    counted tree plan most start (subjects_of tree plan) (record { next = omega arith; last = λ gs g is. let long = ap length is ∙ length-append gs (g ∷ []) in absurd (omega (arith, long)) })
+
+-- the number is that of a group listed, or past all
+taken_at : (tree : Tree) (plan : Plan) (most : ℕ) → 1 ≤ most → slice_get (take ((groups_of tree plan most).next - 1) (obligations_of tree plan)) (most - 1) ≡ slice_get (obligations_of tree plan) (most - 1)
+taken_at tree plan most low =
+    let all = obligations_of tree plan in
+    let n = (groups_of tree plan most).next - 1 in
+    elim (cases_Bool (nat_le (groups_of tree plan most).next most)) [
+      | inl within ↦ let long = groups_all tree plan most (leb-true (groups_of tree plan most).next most within) in ap (λ os. slice_get os (most - 1)) (take_all n all (omega (arith, long)))
+      | inr past ↦
+          let beyond = leb-false (groups_of tree plan most).next most past in
+          let some = groups_some tree plan most in
+          let long : length (take n all) ≡ n = length-take-le n all (omega (arith, some)) in
+          sym (get-front (take n all) (drop n all) (most - 1) (omega (arith, long, beyond, low))) ∙ ap (λ os. slice_get os (most - 1)) (take-append-drop n all)
+    ]
+
+-- the last group listed has the obligation with this number, if there is one
+pub at_last : (tree : Tree) (plan : Plan) (most : ℕ) (gs : List Group) (g : Group) → (groups_of tree plan most).groups ≡ gs ++ g ∷ [] →
+    (g.number ≤ most) × (slice_get (obligations_in tree plan g) (most - g.number) ≡ slice_get (obligations_of tree plan) (most - 1))
+at_last tree plan most gs g is =
+    let made = obligations_in tree plan in
+    let before = flat_map made gs in
+    let counts = (groups_counted tree plan most).last gs g is in
+    let split : before ++ made g ≡ take ((groups_of tree plan most).next - 1) (obligations_of tree plan) =
+    sym (flat_map-append made gs (g ∷ []) ∙ ap (λ os. before ++ os) (append-nil (made g))) ∙ sym (ap (flat_map made) is) ∙ groups_first tree plan most in
+    let place : length before + (most - g.number) ≡ most - 1 = omega (arith, counts.0, counts.1) in
+    (counts.1, sym (get-behind before (made g) (most - g.number)) ∙ ap (slice_get (before ++ made g)) place ∙ ap (λ os. slice_get os (most - 1)) split ∙ taken_at tree plan most (omega (arith, counts.0, counts.1)))
+
+-- where no group is listed, there is none
+pub at_none : (tree : Tree) (plan : Plan) (most : ℕ) → 1 ≤ most → (groups_of tree plan most).groups ≡ [] → None ≡ slice_get (obligations_of tree plan) (most - 1)
+at_none tree plan most low none =
+    let next = (groups_counted tree plan most).next in
+    let empty = ap (λ gs. length (flat_map (obligations_in tree plan) gs)) none in
+    let long = groups_all tree plan most (omega (arith, next, empty, low)) in
+    sym (slice_get_past (obligations_of tree plan) (most - 1) (omega (arith, long, next, empty)))

@@ -1,5 +1,5 @@
 -- What stands at an anchor's value within its blocks has an owner among the processors.
-use Rattle.std.proofs.Common.{◌≡◌, ℕ, zero, suc, ◌+◌, ◌*◌, ◌-◌, ◌/◌, ◌%◌, ◌<◌, ◌≤◌, ◌==◌, ◌&&◌, ◌||◌, ℤ, pos, negsuc, ◌+ℤ◌, ◌*ℤ◌, ◌≤ℤ◌, neg_ℤ, int_le, int_lt, Bool, true, false, true≢false, Some, None, List, [], ◌∷◌, ◌++◌, if◌then◌else◌, refl, ap, sym, ◌∙◌, subst, inl, inr, arith}
+use Rattle.std.proofs.Common.{◌≡◌, ℕ, zero, suc, ◌+◌, ◌*◌, ◌/◌, ◌%◌, ◌<◌, ◌≤◌, ◌==◌, ◌&&◌, ◌||◌, ℤ, pos, negsuc, ◌+ℤ◌, ◌*ℤ◌, ◌≤ℤ◌, neg_ℤ, int_le, int_lt, Bool, true, false, true≢false, Some, None, List, [], ◌∷◌, ◌++◌, if◌then◌else◌, refl, ap, sym, ◌∙◌, subst, inl, inr, arith}
 use Rattle.std.specs.Int.{int_div_euclid}
 use Rattle.std.specs.List.{AllByRecursion, list_all, list_any, slice_get}
 use Rattle.std.proofs.Math.Nat.{div-lt_iff_lt-mul}
@@ -11,7 +11,6 @@ use Rattle.nest_tree.specs.Layout.{count_of}
 use Rattle.nest_tree.specs.Limits.{is_empty}
 use Rattle.nest_tree.specs.Tree.{Head, Tree}
 use Rattle.nest_tree.specs.WellFormed.{is_number_of, names_only}
-use Rattle.nest_model.proofs.Small.{not_empty}
 use Rattle.nest_model.proofs.Within.{Between, IsInEnds, form_between, none_parts}
 use Rattle.nest_rows.proofs.Dots.{numbers}
 use Rattle.owner_partition.specs.declared.anchor.Anchor.{Anchor}
@@ -26,6 +25,7 @@ use Rattle.sync_plan.specs.declared.plan.Kind.TheVariants.{Nothing, Producer, Le
 use Rattle.sync_plan.specs.Fit.{kind_anchors, numbered_anchors}
 use Rattle.comm_system.specs.Meetings.{Holder, Holds}
 use Rattle.comm_system.proofs.Lists.{all_split}
+use Rattle.sync_plan.proofs.FitOwners.{none_empty}
 
 -- the round in which a processor has a place
 abbrev pub round_of : Dist → ℕ → ℤ → ℤ
@@ -111,11 +111,6 @@ placed_keeps constants hs params workers phase a E F named all none =
     let interval : form_interval a.form E params ≡ form_interval a.form F params = ap (λ d. plus (fixed, fixed) d) keep.0 in
     sym (ap (λ b. if b then None else if reaches a.dist workers (form_interval a.form E params) then None else Some (record { phase = phase; low = (form_interval a.form E params).0; high = (form_interval a.form E params).1 })) keep.1
     ∙ ap (λ i. if names_empty F a.form.loops then None else if reaches a.dist workers i then None else Some (record { phase = phase; low = i.0; high = i.1 })) interval) ∙ none
-
-none_empty : (ends : List (ℤ × ℤ)) (loops : List ℤ) (pairs : List (ℕ × ℤ)) → IsInEnds ends loops → names_empty ends pairs ≡ false
-none_empty ends loops [] h = refl
-none_empty ends loops (p ∷ pairs) h =
-    ap (λ b. b || list_any (λ (q : ℕ × ℤ). is_empty (ends_of ends q.0)) pairs) (not_empty (ends_of ends p.0) (numbered loops p.0) (h.inside (p.0 - 1))) ∙ none_empty ends loops pairs h
 
 -- a placed anchor has a holder where the loops lie within their intervals
 pub placed_holds : (params : List ℤ) (workers phase : ℕ) (a : Anchor) (ends : List (ℤ × ℤ)) (loops : List ℤ) → 1 ≤ workers → IsInEnds ends loops → misplaced_within params workers phase a ends ≡ None → Holds a.dist workers (form_value a.form loops params) (holder_at a workers loops params)

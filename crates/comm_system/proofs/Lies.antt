@@ -1,24 +1,15 @@
 -- Values that stand one behind another in a list.
-use Rattle.std.proofs.Common.{◌≡◌, ℕ, suc, ◌+◌, ◌-◌, ℤ, pos, List, [], ◌∷◌, ◌++◌, append_assoc, length, length-append, get_or, ap, ◌∙◌, subst, arith}
-use Rattle.std.proofs.lemmas.Bool.{and_parts, leb-true}
-use Rattle.std.proofs.lemmas.List.{get_or_append_left}
-use Rattle.std.proofs.Math.Seq.{get_or-append_seam}
-use Rattle.std.specs.Prelude.{nat_le}
+use Rattle.std.proofs.Common.{◌≡◌, ℕ, suc, ◌+◌, ℤ, pos, List, [], ◌∷◌, ◌++◌, append_assoc, length, length-append, subst, arith}
 use Rattle.nest_tree.specs.Form.{numbered}
 use Rattle.nest_tree.specs.Tree.{Head}
 use Rattle.nest_rows.specs.Nested.{AreTrips}
 use Rattle.nest_rows.specs.Places.{AreLaid, laid}
-use Rattle.nest_rows.proofs.Dots.{AreConstants}
+use Rattle.nest_rows.proofs.Dots.{at-seam}
 
 -- the values from this number on
 abbrev pub LiesAt : List ℤ → ℕ → List ℤ → Type 0
 LiesAt values n [] = Unit {0}
 LiesAt values n (x ∷ xs) = (numbered values n ≡ x) × LiesAt values (suc n) xs
-
-at-seam : (before : List ℤ) (v : ℤ) (rest : List ℤ) → numbered (before ++ v ∷ rest) (length before + 1) ≡ v
-at-seam before v rest =
-    let place : length before + 1 - 1 ≡ length before = omega arith in
-    ap (λ n. get_or (before ++ v ∷ rest) n (pos 0)) place ∙ get_or-append_seam before v rest (pos 0)
 
 pub lies_behind : (before xs rest : List ℤ) → LiesAt (before ++ (xs ++ rest)) (length before + 1) xs
 lies_behind before [] rest = tt
@@ -50,10 +41,3 @@ laid-length params loops [] [] h = omega arith
 laid-length params loops [] (n ∷ ns) h = absurd h
 laid-length params loops (g ∷ heads) [] h = absurd h
 laid-length params loops (g ∷ heads) (n ∷ ns) h = omega (arith, laid-length params loops heads ns h.1)
-
-pub constants-in-front : (params rest : List ℤ) → AreConstants (params ++ rest) params
-constants-in-front params rest = record {
-  same = λ n number.
-      let parts = and_parts (nat_le 1 n) (nat_le n (length params)) number in
-      get_or_append_left params rest (pos 0) (n - 1) (omega (arith, leb-true 1 n parts.0, leb-true n (length params) parts.1));
-}

@@ -75,12 +75,6 @@ mapped_get f [] k x at = absurd (let no : None ≡ Some x = at in cc)
 mapped_get f (y ∷ xs) zero x at = let same : y ≡ x = cc in ap (λ z. Some (f z)) same
 mapped_get f (y ∷ xs) (suc k) x at = mapped_get f xs k x at
 
--- one of a list that is mapped
-pub mapped_back : {X Y : Type 0} (f : X → Y) (xs : List X) (k : ℕ) (y : Y) → slice_get (map f xs) k ≡ Some y → (x : X) × (slice_get xs k ≡ Some x) × (f x ≡ y)
-mapped_back f [] k y at = absurd (let no : None ≡ Some y = at in cc)
-mapped_back f (x ∷ xs) zero y at = let same : f x ≡ y = cc in (x, refl, same)
-mapped_back f (x ∷ xs) (suc k) y at = mapped_back f xs k y at
-
 pub all_split : {X : Type 0} (P : X → Type 0) (xs ys : List X) → AllByRecursion P (xs ++ ys) → AllByRecursion P xs × AllByRecursion P ys
 all_split P [] ys h = (tt, h)
 all_split P (x ∷ xs) ys h = let rest = all_split P xs ys h.1 in ((h.0, rest.0), rest.1)

@@ -35,7 +35,8 @@ use Rattle.sync_plan.proofs.PhasePlaces.{IsThereFrom, own_ends, visit_there}
 use Rattle.comm_system.specs.Meetings.{Holder, Holds}
 use Rattle.comm_system.specs.References.{phases_of}
 use Rattle.comm_system.proofs.Accesses.{phase_there, station_known, visits_are}
-use Rattle.comm_system.proofs.Contexts.{IsBefore, IsInFront}
+use Rattle.nest_rows.proofs.Nesting.{IsBefore}
+use Rattle.comm_system.proofs.Contexts.{IsInFront}
 use Rattle.comm_system.proofs.Holders.{anchor_placed, form_keeps, kind_placed, placed_holds, placed_keeps, round_of}
 use Rattle.comm_system.proofs.Lists.{mapped_get}
 use Rattle.comm_system.proofs.Places.{IsPlaced, StartsIn, kept_after}

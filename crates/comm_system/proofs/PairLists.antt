@@ -1,10 +1,10 @@
 -- The accesses of a pair are those of its phases, and the conditions of a plan that fits are good and met.
-use Rattle.std.proofs.Common.{◌≡◌, ℕ, ◌&&◌, ◌==◌, not, nat_le, Bool, true, false, cond, Option, Some, None, List, [], ◌∷◌, length, map, if◌then◌else◌, refl, sym, subst}
+use Rattle.std.proofs.Common.{◌≡◌, ℕ, Bool, true, false, cond, None, List, [], ◌∷◌, length, map, sym, subst}
 use Rattle.std.specs.List.{AllByRecursion, Contains, filter, flat_map, list_all}
 use Rattle.std.proofs.lemmas.Bool.{and_parts}
 use Rattle.std.proofs.lemmas.List.{length-map}
 use Rattle.nest_tree.specs.Tree.{Constant, Tree, param_values}
-use Rattle.nest_tree.specs.WellFormed.{IsWellFormed, loops_of, scope_of}
+use Rattle.nest_tree.specs.WellFormed.{IsWellFormed, scope_of}
 use Rattle.nest_model.proofs.Within.{none_parts}
 use Rattle.nest_rows.proofs.Nesting.{all-append, all-contained}
 use Rattle.owner_partition.specs.Placement.{unplaced}
@@ -12,13 +12,15 @@ use Rattle.sync_plan.specs.declared.plan.Conditions.{Conditions}
 use Rattle.sync_plan.specs.declared.plan.Conditions.TheVariants.{Values, Rows}
 use Rattle.sync_plan.specs.declared.plan.Plan.{Plan}
 use Rattle.sync_plan.specs.declared.plan.Version.{Version}
-use Rattle.sync_plan.specs.Fit.{IsFit, Misfit, as_misfit, condition, misplaced_print, placed_anchors, placement, print_place, shape, unmet}
-use Rattle.sync_plan.specs.Shape.{are_good_anchors, are_good_conditions, are_good_kinds, are_marked_well, has_rows, is_good_row, static_phases, wrong_field}
+use Rattle.sync_plan.specs.Fit.{IsFit, as_misfit, condition, misplaced_print, placed_anchors, placement, print_place, shape, unmet}
+use Rattle.sync_plan.specs.Shape.{are_good_conditions, has_rows, is_good_row, static_phases, wrong_field}
 use Rattle.comm_system.specs.Pairs.{Pair, conflict, pairs_of}
 use Rattle.comm_system.specs.References.{Reference, StaticPhase, phases_of, references_of}
 use Rattle.owner_partition.specs.Marks.{enters_outer}
 use Rattle.comm_system.proofs.GoodReferences.{references_good}
+use Rattle.comm_system.proofs.ShapeParts.{shaped}
 use Rattle.comm_system.proofs.Solved.{AreGoodConditions, IsGoodReference}
+use Rattle.sync_plan.proofs.Fits.{nothing_misfits}
 
 seconds : (G : Reference → Type 0) (a : Reference) (p : Reference → Bool) (bs : List Reference) → G a → AllByRecursion G bs → AllByRecursion (λ (pair : Pair). G pair.first × G pair.second) (map (λ b. record { first = a; second = b }) (filter p bs))
 seconds G a p [] h all = tt
@@ -48,14 +50,6 @@ pair_good tree plan s t pair formed here there among =
 
 -- ---- the conditions
 
-right_field : (b : Bool) (n : ℕ) (rest : Option ℕ) → (if not b then Some n else rest) ≡ None → (b ≡ true) × (rest ≡ None)
-right_field true n rest e = (refl, e)
-right_field false n rest e = absurd (cc)
-
-none_found : {A : Type 0} (why : A → Misfit) (found : Option A) → as_misfit why found ≡ None → found ≡ None
-none_found why None e = refl
-none_found why (Some a) e = absurd (cc)
-
 good_conditions : (constants : ℕ) (version : Version) (conditions : Conditions) → are_good_conditions constants version conditions ≡ true → AreGoodConditions constants conditions
 good_conditions constants version Values h = tt
 good_conditions constants version (Rows rows) h = (and_parts (has_rows version) (list_all (is_good_row constants) rows) h).1
@@ -67,13 +61,7 @@ fit_conditions tree plan fits =
     let first = none_parts (as_misfit shape (wrong_field tree plan)) _ fits in
     let second = none_parts (as_misfit placement (unplaced tree plan.cut plan.workers (placed_anchors plan))) _ first.1 in
     let third = none_parts (as_misfit print_place (misplaced_print 1 plan.cut text plan.anchors)) _ second.1 in
-    let none = none_found shape (wrong_field tree plan) first.0 in
-    let workers = right_field (nat_le 1 plan.workers && nat_le plan.workers 64) 1 _ none in
-    let marks = right_field (length plan.cut == loops_of tree.items) 2 _ workers.1 in
-    let marked = right_field (are_marked_well plan.cut false tree.items) 3 _ marks.1 in
-    let counts = right_field (length plan.anchors == length text && length plan.kinds == length text) 4 _ marked.1 in
-    let anchors = right_field (are_good_anchors constants plan.cut text plan.anchors) 5 _ counts.1 in
-    let kinds = right_field (are_good_kinds constants text plan.kinds) 6 _ anchors.1 in
-    let conditions = right_field (are_good_conditions constants plan.version plan.conditions) 8 None kinds.1 in
+    let none = nothing_misfits shape (wrong_field tree plan) first.0 in
+    let conditions = (shaped tree plan none).conditions in
     let as_many : constants ≡ length (param_values tree) = sym (length-map tree.params (λ (c : Constant). c.value)) in
-    (subst (λ n. AreGoodConditions n plan.conditions) as_many (good_conditions constants plan.version plan.conditions conditions.0), none_found condition (unmet (param_values tree) plan.conditions) third.1)
+    (subst (λ n. AreGoodConditions n plan.conditions) as_many (good_conditions constants plan.version plan.conditions conditions), nothing_misfits condition (unmet (param_values tree) plan.conditions) third.1)

@@ -1,7 +1,7 @@
 -- The terms of a pair's rows are among its unknowns.
-use Rattle.std.proofs.Common.{◌≡◌, ℕ, zero, suc, ◌+◌, ◌*◌, ◌≤◌, nat_le, ℤ, pos, negsuc, neg_ℤ, Bool, true, false, List, [], ◌∷◌, ◌++◌, length, if◌then◌else◌, refl, ◌∙◌, arith}
+use Rattle.std.proofs.Common.{◌≡◌, ℕ, zero, suc, ◌+◌, ◌*◌, ◌≤◌, ℤ, pos, negsuc, neg_ℤ, Bool, true, false, List, [], ◌∷◌, ◌++◌, length, if◌then◌else◌, refl, ◌∙◌, arith}
 use Rattle.std.specs.List.{AllByRecursion, list_all}
-use Rattle.std.proofs.lemmas.Bool.{and_from, le-leb}
+use Rattle.std.proofs.lemmas.Bool.{and_from}
 use Rattle.std.proofs.lemmas.List.Folds.{list_all-append}
 use Rattle.nest_tree.specs.WellFormed.{is_number_of, names_only}
 use Rattle.nest_rows.specs.declared.constraint.Constraint.{Constraint}
@@ -10,7 +10,7 @@ use Rattle.nest_rows.specs.declared.constraint.Sign.TheVariants.{Plus, Minus}
 use Rattle.nest_rows.specs.Places.{terms_of}
 use Rattle.nest_rows.specs.Signs.{with_sign}
 use Rattle.nest_rows.proofs.Dots.{numbers}
-use Rattle.nest_rows.proofs.Over.{form-over}
+use Rattle.nest_rows.proofs.Over.{both-over, form-over, number-from}
 use Rattle.nest_rows.proofs.Sums.{is_over}
 use Rattle.owner_partition.specs.declared.anchor.Dist.{Dist}
 use Rattle.owner_partition.specs.declared.anchor.Dist.TheVariants.{Block, Cyclic}
@@ -21,19 +21,13 @@ use Rattle.comm_system.specs.PairRows.{Sum, apart, free_have, free_sums, ordered
 abbrev pub are_over : ℕ → List (ℕ × ℤ) → Bool
 are_over vars terms = list_all (λ t. is_number_of vars t.0) terms
 
-pub number_from : (vars n : ℕ) → 1 ≤ n → n ≤ vars → is_number_of vars n ≡ true
-number_from vars n low high = and_from (nat_le 1 n) (nat_le n vars) (le-leb 1 n low) (le-leb n vars high)
-
 pub lists_over : (vars : ℕ) (xs ys : List Constraint) → list_all (is_over vars) xs ≡ true → list_all (is_over vars) ys ≡ true → list_all (is_over vars) (xs ++ ys) ≡ true
 lists_over vars xs ys h k = list_all-append (is_over vars) xs ys ∙ and_from (list_all (is_over vars) xs) (list_all (is_over vars) ys) h k
-
-terms_over : (vars : ℕ) (ts us : List (ℕ × ℤ)) → are_over vars ts ≡ true → are_over vars us ≡ true → are_over vars (ts ++ us) ≡ true
-terms_over vars ts us h k = list_all-append (λ (t : ℕ × ℤ). is_number_of vars t.0) ts us ∙ and_from (are_over vars ts) (are_over vars us) h k
 
 pub free_over : (vars n : ℕ) (bounds : List (ℤ × ℤ)) → 1 ≤ n → n + length bounds ≤ vars + 1 → list_all (is_over vars) (free_have n bounds) ≡ true
 free_over vars n [] low room = refl
 free_over vars n (b ∷ bounds) low room =
-    let number = number_from vars n low (omega (arith, room)) in
+    let number = number-from vars n low (omega (arith, room)) in
     and_from _ _ (and_from (is_number_of vars n) true number refl) (and_from _ _ (and_from (is_number_of vars n) true number refl) (free_over vars (suc n) bounds (omega (arith, low)) (omega (arith, room))))
 
 -- a subscript's terms, with either sign
@@ -44,16 +38,16 @@ pub element_over : (vars : ℕ) (xs ys : List Sum) → AllByRecursion (IsSumOver
 element_over vars [] ys h k = refl
 element_over vars (x ∷ xs) [] h k = refl
 element_over vars (x ∷ xs) (y ∷ ys) h k =
-    and_from _ _ (terms_over vars (with_sign Plus x.terms) (with_sign Minus y.terms) (h.0 Plus) (k.0 Minus))
-    (and_from _ _ (terms_over vars (with_sign Minus x.terms) (with_sign Plus y.terms) (h.0 Minus) (k.0 Plus)) (element_over vars xs ys h.1 k.1))
+    and_from _ _ (both-over vars (with_sign Plus x.terms) (with_sign Minus y.terms) (h.0 Plus) (k.0 Minus))
+    (and_from _ _ (both-over vars (with_sign Minus x.terms) (with_sign Plus y.terms) (h.0 Minus) (k.0 Plus)) (element_over vars xs ys h.1 k.1))
 
 pub free_sums_over : (vars n : ℕ) (bounds : List (ℤ × ℤ)) → 1 ≤ n → n + length bounds ≤ vars + 1 → AllByRecursion (IsSumOver vars) (free_sums n bounds)
 free_sums_over vars n [] low room = tt
 free_sums_over vars n (b ∷ bounds) low room =
-    (λ sign. and_from (is_number_of vars n) true (number_from vars n low (omega (arith, room))) refl, free_sums_over vars (suc n) bounds (omega (arith, low)) (omega (arith, room)))
+    (λ sign. and_from (is_number_of vars n) true (number-from vars n low (omega (arith, room))) refl, free_sums_over vars (suc n) bounds (omega (arith, low)) (omega (arith, room)))
 
 pub apart_over : (vars : ℕ) (sign : Sign) (m n : ℕ) (most : ℤ) → 1 ≤ m → m ≤ vars → 1 ≤ n → n ≤ vars → is_over vars (apart sign m n most) ≡ true
-apart_over vars sign m n most low high low' high' = and_from (is_number_of vars m) _ (number_from vars m low high) (and_from (is_number_of vars n) true (number_from vars n low' high') refl)
+apart_over vars sign m n most low high low' high' = and_from (is_number_of vars m) _ (number-from vars m low high) (and_from (is_number_of vars n) true (number-from vars n low' high') refl)
 
 same_loops_over : (vars m n k : ℕ) → 1 ≤ m → m + 2 * k ≤ vars + 1 → 1 ≤ n → n + 2 * k ≤ vars + 1 → list_all (is_over vars) (same_loops m n k) ≡ true
 same_loops_over vars m n zero low room low' room' = refl
@@ -84,14 +78,14 @@ pub record HasRoom (vars constants : ℕ) (p : Placed) : Type 0 where
 
 owns_over : (vars : ℕ) (dist : Dist) (workers q : ℕ) (terms : List (ℕ × ℤ)) (constant : ℤ) → ((sign : Sign) → are_over vars (with_sign sign terms) ≡ true) → 1 ≤ q → q + owner_unknowns dist ≤ vars + 1 → list_all (is_over vars) (owns dist workers q terms constant) ≡ true
 owns_over vars (Block b) workers q terms constant over low room =
-    let number = number_from vars q low (omega (arith, room)) in
+    let number = number-from vars q low (omega (arith, room)) in
     and_from _ _ (and_from (is_number_of vars q) (are_over vars (with_sign Minus terms)) number (over Minus))
-    (and_from _ true (terms_over vars (with_sign Plus terms) ((q, neg_ℤ (pos b)) ∷ []) (over Plus) (and_from (is_number_of vars q) true number refl)) refl)
+    (and_from _ true (both-over vars (with_sign Plus terms) ((q, neg_ℤ (pos b)) ∷ []) (over Plus) (and_from (is_number_of vars q) true number refl)) refl)
 owns_over vars Cyclic workers q terms constant over low room =
-    let number = number_from vars q low (omega (arith, room)) in
-    let round = number_from vars (suc q) (omega arith) (omega (arith, room)) in
-    and_from _ _ (terms_over vars (with_sign Plus terms) ((suc q, neg_ℤ (pos workers)) ∷ (q, negsuc 0) ∷ []) (over Plus) (and_from (is_number_of vars (suc q)) _ round (and_from (is_number_of vars q) true number refl)))
-    (and_from _ true (terms_over vars (with_sign Minus terms) ((suc q, pos workers) ∷ (q, pos 1) ∷ []) (over Minus) (and_from (is_number_of vars (suc q)) _ round (and_from (is_number_of vars q) true number refl))) refl)
+    let number = number-from vars q low (omega (arith, room)) in
+    let round = number-from vars (suc q) (omega arith) (omega (arith, room)) in
+    and_from _ _ (both-over vars (with_sign Plus terms) ((suc q, neg_ℤ (pos workers)) ∷ (q, negsuc 0) ∷ []) (over Plus) (and_from (is_number_of vars (suc q)) _ round (and_from (is_number_of vars q) true number refl)))
+    (and_from _ true (both-over vars (with_sign Minus terms) ((suc q, pos workers) ∷ (q, pos 1) ∷ []) (over Minus) (and_from (is_number_of vars (suc q)) _ round (and_from (is_number_of vars q) true number refl))) refl)
 
 one_unknown : (dist : Dist) → 1 ≤ owner_unknowns dist
 one_unknown (Block b) = omega arith
@@ -100,7 +94,7 @@ one_unknown Cyclic = omega arith
 owner_over : (vars constants workers q : ℕ) (p : Placed) → constants ≤ vars → HasRoom vars constants p → 1 ≤ q → q + owner_unknowns p.anchor.dist ≤ vars + 1 → list_all (is_over vars) (owner_has workers q p) ≡ true
 owner_over vars constants workers q p few h low room =
     let over = λ (sign : Sign). form-over vars constants p.first p.around h.low few h.room sign p.anchor.form h.named in
-    let number = number_from vars q low (omega (arith, room, one_unknown p.anchor.dist)) in
+    let number = number-from vars q low (omega (arith, room, one_unknown p.anchor.dist)) in
     lists_over vars (owns p.anchor.dist workers q (terms_of p.first p.around p.anchor.form) p.anchor.form.constant) _ (owns_over vars p.anchor.dist workers q (terms_of p.first p.around p.anchor.form) p.anchor.form.constant over low room)
     (and_from _ _ (and_from (is_number_of vars q) true number refl) (and_from _ true (and_from (is_number_of vars q) true number refl) refl))
 

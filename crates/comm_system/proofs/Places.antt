@@ -13,11 +13,13 @@ use Rattle.nest_rows.proofs.Nesting.{all-append, all-at}
 use Rattle.owner_partition.specs.Phases.{Execution, executions_from, phase_instances}
 use Rattle.sync_plan.proofs.Gets.{get-behind, get-front}
 use Rattle.comm_system.specs.References.{StaticPhase, phases_among, phases_in}
-use Rattle.comm_system.proofs.Contexts.{IsBefore, IsInFront, kept-number}
-use Rattle.comm_system.proofs.Lists.{all_in_range, all_split, contains_here, contains_later, mapped_back, mapped_get}
+use Rattle.nest_rows.proofs.Nesting.{IsBefore, kept-number}
+use Rattle.comm_system.proofs.Contexts.{IsInFront}
+use Rattle.comm_system.proofs.Lists.{all_in_range, all_split, contains_here, contains_later, mapped_get}
 use Rattle.comm_system.proofs.StationFacts.{Deepens, IsStation, each_of, loops_after}
 use Rattle.comm_system.proofs.Stations.{Station, at_trip, phases_in-within, push, stations_in, stations_of, trips_of, text_of, visit_in, visits-of, within}
 use Rattle.comm_system.proofs.StationOrder.{Comes, comes_at, rises_of}
+use Rattle.sync_plan.proofs.BarrierOrder.{mapped}
 
 -- ---- executions and phases
 
@@ -41,7 +43,7 @@ execution_of params e (v ∷ vs) x n at =
     let later = executions_from params (suc e) vs in
     elim (cases_lt n (length here)) [
       | inl less ↦
-          let m = mapped_back (in_phase e v) (phase_instances params v) n x (sym (get-front here later n less) ∙ at) in
+          let m = mapped (in_phase e v) (phase_instances params v) n x (sym (get-front here later n less) ∙ at) in
           let p = ap (λ (y : Execution). y.phase) (sym m.2) in
           record { phase = 0; visit = v; index = n; at = refl; phase_is = omega (arith, p); place_is = ap (λ (y : Execution). y.place) (sym m.2); is = m.1 ∙ ap Some (ap (λ (y : Execution). y.instance) m.2) }
       | inr past ↦
@@ -63,7 +65,7 @@ in_order params e (v ∷ vs) x y j k lt at at' =
     let here = map (in_phase e v) (phase_instances params v) in
     let later = executions_from params (suc e) vs in
     let one = λ (z : Execution) (n : ℕ) (less : n < length here) (is : slice_get (here ++ later) n ≡ Some z).
-    mapped_back (in_phase e v) (phase_instances params v) n z (sym (get-front here later n less) ∙ is) in
+    mapped (in_phase e v) (phase_instances params v) n z (sym (get-front here later n less) ∙ is) in
     let first = λ (z : Execution) (n : ℕ) (less : n < length here) (is : slice_get (here ++ later) n ≡ Some z). here_of z n (one z n less is).0 (one z n less is).1 (one z n less is).2 in
     elim (cases_lt j (length here)) [
       | inl less ↦ elim (cases_lt k (length here)) [
@@ -266,7 +268,7 @@ module _ (params : List ℤ) (scope : Scope) (heads : List Head) (ns : List ℕ)
   pub instance_placed : (i : Instance) (k : ℕ) → slice_get (phase_instances params v) k ≡ Some i → IsPlaced params scope heads ns v i
   instance_placed i k at =
       let stop = instance_stop params (map visit_in (stations_of params every v.what 1 v.first v.loops)) k i (ap (λ xs. slice_get xs k) inner_instances ∙ at) in
-      let back = mapped_back visit_in (stations_of params every v.what 1 v.first v.loops) stop.stop stop.visit stop.at in
+      let back = mapped visit_in (stations_of params every v.what 1 v.first v.loops) stop.stop stop.visit stop.at in
       (placed_at_station i stop.stop back.0 back.1 (ap (instances_at params) back.2 ∙ stop.is)).0
 
   -- of two instances the later one is at a later stop of that walk
@@ -275,8 +277,8 @@ module _ (params : List ℤ) (scope : Scope) (heads : List Head) (ns : List ℕ)
   instances_placed i j k l lt at at' =
       let walk = stations_of params every v.what 1 v.first v.loops in
       let stops = instance_stops params (map visit_in walk) k l i j lt (ap (λ xs. slice_get xs k) inner_instances ∙ at) (ap (λ xs. slice_get xs l) inner_instances ∙ at') in
-      let back = mapped_back visit_in walk stops.first.stop stops.first.visit stops.first.at in
-      let back' = mapped_back visit_in walk stops.second.stop stops.second.visit stops.second.at in
+      let back = mapped visit_in walk stops.first.stop stops.first.visit stops.first.at in
+      let back' = mapped visit_in walk stops.second.stop stops.second.visit stops.second.at in
       let p = placed_at_station i stops.first.stop back.0 back.1 (ap (instances_at params) back.2 ∙ stops.first.is) in
       let q = placed_at_station j stops.second.stop back'.0 back'.1 (ap (instances_at params) back'.2 ∙ stops.second.is) in
       let comes_so = comes_at walk stops.first.stop stops.second.stop back.0 back'.0 (rises_of params scope every heads ns v.loops number 1 v.first v.what context) stops.rises back.1 back'.1 in

@@ -6,9 +6,7 @@ use Rattle.std.proofs.lemmas.List.{drop_more}
 use Rattle.std.proofs.lemmas.List.Folds.{list_all-append}
 use Rattle.nest_tree.specs.Form.{is_small, rises_above}
 use Rattle.nest_tree.specs.Layout.{bounds_at}
-use Rattle.nest_tree.specs.Tree.{Constant}
-use Rattle.nest_tree.specs.View.{constant_of, declaration_of}
-use Rattle.nest_tree.specs.declared.tree.Parameter.{Parameter}
+use Rattle.nest_tree.specs.View.{declaration_of}
 use Rattle.nest_tree.specs.declared.tree.Variable.{Variable}
 use Rattle.nest_rows.specs.declared.constraint.Sign.TheVariants.{Minus, Plus}
 use Rattle.nest_rows.specs.Signs.{with_sign}
@@ -83,10 +81,6 @@ row_small constants row h =
     let two = and_parts _ (list_all (λ p. is_number_of constants p.0) row.coefs) last.0 in
     let rises = and_parts _ (rises_above 0 row.coefs) two.0 in
     loops-small (record { constant = pos 0; loops = row.coefs; params = [] }) (and_from (rises_above 0 row.coefs) true rises.1 refl)
-
-pub values_seen : (ps : List Parameter) → map (λ (c : Constant). c.value) (map constant_of ps) ≡ map (λ (p : Parameter). p.value) ps
-values_seen [] = refl
-values_seen (p ∷ ps) = ap (λ vs. p.value ∷ vs) (values_seen ps)
 
 pub bounds_there : (vs : List Variable) (k : ℕ) (v : Variable) → k < length vs → v ≡ get_or vs k v → bounds_at (map declaration_of vs) k ≡ v.bounds.items
 bounds_there [] k v lt is = absurd (omega arith)

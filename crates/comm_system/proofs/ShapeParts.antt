@@ -1,5 +1,5 @@
--- What a plan of a fitting shape has: few workers, blocks with places, and good conditions.
-use Rattle.std.proofs.Common.{◌≡◌, ℕ, ◌≤◌, ◌==◌, nat_le, not, ◌&&◌, Bool, true, false, Option, Some, None, List, [], ◌∷◌, length, if◌then◌else◌, refl, arith}
+-- What a plan of a fitting shape has: few workers, as many anchors and kinds as phases, blocks with places, and good conditions.
+use Rattle.std.proofs.Common.{◌≡◌, ℕ, ◌≤◌, ◌==◌, nat_le, ◌&&◌, true, false, None, List, [], ◌∷◌, length, refl, arith}
 use Rattle.std.specs.List.{list_all}
 use Rattle.std.proofs.lemmas.Bool.{and_from, and_parts, eqb-true, leb-true}
 use Rattle.nest_tree.specs.Tree.{Tree}
@@ -12,17 +12,18 @@ use Rattle.sync_plan.specs.declared.plan.Kind.TheVariants.{Nothing, Producer, Le
 use Rattle.sync_plan.specs.declared.plan.Plan.{Plan}
 use Rattle.sync_plan.specs.Shape.{are_good_anchors, are_good_conditions, are_good_kinds, are_marked_well, has_places, is_good_anchor, is_good_kind, own_loops, static_phases, wrong_field}
 use Rattle.comm_system.specs.Signatures.{has_places_in}
+use Rattle.sync_plan.proofs.Fits.{field_right}
 
 pub record IsShaped (tree : Tree) (plan : Plan) : Type 0 where
   pub some : 1 ≤ plan.workers
   pub workers : plan.workers ≤ 64
+  pub many_anchors : length plan.anchors ≡ length (static_phases tree plan.cut)
+  pub many_kinds : length plan.kinds ≡ length (static_phases tree plan.cut)
+  pub good_anchors : are_good_anchors (length tree.params) plan.cut (static_phases tree plan.cut) plan.anchors ≡ true
+  pub good_kinds : are_good_kinds (length tree.params) (static_phases tree plan.cut) plan.kinds ≡ true
   pub anchors : list_all (λ (a : Anchor). has_places a.dist) plan.anchors ≡ true
   pub kinds : list_all has_places_in plan.kinds ≡ true
   pub conditions : are_good_conditions (length tree.params) plan.version plan.conditions ≡ true
-
-right_field : (b : Bool) (n : ℕ) (rest : Option ℕ) → (if not b then Some n else rest) ≡ None → (b ≡ true) × (rest ≡ None)
-right_field true n rest e = (refl, e)
-right_field false n rest e = absurd (cc)
 
 kind_places : (constants : ℕ) (loops : List ℕ) (k : Kind) → is_good_kind constants loops k ≡ true → has_places_in k ≡ true
 kind_places constants loops Nothing good = refl
@@ -52,19 +53,25 @@ pub shaped : (tree : Tree) (plan : Plan) → wrong_field tree plan ≡ None → 
 shaped tree plan none =
     let text = static_phases tree plan.cut in
     let constants = length tree.params in
-    let workers = right_field (nat_le 1 plan.workers && nat_le plan.workers 64) 1 _ none in
-    let marks = right_field (length plan.cut == loops_of tree.items) 2 _ workers.1 in
-    let marked = right_field (are_marked_well plan.cut false tree.items) 3 _ marks.1 in
-    let counts = right_field (length plan.anchors == length text && length plan.kinds == length text) 4 _ marked.1 in
-    let anchors = right_field (are_good_anchors constants plan.cut text plan.anchors) 5 _ counts.1 in
-    let kinds = right_field (are_good_kinds constants text plan.kinds) 6 _ anchors.1 in
-    let conditions = right_field (are_good_conditions constants plan.version plan.conditions) 8 None kinds.1 in
+    let workers = field_right (nat_le 1 plan.workers && nat_le plan.workers 64) 1 _ none in
+    let marks = field_right (length plan.cut == loops_of tree.items) 2 _ workers.1 in
+    let marked = field_right (are_marked_well plan.cut false tree.items) 3 _ marks.1 in
+    let counts = field_right (length plan.anchors == length text && length plan.kinds == length text) 4 _ marked.1 in
+    let anchors = field_right (are_good_anchors constants plan.cut text plan.anchors) 5 _ counts.1 in
+    let kinds = field_right (are_good_kinds constants text plan.kinds) 6 _ anchors.1 in
+    let conditions = field_right (are_good_conditions constants plan.version plan.conditions) 8 None kinds.1 in
     let range = and_parts (nat_le 1 plan.workers) (nat_le plan.workers 64) workers.0 in
     let many = and_parts (length plan.anchors == length text) (length plan.kinds == length text) counts.0 in
+    let many_anchors = eqb-true (length plan.anchors) (length text) many.0 in
+    let many_kinds = eqb-true (length plan.kinds) (length text) many.1 in
     record {
       some = leb-true 1 plan.workers range.0;
       workers = leb-true plan.workers 64 range.1;
-      anchors = all_anchors constants plan.cut text plan.anchors (eqb-true (length plan.anchors) (length text) many.0) anchors.0;
-      kinds = all_kinds constants text plan.kinds (eqb-true (length plan.kinds) (length text) many.1) kinds.0;
+      many_anchors = many_anchors;
+      many_kinds = many_kinds;
+      good_anchors = anchors.0;
+      good_kinds = kinds.0;
+      anchors = all_anchors constants plan.cut text plan.anchors many_anchors anchors.0;
+      kinds = all_kinds constants text plan.kinds many_kinds kinds.0;
       conditions = conditions.0;
     }

@@ -1,5 +1,5 @@
 -- Where accesses meet, the values of the unknowns solve the system.
-use Rattle.std.proofs.Common.{◌≡◌, ℕ, zero, suc, ◌+◌, ◌*◌, ◌-◌, ◌<◌, ◌≤◌, ◌&&◌, ℤ, pos, ◌*ℤ◌, ◌+ℤ◌, ◌≤ℤ◌, int_le, Bool, true, false, Some, None, List, [], ◌∷◌, ◌++◌, append_assoc, map, length, length-append, get_or, slice_index_or, if◌then◌else◌, refl, ap, sym, ◌∙◌, subst, arith}
+use Rattle.std.proofs.Common.{◌≡◌, ℕ, zero, suc, ◌+◌, ◌*◌, ◌-◌, ◌<◌, ◌≤◌, ◌&&◌, ℤ, pos, ◌≤ℤ◌, int_le, Bool, true, false, Some, None, List, [], ◌∷◌, ◌++◌, append_assoc, map, length, length-append, get_or, slice_index_or, if◌then◌else◌, refl, ap, sym, ◌∙◌, subst, arith}
 use Rattle.std.specs.List.{AllByRecursion, list_all}
 use Rattle.std.proofs.lemmas.Bool.{and_from, and_parts, leb-true}
 use Rattle.std.proofs.lemmas.Int.{ints}
@@ -28,18 +28,14 @@ use Rattle.comm_system.specs.OwnerRows.{Placed, owners_unknowns}
 use Rattle.comm_system.specs.PairRows.{behind_pair, conditions_have, first_of, free_bounds, free_have, instance_has, ordered_so, pair_rows, same_element, second_of, subscripts_of, sum_of, unknowns_of}
 use Rattle.comm_system.specs.Pairs.{Pair}
 use Rattle.comm_system.specs.References.{Reference}
-use Rattle.comm_system.proofs.Lies.{LiesAt, constants-in-front, laid-length, laid_there, lies-left, lies-right, lies_behind}
+use Rattle.comm_system.proofs.Lies.{LiesAt, laid-length, laid_there, lies-left, lies-right, lies_behind}
 use Rattle.comm_system.proofs.OwnersMet.{AreSeated, holder-length}
 use Rattle.comm_system.proofs.PairMet.{element_met, forms_valued, free_met, free_valued, order_met, sum_value}
-use Rattle.comm_system.proofs.PairOver.{IsSumOver, are_over, depth_of, element_over, free_over, free_sums_over, lists_over, number_from, order_over}
+use Rattle.comm_system.proofs.PairOver.{IsSumOver, are_over, depth_of, element_over, free_over, free_sums_over, lists_over, order_over}
+use Rattle.nest_rows.proofs.Dots.{constants-in-front, dot-constants}
+use Rattle.nest_rows.proofs.Over.{number-from}
 
 -- ---- the conditions on the named constants
-
-rows_dot : (values params : List ℤ) (pairs : List (ℕ × ℤ)) → AreConstants values params → list_all (λ p. is_number_of (length params) p.0) pairs ≡ true → dot pairs values ≡ dot pairs params
-rows_dot values params [] are named = refl
-rows_dot values params (p ∷ pairs) are named =
-    let parts = and_parts (is_number_of (length params) p.0) (list_all (λ (p : ℕ × ℤ). is_number_of (length params) p.0) pairs) named in
-    ap (λ z. p.1 *ℤ z +ℤ dot pairs values) (are.same p.0 parts.0) ∙ ap (λ z. p.1 *ℤ numbered params p.0 +ℤ z) (rows_dot values params pairs are parts.1)
 
 -- the named constants that a good row names are there
 row_named : (constants : ℕ) (r : ConditionRow) → is_good_row constants r ≡ true → list_all (λ p. is_number_of constants p.0) r.coefs ≡ true
@@ -57,7 +53,7 @@ rows_met values params n (r ∷ rows) are good none =
     let parts = and_parts (is_good_row (length params) r) (list_all (is_good_row (length params)) rows) good in
     let met = row_meets (meets params r) none in
     let here : dot r.coefs params ≤ℤ r.bound = at_most (dot r.coefs params) r.bound met.0 in
-    (subst (λ z. z ≤ℤ r.bound) (sym (rows_dot values params r.coefs are (row_named (length params) r parts.0))) here, rows_met values params (suc n) rows are parts.1 met.1)
+    (subst (λ z. z ≤ℤ r.bound) (sym (dot-constants values params r.coefs are (row_named (length params) r parts.0))) here, rows_met values params (suc n) rows are parts.1 met.1)
   where
     row_meets : (b : Bool) → (if b then unmet_among (suc n) params rows else Some n) ≡ None → (b ≡ true) × (unmet_among (suc n) params rows ≡ None)
     row_meets true h = (refl, h)
@@ -77,7 +73,7 @@ rows_over vars constants (r ∷ rows) few good =
     named_over (p ∷ pairs) h =
         let ps = and_parts (is_number_of constants p.0) (list_all (λ (p : ℕ × ℤ). is_number_of constants p.0) pairs) h in
         let number = and_parts _ _ ps.0 in
-        and_from _ _ (number_from vars p.0 (leb-true 1 p.0 number.0) (omega (arith, few, leb-true p.0 constants number.1))) (named_over pairs ps.1)
+        and_from _ _ (number-from vars p.0 (leb-true 1 p.0 number.0) (omega (arith, few, leb-true p.0 constants number.1))) (named_over pairs ps.1)
 
 conditions_met : (values params : List ℤ) (conditions : Conditions) → AreConstants values params → ((k : ℕ) (d : ℤ) → k < length params → numbered values (1 + k) ≡ slice_index_or params k d) → AreGoodConditions (length params) conditions → unmet params conditions ≡ None →
     AllByRecursion (IsMet values) (conditions_have params conditions)

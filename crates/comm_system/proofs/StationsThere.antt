@@ -8,9 +8,10 @@ use Rattle.nest_model.specs.Instances.{works_in}
 use Rattle.nest_model.specs.Visits.{stops_in}
 use Rattle.sync_plan.proofs.Gets.{get-behind, get-front}
 use Rattle.comm_system.specs.References.{StaticPhase}
-use Rattle.comm_system.proofs.Lists.{mapped_back, mapped_get}
+use Rattle.comm_system.proofs.Lists.{mapped_get}
 use Rattle.comm_system.proofs.Stations.{Station, at_trip, inside, push, stations_in, stations_of, text-length, text_among, text_of, trips_of}
 use Rattle.comm_system.proofs.StationFacts.{AreValid}
+use Rattle.sync_plan.proofs.BarrierOrder.{mapped}
 
 -- a station of a list with this place, these loops and these trips
 pub record IsStop (stations : List Station) (place : ℕ) (heads : List Head) (trips : List ℕ) : Type 0 where
@@ -82,7 +83,7 @@ module _ (params : List ℤ) (enters : ℕ → Bool) where
         by : (b : Bool) → ((q : StaticPhase) → slice_get (text_among enters body) k ≡ Some q → (m : ℕ) (ms : List ℕ) → AreValid params (at_trip params head loops m) q.outer ms → IsStop (stations_in params enters body place first (at_trip params head loops m)) (place + k) q.outer ms) → slice_get (if b then map (inside head) (text_among enters body) else record { what = do_loop head body; outer = [] } ∷ []) k ≡ Some p →
             IsStop (if b then flat_map (λ n. map (push head n) (stations_in params enters body place first (at_trip params head loops n))) (range_with_len 0 (trips_of params head loops)) else record { visit = record { place = place; first = first; what = do_loop head body; loops = loops }; heads = []; trips = [] } ∷ []) (place + k) p.outer ms
         by true later at' =
-            let back = mapped_back (inside head) (text_among enters body) k p at' in
+            let back = mapped (inside head) (text_among enters body) k p at' in
             let outer_is : head ∷ back.0.outer ≡ p.outer = ap (λ (q : StaticPhase). q.outer) back.2 in
             subst (λ hs. IsStop (flat_map (λ n. map (push head n) (stations_in params enters body place first (at_trip params head loops n))) (range_with_len 0 (trips_of params head loops))) (place + k) hs ms) outer_is
             (inner later back.0 back.1 ms (subst (λ hs. AreValid params loops hs ms) (sym outer_is) valid))

@@ -1,33 +1,18 @@
 -- The stops in a text, with numbers of loops, beside its static phases, with their heads.
-use Rattle.std.proofs.Common.{◌≡◌, ℕ, zero, suc, ◌==◌, ◌||◌, Bool, true, false, Some, None, List, [], ◌∷◌, ◌++◌, if◌then◌else◌, ⊎_elim, refl, ap, sym, ◌∙◌, subst}
+use Rattle.std.proofs.Common.{◌≡◌, ℕ, zero, suc, ◌==◌, Bool, true, false, Some, None, List, [], ◌∷◌, ◌++◌, if◌then◌else◌, refl, ap, ◌∙◌, subst}
 use Rattle.std.specs.List.{list_any, slice_get}
-use Rattle.std.proofs.lemmas.Bool.{and_parts, cases_Bool}
+use Rattle.std.proofs.lemmas.Bool.{and_parts}
 use Rattle.std.proofs.lemmas.List.{map-append}
 use Rattle.nest_tree.specs.Tree.{Head, Statement, Statements, do_loop, work, continue, done, next}
 use Rattle.nest_walk.specs.Texts.{Placed, placed_in, placed_of}
 use Rattle.nest_rows.proofs.Dots.{numbers}
-use Rattle.nest_rows.proofs.GoodNesting.{AreAmong}
+use Rattle.nest_rows.proofs.GoodNesting.{AreAmong, any-left, any-more}
 use Rattle.sync_plan.specs.declared.plan.Kind.{Kind}
 use Rattle.sync_plan.specs.Shape.{are_good_kinds, is_good_kind}
 use Rattle.comm_system.specs.References.{StaticPhase, phases_among, phases_in}
 
-any_left : (xs ys : List ℕ) → AreAmong xs (xs ++ ys)
-any_left [] ys n h = absurd (let no : false ≡ true = h in cc)
-any_left (x ∷ xs) ys n h =
-    ⊎_elim (λ e. ap (λ b. b || list_any (λ l. l == n) (xs ++ ys)) e)
-    (λ e. ap (λ b. b || list_any (λ l. l == n) (xs ++ ys)) e ∙ any_left xs ys n (sym (ap (λ b. b || list_any (λ l. l == n) xs) e) ∙ h)) (cases_Bool (x == n))
-
-any_right : (xs ys : List ℕ) → AreAmong ys (xs ++ ys)
-any_right [] ys n h = h
-any_right (x ∷ xs) ys n h =
-    ⊎_elim (λ e. ap (λ b. b || list_any (λ l. l == n) (xs ++ ys)) e) (λ e. ap (λ b. b || list_any (λ l. l == n) (xs ++ ys)) e ∙ any_right xs ys n h) (cases_Bool (x == n))
-
-pub any_more : (xs ys : List ℕ) (k : ℕ) → AreAmong xs ys → AreAmong (k ∷ xs) (ys ++ k ∷ [])
-any_more xs ys k h n named =
-    ⊎_elim (λ e. any_right ys (k ∷ []) n (ap (λ b. b || false) e)) (λ e. any_left ys (k ∷ []) n (h n (sym (ap (λ b. b || list_any (λ l. l == n) xs) e) ∙ named))) (cases_Bool (k == n))
-
 pub among_more : (xs : List ℕ) (heads others : List Head) → AreAmong xs (numbers heads) → AreAmong xs (numbers (heads ++ others))
-among_more xs heads others h n named = ap (list_any (λ l. l == n)) (map-append (λ (h : Head). h.number) heads others) ∙ any_left (numbers heads) (numbers others) n (h n named)
+among_more xs heads others h n named = ap (list_any (λ l. l == n)) (map-append (λ (h : Head). h.number) heads others) ∙ any-left (numbers heads) (numbers others) n (h n named)
 
 -- one static phase, and the loops round it
 pub record IsSamePhase (p : Placed) (q : StaticPhase) : Type 0 where
@@ -47,7 +32,7 @@ same_append (p ∷ ps) rs [] ts h k = absurd h
 same_append (p ∷ ps) rs (q ∷ qs) ts h k = (h.0, same_append ps rs qs ts h.1 k)
 
 inner_among : (around : List ℕ) (outer : List Head) (head : Head) → AreAmong around (numbers outer) → AreAmong (head.number ∷ around) (numbers (outer ++ head ∷ []))
-inner_among around outer head among n h = ap (list_any (λ l. l == n)) (map-append (λ (g : Head). g.number) outer (head ∷ [])) ∙ any_more around (numbers outer) head.number among n h
+inner_among around outer head among n h = ap (list_any (λ l. l == n)) (map-append (λ (g : Head). g.number) outer (head ∷ [])) ∙ any-more around (numbers outer) head.number among n h
 
 module _ (enters : ℕ → Bool) where
   mutual

@@ -1,5 +1,5 @@
 -- The obligations of a plan: two trips of a Doall loop, then slot by slot two instances of phases s and t at a level.
-use Rattle.std.specs.Prelude.{ℕ, suc, ◌+◌, ◌-◌, ℤ, pos, neg_ℤ, List, [], ◌∷◌, ◌++◌, length, map, Option, Some, None, slice_get, if◌then◌else◌}
+use Rattle.std.specs.Prelude.{ℕ, suc, ◌+◌, ◌-◌, ◌==◌, ℤ, pos, neg_ℤ, List, [], ◌∷◌, ◌++◌, length, map, Option, Some, None, slice_get, if◌then◌else◌}
 use Rattle.std.specs.List.{flat_map}
 use Rattle.farkas_cert.specs.Inequalities.{Inequalities}
 use Rattle.nest_tree.specs.Tree.{Tree}
@@ -127,3 +127,7 @@ numbered_from n (k ∷ rest) = numbered n k ∷ numbered_from (suc n) rest
 
 abbrev pub obligations_of : Tree → Plan → List Obligation
 obligations_of tree plan = numbered_from 1 (tasks_of tree plan)
+
+-- the obligation with this number, from 1
+abbrev pub obligation_numbered : ℕ → List Obligation → Option Obligation
+obligation_numbered number all = if number == 0 then None else slice_get all (number - 1)

@@ -262,8 +262,9 @@ pub fn list_groups<'b, 'a, 'p>(
     Ok(found)
 }
 
-// The groups of two trips of a phase, from this number on, whose first systems have at most a number.
-pub(crate) fn phase_groups<'b, 'a, 'p>(
+/// The groups of two trips of a phase, from this number on, whose first systems have at most a
+/// number.
+pub fn phase_groups<'b, 'a, 'p>(
     alloc: Global,
     most: u64,
     phase: &'b Phase<'a>,
@@ -279,9 +280,9 @@ pub(crate) fn phase_groups<'b, 'a, 'p>(
     Ok(found)
 }
 
-// The groups of a slot under these waits, from this number on, whose first systems have at most a
-// number.
-pub(crate) fn slot_groups<'b, 'a, 'p>(
+/// The groups of a slot under these waits, from this number on, whose first systems have at most a
+/// number.
+pub fn slot_groups<'b, 'a, 'p>(
     alloc: Global,
     most: u64,
     slot: Slot<'b, 'a>,
