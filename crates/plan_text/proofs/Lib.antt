@@ -11,6 +11,7 @@ pub mod Items
 pub mod Frees
 pub mod Defaults
 pub mod Written
+pub mod Counts
 pub mod Plans
 pub mod Chain
 pub mod PlanLaws

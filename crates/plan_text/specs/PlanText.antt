@@ -139,6 +139,13 @@ pub record HasText (plan : Plan) : Type 0 where
   pub phases : are_phases_shown (zipped plan.kinds plan.anchors) ≡ true
   pub certificates : are_certificates_shown plan.certificates ≡ true
 
+-- a kind for each anchor; and the conditions, the loops and the phases are as many as its version shows
+pub record HasCounts (plan : Plan) : Type 0 where
+  pub conditions : are_conditions_shown plan.version plan.conditions ≡ true
+  pub loops : is_32 (length plan.cut) ≡ true
+  pub pairs : length plan.kinds ≡ length plan.anchors
+  pub phases : is_32 (length plan.kinds) ≡ true
+
 -- these bytes are the text of a plan
 abbrev pub IsPlanText : List ℕ → Type 0
 IsPlanText bytes = (plan : Plan) × HasText plan × (bytes ≡ plan_text plan)

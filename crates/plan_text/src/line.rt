@@ -12,7 +12,7 @@ use std::alloc::AllocError;
 use sync_plan::{ConditionRow, Kind, Version};
 
 /// Appends a number. Where memory runs out, here and below, a part may be appended.
-pub(crate) fn put_natural(out: &mut Vec<u8>, number: u64) -> Result<(), AllocError>
+pub fn put_natural(out: &mut Vec<u8>, number: u64) -> Result<(), AllocError>
     ensures { OnOk result (out.new.items ≡ out.old.items ++ decimal number) }
 {
     let mut buffer = Buffer::new();
@@ -33,8 +33,8 @@ fn put_wide(out: &mut Vec<u8>, number: i128) -> Result<(), AllocError>
     out.extend_from_slice(buffer.format(number).as_bytes())
 }
 
-// Appends a blank and a word.
-fn put_word(out: &mut Vec<u8>, word: &[u8]) -> Result<(), AllocError>
+/// Appends a blank and a word.
+pub fn put_word(out: &mut Vec<u8>, word: &[u8]) -> Result<(), AllocError>
     ensures { OnOk result (out.new.items ≡ out.old.items ++ spec.spaced (word.now ∷ [])) }
 {
     out.push(b' ')?;
@@ -96,7 +96,8 @@ pub(crate) fn put_phase(
     put_anchor(out, anchor)
 }
 
-fn put_kind(out: &mut Vec<u8>, kind: &Kind) -> Result<(), AllocError>
+/// Appends the words of a kind, each with a blank in front.
+pub fn put_kind(out: &mut Vec<u8>, kind: &Kind) -> Result<(), AllocError>
     ensures { OnOk result (out.new.items ≡ out.old.items ++ spec.spaced (spec.kind_words kind.now)) }
 {
     match kind {

@@ -11,9 +11,9 @@ use owner_partition::{Anchor, Mark};
 use std::alloc::{AllocError, Global};
 use sync_plan::{ConditionRow, Conditions, Kind, Plan, Version};
 
-/// The text of a plan that its version shows in full. The error is that memory ran out.
+/// The text of a plan. The error is that memory ran out.
 pub fn write_plan(alloc: Global, plan: &Plan) -> Result<Vec<u8>, AllocError>
-    requires { spec.HasText plan.now }
+    requires { spec.HasCounts plan.now }
     ensures { IfOk result (λ text. text.items ≡ spec.plan_text plan.now) }
 {
     let mut out = Vec::new(alloc);

@@ -1,19 +1,15 @@
 use Rattle.std.proofs.Common.{◌++◌, ◌∷◌, [], ◌∙◌, ap, length, codes, arith}
-use Rattle.std.specs.List.{list_all}
-use Rattle.std.proofs.lemmas.Bool.{and_parts}
 use Rattle.std.proofs.lemmas.Bool.Decides.{nat_tests}
-use Rattle.plan_text.specs.PlanText.{alone, cert_lines, counted, head_lines, is_32, is_phase_shown, text_of, zipped}
+use Rattle.plan_text.specs.PlanText.{alone, cert_lines, counted, head_lines, text_of, zipped}
 use Rattle.plan_text.specs.Words.{loop_line, phase_line}
-use Rattle.plan_text.proofs.Written.{five_written, zipped-length}
+use Rattle.plan_text.proofs.Written.{five_written}
 use Rattle.plan_text.proofs.write.write_plan.Goals as goal
 
 pub put_phases-requires-clause-few : goal.put_phases-requires-clause-few
 put_phases-requires-clause-few c =
-    let plan = c.args.plan.now in
-    let few = (and_parts (is_32 (length (zipped plan.kinds plan.anchors))) (list_all is_phase_shown (zipped plan.kinds plan.anchors)) c.requires.phases).0 in
-    let long = zipped-length plan.kinds plan.anchors c.requires.pairs in
+    let few = c.requires.phases in
     let same = ap length c.as_slice-2.ensures in
-    grind (arith, nat_tests, few, long, same)
+    grind (arith, nat_tests, few, same)
 
 pub returns : goal.returns
 returns c =
