@@ -1,12 +1,12 @@
 -- A run that words ask for has 1 to 64 workers.
 use Rattle.std.proofs.Common.{arith, ◌≡◌, ◌≤◌, ◌∙◌, ◌&&◌, ◌+◌, ◌-◌, ◌*◌, ℕ, Bool, true, false, refl, sym, ap, subst, List, [], ◌∷◌, Option, Some, None, true≢false, codes}
-use Rattle.std.specs.Prelude.{is_some, nat_le, option_and_then, unwrap_or, if◌then◌else◌}
+use Rattle.std.specs.Prelude.{is_some, nat_le, option_and_then, option_map, unwrap_or, if◌then◌else◌}
 use Rattle.std.specs.Str.{bytes_eq}
 use Rattle.std.proofs.lemmas.Bool.{and_parts}
 use Rattle.std.proofs.lemmas.Bool.Decides.{nat_tests}
 use Rattle.clap.specs.Words.{Row, Text, first_of}
 use Rattle.command_words.specs.declared.request.PlanChoice.{PlanChoice}
-use Rattle.command_words.specs.Wanted.{IsCounted, Wanted, is_by, is_digit, plan_of, run, run_of, sequential, settings_of, verify, wanted_by, wanted_in, within, workers_of}
+use Rattle.command_words.specs.Wanted.{IsCounted, Wanted, is_by, choice_of, is_digit, make_of, planned, run, run_of, sequential, settings_of, verify, wanted_in, within, workers_of}
 
 -- where a choice gives a value, the value is of the kind that its parts are
 chosen : {X : Type 0} (P : X → Type 0) (b : Bool) (x y : X) → (b ≡ true → P x) → (if b then Some x else None) ≡ Some y → P y
@@ -37,17 +37,22 @@ workers_count (c ∷ d ∷ []) m e = perhaps_within (nat_le 49 c && (nat_le c 57
 workers_count (c ∷ d ∷ x ∷ rest) m e = absent IsCount m e
 
 run_counted : (rows : List Row) (w : Wanted) → run_of rows ≡ Some w → IsCounted w
-run_counted rows w = bound IsCounted _ (option_and_then workers_of (first_of (codes "workers") rows)) w (λ n n_is. bound IsCounted _ (option_and_then plan_of (first_of (codes "plan") rows)) w (λ p p_is.
+run_counted rows w = bound IsCounted _ (option_and_then workers_of (first_of (codes "workers") rows)) w (λ n n_is. bound IsCounted _ (choice_of (first_of (codes "plan") rows)) w (λ p p_is.
     chosen IsCounted (is_by (first_of (codes "by") rows)) (run n p (settings_of rows)) w (λ _. bound IsCount workers_of (first_of (codes "workers") rows) n (λ t t_is. workers_count t n) n_is)))
 
-in_counted : (name : Text) (rows : List Row) (w : Wanted) → wanted_in name rows ≡ Some w → IsCounted w
-in_counted name rows w = by_name (bytes_eq name (codes "seq")) (bytes_eq name (codes "run")) (bytes_eq name (codes "verify"))
+make_counted : (rows : List Row) (w : Wanted) → make_of rows ≡ Some w → IsCounted w
+make_counted rows w = mapped (option_and_then workers_of (first_of (codes "workers") rows)) refl
   where
-    by_name : (a b c : Bool) → (if a then Some (sequential (settings_of rows)) else (if b then run_of rows else (if c then Some (verify (settings_of rows)) else None))) ≡ Some w → IsCounted w
-    by_name true b c e = subst IsCounted (ap (λ o. unwrap_or o (sequential [])) e) tt
-    by_name false true c e = run_counted rows w e
-    by_name false false true e = subst IsCounted (ap (λ o. unwrap_or o (sequential [])) e) tt
-    by_name false false false e = absent IsCounted w e
+    mapped : (o : Option ℕ) → option_and_then workers_of (first_of (codes "workers") rows) ≡ o → option_map (λ n. planned n (settings_of rows)) o ≡ Some w → IsCounted w
+    mapped None o_is e = absent IsCounted w e
+    mapped (Some n) o_is e = subst IsCounted (ap (λ o. unwrap_or o (sequential [])) e) (bound IsCount workers_of (first_of (codes "workers") rows) n (λ t t_is. workers_count t n) o_is)
 
-pub wanted_counted : (sub : Option (Text × List Row)) (w : Wanted) → wanted_by sub ≡ Some w → IsCounted w
-wanted_counted sub w = bound IsCounted (λ p. wanted_in p.0 p.1) sub w (λ p p_is. in_counted p.0 p.1 w)
+pub in_counted : (name : Text) (rows : List Row) (w : Wanted) → wanted_in name rows ≡ Some w → IsCounted w
+in_counted name rows w = by_name (bytes_eq name (codes "seq")) (bytes_eq name (codes "plan")) (bytes_eq name (codes "run")) (bytes_eq name (codes "verify"))
+  where
+    by_name : (a m b c : Bool) → (if a then Some (sequential (settings_of rows)) else (if m then make_of rows else (if b then run_of rows else (if c then Some (verify (settings_of rows)) else None)))) ≡ Some w → IsCounted w
+    by_name true m b c e = subst IsCounted (ap (λ o. unwrap_or o (sequential [])) e) tt
+    by_name false true b c e = make_counted rows w e
+    by_name false false true c e = run_counted rows w e
+    by_name false false false true e = subst IsCounted (ap (λ o. unwrap_or o (sequential [])) e) tt
+    by_name false false false false e = absent IsCounted w e

@@ -1,6 +1,6 @@
 -- Each plain list of words is taken.
 use Rattle.std.proofs.Common.{◌≡◌, ◌∙◌, ◌==◌, ◌||◌, ℕ, Bool, cond, true, false, refl, sym, ap, ap₂, subst, List, [], ◌∷◌, ◌++◌, map, Option, Some, None, true≢false, append-nil, append_assoc, codes, fold}
-use Rattle.std.specs.Prelude.{⊤, not, find, is_some, option_and_then, unwrap_or}
+use Rattle.std.specs.Prelude.{⊤, not, find, is_some, option_and_then, option_map, unwrap_or}
 use Rattle.std.specs.List.{list_any, list_all}
 use Rattle.std.proofs.lemmas.Bool.{and_parts, not-true}
 use Rattle.std.proofs.lemmas.Bool.Decides.{eqb_tells, nat_tests}
@@ -23,23 +23,38 @@ use Rattle.clap.specs.Values.{reading_of}
 use Rattle.clap.specs.declared.builder.value_parser.ValueParser.TheVariants as vp
 use Rattle.clap.proofs.OnLiterals.{clap_on_literals}
 use Rattle.command_words.specs.Rule.{tool_app}
-use Rattle.command_words.specs.Wanted.{run, sequential, verify, run_of, wanted_by, workers_of, plan_of, settings_of}
+use Rattle.command_words.specs.Wanted.{planned, run, sequential, verify, run_of, make_of, wanted_by, workers_of, choice_of, settings_of}
 use Rattle.clap.specs.Walk.{walk}
 use Rattle.clap.specs.Takes.{is_given}
 use Rattle.clap.specs.Faults.{check_fault}
 use Rattle.clap.specs.Simple.{entered}
-use Rattle.command_words.specs.Plain.{Name, workers, which, how, name_text, Given, value_ok, written, names, each_once, value_of, is_setting, EveryPlainRunIsTaken, EveryPlainSequentialIsTaken, EveryPlainVerifyIsTaken}
+use Rattle.command_words.specs.Plain.{Name, workers, which, how, name_text, Given, value_ok, written, names, each_once, value_of, is_setting, EveryPlainPlanIsTaken, EveryPlainRunIsTaken, EveryPlainSequentialIsTaken, EveryPlainVerifyIsTaken}
 
 -- a command
 data Sub : Type 0 where
   of_seq : Sub
   of_verify : Sub
+  of_plan : Sub
   of_run : Sub
 
 abbrev sub_text : Sub → Text
 sub_text of_seq = codes "seq"
 sub_text of_verify = codes "verify"
+sub_text of_plan = codes "plan"
 sub_text of_run = codes "run"
+
+-- an option of a command: `plan` has the number of workers alone
+data Offered : Type 0 where
+  in_run : (a : Name) → Offered
+  in_plan : Offered
+
+abbrev sub_of : Offered → Sub
+sub_of (in_run a) = of_run
+sub_of in_plan = of_plan
+
+abbrev name_of : Offered → Name
+name_of (in_run a) = a
+name_of in_plan = workers
 
 abbrev shape : Sub → Shape
 shape c = unwrap_or (find (λ s. answers_to (sub_text c) (label_of s)) (built tool_app).subs) tool_app.top
@@ -68,17 +83,19 @@ pend (Some q) = Some (name_text q.0, q.1 ∷ [])
 abbrev row_for : Given → Row
 row_for q = record { id = name_text q.0; values = q.1 ∷ []; count = None; source = Some CommandLine; reading = reading_of vp.String }
 
-step_name : (a : Name) (R : List Row) (P : Option (Text × List Text)) → walked (rules of_run) [] (at R P idle) (45 ∷ 45 ∷ name_text a) ≡ at (settled_rows (rules of_run) P R) (Some (name_text a, [])) (option (name_text a))
+step_name : (o : Offered) (R : List Row) (P : Option (Text × List Text)) → walked (rules (sub_of o)) [] (at R P idle) (45 ∷ 45 ∷ name_text (name_of o)) ≡ at (settled_rows (rules (sub_of o)) P R) (Some (name_text (name_of o), [])) (option (name_text (name_of o)))
 unfolding clap_on_literals
-step_name workers R P = refl
-step_name which R P = refl
-step_name how R P = refl
+step_name (in_run workers) R P = refl
+step_name (in_run which) R P = refl
+step_name (in_run how) R P = refl
+step_name in_plan R P = refl
 
-step_value : (a : Name) (R : List Row) (x : ℕ) (xs : Text) → (x == 45) ≡ false → walked (rules of_run) [] (at R (Some (name_text a, [])) (option (name_text a))) (x ∷ xs) ≡ at R (Some (name_text a, (x ∷ xs) ∷ [])) idle
+step_value : (o : Offered) (R : List Row) (x : ℕ) (xs : Text) → (x == 45) ≡ false → walked (rules (sub_of o)) [] (at R (Some (name_text (name_of o), [])) (option (name_text (name_of o)))) (x ∷ xs) ≡ at R (Some (name_text (name_of o), (x ∷ xs) ∷ [])) idle
 unfolding clap_on_literals
-step_value workers R x xs h = rw h (rw h refl)
-step_value which R x xs h = rw h (rw h refl)
-step_value how R x xs h = rw h (rw h refl)
+step_value (in_run workers) R x xs h = rw h (rw h refl)
+step_value (in_run which) R x xs h = rw h (rw h refl)
+step_value (in_run how) R x xs h = rw h (rw h refl)
+step_value in_plan R x xs h = rw h (rw h refl)
 
 step_first : (c : Sub) (P : Option Given) (R : List Row) (x : ℕ) (xs : Text) → (x == 45) ≡ false → walked (rules c) [] (at R (pend P) idle) (x ∷ xs) ≡ at (settled_rows (rules c) (pend P) R) (Some (settings_id, (x ∷ xs) ∷ [])) positional
 unfolding clap_on_literals
@@ -94,12 +111,17 @@ step_first of_seq (Some (which, v)) R x xs h = rw h (rw h refl)
 step_first of_verify (Some (which, v)) R x xs h = rw h (rw h refl)
 step_first of_seq (Some (how, v)) R x xs h = rw h (rw h refl)
 step_first of_verify (Some (how, v)) R x xs h = rw h (rw h refl)
+step_first of_plan None R x xs h = rw h (rw h refl)
+step_first of_plan (Some (workers, v)) R x xs h = rw h (rw h refl)
+step_first of_plan (Some (which, v)) R x xs h = rw h (rw h refl)
+step_first of_plan (Some (how, v)) R x xs h = rw h (rw h refl)
 
 step_more : (c : Sub) (R : List Row) (acc : List Text) (x : ℕ) (xs : Text) → (x == 45) ≡ false → walked (rules c) [] (at R (Some (settings_id, acc)) positional) (x ∷ xs) ≡ at R (Some (settings_id, acc ++ (x ∷ xs) ∷ [])) positional
 unfolding clap_on_literals
 step_more of_run R acc x xs h = rw h (rw h refl)
 step_more of_seq R acc x xs h = rw h (rw h refl)
 step_more of_verify R acc x xs h = rw h (rw h refl)
+step_more of_plan R acc x xs h = rw h (rw h refl)
 
 -- ---- what an option leaves
 
@@ -156,18 +178,24 @@ fault_settle of_seq (Some (which, v)) R h = refl
 fault_settle of_verify (Some (which, v)) R h = refl
 fault_settle of_seq (Some (how, v)) R h = refl
 fault_settle of_verify (Some (how, v)) R h = refl
+fault_settle of_plan None R h = refl
+fault_settle of_plan (Some (workers, v)) R h = rw h refl
+fault_settle of_plan (Some (which, v)) R h = refl
+fault_settle of_plan (Some (how, v)) R h = refl
 
-fault_name : (a : Name) (P : Option Given) (R : List Row) → IsFresh P R → turn_fault (shape of_run) [] (at R (pend P) idle) (45 ∷ 45 ∷ name_text a) ≡ []
+fault_name : (o : Offered) (P : Option Given) (R : List Row) → IsFresh P R → turn_fault (shape (sub_of o)) [] (at R (pend P) idle) (45 ∷ 45 ∷ name_text (name_of o)) ≡ []
 unfolding clap_on_literals
-fault_name workers P R h = rw (fault_settle of_run P R h) refl
-fault_name which P R h = rw (fault_settle of_run P R h) refl
-fault_name how P R h = rw (fault_settle of_run P R h) refl
+fault_name (in_run workers) P R h = rw (fault_settle of_run P R h) refl
+fault_name (in_run which) P R h = rw (fault_settle of_run P R h) refl
+fault_name (in_run how) P R h = rw (fault_settle of_run P R h) refl
+fault_name in_plan P R h = rw (fault_settle of_plan P R h) refl
 
-fault_value : (a : Name) (R : List Row) (x : ℕ) (xs : Text) → (x == 45) ≡ false → turn_fault (shape of_run) [] (at R (Some (name_text a, [])) (option (name_text a))) (x ∷ xs) ≡ []
+fault_value : (o : Offered) (R : List Row) (x : ℕ) (xs : Text) → (x == 45) ≡ false → turn_fault (shape (sub_of o)) [] (at R (Some (name_text (name_of o), [])) (option (name_text (name_of o)))) (x ∷ xs) ≡ []
 unfolding clap_on_literals
-fault_value workers R x xs h = rw h (rw h refl)
-fault_value which R x xs h = rw h (rw h refl)
-fault_value how R x xs h = rw h (rw h refl)
+fault_value (in_run workers) R x xs h = rw h (rw h refl)
+fault_value (in_run which) R x xs h = rw h (rw h refl)
+fault_value (in_run how) R x xs h = rw h (rw h refl)
+fault_value in_plan R x xs h = rw h (rw h refl)
 
 fault_first : (c : Sub) (P : Option Given) (R : List Row) (x : ℕ) (xs : Text) → IsFresh P R → (x == 45) ≡ false → turn_fault (shape c) [] (at R (pend P) idle) (x ∷ xs) ≡ []
 unfolding clap_on_literals
@@ -183,12 +211,17 @@ fault_first of_seq (Some (which, v)) R x xs f h = rw h (rw h refl)
 fault_first of_verify (Some (which, v)) R x xs f h = rw h (rw h refl)
 fault_first of_seq (Some (how, v)) R x xs f h = rw h (rw h refl)
 fault_first of_verify (Some (how, v)) R x xs f h = rw h (rw h refl)
+fault_first of_plan None R x xs f h = rw h (rw h refl)
+fault_first of_plan (Some (workers, v)) R x xs f h = rw h (rw (h, f) refl)
+fault_first of_plan (Some (which, v)) R x xs f h = rw h (rw h refl)
+fault_first of_plan (Some (how, v)) R x xs f h = rw h (rw h refl)
 
 fault_more : (c : Sub) (R : List Row) (acc : List Text) (x : ℕ) (xs : Text) → (x == 45) ≡ false → turn_fault (shape c) [] (at R (Some (settings_id, acc)) positional) (x ∷ xs) ≡ []
 unfolding clap_on_literals
 fault_more of_run R acc x xs h = rw h (rw h refl)
 fault_more of_seq R acc x xs h = rw h (rw h refl)
 fault_more of_verify R acc x xs h = rw h (rw h refl)
+fault_more of_plan R acc x xs h = rw h (rw h refl)
 
 -- ---- the walk over options
 
@@ -244,8 +277,8 @@ go_options D P ((a, x ∷ xs) ∷ os) rest f o v =
     let D2 = D ++ list_of P in
     let seen = and_parts (not (is_among a D2)) _ o in
     let one : g of_run (at (map row_for D) (pend P) idle) (45 ∷ 45 ∷ name_text a) ≡ at (map row_for D2) (Some (name_text a, [])) (option (name_text a)) =
-    step_name a (map row_for D) (pend P) ∙ ap (λ rs. at rs (Some (name_text a, [])) (option (name_text a))) (settled_all D P f) in
-    let two = step_value a (map row_for D2) x xs st in
+    step_name (in_run a) (map row_for D) (pend P) ∙ ap (λ rs. at rs (Some (name_text a, [])) (option (name_text a))) (settled_all D P f) in
+    let two = step_value (in_run a) (map row_for D2) x xs st in
     let fresh2 : IsFresh (Some (a, x ∷ xs)) (map row_for D2) = row_among a D2 ∙ not-true (is_among a D2) seen.0 in
     let next = go_options D2 (Some (a, x ∷ xs)) os rest fresh2 seen.1 (and_parts (value_ok a (x ∷ xs)) _ v).1 in
     record {
@@ -254,7 +287,23 @@ go_options D P ((a, x ∷ xs) ∷ os) rest f o v =
       fresh = next.fresh;
       settled_is = next.settled_is ∙ ap (map row_for) (append_assoc D2 ((a, x ∷ xs) ∷ []) os);
       walk_is = ap (λ s. fold (g of_run) (g of_run s (x ∷ xs)) (written os ++ rest)) one ∙ (ap (λ s. fold (g of_run) s (written os ++ rest)) two ∙ next.walk_is);
-      faults = fault_step of_run _ _ _ _ (fault_name a P (map row_for D) f) one ∙ (fault_step of_run _ _ _ _ (fault_value a (map row_for D2) x xs st) two ∙ next.faults);
+      faults = fault_step of_run _ _ _ _ (fault_name (in_run a) P (map row_for D) f) one ∙ (fault_step of_run _ _ _ _ (fault_value (in_run a) (map row_for D2) x xs st) two ∙ next.faults);
+    }
+
+-- the one option of `plan`
+reached_plan : (v : Text) (rest : List Text) → value_ok workers v ≡ true → Reached of_plan (walk_from nothing_held) (written ((workers, v) ∷ []) ++ rest) rest ((workers, v) ∷ [])
+reached_plan [] rest ok = absurd (true≢false (sym ok ∙ not_empty workers))
+reached_plan (x ∷ xs) rest ok =
+    let st = starts workers x xs ok in
+    let one = step_name in_plan [] None in
+    let two = step_value in_plan [] x xs st in
+    record {
+      D = [];
+      P = Some (workers, x ∷ xs);
+      fresh = refl;
+      settled_is = added workers (x ∷ xs) [] refl;
+      walk_is = ap (λ s. fold (g of_plan) (g of_plan s (x ∷ xs)) rest) one ∙ ap (λ s. fold (g of_plan) s rest) two;
+      faults = fault_step of_plan _ _ _ _ (fault_name in_plan None [] tt) one ∙ fault_step of_plan _ _ _ _ (fault_value in_plan [] x xs st) two;
     }
 
 -- ---- the walk over settings
@@ -295,6 +344,7 @@ settled_settings : (c : Sub) (R : List Row) (s : Text) (ss : List Text) → has_
 settled_settings of_run R s ss h = at_none settings_id (λ r. more_values CommandLine (s ∷ ss) r) (settings_row (s ∷ ss) ∷ []) R h
 settled_settings of_seq R s ss h = at_none settings_id (λ r. more_values CommandLine (s ∷ ss) r) (settings_row (s ∷ ss) ∷ []) R h
 settled_settings of_verify R s ss h = at_none settings_id (λ r. more_values CommandLine (s ∷ ss) r) (settings_row (s ∷ ss) ∷ []) R h
+settled_settings of_plan R s ss h = at_none settings_id (λ r. more_values CommandLine (s ∷ ss) r) (settings_row (s ∷ ss) ∷ []) R h
 
 range_ok : (n : ℕ) → 1 ≤ n → n < 2 ^ 64 → range_kinds 1 usize_max n ≡ []
 range_ok n low high = grind (arith, nat_tests)
@@ -307,6 +357,7 @@ settings_settle : (c : Sub) (R : List Row) (s : Text) (ss : List Text) → lengt
 settings_settle of_run R s ss few = ap (λ k. or_else k (values_kinds false vp.String (s ∷ ss))) (range_ok (length (s ∷ ss)) (omega arith) few) ∙ all_strings (s ∷ ss)
 settings_settle of_seq R s ss few = ap (λ k. or_else k (values_kinds false vp.String (s ∷ ss))) (range_ok (length (s ∷ ss)) (omega arith) few) ∙ all_strings (s ∷ ss)
 settings_settle of_verify R s ss few = ap (λ k. or_else k (values_kinds false vp.String (s ∷ ss))) (range_ok (length (s ∷ ss)) (omega arith) few) ∙ all_strings (s ∷ ss)
+settings_settle of_plan R s ss few = ap (λ k. or_else k (values_kinds false vp.String (s ∷ ss))) (range_ok (length (s ∷ ss)) (omega arith) few) ∙ all_strings (s ∷ ss)
 
 record Ended (c : Sub) (ws : List Text) (rows : List Row) : Type 0 where
   pub held : Held
@@ -353,6 +404,7 @@ unfolding clap_on_literals
 all_empty of_run = refl
 all_empty of_seq = refl
 all_empty of_verify = refl
+all_empty of_plan = refl
 
 no_defaults : (c : Sub) (rows : List Row) → fold with_default rows (rules c) ≡ rows
 no_defaults c rows = go (rules c) (all_empty c)
@@ -426,8 +478,11 @@ has_value f (Some t) x h = refl
 
 -- ---- both levels
 
-run_check : (rows : List Row) → is_given (codes "workers") rows ≡ true → is_given (codes "plan") rows ≡ true → check_fault (shape of_run) rows false ≡ []
-run_check rows workers_given plan_given = rw (workers_given, plan_given) refl
+run_check : (rows : List Row) → is_given (codes "workers") rows ≡ true → check_fault (shape of_run) rows false ≡ []
+run_check rows workers_given = rw workers_given refl
+
+plan_check : (rows : List Row) → is_given (codes "workers") rows ≡ true → check_fault (shape of_plan) rows false ≡ []
+plan_check rows workers_given = rw workers_given refl
 
 sub_fault : (c : Sub) (ws : List Text) (rows : List Row) → Ended c ws rows → check_fault (shape c) rows false ≡ [] → level_fault (shape c) [] nothing_held ws false [] ≡ []
 sub_fault c ws rows e h =
@@ -442,6 +497,7 @@ sub_fault c ws rows e h =
     never_overrides of_run = refl
     never_overrides of_seq = refl
     never_overrides of_verify = refl
+    never_overrides of_plan = refl
 
 abbrev top : App
 top = built tool_app
@@ -464,12 +520,14 @@ unfolding clap_on_literals
 enters of_run = refl
 enters of_seq = refl
 enters of_verify = refl
+enters of_plan = refl
 
 enter_fault : (c : Sub) → turn_fault top.top (names_of top) (walk_from nothing_held) (sub_text c) ≡ []
 unfolding clap_on_literals
 enter_fault of_run = refl
 enter_fault of_seq = refl
 enter_fault of_verify = refl
+enter_fault of_plan = refl
 
 top_walk : (c : Sub) (ws : List Text) → walk top.top.rules (names_of top) nothing_held (sub_text c ∷ ws) ≡ stopped_at c ws
 top_walk c ws = ap (λ s. fold (walked top.top.rules (names_of top)) s ws) (enters c) ∙ stop_more c [] ws
@@ -502,6 +560,10 @@ taken of_verify ws rows e check = (
   ap₂ whole_fault (top_fault of_verify ws) (top_walk of_verify ws) ∙ rest_fault _ (sub_fault of_verify ws rows e check),
   ap (λ (w : Walk). entered top w.stopped) (top_walk of_verify ws) ∙ ap (λ rs. Some (codes "verify", rs)) (ap (finished (rules of_verify)) e.walk_is ∙ (no_defaults of_verify (settled (rules of_verify) e.held).rows ∙ e.rows_is)),
 )
+taken of_plan ws rows e check = (
+  ap₂ whole_fault (top_fault of_plan ws) (top_walk of_plan ws) ∙ rest_fault _ (sub_fault of_plan ws rows e check),
+  ap (λ (w : Walk). entered top w.stopped) (top_walk of_plan ws) ∙ ap (λ rs. Some (codes "plan", rs)) (ap (finished (rules of_plan)) e.walk_is ∙ (no_defaults of_plan (settled (rules of_plan) e.held).rows ∙ e.rows_is)),
+)
 
 pub every_plain_run : EveryPlainRunIsTaken
 every_plain_run os ss n p h =
@@ -509,8 +571,7 @@ every_plain_run os ss n p h =
     let rows = map row_for os ++ tail_rows ss in
     let e = ended of_run ws ss os (go_options [] None os ss tt h.once h.values) h.settings_ok h.few in
     let workers_given = given_is workers os ss ∙ has_value workers_of (value_of workers os) n h.workers_is in
-    let plan_given = given_is which os ss ∙ has_value plan_of (value_of which os) p h.plan_is in
-    let found = taken of_run ws rows e (run_check rows workers_given plan_given) in
+    let found = taken of_run ws rows e (run_check rows workers_given) in
     let run_is : run_of rows ≡ Some (run n p ss) = rw (first_is workers os ss, first_is which os ss, first_is how os ss, settings_are os ss, h.workers_is, h.plan_is, h.by_is) refl in
     (found.0, ap wanted_by found.1 ∙ run_is)
 
@@ -518,6 +579,7 @@ every_plain_run os ss n p h =
 settings_alone : (c : Sub) → (ss : List Text) → Reached c (walk_from nothing_held) ss ss []
 settings_alone of_seq ss = record { D = []; P = None; fresh = tt; settled_is = refl; walk_is = refl; faults = refl }
 settings_alone of_verify ss = record { D = []; P = None; fresh = tt; settled_is = refl; walk_is = refl; faults = refl }
+settings_alone of_plan ss = record { D = []; P = None; fresh = tt; settled_is = refl; walk_is = refl; faults = refl }
 settings_alone of_run ss = record { D = []; P = None; fresh = tt; settled_is = refl; walk_is = refl; faults = refl }
 
 pub every_plain_sequential : EveryPlainSequentialIsTaken
@@ -529,3 +591,12 @@ pub every_plain_verify : EveryPlainVerifyIsTaken
 every_plain_verify ss good few =
     let found = taken of_verify ss (tail_rows ss) (ended of_verify ss ss [] (settings_alone of_verify ss) good few) refl in
     (found.0, ap wanted_by found.1 ∙ ap (λ ts. Some (verify ts)) (settings_are [] ss))
+
+pub every_plain_plan : EveryPlainPlanIsTaken
+every_plain_plan number ss n n_is good few =
+    let os : List Given = (workers, number) ∷ [] in
+    let rows = map row_for os ++ tail_rows ss in
+    let e = ended of_plan (written os ++ ss) ss os (reached_plan number ss (ap is_some n_is)) good few in
+    let found = taken of_plan (written os ++ ss) rows e (plan_check rows (given_is workers os ss)) in
+    let plan_is : make_of rows ≡ Some (planned n ss) = ap (option_map (λ m. planned m (settings_of rows))) n_is ∙ ap (λ ts. Some (planned n ts)) (settings_are os ss) in
+    (found.0, ap wanted_by found.1 ∙ plan_is)

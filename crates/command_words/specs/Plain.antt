@@ -4,7 +4,7 @@ use Rattle.std.specs.List.{list_any, list_all}
 use Rattle.std.specs.Str.{bytes_eq}
 use Rattle.clap.specs.Words.{Text}
 use Rattle.command_words.specs.declared.request.PlanChoice.{PlanChoice}
-use Rattle.command_words.specs.Wanted.{Takes, run, sequential, verify, workers_of, plan_of, is_by}
+use Rattle.command_words.specs.Wanted.{Takes, planned, run, sequential, verify, workers_of, plan_of, choice_of, is_by}
 
 -- the options of `run`
 pub data Name : Type 0 where
@@ -52,7 +52,7 @@ pub record IsPlainRun (os : List Given) (settings : List Text) (n : ℕ) (p : Pl
   pub values : list_all (λ o. value_ok o.0 o.1) os ≡ true
   pub settings_ok : list_all is_setting settings ≡ true
   pub workers_is : option_and_then workers_of (value_of workers os) ≡ Some n
-  pub plan_is : option_and_then plan_of (value_of which os) ≡ Some p
+  pub plan_is : choice_of (value_of which os) ≡ Some p
   pub by_is : is_by (value_of how os) ≡ true
   pub few : length settings < 2 ^ 64
 
@@ -67,3 +67,7 @@ EveryPlainSequentialIsTaken = (settings : List Text) → list_all is_setting set
 abbrev pub EveryPlainVerifyIsTaken : Type 0
 EveryPlainVerifyIsTaken = (settings : List Text) → list_all is_setting settings ≡ true → length settings < 2 ^ 64
     → Takes (codes "verify" ∷ settings) (verify settings)
+
+abbrev pub EveryPlainPlanIsTaken : Type 0
+EveryPlainPlanIsTaken = (number : Text) (settings : List Text) (n : ℕ) → workers_of number ≡ Some n → list_all is_setting settings ≡ true → length settings < 2 ^ 64
+    → Takes (codes "plan" ∷ codes "--workers" ∷ number ∷ settings) (planned n settings)

@@ -24,9 +24,12 @@ seq_app = with_rule (new_app (codes "seq")) settings_rule
 abbrev pub verify_app : App
 verify_app = with_rule (new_app (codes "verify")) settings_rule
 
+abbrev pub plan_app : App
+plan_app = with_rule (with_rule (new_app (codes "plan")) (required_rule (codes "workers"))) settings_rule
+
 abbrev pub run_app : App
 run_app = with_rule (with_rule (with_rule (with_rule (new_app (codes "run")) (required_rule (codes "workers")))
-    (required_rule (codes "plan"))) (option_rule (codes "by"))) settings_rule
+    (option_rule (codes "plan"))) (option_rule (codes "by"))) settings_rule
 
 abbrev pub top_shape : Shape
 top_shape = record (new_app (codes "seagrynt")).top {
@@ -37,4 +40,4 @@ top_shape = record (new_app (codes "seagrynt")).top {
 }
 
 abbrev pub tool_app : App
-tool_app = with_subcommand (with_subcommand (with_subcommand (record { top = top_shape; subs = [] }) seq_app.top) run_app.top) verify_app.top
+tool_app = with_subcommand (with_subcommand (with_subcommand (with_subcommand (record { top = top_shape; subs = [] }) seq_app.top) plan_app.top) run_app.top) verify_app.top

@@ -1,9 +1,9 @@
 // The commands that are offered, with what their help says.
 
-ghost use Rattle.std.specs.Prelude.{◌≡◌, [], IfOk, false};
+ghost use Rattle.std.specs.Prelude.{◌≡◌, [], IfOk, codes, false};
 ghost use Rattle.clap.specs.Words.{app_of, rule_of};
 ghost use Rattle.clap.specs.declared.builder.command.Command.TheViews.{out-Command};
-ghost use Rattle.command_words.specs.Rule.{option_rule, top_shape, required_rule, settings_rule, seq_app, verify_app, run_app, tool_app};
+ghost use Rattle.command_words.specs.Rule.{option_rule, top_shape, required_rule, settings_rule, seq_app, plan_app, verify_app, run_app, tool_app};
 
 use clap::{Arg, Command};
 use std::alloc::{AllocError, Global};
@@ -29,14 +29,6 @@ fn option<'a>(alloc: Global, name: &'a str, value: &'a str, help: &'a str) -> Ar
         .help(help)
 }
 
-// An option with one value that must stand.
-fn required<'a>(alloc: Global, name: &'a str, value: &'a str, help: &'a str) -> Arg<'a>
-    ensures rule { rule_of result ≡ required_rule name.entry.now }
-    ensures local { result.global ≡ false }
-{
-    option(alloc, name, value, help).required(true)
-}
-
 fn seq<'a>(alloc: Global) -> Result<Command<'a>, AllocError>
     ensures app { IfOk result (λ c. app_of c ≡ seq_app) }
     ensures local { IfOk result (λ c. (out-Command c).has_globals ≡ false) }
@@ -55,16 +47,34 @@ fn verify<'a>(alloc: Global) -> Result<Command<'a>, AllocError>
     ))
 }
 
+fn workers<'a>(alloc: Global) -> Arg<'a>
+    ensures rule { rule_of result ≡ required_rule (codes "workers") }
+    ensures local { result.global ≡ false }
+{
+    option(alloc, "workers", "P", "How many processors: 1 to 64").required(true)
+}
+
+fn plan<'a>(alloc: Global) -> Result<Command<'a>, AllocError>
+    ensures app { IfOk result (λ c. app_of c ≡ plan_app) }
+    ensures local { IfOk result (λ c. (out-Command c).has_globals ≡ false) }
+{
+    let command = Command::new(alloc, "plan")
+        .arg(workers(alloc))?
+        .arg(settings(alloc))?;
+    Ok(command.about(
+        "Makes a plan and writes it, then why each loop that it does not split and each cheaper kind of wait was not taken",
+    ))
+}
+
 fn run<'a>(alloc: Global) -> Result<Command<'a>, AllocError>
     ensures app { IfOk result (λ c. app_of c ≡ run_app) }
     ensures local { IfOk result (λ c. (out-Command c).has_globals ≡ false) }
 {
-    let workers = required(alloc, "workers", "P", "How many processors: 1 to 64");
-    let plan = required(
+    let plan = option(
         alloc,
         "plan",
         "PLAN",
-        "barrier: a barrier in front of each phase; given: the plan behind the source's END line",
+        "made, where left out too: the plan that `plan` writes; barrier: the same with a barrier in front of each phase; given: the plan behind the source's END line",
     );
     let by = option(
         alloc,
@@ -73,7 +83,7 @@ fn run<'a>(alloc: Global) -> Result<Command<'a>, AllocError>
         "core, where left out too: a model of the processors",
     );
     let command = Command::new(alloc, "run")
-        .arg(workers)?
+        .arg(workers(alloc))?
         .arg(plan)?
         .arg(by)?
         .arg(settings(alloc))?;
@@ -97,12 +107,13 @@ fn top<'a>(alloc: Global) -> Result<Command<'a>, AllocError>
     )
 }
 
-/// The tool's command: `seq`, `run` and `verify`.
+/// The tool's command: `seq`, `plan`, `run` and `verify`.
 pub fn tool<'a>(alloc: Global) -> Result<Command<'a>, AllocError>
     ensures { IfOk result (λ c. app_of c ≡ tool_app) }
 {
     top(alloc)?
         .subcommand(seq(alloc)?)?
+        .subcommand(plan(alloc)?)?
         .subcommand(run(alloc)?)?
         .subcommand(verify(alloc)?)
 }

@@ -4,7 +4,7 @@ ghost use Rattle.std.specs.Prelude.{◌≡◌, ℕ, Bool, [], Some, None, map, I
 ghost use Rattle.std.specs.Str.{bytes_eq};
 ghost use Rattle.clap.specs.Words.{first_of, rows_of, found_of, kind_of, subcommand_rows_of, fault_of};
 ghost use Rattle.clap.specs.Walk.{texts};
-ghost use Rattle.command_words.specs.Wanted.{wanted, wanted_by, wanted_in, run_of, workers_of, plan_of, is_by, settings_of, IsCounted, Takes, within as within_of};
+ghost use Rattle.command_words.specs.Wanted.{wanted, wanted_by, wanted_in, make_of, run_of, workers_of, plan_of, choice_of, is_by, settings_of, IsCounted, Takes, within as within_of};
 ghost use Rattle.command_words.specs.Refusals.{IsRefused, IsValueFault, refusal_of};
 
 use crate::commands;
@@ -60,6 +60,8 @@ fn request_in<'a>(alloc: Global, name: &str, inner: &ArgMatches<'a>) -> Result<R
     let settings = settings(alloc, inner)?;
     if says(name, "seq") {
         Ok(Request::Sequential(settings))
+    } else if says(name, "plan") {
+        plan(inner, settings).ok_or(Refused::Faulty)
     } else if says(name, "run") {
         run(inner, settings).ok_or(Refused::Faulty)
     } else if says(name, "verify") {
@@ -69,12 +71,20 @@ fn request_in<'a>(alloc: Global, name: &str, inner: &ArgMatches<'a>) -> Result<R
     }
 }
 
+fn plan<'a>(inner: &ArgMatches<'a>, settings: Vec<&'a str>) -> Option<Request<'a>>
+    requires { texts settings.items ≡ settings_of (rows_of (found_of inner.now)) }
+    ensures { option_map wanted result ≡ make_of (rows_of (found_of inner.now)) }
+{
+    let workers = workers_in(text(inner, "workers")?)?;
+    Some(Request::Plan(workers, settings))
+}
+
 fn run<'a>(inner: &ArgMatches<'a>, settings: Vec<&'a str>) -> Option<Request<'a>>
     requires { texts settings.items ≡ settings_of (rows_of (found_of inner.now)) }
     ensures { option_map wanted result ≡ run_of (rows_of (found_of inner.now)) }
 {
     let workers = workers_in(text(inner, "workers")?)?;
-    let plan = plan_in(text(inner, "plan")?)?;
+    let plan = plan_in(text(inner, "plan"))?;
     if is_core(text(inner, "by")) {
         Some(Request::Run(workers, plan, settings))
     } else {
@@ -122,10 +132,21 @@ fn within(n: u32) -> Option<u32>
     if 1 <= n && n <= 64 { Some(n) } else { None }
 }
 
-fn plan_in(word: &str) -> Option<PlanChoice>
+fn plan_in(word: Option<&str>) -> Option<PlanChoice>
+    ensures { result ≡ choice_of (option_map (λ s. s.now) word.entry) }
+{
+    match word {
+        None => Some(PlanChoice::Made),
+        Some(word) => plan_named(word),
+    }
+}
+
+fn plan_named(word: &str) -> Option<PlanChoice>
     ensures { result ≡ plan_of word.now }
 {
-    if says(word, "barrier") {
+    if says(word, "made") {
+        Some(PlanChoice::Made)
+    } else if says(word, "barrier") {
         Some(PlanChoice::Barrier)
     } else if says(word, "given") {
         Some(PlanChoice::Given)

@@ -9,6 +9,8 @@ use std::alloc::AllocError;
 /// The plan by which a program is run.
 #[derive(Clone, Copy, Debug, PartialEq, Eq)]
 pub enum PlanChoice {
+    /// The plan that is made: each barrier kept has its reason.
+    Made,
     /// A barrier in front of each phase.
     Barrier,
     /// The plan whose text stands behind the END line of the source.
@@ -22,6 +24,8 @@ pub enum Request<'a> {
     Sequential(Vec<&'a str>),
     /// `verify`: say whether the plan behind the END line of the source is accepted.
     Verify(Vec<&'a str>),
+    /// `plan`: write the plan that is made for this many processors, 1 to 64, and the reasons for what it keeps.
+    Plan(u32, Vec<&'a str>),
     /// `run`: write the plan for this many processors, 1 to 64, then run the program by it and write its output.
     Run(u32, PlanChoice, Vec<&'a str>),
 }

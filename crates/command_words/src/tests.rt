@@ -33,6 +33,10 @@ fn show_request(out: &mut String, request: &Request) -> Result<(), AllocError> {
             write!(out, "verify")?;
             show(out, settings)
         }
+        Request::Plan(workers, settings) => {
+            write!(out, "plan {workers}")?;
+            show(out, settings)
+        }
         Request::Run(workers, plan, settings) => {
             write!(out, "run {workers} {}", name_of(*plan))?;
             show(out, settings)
@@ -42,6 +46,7 @@ fn show_request(out: &mut String, request: &Request) -> Result<(), AllocError> {
 
 fn name_of(plan: PlanChoice) -> &'static str {
     match plan {
+        PlanChoice::Made => "made",
         PlanChoice::Barrier => "barrier",
         PlanChoice::Given => "given",
     }
@@ -56,7 +61,7 @@ fn show(out: &mut String, settings: &[&str]) -> Result<(), AllocError> {
 
 #[test]
 fn reads_words(rt: HostRuntime) -> Result<(), Fail> {
-    let lists: [(&[&str], &str); 17] = [
+    let lists: [(&[&str], &str); 23] = [
         (&["seq"], "seq"),
         (&["seq", "N=5", "M=-1"], "seq N=5 M=-1"),
         (
@@ -90,7 +95,16 @@ fn reads_words(rt: HostRuntime) -> Result<(), Fail> {
         (&[], "faulty"),
         (&["run", "--workers", "65", "--plan", "barrier"], "faulty"),
         (&["run", "--workers", "02", "--plan", "barrier"], "faulty"),
-        (&["run", "--workers", "2"], "faulty"),
+        (&["run", "--workers", "2"], "run 2 made"),
+        (
+            &["run", "--plan", "made", "--workers", "64", "N=5"],
+            "run 64 made N=5",
+        ),
+        (&["run", "--plan", "made"], "faulty"),
+        (&["plan", "--workers", "3", "n=5"], "plan 3 n=5"),
+        (&["plan", "-h"], "shown"),
+        (&["plan", "N=5"], "faulty"),
+        (&["plan", "--workers", "2", "--by", "core"], "faulty"),
         (
             &[
                 "run",

@@ -5,8 +5,8 @@ use Rattle.command_words.proofs.commands.run.Goals as goal
 
 pub returns-clause-app : goal.returns-clause-app
 returns-clause-app c =
-    let one = c.in_ok-arg.ensures.shape c.required-workers.ensures.local ∙ ap₂ with_rule c.new.ensures.app c.required-workers.ensures.rule in
-    let two = c.in_ok-arg-2.ensures.shape c.required-plan.ensures.local ∙ ap₂ with_rule one c.required-plan.ensures.rule in
+    let one = c.in_ok-arg.ensures.shape c.workers.ensures.local ∙ ap₂ with_rule c.new.ensures.app c.workers.ensures.rule in
+    let two = c.in_ok-arg-2.ensures.shape c.option-plan.ensures.local ∙ ap₂ with_rule one c.option-plan.ensures.rule in
     let three = c.in_ok-arg-3.ensures.shape c.option-by.ensures.local ∙ ap₂ with_rule two c.option-by.ensures.rule in
     ap app_of_fields c.about.ensures ∙ (c.in_ok-command.ensures.shape c.settings.ensures.local ∙ ap₂ with_rule three c.settings.ensures.rule)
 

@@ -10,6 +10,10 @@ pub returns-clause-help_of_run : goal.returns-clause-help_of_run
 unfolding clap_on_literals
 returns-clause-help_of_run c = refl
 
+pub returns-clause-help_of_plan : goal.returns-clause-help_of_plan
+unfolding clap_on_literals
+returns-clause-help_of_plan c = refl
+
 pub returns-clause-version : goal.returns-clause-version
 unfolding clap_on_literals
 returns-clause-version c = refl

@@ -1,5 +1,8 @@
-use Rattle.command_words.proofs.PlainWords.{every_plain_run, every_plain_sequential, every_plain_verify}
+use Rattle.command_words.proofs.PlainWords.{every_plain_plan, every_plain_run, every_plain_sequential, every_plain_verify}
 use Rattle.command_words.proofs.laws.plain_words_are_taken.Goals as goal
+
+pub returns-clause-plan : goal.returns-clause-plan
+returns-clause-plan c = every_plain_plan
 
 pub returns-clause-run : goal.returns-clause-run
 returns-clause-run c = every_plain_run

@@ -1,6 +1,6 @@
 use Rattle.std.proofs.Common.{◌∙◌, ap, true}
 use Rattle.clap.specs.Words.{Rule, rule_of}
-use Rattle.command_words.proofs.commands.required.Goals as goal
+use Rattle.command_words.proofs.commands.workers.Goals as goal
 
 pub returns-clause-rule : goal.returns-clause-rule
 returns-clause-rule c = ap rule_of c.required.ensures ∙ ap (λ (r : Rule). record r { required = true }) c.option.ensures.rule
