@@ -10,7 +10,7 @@ use Rattle.std.proofs.lemmas.Option.{slice_get-get_or, slice_get_within}
 use Rattle.farkas_cert.specs.declared.certificate.Certificate.{Certificate}
 use Rattle.nest_tree.specs.Tree.{Head, Tree}
 use Rattle.nest_tree.specs.WellFormed.{loops_of}
-use Rattle.nest_rows.proofs.Nesting.{all-weaker}
+use Rattle.nest_rows.proofs.Nesting.{all-append, all-weaker}
 use Rattle.owner_partition.specs.declared.anchor.Anchor.{Anchor}
 use Rattle.owner_partition.specs.declared.cut.Mark.{Mark}
 use Rattle.owner_partition.specs.Marks.{enters_outer}
@@ -29,7 +29,8 @@ use Rattle.comm_system.proofs.Zips.{same_among, stop_at}
 use Rattle.plan_checker.specs.Accepted.{AreCertified, IsAccepted}
 use Rattle.plan_checker.specs.Barriers.{doall_obligations}
 use Rattle.plan_checker.proofs.Certified.{fit_shape}
-use Rattle.plan_checker.proofs.Given.{field_right}
+use Rattle.comm_system.proofs.ShapeParts.{shaped}
+use Rattle.sync_plan.proofs.KindBits.{or_left_true, or_right_true}
 
 -- ---- lists of which nothing is made
 
@@ -49,23 +50,11 @@ in_range : (P : ℕ → Type 0) (a n : ℕ) → ((k : ℕ) → a ≤ k → k < a
 in_range P a zero h = tt
 in_range P a (suc n) h = (h a (omega arith) (omega arith), in_range P (a + 1) n (λ k low high. h k (omega (arith, low)) (omega (arith, high))))
 
-both_all : {X : Type 0} (P : X → Type 0) (xs ys : List X) → AllByRecursion P xs → AllByRecursion P ys → AllByRecursion P (xs ++ ys)
-both_all P [] ys a b = b
-both_all P (x ∷ xs) ys a b = (a.0, both_all P xs ys a.1 b)
-
 mapped_all : {X Y : Type 0} (P : Y → Type 0) (f : X → Y) (xs : List X) → AllByRecursion (λ x. P (f x)) xs → AllByRecursion P (map f xs)
 mapped_all P f [] all = tt
 mapped_all P f (x ∷ xs) all = (all.0, mapped_all P f xs all.1)
 
 -- ---- the boundary in front of the second phase is certain
-
-or_right : (a b : Bool) → b ≡ true → (a || b) ≡ true
-or_right true b h = refl
-or_right false b h = h
-
-or_left : (a b : Bool) → a ≡ true → (a || b) ≡ true
-or_left true b h = refl
-or_left false b h = absurd cc
 
 whole_prefix : (heads : List Head) → is_prefix heads heads ≡ true
 whole_prefix [] = refl
@@ -89,11 +78,11 @@ some_there p test side u zero n (y ∷ phases) x is at passes barrier =
     let rest = boundaries_where test side (suc u) phases in
     let here : test u y.outer ≡ true = subst (λ m. test m y.outer ≡ true) number (subst (λ (z : StaticPhase). test n z.outer ≡ true) (sym same) passes) in
     ap (λ b. list_any p (if b then record { phase = u; side = side } ∷ rest else rest)) here
-    ∙ or_left (p (record { phase = u; side = side })) (list_any p rest) (subst (λ m. p (record { phase = m; side = side }) ≡ true) number barrier)
+    ∙ or_left_true (p (record { phase = u; side = side })) (list_any p rest) (subst (λ m. p (record { phase = m; side = side }) ≡ true) number barrier)
 some_there p test side u (suc k) n (y ∷ phases) x is at passes barrier = by (test u y.outer) (some_there p test side (suc u) k n phases x (omega (arith, is)) at passes barrier)
   where
     by : (b : Bool) → list_any p (boundaries_where test side (suc u) phases) ≡ true → list_any p (if b then record { phase = u; side = side } ∷ boundaries_where test side (suc u) phases else boundaries_where test side (suc u) phases) ≡ true
-    by true later = or_right (p (record { phase = u; side = side })) (list_any p (boundaries_where test side (suc u) phases)) later
+    by true later = or_right_true (p (record { phase = u; side = side })) (list_any p (boundaries_where test side (suc u) phases)) later
     by false later = later
 
 -- of a slot, at a level that it may have
@@ -101,7 +90,7 @@ abbrev IsLevel : ℕ → ℕ → ℕ → ℕ → Type 0
 IsLevel loops s t level = ((level ≡ 0) × (s < t)) ⊎ ((1 ≤ level) × (level ≤ loops))
 
 levels_are : (loops s t : ℕ) → AllByRecursion (IsLevel loops s t) (levels loops s t)
-levels_are loops s t = both_all (IsLevel loops s t) (range_with_len 1 loops) (if nat_lt s t then 0 ∷ [] else []) (in_range (IsLevel loops s t) 1 loops (λ k low high. inr (low, omega (arith, high)))) (by (nat_lt s t) refl)
+levels_are loops s t = all-append (IsLevel loops s t) (range_with_len 1 loops) (if nat_lt s t then 0 ∷ [] else []) (in_range (IsLevel loops s t) 1 loops (λ k low high. inr (low, omega (arith, high)))) (by (nat_lt s t) refl)
   where
     by : (b : Bool) → nat_lt s t ≡ b → AllByRecursion (IsLevel loops s t) (if b then 0 ∷ [] else [])
     by true less = (inl (refl, grind (arith, nat_tests)), tt)
@@ -118,10 +107,10 @@ module _ (p : Boundary → Bool) (phases : List StaticPhase) (s : ℕ) (first : 
   until = grind (arith, nat_tests)
 
   on_first : is_behind_first first.outer s t level t second.outer ≡ true → (list_any p firsts || list_any p seconds) ≡ true
-  on_first passes = or_left (list_any p firsts) (list_any p seconds) (some_there p (is_behind_first first.outer s t level) of_first 1 (t - 1) t phases second (omega (arith, low)) at passes (barrier of_first))
+  on_first passes = or_left_true (list_any p firsts) (list_any p seconds) (some_there p (is_behind_first first.outer s t level) of_first 1 (t - 1) t phases second (omega (arith, low)) at passes (barrier of_first))
 
   on_second : is_before_second first.outer second.outer s t level t second.outer ≡ true → (list_any p firsts || list_any p seconds) ≡ true
-  on_second passes = or_right (list_any p firsts) (list_any p seconds) (some_there p (is_before_second first.outer second.outer s t level) of_second 1 (t - 1) t phases second (omega (arith, low)) at passes (barrier of_second))
+  on_second passes = or_right_true (list_any p firsts) (list_any p seconds) (some_there p (is_before_second first.outer second.outer s t level) of_second 1 (t - 1) t phases second (omega (arith, low)) at passes (barrier of_second))
 
   plain : level ≡ 0 → nat_lt s t ≡ true → (b : Bool) → is_prefix second.outer first.outer ≡ b → (list_any p firsts || list_any p seconds) ≡ true
   plain is less true prefix =
@@ -189,21 +178,11 @@ module _ (tree : Tree) (plan : Plan) (phases : List StaticPhase) (barriers : (k 
 
 -- ---- plans with a barrier in front of each phase
 
--- as many anchors as static phases
-as_many_anchors : (tree : Tree) (plan : Plan) → wrong_field tree plan ≡ None → length plan.anchors ≡ length (static_phases tree plan.cut)
-as_many_anchors tree plan none =
-    let text = static_phases tree plan.cut in
-    let workers = field_right (nat_le 1 plan.workers && nat_le plan.workers 64) 1 _ none in
-    let marks = field_right (length plan.cut == loops_of tree.items) 2 _ workers.1 in
-    let marked = field_right (are_marked_well plan.cut false tree.items) 3 _ marks.1 in
-    let counts = field_right (length plan.anchors == length text && length plan.kinds == length text) 4 _ marked.1 in
-    eqb-true (length plan.anchors) (length text) (and_parts (length plan.anchors == length text) (length plan.kinds == length text) counts.0).0
-
 barriers_there : (tree : Tree) (plan : Plan) → plan.kinds ≡ replicate (length plan.anchors) Barrier → wrong_field tree plan ≡ None → (k : ℕ) (x : StaticPhase) → slice_get (phases_of tree plan.cut) k ≡ Some x → slice_get plan.kinds k ≡ Some Barrier
 barriers_there tree plan kinds fits k x at =
     let stop = stop_at (static_phases tree plan.cut) (phases_of tree plan.cut) k x (same_among (enters_outer plan.cut) [] [] tree.items (λ n h. h)) at in
     let within = slice_get_within (static_phases tree plan.cut) k stop.0 stop.1 in
-    let many = as_many_anchors tree plan fits in
+    let many = (shaped tree plan fits).many_anchors in
     let long = length-replicate (length plan.anchors) Barrier in
     ap (λ ks. slice_get ks k) kinds
     ∙ slice_get-get_or (replicate (length plan.anchors) Barrier) k Barrier (omega (arith, within, many, long))

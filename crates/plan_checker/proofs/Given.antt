@@ -26,6 +26,7 @@ use Rattle.sync_plan.specs.declared.plan.Version.{Version}
 use Rattle.sync_plan.specs.declared.plan.Version.TheVariants.{Three}
 use Rattle.sync_plan.specs.Shape.{are_good_anchors, are_good_conditions, are_good_kinds, are_marked_well, has_places, has_rows, is_doall, is_good_anchor, is_good_kind, is_good_row, mark_of, own_loops, static_phases, wrong_field}
 use Rattle.plan_checker.specs.Named.{are_given_anchors, are_given_kinds, is_given_kind}
+use Rattle.comm_system.proofs.ShapeParts.{shaped}
 
 abbrev all_within : ℕ → List ℕ → Bool
 all_within n around = list_all (λ l. nat_le l n) around
@@ -111,11 +112,6 @@ conditions_three : (constants : ℕ) (version : Version) (conditions : Condition
 conditions_three constants version Values good = refl
 conditions_three constants version (Rows rows) good = (and_parts (has_rows version) (list_all (is_good_row constants) rows) good).1
 
--- a field that isn't wrong
-pub field_right : (b : Bool) (n : ℕ) (rest : Option ℕ) → (if not b then Some n else rest) ≡ None → (b ≡ true) × (rest ≡ None)
-field_right true n rest e = (refl, e)
-field_right false n rest e = absurd (cc)
-
 -- what a plan of a fitting shape has
 pub record ShapeParts (tree : Tree) (plan : Plan) : Type 0 where
   pub anchors : length plan.anchors ≡ length (static_phases tree plan.cut)
@@ -129,23 +125,14 @@ shape_parts tree plan formed none =
     let text = static_phases tree plan.cut in
     let n = loops_of tree.items in
     let constants = length tree.params in
-    let workers = field_right (nat_le 1 plan.workers && nat_le plan.workers 64) 1 _ none in
-    let marks = field_right (length plan.cut == loops_of tree.items) 2 _ workers.1 in
-    let marked = field_right (are_marked_well plan.cut false tree.items) 3 _ marks.1 in
-    let counts = field_right (length plan.anchors == length text && length plan.kinds == length text) 4 _ marked.1 in
-    let anchors = field_right (are_good_anchors constants plan.cut text plan.anchors) 5 _ counts.1 in
-    let kinds = field_right (are_good_kinds constants text plan.kinds) 6 _ anchors.1 in
-    let conditions = field_right (are_good_conditions constants plan.version plan.conditions) 8 _ kinds.1 in
-    let as_many = and_parts (length plan.anchors == length text) (length plan.kinds == length text) counts.0 in
-    let many_anchors = eqb-true (length plan.anchors) (length text) as_many.0 in
-    let many_kinds = eqb-true (length plan.kinds) (length text) as_many.1 in
+    let fits = shaped tree plan none in
     let within = text_within tree plan.cut formed in
     record {
-      anchors = many_anchors;
-      kinds = many_kinds;
-      given_anchors = anchors_given n constants plan.cut text plan.anchors within anchors.0 many_anchors;
-      given_kinds = kinds_given n constants text plan.kinds within kinds.0 many_kinds;
-      conditions = conditions_three constants plan.version plan.conditions conditions.0;
+      anchors = fits.many_anchors;
+      kinds = fits.many_kinds;
+      given_anchors = anchors_given n constants plan.cut text plan.anchors within fits.good_anchors fits.many_anchors;
+      given_kinds = kinds_given n constants text plan.kinds within fits.good_kinds fits.many_kinds;
+      conditions = conditions_three constants plan.version plan.conditions fits.conditions;
     }
 
 -- numbers of so many things are within so many

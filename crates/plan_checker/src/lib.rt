@@ -5,7 +5,8 @@
 //! - [`accept`]: whether a plan is accepted for a program.
 //! - [`laws`]: a plan is accepted exactly where it has no failure, and accepted plans are ordered.
 //! - `certificates`: certificates, each against its obligation, side by side.
-//! - `shape`, `marks`, `anchors`, `conditions`: the fields of its shape.
+//! - [`marks`]: the marks of loops.
+//! - `shape`, `anchors`, `conditions`: the fields of its shape.
 //! - `places`: where its anchors lie, and who prints.
 #![tactic(auto)]
 
@@ -15,7 +16,7 @@ mod certificates;
 mod conditions;
 pub mod fit;
 pub mod laws;
-mod marks;
+pub mod marks;
 mod places;
 pub mod refusal;
 mod shape;

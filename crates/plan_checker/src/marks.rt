@@ -1,4 +1,4 @@
-// Which marks a program's loops may have.
+// The marks of loops, and which marks a program's loops may have.
 
 ghost use Rattle.std.specs.Prelude.{◌≡◌, ◌<◌, ◌^◌, ◌||◌};
 ghost use Rattle.nest_tree.specs.View.{statement_of, statements_from};
@@ -34,7 +34,7 @@ fn loops_in_item(item: &Item) -> usize
 }
 
 /// The mark of the loop with this number, from 1; a loop without one counts as Inner.
-pub(crate) fn mark_of(marks: &[Mark], number: u32) -> Mark
+pub fn mark_of(marks: &[Mark], number: u32) -> Mark
     ensures { result ≡ mark_of marks.now number }
 {
     let place = (number as usize).saturating_sub(1);
@@ -46,7 +46,7 @@ pub(crate) fn mark_of(marks: &[Mark], number: u32) -> Mark
 }
 
 /// Whether a loop with this mark is a Doall loop.
-pub(crate) fn is_doall(mark: Mark) -> bool
+pub fn is_doall(mark: Mark) -> bool
     ensures { result ≡ is_doall mark }
 {
     match mark {
