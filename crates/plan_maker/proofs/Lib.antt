@@ -9,9 +9,11 @@ pub mod Judgements
 pub mod Numbers
 pub mod Memories
 pub mod Verdicts
+pub mod Marked
 pub mod Same
 pub mod SlotSteps
 pub mod Choices
+pub mod Meeting
 pub mod Weakest
 pub mod Made
 pub mod Singles

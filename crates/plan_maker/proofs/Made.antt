@@ -18,6 +18,7 @@ use Rattle.comm_system.specs.Obligations.{Slot, Task, numbered_from, slot_signat
 use Rattle.comm_system.specs.References.{StaticPhase, phases_of}
 use Rattle.comm_system.specs.Signatures.{Signature, blocked, waits}
 use Rattle.plan_checker.specs.Accepted.{AreCertified}
+use Rattle.plan_checker.proofs.Blocked.{barriers_accepted}
 use Rattle.plan_maker.specs.declared.loops.LoopVerdict.{LoopVerdict}
 use Rattle.plan_maker.specs.declared.loops.LoopVerdict.TheVariants.{Free, Barred}
 use Rattle.plan_maker.specs.declared.maker.Weakest.{Weakest}
@@ -26,12 +27,12 @@ use Rattle.plan_maker.specs.declared.reasons.Bar.TheVariants.{Print, Meeting}
 use Rattle.plan_maker.specs.declared.reasons.PhaseReason.{PhaseReason}
 use Rattle.plan_maker.specs.declared.reasons.Reasons.{Reasons}
 use Rattle.plan_maker.specs.Anchors.{maker_anchors}
-use Rattle.plan_maker.specs.Asked.{AreRefuted, Asked, IsCause, all_asked, asked, owners_dealt, slot_asked, trips_asked}
+use Rattle.plan_maker.specs.Asked.{AreRefuted, Asked, IsCause, all_asked, all_trips_asked, asked, owners_dealt, slot_asked, trips_asked}
 use Rattle.plan_maker.specs.Bars.{IsBar, IsLoopReason, open_loops}
 use Rattle.plan_maker.specs.Candidates.{kinds_taken, weaker_from}
 use Rattle.plan_maker.specs.Cut.{IsBarred, IsReasonedCut}
 use Rattle.plan_maker.specs.Loops.{AreLoopVerdicts, IsLoopVerdict, is_barred}
-use Rattle.plan_maker.specs.Made.{IsMade, IsPhaseReason, with_found}
+use Rattle.plan_maker.specs.Made.{IsBarrierPlan, IsMade, IsPhaseReason, with_found}
 use Rattle.plan_maker.specs.Marks.{flagged, marks_of}
 use Rattle.plan_maker.specs.Weakest.{IsWeakReason, IsWeakest, asked_under, candidates_in}
 use Rattle.plan_maker.proofs.Verdicts.{trips_same}
@@ -95,9 +96,10 @@ module _ (tree : Tree) (base : Plan) (kinds : List Kind) (certificates : List Ce
       (λ c r w. record { phase = w.phase; kind = w.kind; cause = subst (λ qs. IsCause qs r.cause) (all-asked (kinds_taken (candidates_in tree base) (slice_set taken c.phase c.place))) w.cause }) h
 
 -- the whole
-pub made_is : (tree : Tree) (workers : ℕ) (marks : List Mark) (anchors : List Anchor) (base : Plan) (w : Weakest) (plan : Plan) (reasons : Reasons) → base ≡ barrier_plan marks anchors workers [] → plan ≡ with_found base w.kinds.items w.certificates.items →
-    IsFit tree plan → IsWeakest tree base w → IsReasonedCut tree marks → AllZip (IsLoopReason tree) (open_loops 1 marks) reasons.loops.items → anchors ≡ maker_anchors tree marks workers → reasons.phases.items ≡ w.reasons.items → IsMade tree workers plan reasons
-made_is tree workers marks anchors base w plan reasons base-is plan-is fit weak cut loops anchors-are phases =
+pub made_is : (tree : Tree) (workers : ℕ) (marks : List Mark) (base : Plan) (w : Weakest) (plan : Plan) (reasons : Reasons) → base ≡ barrier_plan marks (maker_anchors tree marks workers) workers [] → plan ≡ with_found base w.kinds.items w.certificates.items →
+    IsFit tree plan → IsWeakest tree base w → IsReasonedCut tree marks → AllZip (IsLoopReason tree) (open_loops 1 marks) reasons.loops.items → reasons.phases.items ≡ w.reasons.items → IsMade tree workers plan reasons
+made_is tree workers marks base w plan reasons base-is plan-is fit weak cut loops phases =
+    let anchors = maker_anchors tree marks workers in
     let kinds = w.kinds.items in
     let certificates = w.certificates.items in
     let start = barrier_plan marks anchors workers [] in
@@ -110,7 +112,7 @@ made_is tree workers marks anchors base w plan reasons base-is plan-is fit weak 
       accepted = record { fits = subst (IsFit tree) whole fit; certified = certified tree start kinds certificates refl here.certified };
       cut = cut;
       loops = loops;
-      anchors = anchors-are;
+      anchors = refl;
       taken = here.taken;
       kinds = here.kinds;
       phases = subst (λ rs. AllZip (IsPhaseReason tree (with_found start kinds certificates) (candidates_in tree start) here.taken) (weaker_from 0 here.taken) rs) (sym phases) (phase_reasons tree start kinds certificates refl here.taken w.reasons.items here.reasons);
@@ -139,3 +141,23 @@ reasoned tree vs marks long all is = record {
       let there = flag_at vs (n - 1) (omega (arith, long, from, to)) in
       barred_by tree n there.0 (all n there.0 from there.1) (sym there.2 ∙ flag);
 }
+
+-- the same with a barrier in front of each phase
+pub barriers_are : (tree : Tree) (workers : ℕ) (marks : List Mark) (base plan : Plan) (certificates : List Certificate) → base ≡ barrier_plan marks (maker_anchors tree marks workers) workers [] → plan ≡ barrier_plan base.cut base.anchors workers certificates →
+    IsFit tree base → AreRefuted (all_trips_asked tree base) certificates → IsReasonedCut tree marks → IsBarrierPlan tree workers plan
+barriers_are tree workers marks base plan certificates base-is plan-is fit refuted cut =
+    let anchors = maker_anchors tree marks workers in
+    let start = barrier_plan marks anchors workers [] in
+    let here = subst (λ b. AreRefuted (all_trips_asked tree b) certificates) base-is refuted in
+    let tasks = map-flat (λ (q : Asked). q.task) (trips_asked tree start) (trips_tasks tree start) (λ s. tasks_asked [] (trips_tasks tree start s)) (phases_of tree marks) in
+    let good = subst (λ ks. AreCertified (numbered_from 1 ks) certificates) tasks (certified-numbered 1 (all_trips_asked tree start) certificates here) in
+    let made : IsBarrierPlan tree workers (barrier_plan marks anchors workers certificates) = record {
+      version = refl;
+      conditions = refl;
+      workers_are = refl;
+      accepted = barriers_accepted tree marks anchors workers certificates (subst (IsFit tree) base-is fit) good;
+      cut = cut;
+      anchors = refl;
+      kinds = refl;
+    } in
+    subst (IsBarrierPlan tree workers) (sym (plan-is ∙ ap (λ b. barrier_plan b.cut b.anchors workers certificates) base-is)) made

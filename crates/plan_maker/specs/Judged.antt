@@ -1,7 +1,10 @@
 -- Verdicts on systems one behind another.
-use Rattle.std.specs.Prelude.{List, Option, Some, None}
+use Rattle.std.specs.Prelude.{List, map, Option, Some, None}
 use Rattle.owner_partition.specs.declared.anchor.Dist.{Dist}
+use Rattle.nest_tree.specs.Tree.{Tree}
+use Rattle.sync_plan.specs.declared.plan.Plan.{Plan}
 use Rattle.comm_system.specs.Obligations.{Task}
+use Rattle.comm_system.specs.Subjects.{Group, obligations_in}
 use Rattle.comm_system.specs.declared.obligation.Obligation.{Obligation}
 use Rattle.farkas_cert.specs.Good.{IsGood}
 use Rattle.fm_elim.specs.declared.answer.Answer.{Answer}
@@ -20,6 +23,10 @@ task_of o = record { system = o.system; lines = o.lines; variable = o.variable; 
 
 abbrev pub asked_about : List Dist → Obligation → Asked
 asked_about dists o = asked dists (task_of o)
+
+-- what is asked about a pair of accesses
+abbrev pub asked_in : Tree → Plan → List Dist → Group → List Asked
+asked_in tree plan dists g = map (asked_about dists) (obligations_in tree plan g)
 
 -- what is said of it where it is kept, by this word
 abbrev pub cause_for : Obligation → Word → Cause

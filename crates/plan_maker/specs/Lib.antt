@@ -15,3 +15,4 @@ pub mod Grounds
 pub mod Weakest
 pub mod Settled
 pub mod Made
+pub mod Found

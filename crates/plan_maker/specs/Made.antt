@@ -1,10 +1,11 @@
 -- What a made plan is.
-use Rattle.std.specs.Prelude.{ℕ, suc, ◌≡◌, List, slice_set}
+use Rattle.std.specs.Prelude.{ℕ, suc, ◌≡◌, List, length, replicate, slice_set}
 use Rattle.std.specs.List.{AllZip}
 use Rattle.farkas_cert.specs.declared.certificate.Certificate.{Certificate}
 use Rattle.nest_tree.specs.Tree.{Tree}
 use Rattle.sync_plan.specs.declared.plan.Conditions.TheVariants.{Values}
 use Rattle.sync_plan.specs.declared.plan.Kind.{Kind}
+use Rattle.sync_plan.specs.declared.plan.Kind.TheVariants.{Barrier}
 use Rattle.sync_plan.specs.declared.plan.Plan.{Plan}
 use Rattle.sync_plan.specs.declared.plan.Version.TheVariants.{Two}
 use Rattle.plan_checker.specs.Accepted.{IsAccepted}
@@ -38,6 +39,16 @@ pub record IsMade (tree : Tree) (workers : ℕ) (plan : Plan) (reasons : Reasons
   pub taken : List ℕ
   pub kinds : plan.kinds ≡ kinds_taken (candidates_of tree plan.cut plan.anchors) taken
   pub phases : AllZip (IsPhaseReason tree plan (candidates_of tree plan.cut plan.anchors) taken) (weaker_from 0 taken) reasons.phases.items
+
+-- the plan with the same cut and anchors and a barrier in front of each phase
+pub record IsBarrierPlan (tree : Tree) (workers : ℕ) (plan : Plan) : Type 0 where
+  pub version : plan.version ≡ Two
+  pub conditions : plan.conditions ≡ Values
+  pub workers_are : plan.workers ≡ workers
+  pub accepted : IsAccepted tree plan
+  pub cut : IsReasonedCut tree plan.cut
+  pub anchors : plan.anchors ≡ maker_anchors tree plan.cut workers
+  pub kinds : plan.kinds ≡ replicate (length plan.anchors) Barrier
 
 -- a plan with these kinds and certificates
 abbrev pub with_found : Plan → List Kind → List Certificate → Plan

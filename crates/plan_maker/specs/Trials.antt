@@ -16,7 +16,10 @@ use Rattle.plan_maker.specs.Memories.{IsMemory}
 abbrev pub AreMemories : Tree → Plan → List Slot → List Memory → Type 0
 AreMemories tree plan slots memories = AllZip (IsMemory tree plan) slots memories
 
--- what is asked of the slots, where these kinds stand in front of the phases
+-- what is asked of a slot, and of slots, where these kinds stand in front of the phases
+abbrev pub asked_of_slot : Tree → Plan → List Kind → List StaticPhase → Slot → List Asked
+asked_of_slot tree plan kinds phases slot = slot_asked tree plan slot (slot_signature Two kinds phases slot)
+
 abbrev pub slots_asked : Tree → Plan → List Kind → List StaticPhase → List Slot → List Asked
 slots_asked tree plan kinds phases slots = flat_map (λ slot. slot_asked tree plan slot (slot_signature Two kinds phases slot)) slots
 

@@ -11,9 +11,10 @@ ghost use Rattle.plan_maker.specs.Asked.{trips_asked};
 ghost use Rattle.plan_maker.specs.Judged.{IsVerdict};
 
 use crate::anchors::has_print;
-use crate::judge::{Verdict, judge};
+use crate::findings::Findings;
+use crate::judge::{Verdict, judge_groups};
 use crate::seat::{is_doall, mark_of};
-use comm_system::obligations::trips_obligations;
+use comm_system::groups::phase_groups;
 use comm_system::phase::Phase;
 use nest_tree::{Item, Program};
 use owner_partition::Mark;
@@ -48,13 +49,14 @@ pub(crate) fn judge_trips(
     program: &Program,
     plan: &Plan,
     phases: &[Phase],
+    findings: &mut Findings,
 ) -> Result<Verdict, AllocError>
     requires shape { wrong_field (tree_of program.now) plan.now ≡ None }
     ensures { IfOk result (IsVerdict (flat_map (trips_asked (tree_of program.now) plan.now) (map phase_seen phases.now))) }
 {
     let mut certificates = Vec::new(alloc);
     for phase in phases {
-        match judge_phase(alloc, program, plan, phase)? {
+        match judge_phase(alloc, program, plan, phase, findings)? {
             Verdict::Refuted(mut more) => certificates.append(&mut more)?,
             Verdict::Kept(cause) => return Ok(Verdict::Kept(cause)),
         }
@@ -67,6 +69,7 @@ fn judge_phase(
     program: &Program,
     plan: &Plan,
     phase: &Phase,
+    findings: &mut Findings,
 ) -> Result<Verdict, AllocError>
     requires shape { wrong_field (tree_of program.now) plan.now ≡ None }
     ensures { IfOk result (IsVerdict (trips_asked (tree_of program.now) plan.now (phase_seen phase.now))) }
@@ -74,6 +77,6 @@ fn judge_phase(
     if !is_dealt(plan.cut.as_slice(), phase.item) {
         return Ok(Verdict::Refuted(Vec::new(alloc)));
     }
-    let obligations = trips_obligations(alloc, program, plan, phase, 1)?;
-    judge(alloc, obligations.as_slice(), &[])
+    let groups = phase_groups(alloc, u64::MAX, phase, 1)?;
+    judge_groups(alloc, program, plan, groups.items.as_slice(), &[], findings)
 }

@@ -1,20 +1,22 @@
 // What elimination says of systems one behind another.
 
-ghost use Rattle.std.specs.Prelude.{◌≡◌, ◌↔◌, ◌-◌, ◌≤◌, ◌<◌, ◌^◌, IfOk, IsTrue, length, map};
-ghost use Rattle.std.specs.List.{All};
-ghost use Rattle.farkas_cert.specs.Combination.{is_narrow as narrow};
-ghost use Rattle.farkas_cert.specs.Narrow.{AreNarrow, IsNarrowRow};
-ghost use Rattle.fm_elim.specs.Answers.{IsDecided};
-ghost use Rattle.plan_maker.specs.Orders.{elimination_order as order_of, unknowns_of};
-ghost use Rattle.plan_maker.specs.Judged.{IsJudgement, IsVerdict, asked_about, cause_for};
+ghost use Rattle.std.specs.Prelude.{◌≡◌, IfOk, None, map};
+ghost use Rattle.std.specs.List.{flat_map};
+ghost use Rattle.nest_tree.specs.View.{tree_of};
+ghost use Rattle.sync_plan.specs.Shape.{wrong_field};
+ghost use Rattle.comm_system.specs.GroupViews.{group_seen};
+ghost use Rattle.plan_maker.specs.Judged.{IsJudgement, IsVerdict, asked_about, asked_in, cause_for};
 
 use crate::cause::{Cause, Word};
-use crate::orders::{elimination_order, unknown_count};
+use crate::decided::Found;
+use crate::findings::Findings;
 use comm_system::Obligation;
-use farkas_cert::{Certificate, Row, System};
-use fm_elim::{Answer, decide};
+use comm_system::group::Group;
+use farkas_cert::Certificate;
+use nest_tree::Program;
 use owner_partition::Dist;
 use std::alloc::{AllocError, Global};
+use sync_plan::Plan;
 
 /// What is known of systems one behind another.
 #[derive(Drop)]
@@ -58,60 +60,6 @@ enum Judgement {
     Kept(Cause),
 }
 
-// Whether a number is at most 2 ^ 126 in size.
-fn is_narrow(number: i128) -> bool
-    ensures { result ≡ narrow number }
-{
-    number.unsigned_abs() <= 1 << 126
-}
-
-fn are_narrow(numbers: &[i128]) -> bool
-    ensures { IsTrue result ↔ All (λ a. IsTrue (narrow a)) numbers.now }
-{
-    numbers.iter().all(|number| is_narrow(*number))
-}
-
-fn is_narrow_row(row: &Row) -> bool
-    ensures { IsTrue result ↔ IsNarrowRow row.now }
-{
-    are_narrow(row.coefs.as_slice()) && is_narrow(row.bound)
-}
-
-// Whether the numbers of these rows are.
-fn are_narrow_rows(rows: &[Row]) -> bool
-    ensures { IsTrue result ↔ AreNarrow rows.now }
-{
-    rows.iter().all(|row| is_narrow_row(row))
-}
-
-// Whether elimination can be asked of a system: its numbers are narrow, and the owners' unknowns are
-// among its own, of which there are fewer than 2 ^ 32 - 1. Each system of a plan is so.
-fn can_ask(system: &System, dists: &[Dist]) -> bool
-    ensures narrow { IsTrue result → AreNarrow system.now.rows }
-    ensures owners { IsTrue result → unknowns_of dists.now ≤ system.now.vars }
-    ensures room { IsTrue result → system.now.vars < 2 ^ 32 - 1 }
-    ensures few { IsTrue result → length dists.now < 2 ^ 20 }
-{
-    dists.len() < 1 << 20
-        && unknown_count(dists) <= system.vars()
-        && system.vars() < u32::MAX
-        && are_narrow_rows(system.rows())
-}
-
-// What elimination says of a system. Where it can't be asked it is as if memory had run out.
-fn answer(alloc: Global, system: &System, dists: &[Dist]) -> Result<Answer, AllocError>
-    ensures { IfOk result (IsDecided system.now (order_of system.now.vars dists.now)) }
-{
-    if !can_ask(system, dists) {
-        return Err(AllocError);
-    }
-    let order = elimination_order(alloc, system.vars(), dists)?;
-    match decide(alloc, system, order.as_slice()) {
-        Ok(answer) => Ok(answer),
-        Err(_) => Err(AllocError),
-    }
-}
-
 // What is said of an obligation that is kept with this answer.
 fn cause_for(obligation: &Obligation, word: Word) -> Cause
     ensures { result ≡ cause_for obligation.now word }
@@ -126,35 +74,74 @@ fn cause_for(obligation: &Obligation, word: Word) -> Cause
 }
 
 // What is known of an obligation.
-#[tactic(auto, using(crate::proofs::Judgements::kept_open, crate::proofs::Judgements::kept_wide, crate::proofs::Judgements::kept_many))]
+#[tactic(auto, using(crate::proofs::Judgements::kept_so))]
 fn judge_one(
     alloc: Global,
     obligation: &Obligation,
     dists: &[Dist],
+    findings: &mut Findings,
 ) -> Result<Judgement, AllocError>
     ensures { IfOk result (IsJudgement (asked_about dists.now obligation.now)) }
 {
-    match answer(alloc, &obligation.system, dists)? {
-        Answer::Infeasible(certificate) => Ok(Judgement::Refuted(certificate)),
-        Answer::Open => Ok(Judgement::Kept(cause_for(obligation, Word::Open))),
-        Answer::Wide { .. } => Ok(Judgement::Kept(cause_for(obligation, Word::Wide))),
-        Answer::Many { .. } => Ok(Judgement::Kept(cause_for(obligation, Word::Many))),
+    match findings.find(alloc, &obligation.system, dists)? {
+        Found::Refuted(certificate) => Ok(Judgement::Refuted(certificate)),
+        Found::Kept(word) => Ok(Judgement::Kept(cause_for(obligation, word))),
     }
 }
 
-/// What is known of obligations one behind another, whose owners are dealt so.
-pub(crate) fn judge(
+// What is known of obligations one behind another, whose owners are dealt so.
+fn judge(
     alloc: Global,
     obligations: &[Obligation],
     dists: &[Dist],
+    findings: &mut Findings,
 ) -> Result<Verdict, AllocError>
     ensures { IfOk result (IsVerdict (map (asked_about dists.now) obligations.now)) }
 {
     let mut certificates = Vec::new(alloc);
     for obligation in obligations {
-        match judge_one(alloc, obligation, dists)? {
+        match judge_one(alloc, obligation, dists, findings)? {
             Judgement::Refuted(certificate) => certificates.push(certificate)?,
             Judgement::Kept(cause) => return Ok(Verdict::Kept(cause)),
+        }
+    }
+    Ok(Verdict::Refuted(certificates))
+}
+
+// What is known of the obligations of a pair of accesses.
+fn judge_group(
+    alloc: Global,
+    program: &Program,
+    plan: &Plan,
+    group: &Group,
+    dists: &[Dist],
+    findings: &mut Findings,
+) -> Result<Verdict, AllocError>
+    requires { wrong_field (tree_of program.now) plan.now ≡ None }
+    ensures { IfOk result (IsVerdict (asked_in (tree_of program.now) plan.now dists.now (group_seen group.now))) }
+{
+    let obligations = group.obligations(alloc, program, plan)?;
+    judge(alloc, obligations.as_slice(), dists, findings)
+}
+
+/// What is known of the obligations of pairs of accesses one behind another, whose owners are dealt
+/// so. Those behind the first that is kept aren't made.
+pub(crate) fn judge_groups(
+    alloc: Global,
+    program: &Program,
+    plan: &Plan,
+    groups: &[Group],
+    dists: &[Dist],
+    findings: &mut Findings,
+) -> Result<Verdict, AllocError>
+    requires { wrong_field (tree_of program.now) plan.now ≡ None }
+    ensures { IfOk result (IsVerdict (flat_map (asked_in (tree_of program.now) plan.now dists.now) (map group_seen groups.now))) }
+{
+    let mut certificates = Vec::new(alloc);
+    for group in groups {
+        match judge_group(alloc, program, plan, group, dists, findings)? {
+            Verdict::Refuted(mut more) => certificates.append(&mut more)?,
+            Verdict::Kept(cause) => return Ok(Verdict::Kept(cause)),
         }
     }
     Ok(Verdict::Refuted(certificates))

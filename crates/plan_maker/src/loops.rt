@@ -1,6 +1,6 @@
 // Which loops are what.
 
-ghost use Rattle.std.specs.Prelude.{◌≡◌, ◌-◌, ◌≤◌, ◌++◌, ◌<◌, ◌^◌, IfOk, OnOk, Some, length, map, slice_get};
+ghost use Rattle.std.specs.Prelude.{◌≡◌, ◌-◌, ◌≤◌, ◌++◌, ◌<◌, ◌^◌, IfOk, OnOk, Some, length, map, slice_get, true};
 ghost use Rattle.std.specs.List.{AllZip};
 ghost use Rattle.nest_tree.specs.Limits.{IsWithinLimits};
 ghost use Rattle.nest_tree.specs.Tree.{Tree};
@@ -9,13 +9,14 @@ ghost use Rattle.nest_tree.specs.WellFormed.{IsWellFormed, loops_in, loops_of};
 ghost use Rattle.sync_plan.specs.declared.plan.Conditions.TheVariants.{Values};
 ghost use Rattle.sync_plan.specs.Fit.{IsFit};
 ghost use Rattle.plan_maker.specs.Cut.{alone as alone_marks, alone_among, alone_in, alone_loop};
-ghost use Rattle.plan_maker.specs.Loops.{AreLoopVerdicts, IsLoopVerdict, is_barred};
+ghost use Rattle.plan_maker.specs.Loops.{AreLoopVerdicts, AreOpenBarred, IsLoopVerdict, is_barred};
 ghost use Rattle.plan_maker.specs.Bars.{HasLoopReasons, IsLoopReason, is_open, open_loop, open_loops};
 
 use crate::dealt::{does_dealt_print, judge_trips};
+use crate::findings::Findings;
 use crate::judge::Verdict;
 use crate::marks::push_closed;
-use crate::places::{first_processors, item_at};
+use crate::places::first_processors;
 use crate::reasons::{Bar, LoopReason};
 use comm_system::phases::phases;
 use nest_tree::{Item, Program};
@@ -32,7 +33,11 @@ pub(crate) enum LoopVerdict {
 }
 
 /// Verdicts on a program's loops, by number.
-pub(crate) fn judge_loops(alloc: Global, program: &Program) -> Result<Vec<LoopVerdict>, AllocError>
+pub(crate) fn judge_loops(
+    alloc: Global,
+    program: &Program,
+    findings: &mut Findings,
+) -> Result<Vec<LoopVerdict>, AllocError>
     requires formed { IsWellFormed (tree_of program.now) }
     requires limits { IsWithinLimits (tree_of program.now) }
     ensures long { IfOk result (λ verdicts. length verdicts.items ≡ loops_of (tree_of program.now).items) }
@@ -40,13 +45,18 @@ pub(crate) fn judge_loops(alloc: Global, program: &Program) -> Result<Vec<LoopVe
 {
     let mut verdicts = Vec::new(alloc);
     for place in 0..loop_count(&program.items) {
-        verdicts.push(judge_loop(alloc, program, place + 1)?)?;
+        verdicts.push(judge_loop(alloc, program, place + 1, findings)?)?;
     }
     Ok(verdicts)
 }
 
 // The verdict on a loop, all loops round it taken as Outer.
-fn judge_loop(alloc: Global, program: &Program, number: u32) -> Result<LoopVerdict, AllocError>
+fn judge_loop(
+    alloc: Global,
+    program: &Program,
+    number: u32,
+    findings: &mut Findings,
+) -> Result<LoopVerdict, AllocError>
     requires formed { IsWellFormed (tree_of program.now) }
     requires limits { IsWithinLimits (tree_of program.now) }
     ensures { IfOk result (IsLoopVerdict (tree_of program.now) number) }
@@ -57,7 +67,7 @@ fn judge_loop(alloc: Global, program: &Program, number: u32) -> Result<LoopVerdi
         return Ok(LoopVerdict::Barred(Bar::Print));
     }
     let plan = serial(alloc, program, cut)?;
-    match judge_trips(alloc, program, &plan, phases.as_slice())? {
+    match judge_trips(alloc, program, &plan, phases.as_slice(), findings)? {
         Verdict::Refuted(_) => Ok(LoopVerdict::Free),
         Verdict::Kept(cause) => Ok(LoopVerdict::Barred(Bar::Meeting(cause))),
     }
@@ -162,28 +172,6 @@ fn is_open(mark: Mark) -> bool
     }
 }
 
-// The reason by a verdict. Where there is none, it is as if memory had run out.
-fn reason_by(verdict: LoopVerdict, number: u32) -> Result<LoopReason, AllocError>
-    ensures { (tree : Tree) → IsLoopVerdict tree number verdict → IfOk result (IsLoopReason tree number) }
-{
-    match verdict {
-        LoopVerdict::Barred(bar) => Ok(LoopReason { number, bar }),
-        LoopVerdict::Free => Err(AllocError),
-    }
-}
-
-// The reason why the loop with this number is barred. Where it isn't, it is as if memory had run out.
-fn loop_reason(verdicts: &[LoopVerdict], number: u32) -> Result<LoopReason, AllocError>
-    requires { 1 ≤ number }
-    ensures { (tree : Tree) → AreLoopVerdicts tree verdicts.now → IfOk result (IsLoopReason tree number) }
-{
-    let place = number as usize - 1;
-    match item_at(verdicts, place) {
-        Some(verdict) => reason_by(*verdict, number),
-        None => Err(AllocError),
-    }
-}
-
 // The mark at this place, from 0.
 fn mark_in(marks: &[Mark], place: usize) -> Mark
     requires { place < length marks.now }
@@ -192,36 +180,49 @@ fn mark_in(marks: &[Mark], place: usize) -> Mark
     marks[place]
 }
 
-// The reason of a loop, behind the others, where it is Outer or Single.
+// The verdict at this place, from 0.
+fn verdict_in(verdicts: &[LoopVerdict], place: usize) -> LoopVerdict
+    requires { place < length verdicts.now }
+    ensures { slice_get verdicts.now place ≡ Some result }
+{
+    verdicts[place]
+}
+
+// The reason of a loop with this verdict, behind the others, where it is Outer or Single.
 fn push_reason(
     reasons: &mut Vec<LoopReason>,
     mark: Mark,
-    verdicts: &[LoopVerdict],
+    verdict: LoopVerdict,
     number: u32,
 ) -> Result<(), AllocError>
-    requires { 1 ≤ number }
-    ensures { (tree : Tree) → AreLoopVerdicts tree verdicts.now → OnOk result (HasLoopReasons tree (open_loop number mark) reasons.old.items reasons.new.items) }
+    requires { is_open mark ≡ true → is_barred verdict ≡ true }
+    ensures { (tree : Tree) → IsLoopVerdict tree number verdict → OnOk result (HasLoopReasons tree (open_loop number mark) reasons.old.items reasons.new.items) }
 {
     if !is_open(mark) {
         return Ok(());
     }
-    reasons.push(loop_reason(verdicts, number)?)?;
+    if let LoopVerdict::Barred(bar) = verdict {
+        reasons.push(LoopReason { number, bar })?;
+    }
     Ok(())
 }
 
-/// The reasons of the loops that are Outer or Single.
+/// The reasons of the loops that are Outer or Single, each of which is barred.
 pub(crate) fn loop_reasons(
     alloc: Global,
     marks: &[Mark],
     verdicts: &[LoopVerdict],
 ) -> Result<Vec<LoopReason>, AllocError>
-    requires { length marks.now < 2 ^ 32 - 1 }
+    requires few { length marks.now < 2 ^ 32 - 1 }
+    requires long { length verdicts.now ≡ length marks.now }
+    requires barred { AreOpenBarred marks.now verdicts.now }
     ensures { (tree : Tree) → AreLoopVerdicts tree verdicts.now → IfOk result (λ reasons. AllZip (IsLoopReason tree) (open_loops 1 marks.now) reasons.items) }
 {
     let mut reasons = Vec::new(alloc);
     for place in 0..marks.len() {
         let mark = mark_in(marks, place);
-        push_reason(&mut reasons, mark, verdicts, place as u32 + 1)?;
+        let verdict = verdict_in(verdicts, place);
+        push_reason(&mut reasons, mark, verdict, place as u32 + 1)?;
     }
     Ok(reasons)
 }

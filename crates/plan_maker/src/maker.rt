@@ -1,17 +1,21 @@
 // The plan of a program.
 
-ghost use Rattle.std.specs.Prelude.{◌≡◌, ◌≤◌, ◌<◌, ◌^◌, IfOk, None, length, map};
+ghost use Rattle.std.specs.Prelude.{◌≡◌, ◌≤◌, ◌<◌, ◌^◌, IfOk, None, [], length, map};
 ghost use Rattle.nest_tree.specs.Limits.{IsWithinLimits};
 ghost use Rattle.nest_tree.specs.Tree.{Tree};
 ghost use Rattle.nest_tree.specs.View.{tree_of};
 ghost use Rattle.nest_tree.specs.WellFormed.{IsWellFormed};
 ghost use Rattle.sync_plan.specs.Fit.{IsFit};
 ghost use Rattle.sync_plan.specs.declared.plan.Plan.{Plan as HeldPlan};
+ghost use Rattle.sync_plan.specs.Barriers.{barrier_plan};
+ghost use Rattle.comm_system.specs.PhaseViews.{phase_seen};
 ghost use Rattle.comm_system.specs.SlotViews.{slot_seen};
-ghost use Rattle.std.specs.List.{AllZip};
+ghost use Rattle.std.specs.List.{AllZip, flat_map};
+ghost use Rattle.plan_maker.specs.Anchors.{maker_anchors};
+ghost use Rattle.plan_maker.specs.Asked.{AreRefuted, trips_asked};
 ghost use Rattle.plan_maker.specs.Bars.{IsLoopReason, open_loops};
 ghost use Rattle.plan_maker.specs.Cut.{IsReasonedCut};
-ghost use Rattle.plan_maker.specs.Made.{IsMade, with_found};
+ghost use Rattle.plan_maker.specs.Made.{IsBarrierPlan, IsMade, with_found};
 ghost use Rattle.plan_maker.specs.Trials.{AreMemories};
 ghost use Rattle.sync_plan.specs.Shape.{wrong_field};
 ghost use Rattle.plan_maker.specs.Settled.{IsSettled};
@@ -20,13 +24,15 @@ ghost use Rattle.plan_maker.specs.Weakest.{IsWeakest};
 use crate::anchors::anchors_of;
 use crate::candidates::{all_candidates, kinds_taken};
 use crate::dealt::judge_trips;
-use crate::judge::Verdict;
+use crate::findings::Findings;
 use crate::loops::{barred_loops, fitting, judge_loops, loop_reasons};
 use crate::marks::push_marks;
 use crate::memory::Memory;
+use crate::partners::meeting_slots;
 use crate::passes::settle_all;
 use crate::reasons::{LoopReason, PhaseReason, Reasons};
 use crate::trial::{Ground, push_certificates};
+use comm_system::phase::Phase;
 use comm_system::phases::phases;
 use comm_system::slot::Slot;
 use comm_system::slot_list::slots;
@@ -52,15 +58,14 @@ pub fn make(alloc: Global, program: &Program, workers: u32) -> Result<(Plan, Rea
     requires few { workers ≤ 64 }
     ensures { IfOk result (λ made. IsMade (tree_of program.now) workers made.0 made.1) }
 {
-    let (cut, loops) = make_cut(alloc, program)?;
-    let anchors = anchors_of(alloc, program, &cut, workers)?;
-    let base = all_barrier(alloc, cut, anchors, workers, Vec::new(alloc))?;
-    let base = fitting(program, base)?;
+    let mut findings = Findings::new(alloc)?;
+    let (cut, loops) = make_cut(alloc, program, &mut findings)?;
+    let base = base_plan(alloc, program, cut, workers)?;
     let Weakest {
         kinds,
         certificates,
         reasons,
-    } = find_weakest(alloc, program, &base)?;
+    } = find_weakest(alloc, program, &base, &mut findings)?;
     let plan = fitting(program, with(base, kinds, certificates))?;
     let reasons = Reasons {
         loops,
@@ -69,21 +74,70 @@ pub fn make(alloc: Global, program: &Program, workers: u32) -> Result<(Plan, Rea
     Ok((plan, reasons))
 }
 
-// Which loops are what, and why those that are Outer or Single aren't dealt out. A program with
-// 2 ^ 20 loops or more would be answered as if memory had run out; no well-formed one has so many.
-fn make_cut(alloc: Global, program: &Program) -> Result<(Cut, Vec<LoopReason>), AllocError>
+/// The plan of a program for 1 to 64 workers with the cut and the anchors of [`make`] and a barrier
+/// in front of each phase. The error is that memory ran out.
+pub fn make_barrier(alloc: Global, program: &Program, workers: u32) -> Result<Plan, AllocError>
+    requires formed { IsWellFormed (tree_of program.now) }
+    requires limits { IsWithinLimits (tree_of program.now) }
+    requires some { 1 ≤ workers }
+    requires few { workers ≤ 64 }
+    ensures { IfOk result (IsBarrierPlan (tree_of program.now) workers) }
+{
+    let mut findings = Findings::new(alloc)?;
+    let (cut, _loops) = make_cut(alloc, program, &mut findings)?;
+    let base = base_plan(alloc, program, cut, workers)?;
+    let phases = phases(alloc, program, &base.cut)?;
+    let certificates = trip_certificates(alloc, program, &base, phases.as_slice(), &mut findings)?;
+    let Plan { cut, anchors, .. } = base;
+    all_barrier(alloc, cut, anchors.into_vec(), workers, certificates)
+}
+
+// The plan of this cut and the maker's anchors under it, with a barrier in front of each phase and
+// without a certificate.
+fn base_plan(alloc: Global, program: &Program, cut: Cut, workers: u32) -> Result<Plan, AllocError>
+    requires formed { IsWellFormed (tree_of program.now) }
+    requires limits { IsWithinLimits (tree_of program.now) }
+    requires some { 1 ≤ workers }
+    ensures same { IfOk result (λ plan. plan ≡ barrier_plan cut (maker_anchors (tree_of program.now) cut workers) workers []) }
+    ensures fits { IfOk result (λ plan. IsFit (tree_of program.now) plan) }
+{
+    let anchors = anchors_of(alloc, program, &cut, workers)?;
+    let plan = all_barrier(alloc, cut, anchors, workers, Vec::new(alloc))?;
+    fitting(program, plan)
+}
+
+// Certificates of the systems of two trips of the Doall loops among these phases of a plan. Where
+// one is kept, it is as if memory had run out.
+fn trip_certificates(
+    alloc: Global,
+    program: &Program,
+    plan: &Plan,
+    phases: &[Phase],
+    findings: &mut Findings,
+) -> Result<Vec<Certificate>, AllocError>
+    requires shape { wrong_field (tree_of program.now) plan.now ≡ None }
+    ensures { IfOk result (λ cs. AreRefuted (flat_map (trips_asked (tree_of program.now) plan.now) (map phase_seen phases.now)) cs.items) }
+{
+    judge_trips(alloc, program, plan, phases, findings)?
+        .into_certificates()
+        .ok_or(AllocError)
+}
+
+// Which loops are what, and why those that are Outer or Single aren't dealt out.
+fn make_cut(
+    alloc: Global,
+    program: &Program,
+    findings: &mut Findings,
+) -> Result<(Cut, Vec<LoopReason>), AllocError>
     requires formed { IsWellFormed (tree_of program.now) }
     requires limits { IsWithinLimits (tree_of program.now) }
     ensures reasoned { IfOk result (λ made. IsReasonedCut (tree_of program.now) made.0) }
     ensures loops { IfOk result (λ made. AllZip (IsLoopReason (tree_of program.now)) (open_loops 1 made.0) made.1.items) }
 {
-    let verdicts = judge_loops(alloc, program)?;
+    let verdicts = judge_loops(alloc, program, findings)?;
     let barred = barred_loops(alloc, verdicts.as_slice())?;
     let mut marks = Vec::new(alloc);
     push_marks(&mut marks, barred.as_slice(), &program.items)?;
-    if marks.len() >= 1 << 20 {
-        return Err(AllocError);
-    }
     let loops = loop_reasons(alloc, marks.as_slice(), verdicts.as_slice())?;
     let cut = Cut::new(alloc, marks)?;
     Ok((cut, loops))
@@ -126,19 +180,22 @@ fn last_places(alloc: Global, candidates: &[Kinds]) -> Result<Vec<usize>, AllocE
     Ok(places)
 }
 
-// The weakest kinds in front of the phases of a plan that fits. Where two trips of a Doall loop are
-// kept, or a slot's systems weren't asked about, it is as if memory had run out.
-fn find_weakest(alloc: Global, program: &Program, plan: &Plan) -> Result<Weakest, AllocError>
+// The weakest kinds in front of the phases of a plan that fits. Where a slot's
+// systems weren't asked about, it is as if memory had run out.
+fn find_weakest(
+    alloc: Global,
+    program: &Program,
+    plan: &Plan,
+    findings: &mut Findings,
+) -> Result<Weakest, AllocError>
     requires formed { IsWellFormed (tree_of program.now) }
     requires fits { IsFit (tree_of program.now) plan.now }
     ensures { IfOk result (IsWeakest (tree_of program.now) plan.now) }
 {
     let phases = phases(alloc, program, &plan.cut)?;
-    let Verdict::Refuted(certificates) = judge_trips(alloc, program, plan, phases.as_slice())?
-    else {
-        return Err(AllocError);
-    };
-    let slots = slots(alloc, phases.as_slice())?;
+    let certificates = trip_certificates(alloc, program, plan, phases.as_slice(), findings)?;
+    let all = slots(alloc, phases.as_slice())?;
+    let slots = meeting_slots(alloc, all.as_slice())?;
     let ground = Ground {
         program,
         plan,
@@ -153,6 +210,7 @@ fn find_weakest(alloc: Global, program: &Program, plan: &Plan) -> Result<Weakest
         alloc,
         ground,
         memories.as_mut_slice(),
+        findings,
         candidates.as_slice(),
         taken.as_mut_slice(),
         certificates,
@@ -165,6 +223,7 @@ fn settled(
     alloc: Global,
     ground: Ground,
     memories: &mut [Memory],
+    findings: &mut Findings,
     candidates: &[Kinds],
     taken: &mut [usize],
     certificates: Vec<Certificate>,
@@ -175,7 +234,7 @@ fn settled(
     requires memories { AreMemories (tree_of ground.program.now) ground.plan.now (map slot_seen ground.slots.now) memories.old }
     ensures { IfOk result (IsSettled ground.entry candidates.now certificates.items) }
 {
-    let reasons = settle_all(alloc, ground, memories, candidates, taken)?;
+    let reasons = settle_all(alloc, ground, memories, findings, candidates, taken)?;
     let kinds = kinds_taken(alloc, candidates, taken)?;
     let mut certificates = certificates;
     push_certificates(alloc, ground, memories, kinds.as_slice(), &mut certificates)?;

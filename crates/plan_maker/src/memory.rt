@@ -15,9 +15,10 @@ ghost use Rattle.plan_maker.specs.Memories.{IsEntry, IsMemory, key_seen, pair_se
 
 use crate::candidates::is_same_anchor;
 use crate::cause::Cause;
-use crate::judge::{Verdict, judge};
+use crate::findings::Findings;
+use crate::judge::{Verdict, judge_groups};
 use crate::places::{copy_of_anchor, item_at};
-use comm_system::obligations::slot_obligations;
+use comm_system::groups::slot_groups;
 use comm_system::producer::{Producer, Side};
 use comm_system::slot::Slot;
 use comm_system::waits::Waits;
@@ -156,13 +157,21 @@ fn judge_slot(
     plan: &Plan,
     slot: &Slot,
     waits: &Waits,
+    findings: &mut Findings,
 ) -> Result<Verdict, AllocError>
     requires shape { wrong_field (tree_of program.now) plan.now ≡ None }
     ensures { IfOk result (IsVerdict (slot_asked (tree_of program.now) plan.now (slot_seen slot.now) (waits_seen waits.now))) }
 {
-    let obligations = slot_obligations(alloc, program, plan, slot, waits, 1)?;
+    let groups = slot_groups(alloc, u64::MAX, *slot, waits, 1)?;
     let dists = owners_dealt(alloc, plan, slot, waits)?;
-    judge(alloc, obligations.as_slice(), dists.as_slice())
+    judge_groups(
+        alloc,
+        program,
+        plan,
+        groups.items.as_slice(),
+        dists.as_slice(),
+        findings,
+    )
 }
 
 // What was found under these waits, if that verdict was made: the first of the slot's systems that
@@ -211,6 +220,7 @@ impl Memory {
         plan: &Plan,
         slot: &Slot,
         waits: &Waits,
+        findings: &mut Findings,
     ) -> Result<Option<Cause>, AllocError>
         requires shape { wrong_field (tree_of program.now) plan.now ≡ None }
         requires memory { IsMemory (tree_of program.now) plan.now (slot_seen slot.now) self.old }
@@ -220,7 +230,7 @@ impl Memory {
         if let Some(outcome) = recall(self.entries.as_slice(), waits) {
             return Ok(outcome);
         }
-        let verdict = judge_slot(alloc, program, plan, slot, waits)?;
+        let verdict = judge_slot(alloc, program, plan, slot, waits, findings)?;
         let key = Key::new(alloc, waits)?;
         let cause = verdict.cause();
         self.entries.push(Entry { key, verdict })?;

@@ -1,7 +1,7 @@
 // Passes over the phases, in which weaker candidates are taken.
 
-ghost use Rattle.std.specs.Prelude.{◌≡◌, ◌-◌, ◌<◌, ◌^◌, IfOk, IfSome, None, OnOk, false, length, map, slice_get, slice_index_or, slice_set};
-ghost use Rattle.std.specs.List.{AllZip};
+ghost use Rattle.std.specs.Prelude.{◌≡◌, ◌-◌, ◌<◌, ◌^◌, IfOk, IfSome, None, OnOk, false, length, map, slice_get, slice_index_or, slice_set, true};
+ghost use Rattle.std.specs.List.{AllZip, sum};
 ghost use Rattle.sync_plan.specs.Shape.{wrong_field};
 ghost use Rattle.nest_tree.specs.View.{tree_of};
 ghost use Rattle.comm_system.specs.PhaseViews.{phase_seen};
@@ -13,6 +13,7 @@ ghost use Rattle.plan_maker.specs.Trials.{AreMemories};
 
 use crate::candidates::{candidate, kinds_taken};
 use crate::cause::Cause;
+use crate::findings::Findings;
 use crate::memory::Memory;
 use crate::reasons::PhaseReason;
 use crate::trial::{Ground, ask_slots};
@@ -39,6 +40,7 @@ fn ask_with(
     alloc: Global,
     ground: Ground,
     memories: &mut [Memory],
+    findings: &mut Findings,
     candidates: &[Kinds],
     taken: &[usize],
     phase: usize,
@@ -53,7 +55,7 @@ fn ask_with(
 {
     let taken = with_place(alloc, taken, phase, place)?;
     let kinds = kinds_taken(alloc, candidates, taken.as_slice())?;
-    ask_slots(alloc, ground, memories, kinds.as_slice())
+    ask_slots(alloc, ground, memories, findings, kinds.as_slice())
 }
 
 // Whether a weaker candidate of this phase is taken: the first with which each system of the slots
@@ -62,6 +64,7 @@ fn settle(
     alloc: Global,
     ground: Ground,
     memories: &mut [Memory],
+    findings: &mut Findings,
     candidates: &[Kinds],
     taken: &mut [usize],
     phase: usize,
@@ -74,10 +77,13 @@ fn settle(
     requires number { phase < 2 ^ 32 - 1 }
     ensures memories { OnOk result (AreMemories (tree_of ground.entry.program.now) ground.entry.plan.now (map slot_seen ground.entry.slots.now) memories.new) }
     ensures same { IfOk result (λ changed. changed ≡ false → taken.new ≡ taken.old) }
+    ensures weaker { IfOk result (λ changed. changed ≡ true → sum taken.new < sum taken.old) }
     ensures reasons { IfOk result (λ changed. changed ≡ false → AreMoreReasons ground.entry candidates.now taken.old (weaker_at phase (slice_index_or taken.old phase 0)) reasons.old.items reasons.new.items) }
 {
     for place in 0..taken[phase] {
-        match ask_with(alloc, ground, memories, candidates, taken, phase, place)? {
+        match ask_with(
+            alloc, ground, memories, findings, candidates, taken, phase, place,
+        )? {
             None => {
                 taken[phase] = place;
                 return Ok(true);
@@ -97,6 +103,7 @@ fn pass(
     alloc: Global,
     ground: Ground,
     memories: &mut [Memory],
+    findings: &mut Findings,
     candidates: &[Kinds],
     taken: &mut [usize],
 ) -> Result<Option<Vec<PhaseReason>>, AllocError>
@@ -105,6 +112,7 @@ fn pass(
     requires phases { length taken.old < 2 ^ 20 }
     requires memories { AreMemories (tree_of ground.program.now) ground.plan.now (map slot_seen ground.slots.now) memories.old }
     ensures memories { OnOk result (AreMemories (tree_of ground.entry.program.now) ground.entry.plan.now (map slot_seen ground.entry.slots.now) memories.new) }
+    ensures weaker { IfOk result (λ o. o ≡ None → sum taken.new < sum taken.old) }
     ensures reasons { IfOk result (λ o. IfSome o (λ reasons. AllZip (IsTrialReason ground.entry candidates.now taken.new) (weaker_from 0 taken.new) reasons.items)) }
 {
     let mut reasons = Vec::new(alloc);
@@ -114,6 +122,7 @@ fn pass(
             alloc,
             ground,
             memories,
+            findings,
             candidates,
             taken,
             phase,
@@ -125,12 +134,13 @@ fn pass(
     if changed { Ok(None) } else { Ok(Some(reasons)) }
 }
 
-/// Passes until one changes nothing: its reasons. Each change takes an earlier candidate, so their
-/// number is bounded; past 2 ^ 32 - 1 it would be as if memory had run out.
+/// Passes until one changes nothing: its reasons. Each change takes an earlier candidate, so they
+/// end.
 pub(crate) fn settle_all(
     alloc: Global,
     ground: Ground,
     memories: &mut [Memory],
+    findings: &mut Findings,
     candidates: &[Kinds],
     taken: &mut [usize],
 ) -> Result<Vec<PhaseReason>, AllocError>
@@ -141,10 +151,9 @@ pub(crate) fn settle_all(
     ensures memories { OnOk result (AreMemories (tree_of ground.entry.program.now) ground.entry.plan.now (map slot_seen ground.entry.slots.now) memories.new) }
     ensures reasons { IfOk result (λ reasons. AllZip (IsTrialReason ground.entry candidates.now taken.new) (weaker_from 0 taken.new) reasons.items) }
 {
-    for _ in 0..u32::MAX {
-        if let Some(reasons) = pass(alloc, ground, memories, candidates, taken)? {
+    loop {
+        if let Some(reasons) = pass(alloc, ground, memories, findings, candidates, taken)? {
             return Ok(reasons);
         }
     }
-    Err(AllocError)
 }

@@ -16,6 +16,7 @@ ghost use Rattle.plan_maker.specs.Memories.{IsMemory};
 ghost use Rattle.plan_maker.specs.Trials.{AreMemories, HasMoreCertificates, slots_asked};
 
 use crate::cause::Cause;
+use crate::findings::Findings;
 use crate::memory::Memory;
 use crate::seat::has_places;
 use comm_system::phase::Phase;
@@ -63,6 +64,7 @@ fn ask_slot(
     ground: Ground,
     slot: &Slot,
     memory: &mut Memory,
+    findings: &mut Findings,
     kinds: &[Kind],
 ) -> Result<Option<Cause>, AllocError>
     requires shape { wrong_field (tree_of ground.program.now) ground.plan.now ≡ None }
@@ -74,7 +76,9 @@ fn ask_slot(
 {
     match slot_signature(alloc, Version::Two, kinds, ground.phases, slot)? {
         Signature::Blocked => Ok(None),
-        Signature::Waits(waits) => memory.ask(alloc, ground.program, ground.plan, slot, &waits),
+        Signature::Waits(waits) => {
+            memory.ask(alloc, ground.program, ground.plan, slot, &waits, findings)
+        },
     }
 }
 
@@ -83,6 +87,7 @@ pub(crate) fn ask_slots(
     alloc: Global,
     ground: Ground,
     memories: &mut [Memory],
+    findings: &mut Findings,
     kinds: &[Kind],
 ) -> Result<Option<Cause>, AllocError>
     requires shape { wrong_field (tree_of ground.program.now) ground.plan.now ≡ None }
@@ -96,7 +101,7 @@ pub(crate) fn ask_slots(
     }
     for place in 0..memories.len() {
         let slot = &ground.slots[place];
-        if let Some(cause) = ask_slot(alloc, ground, slot, &mut memories[place], kinds)? {
+        if let Some(cause) = ask_slot(alloc, ground, slot, &mut memories[place], findings, kinds)? {
             return Ok(Some(cause));
         }
     }

@@ -1,13 +1,17 @@
-use Rattle.std.proofs.Common.{◌≡◌, Bool, true, [], map, if◌then◌else◌, ap, sym, ◌∙◌, subst}
+use Rattle.std.proofs.Common.{◌≡◌, ℕ, ◌≤◌, rules, Bool, true, [], map, if◌then◌else◌, ap, sym, ◌∙◌, subst}
 use Rattle.std.specs.Prelude.{IfOk}
+use Rattle.std.specs.List.{flat_map}
 use Rattle.nest_tree.specs.View.{tree_of}
 use Rattle.sync_plan.specs.Fit.{is_dealt}
+use Rattle.comm_system.specs.GroupViews.{group_seen, listed_seen}
 use Rattle.comm_system.specs.Obligations.{trips_task}
 use Rattle.comm_system.specs.Pairs.{pairs_of}
 use Rattle.comm_system.specs.PhaseViews.{phase_seen}
+use Rattle.comm_system.specs.Subjects.{obligations_in}
+use Rattle.comm_system.proofs.GroupLists.{of_phase}
 use Rattle.plan_maker.specs.Asked.{asked}
 use Rattle.plan_maker.specs.Judged.{IsVerdict, asked_about}
-use Rattle.plan_maker.proofs.Numbers.{asked_numbered}
+use Rattle.plan_maker.proofs.Numbers.{asked_flat, asked_numbered}
 use Rattle.plan_maker.proofs.dealt.judge_phase.Goals as goal
 
 pub returns : goal.returns
@@ -17,5 +21,8 @@ returns c =
     let s = phase_seen c.args.phase.now in
     let tasks = map (trips_task tree plan s) (pairs_of s s) in
     let dealt : is_dealt plan.cut s.what ≡ true = ap (λ ms. is_dealt ms s.what) (sym c.as_slice.ensures) ∙ sym c.is_dealt.ensures ∙ c.if-not-is_dealt.false in
-    let same = ap (map (asked_about [])) (c.as_slice-2.ensures.value ∙ c.in_ok-obligations.ensures) ∙ asked_numbered [] 1 tasks ∙ ap (λ (b : Bool). map (asked []) (if b then tasks else [])) (sym dealt) in
-    subst (λ qs. IfOk c.judge.result (IsVerdict qs)) same c.judge.ensures
+    let most : ℕ = 18446744073709551615 in
+    let within : c.in_ok-groups.groups.next ≤ most = search rules in
+    let obligations = ap (λ gs. flat_map (obligations_in tree plan) (map group_seen gs)) c.as_slice-2.ensures.value ∙ of_phase tree plan most 1 s (listed_seen c.in_ok-groups.groups) c.in_ok-groups.ensures within in
+    let same = asked_flat tree plan [] (map group_seen c.as_slice-2.result.now) ∙ ap (map (asked_about [])) obligations ∙ asked_numbered [] 1 tasks ∙ ap (λ (b : Bool). map (asked []) (if b then tasks else [])) (sym dealt) in
+    subst (λ qs. IfOk c.judge_groups.result (IsVerdict qs)) same c.judge_groups.ensures

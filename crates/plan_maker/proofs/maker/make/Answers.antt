@@ -1,6 +1,5 @@
-use Rattle.std.proofs.Common.{◌≡◌, [], ap, refl, ◌∙◌}
+use Rattle.std.proofs.Common.{◌≡◌, refl, ◌∙◌}
 use Rattle.nest_tree.specs.View.{tree_of}
-use Rattle.sync_plan.specs.Barriers.{barrier_plan}
 use Rattle.plan_maker.specs.declared.maker.Weakest.{Weakest}
 use Rattle.plan_maker.specs.declared.reasons.Reasons.{Reasons}
 use Rattle.plan_maker.specs.Made.{with_found}
@@ -10,11 +9,8 @@ use Rattle.plan_maker.proofs.maker.make.Goals as goal
 pub returns : goal.returns
 returns c =
     let tree = tree_of c.args.program.now in
-    let marks = c.in_ok-cut.cut in
-    let anchors = c.in_ok-anchors.anchors.items in
-    let base = c.in_ok-base-2.base in
+    let base = c.in_ok-base.base in
     let w : Weakest = c.in_ok-kinds.field-0 in
     let reasons : Reasons = record { loops = c.in_ok-cut.loops; phases = w.reasons } in
-    let base-is : base ≡ barrier_plan marks anchors c.args.workers [] = c.in_ok-base-2.ensures.same ∙ (c.in_ok-base.ensures ∙ ap (barrier_plan marks anchors c.args.workers) c.new.ensures.items) in
     let plan-is : c.in_ok-plan.plan ≡ with_found base w.kinds.items w.certificates.items = c.in_ok-plan.ensures.same ∙ c.with.ensures in
-    made_is tree c.args.workers marks anchors base w c.in_ok-plan.plan reasons base-is plan-is c.in_ok-plan.ensures.fits c.in_ok-kinds.ensures c.in_ok-cut.ensures.reasoned c.in_ok-cut.ensures.loops c.in_ok-anchors.ensures refl
+    made_is tree c.args.workers c.in_ok-cut.cut base w c.in_ok-plan.plan reasons c.in_ok-base.ensures.same plan-is c.in_ok-plan.ensures.fits c.in_ok-kinds.ensures c.in_ok-cut.ensures.reasoned c.in_ok-cut.ensures.loops refl

@@ -1,4 +1,5 @@
 use Rattle.std.proofs.Common.{map}
+use Rattle.std.specs.List.{sum}
 use Rattle.nest_tree.specs.View.{tree_of}
 use Rattle.comm_system.specs.SlotViews.{slot_seen}
 use Rattle.plan_maker.specs.Trials.{AreMemories}
@@ -6,3 +7,7 @@ use Rattle.plan_maker.proofs.passes.settle_all.Given as goal
 
 abbrev pub invariant-loop : goal.invariant-loop
 invariant-loop l = AreMemories (tree_of l.ground.program.now) l.ground.plan.now (map slot_seen l.ground.slots.now) l.memories
+
+-- each pass that changes something takes earlier candidates
+abbrev pub decreases-loop : goal.decreases-loop
+decreases-loop l = sum l.taken

@@ -1,0 +1,120 @@
+-- The marks of a program's loops: there is one for each, and a loop whose mark is Outer or Single is barred.
+use Rattle.std.proofs.Common.{◌≡◌, ℕ, zero, suc, ◌+◌, ◌-◌, ◌≤◌, ◌++◌, ◌==◌, ◌⊎◌, Bool, true, false, not, List, [], ◌∷◌, length, length-append, map, get_or, if◌then◌else◌, refl, ap, ap₂, sym, ◌∙◌, subst, inl, inr, arith}
+use Rattle.std.specs.Prelude.{Some, slice_get, unwrap_or}
+use Rattle.std.proofs.lemmas.Bool.{and_parts, eqb-true}
+use Rattle.nest_tree.specs.Tree.{Statement, Statements, do_loop, work, continue, done, next, Tree}
+use Rattle.nest_tree.specs.WellFormed.{IsWellFormed, Scope, are_good_statements, is_good_head, is_good_statement, loops_in, loops_of, scope_of}
+use Rattle.owner_partition.specs.declared.cut.Mark.{Mark}
+use Rattle.owner_partition.specs.declared.cut.Mark.TheVariants.{Outer, Doall, Single, Inner}
+use Rattle.plan_maker.specs.declared.loops.LoopVerdict.{LoopVerdict}
+use Rattle.plan_maker.specs.Bars.{is_open}
+use Rattle.plan_maker.specs.Loops.{AreOpenBarred, is_barred}
+use Rattle.plan_maker.specs.Marks.{flagged, have_free, inner_in, inner_of, marks_in, marks_of}
+
+mutual
+  inner-count_in : (s : Statement) → length (inner_in s) ≡ loops_in s
+  inner-count_in (do_loop head body) = omega (arith, inner-count body)
+  inner-count_in (work w) = refl
+  inner-count_in (continue line) = refl
+
+  inner-count : (ss : Statements) → length (inner_of ss) ≡ loops_of ss
+  inner-count done = refl
+  inner-count (next s rest) = length-append (inner_in s) (inner_of rest) ∙ ap₂ (λ m n. m + n) (inner-count_in s) (inner-count rest)
+
+get-append : (xs ys : List Mark) (k : ℕ) (m : Mark) → slice_get (xs ++ ys) k ≡ Some m → (slice_get xs k ≡ Some m) ⊎ ((length xs ≤ k) × (slice_get ys (k - length xs) ≡ Some m))
+get-append [] ys k m h = let e : k ≡ k - 0 = omega arith in inr (omega arith, ap (slice_get ys) (sym e) ∙ h)
+get-append (x ∷ xs) ys zero m h = inl h
+get-append (x ∷ xs) ys (suc k) m h =
+    elim (get-append xs ys k m h) [
+      | inl here ↦ inl here
+      | inr there ↦ let e : suc k - suc (length xs) ≡ k - length xs = omega arith in inr (omega (arith, there.0), ap (slice_get ys) e ∙ there.1)
+    ]
+
+first-is : (x m : Mark) → Some x ≡ Some m → is_open x ≡ is_open m
+first-is x m h = ap (λ o. is_open (unwrap_or o m)) h
+
+mutual
+  inner-closed_in : (s : Statement) (k : ℕ) (m : Mark) → slice_get (inner_in s) k ≡ Some m → is_open m ≡ false
+  inner-closed_in (do_loop head body) zero m h = sym (first-is Inner m h)
+  inner-closed_in (do_loop head body) (suc k) m h = inner-closed body k m h
+  inner-closed_in (work w) k m h = absurd (cc)
+  inner-closed_in (continue line) k m h = absurd (cc)
+
+  inner-closed : (ss : Statements) (k : ℕ) (m : Mark) → slice_get (inner_of ss) k ≡ Some m → is_open m ≡ false
+  inner-closed done k m h = absurd (cc)
+  inner-closed (next s rest) k m h =
+      elim (get-append (inner_in s) (inner_of rest) k m h) [
+        | inl here ↦ inner-closed_in s k m here
+        | inr there ↦ inner-closed rest (k - length (inner_in s)) m there.1
+      ]
+
+not-closed : (m : Mark) (P : Type 0) → is_open m ≡ false → is_open m ≡ true → P
+not-closed m P closed opened = absurd (let no : false ≡ true = sym closed ∙ opened in cc)
+
+module _ (barred : ℕ → Bool) where
+  loop-marks : Bool → Bool → Statements → List Mark
+  loop-marks b free body = if not b then Doall ∷ inner_of body else if free then Outer ∷ marks_of barred body else Single ∷ inner_of body
+
+  mutual
+    marks-count_in : (s : Statement) → length (marks_in barred s) ≡ loops_in s
+    marks-count_in (do_loop head body) = by (barred head.number) (have_free barred body)
+      where
+        by : (b free : Bool) → length (loop-marks b free body) ≡ 1 + loops_of body
+        by false free = omega (arith, inner-count body)
+        by true true = omega (arith, marks_count body)
+        by true false = omega (arith, inner-count body)
+    marks-count_in (work w) = refl
+    marks-count_in (continue line) = refl
+
+    pub marks_count : (ss : Statements) → length (marks_of barred ss) ≡ loops_of ss
+    marks_count done = refl
+    marks_count (next s rest) = length-append (marks_in barred s) (marks_of barred rest) ∙ ap₂ (λ m n. m + n) (marks-count_in s) (marks_count rest)
+
+  mutual
+    open_in : (scope : Scope) (around : List ℕ) (first : ℕ) (s : Statement) (k : ℕ) (m : Mark) → is_good_statement scope around first s ≡ true → slice_get (marks_in barred s) k ≡ Some m → is_open m ≡ true → barred (first + k) ≡ true
+    open_in scope around first (do_loop head body) k m good at opened = by (barred head.number) (have_free barred body) refl k at
+      where
+        inner : (are_good_statements scope (head.number ∷ around) (first + 1) body ≡ true) × (head.number ≡ first)
+        inner =
+            let parts = and_parts _ (are_good_statements scope (head.number ∷ around) (first + 1) body) good in
+            let headed = and_parts _ (is_good_head scope around head) parts.0 in
+            let numbered = and_parts (head.number == first) _ headed.0 in
+            (parts.1, eqb-true head.number first numbered.0)
+
+        here : barred head.number ≡ true → barred (first + 0) ≡ true
+        here e = let same : first + 0 ≡ head.number = omega (arith, inner.1) in ap barred same ∙ e
+
+        by : (b free : Bool) → barred head.number ≡ b → (k : ℕ) → slice_get (loop-marks b free body) k ≡ Some m → barred (first + k) ≡ true
+        by false free e zero h = not-closed m (barred (first + 0) ≡ true) (sym (first-is Doall m h)) opened
+        by false free e (suc k) h = not-closed m (barred (first + suc k) ≡ true) (inner-closed body k m h) opened
+        by true true e zero h = here e
+        by true true e (suc k) h = let n : first + suc k ≡ first + 1 + k = omega arith in ap barred n ∙ open_of scope (head.number ∷ around) (first + 1) body k m inner.0 h opened
+        by true false e zero h = here e
+        by true false e (suc k) h = not-closed m (barred (first + suc k) ≡ true) (inner-closed body k m h) opened
+    open_in scope around first (work w) k m good at opened = absurd (cc)
+    open_in scope around first (continue line) k m good at opened = absurd (cc)
+
+    open_of : (scope : Scope) (around : List ℕ) (first : ℕ) (ss : Statements) (k : ℕ) (m : Mark) → are_good_statements scope around first ss ≡ true → slice_get (marks_of barred ss) k ≡ Some m → is_open m ≡ true → barred (first + k) ≡ true
+    open_of scope around first done k m good at opened = absurd (cc)
+    open_of scope around first (next s rest) k m good at opened =
+        let parts = and_parts (is_good_statement scope around first s) _ good in
+        let count = marks-count_in s in
+        elim (get-append (marks_in barred s) (marks_of barred rest) k m at) [
+          | inl here ↦ open_in scope around first s k m parts.0 here opened
+          | inr there ↦
+              let n : first + k ≡ first + loops_in s + (k - length (marks_in barred s)) = omega (arith, count, there.0) in
+              ap barred n ∙ open_of scope around (first + loops_in s) rest (k - length (marks_in barred s)) m parts.1 there.1 opened
+        ]
+
+flag-is : (vs : List LoopVerdict) (k : ℕ) (v : LoopVerdict) → slice_get vs k ≡ Some v → is_barred v ≡ get_or (map is_barred vs) k true
+flag-is [] k v h = absurd (cc)
+flag-is (w ∷ vs) zero v h = ap (λ o. is_barred (unwrap_or o v)) (sym h)
+flag-is (w ∷ vs) (suc k) v h = flag-is vs k v h
+
+pub open_are_barred : (tree : Tree) (vs : List LoopVerdict) (marks : List Mark) → IsWellFormed tree → marks ≡ marks_of (flagged (map is_barred vs)) tree.items → AreOpenBarred marks vs
+open_are_barred tree vs marks formed is k m v at there opened =
+    let f = flagged (map is_barred vs) in
+    let good = and_parts _ (are_good_statements (scope_of tree) [] 1 tree.items) formed in
+    let flag = open_of f (scope_of tree) [] 1 tree.items k m good.1 (ap (λ ms. slice_get ms k) (sym is) ∙ at) opened in
+    let n : k ≡ 1 + k - 1 = omega arith in
+    flag-is vs k v there ∙ ap (λ j. get_or (map is_barred vs) j true) n ∙ flag

@@ -1,0 +1,160 @@
+// Certificates that were found, by the systems that they refute.
+
+ghost use Rattle.std.specs.Prelude.{IfOk, IfSome, IsTrue};
+ghost use Rattle.farkas_cert.specs.Good.{IsGood};
+ghost use Rattle.plan_maker.specs.Found.{IsFound};
+ghost use Rattle.plan_maker.specs.Orders.{elimination_order as order_of};
+
+use crate::decided::{Found, copy_of, find};
+use farkas_cert::{CertRefusal, Certificate, Row, System, check_cert};
+use owner_partition::Dist;
+use std::alloc::{AllocError, Global};
+
+/// How many chains there are.
+const CHAINS: usize = 4096;
+
+/// What each number is multiplied by: odd, and with no pattern.
+const FACTOR: u128 = 0x2360_ED05_1FC6_5DA4_4385_DF64_9FCC_F645;
+
+// A certificate, with a hash of the system that it refutes.
+#[derive(Drop)]
+struct Known {
+    hash: u128,
+    certificate: Certificate,
+}
+
+/// Certificates of the systems that were asked about, found by a hash of their rows. Nothing is
+/// known of them: each is checked before it is taken.
+#[derive(Drop)]
+pub(crate) struct Findings {
+    chains: Vec<Vec<Known>>,
+}
+
+// The hash with one number more.
+fn mixed(hash: u128, number: i128) -> u128 {
+    hash.wrapping_add(number.cast_unsigned())
+        .wrapping_mul(FACTOR)
+}
+
+// The hash with one row more.
+fn with_row(hash: u128, row: &Row) -> u128 {
+    let mut sum = mixed(hash, row.bound);
+    for (place, coef) in row.coefs.as_slice().iter().enumerate() {
+        if *coef != 0 {
+            sum = mixed(mixed(sum, place as i128), *coef);
+        }
+    }
+    sum
+}
+
+// A hash of a system.
+fn hash_of(system: &System) -> u128 {
+    let mut sum = mixed(0, i128::from(system.vars()));
+    for row in system.rows() {
+        sum = with_row(sum, row);
+    }
+    sum
+}
+
+// The chain of a hash.
+fn chain_of(hash: u128) -> usize {
+    ((hash >> 64) % CHAINS as u128) as usize
+}
+
+// Whether a certificate is good for a system.
+fn is_good(alloc: Global, system: &System, certificate: &Certificate) -> Result<bool, AllocError>
+    ensures { IfOk result (λ good. IsTrue good → IsGood system.now certificate.now) }
+{
+    match check_cert(alloc, system, certificate) {
+        Ok(()) => Ok(true),
+        Err(CertRefusal::NoMemory) => Err(AllocError),
+        Err(_) => Ok(false),
+    }
+}
+
+// A copy of a certificate, if it has this hash and is good for a system.
+fn good_copy(
+    alloc: Global,
+    known: &Known,
+    hash: u128,
+    system: &System,
+) -> Result<Option<Certificate>, AllocError>
+    ensures { IfOk result (λ o. IfSome o (IsGood system.now)) }
+{
+    if known.hash != hash {
+        return Ok(None);
+    }
+    if is_good(alloc, system, &known.certificate)? {
+        return Ok(Some(copy_of(alloc, &known.certificate)?));
+    }
+    Ok(None)
+}
+
+// The first of these certificates that has this hash and is good for a system.
+fn recall(
+    alloc: Global,
+    chain: &[Known],
+    hash: u128,
+    system: &System,
+) -> Result<Option<Certificate>, AllocError>
+    ensures { IfOk result (λ o. IfSome o (IsGood system.now)) }
+{
+    for known in chain {
+        if let Some(certificate) = good_copy(alloc, known, hash, system)? {
+            return Ok(Some(certificate));
+        }
+    }
+    Ok(None)
+}
+
+// What elimination finds of a system with this hash whose owners are dealt so. Its certificate, if
+// there is one, is kept.
+fn find_anew(
+    alloc: Global,
+    chain: &mut Vec<Known>,
+    hash: u128,
+    system: &System,
+    dists: &[Dist],
+) -> Result<Found, AllocError>
+    ensures { IfOk result (IsFound system.now (order_of system.now.vars dists.now)) }
+{
+    let found = find(alloc, system, dists)?;
+    if let Found::Refuted(certificate) = &found {
+        let certificate = copy_of(alloc, certificate)?;
+        chain.push(Known { hash, certificate })?;
+    }
+    Ok(found)
+}
+
+impl Findings {
+    /// No certificate yet.
+    pub(crate) fn new(alloc: Global) -> Result<Self, AllocError> {
+        let mut chains = Vec::new(alloc);
+        for _ in 0..CHAINS {
+            chains.push(Vec::new(alloc))?;
+        }
+        Ok(Findings { chains })
+    }
+
+    /// What elimination finds of a system whose owners are dealt so. It isn't asked where a
+    /// certificate is there.
+    pub(crate) fn find(
+        &mut self,
+        alloc: Global,
+        system: &System,
+        dists: &[Dist],
+    ) -> Result<Found, AllocError>
+        ensures { IfOk result (IsFound system.now (order_of system.now.vars dists.now)) }
+    {
+        let hash = hash_of(system);
+        let place = chain_of(hash);
+        if place >= self.chains.len() {
+            return find(alloc, system, dists);
+        }
+        let chain = &mut self.chains[place];
+        if let Some(certificate) = recall(alloc, chain.as_slice(), hash, system)? {
+            return Ok(Found::Refuted(certificate));
+        }
+        find_anew(alloc, chain, hash, system, dists)
+    }
+}
