@@ -29,9 +29,9 @@ mod tests;
 
 use nest_tree::{Program, program_limits};
 use owner_partition::{Cut, Mark};
+use plan_checker::check_fit;
 use range_check::check_ranges;
 use seq_meaning::run_sequential;
-use serial_plan::serial_plan;
 use spmd_machine::Machine;
 use std::io::Write;
 use std::time::Instant;
@@ -66,7 +66,9 @@ fn small(rt: &HostRuntime) -> io::Result<()> {
     let loops = kinds::six_loops(rt.alloc())?;
     run_under(rt, &loops, &parallel::each_kind(rt.alloc())?, false)?;
     let nests = nests::two_nests(rt.alloc())?;
-    run_under(rt, &nests, &serial_plan(rt.alloc(), &nests, 2)?, false)?;
+    let marks = Vec::from_array(rt.alloc(), [Mark::Outer, Mark::Single])?;
+    let plan = parallel::barriers(rt.alloc(), marks, 3)?;
+    run_under(rt, &nests, &plan, false)?;
     steps(rt, &kinds::first_run(rt.alloc())?)
 }
 
@@ -80,7 +82,10 @@ fn steps(rt: &HostRuntime, program: &Program) -> io::Result<()>
     if let Err(outside) = check_ranges(rt.alloc(), program) {
         return rt.println(outside);
     }
-    let plan = serial_plan(rt.alloc(), program, 2)?;
+    let plan = parallel::barriers(rt.alloc(), Vec::new(rt.alloc()), 3)?;
+    if let Err(refusal) = check_fit(program, &plan) {
+        return rt.println(refusal);
+    }
     let mut machine = Machine::new(rt.alloc(), program, &plan)?;
     'steps: for _ in 0..4 {
         println!(rt; "{:?}", machine.step(1))?;

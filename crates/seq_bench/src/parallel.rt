@@ -1,6 +1,6 @@
 // Runs of the machine.
 
-ghost use Rattle.std.specs.Prelude.{◌≤◌, ◌<◌, IsTrue};
+ghost use Rattle.std.specs.Prelude.{◌≡◌, ◌≤◌, ◌<◌, IfOk, IsTrue};
 ghost use Rattle.nest_tree.specs.Form.{is_small};
 ghost use Rattle.nest_tree.specs.Limits.{IsWithinLimits};
 ghost use Rattle.nest_tree.specs.View.{tree_of};
@@ -16,7 +16,7 @@ use std::alloc::{AllocError, Global};
 use std::io;
 use std::io::Write;
 use std::time::Instant;
-use sync_plan::{Anchors, Certificates, Conditions, Kind, Kinds, Plan, Version};
+use sync_plan::{Anchors, Certificates, Conditions, Kind, Kinds, Plan, Version, all_barrier};
 
 // An anchor to a loop's value less 1, in blocks.
 fn blocks(alloc: Global, loop_number: u32, length: u32) -> Result<Anchor, AllocError>
@@ -88,6 +88,18 @@ pub(crate) fn each_kind(alloc: Global) -> Result<Plan, AllocError> {
         Kind::Barrier,
     ]?;
     Ok(plan_of(3, Cut::new(alloc, marks)?, anchors, kinds, alloc))
+}
+
+/// A plan of two workers for loops with these marks and so many phases: processor 0 does everything,
+/// with a barrier in front of each phase.
+pub(crate) fn barriers(alloc: Global, marks: Vec<Mark>, phases: u32) -> Result<Plan, AllocError>
+    ensures { IfOk result (λ plan. plan.workers ≡ 2) }
+{
+    let mut anchors = Vec::new(alloc);
+    for _ in 0..phases {
+        anchors.push(one_processor(alloc, 0))?;
+    }
+    all_barrier(alloc, Cut::new(alloc, marks)?, anchors, 2, Vec::new(alloc))
 }
 
 /// Runs a program under a plan by the round robin, and writes its output. With a word it also
