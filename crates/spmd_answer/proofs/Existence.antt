@@ -1,5 +1,5 @@
 -- It is not so that nothing is due for a request.
-use Rattle.std.proofs.Common.{◌≡◌, ◌∙◌, ◌==◌, ◌≤◌, ◌+◌, ℕ, suc, zero, ℤ, Bool, true, false, ap, sym, subst, refl, List, [], ◌∷◌, ◌++◌, append_assoc, append-nil, length, Option, None, Some, codes, if◌then◌else◌, arith, eqb-true}
+use Rattle.std.proofs.Common.{◌≡◌, ◌∙◌, ◌==◌, ◌≤◌, ◌+◌, ℕ, suc, zero, ℤ, Bool, true, false, true≢false, ap, sym, subst, refl, List, [], ◌∷◌, ◌++◌, append_assoc, append-nil, length, Option, None, Some, codes, if◌then◌else◌, arith, eqb-true}
 use Rattle.std.specs.Fmt.{decimal}
 use Rattle.std.specs.List.{flat_map}
 use Rattle.std.proofs.lemmas.List.{length-append}
@@ -19,10 +19,9 @@ use Rattle.plan_checker.specs.RefusalText.{text_of_refusal}
 use Rattle.plan_checker.specs.declared.refusal.PlanRefusal.{PlanRefusal}
 use Rattle.plan_checker.specs.declared.refusal.PlanRefusal.TheVariants.{Shape}
 use Rattle.plan_checker.proofs.Certified.{accepted_where_none}
-use Rattle.serial_plan.specs.Serial.{serial_plan}
-use Rattle.command_words.specs.Wanted.{Wanted, sequential, verify, run}
-use Rattle.command_words.specs.declared.request.PlanChoice.TheVariants.{Barrier, Given}
-use Rattle.spmd_answer.specs.Due.{Due, IsDueOf, IsDueOn, IsFirstOr, IsRefusalFor, IsTextFor, behind_end, behind_of, done, due_of_refusal, line, plan_refused, unaccepted, written}
+use Rattle.command_words.specs.Wanted.{Wanted, sequential, verify, planned, run}
+use Rattle.command_words.specs.declared.request.PlanChoice.TheVariants.{Made, Barrier, Given}
+use Rattle.spmd_answer.specs.Due.{Due, IsDueOf, IsDueOn, IsFirstOr, IsRefusalFor, IsTextFor, behind_end, behind_of, done, due_of_refusal, line, makes_plan, plan_refused, unaccepted, written}
 use Rattle.spmd_answer.specs.Given.{HasWorkers, IsRefusedPlan, IsTakenPlan, first_reason, no_text, unfit}
 
 -- ---- bytes are a plan's text or have a first line that no plan's text has
@@ -92,15 +91,15 @@ refused_or_taken asked tree bytes unrefused untaken =
 
 -- ---- due for a request
 
-on_program : (wanted : Wanted) (tree : Tree) (bytes : List ℕ) → ((due : Due) → IsDueOn wanted tree bytes due → ⊥) → ⊥
-on_program (sequential settings) tree bytes none = none (done (output_of tree)) (written (output_of tree) refl refl)
-on_program (verify settings) tree bytes none =
+on_program : (wanted : Wanted) (tree : Tree) (bytes : List ℕ) → makes_plan wanted ≡ false → ((due : Due) → IsDueOn wanted tree bytes due → ⊥) → ⊥
+on_program (sequential settings) tree bytes fixed none = none (done (output_of tree)) (written (output_of tree) refl refl)
+on_program (verify settings) tree bytes fixed none =
     refused_or_taken None tree bytes (λ text is. none (plan_refused text) (unaccepted text is refl))
     (λ plan is. none (done (line (codes "ACCEPTED"))) (written (line (codes "ACCEPTED")) (plan, is, refl) refl))
-on_program (run workers Barrier settings) tree bytes none =
-    let text = plan_text (serial_plan workers tree) ++ output_of tree in
-    none (done text) (written text (serial_plan workers tree, refl, refl) refl)
-on_program (run workers Given settings) tree bytes none =
+on_program (planned workers settings) tree bytes fixed none = absurd (true≢false fixed)
+on_program (run workers Made settings) tree bytes fixed none = absurd (true≢false fixed)
+on_program (run workers Barrier settings) tree bytes fixed none = absurd (true≢false fixed)
+on_program (run workers Given settings) tree bytes fixed none =
     refused_or_taken (Some workers) tree bytes (λ text is. none (plan_refused text) (unaccepted text is refl))
     (λ plan is. none (done (plan_text plan ++ output_of tree)) (written (plan_text plan ++ output_of tree) (plan, is, refl) refl))
 
@@ -109,7 +108,7 @@ pub first_never : (o : Option Due) (IsElse : Due → Type 0) → (((due : Due) �
 first_never None IsElse never none = never none
 first_never (Some d) IsElse never none = none d refl
 
-pub never_none : (wanted : Wanted) (settings : List (Name × ℤ)) (bytes : List ℕ) → ((due : Due) → IsDueOf wanted settings bytes due → ⊥) → ⊥
-never_none wanted settings bytes =
+pub never_none : (wanted : Wanted) (settings : List (Name × ℤ)) (bytes : List ℕ) → makes_plan wanted ≡ false → ((due : Due) → IsDueOf wanted settings bytes due → ⊥) → ⊥
+never_none wanted settings bytes fixed =
     let tree = program_in (entries_of bytes) settings in
-    first_never (due_of_refusal (behind_of wanted) bytes settings) (IsDueOn wanted tree (behind_end bytes)) (on_program wanted tree (behind_end bytes))
+    first_never (due_of_refusal (behind_of wanted) bytes settings) (IsDueOn wanted tree (behind_end bytes)) (on_program wanted tree (behind_end bytes) fixed)

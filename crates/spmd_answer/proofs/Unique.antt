@@ -1,5 +1,5 @@
 -- One status with one text is due for a request.
-use Rattle.std.proofs.Common.{◌≡◌, ◌∙◌, ◌==◌, ℕ, ℤ, Bool, true, false, ap, sym, subst, refl, List, [], ◌++◌, append-nil, Option, None, Some, codes}
+use Rattle.std.proofs.Common.{◌≡◌, ◌≢◌, ◌∙◌, ◌==◌, ℕ, ℤ, Bool, true, false, true≢false, ap, sym, subst, refl, List, [], ◌++◌, append-nil, Option, None, Some, codes}
 use Rattle.std.specs.Fmt.{decimal}
 use Rattle.std.proofs.lemmas.Bool.Decides.{nat_tests}
 use Rattle.std.proofs.Common.{arith}
@@ -17,9 +17,10 @@ use Rattle.plan_checker.specs.Failures.{first_failure}
 use Rattle.plan_checker.specs.RefusalText.{text_of_refusal}
 use Rattle.plan_checker.specs.declared.refusal.PlanRefusal.{PlanRefusal}
 use Rattle.plan_checker.proofs.Certified.{none_where_accepted}
-use Rattle.command_words.specs.Wanted.{Wanted, sequential, verify, run}
-use Rattle.command_words.specs.declared.request.PlanChoice.TheVariants.{Barrier, Given}
-use Rattle.spmd_answer.specs.Due.{Due, IsDueOf, IsDueOn, IsFirstOr, IsRefusalFor, IsTextFor, behind_end, behind_of, done, due_of_refusal, plan_refused, unaccepted, written}
+use Rattle.command_words.specs.Wanted.{Wanted, sequential, verify, planned, run}
+use Rattle.command_words.specs.declared.request.PlanChoice.TheVariants.{Made, Barrier, Given}
+use Rattle.spmd_answer.specs.Due.{Due, IsDueOf, IsDueOn, IsFirstOr, IsRefusalFor, IsTextFor, behind_end, behind_of, done, due_of_refusal, makes_plan, plan_refused, unaccepted, written}
+use Rattle.spmd_answer.specs.declared.status.Status.TheVariants.{Done}
 use Rattle.spmd_answer.specs.Given.{HasWorkers, IsRefusedPlan, IsTakenPlan, first_reason, no_text, unfit}
 
 -- two plans with one text are one
@@ -53,17 +54,21 @@ refused_or_taken asked tree bytes s plan (unfit x hx bx r first p) is =
     let none : None ≡ Some r = sym (no_reason asked tree plan is.workers_are is.accepted) ∙ ap (first_reason asked tree) (sym same) ∙ first in
     cc
 
--- one text is written
-one_text : (wanted : Wanted) (tree : Tree) (bytes s t : List ℕ) → IsTextFor wanted tree bytes s → IsTextFor wanted tree bytes t → s ≡ t
-one_text (sequential settings) tree bytes s t p q = p ∙ sym q
-one_text (verify settings) tree bytes s t (x, is, p) (y, is', q) = p ∙ sym q
-one_text (run workers Barrier settings) tree bytes s t (x, is, p) (y, is', q) = p ∙ ap (λ plan. plan_text plan ++ output_of tree) (is ∙ sym is') ∙ sym q
-one_text (run workers Given settings) tree bytes s t (x, is, p) (y, is', q) =
+-- one text is written, where no plan is made
+one_text : (wanted : Wanted) (tree : Tree) (bytes s t : List ℕ) → makes_plan wanted ≡ false → IsTextFor wanted tree bytes s → IsTextFor wanted tree bytes t → s ≡ t
+one_text (sequential settings) tree bytes s t fixed p q = p ∙ sym q
+one_text (verify settings) tree bytes s t fixed (x, is, p) (y, is', q) = p ∙ sym q
+one_text (planned workers settings) tree bytes s t fixed p q = absurd (true≢false fixed)
+one_text (run workers Made settings) tree bytes s t fixed p q = absurd (true≢false fixed)
+one_text (run workers Barrier settings) tree bytes s t fixed p q = absurd (true≢false fixed)
+one_text (run workers Given settings) tree bytes s t fixed (x, is, p) (y, is', q) =
     p ∙ ap (λ plan. plan_text plan ++ output_of tree) (one_plan x y bytes is.shown is'.shown is.bytes_are is'.bytes_are) ∙ sym q
 
 one_refusal : (wanted : Wanted) (tree : Tree) (bytes s t : List ℕ) → IsRefusalFor wanted tree bytes s → IsRefusalFor wanted tree bytes t → s ≡ t
 one_refusal (sequential settings) tree bytes s t p q = absurd p
 one_refusal (verify settings) tree bytes s t p q = one_reason None tree bytes s t p q
+one_refusal (planned workers settings) tree bytes s t p q = absurd p
+one_refusal (run workers Made settings) tree bytes s t p q = absurd p
 one_refusal (run workers Barrier settings) tree bytes s t p q = absurd p
 one_refusal (run workers Given settings) tree bytes s t p q = one_reason (Some workers) tree bytes s t p q
 
@@ -71,21 +76,38 @@ one_refusal (run workers Given settings) tree bytes s t p q = one_reason (Some w
 pub refused_or_written : (wanted : Wanted) (tree : Tree) (bytes s t : List ℕ) → IsRefusalFor wanted tree bytes s → IsTextFor wanted tree bytes t → ⊥
 refused_or_written (sequential settings) tree bytes s t p q = p
 refused_or_written (verify settings) tree bytes s t p (plan, is, q) = refused_or_taken None tree bytes s plan p is
+refused_or_written (planned workers settings) tree bytes s t p q = p
+refused_or_written (run workers Made settings) tree bytes s t p q = p
 refused_or_written (run workers Barrier settings) tree bytes s t p q = p
 refused_or_written (run workers Given settings) tree bytes s t p (plan, is, q) = refused_or_taken (Some workers) tree bytes s plan p is
 
-on_program : (wanted : Wanted) (tree : Tree) (bytes : List ℕ) (a b : Due) → IsDueOn wanted tree bytes a → IsDueOn wanted tree bytes b → a ≡ b
-on_program wanted tree bytes a b (unaccepted s x p) (unaccepted t y q) = p ∙ ap plan_refused (one_refusal wanted tree bytes s t x y) ∙ sym q
-on_program wanted tree bytes a b (unaccepted s x p) (written t y q) = absurd (refused_or_written wanted tree bytes s t x y)
-on_program wanted tree bytes a b (written s x p) (unaccepted t y q) = absurd (refused_or_written wanted tree bytes t s y x)
-on_program wanted tree bytes a b (written s x p) (written t y q) = p ∙ ap done (one_text wanted tree bytes s t x y) ∙ sym q
+-- one status and, where it isn't 0 or one text is written, one text
+on_program : (P : Due → Due → Type 0) (wanted : Wanted) (tree : Tree) (bytes : List ℕ) (a b : Due) → ((d : Due) → P d d)
+    → ((s t : List ℕ) → IsTextFor wanted tree bytes s → IsTextFor wanted tree bytes t → P (done s) (done t)) → IsDueOn wanted tree bytes a → IsDueOn wanted tree bytes b → P a b
+on_program P wanted tree bytes a b same texts (unaccepted s x p) (unaccepted t y q) = subst (P a) (p ∙ ap plan_refused (one_refusal wanted tree bytes s t x y) ∙ sym q) (same a)
+on_program P wanted tree bytes a b same texts (unaccepted s x p) (written t y q) = absurd (refused_or_written wanted tree bytes s t x y)
+on_program P wanted tree bytes a b same texts (written s x p) (unaccepted t y q) = absurd (refused_or_written wanted tree bytes t s y x)
+on_program P wanted tree bytes a b same texts (written s x p) (written t y q) = subst (λ (d : Due). P d b) (sym p) (subst (P (done s)) (sym q) (texts s t x y))
 
 -- what holds of either case
-pub first_one : (o : Option Due) (IsElse : Due → Type 0) (a b : Due) → (IsElse a → IsElse b → a ≡ b) → IsFirstOr o IsElse a → IsFirstOr o IsElse b → a ≡ b
-first_one None IsElse a b same p q = same p q
-first_one (Some d) IsElse a b same p q = p ∙ sym q
+pub first_one : (P : Due → Due → Type 0) (o : Option Due) (IsElse : Due → Type 0) (a b : Due) → ((d : Due) → P d d) → (IsElse a → IsElse b → P a b) → IsFirstOr o IsElse a → IsFirstOr o IsElse b → P a b
+first_one P None IsElse a b same rest p q = rest p q
+first_one P (Some d) IsElse a b same rest p q = subst (P a) (p ∙ sym q) (same a)
 
-pub one_is_due : (wanted : Wanted) (settings : List (Name × ℤ)) (bytes : List ℕ) (a b : Due) → IsDueOf wanted settings bytes a → IsDueOf wanted settings bytes b → a ≡ b
-one_is_due wanted settings bytes a b =
+-- what holds of two that are due for a request, where it holds of equal ones and of two texts
+related : (P : Due → Due → Type 0) (wanted : Wanted) (settings : List (Name × ℤ)) (bytes : List ℕ) (a b : Due) → ((d : Due) → P d d)
+    → ((s t : List ℕ) → IsTextFor wanted (program_in (entries_of bytes) settings) (behind_end bytes) s → IsTextFor wanted (program_in (entries_of bytes) settings) (behind_end bytes) t → P (done s) (done t))
+    → IsDueOf wanted settings bytes a → IsDueOf wanted settings bytes b → P a b
+related P wanted settings bytes a b same texts =
     let tree = program_in (entries_of bytes) settings in
-    first_one (due_of_refusal (behind_of wanted) bytes settings) (IsDueOn wanted tree (behind_end bytes)) a b (on_program wanted tree (behind_end bytes) a b)
+    first_one P (due_of_refusal (behind_of wanted) bytes settings) (IsDueOn wanted tree (behind_end bytes)) a b same (on_program P wanted tree (behind_end bytes) a b same texts)
+
+pub one_status : (wanted : Wanted) (settings : List (Name × ℤ)) (bytes : List ℕ) (a b : Due) → IsDueOf wanted settings bytes a → IsDueOf wanted settings bytes b → a.status ≡ b.status
+one_status wanted settings bytes a b = related (λ x y. x.status ≡ y.status) wanted settings bytes a b (λ d. refl) (λ s t x y. refl)
+
+pub one_refused : (wanted : Wanted) (settings : List (Name × ℤ)) (bytes : List ℕ) (a b : Due) → IsDueOf wanted settings bytes a → IsDueOf wanted settings bytes b → a.status ≢ Done → a ≡ b
+one_refused wanted settings bytes a b = related (λ x y. x.status ≢ Done → x ≡ y) wanted settings bytes a b (λ d other. refl) (λ s t x y other. absurd (other refl))
+
+pub one_is_due : (wanted : Wanted) (settings : List (Name × ℤ)) (bytes : List ℕ) (a b : Due) → makes_plan wanted ≡ false → IsDueOf wanted settings bytes a → IsDueOf wanted settings bytes b → a ≡ b
+one_is_due wanted settings bytes a b fixed =
+    related (λ x y. x ≡ y) wanted settings bytes a b (λ d. refl) (λ s t x y. ap done (one_text wanted (program_in (entries_of bytes) settings) (behind_end bytes) s t fixed x y))

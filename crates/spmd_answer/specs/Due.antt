@@ -1,5 +1,5 @@
 -- What is due for a request: the status and the text, from the request, its settings and the bytes of the source alone.
-use Rattle.std.specs.Prelude.{ℕ, ℤ, ◌≡◌, List, [], ◌∷◌, ◌++◌, drop, Option, Some, None, codes}
+use Rattle.std.specs.Prelude.{ℕ, ℤ, ◌≡◌, Bool, true, false, List, [], ◌∷◌, ◌++◌, drop, Option, Some, None, codes}
 use Rattle.std.specs.Fmt.{decimal, signed_decimal}
 use Rattle.std.specs.Option.{option_map, option_or}
 use Rattle.nest_tree.specs.LimitText.{text_of_limit}
@@ -15,11 +15,13 @@ use Rattle.f77_scene.specs.Reading.{first_fault_in, program_in}
 use Rattle.f77_scene.specs.Scene.{Name}
 use Rattle.range_check.specs.Outside.{outside_of}
 use Rattle.range_check.specs.OutsideText.{text_of_outside}
-use Rattle.command_words.specs.Wanted.{Wanted, sequential, verify, run}
+use Rattle.command_words.specs.Wanted.{Wanted, sequential, verify, planned, run}
 use Rattle.command_words.specs.declared.request.PlanChoice.{PlanChoice}
-use Rattle.command_words.specs.declared.request.PlanChoice.TheVariants.{Barrier, Given}
+use Rattle.command_words.specs.declared.request.PlanChoice.TheVariants.{Made, Barrier, Given}
 use Rattle.plan_text.specs.PlanText.{plan_text}
-use Rattle.serial_plan.specs.Serial.{serial_plan}
+use Rattle.plan_maker.specs.Made.{IsBarrierPlan, IsMade}
+use Rattle.plan_maker.specs.declared.reasons.Reasons.{Reasons}
+use Rattle.reason_text.specs.ReasonText.{reason_text}
 use Rattle.sync_plan.specs.declared.plan.Plan.{Plan}
 use Rattle.spmd_answer.specs.Given.{IsRefusedPlan, IsTakenPlan}
 use Rattle.spmd_answer.specs.declared.source.Behind.{Behind}
@@ -101,28 +103,43 @@ due_of_refusal behind bytes settings =
 abbrev pub behind_of : Wanted → Behind
 behind_of (sequential settings) = Comments
 behind_of (verify settings) = PlanText
+behind_of (planned workers settings) = Comments
+behind_of (run workers Made settings) = Comments
 behind_of (run workers Barrier settings) = Comments
 behind_of (run workers Given settings) = PlanText
+
+-- a plan is made for a request: then more than one text may be due
+abbrev pub makes_plan : Wanted → Bool
+makes_plan (sequential settings) = false
+makes_plan (verify settings) = false
+makes_plan (planned workers settings) = true
+makes_plan (run workers Made settings) = true
+makes_plan (run workers Barrier settings) = true
+makes_plan (run workers Given settings) = false
 
 -- the bytes behind the line end of END
 abbrev pub behind_end : List ℕ → List ℕ
 behind_end bytes = drop (size_to_end (lines_of bytes)) bytes
 
--- The plan by which a run goes, for so many workers: that where processor 0 does everything, or the one that is given behind END.
+-- The plan by which a run goes, for so many workers: one that is made, for some reasons; one with its cut, its anchors and barriers; or the one that is given behind END.
 abbrev pub IsPlanFor : PlanChoice → ℕ → Tree → List ℕ → Plan → Type 0
-IsPlanFor Barrier workers tree bytes plan = plan ≡ serial_plan workers tree
+IsPlanFor Made workers tree bytes plan = (reasons : Reasons) × IsMade tree workers plan reasons
+IsPlanFor Barrier workers tree bytes plan = IsBarrierPlan tree workers plan
 IsPlanFor Given workers tree bytes plan = IsTakenPlan (Some workers) tree bytes plan
 
--- What is written for a request on a program, with these bytes behind its END line: of a sequential run the output; that the plan is accepted; of a run by a plan the plan's text and then the sequential output.
+-- What is written for a request on a program, with these bytes behind its END line: of a sequential run the output; that the plan is accepted; of a plan that is made the plan's text and then that of its reasons; of a run by a plan the plan's text and then the sequential output.
 abbrev pub IsTextFor : Wanted → Tree → List ℕ → List ℕ → Type 0
 IsTextFor (sequential settings) tree bytes text = text ≡ output_of tree
 IsTextFor (verify settings) tree bytes text = (plan : Plan) × IsTakenPlan None tree bytes plan × (text ≡ line (codes "ACCEPTED"))
+IsTextFor (planned workers settings) tree bytes text = (made : Plan) × (reasons : Reasons) × IsMade tree workers made reasons × (text ≡ plan_text made ++ reason_text tree reasons)
 IsTextFor (run workers choice settings) tree bytes text = (plan : Plan) × IsPlanFor choice workers tree bytes plan × (text ≡ plan_text plan ++ output_of tree)
 
 -- The line with which the plan is refused that stands behind END: no request has one where no plan may stand there.
 abbrev pub IsRefusalFor : Wanted → Tree → List ℕ → List ℕ → Type 0
 IsRefusalFor (sequential settings) tree bytes reason = ⊥
 IsRefusalFor (verify settings) tree bytes reason = IsRefusedPlan None tree bytes reason
+IsRefusalFor (planned workers settings) tree bytes reason = ⊥
+IsRefusalFor (run workers Made settings) tree bytes reason = ⊥
 IsRefusalFor (run workers Barrier settings) tree bytes reason = ⊥
 IsRefusalFor (run workers Given settings) tree bytes reason = IsRefusedPlan (Some workers) tree bytes reason
 

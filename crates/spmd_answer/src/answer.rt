@@ -6,7 +6,7 @@ ghost use Rattle.nest_tree.specs.Limits.{IsWithinLimits};
 ghost use Rattle.nest_tree.specs.View.{tree_of};
 ghost use Rattle.nest_tree.specs.WellFormed.{IsWellFormed};
 ghost use Rattle.nest_model.specs.Ranges.{IsInRange};
-ghost use Rattle.command_words.specs.Wanted.{IsCounted, run, sequential, verify, wanted};
+ghost use Rattle.command_words.specs.Wanted.{IsCounted, planned, run, sequential, verify, wanted};
 ghost use Rattle.f77_source.specs.Sources.{setting_of};
 ghost use Rattle.spmd_answer.specs.Due as due;
 ghost use Rattle.spmd_answer.specs.Due.{IsDueOf, IsDueOn};
@@ -14,13 +14,14 @@ ghost use Rattle.spmd_answer.specs.Stops.{due_in};
 
 use crate::given::given_plan;
 use crate::program::program_of;
-use crate::run::{barrier_plan, sequential_output, text_of_run};
+use crate::run::{sequential_output, text_of_plan, text_of_run};
 use crate::source::behind_of;
 use crate::status::{Answer, Status, Stop};
 use command_words::{PlanChoice, Request};
 use f77_lines::MOST_BYTES;
 use f77_source::Setting;
 use nest_tree::Program;
+use plan_maker::{make, make_barrier};
 use std::alloc::{AllocError, Global};
 use std::thread::Threads;
 
@@ -84,6 +85,8 @@ pub fn answer_on<R: Threads + Sync>(
     match request {
         Request::Sequential(_) => sequential_run(alloc, program),
         Request::Verify(_) => verified(rt, alloc, program, bytes),
+        Request::Plan(workers, _) => made_plan(alloc, program, *workers),
+        Request::Run(workers, PlanChoice::Made, _) => made_run(alloc, program, *workers),
         Request::Run(workers, PlanChoice::Barrier, _) => barrier_run(alloc, program, *workers),
         Request::Run(workers, PlanChoice::Given, _) => {
             given_run(rt, alloc, program, *workers, bytes)
@@ -133,7 +136,32 @@ fn accepted(alloc: Global) -> Result<Answer, AllocError>
     Ok(done(b"ACCEPTED\n".to_vec(alloc)?))
 }
 
-// The run by the plan where processor 0 does everything.
+// The plan that is made, with its reasons.
+fn made_plan(alloc: Global, program: &Program, workers: u32) -> Result<Answer, AllocError>
+    requires formed { IsWellFormed (tree_of program.now) }
+    requires limits { IsWithinLimits (tree_of program.now) }
+    requires some { 1 ≤ workers }
+    requires few { workers ≤ 64 }
+    ensures { (settings : List Text) (bytes : List ℕ) → IfOk result (λ a. IsDueOn (planned workers settings) (tree_of program.now) bytes (due_in a)) }
+{
+    let (plan, reasons) = make(alloc, program, workers)?;
+    Ok(done(text_of_plan(alloc, program, &plan, &reasons)?))
+}
+
+// The run by the plan that is made.
+fn made_run(alloc: Global, program: &Program, workers: u32) -> Result<Answer, AllocError>
+    requires formed { IsWellFormed (tree_of program.now) }
+    requires limits { IsWithinLimits (tree_of program.now) }
+    requires ranges { IsInRange (tree_of program.now) }
+    requires some { 1 ≤ workers }
+    requires few { workers ≤ 64 }
+    ensures { (settings : List Text) (bytes : List ℕ) → IfOk result (λ a. IsDueOn (run workers PlanChoice.Made settings) (tree_of program.now) bytes (due_in a)) }
+{
+    let (plan, _) = make(alloc, program, workers)?;
+    Ok(done(text_of_run(alloc, program, &plan)?))
+}
+
+// The run by the plan with a barrier in front of each phase.
 fn barrier_run(alloc: Global, program: &Program, workers: u32) -> Result<Answer, AllocError>
     requires formed { IsWellFormed (tree_of program.now) }
     requires limits { IsWithinLimits (tree_of program.now) }
@@ -142,7 +170,7 @@ fn barrier_run(alloc: Global, program: &Program, workers: u32) -> Result<Answer,
     requires few { workers ≤ 64 }
     ensures { (settings : List Text) (bytes : List ℕ) → IfOk result (λ a. IsDueOn (run workers PlanChoice.Barrier settings) (tree_of program.now) bytes (due_in a)) }
 {
-    let plan = barrier_plan(alloc, program, workers)?;
+    let plan = make_barrier(alloc, program, workers)?;
     Ok(done(text_of_run(alloc, program, &plan)?))
 }
 

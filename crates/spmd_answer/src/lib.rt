@@ -26,7 +26,7 @@ pub use crate::answer::{answer_on, answer_to};
 pub use crate::given::given_plan;
 pub use crate::laws::{four_statuses_are_due, never_none, one_due};
 pub use crate::program::program_of;
-pub use crate::run::{barrier_plan, sequential_output, text_of_run};
+pub use crate::run::{sequential_output, text_of_plan, text_of_run};
 pub use crate::source::{Behind, behind_of, lines_of};
 pub use crate::status::{Answer, Status, Stop};
 pub use crate::tree::check_tree;

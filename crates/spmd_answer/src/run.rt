@@ -6,15 +6,16 @@ ghost use Rattle.nest_tree.specs.View.{tree_of};
 ghost use Rattle.nest_tree.specs.WellFormed.{IsWellFormed};
 ghost use Rattle.nest_model.specs.Memory.{output_of};
 ghost use Rattle.nest_model.specs.Ranges.{IsInRange};
-ghost use Rattle.plan_text.specs.PlanText.{HasText, plan_text};
-ghost use Rattle.serial_plan.specs.Serial as serial;
+ghost use Rattle.plan_text.specs.PlanText.{HasCounts, plan_text};
+ghost use Rattle.reason_text.specs.ReasonText.{reason_text};
 ghost use Rattle.sync_plan.specs.Fit.{IsFit};
 ghost use Rattle.sync_plan.specs.Ordered.{IsOrdered};
 
 use nest_tree::Program;
+use plan_maker::reasons::Reasons;
 use plan_text::write_plan;
+use reason_text::push_reasons;
 use seq_meaning::run_sequential;
-use serial_plan::serial_plan;
 use spmd_machine::Machine;
 use std::alloc::{AllocError, Global};
 use sync_plan::Plan;
@@ -38,7 +39,7 @@ pub fn text_of_run(alloc: Global, program: &Program, plan: &Plan) -> Result<Vec<
     requires ranges { IsInRange (tree_of program.now) }
     requires fits { IsFit (tree_of program.now) plan.now }
     requires ordered { IsOrdered (tree_of program.now) plan.now }
-    requires text { HasText plan.now }
+    requires counts { HasCounts plan.now }
     ensures { IfOk result (λ text. text.items ≡ plan_text plan.now ++ output_of (tree_of program.now)) }
 {
     let text = write_plan(alloc, plan)?;
@@ -53,18 +54,19 @@ fn joined(mut front: Vec<u8>, behind: &[u8]) -> Result<Vec<u8>, AllocError>
     Ok(front)
 }
 
-/// The plan where processor 0 does everything, for so many workers. It may be run, and has a text.
-/// The error is that memory ran out.
-pub fn barrier_plan(alloc: Global, program: &Program, workers: u32) -> Result<Plan, AllocError>
-    requires formed { IsWellFormed (tree_of program.now) }
-    requires some { 1 ≤ workers }
-    requires few { workers ≤ 64 }
-    ensures plan { IfOk result (λ plan. plan ≡ serial.serial_plan workers (tree_of program.now)) }
-    ensures fits { IfOk result (λ plan. IsFit (tree_of program.now) plan) }
-    ensures ordered { IfOk result (λ plan. IsOrdered (tree_of program.now) plan) }
-    ensures text { IfOk result (λ plan. HasText plan) }
+/// The text of a plan, and then that of its reasons. The error is that memory ran out.
+pub fn text_of_plan(
+    alloc: Global,
+    program: &Program,
+    plan: &Plan,
+    reasons: &Reasons,
+) -> Result<Vec<u8>, AllocError>
+    requires { HasCounts plan.now }
+    ensures { IfOk result (λ text. text.items ≡ plan_text plan.now ++ reason_text (tree_of program.now) reasons.now) }
 {
-    serial_plan(alloc, program, workers)
+    let mut text = write_plan(alloc, plan)?;
+    push_reasons(&mut text, program, reasons)?;
+    Ok(text)
 }
 
 // The output of a run by an ordered plan, in rounds of one step per processor.

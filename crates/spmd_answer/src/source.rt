@@ -27,7 +27,9 @@ pub fn behind_of(request: &Request) -> Behind
     ensures { result ≡ behind_of (wanted request.now) }
 {
     match request {
-        Request::Sequential(_) | Request::Run(_, PlanChoice::Barrier, _) => Behind::Comments,
+        Request::Sequential(_)
+        | Request::Plan(..)
+        | Request::Run(_, PlanChoice::Made | PlanChoice::Barrier, _) => Behind::Comments,
         Request::Verify(_) | Request::Run(_, PlanChoice::Given, _) => Behind::PlanText,
     }
 }

@@ -79,28 +79,9 @@ fn requests_are_answered(rt: HostRuntime) -> Result<(), Fail> {
                 "      END",
             ],
             Status::Done,
-            "SPMD PLAN 2\nWORKERS 2\nLOOPS 2\n1 OUTER\n2 SINGLE\nPHASES 3\n1 BARRIER AT 0 CYCLIC\n2 BARRIER AT 0 CYCLIC\n3 BARRIER AT 0 CYCLIC\nCERTIFICATES 0\nEND PLAN\n 6 39\n",
+            "SPMD PLAN 2\nWORKERS 2\nLOOPS 2\n1 SINGLE\n2 INNER\nPHASES 2\n1 BARRIER AT 0 CYCLIC\n2 BARRIER AT 0 CYCLIC\nCERTIFICATES 0\nEND PLAN\n 6 39\n",
         ),
-        (
-            0,
-            &[
-                "      PROGRAM JACOBI",
-                "      INTEGER N, M",
-                "      PARAMETER (N=8, M=2)",
-                "      INTEGER A(0:N+1), B(0:N+1)",
-                "      A(0) = 16",
-                "      DO 30 IT = 1, M",
-                "      DO 10 I = 1, N",
-                "   10 B(I) = (A(I-1)+A(I+1))/2",
-                "      DO 20 I = 1, N",
-                "   20 A(I) = B(I)",
-                "   30 CONTINUE",
-                "      PRINT *, A(1), A(2), A(3)",
-                "      END",
-            ],
-            Status::Done,
-            " 8 4 0\n",
-        ),
+        (0, &JACOBI, Status::Done, " 8 4 0\n"),
         (
             0,
             &[
@@ -259,6 +240,259 @@ fn settings_count(rt: HostRuntime) -> Result<(), Fail> {
     Ok(())
 }
 
+/// The plan that is made for so many workers.
+fn plan_for(alloc: Global, workers: u32) -> Request<'static>
+    ensures { IsCounted (wanted result) }
+{
+    Request::Plan(workers.min(64).max(1), Vec::new(alloc))
+}
+
+/// The run by a plan for so many workers.
+fn run_for(alloc: Global, workers: u32, plan: PlanChoice) -> Request<'static>
+    ensures { IsCounted (wanted result) }
+{
+    Request::Run(workers.min(64).max(1), plan, Vec::new(alloc))
+}
+
+/// What is due for a request without settings.
+fn due_for<R: Threads + Sync>(
+    rt: &R,
+    alloc: Global,
+    request: &Request,
+    source: &[u8],
+) -> Result<Answer, AllocError>
+    requires { IsCounted (wanted request.now) }
+{
+    if source.len() > MOST_BYTES {
+        return Err(AllocError);
+    }
+    answer_to(rt, alloc, request, &[], source)
+}
+
+/// A program, the front of the plan that is made for so many workers, the end of the text with its
+/// reasons, and what the program prints.
+struct Made {
+    source: &'static [&'static str],
+    workers: u32,
+    front: &'static str,
+    reasons: &'static str,
+    output: &'static str,
+}
+
+/// Sweeps over an array.
+const JACOBI: [&str; 13] = [
+    "      PROGRAM JACOBI",
+    "      INTEGER N, M",
+    "      PARAMETER (N=8, M=2)",
+    "      INTEGER A(0:N+1), B(0:N+1)",
+    "      A(0) = 16",
+    "      DO 30 IT = 1, M",
+    "      DO 10 I = 1, N",
+    "   10 B(I) = (A(I-1)+A(I+1))/2",
+    "      DO 20 I = 1, N",
+    "   20 A(I) = B(I)",
+    "   30 CONTINUE",
+    "      PRINT *, A(1), A(2), A(3)",
+    "      END",
+];
+
+const MADE: [Made; 7] = [
+    Made {
+        source: &["      PROGRAM E", "      END"],
+        workers: 1,
+        front: "SPMD PLAN 2\nWORKERS 1\nLOOPS 0\nPHASES 0\nCERTIFICATES 0\nEND PLAN\n",
+        reasons: "END PLAN\nEND REASONS\n",
+        output: "END PLAN\n",
+    },
+    Made {
+        source: &JACOBI,
+        workers: 1,
+        front: "SPMD PLAN 2\nWORKERS 1\nLOOPS 3\n1 OUTER\n2 DOALL\n3 DOALL\nPHASES 4\n1 NOTHING AT 0 BLOCK 10\n2 NOTHING AT 0 1*L2 BLOCK 10\n3 NOTHING AT 0 1*L3 BLOCK 10\n4 NOTHING AT 0 CYCLIC\nCERTIFICATES ",
+        reasons: "END PLAN\nLOOP 1 NOT DOALL LINES 8 10 NAME A OPEN\nEND REASONS\n",
+        output: "END PLAN\n 8 4 0\n",
+    },
+    Made {
+        source: &MIRROR,
+        workers: 3,
+        front: "SPMD PLAN 2\nWORKERS 3\nLOOPS 2\n1 DOALL\n2 DOALL\nPHASES 3\n1 NOTHING AT -1 1*L1 BLOCK 2\n2 BARRIER AT -1 1*L2 BLOCK 2\n3 NOTHING AT 0 CYCLIC\nCERTIFICATES ",
+        reasons: "END PLAN\nPHASE 2 NOT NOTHING LINES 3 5 NAME A LEVEL 0 PIECE 1 OPEN\nPHASE 2 NOT PRODUCER 0 CYCLIC LINES 3 5 NAME A LEVEL 0 PIECE 4 OPEN\nPHASE 2 NOT LEFT LINES 3 5 NAME A LEVEL 0 PIECE 1 OPEN\nPHASE 2 NOT RIGHT LINES 3 5 NAME A LEVEL 0 PIECE 1 OPEN\nPHASE 2 NOT BOTH LINES 3 5 NAME A LEVEL 0 PIECE 1 OPEN\nEND REASONS\n",
+        output: "END PLAN\n 6\n",
+    },
+    Made {
+        source: &[
+            "      INTEGER A(0:4)",
+            "      DO 10 I = 1, 4",
+            "   10 A(I) = A(I-1) + 1",
+            "      PRINT *, A(4)",
+            "      END",
+        ],
+        workers: 4,
+        front: "SPMD PLAN 2\nWORKERS 4\nLOOPS 1\n1 SINGLE\nPHASES 2\n1 NOTHING AT 0 CYCLIC\n2 NOTHING AT 0 CYCLIC\nCERTIFICATES ",
+        reasons: "END PLAN\nLOOP 1 NOT DOALL LINES 3 3 NAME A OPEN\nEND REASONS\n",
+        output: "END PLAN\n 4\n",
+    },
+    Made {
+        source: &[
+            "      INTEGER A(8)",
+            "      DO 10 I = 1, 8",
+            "   10 IF (I.LE.4) A(I) = A(I+4) + I",
+            "      PRINT *, A(1), A(4)",
+            "      END",
+        ],
+        workers: 2,
+        front: "SPMD PLAN 2\nWORKERS 2\nLOOPS 1\n1 DOALL\nPHASES 2\n1 NOTHING AT -1 1*L1 BLOCK 4\n2 NOTHING AT 0 CYCLIC\nCERTIFICATES ",
+        reasons: "END PLAN\nEND REASONS\n",
+        output: "END PLAN\n 1 4\n",
+    },
+    Made {
+        source: &[
+            "      DO 20 I = 1, 3",
+            "      K = K + I",
+            "      DO 10 J = I, 3",
+            "   10 L = L + K*J",
+            "   20 CONTINUE",
+            "      PRINT *, K, L",
+            "      END",
+        ],
+        workers: 2,
+        front: "SPMD PLAN 2\nWORKERS 2\nLOOPS 2\n1 SINGLE\n2 INNER\nPHASES 2\n1 NOTHING AT 0 CYCLIC\n2 NOTHING AT 0 CYCLIC\nCERTIFICATES ",
+        reasons: "END PLAN\nLOOP 1 NOT DOALL LINES 2 2 NAME K OPEN\nEND REASONS\n",
+        output: "END PLAN\n 6 39\n",
+    },
+    Made {
+        source: &[
+            "      DO 20 I = 1, 3",
+            "      PRINT *, I",
+            "      DO 10 J = I, 3",
+            "   10 L = L + J",
+            "   20 CONTINUE",
+            "      END",
+        ],
+        workers: 2,
+        front: "SPMD PLAN 2\nWORKERS 2\nLOOPS 2\n1 SINGLE\n2 INNER\nPHASES 1\n1 NOTHING AT 0 CYCLIC\nCERTIFICATES ",
+        reasons: "END PLAN\nLOOP 1 NOT DOALL PRINT\nEND REASONS\n",
+        output: "END PLAN\n 1\n 2\n 3\n",
+    },
+];
+
+/// Programs with more systems, and larger ones.
+const LARGER: [Made; 3] = [
+    Made {
+        source: &JACOBI,
+        workers: 2,
+        front: "SPMD PLAN 2\nWORKERS 2\nLOOPS 3\n1 OUTER\n2 DOALL\n3 DOALL\nPHASES 4\n1 NOTHING AT 0 BLOCK 5\n2 BOTH AT 0 1*L2 BLOCK 5\n3 BOTH AT 0 1*L3 BLOCK 5\n4 NOTHING AT 0 CYCLIC\nCERTIFICATES ",
+        reasons: "END PLAN\nLOOP 1 NOT DOALL LINES 8 10 NAME A OPEN\nPHASE 2 NOT NOTHING LINES 10 8 NAME A LEVEL 1 PIECE 1 OPEN\nPHASE 2 NOT PRODUCER 0 BLOCK 5 LINES 10 8 NAME A LEVEL 1 PIECE 4 OPEN\nPHASE 2 NOT PRODUCER 0 CYCLIC LINES 10 8 NAME A LEVEL 1 PIECE 4 OPEN\nPHASE 2 NOT LEFT LINES 10 8 NAME A LEVEL 1 PIECE 2 OPEN\nPHASE 2 NOT RIGHT LINES 10 8 NAME A LEVEL 1 PIECE 1 OPEN\nPHASE 3 NOT NOTHING LINES 8 10 NAME A LEVEL 0 PIECE 2 OPEN\nPHASE 3 NOT PRODUCER 0 BLOCK 5 LINES 8 10 NAME A LEVEL 0 PIECE 4 OPEN\nPHASE 3 NOT PRODUCER 0 CYCLIC LINES 8 10 NAME A LEVEL 0 PIECE 4 OPEN\nPHASE 3 NOT LEFT LINES 8 10 NAME A LEVEL 0 PIECE 2 OPEN\nPHASE 3 NOT RIGHT LINES 8 10 NAME A LEVEL 0 PIECE 1 OPEN\nEND REASONS\n",
+        output: "END PLAN\n 8 4 0\n",
+    },
+    Made {
+        source: &[
+            "C$DIST B(CYCLIC)",
+            "C$DIST X(CYCLIC)",
+            "      PROGRAM FWD",
+            "      INTEGER N",
+            "      PARAMETER (N=4)",
+            "      INTEGER B(N), X(N)",
+            "      DO 10 I = 1, N",
+            "   10 B(I) = I",
+            "      DO 30 K = 1, N",
+            "      X(K) = B(K)",
+            "      DO 20 I = K+1, N",
+            "   20 B(I) = B(I) - X(K)",
+            "   30 CONTINUE",
+            "      PRINT *, B",
+            "      END",
+        ],
+        workers: 2,
+        front: "SPMD PLAN 2\nWORKERS 2\nLOOPS 3\n1 DOALL\n2 OUTER\n3 DOALL\nPHASES 4\n1 NOTHING AT -1 1*L1 CYCLIC\n2 NOTHING AT -1 1*L2 CYCLIC\n3 PRODUCER -1 1*L2 CYCLIC AT -1 1*L3 CYCLIC\n4 RIGHT AT 0 CYCLIC\nCERTIFICATES ",
+        reasons: "END PLAN\nLOOP 2 NOT DOALL LINES 12 12 NAME B OPEN\nPHASE 3 NOT NOTHING LINES 10 12 NAME X LEVEL 0 PIECE 1 OPEN\nPHASE 4 NOT NOTHING LINES 8 14 NAME B LEVEL 0 PIECE 2 OPEN\nPHASE 4 NOT PRODUCER 0 CYCLIC LINES 8 14 NAME B LEVEL 0 PIECE 4 OPEN\nPHASE 4 NOT LEFT LINES 8 14 NAME B LEVEL 0 PIECE 2 OPEN\nEND REASONS\n",
+        output: "END PLAN\n 1 1 1 1\n",
+    },
+    Made {
+        source: &[
+            "      INTEGER A(6), B(6), C(6)",
+            "      DO 10 I = 1, 6",
+            "   10 A(I) = I",
+            "      DO 20 I = 1, 6",
+            "   20 B(I) = I",
+            "      DO 30 I = 1, 6",
+            "   30 C(I) = A(7-I)",
+            "      PRINT *, C(1)",
+            "      END",
+        ],
+        workers: 3,
+        front: "SPMD PLAN 2\nWORKERS 3\nLOOPS 3\n1 DOALL\n2 DOALL\n3 DOALL\nPHASES 4\n1 NOTHING AT -1 1*L1 BLOCK 2\n2 NOTHING AT -1 1*L2 BLOCK 2\n3 BARRIER AT -1 1*L3 BLOCK 2\n4 NOTHING AT 0 CYCLIC\nCERTIFICATES ",
+        reasons: "END PLAN\nPHASE 3 NOT NOTHING LINES 3 7 NAME A LEVEL 0 PIECE 1 OPEN\nPHASE 3 NOT PRODUCER 0 CYCLIC LINES 3 7 NAME A LEVEL 0 PIECE 4 OPEN\nPHASE 3 NOT LEFT LINES 3 7 NAME A LEVEL 0 PIECE 1 OPEN\nPHASE 3 NOT RIGHT LINES 3 7 NAME A LEVEL 0 PIECE 1 OPEN\nPHASE 3 NOT BOTH LINES 3 7 NAME A LEVEL 0 PIECE 1 OPEN\nEND REASONS\n",
+        output: "END PLAN\n 6\n",
+    },
+];
+
+/// Two of whose systems have more than 20,000 rows at a level of elimination.
+const LARGEST: [Made; 1] = [Made {
+    source: &[
+        "C$DIST B(CYCLIC)",
+        "C$DIST X(CYCLIC)",
+        "      PROGRAM FWD",
+        "      INTEGER N",
+        "      PARAMETER (N=4)",
+        "      INTEGER B(N), X(N)",
+        "      DO 10 I = 1, N",
+        "   10 B(I) = I",
+        "      DO 30 K = 1, N",
+        "      X(K) = B(K)",
+        "      DO 20 I = K+1, N",
+        "   20 B(I) = B(I) - X(K)",
+        "   30 CONTINUE",
+        "      PRINT *, X",
+        "      END",
+    ],
+    workers: 2,
+    front: "SPMD PLAN 2\nWORKERS 2\nLOOPS 3\n1 DOALL\n2 OUTER\n3 DOALL\nPHASES 4\n1 NOTHING AT -1 1*L1 CYCLIC\n2 NOTHING AT -1 1*L2 CYCLIC\n3 PRODUCER -1 1*L2 CYCLIC AT -1 1*L3 CYCLIC\n4 NOTHING AT 0 CYCLIC\nCERTIFICATES ",
+    reasons: "END PLAN\nLOOP 2 NOT DOALL LINES 12 12 NAME B OPEN\nPHASE 3 NOT NOTHING LINES 10 12 NAME X LEVEL 0 PIECE 1 OPEN\nEND REASONS\n",
+    output: "END PLAN\n 1 1 1 1\n",
+}];
+
+/// Whether the plan that is made, its reasons and the runs by it and by its barriers are these.
+fn is_answered<R: Threads + Sync>(rt: &R, alloc: Global, row: &Made) -> Result<bool, AllocError> {
+    let source = source_of(alloc, row.source)?;
+    let source = source.as_bytes();
+    let plan = due_for(rt, alloc, &plan_for(alloc, row.workers), source)?;
+    let request = run_for(alloc, row.workers, PlanChoice::Made);
+    let made = due_for(rt, alloc, &request, source)?;
+    let request = run_for(alloc, row.workers, PlanChoice::Barrier);
+    let barriers = due_for(rt, alloc, &request, source)?;
+    Ok(
+        plan.text.starts_with(row.front.as_bytes())
+            && plan.text.ends_with(row.reasons.as_bytes())
+            && made.text.starts_with(row.front.as_bytes())
+            && made.text.ends_with(row.output.as_bytes())
+            && barriers.text.ends_with(row.output.as_bytes()),
+    )
+}
+
+#[test]
+fn made_plans_are_answered(rt: HostRuntime) -> Result<(), Fail> {
+    for row in &MADE {
+        assert!(rt; is_answered(&rt, rt.alloc(), row)?, "{}", row.front);
+    }
+    Ok(())
+}
+
+#[test]
+fn larger_plans_are_answered(rt: HostRuntime) -> Result<(), Fail> {
+    for row in &LARGER {
+        assert!(rt; is_answered(&rt, rt.alloc(), row)?, "{}", row.front);
+    }
+    Ok(())
+}
+
+#[test]
+fn the_largest_plan_is_answered(rt: HostRuntime) -> Result<(), Fail> {
+    for row in &LARGEST {
+        assert!(rt; is_answered(&rt, rt.alloc(), row)?, "{}", row.front);
+    }
+    Ok(())
+}
+
 /// As many statements as a program may have, with as many named constants as settings.
 fn many_statements(alloc: Global) -> Result<String, AllocError> {
     let mut source = String::new(alloc);
@@ -310,6 +544,13 @@ fn long_sources_are_answered(rt: HostRuntime) -> Result<(), Fail> {
     )?;
     assert_eq!(rt; answer.status, Status::Done);
     assert!(rt; answer.text.ends_with(b"\nEND PLAN\n 1001\n"));
+    let answer = due_for(
+        &rt,
+        alloc,
+        &plan_for(alloc, 64),
+        many_statements(alloc)?.as_bytes(),
+    )?;
+    assert!(rt; answer.text.ends_with(b"\nEND PLAN\nEND REASONS\n"));
     let answer = answer_of(&rt, alloc, large(alloc)?.as_bytes(), 3, &[])?;
     assert_eq!(rt; answer.status, Status::Done);
     assert!(rt; answer.text.ends_with(b" -29999 -30000\n"));

@@ -7,8 +7,6 @@ use Rattle.std.specs.List.{list_any}
 use Rattle.nest_tree.specs.Limits.{first_limit}
 use Rattle.nest_tree.specs.Tree.{Tree}
 use Rattle.nest_model.specs.Memory.{output_of}
-use Rattle.plan_text.specs.PlanText.{plan_text}
-use Rattle.serial_plan.specs.Serial.{serial_plan}
 use Rattle.f77_lines.specs.Columns.{lines_of}
 use Rattle.f77_lines.specs.Listing.{entries_of, first_behind, first_line_fault, size_to_end}
 use Rattle.f77_scene.specs.Fault.{Fault, Refusal, bad_line, bad_setting, bad_statement}
@@ -19,17 +17,18 @@ use Rattle.clap.specs.Words.{Text, fault_of, subcommand_of}
 use Rattle.clap.specs.declared.error.kind.ErrorKind.{ErrorKind}
 use Rattle.command_words.specs.Rule.{tool_app}
 use Rattle.command_words.specs.Settings.{first_fault_from, settings_in}
-use Rattle.command_words.specs.Wanted.{Wanted, sequential, verify, run, Takes, AreFaulty, asks_to_show, is_shown, wanted_by}
-use Rattle.command_words.specs.declared.request.PlanChoice.TheVariants.{Barrier, Given}
+use Rattle.command_words.specs.Wanted.{Wanted, sequential, verify, planned, run, Takes, AreFaulty, asks_to_show, is_shown, wanted_by}
+use Rattle.command_words.specs.declared.request.PlanChoice.TheVariants.{Made, Barrier, Given}
 use Rattle.spmd_answer.specs.Due as answer
-use Rattle.spmd_answer.specs.Due.{Due, IsDueOn, IsFirstOr, IsRefusalFor, IsTextFor, behind_end, behind_of, done, due_of_fault, due_of_lines, due_of_refusal, due_of_rest, due_of_tree, line, plan_refused, unaccepted, written, wrong_setting}
+use Rattle.spmd_answer.specs.Due.{Due, IsDueOn, IsFirstOr, IsRefusalFor, IsTextFor, behind_end, behind_of, done, due_of_fault, due_of_lines, due_of_refusal, due_of_rest, due_of_tree, line, makes_plan, plan_refused, unaccepted, written, wrong_setting}
 use Rattle.spmd_answer.specs.declared.source.Behind.{Behind}
 use Rattle.spmd_answer.specs.declared.source.Behind.TheVariants.{Comments, PlanText}
 use Rattle.spmd_answer.specs.declared.status.Status.{Status}
 use Rattle.spmd_answer.specs.declared.status.Status.TheVariants.{Done, SourceRefused, BadWords, ReadFault, WriteFault, NoMemory, PlanRefused, TooLong}
 use Rattle.spmd_answer.proofs.Existence.{first_never, never_none}
-use Rattle.spmd_answer.proofs.Unique.{first_one, one_is_due, refused_or_taken}
-use Rattle.spmd_tool.specs.Due.{AreWrong, AskFor, HasPlan, IsDue, IsDueFor, IsRunnable, IsUnplanned, asked, due_of_form, faulty, first_wrong, is_said, most_bytes, program_for, settings_of, shown, too_long, wrong_words}
+use Rattle.spmd_answer.proofs.Unique.{first_one, one_is_due, one_refused, refused_or_taken}
+use Rattle.spmd_answer.proofs.Unique as unique
+use Rattle.spmd_tool.specs.Due.{AreWrong, AskFor, HasPlan, IsDue, IsDueFor, IsRunnable, IsUnplanned, MakeNoPlan, asked, due_of_form, faulty, first_wrong, is_said, most_bytes, program_for, settings_of, shown, too_long, wrong_words}
 
 -- ---- what words stand for
 
@@ -185,12 +184,16 @@ request-said w bytes d h = by_case (case_of w bytes d h)
 plan_of_text : (w : Wanted) (tree : Tree) (bytes text : List ℕ) → IsTextFor w tree bytes text → HasPlan w tree bytes
 plan_of_text (sequential settings) tree bytes text is = tt
 plan_of_text (verify settings) tree bytes text (plan, is, e) = (plan, is)
+plan_of_text (planned workers settings) tree bytes text is = tt
+plan_of_text (run workers Made settings) tree bytes text is = tt
 plan_of_text (run workers Barrier settings) tree bytes text is = tt
 plan_of_text (run workers Given settings) tree bytes text (plan, is, e) = (plan, is)
 
 plan_or_refusal : (w : Wanted) (tree : Tree) (bytes reason : List ℕ) → HasPlan w tree bytes → IsRefusalFor w tree bytes reason → ⊥
 plan_or_refusal (sequential settings) tree bytes reason has is = is
 plan_or_refusal (verify settings) tree bytes reason (plan, taken) is = refused_or_taken None tree bytes reason plan is taken
+plan_or_refusal (planned workers settings) tree bytes reason has is = is
+plan_or_refusal (run workers Made settings) tree bytes reason has is = is
 plan_or_refusal (run workers Barrier settings) tree bytes reason has is = is
 plan_or_refusal (run workers Given settings) tree bytes reason (plan, taken) is = refused_or_taken (Some workers) tree bytes reason plan is taken
 
@@ -307,10 +310,22 @@ request-unnamed w bytes d h none b = by_case (case_of w bytes d h)
     by_case (case_unfit right short nothing reason refusing is) = let f : PlanRefused ≡ BadWords = ap (λ x. x.status) (sym is) ∙ b in cc
     by_case (case_runs right short nothing text writes is) = let f : Done ≡ BadWords = ap (λ x. x.status) (sym is) ∙ b in cc
 
--- one status with one text is due for a request
-one_for : (w : Wanted) (bytes : List ℕ) (a b : Due) → IsDueFor w bytes a → IsDueFor w bytes b → a ≡ b
+-- what holds of two that are due for a request, where it holds of equal ones and of those that the source's bytes give
+related_for : (P : Due → Due → Type 0) (w : Wanted) (bytes : List ℕ) (a b : Due) → ((d : Due) → P d d) → (answer.IsDueOf w (settings_in (settings_of w)) bytes a → answer.IsDueOf w (settings_in (settings_of w)) bytes b → P a b)
+    → IsDueFor w bytes a → IsDueFor w bytes b → P a b
 unfolding IsDueFor
-one_for w bytes a b = first_one (due_of_form w bytes) (answer.IsDueOf w (settings_in (settings_of w)) bytes) a b (one_is_due w (settings_in (settings_of w)) bytes a b)
+related_for P w bytes a b same rest = first_one P (due_of_form w bytes) (answer.IsDueOf w (settings_in (settings_of w)) bytes) a b same rest
+
+-- one status is due for a request
+status_for : (w : Wanted) (bytes : List ℕ) (a b : Due) → IsDueFor w bytes a → IsDueFor w bytes b → a.status ≡ b.status
+status_for w bytes a b = related_for (λ x y. x.status ≡ y.status) w bytes a b (λ d. refl) (unique.one_status w (settings_in (settings_of w)) bytes a b)
+
+-- and one text with it, where that isn't 0 or no plan is made
+refused_for : (w : Wanted) (bytes : List ℕ) (a b : Due) → IsDueFor w bytes a → IsDueFor w bytes b → a.status ≢ Done → a ≡ b
+refused_for w bytes a b = related_for (λ x y. x.status ≢ Done → x ≡ y) w bytes a b (λ d other. refl) (one_refused w (settings_in (settings_of w)) bytes a b)
+
+one_for : (w : Wanted) (bytes : List ℕ) (a b : Due) → makes_plan w ≡ false → IsDueFor w bytes a → IsDueFor w bytes b → a ≡ b
+one_for w bytes a b fixed = related_for (λ x y. x ≡ y) w bytes a b (λ d. refl) (one_is_due w (settings_in (settings_of w)) bytes a b fixed)
 
 -- ---- what was found is due
 
@@ -350,17 +365,27 @@ one_status words bytes a b (faulty are e) (asked w takes e') = absurd (taken_or_
 one_status words bytes a b (asked w takes e) (shown asks s) = absurd (taken_or_shown words w takes asks)
 one_status words bytes a b (asked w takes e) (faulty are e') = absurd (taken_or_faulty words w takes are)
 one_status words bytes a b (asked v takes e) (asked w takes' e') =
-    ap (λ d. d.status) (one_for w bytes a b (subst (λ u. IsDueFor u bytes a) (one_request words v w takes takes') e) e')
+    status_for w bytes a b (subst (λ u. IsDueFor u bytes a) (one_request words v w takes takes') e) e'
 
--- and one text, where they ask for nothing to be shown
-pub one_due : (words : List Text) (bytes : List ℕ) (a b : Due) → asks_to_show words ≡ false → IsDue words bytes a → IsDue words bytes b → a ≡ b
-one_due words bytes a b quiet (shown asks s) q = absurd (let h : true ≡ false = sym asks ∙ quiet in cc)
-one_due words bytes a b quiet (faulty are e) (shown asks s) = absurd (shown_or_faulty words asks are)
-one_due words bytes a b quiet (faulty are e) (faulty are' e') = e ∙ sym e'
-one_due words bytes a b quiet (faulty are e) (asked w takes e') = absurd (taken_or_faulty words w takes are)
-one_due words bytes a b quiet (asked w takes e) (shown asks s) = absurd (taken_or_shown words w takes asks)
-one_due words bytes a b quiet (asked w takes e) (faulty are e') = absurd (taken_or_faulty words w takes are)
-one_due words bytes a b quiet (asked v takes e) (asked w takes' e') = one_for w bytes a b (subst (λ u. IsDueFor u bytes a) (one_request words v w takes takes') e) e'
+-- and one text, where it isn't 0
+pub refused_due : (words : List Text) (bytes : List ℕ) (a b : Due) → IsDue words bytes a → IsDue words bytes b → a.status ≢ Done → a ≡ b
+refused_due words bytes a b (shown asks s) q other = absurd (other s)
+refused_due words bytes a b (faulty are e) (shown asks s) other = absurd (shown_or_faulty words asks are)
+refused_due words bytes a b (faulty are e) (faulty are' e') other = e ∙ sym e'
+refused_due words bytes a b (faulty are e) (asked w takes e') other = absurd (taken_or_faulty words w takes are)
+refused_due words bytes a b (asked w takes e) (shown asks s) other = absurd (taken_or_shown words w takes asks)
+refused_due words bytes a b (asked w takes e) (faulty are e') other = absurd (taken_or_faulty words w takes are)
+refused_due words bytes a b (asked v takes e) (asked w takes' e') other = refused_for w bytes a b (subst (λ u. IsDueFor u bytes a) (one_request words v w takes takes') e) e' other
+
+-- and where they ask for nothing to be shown and no plan is made
+pub one_due : (words : List Text) (bytes : List ℕ) (a b : Due) → asks_to_show words ≡ false → MakeNoPlan words → IsDue words bytes a → IsDue words bytes b → a ≡ b
+one_due words bytes a b quiet fixed (shown asks s) q = absurd (let h : true ≡ false = sym asks ∙ quiet in cc)
+one_due words bytes a b quiet fixed (faulty are e) (shown asks s) = absurd (shown_or_faulty words asks are)
+one_due words bytes a b quiet fixed (faulty are e) (faulty are' e') = e ∙ sym e'
+one_due words bytes a b quiet fixed (faulty are e) (asked w takes e') = absurd (taken_or_faulty words w takes are)
+one_due words bytes a b quiet fixed (asked w takes e) (shown asks s) = absurd (taken_or_shown words w takes asks)
+one_due words bytes a b quiet fixed (asked w takes e) (faulty are e') = absurd (taken_or_faulty words w takes are)
+one_due words bytes a b quiet fixed (asked v takes e) (asked w takes' e') = one_for w bytes a b (fixed w takes') (subst (λ u. IsDueFor u bytes a) (one_request words v w takes takes') e) e'
 
 -- for words that stand for a request what is due for it
 pub asked-due : (words : List Text) (bytes : List ℕ) (w : Wanted) (d : Due) → Takes words w → IsDue words bytes d → IsDueFor w bytes d
@@ -420,49 +445,49 @@ first_some : (o : Option Due) (IsElse : Due → Type 0) → (d : Due) × IsElse 
 first_some None IsElse some = some
 first_some (Some r) IsElse some = (r, refl)
 
-on_program : (w : Wanted) (tree : Tree) (bytes : List ℕ) → behind_of w ≡ Comments → (d : Due) × IsDueOn w tree bytes d
-on_program (sequential settings) tree bytes e = (done (output_of tree), written (output_of tree) refl refl)
-on_program (verify settings) tree bytes e = absurd (cc)
-on_program (run workers Barrier settings) tree bytes e =
-    let text = plan_text (serial_plan workers tree) ++ output_of tree in
-    (done text, written text (serial_plan workers tree, refl, refl) refl)
-on_program (run workers Given settings) tree bytes e = absurd (cc)
+on_program : (w : Wanted) (tree : Tree) (bytes : List ℕ) → behind_of w ≡ Comments → makes_plan w ≡ false → (d : Due) × IsDueOn w tree bytes d
+on_program (sequential settings) tree bytes e fixed = (done (output_of tree), written (output_of tree) refl refl)
+on_program (verify settings) tree bytes e fixed = absurd (cc)
+on_program (planned workers settings) tree bytes e fixed = absurd (cc)
+on_program (run workers Made settings) tree bytes e fixed = absurd (cc)
+on_program (run workers Barrier settings) tree bytes e fixed = absurd (cc)
+on_program (run workers Given settings) tree bytes e fixed = absurd (cc)
 
-some_for : (w : Wanted) (bytes : List ℕ) → behind_of w ≡ Comments → (d : Due) × IsDueFor w bytes d
+some_for : (w : Wanted) (bytes : List ℕ) → behind_of w ≡ Comments → makes_plan w ≡ false → (d : Due) × IsDueFor w bytes d
 unfolding IsDueFor
-some_for w bytes e =
+some_for w bytes e fixed =
     first_some (due_of_form w bytes) (answer.IsDueOf w (settings_in (settings_of w)) bytes)
-    (first_some (refusal_for w bytes) (IsDueOn w (program_for w bytes) (behind_end bytes)) (on_program w (program_for w bytes) (behind_end bytes) e))
+    (first_some (refusal_for w bytes) (IsDueOn w (program_for w bytes) (behind_end bytes)) (on_program w (program_for w bytes) (behind_end bytes) e fixed))
 
--- some status and text are due, where no plan may stand behind END
-pub some_due : (words : List Text) (bytes : List ℕ) → ((w : Wanted) → Takes words w → behind_of w ≡ Comments) → (due : Due) × IsDue words bytes due
-some_due words bytes bare =
+-- some status and text are due, where no plan may stand behind END and none is made
+pub some_due : (words : List Text) (bytes : List ℕ) → ((w : Wanted) → Takes words w → behind_of w ≡ Comments) → MakeNoPlan words → (due : Due) × IsDue words bytes due
+some_due words bytes bare fixed =
     ⊎_elim (λ (asks : asks_to_show words ≡ true). (record { status = Done; text = [] }, shown asks refl))
     (λ (quiet : asks_to_show words ≡ false).
     ⊎_elim
     (λ (fine : fault_of tool_app words ≡ []).
     ⊎_elim (λ (none : wanted_by (subcommand_of tool_app words) ≡ None). (wrong_words, faulty (quiet, inr none) refl))
     (λ (some : (w : Wanted) × (wanted_by (subcommand_of tool_app words) ≡ Some w)).
-    let found = some_for some.0 bytes (bare some.0 (fine, some.1)) in
+    let found = some_for some.0 bytes (bare some.0 (fine, some.1)) (fixed some.0 (fine, some.1)) in
     (found.0, asked some.0 (fine, some.1) found.1))
     (option_cases (wanted_by (subcommand_of tool_app words))))
     (λ (fault : fault_of tool_app words ≢ []). (wrong_words, faulty (quiet, inl fault) refl))
     (list_cases (fault_of tool_app words)))
     (cases_Bool (asks_to_show words))
 
-never_for : (w : Wanted) (bytes : List ℕ) → ((d : Due) → IsDueFor w bytes d → ⊥) → ⊥
+never_for : (w : Wanted) (bytes : List ℕ) → makes_plan w ≡ false → ((d : Due) → IsDueFor w bytes d → ⊥) → ⊥
 unfolding IsDueFor
-never_for w bytes = first_never (due_of_form w bytes) (answer.IsDueOf w (settings_in (settings_of w)) bytes) (never_none w (settings_in (settings_of w)) bytes)
+never_for w bytes fixed = first_never (due_of_form w bytes) (answer.IsDueOf w (settings_in (settings_of w)) bytes) (never_none w (settings_in (settings_of w)) bytes fixed)
 
--- for no words and bytes nothing is due
-pub never_due : (words : List Text) (bytes : List ℕ) → ((due : Due) → IsDue words bytes due → ⊥) → ⊥
-never_due words bytes none =
+-- for no words and bytes nothing is due, where no plan is made
+pub never_due : (words : List Text) (bytes : List ℕ) → MakeNoPlan words → ((due : Due) → IsDue words bytes due → ⊥) → ⊥
+never_due words bytes fixed none =
     ⊎_elim (λ (asks : asks_to_show words ≡ true). none (record { status = Done; text = [] }) (shown asks refl))
     (λ (quiet : asks_to_show words ≡ false).
     ⊎_elim
     (λ (fine : fault_of tool_app words ≡ []).
     ⊎_elim (λ (no : wanted_by (subcommand_of tool_app words) ≡ None). none wrong_words (faulty (quiet, inr no) refl))
-    (λ (some : (w : Wanted) × (wanted_by (subcommand_of tool_app words) ≡ Some w)). never_for some.0 bytes (λ d is. none d (asked some.0 (fine, some.1) is)))
+    (λ (some : (w : Wanted) × (wanted_by (subcommand_of tool_app words) ≡ Some w)). never_for some.0 bytes (fixed some.0 (fine, some.1)) (λ d is. none d (asked some.0 (fine, some.1) is)))
     (option_cases (wanted_by (subcommand_of tool_app words))))
     (λ (fault : fault_of tool_app words ≢ []). none wrong_words (faulty (quiet, inl fault) refl))
     (list_cases (fault_of tool_app words)))

@@ -7,8 +7,8 @@ use Rattle.f77_scene.specs.Reading.{program_in}
 use Rattle.sync_plan.specs.declared.plan.Plan.{Plan}
 use Rattle.clap.specs.Words.{Text}
 use Rattle.command_words.specs.Settings.{first_fault_from, settings_in}
-use Rattle.command_words.specs.Wanted.{Wanted, sequential, verify, run, Takes, AreFaulty, asks_to_show}
-use Rattle.command_words.specs.declared.request.PlanChoice.TheVariants.{Barrier, Given}
+use Rattle.command_words.specs.Wanted.{Wanted, sequential, verify, planned, run, Takes, AreFaulty, asks_to_show}
+use Rattle.command_words.specs.declared.request.PlanChoice.TheVariants.{Made, Barrier, Given}
 use Rattle.spmd_answer.specs.Due as answer
 use Rattle.spmd_answer.specs.Due.{Due, IsFirstOr, behind_end, behind_of, due_of_refusal, line, wrong_setting}
 use Rattle.spmd_answer.specs.Given.{IsTakenPlan}
@@ -23,7 +23,8 @@ most_bytes = 4194304
 abbrev pub settings_of : Wanted → List Text
 settings_of (sequential settings) = settings
 settings_of (verify settings) = settings
-settings_of (run workers plan settings) = settings
+settings_of (planned workers settings) = settings
+settings_of (run workers choice settings) = settings
 
 -- due with a source of too many bytes
 abbrev pub too_long : Due
@@ -50,6 +51,10 @@ pub data IsDue (words : List Text) (bytes : List ℕ) (due : Due) : Type 0 where
   faulty : (are : AreFaulty words) (due_is : due ≡ wrong_words) → IsDue words bytes due
   asked : (wanted : Wanted) (takes : Takes words wanted) (is_due : IsDueFor wanted bytes due) → IsDue words bytes due
 
+-- no plan is made for words: then one text is due, but for help and the version
+abbrev pub MakeNoPlan : List Text → Type 0
+MakeNoPlan words = (wanted : Wanted) → Takes words wanted → answer.makes_plan wanted ≡ false
+
 -- The words stand for this request, and its settings have the form of settings: then the source is read.
 pub record AskFor (words : List Text) (wanted : Wanted) : Type 0 where
   pub takes : Takes words wanted
@@ -67,6 +72,8 @@ program_for wanted bytes = program_in (entries_of bytes) (settings_in (settings_
 abbrev pub HasPlan : Wanted → Tree → List ℕ → Type 0
 HasPlan (sequential settings) tree bytes = ⊤
 HasPlan (verify settings) tree bytes = (plan : Plan) × IsTakenPlan None tree bytes plan
+HasPlan (planned workers settings) tree bytes = ⊤
+HasPlan (run workers Made settings) tree bytes = ⊤
 HasPlan (run workers Barrier settings) tree bytes = ⊤
 HasPlan (run workers Given settings) tree bytes = (plan : Plan) × IsTakenPlan (Some workers) tree bytes plan
 

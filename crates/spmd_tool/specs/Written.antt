@@ -32,7 +32,7 @@ pub record WritesPartOfDue (words : List Text) (source : Option (List ℕ)) (old
   pub is_due : IsDueFrom words source due
   pub written : WritesPart old new due.text
 
--- The bytes of the source stand for a program that may be run, and what the request asks for was written: of `run` the text of a plan and then the sequential output, of `seq` the output, of `verify` that the plan is accepted.
+-- The bytes of the source stand for a program that may be run, and what the request asks for was written: of `plan` the text of a plan that is made and then that of its reasons, of `run` the text of a plan and then the sequential output, of `seq` the output, of `verify` that the plan is accepted.
 pub record WritesRun (wanted : Wanted) (source : Option (List ℕ)) (old new : Option (List ℕ)) : Type 0 where
   pub bytes : List ℕ
   pub told : AreTold source bytes

@@ -98,8 +98,10 @@ fn settings_in<'a>(request: &'a Request<'a>) -> &'a [&'a str]
     ensures { texts result.now ≡ settings_of (wanted request.entry.now) }
 {
     match request {
-        Request::Sequential(settings) | Request::Verify(settings) | Request::Run(_, _, settings) =>
-            settings,
+        Request::Sequential(settings)
+        | Request::Verify(settings)
+        | Request::Plan(_, settings)
+        | Request::Run(_, _, settings) => settings,
     }
 }
 

@@ -110,10 +110,10 @@ fn a_write_that_fails_or_takes_nothing_leaves_a_front(rt: HostRuntime) -> Result
 
 #[test]
 fn says_what_is_wrong(rt: HostRuntime) -> Result<(), Fail> {
-    let rows: [(&[&str], &[u8], Status, &[u8]); 13] = [
+    let rows: [(&[&str], &[u8], Status, &[u8]); 16] = [
         (&[], FIRST, Status::BadWords, b"WORDS 0\n"),
         (
-            &["run", "--workers", "2"],
+            &["run", "--plan", "made"],
             FIRST,
             Status::BadWords,
             b"WORDS 0\n",
@@ -164,6 +164,24 @@ fn says_what_is_wrong(rt: HostRuntime) -> Result<(), Fail> {
             b" -7\n",
         ),
         (&["seq"], b"      PRINT *\n      END", Status::Done, b"\n"),
+        (
+            &["plan", "--workers", "3"],
+            b"      PRINT *, 7\n      END\n",
+            Status::Done,
+            b"SPMD PLAN 2\nWORKERS 3\nLOOPS 0\nPHASES 1\n1 NOTHING AT 0 CYCLIC\nCERTIFICATES 0\nEND PLAN\nEND REASONS\n",
+        ),
+        (
+            &["run", "--workers", "3"],
+            b"      PRINT *, 7\n      END\n",
+            Status::Done,
+            b"SPMD PLAN 2\nWORKERS 3\nLOOPS 0\nPHASES 1\n1 NOTHING AT 0 CYCLIC\nCERTIFICATES 0\nEND PLAN\n 7\n",
+        ),
+        (
+            &["plan", "--workers", "3"],
+            b"      X = 1\n      END\n",
+            Status::SourceRefused,
+            b"REFUSED F3 LINE 1\n",
+        ),
     ];
     for (words, source, wanted, text) in rows {
         let (status, sink) = said_to(&rt, rt.alloc(), words, source)?;
@@ -178,6 +196,7 @@ fn shows_help_and_the_version(rt: HostRuntime) -> Result<(), Fail> {
     for words in [
         ["--help"].as_slice(),
         ["run", "-h"].as_slice(),
+        ["plan", "--help"].as_slice(),
         ["--version"].as_slice(),
     ] {
         let (status, sink) = said_to(&rt, rt.alloc(), words, b"")?;

@@ -18,8 +18,9 @@ use std::alloc::Global;
 use std::thread::Threads;
 
 /// Does what the words ask for, which stand without the program's name: `seq [NAME=VALUE..]`,
-/// `verify [NAME=VALUE..]` or `run --workers P --plan PLAN [--by core] [NAME=VALUE..]`, where PLAN
-/// is `barrier` or `given`, as `clap` reads them, or `--help` or `--version`. The source is read to
+/// `verify [NAME=VALUE..]`, `plan --workers P [NAME=VALUE..]` or `run --workers P [--plan PLAN]
+/// [--by core] [NAME=VALUE..]`, where PLAN is `made`, where left out too, `barrier` or `given`, as
+/// `clap` reads them, or `--help` or `--version`. The source is read to
 /// its end, with the plan behind it where one is given, and then the answer is written to the sink.
 /// The certificates of a plan are checked side by side on threads of `rt`.
 ///
@@ -34,7 +35,7 @@ pub fn tool<R: Threads + Sync, S: Source, K: Sink>(
     source: &mut S,
     sink: &mut K,
 ) -> Status
-    // The headline: where the words stand for a request, with status 0 the bytes of the source stand for a program that may be run, what is asked for was written, which is of `run` the text of a plan and then the sequential output, and the source was read to its end.
+    // The headline: where the words stand for a request, with status 0 the bytes of the source stand for a program that may be run, what is asked for was written, which is of `run` the text of a plan and then the sequential output and of `plan` the text of a plan that is made and then that of its reasons, and the source was read to its end.
     ensures headline { (w : Wanted) → Takes (texts words.now) w → result ≡ Status.Done → WritesRun w (S.left source.old) (K.written sink.old) (K.written sink.new) }
     ensures end { (w : Wanted) → Takes (texts words.now) w → result ≡ Status.Done → IsAtEnd (S.left source.new) }
 
