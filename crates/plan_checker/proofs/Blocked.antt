@@ -2,14 +2,13 @@
 use Rattle.std.proofs.Common.{◌≡◌, ℕ, zero, suc, ◌+◌, ◌-◌, ◌<◌, ◌≤◌, ◌==◌, Bool, true, false, ◌&&◌, ◌||◌, not, nat_le, nat_lt, List, [], ◌∷◌, ◌++◌, length, map, Some, None, if◌then◌else◌, refl, ap, sym, ◌∙◌, subst, inl, inr, arith}
 use Rattle.std.specs.Prelude.{◌⊎◌, replicate, slice_get, sum_by}
 use Rattle.std.specs.List.{AllByRecursion, flat_map, list_any, range_with_len}
-use Rattle.std.proofs.lemmas.Bool.{and_from, and_parts, eqb-true}
+use Rattle.std.proofs.lemmas.Bool.{and_from}
 use Rattle.std.proofs.lemmas.Bool.Decides.{nat_tests}
 use Rattle.std.proofs.lemmas.List.{append-nil, get_or-replicate, length-replicate}
 use Rattle.std.proofs.lemmas.List.Folds.{list_any-append}
 use Rattle.std.proofs.lemmas.Option.{slice_get-get_or, slice_get_within}
 use Rattle.farkas_cert.specs.declared.certificate.Certificate.{Certificate}
 use Rattle.nest_tree.specs.Tree.{Head, Tree}
-use Rattle.nest_tree.specs.WellFormed.{loops_of}
 use Rattle.nest_rows.proofs.Nesting.{all-append, all-weaker}
 use Rattle.owner_partition.specs.declared.anchor.Anchor.{Anchor}
 use Rattle.owner_partition.specs.declared.cut.Mark.{Mark}
@@ -18,7 +17,7 @@ use Rattle.sync_plan.specs.Barriers.{barrier_plan}
 use Rattle.sync_plan.specs.declared.plan.Kind.TheVariants.{Barrier}
 use Rattle.sync_plan.specs.declared.plan.Plan.{Plan}
 use Rattle.sync_plan.specs.Fit.{IsFit}
-use Rattle.sync_plan.specs.Shape.{are_marked_well, static_phases, wrong_field}
+use Rattle.sync_plan.specs.Shape.{static_phases, wrong_field}
 use Rattle.comm_system.specs.Boundaries.{Boundary, Side, boundaries_where, certain_boundaries, is_before_second, is_behind_first, is_prefix, of_first, of_second}
 use Rattle.comm_system.specs.Levels.{common, levels}
 use Rattle.comm_system.specs.Obligations.{Slot, Task, numbered_from, obligations_of, slot_signature, slot_tasks, slots_before, slots_between, slots_from, slots_of, trips_tasks}

@@ -1,5 +1,5 @@
 -- What a plan of a fitting shape names is the program's.
-use Rattle.std.proofs.Common.{◌≡◌, ℕ, ◌+◌, ◌≤◌, Bool, true, false, ◌&&◌, ◌==◌, not, nat_le, nat_lt, ℤ, List, [], ◌∷◌, ◌++◌, length, Option, Some, None, if◌then◌else◌, refl, ap, ◌∙◌, arith}
+use Rattle.std.proofs.Common.{◌≡◌, ℕ, ◌+◌, ◌≤◌, Bool, true, false, ◌&&◌, ◌==◌, nat_le, nat_lt, ℤ, List, [], ◌∷◌, ◌++◌, length, Option, Some, None, if◌then◌else◌, refl, ap, ◌∙◌, arith}
 use Rattle.std.specs.List.{list_all}
 use Rattle.std.specs.Option.{option_or}
 use Rattle.std.proofs.lemmas.Bool.{and_from, and_parts, eqb-true}
@@ -24,7 +24,7 @@ use Rattle.sync_plan.specs.declared.plan.Kind.TheVariants.{Nothing, Producer, Le
 use Rattle.sync_plan.specs.declared.plan.Plan.{Plan}
 use Rattle.sync_plan.specs.declared.plan.Version.{Version}
 use Rattle.sync_plan.specs.declared.plan.Version.TheVariants.{Three}
-use Rattle.sync_plan.specs.Shape.{are_good_anchors, are_good_conditions, are_good_kinds, are_marked_well, has_places, has_rows, is_doall, is_good_anchor, is_good_kind, is_good_row, mark_of, own_loops, static_phases, wrong_field}
+use Rattle.sync_plan.specs.Shape.{are_good_anchors, are_good_conditions, are_good_kinds, has_places, has_rows, is_doall, is_good_anchor, is_good_kind, is_good_row, mark_of, own_loops, static_phases, wrong_field}
 use Rattle.plan_checker.specs.Named.{are_given_anchors, are_given_kinds, is_given_kind}
 use Rattle.comm_system.proofs.ShapeParts.{shaped}
 
