@@ -1,7 +1,5 @@
 -- Choices that are weaker than what is taken, phase by phase.
 use Rattle.std.proofs.Common.{◌≡◌, ℕ, zero, suc, ◌+◌, ◌<◌, ◌≤◌, Bool, true, false, refl, List, [], ◌∷◌, ◌++◌, take, length, get_or, append_assoc, ap, sym, ◌∙◌, arith}
-use Rattle.std.specs.Prelude.{slice_set}
-use Rattle.std.specs.List.{sum}
 use Rattle.std.proofs.lemmas.List.{append-nil}
 use Rattle.std.proofs.lemmas.List.FromFn.{map-range_with_len_more}
 use Rattle.plan_maker.specs.Candidates.{weaker_at, weaker_from}
@@ -19,12 +17,7 @@ weaker_more t (n ∷ taken) (suc k) lt =
     ∙ ap (λ cs. weaker_at t n ++ cs) (weaker_more (suc t) taken k (omega (arith, lt)) ∙ ap (λ j. weaker_from (suc t) (take k taken) ++ weaker_at j (get_or taken k 0)) at)
     ∙ sym (append_assoc (weaker_at t n) (weaker_from (suc t) (take k taken)) (weaker_at (t + suc k) (get_or taken k 0)))
 
--- an earlier candidate
-pub sum_earlier : (taken : List ℕ) (k n : ℕ) → k < length taken → n < get_or taken k 0 → sum (slice_set taken k n) < sum taken
-sum_earlier [] k n lt less = absurd (omega (arith, lt))
-sum_earlier (m ∷ taken) zero n lt less = omega (arith, less)
-sum_earlier (m ∷ taken) (suc k) n lt less = omega (arith, sum_earlier taken k n (omega (arith, lt)) less)
-
+-- what changes nothing, or makes a sum less, makes it no more
 pub no_more : (b : Bool) (new old : ℕ) → (b ≡ true → new < old) → (b ≡ false → new ≡ old) → new ≤ old
 no_more true new old less same = omega (arith, less refl)
 no_more false new old less same = omega (arith, same refl)

@@ -52,17 +52,25 @@ not-closed : (m : Mark) (P : Type 0) → is_open m ≡ false → is_open m ≡ t
 not-closed m P closed opened = absurd (let no : false ≡ true = sym closed ∙ opened in cc)
 
 module _ (barred : ℕ → Bool) where
-  loop-marks : Bool → Bool → Statements → List Mark
+  abbrev loop-marks : Bool → Bool → Statements → List Mark
   loop-marks b free body = if not b then Doall ∷ inner_of body else if free then Outer ∷ marks_of barred body else Single ∷ inner_of body
+
+  loop-count : (b free : Bool) (body : Statements) → length (marks_of barred body) ≡ loops_of body → length (loop-marks b free body) ≡ 1 + loops_of body
+  loop-count false free body h = omega (arith, inner-count body)
+  loop-count true true body h = omega (arith, h)
+  loop-count true false body h = omega (arith, inner-count body)
+
+  -- of a loop, where its number is this one, and what is known of those inside
+  open-loop : (n first : ℕ) (b free : Bool) (body : Statements) (k : ℕ) (m : Mark) → n ≡ first → barred n ≡ b → ((j : ℕ) → slice_get (marks_of barred body) j ≡ Some m → barred (first + 1 + j) ≡ true) → slice_get (loop-marks b free body) k ≡ Some m → is_open m ≡ true → barred (first + k) ≡ true
+  open-loop n first false free body zero m same e inside h opened = not-closed m (barred (first + 0) ≡ true) (sym (first-is Doall m h)) opened
+  open-loop n first false free body (suc k) m same e inside h opened = not-closed m (barred (first + suc k) ≡ true) (inner-closed body k m h) opened
+  open-loop n first true free body zero m same e inside h opened = let number : first + 0 ≡ n = omega (arith, same) in ap barred number ∙ e
+  open-loop n first true true body (suc k) m same e inside h opened = let number : first + suc k ≡ first + 1 + k = omega arith in ap barred number ∙ inside k h
+  open-loop n first true false body (suc k) m same e inside h opened = not-closed m (barred (first + suc k) ≡ true) (inner-closed body k m h) opened
 
   mutual
     marks-count_in : (s : Statement) → length (marks_in barred s) ≡ loops_in s
-    marks-count_in (do_loop head body) = by (barred head.number) (have_free barred body)
-      where
-        by : (b free : Bool) → length (loop-marks b free body) ≡ 1 + loops_of body
-        by false free = omega (arith, inner-count body)
-        by true true = omega (arith, marks_count body)
-        by true false = omega (arith, inner-count body)
+    marks-count_in (do_loop head body) = loop-count (barred head.number) (have_free barred body) body (marks_count body)
     marks-count_in (work w) = refl
     marks-count_in (continue line) = refl
 
@@ -72,25 +80,12 @@ module _ (barred : ℕ → Bool) where
 
   mutual
     open_in : (scope : Scope) (around : List ℕ) (first : ℕ) (s : Statement) (k : ℕ) (m : Mark) → is_good_statement scope around first s ≡ true → slice_get (marks_in barred s) k ≡ Some m → is_open m ≡ true → barred (first + k) ≡ true
-    open_in scope around first (do_loop head body) k m good at opened = by (barred head.number) (have_free barred body) refl k at
-      where
-        inner : (are_good_statements scope (head.number ∷ around) (first + 1) body ≡ true) × (head.number ≡ first)
-        inner =
-            let parts = and_parts _ (are_good_statements scope (head.number ∷ around) (first + 1) body) good in
-            let headed = and_parts _ (is_good_head scope around head) parts.0 in
-            let numbered = and_parts (head.number == first) _ headed.0 in
-            (parts.1, eqb-true head.number first numbered.0)
-
-        here : barred head.number ≡ true → barred (first + 0) ≡ true
-        here e = let same : first + 0 ≡ head.number = omega (arith, inner.1) in ap barred same ∙ e
-
-        by : (b free : Bool) → barred head.number ≡ b → (k : ℕ) → slice_get (loop-marks b free body) k ≡ Some m → barred (first + k) ≡ true
-        by false free e zero h = not-closed m (barred (first + 0) ≡ true) (sym (first-is Doall m h)) opened
-        by false free e (suc k) h = not-closed m (barred (first + suc k) ≡ true) (inner-closed body k m h) opened
-        by true true e zero h = here e
-        by true true e (suc k) h = let n : first + suc k ≡ first + 1 + k = omega arith in ap barred n ∙ open_of scope (head.number ∷ around) (first + 1) body k m inner.0 h opened
-        by true false e zero h = here e
-        by true false e (suc k) h = not-closed m (barred (first + suc k) ≡ true) (inner-closed body k m h) opened
+    open_in scope around first (do_loop head body) k m good at opened =
+        let parts = and_parts _ (are_good_statements scope (head.number ∷ around) (first + 1) body) good in
+        let headed = and_parts _ (is_good_head scope around head) parts.0 in
+        let numbered = and_parts (head.number == first) _ headed.0 in
+        open-loop head.number first (barred head.number) (have_free barred body) body k m (eqb-true head.number first numbered.0) refl
+        (λ j h. open_of scope (head.number ∷ around) (first + 1) body j m parts.1 h opened) at opened
     open_in scope around first (work w) k m good at opened = absurd (cc)
     open_in scope around first (continue line) k m good at opened = absurd (cc)
 

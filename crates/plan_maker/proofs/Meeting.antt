@@ -23,23 +23,25 @@ none-left p (x ∷ xs) h = by (p x) (list_any p xs) h (none-left p xs)
     by true rest e f = absurd (let no : true ≡ false = e in cc)
     by false rest e f = f e
 
-no-pairs : (ss ts : List Reference) → list_any (λ a. list_any (conflict a) ts) ss ≡ false → flat_map (λ a. map (λ b. record { first = a; second = b }) (filter (conflict a) ts)) ss ≡ []
+abbrev pair-with : Reference → Reference → Pair
+pair-with a b = record { first = a; second = b }
+
+abbrev couples : List Reference → Reference → List Pair
+couples ts a = map (pair-with a) (filter (conflict a) ts)
+
+no-pairs : (ss ts : List Reference) → list_any (λ a. list_any (conflict a) ts) ss ≡ false → flat_map (couples ts) ss ≡ []
 no-pairs [] ts h = refl
 no-pairs (a ∷ ss) ts h = by (list_any (conflict a) ts) refl (list_any (λ a. list_any (conflict a) ts) ss) h (no-pairs ss ts)
   where
-    more : List Pair
-    more = flat_map (λ a. map (λ b. record { first = a; second = b }) (filter (conflict a) ts)) ss
-
-    by : (b : Bool) → list_any (conflict a) ts ≡ b → (rest : Bool) → (b || rest) ≡ false → (rest ≡ false → more ≡ []) → map (λ b. record { first = a; second = b }) (filter (conflict a) ts) ++ more ≡ []
+    by : (b : Bool) → list_any (conflict a) ts ≡ b → (rest : Bool) → (b || rest) ≡ false → (rest ≡ false → flat_map (couples ts) ss ≡ []) → couples ts a ++ flat_map (couples ts) ss ≡ []
     by true at rest e f = absurd (let no : true ≡ false = e in cc)
-    by false at rest e f = ap (λ bs. map (λ b. record { first = a; second = b }) bs ++ more) (none-left (conflict a) ts at) ∙ f e
+    by false at rest e f = ap (λ bs. map (pair-with a) bs ++ flat_map (couples ts) ss) (none-left (conflict a) ts at) ∙ f e
 
 pub unasked : (tree : Tree) (plan : Plan) (slot : Slot) (g : Signature) (ss ts : List Reference) → ss ≡ references_of slot.first → ts ≡ references_of slot.second → list_any (λ a. list_any (conflict a) ts) ss ≡ false → slot_asked tree plan slot g ≡ []
 unasked tree plan slot blocked ss ts first second h = refl
 unasked tree plan slot (waits left right producers) ss ts first second h =
     let none : pairs_of slot.first slot.second ≡ [] =
-    ap (λ rs. flat_map (λ a. map (λ b. record { first = a; second = b }) (filter (conflict a) rs)) (references_of slot.first)) (sym second)
-    ∙ ap (flat_map (λ a. map (λ b. record { first = a; second = b }) (filter (conflict a) ts))) (sym first) ∙ no-pairs ss ts h in
+    ap (λ rs. flat_map (couples rs) (references_of slot.first)) (sym second) ∙ ap (flat_map (couples ts)) (sym first) ∙ no-pairs ss ts h in
     ap (λ ps. map (asked (owners_dealt plan slot producers)) (flat_map (pair_tasks tree plan slot left right producers) ps)) none
 
 -- one slot more

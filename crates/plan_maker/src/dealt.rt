@@ -13,11 +13,11 @@ ghost use Rattle.plan_maker.specs.Judged.{IsVerdict};
 use crate::anchors::has_print;
 use crate::findings::Findings;
 use crate::judge::{Verdict, judge_groups};
-use crate::seat::{is_doall, mark_of};
 use comm_system::groups::phase_groups;
 use comm_system::phase::Phase;
 use nest_tree::{Item, Program};
 use owner_partition::Mark;
+use plan_checker::marks::{is_doall, mark_of};
 use std::alloc::{AllocError, Global};
 use sync_plan::Plan;
 

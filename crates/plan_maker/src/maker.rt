@@ -25,6 +25,7 @@ use crate::anchors::anchors_of;
 use crate::candidates::{all_candidates, kinds_taken};
 use crate::dealt::judge_trips;
 use crate::findings::Findings;
+use crate::judge::Verdict;
 use crate::loops::{barred_loops, fitting, judge_loops, loop_reasons};
 use crate::marks::push_marks;
 use crate::memory::Memory;
@@ -89,7 +90,8 @@ pub fn make_barrier(alloc: Global, program: &Program, workers: u32) -> Result<Pl
     let phases = phases(alloc, program, &base.cut)?;
     let certificates = trip_certificates(alloc, program, &base, phases.as_slice(), &mut findings)?;
     let Plan { cut, anchors, .. } = base;
-    all_barrier(alloc, cut, anchors.into_vec(), workers, certificates)
+    let plan = all_barrier(alloc, cut, anchors.into_vec(), workers, certificates)?;
+    Ok(plan)
 }
 
 // The plan of this cut and the maker's anchors under it, with a barrier in front of each phase and
@@ -118,9 +120,10 @@ fn trip_certificates(
     requires shape { wrong_field (tree_of program.now) plan.now ≡ None }
     ensures { IfOk result (λ cs. AreRefuted (flat_map (trips_asked (tree_of program.now) plan.now) (map phase_seen phases.now)) cs.items) }
 {
-    judge_trips(alloc, program, plan, phases, findings)?
-        .into_certificates()
-        .ok_or(AllocError)
+    match judge_trips(alloc, program, plan, phases, findings)? {
+        Verdict::Refuted(certificates) => Ok(certificates),
+        Verdict::Kept(_) => Err(AllocError),
+    }
 }
 
 // Which loops are what, and why those that are Outer or Single aren't dealt out.

@@ -5,11 +5,12 @@ ghost use Rattle.std.specs.List.{list_all, list_any};
 ghost use Rattle.nest_tree.specs.View.{statement_of, tree_of};
 ghost use Rattle.nest_tree.specs.WellFormed.{is_number_of, names_only};
 ghost use Rattle.owner_partition.specs.StaticPhases.{loops_round};
-ghost use Rattle.sync_plan.specs.Shape.{has_places, is_doall, is_good_anchor, mark_of, own_loops};
+ghost use Rattle.sync_plan.specs.Shape.{has_places, is_good_anchor, own_loops};
 ghost use Rattle.plan_maker.specs.Allowed.{with_own};
 
 use nest_tree::{Affine, Item, Program};
 use owner_partition::{Anchor, Dist, Mark, StaticPhase};
+use plan_checker::marks::{is_doall, mark_of};
 
 // A static phase of a program: the Outer loops round it, and the loop that is dealt where it is a
 // Doall loop.
@@ -19,28 +20,6 @@ pub(crate) struct Seat<'b, 'a> {
     pub(crate) phase: &'b StaticPhase<'a>,
     pub(crate) own: Option<u32>,
     pub(crate) workers: u32,
-}
-
-/// The mark of the loop with this number, from 1; a loop without one counts as Inner.
-pub(crate) fn mark_of(marks: &[Mark], number: u32) -> Mark
-    ensures { result ≡ mark_of marks.now number }
-{
-    let place = (number as usize).saturating_sub(1);
-    if place < marks.len() {
-        marks[place]
-    } else {
-        Mark::Inner
-    }
-}
-
-/// Whether a loop with this mark is a Doall loop.
-pub(crate) fn is_doall(mark: Mark) -> bool
-    ensures { result ≡ is_doall mark }
-{
-    match mark {
-        Mark::Doall => true,
-        Mark::Outer | Mark::Single | Mark::Inner => false,
-    }
 }
 
 /// The phase's own loop, where it is a Doall loop.

@@ -1,4 +1,5 @@
-use Rattle.std.proofs.Common.{◌+◌, ◌++◌, take, sym, subst}
+use Rattle.std.proofs.Common.{◌≡◌, ◌+◌, ◌-◌, ◌++◌, take, ap, sym, ◌∙◌, subst, arith}
+use Rattle.std.specs.Prelude.{slice_get}
 use Rattle.std.specs.List.{AllZip}
 use Rattle.nest_walk.proofs.Grown.{AllZip-append}
 use Rattle.plan_maker.specs.Bars.{IsLoopReason, open_loop, open_loops}
@@ -10,7 +11,9 @@ loop-place-preserved c = λ tree all.
     let marks = c.args.marks.now in
     let i = c.loop-place.place in
     let old = c.loop-place.reasons.items in
-    let h = c.in_ok-push_reason.ensures tree all in
+    let number : i ≡ i + 1 - 1 = omega arith in
+    let verdict = all (i + 1) c.verdict_in-verdict.result (omega arith) (ap (slice_get c.args.verdicts.now) (sym number) ∙ c.verdict_in-verdict.ensures) in
+    let h = c.in_ok-push_reason.ensures tree verdict in
     let split = open_taken marks i c.mark_in-mark.result c.mark_in-mark.ensures in
     subst (λ rs. AllZip (IsLoopReason tree) (open_loops 1 (take (i + 1) marks)) rs) (sym h.behind)
     (subst (λ ns. AllZip (IsLoopReason tree) ns (old ++ h.more)) (sym split)
