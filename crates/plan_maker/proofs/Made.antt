@@ -6,7 +6,6 @@ use Rattle.std.proofs.lemmas.List.{map-append}
 use Rattle.farkas_cert.specs.declared.certificate.Certificate.{Certificate}
 use Rattle.nest_tree.specs.Tree.{Tree}
 use Rattle.nest_tree.specs.WellFormed.{loops_of}
-use Rattle.owner_partition.specs.declared.anchor.Anchor.{Anchor}
 use Rattle.owner_partition.specs.declared.anchor.Dist.{Dist}
 use Rattle.owner_partition.specs.declared.cut.Mark.{Mark}
 use Rattle.sync_plan.specs.Barriers.{barrier_plan}

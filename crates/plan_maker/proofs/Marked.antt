@@ -1,5 +1,5 @@
 -- The marks of a program's loops: there is one for each, and a loop whose mark is Outer or Single is barred.
-use Rattle.std.proofs.Common.{◌≡◌, ℕ, zero, suc, ◌+◌, ◌-◌, ◌≤◌, ◌++◌, ◌==◌, ◌⊎◌, Bool, true, false, not, List, [], ◌∷◌, length, length-append, map, get_or, if◌then◌else◌, refl, ap, ap₂, sym, ◌∙◌, subst, inl, inr, arith}
+use Rattle.std.proofs.Common.{◌≡◌, ℕ, zero, suc, ◌+◌, ◌-◌, ◌≤◌, ◌++◌, ◌==◌, ◌⊎◌, Bool, true, false, not, List, [], ◌∷◌, length, length-append, map, get_or, if◌then◌else◌, refl, ap, ap₂, sym, ◌∙◌, inl, inr, arith}
 use Rattle.std.specs.Prelude.{Some, slice_get, unwrap_or}
 use Rattle.std.proofs.lemmas.Bool.{and_parts, eqb-true}
 use Rattle.nest_tree.specs.Tree.{Statement, Statements, do_loop, work, continue, done, next, Tree}

@@ -6,7 +6,7 @@ use Rattle.std.proofs.lemmas.List.{append-nil, map-append}
 use Rattle.nest_tree.specs.Tree.{Tree}
 use Rattle.sync_plan.specs.declared.plan.Kind.{Kind}
 use Rattle.sync_plan.specs.declared.plan.Plan.{Plan}
-use Rattle.comm_system.specs.Obligations.{Slot, pair_tasks, slot_tasks}
+use Rattle.comm_system.specs.Obligations.{Slot, pair_tasks}
 use Rattle.comm_system.specs.Pairs.{Pair, conflict, pairs_of}
 use Rattle.comm_system.specs.References.{Reference, StaticPhase, references_of}
 use Rattle.comm_system.specs.Signatures.{Signature, blocked, waits}
