@@ -24,7 +24,8 @@ pub fn push_reasons(
 {
     push_loops(text, program, reasons.loops.as_slice())?;
     push_phases(text, program, reasons.phases.as_slice())?;
-    text.extend_from_slice(b"END REASONS\n")
+    text.extend_from_slice(b"END REASONS\n")?;
+    Ok(())
 }
 
 // The lines of the loops that aren't dealt out.
@@ -88,11 +89,17 @@ fn push_phase(text: &mut Vec<u8>, program: &Program, reason: &PhaseReason) -> Re
     push_number(text, reason.phase)?;
     text.extend_from_slice(b" NOT")?;
     put_kind(text, &reason.kind)?;
-    push_accesses(text, program, &reason.cause)?;
-    push_place(text, &reason.cause)?;
-    put_word(text, answer_word(reason.cause.word))?;
+    push_why(text, program, &reason.cause)?;
     text.push(b'\n')?;
     Ok(())
+}
+
+// The words of a system that is kept, each with a blank in front.
+fn push_why(text: &mut Vec<u8>, program: &Program, cause: &Cause) -> Result<(), AllocError>
+    ensures { OnOk result (text.new.items ≡ text.old.items ++ spaced (spec.why_words (tree_of program.now) cause.now)) }
+{
+    push_accesses(text, program, cause)?;
+    push_place(text, cause)
 }
 
 // The words of the two accesses of a system, each with a blank in front.
@@ -106,14 +113,15 @@ fn push_accesses(text: &mut Vec<u8>, program: &Program, cause: &Cause) -> Result
     put_word(text, name_of(program, cause.variable))
 }
 
-// The words of the level and the piece of a system, each with a blank in front.
+// The words of the level, the piece and the answer of a system, each with a blank in front.
 fn push_place(text: &mut Vec<u8>, cause: &Cause) -> Result<(), AllocError>
     ensures { OnOk result (text.new.items ≡ text.old.items ++ spaced (spec.place_words cause.now)) }
 {
     put_word(text, b"LEVEL")?;
     push_number(text, cause.level)?;
     put_word(text, b"PIECE")?;
-    push_number(text, cause.piece)
+    push_number(text, cause.piece)?;
+    put_word(text, answer_word(cause.word))
 }
 
 // A number with a blank in front.
