@@ -11,7 +11,8 @@ use Rattle.nest_tree.specs.Layout.{count_of}
 use Rattle.nest_tree.specs.Limits.{is_empty}
 use Rattle.nest_tree.specs.Tree.{Head, Tree}
 use Rattle.nest_tree.specs.WellFormed.{is_number_of, names_only}
-use Rattle.nest_model.proofs.Within.{Between, IsInEnds, form_between, none_parts}
+use Rattle.nest_tree.proofs.FirstLimits.{neither}
+use Rattle.nest_model.proofs.Within.{Between, IsInEnds, form_between}
 use Rattle.nest_rows.proofs.Dots.{numbers}
 use Rattle.owner_partition.specs.declared.anchor.Anchor.{Anchor}
 use Rattle.owner_partition.specs.declared.anchor.Dist.{Dist}
@@ -128,7 +129,7 @@ placed_holds params workers phase a ends loops some h none =
 
 all_placed : (tree : Tree) (marks : List Mark) (workers : ℕ) (us : List (ℕ × Anchor)) → unplaced tree marks workers us ≡ None → AllByRecursion (λ u. misplaced tree marks workers u.0 u.1 ≡ None) us
 all_placed tree marks workers [] none = tt
-all_placed tree marks workers (u ∷ us) none = let parts = none_parts (misplaced tree marks workers u.0 u.1) (unplaced tree marks workers us) none in (parts.0, all_placed tree marks workers us parts.1)
+all_placed tree marks workers (u ∷ us) none = let parts = neither (misplaced tree marks workers u.0 u.1) (unplaced tree marks workers us) none in (parts.0, all_placed tree marks workers us parts.1)
 
 module _ (tree : Tree) (marks : List Mark) (workers : ℕ) where
   anchor_there : (n : ℕ) (anchors : List Anchor) (k : ℕ) (a : Anchor) → AllByRecursion (λ u. misplaced tree marks workers u.0 u.1 ≡ None) (numbered_anchors n anchors) → slice_get anchors k ≡ Some a → misplaced tree marks workers (n + k) a ≡ None

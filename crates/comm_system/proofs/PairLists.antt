@@ -5,7 +5,7 @@ use Rattle.std.proofs.lemmas.Bool.{and_parts}
 use Rattle.std.proofs.lemmas.List.{length-map}
 use Rattle.nest_tree.specs.Tree.{Constant, Tree, param_values}
 use Rattle.nest_tree.specs.WellFormed.{IsWellFormed, scope_of}
-use Rattle.nest_model.proofs.Within.{none_parts}
+use Rattle.nest_tree.proofs.FirstLimits.{neither}
 use Rattle.nest_rows.proofs.Nesting.{all-append, all-contained}
 use Rattle.owner_partition.specs.Placement.{unplaced}
 use Rattle.sync_plan.specs.declared.plan.Conditions.{Conditions}
@@ -58,9 +58,9 @@ pub fit_conditions : (tree : Tree) (plan : Plan) → IsFit tree plan → AreGood
 fit_conditions tree plan fits =
     let text = static_phases tree plan.cut in
     let constants = length tree.params in
-    let first = none_parts (as_misfit shape (wrong_field tree plan)) _ fits in
-    let second = none_parts (as_misfit placement (unplaced tree plan.cut plan.workers (placed_anchors plan))) _ first.1 in
-    let third = none_parts (as_misfit print_place (misplaced_print 1 plan.cut text plan.anchors)) _ second.1 in
+    let first = neither (as_misfit shape (wrong_field tree plan)) _ fits in
+    let second = neither (as_misfit placement (unplaced tree plan.cut plan.workers (placed_anchors plan))) _ first.1 in
+    let third = neither (as_misfit print_place (misplaced_print 1 plan.cut text plan.anchors)) _ second.1 in
     let none = nothing_misfits shape (wrong_field tree plan) first.0 in
     let conditions = (shaped tree plan none).conditions in
     let as_many : constants ≡ length (param_values tree) = sym (length-map tree.params (λ (c : Constant). c.value)) in

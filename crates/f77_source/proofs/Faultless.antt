@@ -1,8 +1,8 @@
 -- What holds of a statement without fault.
-use Rattle.std.proofs.Common.{◌≡◌, ℕ, ◌+◌, ℤ, Bool, true, false, not, ◌||◌, List, [], ◌∷◌, ◌++◌, length, map, if◌then◌else◌, Option, Some, None, refl, ap, ◌∙◌}
+use Rattle.std.proofs.Common.{◌≡◌, ℕ, ◌+◌, ℤ, Bool, true, false, not, ◌||◌, List, [], ◌∷◌, ◌++◌, length, map, if◌then◌else◌, Some, None, refl, ap, ◌∙◌}
 use Rattle.std.specs.List.{list_any, flat_map}
-use Rattle.std.specs.Option.{option_or}
 use Rattle.nest_tree.specs.WellFormed.{most_statements}
+use Rattle.nest_tree.proofs.FirstLimits.{neither}
 use Rattle.f77_forms.specs.Form.{DoForm, StatementForm}
 use Rattle.f77_scene.specs.Affine.{is_affine, met}
 use Rattle.f77_scene.specs.Expressions.{value_of}
@@ -16,10 +16,6 @@ use Rattle.f77_program.specs.declared.reach.Reach.TheVariants.{NotAffine, Within
 use Rattle.f77_program.specs.Reaches.{reach_of, reach_with}
 
 -- ---- nothing is the first of several
-
-pub neither : {X : Type 0} (a b : Option X) → option_or a b ≡ None → (a ≡ None) × (b ≡ None)
-neither None b h = (refl, h)
-neither (Some x) b h = absurd cc
 
 test_fails : (t : Bool × Fault) (ts : List (Bool × Fault)) → first_of (t ∷ ts) ≡ None → (t.0 ≡ false) × (first_of ts ≡ None)
 test_fails t ts h = by_test t.0 refl h

@@ -4,6 +4,7 @@ use Rattle.std.proofs.lemmas.Bool.{and_from, lt-ltb}
 use Rattle.std.specs.List.{list_all}
 use Rattle.nest_tree.specs.Tree.{Tree}
 use Rattle.nest_tree.specs.WellFormed.{IsWellFormed, are_good_statements, is_good_constant, is_good_declaration, most_statements, scope_of, statement_count}
+use Rattle.nest_tree.proofs.FirstLimits.{neither}
 use Rattle.f77_forms.specs.Form.{end}
 use Rattle.f77_lines.proofs.Ended.{listed-end}
 use Rattle.f77_lines.specs.Columns.{lines_of}
@@ -14,7 +15,6 @@ use Rattle.f77_scene.specs.Scene.{Name, constant_names, first_scene}
 use Rattle.f77_scene.specs.Trees.{first_body}
 use Rattle.f77_source.proofs.Counted.{counted_end, listed_end}
 use Rattle.f77_source.proofs.Declared.{declarations-good, first_kept, kept_from}
-use Rattle.f77_source.proofs.Faultless.{neither}
 use Rattle.f77_source.proofs.Nested.{ended-good}
 use Rattle.f77_source.proofs.Valued.{AreValues, all_spoken, from_values}
 

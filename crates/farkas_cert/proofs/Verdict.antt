@@ -24,11 +24,11 @@ use Rattle.farkas_cert.proofs.Products.{list_any-false, named-at}
 use Rattle.farkas_cert.proofs.Exclusion.{good_excludes}
 
 -- which tests fail where no fault is told
-none_from_if : {X : Type 0} (b : Bool) (x : X) (o : Option X) → (if b then Some x else o) ≡ None → (b ≡ false) × (o ≡ None)
+pub none_from_if : {X : Type 0} (b : Bool) (x : X) (o : Option X) → (if b then Some x else o) ≡ None → (b ≡ false) × (o ≡ None)
 none_from_if true x o h = absurd cc
 none_from_if false x o h = (refl, h)
 
-true_from_if : {X : Type 0} (b : Bool) (x : X) → (if b then None else Some x) ≡ None → b ≡ true
+pub true_from_if : {X : Type 0} (b : Bool) (x : X) → (if b then None else Some x) ≡ None → b ≡ true
 true_from_if true x h = refl
 true_from_if false x h = absurd cc
 

@@ -12,14 +12,14 @@ use Rattle.nest_tree.specs.Loads.{work_forms}
 use Rattle.nest_tree.specs.Tree.{Statement, Statements, do_loop, work, continue, done, next, Tree, param_values}
 use Rattle.nest_tree.specs.WellFormed.{IsWellFormed, Scope, are_good_statements, is_good_statement, loops_in, loops_of, scope_of}
 use Rattle.nest_tree.proofs.Cells.{well_formed_parts}
-use Rattle.nest_tree.proofs.FirstLimits.{kept}
+use Rattle.nest_tree.proofs.FirstLimits.{kept, neither}
 use Rattle.nest_tree.proofs.Good.{good_loop}
 use Rattle.nest_model.specs.Computed.{computed_at}
 use Rattle.nest_model.specs.Instances.{head_trips, no_values, trip_count, with_loop, works_in}
 use Rattle.nest_model.specs.Visits.{Visit, stops_in, visits, visits_in, visits_of}
 use Rattle.nest_model.proofs.Spans.{all_trips}
 use Rattle.nest_model.proofs.Stops.{at_start, good_trips}
-use Rattle.nest_model.proofs.Within.{Between, IsInEnds, IsSmallInterval, form_between, head_small, in_ends-step, none_parts, small_between, wide_first}
+use Rattle.nest_model.proofs.Within.{Between, IsInEnds, IsSmallInterval, form_between, head_small, in_ends-step, small_between, wide_first}
 
 abbrev are_small : List ℤ → Bool
 are_small values = list_all is_small values
@@ -54,7 +54,7 @@ mutual
       let inner = with_ends ends head.number interval in
       let g = good_loop scope around number head body good in
       let t = good_trips params ends loops scope around number head body h g low count in
-      let parts = none_parts (wide_at head.line (wide_forms params ends (head.m1 ∷ head.m2 ∷ []))) (if is_empty interval then None else wide_of params inner body) none in
+      let parts = neither (wide_at head.line (wide_forms params ends (head.m1 ∷ head.m2 ∷ []))) (if is_empty interval then None else wide_of params inner body) none in
       let fine = no_line head.line (wide_forms params ends (head.m1 ∷ head.m2 ∷ [])) parts.0 in
       let m1 = wide_first params ends head.m1 (head.m2 ∷ []) fine in
       let m2 = wide_first params ends head.m2 [] m1.1 in
@@ -84,7 +84,7 @@ mutual
       are_good_statements scope around number ss ≡ true → 1 ≤ number → number + loops_of ss ≤ suc (length loops) → list_all (is_small_stop params) (visits_in params enters ss place first loops) ≡ true
   all_stops_small params ends loops scope around number enters done place first h none good low count = refl
   all_stops_small params ends loops scope around number enters (next s rest) place first h none good low count =
-      let parts = none_parts (wide_in params ends s) (wide_of params ends rest) none in
+      let parts = neither (wide_in params ends s) (wide_of params ends rest) none in
       let both = and_parts (is_good_statement scope around number s) (are_good_statements scope around (number + loops_in s) rest) good in
       list_all-append (is_small_stop params) (visits_of params enters s place first loops) (visits_in params enters rest (place + stops_in enters s) (first + works_in s) loops)
       ∙ and_from _ _ (stops_small params ends loops scope around number enters s place first h parts.0 both.0 low (omega (arith, count)))

@@ -1,6 +1,5 @@
 -- Values within intervals: forms at loops' values within theirs, and the values of a loop's trips.
-use Rattle.std.proofs.Common.{◌≡◌, ℕ, zero, suc, ◌-◌, ◌<◌, ◌≤◌, ℤ, pos, negsuc, ◌+ℤ◌, ◌*ℤ◌, ◌≤ℤ◌, Bool, true, false, not, nat_le, int_le, List, [], ◌∷◌, length, get_or, Option, Some, None, unsigned_abs, if◌then◌else◌, ⊎_elim, refl, sym, subst, arith}
-use Rattle.std.specs.Option.{option_or}
+use Rattle.std.proofs.Common.{◌≡◌, ℕ, zero, suc, ◌-◌, ◌<◌, ◌≤◌, ℤ, pos, negsuc, ◌+ℤ◌, ◌*ℤ◌, ◌≤ℤ◌, Bool, true, false, not, nat_le, int_le, List, [], ◌∷◌, length, get_or, Some, None, unsigned_abs, if◌then◌else◌, ⊎_elim, refl, sym, subst, arith}
 use Rattle.std.proofs.lemmas.Bool.{and_parts, cases_eq, leb-true, le-leb}
 use Rattle.std.proofs.lemmas.Int.{ints}
 use Rattle.std.proofs.lemmas.List.{get_or-set_same, get_or-set_other, length-set}
@@ -10,6 +9,7 @@ use Rattle.nest_tree.specs.Intervals.{dot_ends, ends_of, form_interval, head_int
 use Rattle.nest_tree.specs.Limits.{wide_end, wide_forms}
 use Rattle.nest_tree.specs.Tree.{Head}
 use Rattle.nest_tree.specs.WellFormed.{is_number_of}
+use Rattle.nest_tree.proofs.FirstLimits.{neither}
 use Rattle.nest_model.specs.Instances.{trip_count, with_loop}
 use Rattle.nest_model.proofs.Spans.{up, down}
 
@@ -89,11 +89,6 @@ in_ends-step ends loops n interval v h number b =
       inside = λ k. ⊎_elim (here k) (there k) (cases_eq k (n - 1));
     }
 
--- the parts of a choice that finds nothing
-pub none_parts : {A : Type 0} (a b : Option A) → option_or a b ≡ None → (a ≡ None) × (b ≡ None)
-none_parts None b h = (refl, h)
-none_parts (Some x) b h = cc
-
 -- an interval whose ends are small
 pub record IsSmallInterval (interval : ℤ × ℤ) : Type 0 where
   pub low : is_small interval.0 ≡ true
@@ -109,7 +104,7 @@ wide_end-none interval h = let parts = choices (is_small interval.0) (is_small i
 
 pub wide_first : (params : List ℤ) (ends : List (ℤ × ℤ)) (f : Form) (rest : List Form) → wide_forms params ends (f ∷ rest) ≡ None → IsSmallInterval (form_interval f ends params) × (wide_forms params ends rest ≡ None)
 wide_first params ends f rest h =
-    let parts = none_parts (wide_end (form_interval f ends params)) (wide_forms params ends rest) h in
+    let parts = neither (wide_end (form_interval f ends params)) (wide_forms params ends rest) h in
     (wide_end-none (form_interval f ends params) parts.0, parts.1)
 
 pub small_between : (interval : ℤ × ℤ) (v : ℤ) → IsSmallInterval interval → Between interval v → is_small v ≡ true

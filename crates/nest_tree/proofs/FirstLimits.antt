@@ -74,7 +74,7 @@ pub record Kept (tree : Tree) : Type 0 where
   pub most_worked : work_estimate tree ≤ most_work
   pub most_counted : cell_count tree ≤ most_cells
 
-neither : {X : Type 0} (a b : Option X) → option_or a b ≡ None → (a ≡ None) × (b ≡ None)
+pub neither : {X : Type 0} (a b : Option X) → option_or a b ≡ None → (a ≡ None) × (b ≡ None)
 neither None b h = (refl, h)
 neither (Some x) b h = cc
 

@@ -11,7 +11,7 @@ use Rattle.nest_tree.specs.Intervals.{form_interval}
 use Rattle.nest_tree.specs.Limits.{wide_end, wide_forms, wide_loads}
 use Rattle.nest_tree.specs.Loads.{subscript_forms}
 
-option_or-assoc : {X : Type 0} (a b c : Option X) → option_or (option_or a b) c ≡ option_or a (option_or b c)
+pub option_or-assoc : {X : Type 0} (a b c : Option X) → option_or (option_or a b) c ≡ option_or a (option_or b c)
 option_or-assoc None b c = refl
 option_or-assoc (Some x) b c = refl
 

@@ -18,9 +18,9 @@ use Rattle.nest_tree.specs.WellFormed.{IsWellFormed, is_good_declaration, is_goo
 use Rattle.nest_tree.specs.declared.tree.Access.{Access}
 use Rattle.nest_tree.proofs.Cells.{well_formed_parts}
 use Rattle.nest_tree.proofs.Places.{good_dimension, good_declaration, count_of-some, extent-is, inside-ends}
+use Rattle.nest_tree.proofs.FirstLimits.{neither}
 use Rattle.nest_model.specs.Accesses.{access_cell, subscript_values}
 use Rattle.nest_model.specs.Ranges.{is_access_inside}
-use Rattle.nest_model.proofs.Within.{none_parts}
 use Rattle.nest_walk.specs.Paths.{Round, by_number}
 use Rattle.nest_walk.specs.Places.{cell_among, place_among}
 use Rattle.nest_walk.proofs.FormValues.{form_same}
@@ -47,7 +47,7 @@ place_exact count rounds params (b ∷ bounds) (f ∷ subscripts) numbers good f
     omega (arith, ints, offset, same, product)
 
 -- an element lies below the count of its array
-place_below : (bounds : List (ℤ × ℤ)) (values : List ℤ) → list_all is_good_dimension bounds ≡ true → are_inside bounds values ≡ true → length values ≡ length bounds → element_place bounds values < element_count bounds
+pub place_below : (bounds : List (ℤ × ℤ)) (values : List ℤ) → list_all is_good_dimension bounds ≡ true → are_inside bounds values ≡ true → length values ≡ length bounds → element_place bounds values < element_count bounds
 place_below [] values good inside as_many = omega arith
 place_below (b ∷ bounds) [] good inside as_many = absurd (omega (arith, as_many))
 place_below (b ∷ bounds) (v ∷ values) good inside as_many =
@@ -71,7 +71,7 @@ pub bounds-good : (tree : Tree) (variable : ℕ) → IsWellFormed tree → list_
 bounds-good tree variable formed = good_bounds tree.variables (variable - 1) (well_formed_parts tree formed).variables
 
 -- and its cells are the program's
-cells_below : (vs : List Declaration) (n : ℕ) → n < length vs → cells_in (take n vs) + element_count (bounds_at vs n) ≤ cells_in vs
+pub cells_below : (vs : List Declaration) (n : ℕ) → n < length vs → cells_in (take n vs) + element_count (bounds_at vs n) ≤ cells_in vs
 cells_below [] n h = absurd (omega arith)
 cells_below (v ∷ vs) zero h = omega arith
 cells_below (v ∷ vs) (suc n) h = let rest = cells_below vs n (omega arith) in omega (arith, rest)
@@ -84,8 +84,8 @@ not_past n h = ltb-false most_cells n h
 
 pub few_cells : (tree : Tree) → IsWithinLimits tree → cell_count tree ≤ 1048576
 few_cells tree limits =
-    let parts = none_parts (too_wide tree) (option_or (too_much_work tree) (too_many_cells tree)) limits in
-    let rest = none_parts (too_much_work tree) (too_many_cells tree) parts.1 in
+    let parts = neither (too_wide tree) (option_or (too_much_work tree) (too_many_cells tree)) limits in
+    let rest = neither (too_much_work tree) (too_many_cells tree) parts.1 in
     not_past (cell_count tree) (⊎_elim (λ h. absurd (some_none (ap (λ b. if b then Some (TooManyCells (capped (cell_count tree))) else None) (sym h) ∙ rest.1))) (λ h. h) (cases_Bool (nat_lt most_cells (cell_count tree))))
 
 -- what is known of an access in range

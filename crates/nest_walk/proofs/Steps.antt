@@ -47,7 +47,7 @@ taken next step (suc (suc count)) some small =
     more ∙ ap (λ z. next ∷ progression z step (suc count)) (sym (ap wrapped sum ∙ fits)) ∙ ap (λ k. next ∷ progression (wrapped (next +ℤ pos 1 *ℤ step)) step k) before
 
 -- how many trips
-abs-int_div : (a d : ℤ) → unsigned_abs (int_div a d) ≤ unsigned_abs a
+pub abs-int_div : (a d : ℤ) → unsigned_abs (int_div a d) ≤ unsigned_abs a
 abs-int_div (pos a) (pos b) = div-le_self a b
 abs-int_div (pos a) (negsuc b) = omega (arith, ints, div-le_self a (suc b))
 abs-int_div (negsuc a) (pos b) = omega (arith, ints, div-le_self (suc a) b)

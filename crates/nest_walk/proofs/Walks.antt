@@ -11,12 +11,13 @@ use Rattle.std.specs.Option.{option_or}
 use Rattle.nest_tree.specs.Loads.{guard_forms, loads_in, subscript_forms, work_forms}
 use Rattle.nest_tree.specs.Tree.{Work, assign, print, Statement, Statements, do_loop, work, continue, done, next, Tree, param_values}
 use Rattle.nest_tree.specs.WellFormed.{IsWellFormed, Scope, are_good_statements, is_good_head, is_good_statement, is_number_of, loops_in, loops_of, scope_of, statement_count, statements_in}
+use Rattle.nest_tree.proofs.FirstLimits.{neither}
 use Rattle.nest_model.specs.Instances.{no_values, trip_count, with_loop, works_in, works_of}
 use Rattle.nest_model.specs.Visits.{stops_in, stops_of}
 use Rattle.nest_model.proofs.Small.{no_line, not_empty}
 use Rattle.nest_model.proofs.Spans.{all_trips}
 use Rattle.nest_model.proofs.Stops.{at_start}
-use Rattle.nest_model.proofs.Within.{IsInEnds, form_between, head_between, head_small, in_ends-step, none_parts, small_between, wide_first}
+use Rattle.nest_model.proofs.Within.{IsInEnds, form_between, head_between, head_small, in_ends-step, small_between, wide_first}
 use Rattle.nest_walk.specs.Walks.{Level, enters_but, is_sound, walk_in}
 use Rattle.nest_walk.specs.Walkable.{are_above, are_walkable, is_above, is_small_at, is_walkable, sides_of}
 
@@ -65,7 +66,7 @@ mutual
       let number_is = eqb-true head.number first c.0 in
       let number : is_number_of (length loops) head.number ≡ true =
       and_from _ _ (le-leb 1 head.number (omega (arith, number_is, low))) (le-leb head.number (length loops) (omega (arith, number_is, count))) in
-      let parts = none_parts (wide_at head.line (wide_forms params ends (head.m1 ∷ head.m2 ∷ []))) (if is_empty interval then None else wide_of params (with_ends ends head.number interval) body) none in
+      let parts = neither (wide_at head.line (wide_forms params ends (head.m1 ∷ head.m2 ∷ []))) (if is_empty interval then None else wide_of params (with_ends ends head.number interval) body) none in
       let m1 = wide_first params ends head.m1 (head.m2 ∷ []) (no_line head.line (wide_forms params ends (head.m1 ∷ head.m2 ∷ [])) parts.0) in
       let m2 = wide_first params ends head.m2 [] m1.1 in
       let small_m1 = small_between (form_interval head.m1 ends params) (form_value head.m1 loops params) m1.0 (form_between head.m1 ends loops params h) in
@@ -91,7 +92,7 @@ mutual
       are_good_statements scope around first ss ≡ true → 1 ≤ first → first + loops_of ss ≤ suc (length loops) → are_walkable params (length around) ss loops ≡ true
   statements_walkable params ends loops scope around first done h none good low count = refl
   statements_walkable params ends loops scope around first (next s rest) h none good low count =
-      let parts = none_parts (wide_in params ends s) (wide_of params ends rest) none in
+      let parts = neither (wide_in params ends s) (wide_of params ends rest) none in
       let both = and_parts (is_good_statement scope around first s) (are_good_statements scope around (first + loops_in s) rest) good in
       and_from _ _ (statement_walkable params ends loops scope around first s h parts.0 both.0 low (omega (arith, count)))
       (statements_walkable params ends loops scope around (first + loops_in s) rest h parts.1 both.1 (omega (arith, low)) (omega (arith, count)))
@@ -123,7 +124,7 @@ mutual
 pub walkable : (tree : Tree) → IsWellFormed tree → IsWithinLimits tree → are_walkable (param_values tree) 0 tree.items (no_values tree) ≡ true
 walkable tree formed limits =
     let good = and_parts _ (are_good_statements (scope_of tree) [] 1 tree.items) formed in
-    let wide = none_parts (too_wide tree) (option_or (too_much_work tree) (too_many_cells tree)) limits in
+    let wide = neither (too_wide tree) (option_or (too_much_work tree) (too_many_cells tree)) limits in
     statements_walkable (param_values tree) no_ends (no_values tree) (scope_of tree) [] 1 tree.items (at_start tree formed) wide.0 good.1 (omega arith)
     (omega (arith, length-replicate (loops_of tree.items) (pos 0)))
 

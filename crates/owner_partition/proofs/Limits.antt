@@ -1,12 +1,13 @@
 -- Trips in equal steps up to a limit, and those in a block.
 use Rattle.std.proofs.Common.{◌≡◌, ◌≢◌, ◌↔◌, ℕ, zero, suc, ◌+◌, ◌*◌, ◌/◌, ◌^◌, ◌<◌, ◌≤◌, ℤ, pos, negsuc, ◌+ℤ◌, ◌-ℤ◌, ◌*ℤ◌, ◌≤ℤ◌, FitsSigned, unsigned_abs, int_div, int_lt, false, IsTrue, ◌==◌, refl, ap, sym, subst, ◌∙◌, arith}
 use Rattle.std.specs.Int.{int_div_euclid, w128}
-use Rattle.std.proofs.Math.Nat.{div-le_self, div-lt_iff_lt-mul, le-div_iff_mul-le}
+use Rattle.std.proofs.Math.Nat.{div-lt_iff_lt-mul, le-div_iff_mul-le}
 use Rattle.std.proofs.lemmas.Bool.{eqb-true, eq-eqb}
 use Rattle.std.proofs.Math.IntN.{*ℤ-zero}
 use Rattle.std.proofs.lemmas.Nat.{mul-le}
 use Rattle.std.proofs.lemmas.Int.{ints, fits_signed_from_abs, unsigned_abs-mul}
 use Rattle.nest_walk.proofs.Products.{mul-less}
+use Rattle.nest_walk.proofs.Steps.{abs-int_div}
 use Rattle.nest_tree.specs.Layout.{count_of}
 use Rattle.owner_partition.specs.declared.anchor.Dist.TheVariants.{Block}
 use Rattle.owner_partition.specs.OwnTrips.{trip_owner}
@@ -28,12 +29,6 @@ up_to_limit start (pos (suc r)) limit n low some le = gap (limit -ℤ start) ref
 
 pub difference_fits : (start limit : ℤ) → unsigned_abs start ≤ 2 ^ 125 → unsigned_abs limit ≤ 2 ^ 126 → FitsSigned w128 (limit -ℤ start)
 difference_fits start limit a b = fits_signed_from_abs w128 (limit -ℤ start) (omega (arith, ints, a, b))
-
-abs-int_div : (a d : ℤ) → unsigned_abs (int_div a d) ≤ unsigned_abs a
-abs-int_div (pos a) (pos b) = div-le_self a b
-abs-int_div (pos a) (negsuc b) = omega (arith, ints, div-le_self a (suc b))
-abs-int_div (negsuc a) (pos b) = omega (arith, ints, div-le_self (suc a) b)
-abs-int_div (negsuc a) (negsuc b) = div-le_self (suc a) (suc b)
 
 pub quotient_fits : (start rise limit : ℤ) → unsigned_abs start ≤ 2 ^ 125 → unsigned_abs limit ≤ 2 ^ 126 → FitsSigned w128 (int_div (limit -ℤ start) rise)
 quotient_fits start rise limit a b =

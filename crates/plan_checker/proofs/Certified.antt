@@ -6,7 +6,7 @@ use Rattle.farkas_cert.specs.declared.certificate.Certificate.{Certificate}
 use Rattle.farkas_cert.specs.Fault.{first_fault}
 use Rattle.farkas_cert.proofs.Verdict.{good_where_none, none_where_good}
 use Rattle.nest_tree.specs.Tree.{Tree}
-use Rattle.nest_model.proofs.Within.{none_parts}
+use Rattle.nest_tree.proofs.FirstLimits.{neither}
 use Rattle.sync_plan.specs.declared.plan.Plan.{Plan}
 use Rattle.sync_plan.specs.Fit.{IsFit, as_misfit, first_misfit, shape}
 use Rattle.sync_plan.specs.Shape.{wrong_field}
@@ -31,7 +31,7 @@ certified_where_none [] [] few h = tt
 certified_where_none [] (c ∷ cs) few h = absurd (omega (arith, few))
 certified_where_none (o ∷ os) [] few h = absurd cc
 certified_where_none (o ∷ os) (c ∷ cs) few h =
-    let parts = none_parts (option_map (Bad o.number) (first_fault o.system c)) (first_uncertified os cs) h in
+    let parts = neither (option_map (Bad o.number) (first_fault o.system c)) (first_uncertified os cs) h in
     (good_where_none o.system c (unmapped (Bad o.number) (first_fault o.system c) parts.0), certified_where_none os cs (omega (arith, few)) parts.1)
 
 none_where_certified : (os : List Obligation) (cs : List Certificate) → AreCertified os cs → first_uncertified os cs ≡ None
@@ -60,7 +60,7 @@ none_joined None b none others = others
 none_joined (Some x) b none others = absurd cc
 
 pub fit_shape : (tree : Tree) (plan : Plan) → IsFit tree plan → wrong_field tree plan ≡ None
-fit_shape tree plan fits = field (wrong_field tree plan) (none_parts (as_misfit shape (wrong_field tree plan)) _ fits).0
+fit_shape tree plan fits = field (wrong_field tree plan) (neither (as_misfit shape (wrong_field tree plan)) _ fits).0
   where
     field : (f : Option ℕ) → as_misfit shape f ≡ None → f ≡ None
     field None h = refl
@@ -69,9 +69,9 @@ fit_shape tree plan fits = field (wrong_field tree plan) (none_parts (as_misfit 
 pub accepted_where_none : (tree : Tree) (plan : Plan) → first_failure tree plan ≡ None → IsAccepted tree plan
 accepted_where_none tree plan none =
     let os = obligations_of tree plan in
-    let field = none_parts (option_map Shape (wrong_field tree plan)) _ none in
-    let many = none_parts (surplus os plan.certificates) _ field.1 in
-    let fit = none_parts (first_refusal tree plan) _ many.1 in
+    let field = neither (option_map Shape (wrong_field tree plan)) _ none in
+    let many = neither (surplus os plan.certificates) _ field.1 in
+    let fit = neither (first_refusal tree plan) _ many.1 in
     record {
       fits = unmapped refusal_of (first_misfit tree plan) fit.0;
       certified = certified_where_none os plan.certificates (few_where_false _ _ (no_surplus (nat_lt (length os) (length plan.certificates)) (Shape 7) many.0)) fit.1;

@@ -62,7 +62,7 @@ module _ (enters : ℕ → Bool) (scope : Scope) (n : ℕ) where
         ∙ and_from (list_all (is_within n) (placed_in enters around s)) (list_all (is_within n) (placed_of enters around rest))
         (one_within around first s parts.0 (omega (arith, few)) within) (all_within_of around (first + loops_in s) rest parts.1 (omega (arith, few)) within)
 
-text_within : (tree : Tree) (marks : List Mark) → IsWellFormed tree → list_all (is_within (loops_of tree.items)) (static_phases tree marks) ≡ true
+pub text_within : (tree : Tree) (marks : List Mark) → IsWellFormed tree → list_all (is_within (loops_of tree.items)) (static_phases tree marks) ≡ true
 text_within tree marks formed = all_within_of (enters_outer marks) (scope_of tree) (loops_of tree.items) [] 1 tree.items (well_formed_parts tree formed).statements (omega arith) refl
 
 around_within : (n : ℕ) (s : Statement) (around : List ℕ) → is_low n s around ≡ true → all_within n around ≡ true

@@ -17,7 +17,8 @@ use Rattle.farkas_cert.specs.declared.certificate.CertRefusal.TheVariants.{Negat
 use Rattle.farkas_cert.specs.Combination.{entry_at, made_row, no_row, row_at, sum_at}
 use Rattle.farkas_cert.specs.Fault.{divides, fault_from, first_wide, has_negative, is_contradiction, last_fault, names_bad_row, number_fault, step_fault}
 use Rattle.farkas_cert.proofs.Integers.{le_div_euclid, mul_le_ℤ}
-use Rattle.nest_model.proofs.Within.{none_parts}
+use Rattle.farkas_cert.proofs.Verdict.{none_from_if, true_from_if}
+use Rattle.nest_tree.proofs.FirstLimits.{neither}
 
 -- ---- quotients rounded down
 
@@ -110,15 +111,15 @@ module _ (vars : ℕ) (rs ss : List Row) (tighter : AreTighter rs ss) where
   sum_low : (terms : List (ℕ × ℤ)) → has_negative terms ≡ false → sum_at vars ss terms vars ≤ℤ sum_at vars rs terms vars
   sum_low [] signs = ≤ℤ_refl (pos 0)
   sum_low (t ∷ terms) signs =
-      let parts = neither (int_lt t.1 (pos 0)) (has_negative terms) signs in
+      let parts = both_false (int_lt t.1 (pos 0)) (has_negative terms) signs in
       let sign : pos 0 ≤ℤ t.1 = let none = parts.0 in grind (arith, ints) in
       let here = mul_le_ℤ t.1 (entry_at vars (row_at ss t.0) vars) (entry_at vars (row_at rs t.0) vars) sign (entry_low t.0) in
       let rest = sum_low terms parts.1 in
       omega (arith, ints, here, rest)
     where
-      neither : (a b : Bool) → (a || b) ≡ false → (a ≡ false) × (b ≡ false)
-      neither true b h = absurd cc
-      neither false b h = (refl, h)
+      both_false : (a b : Bool) → (a || b) ≡ false → (a ≡ false) × (b ≡ false)
+      both_false true b h = absurd cc
+      both_false false b h = (refl, h)
 
   -- ---- and the rows that steps make
 
@@ -150,16 +151,8 @@ module _ (vars : ℕ) (rs ss : List Row) (tighter : AreTighter rs ss) where
 abbrev pub IsWideAtMost : Option CertRefusal → Type 0
 IsWideAtMost fault = (fault ≡ None) ⊎ ((step : ℕ) × (entry : ℕ) × (fault ≡ Some (Wide step entry)))
 
-false_where_none : {A : Type 0} (b : Bool) (x : A) (o : Option A) → (if b then Some x else o) ≡ None → (b ≡ false) × (o ≡ None)
-false_where_none true x o h = absurd cc
-false_where_none false x o h = (refl, h)
-
-true_where_none : {A : Type 0} (b : Bool) (x : A) → (if b then None else Some x) ≡ None → b ≡ true
-true_where_none true x h = refl
-true_where_none false x h = absurd cc
-
 divides_where_none : (vars : ℕ) (rows : List Row) (n : ℕ) (step : Step) (wide : Option ℕ) → number_fault vars rows n step wide ≡ None → divides vars rows step ≡ true
-divides_where_none vars rows n step None h = true_where_none (divides vars rows step) (BadDivisor n) h
+divides_where_none vars rows n step None h = true_from_if (divides vars rows step) (BadDivisor n) h
 divides_where_none vars rows n step (Some k) h = absurd cc
 
 last_tighter : (m n : ℕ) (r s : Option Row) → AreBoth r s → last_fault m r ≡ None → last_fault n s ≡ None
@@ -167,7 +160,7 @@ last_tighter m n None None both h = absurd cc
 last_tighter m n None (Some s) both h = absurd both
 last_tighter m n (Some r) None both h = absurd both
 last_tighter m n (Some r) (Some s) both h =
-    let parts = and_parts (list_all (λ a. int_eq a (pos 0)) r.coefs) (int_lt r.bound (pos 0)) (true_where_none (is_contradiction r) (NoContradiction m) h) in
+    let parts = and_parts (list_all (λ a. int_eq a (pos 0)) r.coefs) (int_lt r.bound (pos 0)) (true_from_if (is_contradiction r) (NoContradiction m) h) in
     let below = parts.1 in
     let lower = both.bound in
     let negative : int_lt s.bound (pos 0) ≡ true = grind (arith, ints) in
@@ -196,10 +189,10 @@ fault_tighter vars n [] rs ss tighter none =
     let long = tighter_length rs ss tighter in
     inl (last_tighter (length rs) (length ss) (slice_get rs (length rs - 1)) (slice_get ss (length ss - 1)) (subst (λ m. AreBoth (slice_get rs (length rs - 1)) (slice_get ss (m - 1))) (sym long) (tighter_get rs ss (length rs - 1) tighter)) none)
 fault_tighter vars n (step ∷ steps) rs ss tighter none =
-    let parts = none_parts (step_fault vars rs n step) (fault_from vars (rs ++ made_row vars rs step ∷ []) (n + 1) steps) none in
+    let parts = neither (step_fault vars rs n step) (fault_from vars (rs ++ made_row vars rs step ∷ []) (n + 1) steps) none in
     let wide = first_wide vars rs step.terms (range_with_len 0 (vars + 1)) in
-    let signs = false_where_none (has_negative step.terms) (NegativeMultiplier n) (if names_bad_row (length rs) step.terms then Some (BadRow n) else number_fault vars rs n step wide) parts.0 in
-    let named = false_where_none (names_bad_row (length rs) step.terms) (BadRow n) (number_fault vars rs n step wide) signs.1 in
+    let signs = none_from_if (has_negative step.terms) (NegativeMultiplier n) (if names_bad_row (length rs) step.terms then Some (BadRow n) else number_fault vars rs n step wide) parts.0 in
+    let named = none_from_if (names_bad_row (length rs) step.terms) (BadRow n) (number_fault vars rs n step wide) signs.1 in
     let divided = divides_where_none vars rs n step wide named.1 in
     step_tighter vars n step rs ss tighter signs.0 named.0 divided (fault_from vars (ss ++ made_row vars ss step ∷ []) (n + 1) steps)
     (fault_tighter vars (n + 1) steps (rs ++ made_row vars rs step ∷ []) (ss ++ made_row vars ss step ∷ [])

@@ -1,5 +1,5 @@
 -- Verdicts that are remembered.
-use Rattle.std.proofs.Common.{◌≡◌, ℕ, zero, suc, ◌+◌, ◌<◌, List, [], ◌∷◌, ◌++◌, take, length, map, get_or, set, Some, None, refl, ap, sym, ◌∙◌, subst, inl, inr, ◌⊎◌, arith, length-append}
+use Rattle.std.proofs.Common.{◌≡◌, ℕ, zero, suc, ◌+◌, ◌<◌, List, [], ◌∷◌, ◌++◌, take, length, get_or, set, Some, None, refl, ap, sym, ◌∙◌, subst, inl, inr, ◌⊎◌, arith, length-append}
 use Rattle.std.specs.Prelude.{slice_get}
 use Rattle.std.specs.List.{All, AllZip}
 use Rattle.plan_maker.specs.Asked.{Asked}
@@ -32,11 +32,6 @@ pub get_there : {X : Type 0} (xs : List X) (k : ℕ) (x : X) → k < length xs �
 get_there [] k x lt is = absurd (omega (arith, lt))
 get_there (y ∷ xs) zero x lt is = ap (λ z. Some z) (sym is)
 get_there (y ∷ xs) (suc k) x lt is = get_there xs k x (omega (arith, lt)) is
-
-pub get_mapped : {X Y : Type 0} (f : X → Y) (xs : List X) (k : ℕ) (x : X) → slice_get xs k ≡ Some x → slice_get (map f xs) k ≡ Some (f x)
-get_mapped f [] k x at = absurd (let no : None ≡ Some x = at in cc)
-get_mapped f (y ∷ xs) zero x at = let same : y ≡ x = cc in ap (λ z. Some (f z)) same
-get_mapped f (y ∷ xs) (suc k) x at = get_mapped f xs k x at
 
 pub get_pushed : {X : Type 0} (xs : List X) (x : X) (k : ℕ) (y : X) → slice_get (xs ++ x ∷ []) k ≡ Some y → (slice_get xs k ≡ Some y) ⊎ ((k ≡ length xs) × (x ≡ y))
 get_pushed [] x zero y at = inr (refl, cc)

@@ -1,5 +1,5 @@
 -- The order of elimination names each unknown once.
-use Rattle.std.proofs.Common.{◌≡◌, ℕ, zero, suc, ◌+◌, ◌-◌, ◌≤◌, List, [], ◌∷◌, ◌++◌, ap, sym, ◌∙◌, subst, arith}
+use Rattle.std.proofs.Common.{◌≡◌, ℕ, suc, ◌+◌, ◌-◌, ◌≤◌, List, [], ◌∷◌, ◌++◌, ap, sym, ◌∙◌, subst, arith}
 use Rattle.std.specs.List.{range_with_len}
 use Rattle.std.specs.List.Sorted.{IsPermutation}
 use Rattle.std.proofs.lemmas.List.Sorted.{IsPermutation-append_right, IsPermutation-cons, IsPermutation-middle, IsPermutation-refl, IsPermutation-sym, IsPermutation-trans}
@@ -7,19 +7,10 @@ use Rattle.fm_elim.specs.Answers.{NamesEachOnce}
 use Rattle.owner_partition.specs.declared.anchor.Dist.{Dist}
 use Rattle.owner_partition.specs.declared.anchor.Dist.TheVariants.{Block, Cyclic}
 use Rattle.plan_maker.specs.Orders.{elimination_order, owners_from, rounds_from, unknowns_of}
-
-range-append : (a m n : ℕ) → range_with_len a (m + n) ≡ range_with_len a m ++ range_with_len (a + m) n
-range-append a zero n =
-    let e : 0 + n ≡ n = omega arith in
-    let f : a ≡ a + 0 = omega arith in
-    ap (range_with_len a) e ∙ ap (λ b. range_with_len b n) f
-range-append a (suc m) n =
-    let e : suc m + n ≡ suc (m + n) = omega arith in
-    let f : a + 1 + m ≡ a + suc m = omega arith in
-    ap (range_with_len a) e ∙ ap (λ xs. a ∷ xs) (range-append (a + 1) m n ∙ ap (λ b. range_with_len (a + 1) m ++ range_with_len b n) f)
+use Rattle.sync_plan.proofs.ProcessorSets.{range_split}
 
 pub range-more : (n : ℕ) → range_with_len 1 (n + 1) ≡ range_with_len 1 n ++ (n + 1) ∷ []
-range-more n = let e : 1 + n ≡ n + 1 = omega arith in range-append 1 n 1 ∙ ap (λ k. range_with_len 1 n ++ k ∷ []) e
+range-more n = let e : 1 + n ≡ n + 1 = omega arith in range_split 1 n 1 ∙ ap (λ k. range_with_len 1 n ++ k ∷ []) e
 
 -- the unknowns of owners, from this one on
 owners-once : (q : ℕ) (dists : List Dist) → IsPermutation (range_with_len q (unknowns_of dists)) (owners_from q dists ++ rounds_from q dists)
@@ -49,5 +40,5 @@ order_once unknowns dists few =
     let at : 1 + others ≡ suc others = omega arith in
     let owners = subst (λ q. IsPermutation (range_with_len q (unknowns_of dists)) (owners_from (suc others) dists ++ rounds_from (suc others) dists)) (sym at) (owners-once (suc others) dists) in
     let whole = IsPermutation-append_right (range_with_len 1 others) (range_with_len (1 + others) (unknowns_of dists)) (owners_from (suc others) dists ++ rounds_from (suc others) dists) owners in
-    let range : range_with_len 1 unknowns ≡ range_with_len 1 others ++ range_with_len (1 + others) (unknowns_of dists) = ap (range_with_len 1) split ∙ range-append 1 others (unknowns_of dists) in
+    let range : range_with_len 1 unknowns ≡ range_with_len 1 others ++ range_with_len (1 + others) (unknowns_of dists) = ap (range_with_len 1) split ∙ range_split 1 others (unknowns_of dists) in
     subst (λ xs. IsPermutation xs (elimination_order unknowns dists)) (sym range) whole

@@ -12,6 +12,7 @@ use Rattle.fm_elim.specs.declared.answer.Answer.{Answer}
 use Rattle.nest_walk.proofs.Grown.{AllZip-append}
 use Rattle.plan_maker.specs.Asked.{AreRefuted, Asked, IsCause, IsSaid}
 use Rattle.plan_maker.specs.declared.cause.Cause.{Cause}
+use Rattle.sync_plan.proofs.Gets.{get-behind}
 
 pub refuted-append : (qs rs : List Asked) (cs ds : List Certificate) → AreRefuted qs cs → AreRefuted rs ds → AreRefuted (qs ++ rs) (cs ++ ds)
 refuted-append qs rs cs ds h k = AllZip-append (λ (q : Asked) (c : Certificate). IsGood q.task.system c) qs rs cs ds h k
@@ -19,10 +20,6 @@ refuted-append qs rs cs ds h k = AllZip-append (λ (q : Asked) (c : Certificate)
 take-behind : {X : Type 0} (xs ys : List X) (n : ℕ) → take (length xs + n) (xs ++ ys) ≡ xs ++ take n ys
 take-behind [] ys n = let e : 0 + n ≡ n = omega arith in ap (λ k. take k ys) e
 take-behind (x ∷ xs) ys n = let e : suc (length xs) + n ≡ suc (length xs + n) = omega arith in ap (λ k. take k (x ∷ (xs ++ ys))) e ∙ ap (λ zs. x ∷ zs) (take-behind xs ys n)
-
-get-behind : {X : Type 0} (xs ys : List X) (n : ℕ) → slice_get (xs ++ ys) (length xs + n) ≡ slice_get ys n
-get-behind [] ys n = let e : 0 + n ≡ n = omega arith in ap (slice_get ys) e
-get-behind (x ∷ xs) ys n = let e : suc (length xs) + n ≡ suc (length xs + n) = omega arith in ap (slice_get (x ∷ (xs ++ ys))) e ∙ get-behind xs ys n
 
 take-front : {X : Type 0} (xs ys : List X) (n : ℕ) (x : X) → slice_get xs n ≡ Some x → take n (xs ++ ys) ≡ take n xs
 take-front [] ys n x at = absurd (cc)

@@ -1,5 +1,5 @@
 -- The producers' anchors, phase by phase.
-use Rattle.std.proofs.Common.{◌≡◌, ℕ, zero, suc, ◌+◌, ◌<◌, Bool, true, false, not, ◌&&◌, List, [], ◌∷◌, ◌++◌, drop, length, map, get_or, Some, None, if◌then◌else◌, append_assoc, refl, ap, ap₂, sym, ◌∙◌, arith}
+use Rattle.std.proofs.Common.{◌≡◌, ℕ, ◌+◌, ◌<◌, Bool, true, false, not, ◌&&◌, List, [], ◌∷◌, ◌++◌, drop, length, map, get_or, Some, None, if◌then◌else◌, append_assoc, refl, ap, ap₂, sym, ◌∙◌}
 use Rattle.std.specs.Prelude.{slice_get}
 use Rattle.std.specs.List.{list_any}
 use Rattle.std.proofs.lemmas.List.{append-nil, at_drop_more}
@@ -11,17 +11,7 @@ use Rattle.comm_system.specs.PhaseViews.{phase_seen}
 use Rattle.comm_system.specs.References.{StaticPhase}
 use Rattle.comm_system.specs.declared.phase.Phase.{Phase}
 use Rattle.plan_maker.specs.Candidates.{each_once, is_same_anchor, single_anchors, single_more}
-
-pub drop_get : {X : Type 0} (xs : List X) (k : ℕ) (x : X) → slice_get xs k ≡ Some x → drop k xs ≡ x ∷ drop (k + 1) xs
-drop_get [] k x at = absurd (let no : None ≡ Some x = at in cc)
-drop_get (y ∷ xs) zero x at = let same : y ≡ x = cc in ap (λ z. z ∷ xs) same
-drop_get (y ∷ xs) (suc k) x at = let e : suc k + 1 ≡ suc (k + 1) = omega arith in drop_get xs k x at ∙ ap (λ j. x ∷ drop j (y ∷ xs)) (sym e)
-
-pub drop_none : {X : Type 0} (xs : List X) (k : ℕ) → slice_get xs k ≡ None → drop k xs ≡ []
-drop_none [] zero at = refl
-drop_none [] (suc k) at = refl
-drop_none (y ∷ xs) zero at = absurd (let no : Some y ≡ None = at in cc)
-drop_none (y ∷ xs) (suc k) at = drop_none xs k at
+use Rattle.plan_checker.proofs.Texts.{from_place, past_end}
 
 module _ (marks : List Mark) (t : StaticPhase) where
   no_anchors : (phases : List StaticPhase) → single_anchors marks t phases [] ≡ []
@@ -54,8 +44,8 @@ module _ (marks : List Mark) (t : StaticPhase) where
       ≡ single_more marks t seen (phase_seen p) a ++ each_once (single_more marks t seen (phase_seen p) a) (single_anchors marks t (map phase_seen (drop (i + 1) phases)) (drop (i + 1) anchors))
   single_step seen phases anchors i p a lt is at =
       let front = at_drop_more (map phase_seen) phases i p lt ∙ ap (λ q. phase_seen q ∷ map phase_seen (drop (i + 1) phases)) (sym is) in
-      ap₂ (λ ps xs. seen ++ each_once seen (single_anchors marks t ps xs)) front (drop_get anchors i a at)
+      ap₂ (λ ps xs. seen ++ each_once seen (single_anchors marks t ps xs)) front (from_place anchors i a at)
       ∙ one seen (phase_seen p) (map phase_seen (drop (i + 1) phases)) a (drop (i + 1) anchors)
 
   pub single_end : (seen : List Anchor) (phases : List StaticPhase) (anchors : List Anchor) (i : ℕ) → slice_get anchors i ≡ None → seen ++ each_once seen (single_anchors marks t phases (drop i anchors)) ≡ seen
-  single_end seen phases anchors i at = ap (λ xs. seen ++ each_once seen (single_anchors marks t phases xs)) (drop_none anchors i at) ∙ ap (λ xs. seen ++ each_once seen xs) (no_anchors phases) ∙ append-nil seen
+  single_end seen phases anchors i at = ap (λ xs. seen ++ each_once seen (single_anchors marks t phases xs)) (past_end anchors i at) ∙ ap (λ xs. seen ++ each_once seen xs) (no_anchors phases) ∙ append-nil seen

@@ -11,12 +11,13 @@ use Rattle.comm_system.specs.Obligations.{Slot, slot_signature}
 use Rattle.comm_system.specs.References.{StaticPhase}
 use Rattle.comm_system.specs.SlotViews.{slot_seen}
 use Rattle.comm_system.specs.declared.slot.Slot.{Slot as Held}
+use Rattle.comm_system.proofs.Lists.{mapped_get}
 use Rattle.plan_maker.specs.declared.cause.Cause.{Cause}
 use Rattle.plan_maker.specs.declared.memory.Memory.{Memory}
 use Rattle.plan_maker.specs.Asked.{AreRefuted, Asked, IsCause, slot_asked}
 use Rattle.plan_maker.specs.Memories.{IsMemory}
 use Rattle.plan_maker.specs.Trials.{AreMemories, slots_asked}
-use Rattle.plan_maker.proofs.Memories.{get_here, get_mapped, same_read, zip_at, zip_set}
+use Rattle.plan_maker.proofs.Memories.{get_here, same_read, zip_at, zip_set}
 use Rattle.plan_maker.proofs.Questions.{seen_kept, seen_more}
 
 module _ (tree : Tree) (plan : Plan) (slots : List Held) (memories : List Memory) (inv : AreMemories tree plan (map slot_seen slots) memories) where
@@ -32,11 +33,11 @@ module _ (tree : Tree) (plan : Plan) (slots : List Held) (memories : List Memory
   pub memory_there : (k : ℕ) (d : Held) (e : Memory) → k < length memories → IsMemory tree plan (slot_seen (get_or slots k d)) (get_or memories k e)
   memory_there k d e lt =
       zip_at (IsMemory tree plan) (map slot_seen slots) memories k (slot_seen (get_or slots k d)) (get_or memories k e) inv
-      (get_mapped slot_seen slots k (get_or slots k d) (get_here slots k d (slot_within k lt))) (get_here memories k e lt)
+      (mapped_get slot_seen slots k (get_or slots k d) (get_here slots k d (slot_within k lt))) (get_here memories k e lt)
 
   pub memory_changed : (k : ℕ) (d : Held) (new : Memory) → k < length memories → IsMemory tree plan (slot_seen (get_or slots k d)) new → AreMemories tree plan (map slot_seen slots) (set memories k new)
   memory_changed k d new lt h =
-      zip_set (IsMemory tree plan) (map slot_seen slots) memories k (slot_seen (get_or slots k d)) new inv (get_mapped slot_seen slots k (get_or slots k d) (get_here slots k d (slot_within k lt))) h
+      zip_set (IsMemory tree plan) (map slot_seen slots) memories k (slot_seen (get_or slots k d)) new inv (mapped_get slot_seen slots k (get_or slots k d) (get_here slots k d (slot_within k lt))) h
 
 abbrev ask : Tree → Plan → List Kind → List StaticPhase → Slot → List Asked
 ask tree plan kinds phases slot = slot_asked tree plan slot (slot_signature Two kinds phases slot)

@@ -14,12 +14,9 @@ use Rattle.nest_model.specs.Accesses.{subscript_values}
 use Rattle.nest_model.specs.Instances.{Instance, instances}
 use Rattle.nest_model.specs.Ranges.{IsInRange, accesses_of, is_access_inside, is_instance_inside}
 use Rattle.nest_tree.specs.Limits.{line_of_work}
+use Rattle.nest_tree.proofs.Wide.{option_or-assoc}
 use Rattle.range_check.specs.Outside.{access_outside, accesses_outside, are_sound_accesses, first_outside, instance_outside, instances_outside, is_sound_access, outside_of, subscript_outside}
 use Rattle.range_check.specs.declared.outside.OutOfRange.{OutOfRange}
-
-option_or-assoc : {X : Type 0} (a b c : Option X) → option_or (option_or a b) c ≡ option_or a (option_or b c)
-option_or-assoc None b c = refl
-option_or-assoc (Some x) b c = refl
 
 pub outside-append : (tree : Tree) (loops : List ℤ) (line : ℕ) (xs ys : List Access) → accesses_outside tree loops line (xs ++ ys) ≡ option_or (accesses_outside tree loops line xs) (accesses_outside tree loops line ys)
 outside-append tree loops line [] ys = refl

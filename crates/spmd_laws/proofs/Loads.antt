@@ -1,44 +1,20 @@
 -- In a well-formed program an access in range is of a cell that is there.
-use Rattle.std.proofs.Common.{◌≡◌, ℕ, zero, suc, ◌+◌, ◌-◌, ◌<◌, ◌≤◌, ◌&&◌, nat_lt, ℤ, pos, ◌-ℤ◌, unsigned_abs, true, List, [], ◌∷◌, ◌++◌, length, map, take, refl, sym, ◌∙◌, arith}
+use Rattle.std.proofs.Common.{◌≡◌, ℕ, zero, suc, ◌+◌, ◌-◌, ◌<◌, ◌≤◌, ◌&&◌, nat_lt, ℤ, unsigned_abs, true, List, [], ◌∷◌, ◌++◌, length, map, refl, sym, ◌∙◌, arith}
 use Rattle.std.specs.List.{All, flat_map, list_all, range_with_len}
-use Rattle.std.proofs.Math.Nat.{mul-le-mul_left}
 use Rattle.std.proofs.lemmas.Bool.{and_from, and_parts, leb-true}
-use Rattle.std.proofs.lemmas.Int.{ints}
 use Rattle.std.proofs.lemmas.List.{length-map}
 use Rattle.std.proofs.lemmas.List.Elements.{All-append, All-cons, All-nil}
 use Rattle.std.proofs.lemmas.List.Folds.{list_all-append}
 use Rattle.nest_tree.specs.declared.tree.Access.{Access}
 use Rattle.nest_tree.specs.Form.{form_value}
-use Rattle.nest_tree.specs.Layout.{are_inside, bounds_at, bounds_of, cell_count, cells_in, count_of, element_count, element_place, extent, first_cell, is_inside}
+use Rattle.nest_tree.specs.Layout.{bounds_of, cell_count, element_count, first_cell}
 use Rattle.nest_tree.specs.Loads.{loads_among, loads_in, loads_in_item}
-use Rattle.nest_tree.specs.Tree.{Declaration, Expression, Expressions, number, loop_value, param, load, neg, add, sub, mul, div, least_of, greatest_of, no_more, one_more, Printed, value, whole, text, Tree, param_values}
-use Rattle.nest_tree.specs.WellFormed.{IsWellFormed, are_good_expressions, is_good_access, is_good_dimension, is_good_expression, is_good_item, is_number_of, is_value, rank, rank_of, scope_of}
-use Rattle.nest_tree.proofs.Places.{good_dimension, count_of-some, extent-is, inside-ends}
+use Rattle.nest_tree.specs.Tree.{Expression, Expressions, number, loop_value, param, load, neg, add, sub, mul, div, least_of, greatest_of, no_more, one_more, Printed, value, whole, text, Tree, param_values}
+use Rattle.nest_tree.specs.WellFormed.{IsWellFormed, are_good_expressions, is_good_access, is_good_expression, is_good_item, is_number_of, is_value, rank, rank_of, scope_of}
 use Rattle.nest_model.specs.Accesses.{access_cell, item_loads, subscript_values}
 use Rattle.nest_model.specs.Ranges.{is_access_inside}
-use Rattle.nest_walk.proofs.CellPlaces.{bounds-good}
+use Rattle.nest_walk.proofs.CellPlaces.{bounds-good, place_below, cells_below}
 use Rattle.nest_walk.proofs.GoodAccesses.{good_access-there}
-
--- an element lies below the count of its array
-place_below : (bounds : List (ℤ × ℤ)) (values : List ℤ) → list_all is_good_dimension bounds ≡ true → are_inside bounds values ≡ true → length values ≡ length bounds → element_place bounds values < element_count bounds
-place_below [] values good inside as_many = omega arith
-place_below (b ∷ bounds) [] good inside as_many = absurd (omega (arith, as_many))
-place_below (b ∷ bounds) (v ∷ values) good inside as_many =
-    let goods = and_parts (is_good_dimension b) (list_all is_good_dimension bounds) good in
-    let ends = and_parts (is_inside b v) (are_inside bounds values) inside in
-    let within = inside-ends b v ends.0 in
-    let offset : pos (count_of (v -ℤ b.0)) ≡ v -ℤ b.0 = count_of-some (v -ℤ b.0) (omega (arith, ints, within.0)) in
-    let size = extent-is b (good_dimension b goods.0) in
-    let first : count_of (v -ℤ b.0) < extent b = omega (arith, ints, offset, size, within.1) in
-    let rest : suc (element_place bounds values) ≤ element_count bounds = place_below bounds values goods.1 ends.1 (omega (arith, as_many)) in
-    let whole = mul-le-mul_left (extent b) rest in
-    omega (arith, first, whole)
-
--- a variable's cells are the program's
-cells_below : (vs : List Declaration) (n : ℕ) → n < length vs → cells_in (take n vs) + element_count (bounds_at vs n) ≤ cells_in vs
-cells_below [] n h = absurd (omega arith)
-cells_below (v ∷ vs) zero h = omega arith
-cells_below (v ∷ vs) (suc n) h = let rest = cells_below vs n (omega arith) in omega (arith, rest)
 
 range_below : (first count most : ℕ) → first + count ≤ most → All (λ c. c < most) (range_with_len first count)
 range_below first zero most le = All-nil (λ c. c < most)

@@ -16,11 +16,12 @@ use Rattle.nest_tree.specs.Limits.{is_empty, no_ends}
 use Rattle.nest_tree.specs.Tree.{Printing, assign, print, Head, Statement, Statements, do_loop, work, continue, done, next, Tree, param_values}
 use Rattle.nest_tree.specs.WellFormed.{IsWellFormed, Scope, are_good_statements, is_good_statement, is_number_of, loops_in, names_only, scope_of}
 use Rattle.nest_tree.proofs.Good.{good_loop}
+use Rattle.nest_tree.proofs.FirstLimits.{neither}
 use Rattle.nest_model.specs.Instances.{Instance, head_trips, instances_in, instances_of, is_executed, with_loop, works_in}
 use Rattle.nest_model.specs.Visits.{Visit, stops_of}
 use Rattle.nest_model.proofs.Small.{not_empty}
 use Rattle.nest_model.proofs.Stops.{good_trips}
-use Rattle.nest_model.proofs.Within.{Between, IsInEnds, form_between, in_ends-step, none_parts}
+use Rattle.nest_model.proofs.Within.{Between, IsInEnds, form_between, in_ends-step}
 use Rattle.nest_walk.specs.Texts.{Placed, placed}
 use Rattle.owner_partition.specs.declared.anchor.Anchor.{Anchor}
 use Rattle.owner_partition.specs.declared.anchor.Dist.{Dist}
@@ -150,10 +151,10 @@ placed_each tree marks workers n (b ∷ anchors) rest zero a none at =
     let same : Some b ≡ Some a = at in
     let equal : b ≡ a = cc in
     let here : n ≡ n + 0 = omega arith in
-    subst (λ j. misplaced tree marks workers j a ≡ None) here (subst (λ x. misplaced tree marks workers n x ≡ None) equal (none_parts (misplaced tree marks workers n b) (unplaced tree marks workers (numbered_anchors (suc n) anchors ++ rest)) none).0)
+    subst (λ j. misplaced tree marks workers j a ≡ None) here (subst (λ x. misplaced tree marks workers n x ≡ None) equal (neither (misplaced tree marks workers n b) (unplaced tree marks workers (numbered_anchors (suc n) anchors ++ rest)) none).0)
 placed_each tree marks workers n (b ∷ anchors) rest (suc k) a none at =
     let next_is : suc n + k ≡ n + suc k = omega arith in
-    subst (λ j. misplaced tree marks workers j a ≡ None) next_is (placed_each tree marks workers (suc n) anchors rest k a (none_parts (misplaced tree marks workers n b) (unplaced tree marks workers (numbered_anchors (suc n) anchors ++ rest)) none).1 at)
+    subst (λ j. misplaced tree marks workers j a ≡ None) next_is (placed_each tree marks workers (suc n) anchors rest k a (neither (misplaced tree marks workers n b) (unplaced tree marks workers (numbered_anchors (suc n) anchors ++ rest)) none).1 at)
 
 -- each of a text's static phases has a good anchor
 pub good_each : (constants : ℕ) (marks : List Mark) (text : List Placed) (anchors : List Anchor) (k : ℕ) (s : Placed) (a : Anchor) → are_good_anchors constants marks text anchors ≡ true → slice_get text k ≡ Some s → slice_get anchors k ≡ Some a →

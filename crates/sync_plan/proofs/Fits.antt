@@ -10,7 +10,7 @@ use Rattle.nest_tree.specs.Tree.{Statement, Statements, do_loop, work, continue,
 use Rattle.nest_tree.specs.WellFormed.{IsWellFormed, Scope, scope_of, are_good_statements, is_good_head, is_good_statement, loops_in, loops_of, names_only}
 use Rattle.nest_tree.proofs.Cells.{well_formed_parts}
 use Rattle.nest_tree.proofs.Good.{form-given}
-use Rattle.nest_model.proofs.Within.{none_parts}
+use Rattle.nest_tree.proofs.FirstLimits.{neither}
 use Rattle.nest_walk.specs.Texts.{Placed, placed_in, placed_of}
 use Rattle.owner_partition.specs.declared.anchor.Anchor.{Anchor}
 use Rattle.owner_partition.specs.Marks.{enters_outer}
@@ -75,9 +75,9 @@ pub fit_parts : (tree : Tree) (plan : Plan) → IsFit tree plan → FitParts tre
 fit_parts tree plan fits =
     let text = static_phases tree plan.cut in
     let constants = length tree.params in
-    let first = none_parts (as_misfit shape (wrong_field tree plan)) _ fits in
-    let second = none_parts (as_misfit placement (unplaced tree plan.cut plan.workers (placed_anchors plan))) _ first.1 in
-    let third = none_parts (as_misfit print_place (misplaced_print 1 plan.cut text plan.anchors)) _ second.1 in
+    let first = neither (as_misfit shape (wrong_field tree plan)) _ fits in
+    let second = neither (as_misfit placement (unplaced tree plan.cut plan.workers (placed_anchors plan))) _ first.1 in
+    let third = neither (as_misfit print_place (misplaced_print 1 plan.cut text plan.anchors)) _ second.1 in
     let none = nothing_misfits shape (wrong_field tree plan) first.0 in
     let workers = field_right (nat_le 1 plan.workers && nat_le plan.workers 64) 1 _ none in
     let marks = field_right (length plan.cut == loops_of tree.items) 2 _ workers.1 in
