@@ -7,14 +7,15 @@ use Rattle.std.proofs.lemmas.Bool.Decides.{nat_tests}
 use Rattle.std.proofs.lemmas.List.Folds.{list_all-append}
 use Rattle.nest_tree.specs.Form.{is_given}
 use Rattle.nest_tree.specs.Tree.{Statement, Statements, do_loop, work, continue, done, next, Tree}
-use Rattle.nest_tree.specs.WellFormed.{IsWellFormed, Scope, are_good_statements, is_good_head, is_good_statement, is_number_of, loops_in, loops_of, names_only}
+use Rattle.nest_tree.specs.WellFormed.{IsWellFormed, Scope, are_good_statements, is_good_head, is_good_statement, is_number_of, loops_in, loops_of, names_only, scope_of}
+use Rattle.nest_tree.proofs.Cells.{well_formed_parts}
 use Rattle.nest_tree.proofs.Good.{form-given}
 use Rattle.nest_walk.specs.Texts.{Placed, placed_in, placed_of}
 use Rattle.owner_partition.specs.declared.anchor.Anchor.{Anchor}
 use Rattle.owner_partition.specs.declared.cut.Mark.{Mark}
+use Rattle.owner_partition.specs.Marks.{enters_outer}
 use Rattle.sync_plan.specs.Shape.{has_places, is_doall, is_good_anchor, mark_of, own_loops, static_phases}
 use Rattle.plan_maker.specs.Allowed.{with_own}
-use Rattle.plan_checker.proofs.Given.{text_within}
 
 abbrev pub are_numbers : ℕ → List ℕ → Bool
 are_numbers n around = list_all (is_number_of n) around
@@ -53,6 +54,9 @@ module _ (enters : ℕ → Bool) (scope : Scope) (n : ℕ) where
         list_all-append (is_within n) (placed_in enters around s) (placed_of enters around rest)
         ∙ and_from (list_all (is_within n) (placed_in enters around s)) (list_all (is_within n) (placed_of enters around rest))
         (one_within around first s from parts.0 (omega (arith, few)) within) (all_within around (first + loops_in s) rest (omega (arith, from)) parts.1 (omega (arith, few)) within)
+
+text_within : (tree : Tree) (marks : List Mark) → IsWellFormed tree → list_all (is_within (loops_of tree.items)) (static_phases tree marks) ≡ true
+text_within tree marks formed = all_within (enters_outer marks) (scope_of tree) (loops_of tree.items) [] 1 tree.items (omega arith) (well_formed_parts tree formed).statements (omega arith) refl
 
 own_within : (n : ℕ) (marks : List Mark) (s : Statement) (around : List ℕ) → is_low n s around ≡ true → are_numbers n (own_loops marks s around) ≡ true
 own_within n marks (do_loop head body) around h = by (is_doall (mark_of marks head.number))
