@@ -375,17 +375,10 @@ const MADE: [Made; 7] = [
     },
 ];
 
-/// Programs with more systems, and larger ones.
-const LARGER: [Made; 3] = [
-    Made {
-        source: &JACOBI,
-        workers: 2,
-        front: "SPMD PLAN 2\nWORKERS 2\nLOOPS 3\n1 OUTER\n2 DOALL\n3 DOALL\nPHASES 4\n1 NOTHING AT 0 BLOCK 5\n2 BOTH AT 0 1*L2 BLOCK 5\n3 BOTH AT 0 1*L3 BLOCK 5\n4 NOTHING AT 0 CYCLIC\nCERTIFICATES ",
-        reasons: "END PLAN\nLOOP 1 NOT DOALL LINES 8 10 NAME A OPEN\nPHASE 2 NOT NOTHING LINES 10 8 NAME A LEVEL 1 PIECE 1 OPEN\nPHASE 2 NOT PRODUCER 0 BLOCK 5 LINES 10 8 NAME A LEVEL 1 PIECE 4 OPEN\nPHASE 2 NOT PRODUCER 0 CYCLIC LINES 10 8 NAME A LEVEL 1 PIECE 4 OPEN\nPHASE 2 NOT LEFT LINES 10 8 NAME A LEVEL 1 PIECE 2 OPEN\nPHASE 2 NOT RIGHT LINES 10 8 NAME A LEVEL 1 PIECE 1 OPEN\nPHASE 3 NOT NOTHING LINES 8 10 NAME A LEVEL 0 PIECE 2 OPEN\nPHASE 3 NOT PRODUCER 0 BLOCK 5 LINES 8 10 NAME A LEVEL 0 PIECE 4 OPEN\nPHASE 3 NOT PRODUCER 0 CYCLIC LINES 8 10 NAME A LEVEL 0 PIECE 4 OPEN\nPHASE 3 NOT LEFT LINES 8 10 NAME A LEVEL 0 PIECE 2 OPEN\nPHASE 3 NOT RIGHT LINES 8 10 NAME A LEVEL 0 PIECE 1 OPEN\nEND REASONS\n",
-        output: "END PLAN\n 8 4 0\n",
-    },
-    Made {
-        source: &[
+/// The source of a forward substitution with this PRINT.
+macro_rules! forward {
+    ($print:literal) => {
+        [
             "C$DIST B(CYCLIC)",
             "C$DIST X(CYCLIC)",
             "      PROGRAM FWD",
@@ -399,9 +392,23 @@ const LARGER: [Made; 3] = [
             "      DO 20 I = K+1, N",
             "   20 B(I) = B(I) - X(K)",
             "   30 CONTINUE",
-            "      PRINT *, B",
+            $print,
             "      END",
-        ],
+        ]
+    };
+}
+
+/// Programs with more systems, and larger ones.
+const LARGER: [Made; 3] = [
+    Made {
+        source: &JACOBI,
+        workers: 2,
+        front: "SPMD PLAN 2\nWORKERS 2\nLOOPS 3\n1 OUTER\n2 DOALL\n3 DOALL\nPHASES 4\n1 NOTHING AT 0 BLOCK 5\n2 BOTH AT 0 1*L2 BLOCK 5\n3 BOTH AT 0 1*L3 BLOCK 5\n4 NOTHING AT 0 CYCLIC\nCERTIFICATES ",
+        reasons: "END PLAN\nLOOP 1 NOT DOALL LINES 8 10 NAME A OPEN\nPHASE 2 NOT NOTHING LINES 10 8 NAME A LEVEL 1 PIECE 1 OPEN\nPHASE 2 NOT PRODUCER 0 BLOCK 5 LINES 10 8 NAME A LEVEL 1 PIECE 4 OPEN\nPHASE 2 NOT PRODUCER 0 CYCLIC LINES 10 8 NAME A LEVEL 1 PIECE 4 OPEN\nPHASE 2 NOT LEFT LINES 10 8 NAME A LEVEL 1 PIECE 2 OPEN\nPHASE 2 NOT RIGHT LINES 10 8 NAME A LEVEL 1 PIECE 1 OPEN\nPHASE 3 NOT NOTHING LINES 8 10 NAME A LEVEL 0 PIECE 2 OPEN\nPHASE 3 NOT PRODUCER 0 BLOCK 5 LINES 8 10 NAME A LEVEL 0 PIECE 4 OPEN\nPHASE 3 NOT PRODUCER 0 CYCLIC LINES 8 10 NAME A LEVEL 0 PIECE 4 OPEN\nPHASE 3 NOT LEFT LINES 8 10 NAME A LEVEL 0 PIECE 2 OPEN\nPHASE 3 NOT RIGHT LINES 8 10 NAME A LEVEL 0 PIECE 1 OPEN\nEND REASONS\n",
+        output: "END PLAN\n 8 4 0\n",
+    },
+    Made {
+        source: &forward!("      PRINT *, B"),
         workers: 2,
         front: "SPMD PLAN 2\nWORKERS 2\nLOOPS 3\n1 DOALL\n2 OUTER\n3 DOALL\nPHASES 4\n1 NOTHING AT -1 1*L1 CYCLIC\n2 NOTHING AT -1 1*L2 CYCLIC\n3 PRODUCER -1 1*L2 CYCLIC AT -1 1*L3 CYCLIC\n4 RIGHT AT 0 CYCLIC\nCERTIFICATES ",
         reasons: "END PLAN\nLOOP 2 NOT DOALL LINES 12 12 NAME B OPEN\nPHASE 3 NOT NOTHING LINES 10 12 NAME X LEVEL 0 PIECE 1 OPEN\nPHASE 4 NOT NOTHING LINES 8 14 NAME B LEVEL 0 PIECE 2 OPEN\nPHASE 4 NOT PRODUCER 0 CYCLIC LINES 8 14 NAME B LEVEL 0 PIECE 4 OPEN\nPHASE 4 NOT LEFT LINES 8 14 NAME B LEVEL 0 PIECE 2 OPEN\nEND REASONS\n",
@@ -428,23 +435,7 @@ const LARGER: [Made; 3] = [
 
 /// Two of whose systems have more than 20,000 rows at a level of elimination.
 const LARGEST: [Made; 1] = [Made {
-    source: &[
-        "C$DIST B(CYCLIC)",
-        "C$DIST X(CYCLIC)",
-        "      PROGRAM FWD",
-        "      INTEGER N",
-        "      PARAMETER (N=4)",
-        "      INTEGER B(N), X(N)",
-        "      DO 10 I = 1, N",
-        "   10 B(I) = I",
-        "      DO 30 K = 1, N",
-        "      X(K) = B(K)",
-        "      DO 20 I = K+1, N",
-        "   20 B(I) = B(I) - X(K)",
-        "   30 CONTINUE",
-        "      PRINT *, X",
-        "      END",
-    ],
+    source: &forward!("      PRINT *, X"),
     workers: 2,
     front: "SPMD PLAN 2\nWORKERS 2\nLOOPS 3\n1 DOALL\n2 OUTER\n3 DOALL\nPHASES 4\n1 NOTHING AT -1 1*L1 CYCLIC\n2 NOTHING AT -1 1*L2 CYCLIC\n3 PRODUCER -1 1*L2 CYCLIC AT -1 1*L3 CYCLIC\n4 NOTHING AT 0 CYCLIC\nCERTIFICATES ",
     reasons: "END PLAN\nLOOP 2 NOT DOALL LINES 12 12 NAME B OPEN\nPHASE 3 NOT NOTHING LINES 10 12 NAME X LEVEL 0 PIECE 1 OPEN\nEND REASONS\n",
