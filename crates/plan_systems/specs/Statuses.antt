@@ -1,5 +1,5 @@
--- The statuses of the process.
-use Rattle.std.specs.Prelude.{ℕ}
+-- The statuses of the process, and what is told.
+use Rattle.std.specs.Prelude.{ℕ, Bool, true, false}
 use Rattle.plan_systems.specs.declared.stop.Stop.{Stop}
 use Rattle.plan_systems.specs.declared.stop.Stop.TheVariants.{BadWords, Limit, Line, Misfit, NoMemory, ReadFault, Statement, Syntax, TooLong, WriteFault}
 
@@ -15,3 +15,16 @@ code_of NoMemory = 5
 code_of (Syntax refusal) = 6
 code_of (Misfit refusal) = 6
 code_of TooLong = 7
+
+-- a line on standard output tells it: all but a failed read or write, and want of memory
+abbrev pub is_told : Stop → Bool
+is_told (Line refusal) = true
+is_told (Statement refusal) = true
+is_told (Limit limit) = true
+is_told BadWords = true
+is_told ReadFault = false
+is_told WriteFault = false
+is_told NoMemory = false
+is_told (Syntax refusal) = true
+is_told (Misfit refusal) = true
+is_told TooLong = true

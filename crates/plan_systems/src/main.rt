@@ -22,7 +22,9 @@ mod lines;
 mod reading;
 mod stop;
 
-ghost use Rattle.std.specs.Prelude.{◌≤◌, length};
+ghost use Rattle.std.specs.Prelude.{◌≡◌, ◌≤◌, ◌⊎◌, IfErr, IfOk, length};
+ghost use Rattle.plan_systems.specs.Systems.{AreObligations, IsStop};
+ghost use Rattle.plan_systems.specs.declared.stop.Stop.TheVariants as stops;
 
 use crate::lines::text_of;
 use crate::reading::{read_fitting, read_source};
@@ -53,7 +55,9 @@ fn code_of_write(written: io::Result<()>, code: u8) -> u8 {
 }
 
 // What a fault of the outside is: want of memory, or this one.
-fn fault(error: io::Error, other: Stop) -> Stop {
+fn fault(error: io::Error, other: Stop) -> Stop
+    ensures { (result ≡ stops.NoMemory) ⊎ (result ≡ other) }
+{
     if error.kind() == ErrorKind::OutOfMemory {
         Stop::NoMemory
     } else {
@@ -94,6 +98,8 @@ fn asks_for_times(rt: &HostRuntime) -> Result<bool, Stop> {
 // The obligations of the plan behind a source.
 fn obligations_in(rt: &HostRuntime, bytes: &[u8], times: bool) -> Result<Vec<Obligation>, Stop>
     requires { length bytes.now ≤ MOST_BYTES }
+    ensures obligations { IfOk result (λ found. AreObligations bytes.now found.items) }
+    ensures refused { IfErr result (IsStop bytes.now times) }
 {
     let (program, rest) = read_source(rt.alloc(), bytes)?;
     let plan = read_fitting(rt.alloc(), &program, &bytes[rest..])?;
@@ -106,7 +112,9 @@ fn obligations_in(rt: &HostRuntime, bytes: &[u8], times: bool) -> Result<Vec<Obl
 }
 
 // How many there are, and the time.
-fn tell(rt: &HostRuntime, begun: io::Result<Instant>, count: usize) -> Result<(), Stop> {
+fn tell(rt: &HostRuntime, begun: io::Result<Instant>, count: usize) -> Result<(), Stop>
+    ensures { IfErr result (λ stop. (stop ≡ stops.NoMemory) ⊎ (stop ≡ stops.WriteFault)) }
+{
     match told(rt, begun, count) {
         Ok(()) => Ok(()),
         Err(error) => Err(fault(error, Stop::WriteFault)),

@@ -1,11 +1,12 @@
 // Why there are no systems.
 
-ghost use Rattle.std.specs.Prelude.{◌≡◌, ◌≢◌};
+ghost use Rattle.std.specs.Prelude.{◌≡◌};
 ghost use Rattle.f77_lines.specs.declared.refusal.LineRefusal.TheVariants as line_refusals;
 ghost use Rattle.f77_program.specs.declared.refusal.Refusal.TheVariants as refusals;
 ghost use Rattle.plan_checker.specs.declared.refusal.PlanRefusal.TheVariants as misfits;
 ghost use Rattle.plan_text.specs.declared.syntax.PlanSyntax.TheVariants as syntaxes;
-ghost use Rattle.plan_systems.specs.Statuses.{code_of};
+ghost use Rattle.plan_systems.specs.Statuses.{code_of, is_told};
+ghost use Rattle.plan_systems.specs.Stops.{IsToldAs};
 ghost use Rattle.plan_systems.specs.declared.stop.Stop.TheVariants as stops;
 
 use f77_lines::LineRefusal;
@@ -57,8 +58,15 @@ impl Stop {
     }
 
     /// Whether a line is written to standard output that tells it.
-    pub fn is_told(self) -> bool {
-        !matches!(self, Stop::ReadFault | Stop::WriteFault | Stop::NoMemory)
+    pub fn is_told(self) -> bool
+        ensures { result ≡ is_told self }
+    {
+        match self {
+            Stop::Line(_) | Stop::Statement(_) | Stop::Limit(_) => true,
+            Stop::Syntax(_) | Stop::Misfit(_) => true,
+            Stop::BadWords | Stop::TooLong => true,
+            Stop::ReadFault | Stop::WriteFault | Stop::NoMemory => false,
+        }
     }
 }
 
@@ -89,7 +97,7 @@ impl From<AllocError> for Stop {
 }
 
 impl From<LineRefusal> for Stop {
-    ghost from_gives = { λ refusal stop. (refusal ≡ line_refusals.NoMemory → stop ≡ stops.NoMemory) × (refusal ≢ line_refusals.NoMemory → stop ≡ stops.Line refusal) };
+    ghost from_gives = { IsToldAs line_refusals.NoMemory stops.Line };
 
     fn from(refusal: LineRefusal) -> Stop {
         match refusal {
@@ -100,7 +108,7 @@ impl From<LineRefusal> for Stop {
 }
 
 impl From<Refusal> for Stop {
-    ghost from_gives = { λ refusal stop. (refusal ≡ refusals.NoMemory → stop ≡ stops.NoMemory) × (refusal ≢ refusals.NoMemory → stop ≡ stops.Statement refusal) };
+    ghost from_gives = { IsToldAs refusals.NoMemory stops.Statement };
 
     fn from(refusal: Refusal) -> Stop {
         match refusal {
@@ -111,7 +119,7 @@ impl From<Refusal> for Stop {
 }
 
 impl From<PlanSyntax> for Stop {
-    ghost from_gives = { λ refusal stop. (refusal ≡ syntaxes.NoMemory → stop ≡ stops.NoMemory) × (refusal ≢ syntaxes.NoMemory → stop ≡ stops.Syntax refusal) };
+    ghost from_gives = { IsToldAs syntaxes.NoMemory stops.Syntax };
 
     fn from(refusal: PlanSyntax) -> Stop {
         match refusal {
@@ -122,7 +130,7 @@ impl From<PlanSyntax> for Stop {
 }
 
 impl From<PlanRefusal> for Stop {
-    ghost from_gives = { λ refusal stop. (refusal ≡ misfits.NoMemory → stop ≡ stops.NoMemory) × (refusal ≢ misfits.NoMemory → stop ≡ stops.Misfit refusal) };
+    ghost from_gives = { IsToldAs misfits.NoMemory stops.Misfit };
 
     fn from(refusal: PlanRefusal) -> Stop {
         match refusal {

@@ -1,0 +1,38 @@
+-- Whose obligations are written, and why there are none.
+use Rattle.std.specs.Prelude.{ℕ, ◌≡◌, Bool, true, List, [], drop}
+use Rattle.f77_lines.specs.Columns.{lines_of}
+use Rattle.f77_lines.specs.Listing.{size_to_end}
+use Rattle.f77_scene.specs.Reading.{Reads}
+use Rattle.nest_tree.specs.Limits.{IsWithinLimits}
+use Rattle.nest_tree.specs.Tree.{Tree}
+use Rattle.sync_plan.specs.Fit.{IsFit}
+use Rattle.sync_plan.specs.declared.plan.Plan.{Plan}
+use Rattle.comm_system.specs.Obligations.{obligations_of}
+use Rattle.comm_system.specs.declared.obligation.Obligation.{Obligation}
+use Rattle.plan_systems.specs.Stops.{IsPlanStop, IsSourceStop, IsTextOf}
+use Rattle.plan_systems.specs.declared.stop.Stop.{Stop}
+use Rattle.plan_systems.specs.declared.stop.Stop.TheVariants.{WriteFault}
+
+-- the bytes behind the line end of END
+abbrev pub behind_end : List ℕ → List ℕ
+behind_end bytes = drop (size_to_end (lines_of bytes)) bytes
+
+-- The bytes begin with a source whose program is this one, and which is within its limits.
+pub record HasProgram (bytes : List ℕ) (tree : Tree) : Type 0 where
+  pub reads : Reads bytes [] tree
+  pub limits : IsWithinLimits tree
+
+-- The bytes are a source and behind it the text of a plan that fits its program, and these are the plan's obligations.
+pub record AreObligations (bytes : List ℕ) (found : List Obligation) : Type 0 where
+  pub tree : Tree
+  pub plan : Plan
+  pub source : HasProgram bytes tree
+  pub text : IsTextOf plan (behind_end bytes)
+  pub fits : IsFit tree plan
+  pub obligations : found ≡ obligations_of tree plan
+
+-- There are none: for the source; or else for what stands behind it; or else, where times are asked for, since the clock or standard error failed.
+pub data IsStop (bytes : List ℕ) (times : Bool) (stop : Stop) : Type 0 where
+  source : (is : IsSourceStop bytes stop) → IsStop bytes times stop
+  behind : (tree : Tree) (source : HasProgram bytes tree) (is : IsPlanStop tree (behind_end bytes) stop) → IsStop bytes times stop
+  untimed : (asked : times ≡ true) (is : stop ≡ WriteFault) → IsStop bytes times stop
