@@ -1,5 +1,5 @@
 -- Whose obligations are written, and why there are none.
-use Rattle.std.specs.Prelude.{ℕ, ◌≡◌, Bool, true, List, [], drop}
+use Rattle.std.specs.Prelude.{ℕ, ◌≡◌, ◌<◌, Bool, true, List, [], drop, length}
 use Rattle.f77_lines.specs.Columns.{lines_of}
 use Rattle.f77_lines.specs.Listing.{size_to_end}
 use Rattle.f77_scene.specs.Reading.{Reads}
@@ -11,7 +11,7 @@ use Rattle.comm_system.specs.Obligations.{obligations_of}
 use Rattle.comm_system.specs.declared.obligation.Obligation.{Obligation}
 use Rattle.plan_systems.specs.Stops.{IsPlanStop, IsSourceStop, IsTextOf}
 use Rattle.plan_systems.specs.declared.stop.Stop.{Stop}
-use Rattle.plan_systems.specs.declared.stop.Stop.TheVariants.{WriteFault}
+use Rattle.plan_systems.specs.declared.stop.Stop.TheVariants.{TooLong, WriteFault}
 
 -- the bytes behind the line end of END
 abbrev pub behind_end : List ℕ → List ℕ
@@ -31,8 +31,9 @@ pub record AreObligations (bytes : List ℕ) (found : List Obligation) : Type 0 
   pub fits : IsFit tree plan
   pub obligations : found ≡ obligations_of tree plan
 
--- There are none: for the source; or else for what stands behind it; or else, where times are asked for, since the clock or standard error failed.
+-- There are none: since there are more bytes than a source may have; for the source; or else for what stands behind it; or else, where times are asked for, since the clock or standard error failed.
 pub data IsStop (bytes : List ℕ) (times : Bool) (stop : Stop) : Type 0 where
+  long : (more : 4194304 < length bytes) (is : stop ≡ TooLong) → IsStop bytes times stop
   source : (is : IsSourceStop bytes stop) → IsStop bytes times stop
   behind : (tree : Tree) (source : HasProgram bytes tree) (is : IsPlanStop tree (behind_end bytes) stop) → IsStop bytes times stop
   untimed : (asked : times ≡ true) (is : stop ≡ WriteFault) → IsStop bytes times stop

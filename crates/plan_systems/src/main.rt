@@ -22,7 +22,7 @@ mod lines;
 mod reading;
 mod stop;
 
-ghost use Rattle.std.specs.Prelude.{◌≡◌, ◌≤◌, ◌⊎◌, IfErr, IfOk, length};
+ghost use Rattle.std.specs.Prelude.{◌≡◌, ◌⊎◌, IfErr, IfOk};
 ghost use Rattle.plan_systems.specs.Systems.{AreObligations, IsStop};
 ghost use Rattle.plan_systems.specs.declared.stop.Stop.TheVariants as stops;
 
@@ -72,9 +72,6 @@ fn systems(rt: &HostRuntime) -> Result<Vec<u8>, Stop> {
     if let Err(error) = rt.stdin().read_to_end(&mut bytes) {
         return Err(fault(error, Stop::ReadFault));
     }
-    if bytes.len() > MOST_BYTES {
-        return Err(Stop::TooLong);
-    }
     let found = obligations_in(rt, &bytes, times)?;
     Ok(text_of(rt.alloc(), found.as_slice())?)
 }
@@ -97,10 +94,12 @@ fn asks_for_times(rt: &HostRuntime) -> Result<bool, Stop> {
 
 // The obligations of the plan behind a source.
 fn obligations_in(rt: &HostRuntime, bytes: &[u8], times: bool) -> Result<Vec<Obligation>, Stop>
-    requires { length bytes.now ≤ MOST_BYTES }
     ensures obligations { IfOk result (λ found. AreObligations bytes.now found.items) }
     ensures refused { IfErr result (IsStop bytes.now times) }
 {
+    if bytes.len() > MOST_BYTES {
+        return Err(Stop::TooLong);
+    }
     let (program, rest) = read_source(rt.alloc(), bytes)?;
     let plan = read_fitting(rt.alloc(), &program, &bytes[rest..])?;
     let begun = Instant::now(rt);
