@@ -8,11 +8,10 @@ ghost use Rattle.nest_tree.specs.WellFormed.{IsWellFormed};
 
 use bstr::ByteSlice;
 use comm_system::Obligation;
-use comm_system::obligations::obligation_count;
 use f77_lines::{MOST_BYTES, statements};
 use f77_source::read_program;
 use nest_tree::{Program, program_limits};
-use obligation_numbers::obligation_at;
+use obligation_numbers::{obligation_at, obligation_count};
 use plan_checker::{check, check_fit};
 use plan_text::read_plan;
 use std::alloc::{AllocError, Global};
@@ -134,7 +133,7 @@ fn obligation_on(
     if let Err(refusal) = check_fit(program, &plan) {
         return format!(in alloc; "{refusal}");
     }
-    let count = obligation_count(alloc, program, &plan)?;
+    let count = obligation_count(program, &plan);
     match obligation_at(alloc, program, &plan, number)? {
         Some(found) => {
             let Obligation {

@@ -1,7 +1,8 @@
-//! The obligation of a plan that has a number, without those before it.
+//! How many obligations a plan has, in no memory; and the obligation that has a number, without
+//! those before it.
 //!
-//! Its place is found by counting the groups of `comm_system`, and the systems of one pair of
-//! accesses alone are made.
+//! The count walks the static phases in the text. The place of a number is found by counting the
+//! groups of `comm_system`, and the systems of one pair of accesses alone are made.
 #![tactic(auto)]
 
 ghost use Rattle.std.specs.Prelude.{◌≡◌, ◌-◌, ◌≤◌, IfOk, None, slice_get};
@@ -12,10 +13,20 @@ ghost use Rattle.comm_system.specs.GroupViews.{group_seen};
 ghost use Rattle.comm_system.specs.Obligations.{obligation_numbered, obligations_of};
 ghost use Rattle.comm_system.specs.Subjects.{obligations_in};
 
+mod accesses;
+mod around;
+mod boundaries;
+mod conflicts;
+pub mod count;
+mod phases;
+mod scene;
+mod slots;
+
 use comm_system::Obligation;
 use comm_system::group::Group;
 use comm_system::groups::list_groups;
-use comm_system::phases::phases;
+use comm_system::phases::phases as static_phases;
+pub use count::obligation_count;
 use nest_tree::Program;
 use std::alloc::{AllocError, Global};
 use sync_plan::Plan;
@@ -54,7 +65,7 @@ pub fn obligation_at(
     if number == 0 {
         return Ok(None);
     }
-    let phases = phases(alloc, program, &plan.cut)?;
+    let phases = static_phases(alloc, program, &plan.cut)?;
     let mut groups = list_groups(alloc, program, plan, phases.as_slice(), number)?;
     match groups.items.pop() {
         Some(group) => obligation_in(alloc, program, plan, &group, number),

@@ -1,0 +1,20 @@
+use Rattle.std.proofs.Common.{◌≡◌, ◌+◌, ◌-◌, ℕ, if◌then◌else◌, nat_lt, ap, sym, ◌∙◌, arith}
+use Rattle.std.specs.Prelude.{sum_by}
+use Rattle.std.specs.List.{range_with_len}
+use Rattle.std.proofs.lemmas.Bool.{lt-ltb}
+use Rattle.nest_rows.specs.Views.{heads_of}
+use Rattle.comm_system.specs.Levels.{common, levels}
+use Rattle.obligation_numbers.specs.Counts.{slot_count}
+use Rattle.obligation_numbers.specs.SlotViews.{phases_at, slot_at}
+use Rattle.obligation_numbers.proofs.Levels.{all_levels}
+use Rattle.obligation_numbers.proofs.scene.Both.count.Goals as goal
+
+pub returns-then-self : goal.returns-then-self
+returns-then-self c =
+    let x = c.args.self.now in
+    let f = λ (level : ℕ). slot_count x.second.scene.plan.now (phases_at x) (slot_at x level) in
+    let loops = c.common-loops.result in
+    let last : loops - loops + 1 ≡ 1 = omega arith in
+    let carried = ap (λ n. sum_by f (range_with_len n loops)) last in
+    let all = ap (λ n. sum_by f (levels n x.s x.second.t)) (sym c.common-loops.ensures.common) ∙ all_levels f loops x.s x.second.t ∙ ap (λ b. sum_by f (range_with_len 1 loops) + (if b then f 0 else 0)) (lt-ltb x.s x.second.t c.if-self.true) in
+    omega (arith, all, carried, c.carried_count-carried.ensures, c.slot_count.ensures, c.saturating_add.ensures)

@@ -1,0 +1,75 @@
+-- How many obligations a plan has, counted over its static phases.
+use Rattle.std.specs.Prelude.{ℕ, ◌+◌, ◌*◌, ◌-◌, ◌==◌, Bool, true, false, ◌&&◌, ◌||◌, nat_lt, List, length, slice_get, sum_by, if◌then◌else◌}
+use Rattle.nest_tree.specs.Tree.{Head, Statement, Tree}
+use Rattle.sync_plan.specs.declared.plan.Kind.{Kind}
+use Rattle.sync_plan.specs.declared.plan.Kind.TheVariants.{Nothing, Producer, Left, Right, Both, Barrier, Join}
+use Rattle.sync_plan.specs.declared.plan.Plan.{Plan}
+use Rattle.sync_plan.specs.Fit.{is_dealt}
+use Rattle.comm_system.specs.Boundaries.{is_before_second, is_behind_first}
+use Rattle.comm_system.specs.Levels.{common, levels}
+use Rattle.comm_system.specs.Obligations.{Slot, slot_signature}
+use Rattle.comm_system.specs.OwnerRows.{pieces}
+use Rattle.comm_system.specs.References.{StaticPhase, phases_of}
+use Rattle.comm_system.specs.Signatures.{Signature, blocked, waits, is_barrier, or_nothing}
+use Rattle.obligation_numbers.specs.Sums.{access_sum, sum_from}
+
+-- 1 where two accesses conflict, each by its variable and whether it stores
+abbrev pub conflict_count : ℕ → Bool → ℕ → Bool → ℕ
+conflict_count v stores w stores' = if v == w && (stores || stores') then 1 else 0
+
+-- how many ordered pairs of accesses conflict
+abbrev pub pair_count : Statement → Statement → ℕ
+pair_count s t = access_sum (λ v stores. access_sum (conflict_count v stores) t) s
+
+-- on how many sides the boundary in front of a phase is certain
+abbrev pub sides_at : List Head → List Head → ℕ → ℕ → ℕ → ℕ → List Head → ℕ
+sides_at around around' s t level u outer =
+    (if is_behind_first around s t level u outer then 1 else 0) + (if is_before_second around around' s t level u outer then 1 else 0)
+
+abbrev pub is_producer : Kind → Bool
+is_producer Nothing = false
+is_producer (Producer a) = true
+is_producer Left = false
+is_producer Right = false
+is_producer Both = false
+is_producer Barrier = false
+is_producer Join = false
+
+-- the kind in front of the phase with this number
+abbrev pub kind_before : List Kind → ℕ → Kind
+kind_before kinds u = or_nothing (slice_get kinds (u - 1))
+
+-- on how many sides it is certain where its kind passes a test
+abbrev pub sides_where : (Kind → Bool) → List Kind → List Head → List Head → ℕ → ℕ → ℕ → ℕ → StaticPhase → ℕ
+sides_where test kinds around around' s t level u p = if test (kind_before kinds u) then sides_at around around' s t level u p.outer else 0
+
+-- all of a slot
+abbrev pub certain_count : (Kind → Bool) → List Kind → List StaticPhase → Slot → ℕ
+certain_count test kinds phases x = sum_from (sides_where test kinds x.first.outer x.second.outer x.s x.t x.level) 1 phases
+
+-- how many pieces each pair has under a signature
+abbrev pub piece_count : Signature → ℕ
+piece_count blocked = 0
+piece_count (waits left right producers) = length (pieces (length producers))
+
+-- the systems of a slot, and those of two phases at all levels
+abbrev pub slot_count : Plan → List StaticPhase → Slot → ℕ
+slot_count plan phases slot = pair_count slot.first.what slot.second.what * piece_count (slot_signature plan.version plan.kinds phases slot)
+
+abbrev pub count_between : Plan → List StaticPhase → ℕ → StaticPhase → ℕ → StaticPhase → ℕ
+count_between plan phases t second s first =
+    sum_by (λ level. slot_count plan phases (record { s = s; first = first; t = t; second = second; level = level })) (levels (common first.outer second.outer) s t)
+
+-- those of a phase with each phase before or behind it
+abbrev pub count_before : Plan → List StaticPhase → ℕ → StaticPhase → ℕ
+count_before plan phases t second = sum_from (count_between plan phases t second) 1 phases
+
+-- those of two trips of a phase
+abbrev pub trips_count : Plan → ℕ → StaticPhase → ℕ
+trips_count plan n s = if is_dealt plan.cut s.what then pair_count s.what s.what else 0
+
+-- those of a plan
+abbrev pub count_of : Tree → Plan → ℕ
+count_of tree plan =
+    let phases = phases_of tree plan.cut in
+    sum_from (trips_count plan) 1 phases + sum_from (count_before plan phases) 1 phases

@@ -1,0 +1,5 @@
+pub mod Sums
+pub mod Counts
+pub mod Tests
+pub mod SlotViews
+pub mod Loops

@@ -1,0 +1,161 @@
+// How many obligations two phases have, and each phase with all others.
+
+ghost use Rattle.std.specs.Prelude.{◌≡◌, ◌+◌, ◌-◌, ◌≤◌, sum_by};
+ghost use Rattle.std.specs.Io.Iter.{u64_saturate};
+ghost use Rattle.std.specs.List.{range_with_len};
+ghost use Rattle.nest_tree.specs.View.{statement_of, tree_of};
+ghost use Rattle.nest_rows.specs.Views.{heads_of};
+ghost use Rattle.comm_system.specs.Obligations.{slot_signature};
+ghost use Rattle.comm_system.specs.References.{phases_of};
+ghost use Rattle.sync_plan.specs.Fit.{is_dealt as is_dealt_in};
+ghost use Rattle.obligation_numbers.specs.Counts.{certain_count, count_before, count_between, pair_count as pairs_between, piece_count, slot_count, trips_count};
+ghost use Rattle.obligation_numbers.specs.SlotViews.{first_of, phases_at, second_of, slot_at};
+ghost use Rattle.obligation_numbers.specs.Tests.{passes};
+
+use crate::around::common;
+use crate::boundaries::{Certain, Place, Test};
+use crate::conflicts::pair_count;
+use crate::phases::{PhaseWeight, phases_weight};
+use crate::scene::{Both, Scene, Second};
+use nest_rows::Around;
+use nest_tree::Item;
+use owner_partition::Mark;
+use sync_plan::Plan;
+
+impl Both<'_, '_> {
+    // The boundaries that are certain at a level and whose kinds pass a test.
+    fn certain(&self, level: usize, test: Test) -> u64
+        ensures { result ≡ u64_saturate (certain_count (passes test) self.now.second.scene.plan.now.kinds (phases_at self.now) (slot_at self.now level)) }
+    {
+        let certain = Certain {
+            place: Place {
+                s: self.s,
+                first: self.outer,
+                t: self.second.t,
+                second: self.second.outer,
+                level,
+            },
+            kinds: self.second.scene.plan.kinds.as_slice(),
+            test,
+        };
+        phases_weight(
+            &certain,
+            self.second.scene.program,
+            &self.second.scene.plan.cut,
+        )
+    }
+
+    // How many pieces each pair has at a level.
+    fn piece_count(&self, level: usize) -> u64
+        ensures { result ≡ piece_count (slot_signature self.now.second.scene.plan.now.version self.now.second.scene.plan.now.kinds (phases_at self.now) (slot_at self.now level)) }
+    {
+        if self.certain(level, Test::IsBarrier) > 0 {
+            return 0;
+        }
+        match self.certain(level, Test::IsProducer) {
+            0 => 2,
+            1 => 4,
+            2 => 8,
+            _ => 16,
+        }
+    }
+
+    // How many systems there are at a level of so many pairs.
+    fn slot_count(&self, pairs: u64, level: usize) -> u64
+        requires { pairs ≡ u64_saturate (pairs_between (first_of self.now).what (second_of self.now.second).what) }
+        ensures { result ≡ u64_saturate (slot_count self.now.second.scene.plan.now (phases_at self.now) (slot_at self.now level)) }
+    {
+        if pairs == 0 {
+            0
+        } else {
+            pairs.saturating_mul(self.piece_count(level))
+        }
+    }
+
+    // Those at the last levels, so many, of these loops.
+    fn carried_count(&self, pairs: u64, loops: usize, left: usize) -> u64
+        requires pairs { pairs ≡ u64_saturate (pairs_between (first_of self.now).what (second_of self.now.second).what) }
+        requires left { left ≤ loops }
+        ensures { result ≡ u64_saturate (sum_by (λ level. slot_count self.now.second.scene.plan.now (phases_at self.now) (slot_at self.now level)) (range_with_len (loops - left + 1) left)) }
+    {
+        if left == 0 {
+            return 0;
+        }
+        let later = self.carried_count(pairs, loops, left - 1);
+        let here = self.slot_count(pairs, loops - left + 1);
+        here.saturating_add(later)
+    }
+
+    // Those at all levels.
+    fn count(&self) -> u64
+        ensures { result ≡ u64_saturate (count_between self.now.second.scene.plan.now (phases_at self.now) self.now.second.t (second_of self.now.second) self.now.s (first_of self.now)) }
+    {
+        let pairs = pair_count(self.item, self.second.item);
+        let loops = common(self.outer, self.second.outer);
+        let carried = self.carried_count(pairs, loops, loops);
+        if self.s < self.second.t {
+            carried.saturating_add(self.slot_count(pairs, 0))
+        } else {
+            carried
+        }
+    }
+}
+
+impl PhaseWeight for Second<'_, '_> {
+    ghost weight = { λ x s first. count_between x.scene.plan.now (phases_of (tree_of x.scene.program.now) x.scene.plan.now.cut) x.t (second_of x) s first };
+
+    fn weigh(&self, number: u32, outer: &[Around], item: &Item) -> u64 {
+        let both = Both {
+            second: *self,
+            s: number,
+            outer,
+            item,
+        };
+        both.count()
+    }
+}
+
+impl PhaseWeight for Scene<'_> {
+    ghost weight = { λ x t second. count_before x.plan.now (phases_of (tree_of x.program.now) x.plan.now.cut) t second };
+
+    fn weigh(&self, number: u32, outer: &[Around], item: &Item) -> u64 {
+        let second = Second {
+            scene: *self,
+            t: number,
+            outer,
+            item,
+        };
+        phases_weight(&second, self.program, &self.plan.cut)
+    }
+}
+
+// Two trips of each Doall phase.
+#[derive(Clone, Copy)]
+pub(crate) struct Trips<'x> {
+    pub(crate) plan: &'x Plan,
+}
+
+impl PhaseWeight for Trips<'_> {
+    ghost weight = { λ x. trips_count x.plan.now };
+
+    fn weigh(&self, _number: u32, _outer: &[Around], item: &Item) -> u64 {
+        if is_dealt(self.plan.cut.as_slice(), item) {
+            pair_count(item, item)
+        } else {
+            0
+        }
+    }
+}
+
+// Whether a static phase is a Doall loop.
+fn is_dealt(marks: &[Mark], item: &Item) -> bool
+    ensures { result ≡ is_dealt_in marks.now (statement_of item.now) }
+{
+    match item {
+        Item::Loop(nest) => {
+            let place = (nest.number as usize).saturating_sub(1);
+            place < marks.len() && marks[place] == Mark::Doall
+        }
+        Item::Assign(..) | Item::Print(..) | Item::Continue(_) => false,
+    }
+}
