@@ -6,6 +6,7 @@ pub mod Phases
 pub mod OrderOnce
 pub mod Questions
 pub mod Judgements
+pub mod Extended
 pub mod Numbers
 pub mod Memories
 pub mod Verdicts

@@ -16,3 +16,4 @@ pub mod Weakest
 pub mod Settled
 pub mod Made
 pub mod Found
+pub mod Beginnings

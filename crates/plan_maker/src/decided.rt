@@ -1,17 +1,19 @@
 // What elimination finds of a system.
 
-ghost use Rattle.std.specs.Prelude.{◌≡◌, ◌↔◌, ◌-◌, ◌≤◌, ◌<◌, ◌^◌, IfOk, IsTrue, length};
+ghost use Rattle.std.specs.Prelude.{◌≡◌, ◌↔◌, ◌-◌, ◌≤◌, ◌<◌, ◌^◌, IfOk, IfSome, IsTrue, length};
 ghost use Rattle.std.specs.List.{All};
 ghost use Rattle.farkas_cert.specs.Combination.{is_narrow as narrow};
 ghost use Rattle.farkas_cert.specs.Narrow.{AreNarrow, IsNarrowRow};
-ghost use Rattle.fm_elim.specs.Answers.{IsDecided};
+ghost use Rattle.fm_elim.specs.Answers.{IsDecided, NamesEachOnce};
+ghost use Rattle.plan_maker.specs.Beginnings.{IsBeginning};
 ghost use Rattle.plan_maker.specs.Found.{IsFound};
 ghost use Rattle.plan_maker.specs.Orders.{elimination_order as order_of, unknowns_of};
 
+use crate::beginnings::Beginning;
 use crate::cause::Word;
 use crate::orders::{elimination_order, unknown_count};
 use farkas_cert::{Certificate, Row, Step, StepList, System, Terms};
-use fm_elim::{Answer, decide};
+use fm_elim::{Answer, NoMemory, decide};
 use owner_partition::Dist;
 use std::alloc::{AllocError, Global};
 
@@ -75,9 +77,9 @@ fn are_narrow_rows(rows: &[Row]) -> bool
     rows.iter().all(|row| is_narrow_row(row))
 }
 
-// Whether elimination can be asked of a system: its numbers are narrow, and the owners' unknowns are
-// among its own, of which there are fewer than 2 ^ 32 - 1. Each system of a plan is so.
-fn can_ask(system: &System, dists: &[Dist]) -> bool
+/// Whether elimination can be asked of a system: its numbers are narrow, and the owners' unknowns are
+/// among its own, of which there are fewer than 2 ^ 32 - 1. Each system of a plan is so.
+pub(crate) fn can_ask(system: &System, dists: &[Dist]) -> bool
     ensures narrow { IsTrue result → AreNarrow system.now.rows }
     ensures owners { IsTrue result → unknowns_of dists.now ≤ system.now.vars }
     ensures room { IsTrue result → system.now.vars < 2 ^ 32 - 1 }
@@ -89,26 +91,56 @@ fn can_ask(system: &System, dists: &[Dist]) -> bool
         && are_narrow_rows(system.rows())
 }
 
+// What elimination in this order says of a system, from a beginning if there is one.
+fn decide_from(
+    alloc: Global,
+    system: &System,
+    order: &[u32],
+    beginning: Option<&Beginning>,
+) -> Result<Answer, NoMemory>
+    requires order { NamesEachOnce system.now.vars order.now }
+    requires narrow { AreNarrow system.now.rows }
+    requires beginning { IfSome beginning (λ b. IsBeginning b.now) }
+    ensures { IfOk result (IsDecided system.now order.now) }
+{
+    match beginning {
+        Some(beginning) => beginning.decide(alloc, system, order),
+        None => decide(alloc, system, order),
+    }
+}
+
 // What elimination says of a system. Where it can't be asked it is as if memory had run out.
-fn answer(alloc: Global, system: &System, dists: &[Dist]) -> Result<Answer, AllocError>
+fn answer(
+    alloc: Global,
+    system: &System,
+    dists: &[Dist],
+    beginning: Option<&Beginning>,
+) -> Result<Answer, AllocError>
+    requires { IfSome beginning (λ b. IsBeginning b.now) }
     ensures { IfOk result (IsDecided system.now (order_of system.now.vars dists.now)) }
 {
     if !can_ask(system, dists) {
         return Err(AllocError);
     }
     let order = elimination_order(alloc, system.vars(), dists)?;
-    match decide(alloc, system, order.as_slice()) {
+    match decide_from(alloc, system, order.as_slice(), beginning) {
         Ok(answer) => Ok(answer),
         Err(_) => Err(AllocError),
     }
 }
 
-/// What elimination finds of a system whose owners are dealt so.
+/// What elimination finds of a system whose owners are dealt so, from a beginning if there is one.
 #[tactic(auto, using(crate::proofs::Judgements::found_open, crate::proofs::Judgements::found_wide, crate::proofs::Judgements::found_many))]
-pub(crate) fn find(alloc: Global, system: &System, dists: &[Dist]) -> Result<Found, AllocError>
+pub(crate) fn find(
+    alloc: Global,
+    system: &System,
+    dists: &[Dist],
+    beginning: Option<&Beginning>,
+) -> Result<Found, AllocError>
+    requires { IfSome beginning (λ b. IsBeginning b.now) }
     ensures { IfOk result (IsFound system.now (order_of system.now.vars dists.now)) }
 {
-    match answer(alloc, system, dists)? {
+    match answer(alloc, system, dists, beginning)? {
         Answer::Infeasible(certificate) => Ok(Found::Refuted(certificate)),
         Answer::Open => Ok(Found::Kept(Word::Open)),
         Answer::Wide { .. } => Ok(Found::Kept(Word::Wide)),

@@ -2,10 +2,13 @@
 
 ghost use Rattle.std.specs.Prelude.{IfOk, IfSome, IsTrue};
 ghost use Rattle.farkas_cert.specs.Good.{IsGood};
+ghost use Rattle.plan_maker.specs.Beginnings.{IsBeginning};
 ghost use Rattle.plan_maker.specs.Found.{IsFound};
 ghost use Rattle.plan_maker.specs.Orders.{elimination_order as order_of};
 
+use crate::beginnings::Beginning;
 use crate::decided::{Found, copy_of, find};
+use crate::places::item_at;
 use farkas_cert::{CertRefusal, Certificate, Row, System, check_cert};
 use owner_partition::Dist;
 use std::alloc::{AllocError, Global};
@@ -115,10 +118,12 @@ fn find_anew(
     hash: u128,
     system: &System,
     dists: &[Dist],
+    beginning: Option<&Beginning>,
 ) -> Result<Found, AllocError>
+    requires { IfSome beginning (λ b. IsBeginning b.now) }
     ensures { IfOk result (IsFound system.now (order_of system.now.vars dists.now)) }
 {
-    let found = find(alloc, system, dists)?;
+    let found = find(alloc, system, dists, beginning)?;
     if let Found::Refuted(certificate) = &found {
         let certificate = copy_of(alloc, certificate)?;
         chain.push(Known { hash, certificate })?;
@@ -136,25 +141,42 @@ impl Findings {
         Ok(Findings { chains })
     }
 
-    /// What elimination finds of a system whose owners are dealt so. It isn't asked where a
-    /// certificate is there.
+    /// The certificate that is there for a system, if any.
+    pub(crate) fn known(
+        &self,
+        alloc: Global,
+        system: &System,
+    ) -> Result<Option<Certificate>, AllocError>
+        ensures { IfOk result (λ o. IfSome o (IsGood system.now)) }
+    {
+        let hash = hash_of(system);
+        match item_at(self.chains.as_slice(), chain_of(hash)) {
+            Some(chain) => recall(alloc, chain.as_slice(), hash, system),
+            None => Ok(None),
+        }
+    }
+
+    /// What elimination finds of a system whose owners are dealt so, from a beginning if there is
+    /// one. It isn't asked where a certificate is there.
     pub(crate) fn find(
         &mut self,
         alloc: Global,
         system: &System,
         dists: &[Dist],
+        beginning: Option<&Beginning>,
     ) -> Result<Found, AllocError>
+        requires { IfSome beginning (λ b. IsBeginning b.now) }
         ensures { IfOk result (IsFound system.now (order_of system.now.vars dists.now)) }
     {
         let hash = hash_of(system);
         let place = chain_of(hash);
         if place >= self.chains.len() {
-            return find(alloc, system, dists);
+            return find(alloc, system, dists, beginning);
         }
         let chain = &mut self.chains[place];
         if let Some(certificate) = recall(alloc, chain.as_slice(), hash, system)? {
             return Ok(Found::Refuted(certificate));
         }
-        find_anew(alloc, chain, hash, system, dists)
+        find_anew(alloc, chain, hash, system, dists, beginning)
     }
 }

@@ -9,6 +9,7 @@
 #![tactic(auto)]
 
 pub mod anchors;
+mod beginnings;
 mod candidates;
 pub mod cause;
 mod dealt;

@@ -1,0 +1,246 @@
+// Levels of elimination with which several systems begin.
+
+ghost use Rattle.std.specs.Prelude.{◌≡◌, ◌≤◌, ◌++◌, ◌↔◌, IfOk, IfSome, IsTrue, drop, length, take};
+ghost use Rattle.std.specs.List.{All};
+ghost use Rattle.farkas_cert.specs.Narrow.{AreNarrow};
+ghost use Rattle.fm_elim.specs.Advances.{IsExtension, gone_of, order_of as its_order, system_of as its_system, IsLevel};
+ghost use Rattle.fm_elim.specs.Answers.{IsDecided, NamesEachOnce};
+ghost use Rattle.fm_elim.specs.Pairs.{coef_of};
+ghost use Rattle.plan_maker.specs.Beginnings.{IsBeginning, IsFront, IsWithout};
+
+use crate::decided::can_ask;
+use crate::orders::{elimination_order, unknown_count};
+use farkas_cert::{Coefs, Row, System};
+use fm_elim::{Advance, Answer, Level, NoMemory, decide};
+use owner_partition::Dist;
+use std::alloc::{AllocError, Global};
+
+/// The first rows of a system, and the order in which its unknowns are removed.
+#[derive(Drop)]
+pub(crate) struct Front {
+    rows: System,
+    order: Vec<u32>,
+    // How many unknowns are removed before the owners.
+    others: usize,
+}
+
+/// A level of the first rows of a system, without the unknowns that are removed before the owners.
+#[derive(Drop)]
+pub(crate) struct Beginning<'a> {
+    rows: &'a System,
+    order: &'a [u32],
+    gone: usize,
+    level: Level<'a>,
+}
+
+// The coefficient of an unknown, 0 where there is none.
+fn coef_at(row: &Row, unknown: u32) -> i128
+    ensures { result ≡ coef_of unknown row.now }
+{
+    let place = (unknown as usize).saturating_sub(1);
+    match row.coefs.as_slice().get(place) {
+        Some(coef) => *coef,
+        None => 0,
+    }
+}
+
+// Whether a row has none of these unknowns.
+fn is_without(row: &Row, unknowns: &[u32]) -> bool
+    ensures { IsTrue result ↔ IsWithout unknowns.now row.now }
+{
+    unknowns.iter().all(|unknown| coef_at(row, *unknown) == 0)
+}
+
+// Whether each of these rows has none of these unknowns.
+fn are_without(rows: &[Row], unknowns: &[u32]) -> bool
+    ensures { IsTrue result ↔ All (IsWithout unknowns.now) rows.now }
+{
+    rows.iter().all(|row| is_without(row, unknowns))
+}
+
+// How many rows there are up to the last that has one of these unknowns.
+fn count_with(rows: &[Row], unknowns: &[u32]) -> usize
+    ensures { result ≤ length rows.now }
+{
+    let mut count = 0;
+    for (index, row) in rows.iter().enumerate() {
+        if !is_without(row, unknowns) {
+            count = index + 1;
+        }
+    }
+    count
+}
+
+// Whether two lists of numbers are the same.
+fn are_same_numbers(these: &[u32], those: &[u32]) -> bool
+    ensures { IsTrue result → these.now ≡ those.now }
+{
+    match these {
+        [] => those.is_empty(),
+        [a, these @ ..] => match those {
+            [] => false,
+            [b, those @ ..] => *a == *b && are_same_numbers(these, those),
+        },
+    }
+}
+
+// Whether two lists of coefficients are the same.
+fn are_same_coefs(these: &[i128], those: &[i128]) -> bool
+    ensures { IsTrue result → these.now ≡ those.now }
+{
+    match these {
+        [] => those.is_empty(),
+        [a, these @ ..] => match those {
+            [] => false,
+            [b, those @ ..] => *a == *b && are_same_coefs(these, those),
+        },
+    }
+}
+
+// Whether two rows are the same.
+fn is_same_row(a: &Row, b: &Row) -> bool
+    ensures { IsTrue result → a.now ≡ b.now }
+{
+    a.bound == b.bound && are_same_coefs(a.coefs.as_slice(), b.coefs.as_slice())
+}
+
+// Whether rows begin with these.
+fn begin_with(rows: &[Row], first: &[Row]) -> bool
+    ensures { IsTrue result → rows.now ≡ first.now ++ drop (length first.now) rows.now }
+{
+    match first {
+        [] => true,
+        [a, first @ ..] => match rows {
+            [] => false,
+            [b, rows @ ..] => is_same_row(a, b) && begin_with(rows, first),
+        },
+    }
+}
+
+// The system of the first so many rows.
+fn first_rows(alloc: Global, system: &System, count: usize) -> Result<System, AllocError>
+    requires { count ≤ length system.now.rows }
+    ensures { IfOk result (λ first. first ≡ record { vars = system.now.vars; rows = take count system.now.rows }) }
+{
+    let mut first = System::empty(alloc, system.vars());
+    for row in &system.rows()[..count] {
+        let coefs = Coefs::from_slice(alloc, row.coefs.as_slice())?;
+        first.push(Row {
+            coefs,
+            bound: row.bound,
+        })?;
+    }
+    Ok(first)
+}
+
+// The level of a system without the first so many unknowns of the order, if elimination comes so far.
+fn level_without<'a>(
+    alloc: Global,
+    system: &'a System,
+    order: &'a [u32],
+    count: usize,
+) -> Result<Option<Level<'a>>, NoMemory>
+    requires order { NamesEachOnce system.now.vars order.now }
+    requires narrow { AreNarrow system.now.rows }
+    ensures { IfOk result (λ found. IfSome found (λ level. IsLevel level × (its_system level ≡ system.now) × (its_order level ≡ order.now) × (gone_of level ≡ count))) }
+{
+    let mut level = Level::start(alloc, system, order)?;
+    for _gone in 0..count {
+        match level.advance(alloc)? {
+            Advance::Level(next) => level = next,
+            Advance::Answer(_) => return Ok(None),
+        }
+    }
+    Ok(Some(level))
+}
+
+impl Front {
+    /// Of a system whose owners are dealt so the rows up to the last that has another unknown; None
+    /// where elimination can't be asked of it.
+    pub(crate) fn of(
+        alloc: Global,
+        system: &System,
+        dists: &[Dist],
+    ) -> Result<Option<Self>, AllocError>
+        ensures { IfOk result (λ found. IfSome found IsFront) }
+    {
+        if !can_ask(system, dists) {
+            return Ok(None);
+        }
+        let others = (system.vars() - unknown_count(dists)) as usize;
+        let order = elimination_order(alloc, system.vars(), dists)?;
+        let count = count_with(system.rows(), &order.as_slice()[..others]);
+        let rows = first_rows(alloc, system, count)?;
+        Ok(Some(Front {
+            rows,
+            order,
+            others,
+        }))
+    }
+
+    /// The level without the unknowns that are removed before the owners, if elimination comes so
+    /// far.
+    pub(crate) fn begin(&self, alloc: Global) -> Result<Option<Beginning<'_>>, AllocError>
+        requires { IsFront self.now }
+        ensures { IfOk result (λ found. IfSome found IsBeginning) }
+    {
+        let order = self.order.as_slice();
+        match level_without(alloc, &self.rows, order, self.others) {
+            Ok(Some(level)) => Ok(Some(Beginning {
+                rows: &self.rows,
+                order,
+                gone: self.others,
+                level,
+            })),
+            Ok(None) => Ok(None),
+            Err(_) => Err(AllocError),
+        }
+    }
+}
+
+impl Beginning<'_> {
+    // Whether its level goes on to this system in this order.
+    fn is_extended(&self, system: &System, order: &[u32]) -> bool
+        requires { IsBeginning self.now }
+        ensures { IsTrue result → IsExtension self.now.level system.now order.now }
+    {
+        let first = self.rows.rows();
+        let rows = system.rows();
+        if system.vars() != self.rows.vars() {
+            return false;
+        }
+        if !are_same_numbers(order, self.order) {
+            return false;
+        }
+        if self.gone > order.len() {
+            return false;
+        }
+        if first.len() > rows.len() {
+            return false;
+        }
+        if !begin_with(rows, first) {
+            return false;
+        }
+        let further = &rows[first.len()..];
+        are_without(further, &order[..self.gone]) && self.level.has_room_for(further.len())
+    }
+
+    /// What elimination in this order says of a system: from this level on where it goes on to it,
+    /// and else from level 0 on.
+    pub(crate) fn decide(
+        &self,
+        alloc: Global,
+        system: &System,
+        order: &[u32],
+    ) -> Result<Answer, NoMemory>
+        requires beginning { IsBeginning self.now }
+        requires order { NamesEachOnce system.now.vars order.now }
+        requires narrow { AreNarrow system.now.rows }
+        ensures { IfOk result (IsDecided system.now order.now) }
+    {
+        if !self.is_extended(system, order) {
+            return decide(alloc, system, order);
+        }
+        self.level.extend(alloc, system, order)?.answer(alloc)
+    }
+}
