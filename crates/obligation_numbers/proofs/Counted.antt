@@ -1,5 +1,5 @@
 -- The obligations of a plan are as many as are counted over its static phases.
-use Rattle.std.proofs.Common.{◌≡◌, ℕ, zero, suc, ◌+◌, ◌*◌, ◌-◌, ◌==◌, Bool, true, false, ◌&&◌, ◌||◌, not, cond, nat_lt, List, [], ◌∷◌, ◌++◌, length, map, drop, if◌then◌else◌, refl, ap, sym, ◌∙◌, arith, length-append}
+use Rattle.std.proofs.Common.{◌≡◌, ℕ, suc, ◌+◌, ◌*◌, ◌-◌, Bool, true, false, cond, List, [], ◌∷◌, ◌++◌, length, map, if◌then◌else◌, refl, ap, sym, ◌∙◌, arith, length-append}
 use Rattle.std.specs.Prelude.{sum_by}
 use Rattle.std.specs.List.{filter, flat_map}
 use Rattle.std.proofs.Math.Nat.{mul-zero, suc-mul, zero-mul}
@@ -7,17 +7,13 @@ use Rattle.std.proofs.lemmas.Grind.{flat_map-append}
 use Rattle.std.proofs.lemmas.List.{length-map}
 use Rattle.std.proofs.lemmas.List.Concat.{length-flat_map}
 use Rattle.std.proofs.lemmas.List.Sums.{sum_by-append, sum_by-cons}
-use Rattle.nest_tree.specs.declared.tree.Access.{Access}
 use Rattle.nest_tree.specs.Tree.{Head, Statement, Statements, do_loop, work, continue, done, next, Tree}
-use Rattle.nest_walk.specs.Tables.{Loaded, element, loaded_in_work, stores_in}
+use Rattle.nest_walk.specs.Tables.{element, loaded_in_work, stores_in}
 use Rattle.nest_rows.specs.Nested.{Nested, nested_among, nested_in}
-use Rattle.owner_partition.specs.declared.anchor.Anchor.{Anchor}
-use Rattle.sync_plan.specs.declared.plan.Kind.{Kind}
 use Rattle.sync_plan.specs.declared.plan.Plan.{Plan}
 use Rattle.sync_plan.specs.Fit.{is_dealt}
-use Rattle.comm_system.specs.Boundaries.{Side}
 use Rattle.comm_system.specs.Levels.{common, levels}
-use Rattle.comm_system.specs.Obligations.{Slot, Task, numbered_from, obligations_of, pair_tasks, piece_task, slot_signature, slot_tasks, slots_before, slots_between, slots_from, slots_of, tasks_of, trips_task, trips_tasks}
+use Rattle.comm_system.specs.Obligations.{Slot, Task, obligations_of, pair_tasks, piece_task, slot_signature, slot_tasks, slots_before, slots_between, slots_from, slots_of, tasks_of, trips_task, trips_tasks}
 use Rattle.comm_system.specs.OwnerRows.{pieces}
 use Rattle.comm_system.specs.Pairs.{Pair, conflict, pairs_of}
 use Rattle.comm_system.specs.References.{Reference, StaticPhase, phases_of, reference_of, references_in, references_of, variable_of}

@@ -1,5 +1,5 @@
 -- What the certain boundaries of a slot show of a plan's kinds, counted.
-use Rattle.std.proofs.Common.{◌≡◌, ℕ, suc, ◌+◌, ◌-◌, ◌<◌, min, Bool, true, false, ◌||◌, nat_lt, List, [], ◌∷◌, ◌++◌, length, drop, if◌then◌else◌, refl, ap, sym, ◌∙◌, arith}
+use Rattle.std.proofs.Common.{◌≡◌, ℕ, suc, ◌+◌, ◌-◌, ◌<◌, min, Bool, true, false, ◌||◌, nat_lt, List, [], ◌∷◌, length, drop, if◌then◌else◌, refl, ap, sym, ◌∙◌, arith}
 use Rattle.std.specs.Prelude.{sum_by}
 use Rattle.std.specs.List.{flat_map, list_any}
 use Rattle.std.proofs.lemmas.Bool.{lt-ltb}
@@ -15,7 +15,7 @@ use Rattle.comm_system.specs.Boundaries.{Boundary, Side, boundaries_where, certa
 use Rattle.comm_system.specs.Obligations.{Slot, slot_signature}
 use Rattle.comm_system.specs.OwnerRows.{pieces}
 use Rattle.comm_system.specs.References.{StaticPhase}
-use Rattle.comm_system.specs.Signatures.{Signature, blocked, counted, is_barrier, kind_at, last_three, left_waits, producers_at, right_waits, waits}
+use Rattle.comm_system.specs.Signatures.{blocked, counted, is_barrier, kind_at, last_three, left_waits, producers_at, right_waits, waits}
 use Rattle.obligation_numbers.specs.Sums.{sum_from}
 use Rattle.obligation_numbers.specs.Counts.{certain_count, is_producer, piece_count, sides_where}
 use Rattle.obligation_numbers.proofs.Counted.{sum_same}

@@ -1,5 +1,5 @@
 -- How many obligations a plan has, counted over its static phases.
-use Rattle.std.specs.Prelude.{ℕ, ◌+◌, ◌*◌, ◌-◌, ◌==◌, Bool, true, false, ◌&&◌, ◌||◌, nat_lt, List, length, slice_get, sum_by, if◌then◌else◌}
+use Rattle.std.specs.Prelude.{ℕ, ◌+◌, ◌*◌, ◌-◌, ◌==◌, Bool, true, false, ◌&&◌, ◌||◌, List, length, slice_get, sum_by, if◌then◌else◌}
 use Rattle.nest_tree.specs.Tree.{Head, Statement, Tree}
 use Rattle.sync_plan.specs.declared.plan.Kind.{Kind}
 use Rattle.sync_plan.specs.declared.plan.Kind.TheVariants.{Nothing, Producer, Left, Right, Both, Barrier, Join}
@@ -10,7 +10,7 @@ use Rattle.comm_system.specs.Levels.{common, levels}
 use Rattle.comm_system.specs.Obligations.{Slot, slot_signature}
 use Rattle.comm_system.specs.OwnerRows.{pieces}
 use Rattle.comm_system.specs.References.{StaticPhase, phases_of}
-use Rattle.comm_system.specs.Signatures.{Signature, blocked, waits, is_barrier, or_nothing}
+use Rattle.comm_system.specs.Signatures.{Signature, blocked, waits, or_nothing}
 use Rattle.obligation_numbers.specs.Sums.{access_sum, sum_from}
 
 -- 1 where two accesses conflict, each by its variable and whether it stores

@@ -1,4 +1,4 @@
-use Rattle.std.proofs.Common.{ap, sym, arith}
+use Rattle.std.proofs.Common.{arith}
 use Rattle.nest_tree.specs.View.{tree_of}
 use Rattle.obligation_numbers.proofs.Counted.{all_counted}
 use Rattle.obligation_numbers.proofs.count.obligation_count.Goals as goal

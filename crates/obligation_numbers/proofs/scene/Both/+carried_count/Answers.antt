@@ -1,7 +1,4 @@
-use Rattle.std.proofs.Common.{◌≡◌, ◌+◌, ◌-◌, ◌<◌, ℕ, ap, sym, ◌∙◌, arith}
-use Rattle.std.specs.Prelude.{sum_by}
-use Rattle.std.specs.Io.Iter.{u64_saturate}
-use Rattle.std.specs.List.{range_with_len}
+use Rattle.std.proofs.Common.{◌-◌, ◌<◌, ℕ, arith}
 use Rattle.obligation_numbers.specs.Counts.{slot_count}
 use Rattle.obligation_numbers.specs.SlotViews.{phases_at, slot_at}
 use Rattle.obligation_numbers.proofs.Levels.{next_level}

@@ -1,8 +1,7 @@
-use Rattle.std.proofs.Common.{◌≡◌, ◌+◌, ◌-◌, ℕ, if◌then◌else◌, nat_lt, ap, sym, ◌∙◌, arith}
+use Rattle.std.proofs.Common.{◌≡◌, ◌+◌, ◌-◌, ℕ, if◌then◌else◌, ap, sym, ◌∙◌, arith}
 use Rattle.std.specs.Prelude.{sum_by}
 use Rattle.std.specs.List.{range_with_len}
 use Rattle.std.proofs.lemmas.Bool.{lt-ltb}
-use Rattle.nest_rows.specs.Views.{heads_of}
 use Rattle.comm_system.specs.Levels.{common, levels}
 use Rattle.obligation_numbers.specs.Counts.{slot_count}
 use Rattle.obligation_numbers.specs.SlotViews.{phases_at, slot_at}
