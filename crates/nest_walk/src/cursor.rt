@@ -183,6 +183,7 @@ impl<'a> Cursor<'a> {
     }
 
     /// The next stop, until there is none.
+    #[inline(always)]
     pub fn next(&mut self) -> Option<Stop<'a>>
         ensures stop { MatchOption result (left_of self.old ≡ []) (λ s. left_of self.old ≡ visit_at (tree_in self.new) (rounds_in self.new) s ∷ left_of self.new) }
         ensures end { MatchOption result (left_of self.new ≡ []) (λ s. Unit) }
@@ -203,6 +204,7 @@ impl<'a> Cursor<'a> {
     }
 
     // The first statement that is left: a stop, or a loop that is entered, or nothing.
+    #[inline(always)]
     fn pass(&mut self, item: &'a Item, behind: &'a [Item]) -> Option<Stop<'a>>
         requires { self.old.rest.items.now ≡ item.now ∷ behind.now }
         ensures stop { MatchOption result (left_of self.new ≡ left_of self.old) (λ s. left_of self.old ≡ visit_at (tree_in self.new) (rounds_in self.new) s ∷ left_of self.new) }
@@ -231,6 +233,7 @@ impl<'a> Cursor<'a> {
     }
 
     // Past a statement, with so many stops and pieces of work in it.
+    #[inline(always)]
     fn advance(&mut self, item: &'a Item, behind: &'a [Item], stops: u32, works: u32) -> Stop<'a>
         requires rest { self.old.rest.items.now ≡ item.now ∷ behind.now }
         requires stops { stops ≡ stops_in (enters_but (marks_in self.old)) (statement_of item.now) }
@@ -304,6 +307,7 @@ impl<'a> Cursor<'a> {
     }
 
     // The next trip of the innermost loop, or past it where it has none; whether there was a loop.
+    #[inline(always)]
     fn turn(&mut self) -> bool
         requires { self.old.rest.items.now ≡ [] }
         ensures kept { left_of self.new ≡ left_of self.old }

@@ -95,6 +95,7 @@ impl<'a> Instances<'a> {
     }
 
     /// The next instance, until there is none.
+    #[inline(always)]
     pub fn next(&mut self) -> Option<Stop<'a>>
         ensures instance { MatchOption result (instances_left self.old ≡ []) (λ s. (i : Instance) × (instances_at (param_values (instances_tree self.new)) (visit_at (instances_tree self.new) (instances_rounds self.new) s) ≡ i ∷ []) × (instances_left self.old ≡ i ∷ instances_left self.new)) }
         ensures end { MatchOption result (instances_left self.new ≡ []) (λ s. Unit) }
@@ -111,6 +112,7 @@ impl<'a> Instances<'a> {
     }
 
     // Whether the statement of a stop is executed there.
+    #[inline(always)]
     fn is_executed(&self, stop: Stop<'a>) -> bool
         requires { IsTrue (is_reached (instances_tree self.now) (instances_rounds self.now) stop) }
         ensures { result ≡ is_executed_at (instances_tree self.now) (instances_rounds self.now) (statement_of stop.entry.item.now) }
