@@ -68,4 +68,13 @@ impl NarrowSystem {
     {
         &self.system
     }
+
+    /// The system itself. It takes no memory.
+    pub fn into_system(self) -> System
+        ensures system { result ≡ self }
+        ensures narrow { AreNarrow self.rows }
+    {
+        let NarrowSystem { system } = self;
+        system
+    }
 }
