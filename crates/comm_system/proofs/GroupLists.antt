@@ -234,13 +234,6 @@ groups_some tree plan most =
     let long = obligations_length tree plan in
     omega (arith, some, long)
 
--- how many there are
-pub count_of_plan : (tree : Tree) (plan : Plan) (most : ℕ) (l : Listed) → l ≡ groups_of tree plan most → l.next ≤ most → l.next - 1 ≡ length (obligations_of tree plan)
-count_of_plan tree plan most l is within =
-    let next = ap (λ (m : Listed). m.next) is in
-    let all = groups_all tree plan most (omega (arith, next, within)) in
-    omega (arith, next, all)
-
 -- ---- where an obligation stands
 
 -- the systems of the groups listed are counted, and so are those before the last group

@@ -1,5 +1,5 @@
 -- What is seen of kinds, as plain data.
-use Rattle.std.specs.Prelude.{◌+◌, ◌≡◌, ◌||◌, Bool, true, false, List, ◌++◌, map}
+use Rattle.std.specs.Prelude.{◌+◌, ◌≡◌, ◌||◌, List, ◌++◌, map}
 use Rattle.std.specs.List.{flat_map, list_any}
 use Rattle.std.specs.Prelude.{sum_by}
 use Rattle.sync_plan.specs.declared.plan.Kind.{Kind}
@@ -28,8 +28,3 @@ pub record Adds (kind : Kind) (side : Side) (old new : Seen) : Type 0 where
   pub left : new.left ≡ old.left + left_waits kind
   pub right : new.right ≡ old.right + right_waits kind
   pub producers : map producer_seen new.producers.items ≡ map producer_seen old.producers.items ++ producers_at (side_seen side) kind
-
--- the same where the boundary is certain
-abbrev pub LooksAt : Bool → Kind → Side → Seen → Seen → Type 0
-LooksAt true kind side old new = Adds kind side old new
-LooksAt false kind side old new = new ≡ old

@@ -1,6 +1,6 @@
 // The groups of a plan.
 
-ghost use Rattle.std.specs.Prelude.{◌≡◌, ◌-◌, ◌<◌, ◌^◌, [], ◌∷◌, IfOk, IsTrue, None, OnOk, length, map};
+ghost use Rattle.std.specs.Prelude.{◌≡◌, ◌<◌, ◌^◌, [], ◌∷◌, IfOk, IsTrue, None, OnOk, length, map};
 ghost use Rattle.std.specs.List.{filter, flat_map, list_all};
 ghost use Rattle.nest_tree.specs.View.{statement_of, tree_of};
 ghost use Rattle.sync_plan.specs.Fit.{is_dealt as is_dealt_in};
@@ -39,13 +39,6 @@ pub struct Groups<'b, 'a, 'p> {
 }
 
 impl<'b, 'a, 'p> Groups<'b, 'a, 'p> {
-    /// How many systems there are up to the last group.
-    pub fn count(&self) -> u64
-        ensures { result ≡ self.now.next - 1 }
-    {
-        self.next.saturating_sub(1)
-    }
-
     // One subject more, unless the systems before it pass a number. So many systems that their
     // numbers pass 64 bits have no room.
     fn add(&mut self, most: u64, subject: Subject<'b, 'a, 'p>) -> Result<(), AllocError>

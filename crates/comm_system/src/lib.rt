@@ -4,7 +4,8 @@
 //!
 //! - [`obligation`]: an obligation with what it speaks of.
 //! - [`phases`], [`phase`], [`reference`]: the static phases with their accesses.
-//! - [`slot`], [`slot_list`], [`signature`], [`waits`], [`producer`]: two phases at a level, and what they see of a plan's kinds.
+//! - [`slot`], [`slot_list`], [`boundary`], [`signature`], [`waits`], [`producer`]: two phases at a level, the
+//!   boundaries that are certain there, and what they see of a plan's kinds.
 //! - [`pair_systems`], [`group`], [`groups`]: the obligations of a pair of accesses, of a phase, of a slot, of a
 //!   plan; and in groups, each of which can be made without the others.
 //! - [`laws`]: which slots a kind's change changes; what solves the systems, and that
@@ -16,6 +17,7 @@
 //! and the list (`Obligations`).
 #![tactic(auto)]
 
+pub mod boundary;
 pub mod conflict;
 pub mod group;
 pub mod groups;

@@ -1,6 +1,6 @@
 // The obligations of phases, slots and plans.
 
-ghost use Rattle.std.specs.Prelude.{◌≡◌, ◌++◌, IfOk, None, OnOk, length, map};
+ghost use Rattle.std.specs.Prelude.{◌≡◌, ◌++◌, IfOk, None, OnOk, map};
 ghost use Rattle.std.specs.List.{flat_map};
 ghost use Rattle.nest_tree.specs.View.{tree_of};
 ghost use Rattle.nest_tree.specs.WellFormed.{IsWellFormed};
@@ -104,15 +104,4 @@ pub fn obligations(
     let phases = phases(alloc, program, &plan.cut)?;
     let groups = list_groups(alloc, program, plan, phases.as_slice(), u64::MAX)?;
     obligations_in_groups(alloc, program, plan, groups.items.as_slice())
-}
-
-/// How many obligations a plan has. It makes none of them.
-pub fn obligation_count(alloc: Global, program: &Program, plan: &Plan) -> Result<u64, AllocError>
-    requires formed { IsWellFormed (tree_of program.now) }
-    requires shape { wrong_field (tree_of program.now) plan.now ≡ None }
-    ensures { IfOk result (λ count. count ≡ length (obligations_of (tree_of program.now) plan.now)) }
-{
-    let phases = phases(alloc, program, &plan.cut)?;
-    let groups = list_groups(alloc, program, plan, phases.as_slice(), u64::MAX)?;
-    Ok(groups.count())
 }

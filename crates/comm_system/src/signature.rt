@@ -1,18 +1,18 @@
 // What a slot sees of a plan's kinds.
 
-ghost use Rattle.std.specs.Prelude.{◌≡◌, ◌+◌, ◌*◌, ◌++◌, ◌<◌, ◌≤◌, ◌^◌, List, IfOk, IsTrue, OnOk, length, map, slice_get};
+ghost use Rattle.std.specs.Prelude.{◌≡◌, ◌+◌, ◌<◌, ◌≤◌, ◌^◌, List, IfOk, IsTrue, OnOk, length, map, slice_get};
 ghost use Rattle.std.specs.List.{list_all};
 ghost use Rattle.std.specs.Option.{option_copied};
 ghost use Rattle.sync_plan.specs.declared.plan.Kind.{Kind as Kinds};
-ghost use Rattle.comm_system.specs.Boundaries.{Boundary};
-ghost use Rattle.comm_system.specs.Certain.{certain_on};
+ghost use Rattle.comm_system.specs.Boundaries.{Boundary as BoundarySeen};
 ghost use Rattle.comm_system.specs.Signatures.{counted as counted_in, has_places_in, or_nothing, signature_of};
 ghost use Rattle.comm_system.specs.Obligations.{slot_signature as signature_under};
 ghost use Rattle.comm_system.specs.PhaseViews.{phase_seen};
 ghost use Rattle.comm_system.specs.SlotViews.{slot_seen};
-ghost use Rattle.comm_system.specs.SideViews.{side_seen};
-ghost use Rattle.comm_system.specs.SignatureViews.{Adds, HasSeen, LooksAt, signature_seen};
+ghost use Rattle.comm_system.specs.SideViews.{boundary_seen};
+ghost use Rattle.comm_system.specs.SignatureViews.{Adds, HasSeen, signature_seen};
 
+use crate::boundary::{Boundary, certain_boundaries};
 use crate::phase::Phase;
 use crate::producer::{Producer, Side};
 use crate::slot::Slot;
@@ -62,55 +62,11 @@ impl<'p> Seen<'p> {
         Ok(())
     }
 
-    // The certain boundaries of a slot on one side, behind those that were seen.
-    fn see(
-        &mut self,
-        kinds: &'p [Kind],
-        phases: &[Phase],
-        slot: &Slot,
-        side: Side,
-    ) -> Result<(), AllocError>
-        requires places { IsTrue (list_all has_places_in kinds.now) }
-        requires few { length phases.now < 2 ^ 20 }
-        requires left { self.old.left < 2 ^ 30 }
-        requires right { self.old.right < 2 ^ 30 }
-        ensures seen { (us : List Boundary) → HasSeen kinds.now us self.old → OnOk result (HasSeen kinds.now (us ++ certain_on (side_seen side) (slot_seen slot.now) (map phase_seen phases.now)) self.new) }
-        ensures left { OnOk result (self.new.left ≤ self.old.left + length phases.now) }
-        ensures right { OnOk result (self.new.right ≤ self.old.right + length phases.now) }
-    {
-        for (index, phase) in phases.iter().enumerate() {
-            let is_certain = slot.is_certain(side, index as u32 + 1, phase.outer.as_slice());
-            self.look(is_certain, kind_in_front(kinds, index), side)?;
-        }
-        Ok(())
-    }
-
-    // One boundary more, where it is certain.
-    fn look(
-        &mut self,
-        is_certain: bool,
-        kind: Option<&'p Kind>,
-        side: Side,
-    ) -> Result<(), AllocError>
-        requires places { IsTrue (has_places_in (or_nothing (option_copied kind))) }
-        requires left { self.old.left < 2 ^ 31 }
-        requires right { self.old.right < 2 ^ 31 }
-        ensures looks { OnOk result (LooksAt is_certain (or_nothing (option_copied kind.entry)) side self.old self.new) }
-        ensures left { OnOk result (self.new.left ≤ self.old.left + 1) }
-        ensures right { OnOk result (self.new.right ≤ self.old.right + 1) }
-    {
-        if is_certain {
-            self.count(kind, side)
-        } else {
-            Ok(())
-        }
-    }
-
     // What is left of it in this version.
     fn signature(self, alloc: Global, version: Version) -> Result<Signature<'p>, AllocError>
         requires left { self.left < 2 ^ 30 }
         requires right { self.right < 2 ^ 30 }
-        ensures { (kinds : List Kinds) (us : List Boundary) → HasSeen kinds us self.entry → IfOk result (λ g. signature_seen g ≡ signature_of version kinds us) }
+        ensures { (kinds : List Kinds) (us : List BoundarySeen) → HasSeen kinds us self.entry → IfOk result (λ g. signature_seen g ≡ signature_of version kinds us) }
     {
         let Seen {
             barrier,
@@ -152,6 +108,30 @@ fn counted(version: Version, count: u32) -> u32
     }
 }
 
+/// The signature that boundaries make of these kinds.
+pub fn signature_at<'p>(
+    alloc: Global,
+    version: Version,
+    kinds: &'p [Kind],
+    boundaries: &[Boundary],
+) -> Result<Signature<'p>, AllocError>
+    requires places { IsTrue (list_all has_places_in kinds.now) }
+    requires few { length boundaries.now < 2 ^ 30 }
+    ensures { IfOk result (λ g. signature_seen g ≡ signature_of version kinds.now (map boundary_seen boundaries.now)) }
+{
+    let mut seen = Seen {
+        barrier: false,
+        left: 0,
+        right: 0,
+        producers: Vec::new(alloc),
+    };
+    for boundary in boundaries {
+        let place = (boundary.phase as usize).saturating_sub(1);
+        seen.count(kind_in_front(kinds, place), boundary.side)?;
+    }
+    seen.signature(alloc, version)
+}
+
 /// The signature of a slot under these kinds.
 pub fn slot_signature<'p>(
     alloc: Global,
@@ -164,13 +144,6 @@ pub fn slot_signature<'p>(
     requires few { length phases.now < 2 ^ 20 }
     ensures { IfOk result (λ g. signature_seen g ≡ signature_under version kinds.now (map phase_seen phases.now) (slot_seen slot.now)) }
 {
-    let mut seen = Seen {
-        barrier: false,
-        left: 0,
-        right: 0,
-        producers: Vec::new(alloc),
-    };
-    seen.see(kinds, phases, slot, Side::First)?;
-    seen.see(kinds, phases, slot, Side::Second)?;
-    seen.signature(alloc, version)
+    let boundaries = certain_boundaries(alloc, phases, slot)?;
+    signature_at(alloc, version, kinds, boundaries.as_slice())
 }
