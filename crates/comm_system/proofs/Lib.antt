@@ -19,6 +19,7 @@ pub mod Cells
 pub mod Places
 pub mod Timeline
 pub mod Holders
+pub mod InPlace
 pub mod Zips
 pub mod Chains
 pub mod Accesses

@@ -1,5 +1,5 @@
 -- The systems of a pair's pieces, part by part.
-use Rattle.std.proofs.Common.{◌≡◌, ℕ, zero, suc, ◌+◌, ◌*◌, ◌-◌, ◌<◌, ◌≤◌, ℤ, pos, neg_ℤ, negsuc, List, [], ◌∷◌, ◌++◌, length, map, drop, get_or, take, refl, ap, sym, ◌∙◌, arith}
+use Rattle.std.proofs.Common.{◌≡◌, ℕ, zero, suc, ◌+◌, ◌*◌, ◌-◌, ◌<◌, ◌≤◌, negsuc, List, [], ◌∷◌, ◌++◌, length, map, drop, get_or, slice_get, take, Some, refl, ap, ap₂, sym, ◌∙◌, arith}
 use Rattle.std.proofs.lemmas.List.{drop_more, length-drop, length-map, map-append, take_all}
 use Rattle.farkas_cert.specs.Inequalities.{Inequalities}
 use Rattle.nest_tree.specs.Tree.{Tree}
@@ -14,19 +14,17 @@ use Rattle.sync_plan.specs.declared.plan.Plan.{Plan}
 use Rattle.comm_system.specs.Boundaries.{Side}
 use Rattle.comm_system.specs.Levels.{Order, common, order_at}
 use Rattle.comm_system.specs.Obligations.{Slot, Task, last_of, numbered, numbered_from, owners_of, piece_task, pieces_from}
-use Rattle.comm_system.specs.OwnerRows.{Piece, Placed, above, below, beside, distance, owner_numbers, owners_have, owners_unknowns, pieces, sign_of}
+use Rattle.comm_system.specs.OwnerRows.{Piece, Placed, beside, owner_numbers, owners_have, owners_unknowns, pieces, sign_of}
 use Rattle.comm_system.specs.PairRows.{apart, behind_pair, pair_rows, unknowns_of}
 use Rattle.comm_system.specs.Pairs.{Pair}
 use Rattle.comm_system.specs.PieceViews.{direction_seen, piece_seen}
 use Rattle.comm_system.specs.Seen.{reference_seen}
 use Rattle.comm_system.specs.SystemViews.{AreUnknowns, IsShared}
-use Rattle.comm_system.specs.References.{variable_of}
 use Rattle.comm_system.specs.declared.pair_systems.Shared.{Shared}
 use Rattle.comm_system.specs.declared.pair_systems.Unknowns.{Unknowns}
 use Rattle.comm_system.specs.declared.pieces.Direction.{Direction}
 use Rattle.comm_system.specs.declared.pieces.Piece.{Piece as Held}
 use Rattle.comm_system.specs.declared.reference.Reference.{Reference}
-use Rattle.comm_system.proofs.RowSteps.{left_more}
 
 -- an access's loops have unknowns
 pub loops_within : (tree : Tree) (a : Reference) (n : ℕ) → n ≡ unknowns_of tree (reference_seen a) → 2 * length a.around.items ≤ n
@@ -60,16 +58,6 @@ two_first (x ∷ y ∷ xs) le = refl
 -- those behind the first two
 pub rest_taken : (xs : List ℕ) → take (length xs - 2) (drop 2 xs) ≡ drop 2 xs
 rest_taken xs = let long = length-drop 2 xs in take_all (length xs - 2) (drop 2 xs) (omega (arith, long))
-
--- the obligation of one piece more
-pub obligations_more : (f : ℕ → Piece → Task) (n : ℕ) (ps : List Held) (k : ℕ) (p : Held) → k < length ps → p ≡ get_or ps k p →
-    numbered_from (n + k) (pieces_from f (k + 1) (map piece_seen (drop k ps))) ≡ numbered (n + k) (f (k + 1) (piece_seen p)) ∷ numbered_from (n + (k + 1)) (pieces_from f (k + 1 + 1) (map piece_seen (drop (k + 1) ps)))
-obligations_more f n ps k p lt is =
-    let first : suc (n + k) ≡ n + (k + 1) = omega arith in
-    let second : suc (k + 1) ≡ k + 1 + 1 = omega arith in
-    ap (λ qs. numbered_from (n + k) (pieces_from f (k + 1) qs)) (left_more piece_seen ps k p lt is)
-    ∙ ap (λ m. numbered (n + k) (f (k + 1) (piece_seen p)) ∷ numbered_from m (pieces_from f (suc (k + 1)) (map piece_seen (drop (k + 1) ps)))) first
-    ∙ ap (λ m. numbered (n + k) (f (k + 1) (piece_seen p)) ∷ numbered_from (n + (k + 1)) (pieces_from f m (map piece_seen (drop (k + 1) ps)))) second
 
 -- three producers have 16 pieces
 pub few_pieces : (n : ℕ) → n ≤ 3 → length (pieces n) ≤ 16
@@ -106,7 +94,7 @@ pub shared_numbers : (tree : Tree) (plan : Plan) (slot : Slot) (producers : List
     owner_numbers n.behind placed ≡ owner_numbers (behind_pair tree pair) (owners_of tree plan slot producers pair)
 shared_numbers tree plan slot producers pair n placed are owners = ap (λ m. owner_numbers m placed) are.behind ∙ ap (owner_numbers (behind_pair tree pair)) owners
 
--- the system of a piece, and its obligation
+-- the system of a piece
 pub piece_system : (tree : Tree) (plan : Plan) (slot : Slot) (left right : ℕ) (producers : List (Anchor × Side)) (pair : Pair) (shared : Shared) (p : Piece) (system : Inequalities) → IsShared tree plan slot producers pair shared →
     HasMore (last_of left right shared.owners.items p) shared.system system → system ≡ (piece_task tree plan slot left right producers pair 1 p).system
 piece_system tree plan slot left right producers pair shared p system is more =
@@ -116,10 +104,24 @@ piece_system tree plan slot left right producers pair shared p system is more =
     let rows = pair_rows tree plan.conditions (order_at (common slot.first.outer slot.second.outer) slot.level) pair ++ owners_have plan.workers q owners in
     system_more vars rows (last_of left right shared.owners.items p) shared.system system is.system more ∙ ap (λ os. system_of vars (rows ++ last_of left right os p)) is.owners
 
-pub piece_obligation : (tree : Tree) (plan : Plan) (slot : Slot) (left right : ℕ) (producers : List (Anchor × Side)) (pair : Pair) (p : Piece) (number place : ℕ) (system : Inequalities) (variable : ℕ) (range : ℤ × ℤ) →
-    system ≡ (piece_task tree plan slot left right producers pair 1 p).system → variable ≡ variable_of pair.first.what → range ≡ (neg_ℤ (pos (distance below left right)), pos (distance above left right)) →
-    record { number = number; system = system; lines = (pair.first.line, pair.second.line); variable = variable; level = slot.level; piece = place; range = range } ≡ numbered number (piece_task tree plan slot left right producers pair place p)
-piece_obligation tree plan slot left right producers pair p number place system variable range is named far =
-    ap (λ (s : Inequalities). record { number = number; system = s; lines = (pair.first.line, pair.second.line); variable = variable; level = slot.level; piece = place; range = range }) is
-    ∙ ap (λ (v : ℕ). record { number = number; system = (piece_task tree plan slot left right producers pair 1 p).system; lines = (pair.first.line, pair.second.line); variable = v; level = slot.level; piece = place; range = range }) named
-    ∙ ap (λ (r : ℤ × ℤ). record { number = number; system = (piece_task tree plan slot left right producers pair 1 p).system; lines = (pair.first.line, pair.second.line); variable = variable_of pair.first.what; level = slot.level; piece = place; range = r }) far
+-- the pieces of two functions that agree
+pub pieces_same : (f g : ℕ → Piece → Task) → ((n : ℕ) (p : Piece) → f n p ≡ g n p) → (n : ℕ) (ps : List Piece) → pieces_from f n ps ≡ pieces_from g n ps
+pieces_same f g same n [] = refl
+pieces_same f g same n (p ∷ ps) = ap₂ (λ (t : Task) (ts : List Task). t ∷ ts) (same n p) (pieces_same f g same (suc n) ps)
+
+-- as many obligations as pieces
+pub pieces_long : (f : ℕ → Piece → Task) (n m : ℕ) (ps : List Held) → length (numbered_from n (pieces_from f m (map piece_seen ps))) ≡ length ps
+pieces_long f n m [] = refl
+pieces_long f n m (p ∷ ps) = ap suc (pieces_long f (suc n) (suc m) ps)
+
+-- the obligation of the piece at a place
+pub piece_at : (f : ℕ → Piece → Task) (n m : ℕ) (ps : List Held) (k : ℕ) (p : Held) → k < length ps → p ≡ get_or ps k p → slice_get (numbered_from n (pieces_from f m (map piece_seen ps))) k ≡ Some (numbered (n + k) (f (m + k) (piece_seen p)))
+piece_at f n m [] k p lt is = absurd (omega (arith, lt))
+piece_at f n m (q ∷ ps) zero p lt is =
+    let number : n ≡ n + 0 = omega arith in
+    let place : m ≡ m + 0 = omega arith in
+    ap (λ x. Some (numbered n (f m (piece_seen x)))) (sym is) ∙ ap (λ x. Some (numbered x (f m (piece_seen p)))) number ∙ ap (λ x. Some (numbered (n + 0) (f x (piece_seen p)))) place
+piece_at f n m (q ∷ ps) (suc k) p lt is =
+    let number : suc n + k ≡ n + suc k = omega arith in
+    let place : suc m + k ≡ m + suc k = omega arith in
+    piece_at f (suc n) (suc m) ps k p (omega (arith, lt)) is ∙ ap (λ x. Some (numbered x (f (suc m + k) (piece_seen p)))) number ∙ ap (λ x. Some (numbered (n + suc k) (f x (piece_seen p)))) place

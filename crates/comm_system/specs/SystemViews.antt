@@ -1,15 +1,18 @@
 -- Where the unknowns of a pair of accesses stand, and the rows that all pieces of a pair have.
-use Rattle.std.specs.Prelude.{◌+◌, ◌-◌, ◌<◌, ◌^◌, ◌≡◌, List, ◌++◌}
+use Rattle.std.specs.Prelude.{ℕ, ◌+◌, ◌-◌, ◌<◌, ◌^◌, ◌≡◌, List, ◌++◌, map, take}
 use Rattle.nest_tree.specs.Tree.{Tree}
-use Rattle.nest_rows.specs.Constraints.{system_of}
+use Rattle.nest_rows.specs.Constraints.{row_of, system_of}
 use Rattle.owner_partition.specs.declared.anchor.Anchor.{Anchor}
 use Rattle.sync_plan.specs.declared.plan.Plan.{Plan}
 use Rattle.comm_system.specs.Boundaries.{Side}
 use Rattle.comm_system.specs.Levels.{common, order_at}
-use Rattle.comm_system.specs.Obligations.{Slot, owners_of}
-use Rattle.comm_system.specs.OwnerRows.{owner_numbers, owners_have, owners_unknowns}
+use Rattle.comm_system.specs.Obligations.{Slot, Task, last_of, numbered_from, owners_of, pieces_from}
+use Rattle.comm_system.specs.OwnerRows.{Piece, owner_numbers, owners_have, owners_unknowns}
 use Rattle.comm_system.specs.PairRows.{behind_pair, first_of, pair_rows, second_of}
 use Rattle.comm_system.specs.Pairs.{Pair}
+use Rattle.comm_system.specs.PieceViews.{piece_seen}
+use Rattle.comm_system.specs.declared.obligation.Obligation.{Obligation}
+use Rattle.comm_system.specs.declared.in_place.PairSystems.{PairSystems}
 use Rattle.comm_system.specs.declared.pair_systems.Unknowns.{Unknowns}
 use Rattle.comm_system.specs.declared.pair_systems.Shared.{Shared}
 
@@ -24,3 +27,16 @@ pub record IsShared (tree : Tree) (plan : Plan) (slot : Slot) (producers : List 
   pub system : shared.system ≡ system_of (behind_pair tree pair + owners_unknowns (owners_of tree plan slot producers pair) - 1)
       (pair_rows tree plan.conditions (order_at (common slot.first.outer slot.second.outer) slot.level) pair ++ owners_have plan.workers (behind_pair tree pair) (owners_of tree plan slot producers pair))
   pub owners : shared.owners.items ≡ owner_numbers (behind_pair tree pair) (owners_of tree plan slot producers pair)
+
+-- of systems that are made one at a time, that of this piece: the rows that all share, then its last rows
+abbrev pub task_at : PairSystems → ℕ → Piece → Task
+task_at p number piece =
+    let o = p.obligation in
+    let vars = o.system.vars in
+    record { system = record { vars = vars; rows = take p.shared o.system.rows ++ map (row_of vars) (last_of p.waits.now.left p.waits.now.right p.owners.items piece) }; lines = o.lines; variable = o.variable; level = o.level; piece = number; range = o.range }
+
+abbrev pub obligations_seen : PairSystems → List Obligation
+obligations_seen p = numbered_from p.number (pieces_from (task_at p) 1 (map piece_seen p.pieces.items))
+
+abbrev pub last_made : PairSystems → Obligation
+last_made p = p.obligation

@@ -8,6 +8,7 @@
 //!   boundaries that are certain there, and what they see of a plan's kinds.
 //! - [`pair_systems`], [`group`], [`groups`]: the obligations of a pair of accesses, of a phase, of a slot, of a
 //!   plan; and in groups, each of which can be made without the others.
+//! - [`in_place`]: the obligations of a pair one at a time, in the same memory.
 //! - [`laws`]: which slots a kind's change changes; what solves the systems, and that
 //!   where nothing does, the plan is ordered.
 //!
@@ -21,6 +22,7 @@ pub mod boundary;
 pub mod conflict;
 pub mod group;
 pub mod groups;
+pub mod in_place;
 pub mod laws;
 pub mod obligation;
 pub mod obligations;

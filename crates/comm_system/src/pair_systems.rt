@@ -22,10 +22,11 @@ ghost use Rattle.comm_system.specs.SideViews.{producer_seen, side_seen};
 ghost use Rattle.comm_system.specs.SlotViews.{slot_seen};
 ghost use Rattle.comm_system.specs.SystemViews.{AreUnknowns, IsShared};
 
+use crate::in_place::PairSystems;
 use crate::obligation::Obligation;
 use crate::owner_rows::{Placed, owners_unknowns, push_owners};
 use crate::phase::Phase;
-use crate::pieces::{Direction, Piece, pieces};
+use crate::pieces::{Direction, Piece};
 use crate::producer::Side;
 use crate::reference::Reference;
 use crate::rows::{Order, apart, push_pair, unknowns};
@@ -235,11 +236,11 @@ fn placed_anchors<'b, 'a>(
 // What all pieces of a pair have: the rows before the last ones, and the owners' unknowns.
 #[derive(Drop)]
 pub(crate) struct Shared {
-    system: NarrowSystem,
-    owners: Vec<u32>,
+    pub(crate) system: NarrowSystem,
+    pub(crate) owners: Vec<u32>,
 }
 
-fn make_shared<'a>(
+pub(crate) fn make_shared<'a>(
     alloc: Global,
     program: &Program,
     plan: &Plan,
@@ -302,7 +303,7 @@ fn distance(range: Direction, waits: &Waits) -> u32
 }
 
 // The greatest difference of the owners below those that are waited for, and the least above.
-fn range(waits: &Waits) -> (i32, i32)
+pub(crate) fn range(waits: &Waits) -> (i32, i32)
     ensures { result ≡ (neg_ℤ (pos (distance_of below waits.now.left waits.now.right)), pos (distance_of above waits.now.left waits.now.right)) }
 {
     let low = distance(Direction::Below, waits) as i32;
@@ -318,7 +319,7 @@ fn farthest(range: Direction, waits: &Waits) -> i64
 }
 
 // The last rows of a piece, behind the others.
-fn push_last(
+pub(crate) fn push_last(
     alloc: Global,
     system: &mut System,
     waits: &Waits,
@@ -358,15 +359,19 @@ fn push_beside(
     Ok(())
 }
 
-impl Shared {
-    // The system of a piece.
-    fn system(&self, alloc: Global, waits: &Waits, piece: &Piece) -> Result<System, AllocError>
-        ensures { IfOk result (λ s. HasMore (last_of waits.now.left waits.now.right self.now.owners.items (piece_seen piece.now)) self.now.system s) }
-    {
-        let mut system = copied(alloc, self.system.as_system())?;
-        push_last(alloc, &mut system, waits, self.owners.as_slice(), piece)?;
-        Ok(system)
-    }
+// A copy of an obligation.
+fn copy_of(alloc: Global, obligation: &Obligation) -> Result<Obligation, AllocError>
+    ensures { IfOk result (λ copy. copy ≡ obligation.now) }
+{
+    Ok(Obligation {
+        number: obligation.number,
+        system: copied(alloc, &obligation.system)?,
+        lines: obligation.lines,
+        variable: obligation.variable,
+        level: obligation.level,
+        piece: obligation.piece,
+        range: obligation.range,
+    })
 }
 
 /// The obligations of two accesses in the phases of a slot, from this number on. Of the plan's
@@ -385,21 +390,11 @@ pub fn pair_obligations<'a>(
     requires room { number + length (pieces_of (length waits.now.producers.items)) < 2 ^ 64 }
     ensures { IfOk result (λ found. found.items ≡ numbered_from number (pair_tasks (tree_of program.now) plan.now (slot_seen slot.now) waits.now.left waits.now.right (map producer_seen waits.now.producers.items) (pair_of a.now b.now))) }
 {
-    let shared = make_shared(alloc, program, plan, slot, waits, a, b)?;
-    let producers = waits.producers.as_slice();
-    let pieces = pieces(alloc, producers.len())?;
-    let range = range(waits);
-    let mut found = Vec::with_capacity(alloc, pieces.len())?;
-    for (index, piece) in pieces.iter().enumerate() {
-        found.push(Obligation {
-            number: number + index as u64,
-            system: shared.system(alloc, waits, piece)?,
-            lines: (a.line, b.line),
-            variable: a.target.variable(),
-            level: slot.level,
-            piece: index as u32 + 1,
-            range,
-        })?;
+    let mut systems = PairSystems::new(alloc, program, plan, slot, waits, a, b, number)?;
+    let mut found = Vec::with_capacity(alloc, systems.count())?;
+    for index in 0..systems.count() {
+        systems.make(alloc, index)?;
+        found.push(copy_of(alloc, systems.obligation())?)?;
     }
     Ok(found)
 }
