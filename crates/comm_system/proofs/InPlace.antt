@@ -48,7 +48,7 @@ piece_same tree plan slot left right producers pair shared s n variable range is
     let last = last_of left right shared.owners.items p in
     let rows : take n s.rows ≡ s.rows = ap (λ k. take k s.rows) long ∙ take-length s.rows in
     let whole : with_last n s last ≡ record { vars = shared.system.vars; rows = shared.system.rows ++ map (row_of shared.system.vars) last } =
-        ap (λ rs. record { vars = s.vars; rows = rs ++ map (row_of s.vars) last }) rows ∙ ap (λ (x : Inequalities). record { vars = x.vars; rows = x.rows ++ map (row_of x.vars) last }) same in
+    ap (λ rs. record { vars = s.vars; rows = rs ++ map (row_of s.vars) last }) rows ∙ ap (λ (x : Inequalities). record { vars = x.vars; rows = x.rows ++ map (row_of x.vars) last }) same in
     let system = piece_system tree plan slot left right producers pair shared p (with_last n s last) is whole in
     let at : Inequalities → ℕ → ℤ × ℤ → Task = λ x v r. record { system = x; lines = (pair.first.line, pair.second.line); variable = v; level = slot.level; piece = number; range = r } in
     ap (λ x. at x variable range) system ∙ ap (λ v. at (piece_task tree plan slot left right producers pair 1 p).system v range) named ∙ ap (λ r. at (piece_task tree plan slot left right producers pair 1 p).system (variable_of pair.first.what) r) far

@@ -112,7 +112,13 @@ impl<'w, 'p> PairSystems<'w, 'p> {
         let whole = mem::replace(&mut self.obligation.system, System::empty(alloc, 0));
         let mut system = first_rows(whole, shared);
         let piece = &self.pieces[index];
-        push_last(alloc, &mut system, self.waits, self.owners.as_slice(), piece)?;
+        push_last(
+            alloc,
+            &mut system,
+            self.waits,
+            self.owners.as_slice(),
+            piece,
+        )?;
         self.obligation.number = self.number + index as u64;
         self.obligation.piece = index as u32 + 1;
         self.obligation.system = system;

@@ -64,7 +64,7 @@ returns-clause-made c =
     let cut = c.first_rows-system.ensures ∙ ap (λ (s : Inequalities). record { vars = s.vars; rows = take n s.rows }) c.replace-whole.ensures.value in
     let f : ℕ → Piece → Task = λ number q. record { system = with_last n new (last_of left right p.owners.items q); lines = o.lines; variable = o.variable; level = o.level; piece = number; range = o.range } in
     let made : with_last n new (last_of left right p.owners.items (piece_seen piece)) ≡ new =
-        ap (λ os. with_last n new (last_of left right os (piece_seen piece))) (sym c.as_slice.ensures.value) ∙ cut_made n o.system c.first_rows-system.result new (last_of left right owners (piece_seen piece)) few cut c.in_ok-push_last.ensures in
+    ap (λ os. with_last n new (last_of left right os (piece_seen piece))) (sym c.as_slice.ensures.value) ∙ cut_made n o.system c.first_rows-system.result new (last_of left right owners (piece_seen piece)) few cut c.in_ok-push_last.ensures in
     let number : 1 + k ≡ k + 1 = omega arith in
     piece_at f p.number 1 p.pieces.items k piece inside c.index-piece.ensures
     ∙ ap (λ m. Some (numbered (p.number + k) (f m (piece_seen piece)))) number

@@ -37,6 +37,6 @@ returns c =
     let size : c.len.result ≡ length waits.producers.items = search rules in
     let made : map piece_seen ps ≡ pieces (length waits.producers.items) = c.in_ok-pieces.ensures ∙ ap pieces size in
     let same = piece_same tree plan slot waits.left waits.right producers pair c.in_ok-system.field-0 c.into_system-system.result (length c.rows-shared.result.now) c.variable.result c.range.result
-        c.in_ok-system.ensures c.into_system-system.ensures.system (ap length c.rows-shared.ensures.rows) c.variable.ensures c.range.ensures in
+    c.in_ok-system.ensures c.into_system-system.ensures.system (ap length c.rows-shared.ensures.rows) c.variable.ensures c.range.ensures in
     ap (numbered_from c.args.number) (pieces_same _ (piece_task tree plan slot waits.left waits.right producers pair) same 1 (map piece_seen ps)
     ∙ ap (pieces_from (piece_task tree plan slot waits.left waits.right producers pair) 1) (made ∙ ap pieces (sym (length-map waits.producers.items producer_seen))))
