@@ -1,7 +1,9 @@
 -- Verdicts that are remembered.
-use Rattle.std.proofs.Common.{◌≡◌, ℕ, zero, suc, ◌+◌, ◌<◌, List, [], ◌∷◌, ◌++◌, take, length, get_or, set, Some, None, refl, ap, sym, ◌∙◌, subst, inl, inr, ◌⊎◌, arith, length-append}
+use Rattle.std.proofs.Common.{◌≡◌, ℕ, zero, suc, ◌+◌, ◌<◌, List, [], ◌∷◌, ◌++◌, take, length, map, get_or, set, Some, None, refl, ap, sym, ◌∙◌, subst, inl, inr, ◌⊎◌, arith, length-append}
 use Rattle.std.specs.Prelude.{slice_get}
 use Rattle.std.specs.List.{All, AllZip}
+use Rattle.std.proofs.lemmas.List.{map-append}
+use Rattle.nest_walk.proofs.Grown.{AllZip-append}
 use Rattle.plan_maker.specs.Asked.{Asked}
 use Rattle.plan_maker.specs.Judged.{IsOutcome, IsVerdict, cause_in}
 use Rattle.plan_maker.specs.declared.judge.Verdict.{Verdict}
@@ -82,3 +84,9 @@ take_got (y ∷ xs) (suc k) x at = let e : suc k + 1 ≡ suc (k + 1) = omega ari
 pub all_one : {X : Type 0} (P : X → Type 0) (x : X) → P x → All P (x ∷ [])
 all_one P x p zero d lt = p
 all_one P x p (suc k) d lt = absurd (omega (arith, lt))
+
+-- one of them more
+pub zip_more : {A B C : Type 0} (R : A → B → Type 0) (f : C → A) (xs : List C) (ys : List B) (k : ℕ) (x : C) (y : B) → slice_get xs k ≡ Some x → AllZip R (map f (take k xs)) ys → R (f x) y → AllZip R (map f (take (k + 1) xs)) (ys ++ y ∷ [])
+zip_more R f xs ys k x y at h new =
+    subst (λ zs. AllZip R zs (ys ++ y ∷ [])) (sym (ap (map f) (take_got xs k x at) ∙ map-append f (take k xs) (x ∷ [])))
+    (AllZip-append R (map f (take k xs)) (f x ∷ []) ys (y ∷ []) h (new, tt))

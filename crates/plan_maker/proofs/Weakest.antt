@@ -2,11 +2,9 @@
 use Rattle.std.proofs.Common.{◌≡◌, ℕ, ◌+◌, ◌<◌, ◌++◌, List, [], ◌∷◌, length, map, take, ap, sym, ◌∙◌, subst, arith}
 use Rattle.std.specs.Prelude.{slice_set}
 use Rattle.std.specs.List.{All, AllZip}
-use Rattle.std.proofs.lemmas.List.{map-append}
 use Rattle.farkas_cert.specs.declared.certificate.Certificate.{Certificate}
 use Rattle.nest_tree.specs.Tree.{Tree}
 use Rattle.nest_tree.specs.View.{tree_of}
-use Rattle.nest_walk.proofs.Grown.{AllZip-append}
 use Rattle.sync_plan.specs.declared.plan.Kind.{Kind}
 use Rattle.sync_plan.specs.declared.plan.Plan.{Plan}
 use Rattle.comm_system.specs.Obligations.{slots_of}
@@ -25,7 +23,7 @@ use Rattle.plan_maker.specs.Grounds.{IsTrialReason}
 use Rattle.plan_maker.specs.Memories.{IsEntry, IsMemory}
 use Rattle.plan_maker.specs.Trials.{AreMemories, HasMoreCertificates, slots_asked}
 use Rattle.plan_maker.specs.Weakest.{IsWeakReason, IsWeakest, asked_under, candidates_in}
-use Rattle.plan_maker.proofs.Memories.{take_got}
+use Rattle.plan_maker.proofs.Memories.{zip_more}
 use Rattle.plan_maker.proofs.Questions.{cause-behind, refuted-append}
 
 pub zip_weaker : {A B : Type 0} (R S : A → B → Type 0) (xs : List A) (ys : List B) → ((x : A) (y : B) → R x y → S x y) → AllZip R xs ys → AllZip S xs ys
@@ -43,8 +41,7 @@ pub memories_more : (tree : Tree) (plan : Plan) (slots : List Held) (memories : 
 memories_more tree plan slots memories k m lt none inv =
     let there = some_there slots k lt in
     let new : IsMemory tree plan (slot_seen there.0) m = all_none (IsEntry tree plan (slot_seen there.0)) m.entries.items none in
-    subst (λ ss. AllZip (IsMemory tree plan) ss (memories ++ m ∷ [])) (sym (ap (map slot_seen) (take_got slots k there.0 there.1) ∙ map-append slot_seen (take k slots) (there.0 ∷ [])))
-    (AllZip-append (IsMemory tree plan) (map slot_seen (take k slots)) (slot_seen there.0 ∷ []) memories (m ∷ []) inv (new, tt))
+    zip_more (IsMemory tree plan) slot_seen slots memories k there.0 m there.1 inv new
 
 module _ (g : Ground) (trips : List Certificate) (candidates : List (List Kind)) (taken : List ℕ) where
   pub weakest_is : (w : Weakest) → AreRefuted (all_trips_asked (tree_of g.program.now) g.plan.now) trips → map phase_seen g.phases.now ≡ phases_of (tree_of g.program.now) g.plan.now.cut →

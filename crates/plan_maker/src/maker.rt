@@ -16,7 +16,7 @@ ghost use Rattle.plan_maker.specs.Asked.{AreRefuted, trips_asked};
 ghost use Rattle.plan_maker.specs.Bars.{IsLoopReason, open_loops};
 ghost use Rattle.plan_maker.specs.Cut.{IsReasonedCut};
 ghost use Rattle.plan_maker.specs.Made.{IsBarrierPlan, IsMade, with_found};
-ghost use Rattle.plan_maker.specs.Trials.{AreMemories};
+ghost use Rattle.plan_maker.specs.Trials.{AreAllCertain, AreMemories};
 ghost use Rattle.sync_plan.specs.Shape.{wrong_field};
 ghost use Rattle.plan_maker.specs.Settled.{IsSettled};
 ghost use Rattle.plan_maker.specs.Weakest.{IsWeakest};
@@ -33,6 +33,7 @@ use crate::partners::meeting_slots;
 use crate::passes::settle_all;
 use crate::reasons::{LoopReason, PhaseReason, Reasons};
 use crate::trial::{Ground, push_certificates};
+use comm_system::boundary::{Boundary, certain_boundaries};
 use comm_system::phase::Phase;
 use comm_system::phases::phases;
 use comm_system::slot::Slot;
@@ -172,6 +173,22 @@ fn memories(alloc: Global, slots: &[Slot]) -> Result<Vec<Memory>, AllocError>
     Ok(memories)
 }
 
+// The certain boundaries of each slot.
+fn boundaries(
+    alloc: Global,
+    phases: &[Phase],
+    slots: &[Slot],
+) -> Result<Vec<Vec<Boundary>>, AllocError>
+    requires { length phases.now < 2 ^ 20 }
+    ensures { IfOk result (λ found. AreAllCertain (map phase_seen phases.now) (map slot_seen slots.now) found.items) }
+{
+    let mut found = Vec::new(alloc);
+    for slot in slots {
+        found.push(certain_boundaries(alloc, phases, slot)?)?;
+    }
+    Ok(found)
+}
+
 // Of each phase the place of its last candidate.
 fn last_places(alloc: Global, candidates: &[Kinds]) -> Result<Vec<usize>, AllocError>
     ensures { IfOk result (λ places. length places.items ≡ length candidates.now) }
@@ -199,11 +216,13 @@ fn find_weakest(
     let certificates = trip_certificates(alloc, program, plan, phases.as_slice(), findings)?;
     let all = slots(alloc, phases.as_slice())?;
     let slots = meeting_slots(alloc, all.as_slice())?;
+    let boundaries = boundaries(alloc, phases.as_slice(), slots.as_slice())?;
     let ground = Ground {
         program,
         plan,
         phases: phases.as_slice(),
         slots: slots.as_slice(),
+        boundaries: boundaries.as_slice(),
     };
     let (marks, anchors) = (plan.cut.as_slice(), plan.anchors.as_slice());
     let candidates = all_candidates(alloc, marks, phases.as_slice(), anchors)?;
@@ -232,7 +251,6 @@ fn settled(
     certificates: Vec<Certificate>,
 ) -> Result<Weakest, AllocError>
     requires shape { wrong_field (tree_of ground.program.now) ground.plan.now ≡ None }
-    requires few { length ground.phases.now < 2 ^ 20 }
     requires phases { length taken.old < 2 ^ 20 }
     requires memories { AreMemories (tree_of ground.program.now) ground.plan.now (map slot_seen ground.slots.now) memories.old }
     ensures { IfOk result (IsSettled ground.entry candidates.now certificates.items) }

@@ -47,7 +47,6 @@ fn ask_with(
     place: usize,
 ) -> Result<Option<Cause>, AllocError>
     requires shape { wrong_field (tree_of ground.program.now) ground.plan.now ≡ None }
-    requires few { length ground.phases.now < 2 ^ 20 }
     requires phase { phase < length taken.now }
     requires memories { AreMemories (tree_of ground.program.now) ground.plan.now (map slot_seen ground.slots.now) memories.old }
     ensures memories { OnOk result (AreMemories (tree_of ground.entry.program.now) ground.entry.plan.now (map slot_seen ground.entry.slots.now) memories.new) }
@@ -71,7 +70,6 @@ fn settle(
     reasons: &mut Vec<PhaseReason>,
 ) -> Result<bool, AllocError>
     requires shape { wrong_field (tree_of ground.program.now) ground.plan.now ≡ None }
-    requires few { length ground.phases.now < 2 ^ 20 }
     requires phase { phase < length taken.old }
     requires memories { AreMemories (tree_of ground.program.now) ground.plan.now (map slot_seen ground.slots.now) memories.old }
     requires number { phase < 2 ^ 32 - 1 }
@@ -108,7 +106,6 @@ fn pass(
     taken: &mut [usize],
 ) -> Result<Option<Vec<PhaseReason>>, AllocError>
     requires shape { wrong_field (tree_of ground.program.now) ground.plan.now ≡ None }
-    requires few { length ground.phases.now < 2 ^ 20 }
     requires phases { length taken.old < 2 ^ 20 }
     requires memories { AreMemories (tree_of ground.program.now) ground.plan.now (map slot_seen ground.slots.now) memories.old }
     ensures memories { OnOk result (AreMemories (tree_of ground.entry.program.now) ground.entry.plan.now (map slot_seen ground.entry.slots.now) memories.new) }
@@ -145,7 +142,6 @@ pub(crate) fn settle_all(
     taken: &mut [usize],
 ) -> Result<Vec<PhaseReason>, AllocError>
     requires shape { wrong_field (tree_of ground.program.now) ground.plan.now ≡ None }
-    requires few { length ground.phases.now < 2 ^ 20 }
     requires phases { length taken.old < 2 ^ 20 }
     requires memories { AreMemories (tree_of ground.program.now) ground.plan.now (map slot_seen ground.slots.now) memories.old }
     ensures memories { OnOk result (AreMemories (tree_of ground.entry.program.now) ground.entry.plan.now (map slot_seen ground.entry.slots.now) memories.new) }

@@ -4,12 +4,24 @@ use Rattle.nest_tree.specs.View.{tree_of}
 use Rattle.comm_system.specs.PhaseViews.{phase_seen}
 use Rattle.comm_system.specs.SlotViews.{slot_seen}
 use Rattle.plan_maker.specs.Trials.{HasMoreCertificates, slots_asked}
-use Rattle.plan_maker.proofs.SlotSteps.{asked_more, memory_changed, memory_there, slot_within, slots_passed}
+use Rattle.plan_maker.proofs.SlotSteps.{asked_more, boundaries_there, boundaries_within, memory_changed, memory_there, slot_within, slots_passed}
 use Rattle.plan_maker.proofs.trial.push_certificates.Goals as goal
 
 pub bounds-ground-place : goal.bounds-ground-place
 bounds-ground-place c =
     slot_within (tree_of c.args.ground.program.now) c.args.ground.plan.now c.args.ground.slots.now c.loop-place.memories c.loop-place.invariant.memories c.loop-place.place (omega (arith, c.loop-place.auto.memories, c.loop-place-test.true))
+
+pub bounds-ground-place-in-loop-place : goal.bounds-ground-place-in-loop-place
+bounds-ground-place-in-loop-place c =
+    let ground = c.args.ground in
+    let inside = slot_within (tree_of ground.program.now) ground.plan.now ground.slots.now c.loop-place.memories c.loop-place.invariant.memories c.loop-place.place (omega (arith, c.loop-place.auto.memories, c.loop-place-test.true)) in
+    boundaries_within (map phase_seen ground.phases.now) ground.slots.now ground.boundaries.now ground.certain c.loop-place.place inside
+
+pub slot_certificates-requires-clause-boundaries : goal.slot_certificates-requires-clause-boundaries
+slot_certificates-requires-clause-boundaries c =
+    let ground = c.args.ground in
+    let inside = slot_within (tree_of ground.program.now) ground.plan.now ground.slots.now c.loop-place.memories c.loop-place.invariant.memories c.loop-place.place (omega (arith, c.loop-place.auto.memories, c.loop-place-test.true)) in
+    boundaries_there (map phase_seen ground.phases.now) ground.slots.now ground.boundaries.now ground.certain c.loop-place.place inside c.index-ground-place.result c.index-ground-place-in-loop-place.result c.as_slice-boundaries.result.now c.as_slice-boundaries.ensures.value
 
 pub slot_certificates-requires-clause-memory : goal.slot_certificates-requires-clause-memory
 slot_certificates-requires-clause-memory c =
