@@ -1,12 +1,11 @@
 -- Systems one behind another: which are refuted, and the first that is kept.
-use Rattle.std.proofs.Common.{◌≡◌, ℕ, zero, suc, ◌+◌, ◌-◌, ◌<◌, List, [], ◌∷◌, ◌++◌, take, drop, get_or, length, map, refl, ap, sym, ◌∙◌, subst, arith}
+use Rattle.std.proofs.Common.{◌≡◌, ℕ, zero, suc, ◌+◌, ◌<◌, List, [], ◌∷◌, ◌++◌, take, drop, get_or, length, map, refl, ap, sym, ◌∙◌, subst, arith}
 use Rattle.std.specs.Prelude.{slice_get, Some}
 use Rattle.std.specs.List.{flat_map}
 use Rattle.farkas_cert.specs.declared.certificate.Certificate.{Certificate}
 use Rattle.farkas_cert.specs.Good.{IsGood}
-use Rattle.std.proofs.Math.Seq.{take-length}
 use Rattle.std.proofs.lemmas.Grind.{flat_map-append}
-use Rattle.std.proofs.lemmas.List.{append-nil, at_drop_more, length-drop, map-append, take-append-drop, take_more}
+use Rattle.std.proofs.lemmas.List.{append-nil, at_drop_more, take-append-drop, take_more}
 use Rattle.std.proofs.lemmas.List.Concat.{flat_map_single}
 use Rattle.std.proofs.lemmas.List.Folds.{flat_map-map}
 use Rattle.fm_elim.specs.declared.answer.Answer.{Answer}
@@ -79,7 +78,7 @@ module _ {X : Type 0} (f : X → List Asked) (xs : List X) (i : ℕ) (x : X) (lt
       subst (λ qs. IsCause qs cause) (sym whole) (cause-behind (flat_map f (take i xs)) (f x ++ flat_map f (drop (i + 1) xs)) cs cause h (cause-front (f x) (flat_map f (drop (i + 1) xs)) cause k))
 
 -- of things that each ask one
-one_said : (q : Asked) (answer : Answer) (cause : Cause) → IsSaid q answer cause → IsCause (q ∷ []) cause
+pub one_said : (q : Asked) (answer : Answer) (cause : Cause) → IsSaid q answer cause → IsCause (q ∷ []) cause
 one_said q answer cause said = record { place = 0; certificates = []; before = tt; question = q; at = refl; answer = answer; said = said }
 
 module _ {X : Type 0} (f : X → Asked) (xs : List X) (i : ℕ) (x : X) (lt : i < length xs) (is : x ≡ get_or xs i x) where
@@ -93,19 +92,6 @@ module _ {X : Type 0} (f : X → Asked) (xs : List X) (i : ℕ) (x : X) (lt : i 
   pub map_kept : (cs : List Certificate) (answer : Answer) (cause : Cause) → AreRefuted (map f (take i xs)) cs → IsSaid (f x) answer cause → IsCause (map f xs) cause
   map_kept cs answer cause h said =
       subst (λ qs. IsCause qs cause) (sym (each xs)) (flat_kept (λ y. f y ∷ []) xs i x lt is cs cause (subst (λ qs. AreRefuted qs cs) (each (take i xs)) h) (one_said (f x) answer cause said))
-
--- behind those that have certificates, the others
-module _ {X : Type 0} (f : X → Asked) (xs : List X) (n : ℕ) (cs : List Certificate) (is : n ≡ length cs) (h : AreRefuted (map f (take (length cs) xs)) cs) where
-  parted : map f xs ≡ map f (take (length cs) xs) ++ map f (take (length xs - n) (drop n xs))
-  parted =
-      let behind : take (length xs - n) (drop n xs) ≡ drop (length cs) xs = ap (λ k. take k (drop n xs)) (sym (length-drop n xs)) ∙ take-length (drop n xs) ∙ ap (λ k. drop k xs) is in
-      ap (map f) (sym (take-append-drop (length cs) xs)) ∙ map-append f (take (length cs) xs) (drop (length cs) xs) ∙ ap (λ ys. map f (take (length cs) xs) ++ map f ys) (sym behind)
-
-  pub rest_more : (ds : List Certificate) → AreRefuted (map f (take (length xs - n) (drop n xs))) ds → AreRefuted (map f xs) (cs ++ ds)
-  rest_more ds k = subst (λ qs. AreRefuted qs (cs ++ ds)) (sym parted) (refuted-append (map f (take (length cs) xs)) (map f (take (length xs - n) (drop n xs))) cs ds h k)
-
-  pub rest_kept : (cause : Cause) → IsCause (map f (take (length xs - n) (drop n xs))) cause → IsCause (map f xs) cause
-  rest_kept cause k = subst (λ qs. IsCause qs cause) (sym parted) (cause-behind (map f (take (length cs) xs)) (map f (take (length xs - n) (drop n xs))) cs cause h k)
 
 -- of things by what is seen of them
 module _ {X Y : Type 0} (f : Y → List Asked) (v : X → Y) (xs : List X) (i : ℕ) (x : X) (lt : i < length xs) (is : x ≡ get_or xs i x) where

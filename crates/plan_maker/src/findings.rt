@@ -50,10 +50,33 @@ fn with_row(hash: u128, row: &Row) -> u128 {
     sum
 }
 
-// A hash of a system.
-fn hash_of(system: &System) -> u128 {
-    let mut sum = mixed(0, i128::from(system.vars()));
-    for row in system.rows() {
+/// The first rows of a system, which it shares with others, and their hash.
+#[derive(Clone, Copy)]
+pub(crate) struct SharedRows {
+    count: usize,
+    hash: u128,
+}
+
+impl SharedRows {
+    /// The first so many rows of a system.
+    pub(crate) fn of(system: &System, count: usize) -> Self {
+        let rows = system.rows();
+        let count = count.min(rows.len());
+        let hash = with_rows(mixed(0, i128::from(system.vars())), &rows[..count]);
+        SharedRows { count, hash }
+    }
+
+    // A hash of a system that begins with these rows.
+    fn hash_of(self, system: &System) -> u128 {
+        let rows = system.rows();
+        with_rows(self.hash, &rows[self.count.min(rows.len())..])
+    }
+}
+
+// The hash with these rows more.
+fn with_rows(hash: u128, rows: &[Row]) -> u128 {
+    let mut sum = hash;
+    for row in rows {
         sum = with_row(sum, row);
     }
     sum
@@ -146,10 +169,11 @@ impl Findings {
         &self,
         alloc: Global,
         system: &System,
+        shared: SharedRows,
     ) -> Result<Option<Certificate>, AllocError>
         ensures { IfOk result (λ o. IfSome o (IsGood system.now)) }
     {
-        let hash = hash_of(system);
+        let hash = shared.hash_of(system);
         match item_at(self.chains.as_slice(), chain_of(hash)) {
             Some(chain) => recall(alloc, chain.as_slice(), hash, system),
             None => Ok(None),
@@ -162,13 +186,14 @@ impl Findings {
         &mut self,
         alloc: Global,
         system: &System,
+        shared: SharedRows,
         dists: &[Dist],
         beginning: Option<&Beginning>,
     ) -> Result<Found, AllocError>
         requires { IfSome beginning (λ b. IsBeginning b.now) }
         ensures { IfOk result (IsFound system.now (order_of system.now.vars dists.now)) }
     {
-        let hash = hash_of(system);
+        let hash = shared.hash_of(system);
         let place = chain_of(hash);
         if place >= self.chains.len() {
             return find(alloc, system, dists, beginning);

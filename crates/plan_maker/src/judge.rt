@@ -1,11 +1,12 @@
 // What elimination says of systems one behind another.
 
-ghost use Rattle.std.specs.Prelude.{◌≡◌, ◌≤◌, IfOk, IfSome, List, None, length, map, take};
+ghost use Rattle.std.specs.Prelude.{◌≡◌, [], ◌∷◌, IfOk, IfSome, List, None, OnOk, length, map, take};
 ghost use Rattle.std.specs.List.{flat_map};
 ghost use Rattle.nest_tree.specs.View.{tree_of};
 ghost use Rattle.owner_partition.specs.declared.anchor.Dist.{Dist as Dealt};
 ghost use Rattle.sync_plan.specs.Shape.{wrong_field};
 ghost use Rattle.comm_system.specs.GroupViews.{group_seen};
+ghost use Rattle.comm_system.specs.SystemViews.{obligations_seen};
 ghost use Rattle.plan_maker.specs.Asked.{AreRefuted};
 ghost use Rattle.plan_maker.specs.Beginnings.{IsBeginning, IsFront};
 ghost use Rattle.plan_maker.specs.Judged.{IsJudgement, IsVerdict, asked_about, asked_in, cause_for};
@@ -13,9 +14,12 @@ ghost use Rattle.plan_maker.specs.Judged.{IsJudgement, IsVerdict, asked_about, a
 use crate::beginnings::{Beginning, Front};
 use crate::cause::{Cause, Word};
 use crate::decided::Found;
-use crate::findings::Findings;
+use crate::findings::{Findings, SharedRows};
 use comm_system::Obligation;
 use comm_system::group::Group;
+use comm_system::in_place::PairSystems;
+use comm_system::pair_systems::trips_obligation;
+use comm_system::subject::Subject;
 use farkas_cert::Certificate;
 use nest_tree::Program;
 use owner_partition::Dist;
@@ -82,6 +86,7 @@ fn cause_for(obligation: &Obligation, word: Word) -> Cause
 fn judge_one(
     alloc: Global,
     obligation: &Obligation,
+    shared: SharedRows,
     dists: &[Dist],
     beginning: Option<&Beginning>,
     findings: &mut Findings,
@@ -89,27 +94,59 @@ fn judge_one(
     requires { IfSome beginning (λ b. IsBeginning b.now) }
     ensures { IfOk result (IsJudgement (asked_about dists.now obligation.now)) }
 {
-    match findings.find(alloc, &obligation.system, dists, beginning)? {
+    match findings.find(alloc, &obligation.system, shared, dists, beginning)? {
         Found::Refuted(certificate) => Ok(Judgement::Refuted(certificate)),
         Found::Kept(word) => Ok(Judgement::Kept(cause_for(obligation, word))),
     }
 }
 
-// What is known of obligations one behind another, whose owners are dealt so, from a beginning if
-// there is one.
+// The certificates that are there for the first of a pair's obligations.
+fn known_first(
+    alloc: Global,
+    systems: &mut PairSystems,
+    shared: SharedRows,
+    findings: &Findings,
+) -> Result<Vec<Certificate>, AllocError>
+    ensures same { OnOk result (obligations_seen systems.new ≡ obligations_seen systems.old) }
+    ensures refuted { (dists : List Dealt) → IfOk result (λ cs. AreRefuted (map (asked_about dists) (take (length cs.items) (obligations_seen systems.old))) cs.items) }
+{
+    let mut certificates = Vec::new(alloc);
+    for index in 0..systems.count() {
+        systems.make(alloc, index)?;
+        match findings.known(alloc, &systems.obligation().system, shared)? {
+            Some(certificate) => certificates.push(certificate)?,
+            None => return Ok(certificates),
+        }
+    }
+    Ok(certificates)
+}
+
+// What is known of a pair's obligations, the first of which have these certificates, from a
+// beginning if there is one.
 fn judge_from(
     alloc: Global,
-    obligations: &[Obligation],
+    systems: &mut PairSystems,
+    shared: SharedRows,
+    known: Vec<Certificate>,
     dists: &[Dist],
     beginning: Option<&Beginning>,
     findings: &mut Findings,
 ) -> Result<Verdict, AllocError>
-    requires { IfSome beginning (λ b. IsBeginning b.now) }
-    ensures { IfOk result (IsVerdict (map (asked_about dists.now) obligations.now)) }
+    requires beginning { IfSome beginning (λ b. IsBeginning b.now) }
+    requires known { AreRefuted (map (asked_about dists.now) (take (length known.items) (obligations_seen systems.old))) known.items }
+    ensures { IfOk result (IsVerdict (map (asked_about dists.now) (obligations_seen systems.old))) }
 {
-    let mut certificates = Vec::new(alloc);
-    for obligation in obligations {
-        match judge_one(alloc, obligation, dists, beginning, findings)? {
+    let mut certificates = known;
+    for index in certificates.len()..systems.count() {
+        systems.make(alloc, index)?;
+        match judge_one(
+            alloc,
+            systems.obligation(),
+            shared,
+            dists,
+            beginning,
+            findings,
+        )? {
             Judgement::Refuted(certificate) => certificates.push(certificate)?,
             Judgement::Kept(cause) => return Ok(Verdict::Kept(cause)),
         }
@@ -117,17 +154,20 @@ fn judge_from(
     Ok(Verdict::Refuted(certificates))
 }
 
-// The first rows of the first of these obligations, where there are others.
+// The first rows of a pair's obligation that was made last, where at least two are left from this
+// index on.
 fn front_of(
     alloc: Global,
-    obligations: &[Obligation],
+    systems: &PairSystems,
+    index: usize,
     dists: &[Dist],
 ) -> Result<Option<Front>, AllocError>
     ensures { IfOk result (λ found. IfSome found IsFront) }
 {
-    match obligations {
-        [first, _, ..] => Front::of(alloc, &first.system, dists),
-        _ => Ok(None),
+    if index.saturating_add(1) < systems.count() {
+        Front::of(alloc, &systems.obligation().system, dists)
+    } else {
+        Ok(None)
     }
 }
 
@@ -142,59 +182,44 @@ fn beginning_of(alloc: Global, front: &Option<Front>) -> Result<Option<Beginning
     }
 }
 
-// What is known of obligations one behind another, whose owners are dealt so, from a beginning that
-// is made for them.
-fn judge_rest(
+// What is known of a pair's obligations, whose owners are dealt so.
+fn judge_pair(
     alloc: Global,
-    obligations: &[Obligation],
+    systems: &mut PairSystems,
     dists: &[Dist],
     findings: &mut Findings,
 ) -> Result<Verdict, AllocError>
-    ensures { IfOk result (IsVerdict (map (asked_about dists.now) obligations.now)) }
+    ensures { IfOk result (IsVerdict (map (asked_about dists.now) (obligations_seen systems.old))) }
 {
-    let front = front_of(alloc, obligations, dists)?;
+    let shared = SharedRows::of(&systems.obligation().system, systems.shared());
+    let known = known_first(alloc, systems, shared, findings)?;
+    let front = front_of(alloc, systems, known.len(), dists)?;
     match beginning_of(alloc, &front)? {
-        Some(beginning) => judge_from(alloc, obligations, dists, Some(&beginning), findings),
-        None => judge_from(alloc, obligations, dists, None, findings),
-    }
-}
-
-// The certificates that are there for the first of these obligations.
-fn known_first(
-    alloc: Global,
-    obligations: &[Obligation],
-    findings: &Findings,
-) -> Result<Vec<Certificate>, AllocError>
-    ensures few { IfOk result (λ cs. length cs.items ≤ length obligations.now) }
-    ensures refuted { (dists : List Dealt) → IfOk result (λ cs. AreRefuted (map (asked_about dists) (take (length cs.items) obligations.now)) cs.items) }
-{
-    let mut certificates = Vec::new(alloc);
-    for obligation in obligations {
-        match findings.known(alloc, &obligation.system)? {
-            Some(certificate) => certificates.push(certificate)?,
-            None => return Ok(certificates),
+        Some(beginning) => {
+            let beginning = Some(&beginning);
+            judge_from(alloc, systems, shared, known, dists, beginning, findings)
         }
+        None => judge_from(alloc, systems, shared, known, dists, None, findings),
     }
-    Ok(certificates)
 }
 
-// What is known of obligations one behind another, whose owners are dealt so.
-fn judge(
+// What is known of an obligation alone.
+fn judge_single(
     alloc: Global,
-    obligations: &[Obligation],
+    obligation: &Obligation,
     dists: &[Dist],
     findings: &mut Findings,
 ) -> Result<Verdict, AllocError>
-    ensures { IfOk result (IsVerdict (map (asked_about dists.now) obligations.now)) }
+    ensures { IfOk result (IsVerdict (asked_about dists.now obligation.now ∷ [])) }
 {
-    let mut certificates = known_first(alloc, obligations, findings)?;
-    let rest = &obligations[certificates.len()..];
-    match judge_rest(alloc, rest, dists, findings)? {
-        Verdict::Refuted(mut more) => {
-            certificates.append(&mut more)?;
+    let shared = SharedRows::of(&obligation.system, 0);
+    match judge_one(alloc, obligation, shared, dists, None, findings)? {
+        Judgement::Refuted(certificate) => {
+            let mut certificates = Vec::new(alloc);
+            certificates.push(certificate)?;
             Ok(Verdict::Refuted(certificates))
         }
-        Verdict::Kept(cause) => Ok(Verdict::Kept(cause)),
+        Judgement::Kept(cause) => Ok(Verdict::Kept(cause)),
     }
 }
 
@@ -210,8 +235,17 @@ fn judge_group(
     requires { wrong_field (tree_of program.now) plan.now ≡ None }
     ensures { IfOk result (IsVerdict (asked_in (tree_of program.now) plan.now dists.now (group_seen group.now))) }
 {
-    let obligations = group.obligations(alloc, program, plan)?;
-    judge(alloc, obligations.as_slice(), dists, findings)
+    let number = group.number;
+    match &group.subject {
+        Subject::Trips(phase, a, b) => {
+            let obligation = trips_obligation(alloc, program, plan, phase, a, b, number)?;
+            judge_single(alloc, &obligation, dists, findings)
+        }
+        Subject::Slot(slot, waits, a, b) => {
+            let mut systems = PairSystems::new(alloc, program, plan, slot, waits, a, b, number)?;
+            judge_pair(alloc, &mut systems, dists, findings)
+        }
+    }
 }
 
 /// What is known of the obligations of pairs of accesses one behind another, whose owners are dealt

@@ -1,9 +1,7 @@
-use Rattle.std.proofs.Common.{◌≡◌, ◌+◌, ◌-◌, ◌≤◌, ◌++◌, List, drop, length, take, true, ap, sym, ◌∙◌, subst, arith, rules}
-use Rattle.std.specs.Prelude.{IsTrue}
+use Rattle.std.proofs.Common.{◌≡◌, ◌+◌, ◌-◌, ◌≤◌, ◌++◌, List, drop, length, take, ap, sym, ◌∙◌, subst, arith, rules}
 use Rattle.std.specs.List.{All}
 use Rattle.std.proofs.Math.Seq.{take-length}
 use Rattle.std.proofs.lemmas.List.{length-drop}
-use Rattle.farkas_cert.specs.Inequalities.{Inequalities}
 use Rattle.farkas_cert.specs.declared.system.Row.{Row}
 use Rattle.fm_elim.proofs.Sizes.{le_from_test}
 use Rattle.fm_elim.specs.Advances.{most_of}
