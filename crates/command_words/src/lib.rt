@@ -14,6 +14,3 @@ mod settings;
 pub use crate::read::read_words;
 pub use crate::request::{PlanChoice, Refused, Request};
 pub use crate::settings::{SettingFault, read_settings};
-
-#[cfg(test)]
-mod tests;

@@ -25,6 +25,3 @@ pub use form::{
 pub use laws::{form_or_fault, one_form};
 pub use number::Number;
 pub use text::read_statement;
-
-#[cfg(test)]
-mod tests;

@@ -21,6 +21,3 @@ pub use laws::{end_is_listed_last, listing_or_fault, one_listing};
 pub use line::Line;
 pub use list::statements;
 pub use refusal::{LineRefusal, MOST_BYTES};
-
-#[cfg(test)]
-mod tests;

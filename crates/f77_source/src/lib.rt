@@ -18,6 +18,3 @@ pub use laws::{
 };
 pub use reader::read_program;
 pub use source::Setting;
-
-#[cfg(test)]
-mod tests;

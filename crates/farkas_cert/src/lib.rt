@@ -30,6 +30,3 @@ pub use counting::Steps;
 pub use law::good_certificates_exclude_whole_solutions;
 pub use narrow_system::NarrowSystem;
 pub use system::{Coefs, Row, Rows, System};
-
-#[cfg(test)]
-mod tests;

@@ -34,8 +34,3 @@ mod table;
 
 pub use answer::{Answer, NoMemory};
 pub use elimination::{Advance, Level, decide};
-
-#[cfg(test)]
-mod decision_tests;
-#[cfg(test)]
-mod tests;

@@ -19,6 +19,3 @@ pub use tree::{
     Access, Compare, Expr, Guard, Item, Nest, Parameter, PrintItem, Program, Spread, Subscripts,
     Variable,
 };
-
-#[cfg(test)]
-mod tests;

@@ -22,8 +22,6 @@ pub mod phases;
 pub mod placement;
 mod site;
 pub mod static_phase;
-#[cfg(test)]
-mod tests;
 
 pub use anchor::{Anchor, Dist, owner};
 pub use cut::{Cut, Mark};

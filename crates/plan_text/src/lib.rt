@@ -17,6 +17,3 @@ pub use lines::MOST_BYTES;
 pub use read::read_plan;
 pub use syntax::PlanSyntax;
 pub use write::write_plan;
-
-#[cfg(test)]
-mod tests;

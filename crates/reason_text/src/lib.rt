@@ -5,6 +5,3 @@
 mod write;
 
 pub use write::push_reasons;
-
-#[cfg(test)]
-mod tests;

@@ -23,6 +23,3 @@ pub use memory_sources::MemSource;
 pub use sinks::Sink;
 pub use sources::Source;
 pub use standard::{StdSink, StdSource};
-
-#[cfg(test)]
-mod tests;

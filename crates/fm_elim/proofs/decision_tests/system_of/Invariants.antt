@@ -1,6 +1,0 @@
-use Rattle.std.proofs.Common.{◌≡◌}
-use Rattle.fm_elim.proofs.decision_tests.system_of.Given as goal
-
--- the number of variables stays
-abbrev pub invariant-loop-coefs : goal.invariant-loop-coefs
-invariant-loop-coefs l = l.system.vars ≡ l.vars
