@@ -1,0 +1,217 @@
+// Equalities, and whole changes of variables.
+
+use crate::row::{Bounds, WorkRow, hash_of};
+use crate::stop::Stop;
+use crate::values::Change;
+use crate::work::Work;
+use std::alloc::{AllocError, Global};
+
+/// As many changes of variables as a coefficient of 64 bits can need until it is 1.
+const CHANGES: usize = 64;
+
+// The whole number nearest to a quotient.
+fn nearest_quotient(number: i64, by: i64) -> Option<i64> {
+    let size = by.checked_abs()?;
+    let twice = number.checked_mul(2)?.checked_add(size)?;
+    let quotient = twice.checked_div_euclid(size.checked_mul(2)?)?;
+    if by < 0 {
+        quotient.checked_neg()
+    } else {
+        Some(quotient)
+    }
+}
+
+// The place of the least number that isn't 0, by size.
+fn least_place(numbers: &[i64]) -> Option<usize> {
+    let mut best = None;
+    let mut least = u64::MAX;
+    for (place, number) in numbers.iter().enumerate() {
+        let size = number.unsigned_abs();
+        if size != 0 && size < least {
+            least = size;
+            best = Some(place);
+        }
+    }
+    best
+}
+
+// By how much each other variable goes into this one, so that the row's coefficients shrink.
+fn factors_of(
+    alloc: Global,
+    row: &WorkRow,
+    variable: usize,
+) -> Result<Option<Vec<i64>>, AllocError> {
+    let by = row.coef(variable);
+    let mut factors = Vec::with_capacity(alloc, row.coefs.len())?;
+    for (place, coef) in row.coefs.as_slice().iter().enumerate() {
+        if place == variable {
+            factors.push(0)?;
+        } else {
+            match nearest_quotient(*coef, by) {
+                Some(factor) => factors.push(factor)?,
+                None => return Ok(None),
+            }
+        }
+    }
+    Ok(Some(factors))
+}
+
+// Takes so many times each factor from the numbers; false where one has more than 64 bits.
+fn take_multiples(numbers: &mut [i64], times: i64, factors: &[i64]) -> bool {
+    for (number, factor) in numbers.iter_mut().zip(factors) {
+        let rest = match factor.checked_mul(times) {
+            Some(product) => number.checked_sub(product),
+            None => None,
+        };
+        match rest {
+            Some(rest) => *number = rest,
+            None => return false,
+        }
+    }
+    true
+}
+
+impl WorkRow {
+    // Its form where the variable is one less so many times each other variable; false where a number has
+    // more than 64 bits.
+    fn replace(&mut self, variable: usize, factors: &[i64]) -> bool {
+        let times = self.coef(variable);
+        if times == 0 {
+            return true;
+        }
+        if !take_multiples(self.coefs.as_mut_slice(), times, factors) {
+            return false;
+        }
+        self.hash = hash_of(self.coefs.as_slice());
+        true
+    }
+}
+
+// The form of each row.
+fn replace_all(rows: &mut [WorkRow], variable: usize, factors: &[i64]) -> bool {
+    for row in rows.iter_mut() {
+        if !row.replace(variable, factors) {
+            return false;
+        }
+    }
+    true
+}
+
+impl Work {
+    /// The place of a row that is half of an equality: the one with fewest variables, first of those with a
+    /// coefficient 1 or -1.
+    pub(crate) fn equality(&self) -> Option<usize> {
+        let mut best = None;
+        let mut least = usize::MAX;
+        for (place, row) in self.rows.iter().enumerate() {
+            if row.is_tight {
+                let weight = row.weight();
+                if weight < least {
+                    least = weight;
+                    best = Some(place);
+                }
+            }
+        }
+        best
+    }
+
+    // How many rows have a variable.
+    fn count_with(&self, variable: usize) -> usize {
+        self.rows
+            .iter()
+            .filter(|row| row.coef(variable) != 0)
+            .count()
+    }
+
+    // Of the variables with a coefficient 1 or -1 in a row the one that fewest rows have.
+    fn unit_variable(&self, row: &WorkRow) -> Option<usize> {
+        let mut best = None;
+        let mut least = usize::MAX;
+        for (variable, coef) in row.coefs.as_slice().iter().enumerate() {
+            if coef.unsigned_abs() == 1 {
+                let count = self.count_with(variable);
+                if count < least {
+                    least = count;
+                    best = Some(variable);
+                }
+            }
+        }
+        best
+    }
+
+    // Takes the row of this place away.
+    fn take(&mut self, place: usize) -> Result<WorkRow, Stop> {
+        if place < self.rows.len() {
+            Ok(self.rows.remove(place))
+        } else {
+            Err(Stop::GivenUp)
+        }
+    }
+
+    // Takes the row at a place away, with its opposite: first the one in which the variable's coefficient is above 0.
+    fn take_equality(&mut self, place: usize, variable: usize) -> Result<(WorkRow, WorkRow), Stop> {
+        let row = self.take(place)?;
+        let coefs = row.coefs.as_slice();
+        let wanted = row.hash.wrapping_neg();
+        let Some(opposite) = self
+            .rows
+            .iter()
+            .position(|other| other.hash == wanted && other.is_opposite(coefs))
+        else {
+            return Err(Stop::GivenUp);
+        };
+        let other = self.take(opposite)?;
+        if row.coef(variable) > 0 {
+            Ok((row, other))
+        } else {
+            Ok((other, row))
+        }
+    }
+
+    // Replaces a variable in each row by what an equality says of it, where its coefficient is 1 or -1.
+    fn substitute(&mut self, alloc: Global, place: usize, variable: usize) -> Result<(), Stop> {
+        let (upper, lower) = self.take_equality(place, variable)?;
+        let bounds = self.take_with(alloc, variable)?;
+        for row in &bounds.uppers {
+            self.join(alloc, variable, row, &lower)?;
+        }
+        for row in &bounds.lowers {
+            self.join(alloc, variable, &upper, row)?;
+        }
+        let bounds = Bounds::of(alloc, upper, lower)?;
+        self.trail.push(Change::Removed(variable, bounds))?;
+        Ok(())
+    }
+
+    // Changes the variables so that the row's coefficients but the least of them get less than half its size.
+    fn change_variables(&mut self, alloc: Global, place: usize) -> Result<(), Stop> {
+        let Some(row) = self.rows.get(place) else {
+            return Err(Stop::GivenUp);
+        };
+        let Some(variable) = least_place(row.coefs.as_slice()) else {
+            return Err(Stop::GivenUp);
+        };
+        let Some(factors) = factors_of(alloc, row, variable)? else {
+            return Err(Stop::GivenUp);
+        };
+        if !replace_all(self.rows.as_mut_slice(), variable, factors.as_slice()) {
+            return Err(Stop::GivenUp);
+        }
+        self.trail.push(Change::Replaced(variable, factors))?;
+        Ok(())
+    }
+
+    /// Removes a variable by the equality whose one half stands at this place.
+    pub(crate) fn use_equality(&mut self, alloc: Global, place: usize) -> Result<(), Stop> {
+        for _change in 0..CHANGES {
+            let Some(row) = self.rows.get(place) else {
+                return Err(Stop::GivenUp);
+            };
+            match self.unit_variable(row) {
+                Some(variable) => return self.substitute(alloc, place, variable),
+                None => self.change_variables(alloc, place)?,
+            }
+        }
+        Err(Stop::GivenUp)
+    }
+}

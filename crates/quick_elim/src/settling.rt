@@ -1,0 +1,100 @@
+// The search, with the checks behind it.
+
+ghost use Rattle.std.specs.Prelude.{IfOk};
+ghost use Rattle.quick_elim.specs.Settled.{IsSettled};
+
+use crate::answer::{Budget, NoMemory, Settled};
+use crate::certificate::certificate_of;
+use crate::point::Point;
+use crate::stop::Stop;
+use crate::values::find_values;
+use crate::work::Work;
+use farkas_cert::{CertRefusal, Certificate, System, check_cert};
+use std::alloc::{AllocError, Global};
+
+// What the search comes to. Nothing is known of it.
+#[derive(Drop)]
+enum Guess {
+    Certificate(Certificate),
+    Point(Point),
+    Nothing,
+}
+
+// Removes all variables of a system.
+fn remove_all(alloc: Global, system: &System, work: &mut Work) -> Result<(), Stop> {
+    work.put_all(alloc, system.rows())?;
+    work.remove_all(alloc)
+}
+
+// The values that the work leads to.
+fn guess_point(alloc: Global, work: &Work) -> Result<Guess, AllocError> {
+    let found = find_values(alloc, work.vars, work.trail.as_slice(), &work.budget)?;
+    let Some(found) = found else {
+        return Ok(Guess::Nothing);
+    };
+    let mut values = Vec::with_capacity(alloc, found.len())?;
+    for value in &found {
+        values.push(i128::from(*value))?;
+    }
+    Ok(Guess::Point(Point::from_vec(values)))
+}
+
+// Looks for a certificate or a point.
+fn search(alloc: Global, system: &System, budget: &Budget) -> Result<Guess, AllocError> {
+    let mut work = match Work::new(alloc, system, budget) {
+        Ok(work) => work,
+        Err(Stop::NoMemory) => return Err(AllocError),
+        Err(_) => return Ok(Guess::Nothing),
+    };
+    match remove_all(alloc, system, &mut work) {
+        Ok(()) => guess_point(alloc, &work),
+        Err(Stop::Contradiction(number)) => {
+            let certificate = certificate_of(alloc, work.given, work.made.as_slice(), number)?;
+            Ok(Guess::Certificate(certificate))
+        }
+        Err(Stop::GivenUp) => Ok(Guess::Nothing),
+        Err(Stop::NoMemory) => Err(AllocError),
+    }
+}
+
+// The certificate, where it is good for a system.
+fn checked_certificate(
+    alloc: Global,
+    system: &System,
+    certificate: Certificate,
+) -> Result<Settled, NoMemory>
+    ensures { IfOk result (IsSettled system.now) }
+{
+    match check_cert(alloc, system, &certificate) {
+        Ok(()) => Ok(Settled::Refuted(certificate)),
+        Err(CertRefusal::NoMemory) => Err(NoMemory),
+        Err(_) => Ok(Settled::Unknown),
+    }
+}
+
+// The point, where it solves a system.
+fn checked_point(system: &System, point: Point) -> Settled
+    ensures { IsSettled system.now result }
+{
+    if point.solves(system) {
+        Settled::Solved(point)
+    } else {
+        Settled::Unknown
+    }
+}
+
+/// Looks for what settles a system, within a budget.
+///
+/// Refuted comes with a certificate that is good for the system, so that it has no whole solution;
+/// Solved with a whole solution of it. Where neither is found within the budget and in 64 bits the
+/// answer is Unknown, which says nothing of the system. An error says that memory ran out, and nothing
+/// of the system.
+pub fn settle(alloc: Global, system: &System, budget: &Budget) -> Result<Settled, NoMemory>
+    ensures { IfOk result (IsSettled system.now) }
+{
+    match search(alloc, system, budget)? {
+        Guess::Certificate(certificate) => checked_certificate(alloc, system, certificate),
+        Guess::Point(point) => Ok(checked_point(system, point)),
+        Guess::Nothing => Ok(Settled::Unknown),
+    }
+}

@@ -1,0 +1,93 @@
+// Sums of multiples of rows, in their lowest terms.
+
+use crate::row::WorkRow;
+
+/// How a row is made: the sum of multiples of rows, by their numbers, and what it is divided by.
+#[derive(Clone, Copy)]
+pub(crate) struct Sum {
+    pub divisor: i64,
+    pub first: (usize, i64),
+    pub second: Option<(usize, i64)>,
+}
+
+impl Sum {
+    /// The row of this number itself.
+    pub(crate) fn copy(number: usize) -> Self {
+        Sum {
+            divisor: 1,
+            first: (number, 1),
+            second: None,
+        }
+    }
+}
+
+// m * a + n * b, where it and the products have 64 bits.
+fn weighted_sum(m: i64, a: i64, n: i64, b: i64) -> Option<i64> {
+    m.checked_mul(a)?.checked_add(n.checked_mul(b)?)
+}
+
+// The greatest common divisor, by Euclid's algorithm.
+fn greatest_common_divisor(a: u64, b: u64) -> u64 {
+    let mut x = a;
+    let mut y = b;
+    while y != 0 {
+        let rest = x % y;
+        x = y;
+        y = rest;
+    }
+    x
+}
+
+/// The greatest common divisor of these numbers, 0 where all are 0.
+pub(crate) fn common_divisor(numbers: &[i64]) -> u64 {
+    let mut divisor = 0;
+    for number in numbers {
+        if *number != 0 {
+            divisor = greatest_common_divisor(number.unsigned_abs(), divisor);
+        }
+        if divisor == 1 {
+            return 1;
+        }
+    }
+    divisor
+}
+
+/// The least multipliers by which a variable with these coefficients, one above 0 and one below, cancels.
+pub(crate) fn multipliers(upper: i64, lower: i64) -> Option<(i64, i64)> {
+    let above = upper.unsigned_abs();
+    let below = lower.unsigned_abs();
+    let divisor = greatest_common_divisor(above, below);
+    let m = below.checked_div(divisor)?;
+    let n = above.checked_div(divisor)?;
+    match (i64::try_from(m), i64::try_from(n)) {
+        (Ok(m), Ok(n)) => Some((m, n)),
+        _ => None,
+    }
+}
+
+/// Divides each number, with the remainder dropped; false where a quotient has more than 64 bits.
+pub(crate) fn divide_all(numbers: &mut [i64], divisor: i64) -> bool {
+    for number in numbers.iter_mut() {
+        match number.checked_div(divisor) {
+            Some(quotient) => *number = quotient,
+            None => return false,
+        }
+    }
+    true
+}
+
+/// Makes the coefficients of m times the first row and n times the other, and gives the bound; None
+/// where a number has more than 64 bits.
+pub(crate) fn combine(
+    m: i64,
+    upper: &WorkRow,
+    n: i64,
+    lower: &WorkRow,
+    coefs: &mut [i64],
+) -> Option<i64> {
+    let pairs = upper.coefs.as_slice().iter().zip(lower.coefs.as_slice());
+    for (coef, (a, b)) in coefs.iter_mut().zip(pairs) {
+        *coef = weighted_sum(m, *a, n, *b)?;
+    }
+    weighted_sum(m, upper.bound, n, lower.bound)
+}

@@ -1,0 +1,350 @@
+// The rows that stand, and how variables are removed from them.
+
+use crate::answer::Budget;
+use crate::row::{Bounds, WorkRow, hash_of};
+use crate::stop::Stop;
+use crate::sum::{Sum, combine, common_divisor, divide_all, multipliers};
+use crate::values::Change;
+use farkas_cert::{Row, System};
+use std::alloc::{AllocError, Global};
+use std::mem;
+
+/// A system at work.
+#[derive(Drop)]
+pub(crate) struct Work {
+    pub budget: Budget,
+    /// How many rows were given.
+    pub given: usize,
+    pub vars: usize,
+    /// The rows that stand: no two with equal coefficients.
+    pub rows: Vec<WorkRow>,
+    /// How rows were made. Their numbers follow those of the given ones.
+    pub made: Vec<Sum>,
+    /// How rows were combined so far.
+    pub sums: usize,
+    /// The coefficients of the row that is made.
+    pub coefs: Vec<i64>,
+    /// What was done with the variables, in order.
+    pub trail: Vec<Change>,
+}
+
+/// How many rows have a variable: with a coefficient above 0 or below it, and those where it isn't 1 or -1.
+#[derive(Clone, Copy)]
+struct Tally {
+    uppers: i64,
+    lowers: i64,
+    rough_uppers: i64,
+    rough_lowers: i64,
+}
+
+impl Tally {
+    const NONE: Tally = Tally {
+        uppers: 0,
+        lowers: 0,
+        rough_uppers: 0,
+        rough_lowers: 0,
+    };
+
+    // One row more, with this coefficient.
+    fn add(&mut self, coef: i64) {
+        if coef > 0 {
+            self.uppers = self.uppers.saturating_add(1);
+            if coef > 1 {
+                self.rough_uppers = self.rough_uppers.saturating_add(1);
+            }
+        }
+        if coef < 0 {
+            self.lowers = self.lowers.saturating_add(1);
+            if coef < -1 {
+                self.rough_lowers = self.rough_lowers.saturating_add(1);
+            }
+        }
+    }
+
+    // What its removal costs, None where no row has the variable: four for each row more, and a bit where
+    // coefficients on both sides make it rough.
+    fn cost(self) -> Option<i64> {
+        let Tally { uppers, lowers, .. } = self;
+        let having = uppers.saturating_add(lowers);
+        if having == 0 {
+            return None;
+        }
+        let more = uppers.saturating_mul(lowers).saturating_sub(having);
+        let cost = more.saturating_mul(4);
+        if self.rough_uppers == 0 || self.rough_lowers == 0 {
+            Some(cost)
+        } else {
+            Some(cost.saturating_add(uppers.min(lowers)))
+        }
+    }
+}
+
+impl Work {
+    /// The rows of a system, within a budget.
+    pub(crate) fn new(alloc: Global, system: &System, budget: &Budget) -> Result<Self, Stop> {
+        let vars = system.vars() as usize;
+        if vars > budget.vars || system.rows().len() > budget.rows {
+            return Err(Stop::GivenUp);
+        }
+        Ok(Work {
+            budget: *budget,
+            given: system.rows().len(),
+            vars,
+            rows: Vec::new(alloc),
+            made: Vec::new(alloc),
+            sums: 0,
+            coefs: vec![in alloc; 0; vars]?,
+            trail: Vec::new(alloc),
+        })
+    }
+
+    // Puts a given row among the others.
+    fn put_given(&mut self, alloc: Global, row: &Row, number: usize) -> Result<(), Stop> {
+        for (coef, given) in self.coefs.iter_mut().zip(row.coefs.as_slice()) {
+            match i64::try_from(*given) {
+                Ok(given) => *coef = given,
+                Err(_) => return Err(Stop::GivenUp),
+            }
+        }
+        match i64::try_from(row.bound) {
+            Ok(bound) => self.put(alloc, bound, Sum::copy(number)),
+            Err(_) => Err(Stop::GivenUp),
+        }
+    }
+
+    /// Puts the given rows among the others.
+    pub(crate) fn put_all(&mut self, alloc: Global, rows: &[Row]) -> Result<(), Stop> {
+        for (place, row) in rows.iter().enumerate() {
+            self.put_given(alloc, row, place.saturating_add(1))?;
+        }
+        Ok(())
+    }
+
+    // The number of the row that a sum makes: a given row that isn't changed keeps its own.
+    fn number_of(&mut self, sum: Sum) -> Result<usize, Stop> {
+        if sum.second.is_none() && sum.divisor == 1 {
+            return Ok(sum.first.0);
+        }
+        if self.made.len() >= self.budget.made {
+            return Err(Stop::GivenUp);
+        }
+        self.made.push(sum)?;
+        Ok(self.given.saturating_add(self.made.len()))
+    }
+
+    /// Puts the row that is made among the others, in its lowest terms.
+    pub(crate) fn put(&mut self, alloc: Global, bound: i64, sum: Sum) -> Result<(), Stop> {
+        let divisor = common_divisor(self.coefs.as_slice());
+        if divisor == 0 {
+            return self.put_empty(bound, sum);
+        }
+        if divisor == 1 {
+            return self.put_reduced(alloc, bound, sum);
+        }
+        let Ok(divisor) = i64::try_from(divisor) else {
+            return Err(Stop::GivenUp);
+        };
+        if !divide_all(self.coefs.as_mut_slice(), divisor) {
+            return Err(Stop::GivenUp);
+        }
+        let Some(bound) = bound.checked_div_euclid(divisor) else {
+            return Err(Stop::GivenUp);
+        };
+        self.put_reduced(alloc, bound, Sum { divisor, ..sum })
+    }
+
+    // A row without coefficients is left out where it holds, and else a contradiction.
+    fn put_empty(&mut self, bound: i64, sum: Sum) -> Result<(), Stop> {
+        if bound >= 0 {
+            return Ok(());
+        }
+        Err(Stop::Contradiction(self.number_of(sum)?))
+    }
+
+    // The place of the row with the coefficients that are made.
+    fn place_of(&self, hash: u64) -> Option<usize> {
+        let coefs = self.coefs.as_slice();
+        self.rows
+            .iter()
+            .position(|row| row.hash == hash && row.coefs.as_slice() == coefs)
+    }
+
+    // The row opposite to the coefficients that are made: its bound and its number.
+    fn opposite(&self, hash: u64) -> Option<(i64, usize)> {
+        let coefs = self.coefs.as_slice();
+        let wanted = hash.wrapping_neg();
+        for row in &self.rows {
+            if row.hash == wanted && row.is_opposite(coefs) {
+                return Some((row.bound, row.number));
+            }
+        }
+        None
+    }
+
+    // Whether the row that is made, with this bound, is half of an equality. It ends where the row and
+    // its opposite are a contradiction.
+    fn is_tight(&mut self, hash: u64, bound: i64, number: usize) -> Result<bool, Stop> {
+        let Some((other_bound, other)) = self.opposite(hash) else {
+            return Ok(false);
+        };
+        let Some(gap) = bound.checked_add(other_bound) else {
+            return Err(Stop::GivenUp);
+        };
+        if gap >= 0 {
+            return Ok(gap == 0);
+        }
+        Err(Stop::Contradiction(self.number_of(Sum {
+            divisor: 1,
+            first: (number, 1),
+            second: Some((other, 1)),
+        })?))
+    }
+
+    // Puts the row that is made among the others: the least bound of those with its coefficients is kept.
+    fn put_reduced(&mut self, alloc: Global, bound: i64, sum: Sum) -> Result<(), Stop> {
+        let hash = hash_of(self.coefs.as_slice());
+        let place = self.place_of(hash);
+        if let Some(place) = place {
+            if self.has_bound_within(place, bound) {
+                return Ok(());
+            }
+        }
+        let number = self.number_of(sum)?;
+        let is_tight = self.is_tight(hash, bound, number)?;
+        match place {
+            Some(place) => {
+                if let Some(row) = self.rows.get_mut(place) {
+                    row.bound = bound;
+                    row.number = number;
+                    row.is_tight = is_tight;
+                }
+                Ok(())
+            }
+            None => {
+                let coefs = Vec::from_slice(alloc, self.coefs.as_slice())?;
+                self.push(WorkRow {
+                    coefs,
+                    bound,
+                    number,
+                    hash,
+                    is_tight,
+                })
+            }
+        }
+    }
+
+    // Whether the row at a place has at most this bound.
+    fn has_bound_within(&self, place: usize, bound: i64) -> bool {
+        match self.rows.get(place) {
+            Some(row) => row.bound <= bound,
+            None => false,
+        }
+    }
+
+    // One row more.
+    fn push(&mut self, row: WorkRow) -> Result<(), Stop> {
+        if self.rows.len() >= self.budget.rows {
+            return Err(Stop::GivenUp);
+        }
+        self.rows.push(row)?;
+        Ok(())
+    }
+
+    /// Takes the rows with a variable away, by the sign of its coefficient.
+    pub(crate) fn take_with(
+        &mut self,
+        alloc: Global,
+        variable: usize,
+    ) -> Result<Bounds, AllocError> {
+        let mut bounds = Bounds::new(alloc);
+        let room = Vec::with_capacity(alloc, self.rows.len())?;
+        for row in mem::replace(&mut self.rows, room) {
+            let coef = row.coef(variable);
+            if coef > 0 {
+                bounds.uppers.push(row)?;
+            } else if coef < 0 {
+                bounds.lowers.push(row)?;
+            } else {
+                self.rows.push(row)?;
+            }
+        }
+        Ok(bounds)
+    }
+
+    /// Puts the least combination of two rows without the variable among the others.
+    pub(crate) fn join(
+        &mut self,
+        alloc: Global,
+        variable: usize,
+        upper: &WorkRow,
+        lower: &WorkRow,
+    ) -> Result<(), Stop> {
+        if self.sums >= self.budget.sums {
+            return Err(Stop::GivenUp);
+        }
+        self.sums += 1;
+        let Some((m, n)) = multipliers(upper.coef(variable), lower.coef(variable)) else {
+            return Err(Stop::GivenUp);
+        };
+        match combine(m, upper, n, lower, self.coefs.as_mut_slice()) {
+            Some(bound) => self.put(
+                alloc,
+                bound,
+                Sum {
+                    divisor: 1,
+                    first: (upper.number, m),
+                    second: Some((lower.number, n)),
+                },
+            ),
+            None => Err(Stop::GivenUp),
+        }
+    }
+
+    // The variable whose removal costs least, None where no row is left that has one.
+    fn cheapest(&self, alloc: Global) -> Result<Option<usize>, AllocError> {
+        let mut tallies = vec![in alloc; Tally::NONE; self.vars]?;
+        for row in &self.rows {
+            for (tally, coef) in tallies.iter_mut().zip(row.coefs.as_slice()) {
+                tally.add(*coef);
+            }
+        }
+        let mut best = None;
+        let mut least = i64::MAX;
+        for (variable, tally) in tallies.iter().enumerate() {
+            if let Some(cost) = tally.cost() {
+                if cost < least {
+                    least = cost;
+                    best = Some(variable);
+                }
+            }
+        }
+        Ok(best)
+    }
+
+    // Removes a variable: each row that bounds it from above is combined with each that bounds it from below.
+    fn eliminate(&mut self, alloc: Global, variable: usize) -> Result<(), Stop> {
+        let bounds = self.take_with(alloc, variable)?;
+        for upper in &bounds.uppers {
+            for lower in &bounds.lowers {
+                self.join(alloc, variable, upper, lower)?;
+            }
+        }
+        self.trail.push(Change::Removed(variable, bounds))?;
+        Ok(())
+    }
+
+    /// Removes the variables one by one, until no row is left.
+    pub(crate) fn remove_all(&mut self, alloc: Global) -> Result<(), Stop> {
+        for _removal in 0..self.vars.saturating_add(1) {
+            if let Some(place) = self.equality() {
+                self.use_equality(alloc, place)?;
+                continue;
+            }
+            match self.cheapest(alloc)? {
+                Some(variable) => self.eliminate(alloc, variable)?,
+                None => return Ok(()),
+            }
+        }
+        Err(Stop::GivenUp)
+    }
+}
