@@ -1,6 +1,7 @@
 -- The moves of a cursor.
 use Rattle.std.proofs.Common.{◌≡◌, ℕ, suc, ◌+◌, ◌-◌, ◌<◌, ℤ, true, List, [], ◌∷◌, length, map, Some, pos, get_or, set, refl, ap, sym, subst, ◌∙◌, arith}
-use Rattle.std.specs.List.{slice_get}
+use Rattle.std.specs.List.{list_all, slice_get}
+use Rattle.std.proofs.lemmas.Bool.{and_from}
 use Rattle.nest_tree.specs.Form.{Form, form_value, is_form}
 use Rattle.nest_tree.specs.Tree.{Constant, do_loop, next}
 use Rattle.nest_tree.specs.Values.{wrapped}
@@ -8,12 +9,14 @@ use Rattle.nest_tree.specs.View.{constant_of, tree_of, statement_of, statements_
 use Rattle.nest_tree.specs.declared.tree.Item.{Item, Loop}
 use Rattle.nest_tree.specs.declared.tree.Nest.{Nest}
 use Rattle.nest_tree.specs.declared.tree.Parameter.{Parameter}
+use Rattle.nest_tree.specs.WellFormed.{is_number_of}
 use Rattle.nest_model.specs.Instances.{head_trips, works_in}
 use Rattle.nest_model.specs.Visits.{stops_in}
 use Rattle.nest_walk.specs.Frames.{head_of, level_of, levels_to, stretch_of}
+use Rattle.nest_walk.specs.InText.{AreInText}
 use Rattle.nest_walk.specs.Paths.{Round, by_number, form_among, rounds_to}
 use Rattle.nest_walk.specs.RoundsOf.{rounds_of}
-use Rattle.nest_walk.specs.Walkable.{is_small_at, is_walkable}
+use Rattle.nest_walk.specs.Walkable.{is_small_at, is_small_head, is_walkable}
 use Rattle.nest_walk.specs.Walks.{Walk, Level, Stretch, enters_but, is_sound, walk_in}
 use Rattle.nest_walk.specs.declared.cursor.Cursor.{Cursor}
 use Rattle.nest_walk.specs.declared.frame.Frame.{Frame}
@@ -22,7 +25,7 @@ use Rattle.nest_walk.proofs.FormValues.{exact}
 use Rattle.nest_walk.proofs.Levels.{levels_to-at, levels_to-put}
 use Rattle.nest_walk.proofs.PathLists.{rounds_to-length}
 use Rattle.nest_walk.proofs.Trees.{statement_of-Loop}
-use Rattle.nest_walk.proofs.WalkMoves.{LoopAt, Passed, are_numbered, loop_facts, passed, Kept, along, entered, again, leaves}
+use Rattle.nest_walk.proofs.WalkMoves.{BodyAt, Kept, LoopAt, Passed, Shortened, again, along, are_numbered, body_at, entered, later_visits, leaves, loop_facts, passed, shortened}
 
 -- the values of named constants
 pub values_are : (params : List Parameter) → map (λ (p : Constant). p.value) (map constant_of params) ≡ map (λ (p : Parameter). p.value) params
@@ -63,7 +66,7 @@ loop_known c nest behind at =
     loop_facts (walk_of c) (rounds_of c.path) (head_of nest) (statements_from nest.items.items)
     (ap (λ s. is_walkable (walk_of c).params (length (rounds_of c.path)) s (by_number (walk_of c).loops (rounds_of c.path))) (sym (statement_of-Loop nest)) ∙ p.walkable)
 
--- the value of one of its bounds
+-- the value of a small form
 pub bound_is : (c : Cursor) (f : Form) (params : List Parameter) (value : ℤ) → params ≡ c.program.now.params.items → is_form f ≡ true →
     is_small_at (walk_of c).params (by_number (walk_of c).loops (rounds_of c.path)) f ≡ true → value ≡ wrapped (form_among f (rounds_of c.path) (map (λ (p : Parameter). p.value) params)) →
     value ≡ form_value f (by_number (walk_of c).loops (rounds_of c.path)) (walk_of c).params
@@ -71,6 +74,13 @@ bound_is c f params value same form small is =
     let shown : map (λ (p : Parameter). p.value) params ≡ (walk_of c).params = ap (map (λ (p : Parameter). p.value)) same ∙ sym (values_are c.program.now.params.items) in
     exact (walk_of c).loops (rounds_of c.path) f (walk_of c).params value (are_numbered (walk_of c) (rounds_of c.path) (levels_of c) (stretch_of c.rest) c.sound) form small
     (is ∙ ap (λ values. wrapped (form_among f (rounds_of c.path) values)) shown)
+
+-- what a loop's trips are computed from
+pub numbers_there : (c : Cursor) → list_all (λ (r : Round). is_number_of (walk_of c).loops r.number) (rounds_of c.path) ≡ true
+numbers_there c = are_numbered (walk_of c) (rounds_of c.path) (levels_of c) (stretch_of c.rest) c.sound
+
+pub head_there : (c : Cursor) (nest : Nest) (behind : List Item) → c.rest.items.now ≡ Loop nest ∷ behind → is_small_head (walk_of c).params (by_number (walk_of c).loops (rounds_of c.path)) (head_of nest) ≡ true
+head_there c nest behind at = let known = loop_known c nest behind at in and_from _ _ (and_from _ _ (and_from _ _ known.first known.last) known.moves) known.step
 
 -- what a cursor is after a move
 abbrev pub KeptBy : Cursor → List Round → List Level → Stretch → Type 0
@@ -130,6 +140,30 @@ module _ (c : Cursor) (depth : ℕ) (f : Frame) (e : c.path.depth ≡ suc (depth
       from (walk_of c) (stretch_of c.rest) rounds levels _ _ _ _ _ (rounds_are c.path depth e) (levels_are c.frames.all c.path.depth depth f e at)
       (along (walk_of c) (innermost c.path depth ∷ outer_rounds c.path depth) (level_of f ∷ levels_to c.frames.all (depth - 1)) (stretch_of c.rest) _ _ _ rounds levels _ r l refl
       (leaves (walk_of c) (innermost c.path depth) (outer_rounds c.path depth) (level_of f) (levels_to c.frames.all (depth - 1)) (stretch_of c.rest) (ap statements_from ends) values inner_sound))
+
+  -- without the later trips
+  pub shortens : (levels : List Level) → levels ≡ record { body = (level_of f).body; later = []; behind = (level_of f).behind } ∷ levels_to c.frames.all (depth - 1) →
+      Shortened (walk_of c) (rounds_of c.path) (levels_of c) (stretch_of c.rest) (later_visits (walk_of c) (innermost c.path depth) (outer_rounds c.path depth) (level_of f)) levels
+  shortens levels l =
+      let walk = walk_of c in
+      let rest = stretch_of c.rest in
+      let inner = innermost c.path depth in
+      let outer = outer_rounds c.path depth in
+      let all = levels_to c.frames.all (depth - 1) in
+      let trips = later_visits walk inner outer (level_of f) in
+      let known = shortened walk inner outer (level_of f) all rest (ap statements_from ends) inner_sound in
+      subst (λ x. Shortened walk x (levels_of c) rest trips levels) (sym (rounds_are c.path depth e))
+      (subst (λ x. Shortened walk (inner ∷ outer) x rest trips levels) (sym (levels_are c.frames.all c.path.depth depth f e at))
+      (subst (λ x. Shortened walk (inner ∷ outer) (level_of f ∷ all) rest trips x) (sym l) known))
+
+  pub body_there : BodyAt (tree_of c.program.now) (walk_of c) (innermost c.path depth) (outer_rounds c.path depth) (level_of f).body (level_of f).later
+  body_there =
+      let tree = tree_of c.program.now in
+      let walk = walk_of c in
+      let rest = stretch_of c.rest in
+      body_at tree walk (innermost c.path depth) (outer_rounds c.path depth) (level_of f) (levels_to c.frames.all (depth - 1)) rest inner_sound
+      (subst (λ x. AreInText tree walk x (level_of f ∷ levels_to c.frames.all (depth - 1)) rest) (rounds_are c.path depth e)
+      (subst (λ x. AreInText tree walk (rounds_of c.path) x rest) (levels_are c.frames.all c.path.depth depth f e at) c.texts))
 
 -- a path with one loop more or less
 pub deeper : (p q : Path) (r : Round) → rounds_of q ≡ r ∷ rounds_of p → q.depth ≡ suc p.depth

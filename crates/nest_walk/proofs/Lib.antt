@@ -20,3 +20,4 @@ pub mod TableParts
 pub mod ByNumberLists
 pub mod TripNumbers
 pub mod PlacedWorks
+pub mod Strips

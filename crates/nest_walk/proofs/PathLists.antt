@@ -1,9 +1,9 @@
 -- The loops of a path, by depth.
-use Rattle.std.proofs.Common.{◌≡◌, ℕ, zero, suc, ◌+◌, ◌-◌, ◌<◌, ◌≤◌, ◌==◌, ℤ, pos, true, List, [], ◌∷◌, ◌++◌, map, length, reverse, replicate, take, drop, set, get_or, add-one, ⊎_elim, if◌then◌else◌, refl, ap, sym, ◌∙◌, arith}
+use Rattle.std.proofs.Common.{◌≡◌, ℕ, zero, suc, ◌+◌, ◌-◌, ◌<◌, ◌≤◌, ◌==◌, ℤ, pos, true, List, [], ◌∷◌, ◌++◌, map, length, reverse, replicate, take, drop, set, get_or, add-one, if◌then◌else◌, refl, ap, sym, ◌∙◌, arith}
 use Rattle.std.specs.List.{list_all}
-use Rattle.std.proofs.lemmas.Bool.{and_parts, cases_lt}
+use Rattle.std.proofs.lemmas.Bool.{and_parts}
 use Rattle.std.proofs.lemmas.Bool.Decides.{Decides-int_eq}
-use Rattle.std.proofs.lemmas.List.{drop-replicate, drop-set-lt, get_or-drop, get_or-replicate, get_or-set_same, get_or-set_other, get_or_past, length-replicate, reverse-append, take_more, take-append-drop, length-drop}
+use Rattle.std.proofs.lemmas.List.{drop-replicate, drop-set-lt, get_or-drop, get_or-set_same, get_or-set_other, reverse-append, take_more, take-append-drop, length-drop}
 use Rattle.nest_tree.proofs.FirstLimits.{at_replicate}
 use Rattle.nest_walk.specs.Places.{numbers_of}
 use Rattle.nest_walk.specs.Paths.{Round, rounds_to, by_depth, origin, value_among, is_zero}

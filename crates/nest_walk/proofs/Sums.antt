@@ -3,7 +3,6 @@ use Rattle.std.proofs.Common.{◌≡◌, ℕ, ◌+◌, ◌<◌, ℤ, ◌+ℤ◌,
 use Rattle.std.proofs.lemmas.Int.{int_wrap-add_left}
 use Rattle.std.proofs.lemmas.List.{at_drop_more}
 use Rattle.std.proofs.Math.IntN.{+ℤ_assoc}
-use Rattle.nest_tree.specs.Form.{dot, numbered}
 use Rattle.nest_tree.specs.Values.{wrapped}
 use Rattle.nest_walk.specs.Paths.{Round, dot_among, value_among}
 

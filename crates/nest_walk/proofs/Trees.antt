@@ -1,10 +1,10 @@
 -- A loop's body as a list and as a row, and statements from one on.
-use Rattle.std.proofs.Common.{◌≡◌, ℕ, ◌+◌, ◌-◌, ◌<◌, Bool, false, not, List, get_or, drop, length, if◌then◌else◌, refl, ap, sym, ◌∙◌}
+use Rattle.std.proofs.Common.{◌≡◌, ℕ, ◌+◌, ◌-◌, ◌<◌, Bool, false, not, List, get_or, drop, length, if◌then◌else◌, ap, sym, ◌∙◌}
 use Rattle.std.specs.Prelude.{slice_index_or}
 use Rattle.std.proofs.lemmas.List.{at_drop_more}
-use Rattle.nest_tree.specs.Tree.{do_loop, next}
-use Rattle.nest_tree.specs.View.{statement_of, statements_of, statements_from}
-use Rattle.nest_tree.specs.declared.tree.Item.{Item, Loop, Loop', Row_of-Item, end_of-Item, more_of-Item, items-the_row-Item, items_hidden-the_row-Item-0}
+use Rattle.nest_tree.specs.Tree.{do_loop}
+use Rattle.nest_tree.specs.View.{statement_of, statements_from}
+use Rattle.nest_tree.specs.declared.tree.Item.{Item, Loop, Loop', Row_of-Item, end_of-Item, items_hidden-the_row-Item-0}
 use Rattle.nest_tree.specs.declared.tree.Nest.{Nest}
 use Rattle.nest_tree.proofs.Rows.{statements_from-row}
 use Rattle.nest_model.specs.Instances.{works_in, works_of}

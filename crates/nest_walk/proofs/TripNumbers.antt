@@ -1,5 +1,5 @@
 -- Trip counts of a program within its limits, and the numbers that they are computed from.
-use Rattle.std.proofs.Common.{◌≡◌, ℕ, zero, suc, ◌+◌, ◌-◌, ◌*◌, ◌/◌, ◌<◌, ◌≤◌, ℤ, pos, negsuc, ◌+ℤ◌, ◌-ℤ◌, ◌*ℤ◌, neg_ℤ, int_le, int_div, nat_lt, Bool, true, false, ◌&&◌, ◌==◌, List, [], ◌∷◌, ◌++◌, map, unsigned_abs, if◌then◌else◌, refl, ap, sym, ◌∙◌, arith}
+use Rattle.std.proofs.Common.{◌≡◌, ℕ, zero, suc, ◌+◌, ◌/◌, ◌<◌, ◌≤◌, ℤ, pos, negsuc, ◌+ℤ◌, ◌-ℤ◌, neg_ℤ, int_div, nat_lt, Bool, true, false, ◌&&◌, List, [], ◌∷◌, map, unsigned_abs, if◌then◌else◌, refl, sym, ◌∙◌, arith}
 use Rattle.std.specs.List.{flat_map, list_all}
 use Rattle.std.proofs.Math.Nat.{div-lt_iff_lt-mul}
 use Rattle.std.proofs.lemmas.Bool.{and_from, and_parts, leb-true, lt-ltb, ltb-true}
@@ -8,14 +8,14 @@ use Rattle.std.proofs.lemmas.List.Folds.{list_all-append}
 use Rattle.nest_tree.specs.Form.{form_value, is_small}
 use Rattle.nest_tree.specs.Layout.{count_of}
 use Rattle.nest_tree.specs.Limits.{IsWithinLimits}
-use Rattle.nest_tree.specs.Tree.{Head, Statement, Statements, do_loop, work, continue, done, next, Tree, param_values}
-use Rattle.nest_tree.specs.WellFormed.{IsWellFormed, Scope, are_good_statements, is_good_head, is_good_statement, is_value, loops_in, names_only, scope_of}
+use Rattle.nest_tree.specs.Tree.{Statement, Statements, do_loop, work, continue, done, next, Tree, param_values}
+use Rattle.nest_tree.specs.WellFormed.{IsWellFormed, Scope, are_good_statements, is_good_statement, is_value, loops_in, names_only, scope_of}
 use Rattle.nest_tree.proofs.Cells.{well_formed_parts}
-use Rattle.nest_tree.proofs.Good.{GoodLoop, good_loop}
+use Rattle.nest_tree.proofs.Good.{good_loop}
 use Rattle.nest_model.specs.Computed.{computed_at, statement_forms}
 use Rattle.nest_model.specs.Instances.{head_trips, no_values, trip_count, with_loop, works_in}
 use Rattle.nest_model.specs.Visits.{Visit, stops_in, visits, visits_in, visits_of}
-use Rattle.nest_model.proofs.Small.{all_small, list_all-flat_map}
+use Rattle.nest_model.proofs.Small.{all_small}
 use Rattle.nest_walk.specs.TripNumbers.{fit_trips, fits_at}
 
 -- a loop's step is small and not 0

@@ -8,12 +8,12 @@ use Rattle.nest_tree.specs.Form.{is_small}
 use Rattle.nest_tree.specs.Tree.{Head, Statement, Statements, do_loop, work, continue, done, next, Tree}
 use Rattle.nest_tree.specs.WellFormed.{is_number_of}
 use Rattle.nest_model.specs.Instances.{head_trips, with_loop, works_in, works_of}
-use Rattle.nest_model.specs.Visits.{Visit, stops_in, stops_of, visits_of, visits_in}
+use Rattle.nest_model.specs.Visits.{Visit, every, stops_in, stops_of, visits_of, visits_in}
 use Rattle.nest_walk.specs.InText.{AreInText}
 use Rattle.nest_walk.specs.Moves.{moves_of, moves_in, stretch_moves, moves_left}
 use Rattle.nest_walk.specs.Paths.{Round, by_number}
 use Rattle.nest_walk.specs.Places.{numbers_of}
-use Rattle.nest_walk.specs.Texts.{IsInText}
+use Rattle.nest_walk.specs.Texts.{IsInText, StandFrom, placed_of, works}
 use Rattle.nest_walk.specs.Walkable.{are_above, is_walkable, are_walkable, is_small_at, is_small_head}
 use Rattle.nest_walk.specs.Walks.{Walk, Stretch, Level, last_place, last_work, stretch_behind, stretch_visits, left, is_numbered, is_sound_stretch, ends_with, is_sound_trip, is_sound}
 use Rattle.nest_walk.proofs.TextMoves.{after_text, body_text, replace_text, rest_text, statement_text}
@@ -297,12 +297,55 @@ leaves walk r rounds l levels rest at values h =
       texts = λ tree text. text.2;
     })
 
+-- the innermost loop without its later trips
+pub record Shortened (walk : Walk) (rounds : List Round) (levels : List Level) (rest : Stretch) (trips : List Visit) (levels' : List Level) : Type 0 where
+  pub sound : is_sound walk rounds levels' rest ≡ true
+  pub left_is : left walk rounds levels rest ≡ trips ++ left walk rounds levels' rest
+  pub texts : (tree : Tree) → AreInText tree walk rounds levels rest → AreInText tree walk rounds levels' rest
+
+abbrev pub later_visits : Walk → Round → List Round → Level → List Visit
+later_visits walk r rounds l = flat_map (λ v. stretch_visits walk l.body (with_loop (by_number walk.loops rounds) r.number v)) l.later
+
+pub shortened : (walk : Walk) (r : Round) (rounds : List Round) (l : Level) (levels : List Level) (rest : Stretch) → rest.statements ≡ done → is_sound walk (r ∷ rounds) (l ∷ levels) rest ≡ true →
+    Shortened walk (r ∷ rounds) (l ∷ levels) rest (later_visits walk r rounds l) (record { body = l.body; later = []; behind = l.behind } ∷ levels)
+shortened walk r rounds l levels rest at h =
+    let i = inside walk r rounds l levels rest h in
+    let trips = later_visits walk r rounds l in
+    let outer = left walk rounds levels (stretch_behind walk l) in
+    let loops = by_number walk.loops (r ∷ rounds) in record {
+      sound = from_inside walk r rounds (record { body = l.body; later = []; behind = l.behind }) levels rest (record { number = i.number; numbered = i.numbered; walkable = i.walkable; ends = i.ends; later = refl; outer = i.outer });
+      left_is = ap (λ all. visits_in walk.params walk.enters all rest.place rest.first loops ++ (trips ++ outer)) at
+          ∙ sym (ap (λ all. trips ++ (visits_in walk.params walk.enters all rest.place rest.first loops ++ outer)) at);
+      texts = λ tree text. text;
+    }
+
+-- the body of the innermost loop
+pub record BodyAt (tree : Tree) (walk : Walk) (r : Round) (rounds : List Round) (body : Stretch) (later : List ℤ) : Type 0 where
+  pub number : is_number_of walk.loops r.number ≡ true
+  pub numbers : list_all (λ (r : Round). is_number_of walk.loops r.number) rounds ≡ true
+  pub few : body.first + works_of body.statements < 2 ^ 32
+  pub small : list_all is_small later ≡ true
+  pub text : StandFrom (works tree) body.first (placed_of every (r.number ∷ numbers_of rounds) body.statements)
+
 pub are_numbered : (walk : Walk) (rounds : List Round) (levels : List Level) (rest : Stretch) → is_sound walk rounds levels rest ≡ true →
     list_all (λ (r : Round). is_number_of walk.loops r.number) rounds ≡ true
 are_numbered walk [] levels rest h = refl
 are_numbered walk (r ∷ rounds) [] rest h = cc
 are_numbered walk (r ∷ rounds) (l ∷ levels) rest h =
     let i = inside walk r rounds l levels rest h in and_from _ _ i.number (are_numbered walk rounds levels (stretch_behind walk l) i.outer)
+
+pub body_at : (tree : Tree) (walk : Walk) (r : Round) (rounds : List Round) (l : Level) (levels : List Level) (rest : Stretch) → is_sound walk (r ∷ rounds) (l ∷ levels) rest ≡ true →
+    AreInText tree walk (r ∷ rounds) (l ∷ levels) rest → BodyAt tree walk r rounds l.body l.later
+body_at tree walk r rounds l levels rest h text =
+    let i = inside walk r rounds l levels rest h in
+    let ends = and_parts (last_place walk rest == last_place walk l.body) (last_work rest == last_work l.body) i.ends in
+    let numbers = and_parts (nat_lt (last_place walk rest) (2 ^ 32)) (nat_lt (last_work rest) (2 ^ 32)) i.numbered in record {
+      number = i.number;
+      numbers = are_numbered walk rounds levels (stretch_behind walk l) i.outer;
+      few = omega (arith, eqb-true (last_work rest) (last_work l.body) ends.1, ltb-true (last_work rest) (2 ^ 32) numbers.1);
+      small = all_small walk rounds r.number l.body.statements l.later i.later;
+      text = text.1.works;
+    }
 
 -- each statement is a move at least
 pub moves_some : (params : List ℤ) (enters : ℕ → Bool) (s : Statement) (loops : List ℤ) → 0 < moves_of params enters s loops

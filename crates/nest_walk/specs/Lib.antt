@@ -17,3 +17,5 @@ pub mod Grown
 pub mod Tables
 pub mod ByNumber
 pub mod TripNumbers
+pub mod OnlyAssignments
+pub mod Strips

@@ -1,10 +1,9 @@
 -- The numbers that a loop's trip count is computed from, where a walk stops.
-use Rattle.std.specs.Prelude.{ℤ, pos, ◌+ℤ◌, ◌-ℤ◌, Bool, true, ◌&&◌, nat_lt, List}
+use Rattle.std.specs.Prelude.{ℤ, ◌+ℤ◌, ◌-ℤ◌, Bool, true, ◌&&◌, nat_lt, List}
 use Rattle.nest_tree.specs.Form.{form_value}
 use Rattle.nest_tree.specs.Tree.{Statement, do_loop, work, continue}
 use Rattle.nest_tree.specs.WellFormed.{is_value}
 use Rattle.nest_model.specs.Instances.{trip_count}
-use Rattle.nest_model.specs.Visits.{Visit}
 
 -- m2 - m1 + m3 has 64 bits, and there are fewer than 2 ^ 32 trips
 abbrev pub fit_trips : ℤ → ℤ → ℤ → Bool

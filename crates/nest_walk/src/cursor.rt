@@ -234,7 +234,13 @@ impl<'a> Cursor<'a> {
 
     // Past a statement, with so many stops and pieces of work in it.
     #[inline(always)]
-    fn advance(&mut self, item: &'a Item, behind: &'a [Item], stops: u32, works: u32) -> Stop<'a>
+    pub(crate) fn advance(
+        &mut self,
+        item: &'a Item,
+        behind: &'a [Item],
+        stops: u32,
+        works: u32,
+    ) -> Stop<'a>
         requires rest { self.old.rest.items.now ≡ item.now ∷ behind.now }
         requires stops { stops ≡ stops_in (enters_but (marks_in self.old)) (statement_of item.now) }
         requires works { works ≡ works_in (statement_of item.now) }
@@ -257,7 +263,7 @@ impl<'a> Cursor<'a> {
     }
 
     // Into a loop that isn't marked, or past it where it has no trip.
-    fn come_to(&mut self, item: &'a Item, nest: &'a Nest, behind: &'a [Item])
+    pub(crate) fn come_to(&mut self, item: &'a Item, nest: &'a Nest, behind: &'a [Item])
         requires rest { self.old.rest.items.now ≡ item.now ∷ behind.now }
         requires nest { item.now ≡ Item.Loop nest.now }
         requires entered { enters_but (marks_in self.old) nest.now.number ≡ true }
@@ -266,9 +272,7 @@ impl<'a> Cursor<'a> {
         ensures program { tree_in self.new ≡ tree_in self.old }
         ensures marks { marks_in self.new ≡ marks_in self.old }
     {
-        let m1 = value_at(&nest.m1, &self.path, &self.program.params);
-        let m2 = value_at(&nest.m2, &self.path, &self.program.params);
-        let trips = Trips::of_loop(m1, m2, nest.step);
+        let trips = Trips::of_nest(self.program, nest, &self.path);
         if trips.is_empty() {
             let stops = stop_count(self.marks, &nest.items);
             let works = work_count(&nest.items);
@@ -308,7 +312,7 @@ impl<'a> Cursor<'a> {
 
     // The next trip of the innermost loop, or past it where it has none; whether there was a loop.
     #[inline(always)]
-    fn turn(&mut self) -> bool
+    pub(crate) fn turn(&mut self) -> bool
         requires { self.old.rest.items.now ≡ [] }
         ensures kept { left_of self.new ≡ left_of self.old }
         ensures end { result ≡ false → left_of self.old ≡ [] }

@@ -1,6 +1,6 @@
 // The instances of a program.
 
-ghost use Rattle.std.specs.Prelude.{◌≡◌, [], ◌∷◌, IfSome, IsTrue, MatchOption};
+ghost use Rattle.std.specs.Prelude.{◌≡◌, [], ◌∷◌, ◌++◌, ◌<◌, IfSome, IsTrue, MatchOption, length};
 ghost use Rattle.std.specs.List.{All, Contains, flat_map};
 ghost use Rattle.nest_tree.specs.Limits.{IsWithinLimits};
 ghost use Rattle.nest_tree.specs.Tree.{param_values};
@@ -13,11 +13,13 @@ ghost use Rattle.nest_walk.specs.Executed.{is_executed_at};
 ghost use Rattle.nest_walk.specs.Frames.{head_of};
 ghost use Rattle.nest_walk.specs.Places.{numbers_of};
 ghost use Rattle.nest_walk.specs.RoundsOf.{rounds_of};
+ghost use Rattle.nest_walk.specs.Strips.{strip_left, strip_tree};
 ghost use Rattle.nest_walk.specs.Texts.{StandFrom, placed_in, works};
 ghost use Rattle.nest_walk.specs.TripsLeft.{trips_left};
 
 use crate::cursor::{Cursor, Stop};
 use crate::path::Path;
+use crate::strip::Strip;
 use crate::trips::Trips;
 use nest_tree::{Item, Nest, Program};
 
@@ -109,6 +111,18 @@ impl<'a> Instances<'a> {
             }
         }
         None
+    }
+
+    /// The trips that are left of a loop round one assignment, where the next instance is the
+    /// first of them: a strip's instances come next, and those behind it are left.
+    #[inline(always)]
+    pub fn strip(&mut self) -> Option<Strip<'a>>
+        ensures instances { MatchOption result (instances_left self.new ≡ instances_left self.old) (λ s. instances_left self.old ≡ strip_left s ++ instances_left self.new) }
+        ensures some { IfSome result (λ s. 0 < length (strip_left s)) }
+        ensures tree { IfSome result (λ s. strip_tree s ≡ instances_tree self.new) }
+        ensures program { instances_tree self.new ≡ instances_tree self.old }
+    {
+        self.cursor.strip()
     }
 
     // Whether the statement of a stop is executed there.

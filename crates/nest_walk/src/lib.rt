@@ -6,6 +6,7 @@
 //!
 //! - [`cursor`]: the walk, stop by stop.
 //! - [`instances`]: the instances, one by one.
+//! - [`strip`]: the trips of a loop round one assignment, at once.
 //! - [`laws`]: the instances as stops.
 //! - [`path`]: the loops round a stop with the values of their DO variables, by depth.
 //! - [`by_number`]: the values of DO variables by the loops' numbers.
@@ -24,6 +25,7 @@ pub mod frame;
 pub mod instances;
 pub mod laws;
 pub mod path;
+pub mod strip;
 pub mod table;
 pub mod trips;
 
@@ -32,5 +34,6 @@ pub use cursor::{Cursor, Stop};
 pub use form::value_at;
 pub use instances::Instances;
 pub use path::{MOST_LOOPS, Path};
+pub use strip::Strip;
 pub use table::{CellTable, LoadCells, WorkCells};
 pub use trips::{Trips, trip_count};

@@ -58,6 +58,14 @@ impl Path {
         self.depth += 1;
     }
 
+    /// The number of the innermost loop.
+    pub fn innermost(&self) -> u32
+        requires { 0 < length (rounds_of self.now) }
+        ensures { (r : Round) (rounds : List Round) → rounds_of self.now ≡ r ∷ rounds → result ≡ r.number }
+    {
+        self.numbers[self.depth - 1]
+    }
+
     /// The innermost loop has another value.
     pub fn set(&mut self, value: i64)
         requires { 0 < length (rounds_of self.old) }

@@ -2,12 +2,22 @@
 
 ghost use Rattle.std.specs.Prelude.{◌≡◌, ◌↔◌, ◌<◌, [], ◌∷◌, length, IsTrue, nat_lt, unsigned_abs};
 ghost use Rattle.std.specs.List.{list_all};
-ghost use Rattle.nest_tree.specs.Form.{is_small};
-ghost use Rattle.nest_model.specs.Instances.{trip_count, trips};
+ghost use Rattle.nest_tree.specs.Form.{form_value, is_small};
+ghost use Rattle.nest_tree.specs.Tree.{param_values};
+ghost use Rattle.nest_tree.specs.View.{tree_of};
+ghost use Rattle.nest_tree.specs.WellFormed.{is_number_of, loops_of};
+ghost use Rattle.nest_model.specs.Instances.{head_trips, trip_count, trips};
+ghost use Rattle.nest_walk.specs.Cursors.{loops_in};
+ghost use Rattle.nest_walk.specs.Frames.{head_of};
+ghost use Rattle.nest_walk.specs.Paths.{Round};
 ghost use Rattle.nest_walk.specs.Progressions.{progression};
+ghost use Rattle.nest_walk.specs.RoundsOf.{rounds_of};
+ghost use Rattle.nest_walk.specs.Walkable.{is_small_head};
 ghost use Rattle.nest_walk.specs.TripsLeft.{trips_left};
 
-use crate::form::with_product;
+use crate::form::{value_at, with_product};
+use crate::path::Path;
+use nest_tree::{Affine, Nest, Program};
 
 /// Values in equal steps, of which so many are left.
 #[derive(Clone, Copy, Debug)]
@@ -41,6 +51,17 @@ impl Trips {
         Trips::new(m1, m3, trip_count(m1, m2, m3))
     }
 
+    /// The trips of a loop of a program, where these loops are round it.
+    pub fn of_nest(program: &Program, nest: &Nest, path: &Path) -> Self
+        requires numbered { IsTrue (list_all (λ (r : Round). is_number_of (loops_of (tree_of program.now).items) r.number) (rounds_of path.now)) }
+        requires head { IsTrue (is_small_head (param_values (tree_of program.now)) (loops_in (tree_of program.now) (rounds_of path.now)) (head_of nest.now)) }
+        ensures { trips_left result ≡ head_trips (param_values (tree_of program.now)) (head_of nest.now) (loops_in (tree_of program.now) (rounds_of path.now)) }
+    {
+        let m1 = small_value(program, &nest.m1, path);
+        let m2 = small_value(program, &nest.m2, path);
+        Trips::of_loop(m1, m2, nest.step)
+    }
+
     /// Whether none is left.
     pub fn is_empty(&self) -> bool
         ensures { IsTrue result ↔ (trips_left self.now ≡ []) }
@@ -59,6 +80,15 @@ impl Trips {
         self.count -= 1;
         value
     }
+}
+
+// The value of a form on a path, where it is small.
+fn small_value(program: &Program, form: &Affine, path: &Path) -> i64
+    requires numbered { IsTrue (list_all (λ (r : Round). is_number_of (loops_of (tree_of program.now).items) r.number) (rounds_of path.now)) }
+    requires small { IsTrue (is_small (form_value form.now (loops_in (tree_of program.now) (rounds_of path.now)) (param_values (tree_of program.now)))) }
+    ensures { result ≡ form_value form.now (loops_in (tree_of program.now) (rounds_of path.now)) (param_values (tree_of program.now)) }
+{
+    value_at(form, path, &program.params)
 }
 
 /// How many trips a DO loop with these bounds and this step makes.

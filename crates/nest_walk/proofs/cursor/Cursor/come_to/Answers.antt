@@ -1,62 +1,23 @@
-use Rattle.std.proofs.Common.{◌≡◌, ◌∷◌, ◌++◌, [], ℤ, List, ap, sym, ◌∙◌, rules, arith, w64, FitsSigned, unsigned_abs, nat_lt, if◌then◌else◌}
-use Rattle.std.proofs.lemmas.Int.{to_z-of_z}
+use Rattle.std.proofs.Common.{◌≡◌, ◌∷◌, ◌++◌, [], ℤ, List, ap, sym, ◌∙◌, arith, if◌then◌else◌}
 use Rattle.std.specs.List.{flat_map}
-use Rattle.nest_tree.specs.Form.{form_value, is_small}
 use Rattle.nest_tree.specs.Tree.{do_loop}
 use Rattle.nest_tree.specs.View.{statement_of, statements_from}
-use Rattle.nest_model.specs.Instances.{head_trips, trips, with_loop, works_in, works_of}
+use Rattle.nest_model.specs.Instances.{head_trips, with_loop, works_in, works_of}
 use Rattle.nest_model.specs.Visits.{Visit, stops_in, stops_of, visits_in, visits_of}
 use Rattle.nest_walk.specs.Cursors.{left_of, moves_to_go}
 use Rattle.nest_walk.specs.Frames.{head_of}
 use Rattle.nest_walk.specs.Paths.{by_number}
 use Rattle.nest_walk.specs.RoundsOf.{rounds_of}
-use Rattle.nest_walk.specs.TripsLeft.{trips_left}
-use Rattle.nest_walk.proofs.CursorMoves.{bound_is, loop_known, passes, walk_of}
+use Rattle.nest_walk.proofs.CursorMoves.{head_there, numbers_there, passes, walk_of}
 use Rattle.nest_walk.proofs.Trees.{statement_of-Loop}
 use Rattle.nest_walk.proofs.cursor.Cursor.come_to.Goals as goal
-use Rattle.nest_walk.proofs.cursor.Cursor.come_to.Goals.{Start, After-of_loop-trips}
+use Rattle.nest_walk.proofs.cursor.Cursor.come_to.Goals.{Start}
 
-pub of_loop-trips-requires-clause-first : goal.of_loop-trips-requires-clause-first
-of_loop-trips-requires-clause-first c =
-    let known = loop_known c.args.self.now c.args.nest.now c.args.behind.now (c.requires.rest ∙ ap (λ i. i ∷ c.args.behind.now) c.requires.nest) in
-    let fits : FitsSigned w64 c.value_at-m1.result = search rules in
-    let value = bound_is c.args.self.now c.args.nest.now.m1 c.deref.result.now c.value_at-m1.result c.deref.ensures.value c.value_at-m1.ensures.form known.first c.value_at-m1.ensures.value in
-    ap is_small (to_z-of_z w64 c.value_at-m1.result fits ∙ value) ∙ known.first
+pub of_nest-trips-requires-clause-numbered : goal.of_nest-trips-requires-clause-numbered
+of_nest-trips-requires-clause-numbered c = numbers_there c.args.self.now
 
-pub of_loop-trips-requires-clause-last : goal.of_loop-trips-requires-clause-last
-of_loop-trips-requires-clause-last c =
-    let known = loop_known c.args.self.now c.args.nest.now c.args.behind.now (c.requires.rest ∙ ap (λ i. i ∷ c.args.behind.now) c.requires.nest) in
-    let fits : FitsSigned w64 c.value_at-m2.result = search rules in
-    let value = bound_is c.args.self.now c.args.nest.now.m2 c.deref-2.result.now c.value_at-m2.result c.deref-2.ensures.value c.value_at-m2.ensures.form known.last c.value_at-m2.ensures.value in
-    ap is_small (to_z-of_z w64 c.value_at-m2.result fits ∙ value) ∙ known.last
-
-pub of_loop-trips-requires-clause-step : goal.of_loop-trips-requires-clause-step
-of_loop-trips-requires-clause-step c =
-    let known = loop_known c.args.self.now c.args.nest.now c.args.behind.now (c.requires.rest ∙ ap (λ i. i ∷ c.args.behind.now) c.requires.nest) in
-    let fits : FitsSigned w64 c.args.nest.now.step = search rules in
-    ap is_small (to_z-of_z w64 c.args.nest.now.step fits) ∙ known.step
-
-pub of_loop-trips-requires-clause-moves : goal.of_loop-trips-requires-clause-moves
-of_loop-trips-requires-clause-moves c =
-    let known = loop_known c.args.self.now c.args.nest.now c.args.behind.now (c.requires.rest ∙ ap (λ i. i ∷ c.args.behind.now) c.requires.nest) in
-    let fits : FitsSigned w64 c.args.nest.now.step = search rules in
-    ap (λ z. nat_lt 0 (unsigned_abs z)) (to_z-of_z w64 c.args.nest.now.step fits) ∙ known.moves
-
--- the trips
-trips_are : (c : After-of_loop-trips) →
-    trips_left c.of_loop-trips.result ≡ head_trips (walk_of c.args.self.now).params (head_of c.args.nest.now) (by_number (walk_of c.args.self.now).loops (rounds_of c.args.self.now.path))
-trips_are c =
-    let old = c.args.self.now in
-    let nest = c.args.nest.now in
-    let known = loop_known old nest c.args.behind.now (c.requires.rest ∙ ap (λ i. i ∷ c.args.behind.now) c.requires.nest) in
-    let loops = by_number (walk_of old).loops (rounds_of old.path) in
-    let f1 : FitsSigned w64 c.value_at-m1.result = search rules in
-    let f2 : FitsSigned w64 c.value_at-m2.result = search rules in
-    let f3 : FitsSigned w64 nest.step = search rules in
-    let first = bound_is old nest.m1 c.deref.result.now c.value_at-m1.result c.deref.ensures.value c.value_at-m1.ensures.form known.first c.value_at-m1.ensures.value in
-    let last = bound_is old nest.m2 c.deref-2.result.now c.value_at-m2.result c.deref-2.ensures.value c.value_at-m2.ensures.form known.last c.value_at-m2.ensures.value in
-    let made = simp to_z-of_z at c.of_loop-trips.ensures in
-    made ∙ ap (λ m1. trips m1 c.value_at-m2.result nest.step) first ∙ ap (λ m2. trips (form_value nest.m1 loops (walk_of old).params) m2 nest.step) last
+pub of_nest-trips-requires-clause-head : goal.of_nest-trips-requires-clause-head
+of_nest-trips-requires-clause-head c = head_there c.args.self.now c.args.nest.now c.args.behind.now (c.requires.rest ∙ ap (λ i. i ∷ c.args.behind.now) c.requires.nest)
 
 -- how many stops and pieces of work there are in the loop
 stops_are : (c : Start) → stops_of (walk_of c.args.self.now).enters (statements_from c.args.nest.now.items.items) ≡ stops_in (walk_of c.args.self.now).enters (statement_of c.args.item.now)
@@ -73,26 +34,26 @@ pub stop_count-stops-requires : goal.stop_count-stops-requires
 stop_count-stops-requires c =
     let k = (goal.at.stop_count-stops-requires c).Start in
     let p = passes c.args.self.now c.args.item.now c.args.behind.now c.requires.rest in
-    rw c.deref-then-is_empty.ensures.value (omega (arith, p.place, stops_are k))
+    rw c.deref.ensures.value (omega (arith, p.place, stops_are k))
 
 pub work_count-works-requires : goal.work_count-works-requires
 work_count-works-requires c =
     let k = (goal.at.work_count-works-requires c).Start in
     let p = passes c.args.self.now c.args.item.now c.args.behind.now c.requires.rest in
-    rw c.deref-then-is_empty-2.ensures.value (omega (arith, p.work, works_are k))
+    rw c.deref-then-is_empty.ensures.value (omega (arith, p.work, works_are k))
 
 pub advance-requires-clause-stops : goal.advance-requires-clause-stops
 advance-requires-clause-stops c =
     let k = (goal.at.advance-requires-clause-stops c).Start in
-    c.stop_count-stops.ensures ∙ ap (λ xs. stops_of (walk_of c.args.self.now).enters (statements_from xs)) c.deref-then-is_empty.ensures.value ∙ stops_are k
+    c.stop_count-stops.ensures ∙ ap (λ xs. stops_of (walk_of c.args.self.now).enters (statements_from xs)) c.deref.ensures.value ∙ stops_are k
 
 pub advance-requires-clause-works : goal.advance-requires-clause-works
 advance-requires-clause-works c =
     let k = (goal.at.advance-requires-clause-works c).Start in
-    c.work_count-works.ensures ∙ ap (λ xs. works_of (statements_from xs)) c.deref-then-is_empty-2.ensures.value ∙ works_are k
+    c.work_count-works.ensures ∙ ap (λ xs. works_of (statements_from xs)) c.deref-then-is_empty.ensures.value ∙ works_are k
 
 pub enter-requires-clause-trips : goal.enter-requires-clause-trips
-enter-requires-clause-trips c = trips_are (goal.at.enter-requires-clause-trips c).After-of_loop-trips
+enter-requires-clause-trips c = c.of_nest-trips.ensures
 
 -- a loop without trips has no stop
 pub returns-then-is_empty-clause-left : goal.returns-then-is_empty-clause-left
@@ -101,7 +62,7 @@ returns-then-is_empty-clause-left c =
     let old = c.args.self.now in
     let nest = c.args.nest.now in
     let loops = by_number (walk_of old).loops (rounds_of old.path) in
-    let none = sym (trips_are (goal.at.returns-then-is_empty-clause-left c).After-of_loop-trips) ∙ c.is_empty.ensures.0 c.if-is_empty.true in
+    let none = sym c.of_nest-trips.ensures ∙ c.is_empty.ensures.0 c.if-is_empty.true in
     let place = c.advance.result.place in
     let first = c.advance.result.first in
     let trip : ℤ → List Visit = λ v. visits_in (walk_of old).params (walk_of old).enters (statements_from nest.items.items) place first (with_loop loops nest.number v) in
