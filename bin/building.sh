@@ -2,8 +2,9 @@
 # What the scripts of this folder share: whether a program is built, and how it is proved and
 # built. It is sourced by a script that has set `root`, the top of the repository, and `say`.
 #
-#   is_built CRATE   no source of the crate, or of a crate below it, is newer than its program
-#   build CRATE      proves and builds it, one builder at a time; 126 where that fails, 127 without rt
+#   is_built CRATE [PROGRAM]   no source of the crate, or of a crate below it, is newer than its
+#                              program, or than this one
+#   build CRATE                proves and builds it, one builder at a time; 126 where that fails, 127 without rt
 
 # shellcheck disable=SC2154  # root is the sourcing script's
 
@@ -30,7 +31,7 @@ add_crate() {
 }
 
 is_built() {
-    local program=$root/crates/$1/out/$1 crate folder sources=("$root/crates.txt") crates
+    local program=${2:-$root/crates/$1/out/$1} crate folder sources=("$root/crates.txt") crates
     [ -f "$program" ] && [ -x "$program" ] || return 1
     crates_of "$1"
     for crate in "${crates[@]}"; do

@@ -1,0 +1,174 @@
+"""Tries what bin/seagrynt tells of refused sources: hints.py [NAME..]
+
+Each pattern and each finder of bin/front/hints.py has a source here that is refused, with a part of
+what is told, and the text below which the caret stands, if one does. The source's lines stand from
+column 7 on where they begin with no blank, digit or `C`; END is added where there is none. The
+program is the one that is built.
+"""
+
+import os
+import re
+import subprocess
+import sys
+from concurrent.futures import ThreadPoolExecutor
+
+ROOT = os.path.dirname(os.path.dirname(os.path.abspath(__file__)))
+sys.dont_write_bytecode = True
+sys.path.insert(0, f"{ROOT}/bin/front")
+import hints  # noqa: E402
+
+# the pattern's name, the source, a part of what is told, what stands above the caret
+CASES = [
+    ("end-do", "DO 10 I = 1, 5|K = I|END DO", "10 CONTINUE", "END DO"),
+    ("end-do", "DO I = 1, 5|K = I|ENDDO", "the label of its last statement", "I = 1, 5"),
+    ("missing_label", "DO I = 1, 5|K = I|   10 CONTINUE", "DO 10 I = 1, N", "I = 1, 5"),
+    ("do-while", "DO WHILE (K .LT. 5)", "no DO WHILE", "DO WHILE"),
+    ("end-if", "ELSE", "an IF of its own", "ELSE"),
+    ("end-if", "END IF", "an IF of its own", "END IF"),
+    ("block-if", "DO 10 I = 1, 5|IF (I .LT. 3) THEN|   10 CONTINUE", "an IF of its own", "THEN"),
+    ("type", "REAL X", "declare INTEGER", "REAL X"),
+    ("type", "DOUBLE PRECISION X(5)", "declare INTEGER", "DOUBLE"),
+    ("implicit", "IMPLICIT NONE", "leave it out", "IMPLICIT"),
+    ("kind", "INTEGER*8 K", "64 bits", "*8"),
+    ("kind", "INTEGER(8) :: K", "64 bits", "(8)"),
+    ("colons", "INTEGER :: N", "leave :: out", "::"),
+    ("colons", "INTEGER, PARAMETER :: N = 4", "PARAMETER (N = 4)", "::"),
+    ("output", "WRITE(*,*) K", "PRINT *,", "WRITE"),
+    ("print", "PRINT 100, K", "no format", "PRINT 100"),
+    ("print", "PRINT K", "a star and a comma", "PRINT K"),
+    ("input", "READ *, K", "no input", "READ"),
+    ("call", "CALL SUB(K)", "no subroutines", "CALL"),
+    ("jump", "GOTO 10", "no jumps", "GOTO"),
+    ("jump", "IF (K .LT. 5) GO TO 10", "no jumps", "GO TO"),
+    ("arithmetic-if", "IF (K) 10, 20, 30", "no jumps", "10, 20"),
+    ("data", "DATA K /5/", "is 0 before", "DATA"),
+    ("comment", "K = 1 ! one", "C or * in column 1", "! one"),
+    ("quotes", 'PRINT *, "K", K', "apostrophes", '"K"'),
+    ("semicolon", "K = 1; L = 2", "one statement", "; L"),
+    ("ampersand", "K = 1 + &|     &2", "column 6", "&"),
+    ("not-equal", "DO 10 I = 1, 5|   10 IF (I .NE. 3) K = I", "two IFs", ".NE."),
+    ("logical", "DO 10 I = 1, 5|   10 IF (I .GT. 3 .AND. I .LT. 5) K = I", "one comparison", ".AND."),
+    ("comparison", "DO 10 I = 1, 5|   10 IF (I > 3) K = I", ".GT.", "> 3"),
+    ("comparison", "DO 10 I = 1, 5|   10 IF (I == 3) K = I", ".EQ.", "=="),
+    ("power", "K = L**2", "K*K", "**2"),
+    ("real", "K = 1.5", "thousandths", "1.5"),
+    ("real", "K = 0.25*L", "thousandths", "0.25"),
+    ("end-name", "K = 1|END PROGRAM X", "END alone", "END PROGRAM"),
+    ("end-name", "END PROGRAM X|END", "END alone", "END PROGRAM"),
+    ("stop", "STOP|K = 1", "directly in front of END", "STOP"),
+    ("underscore", "N_MAX = 5", "letters and digits alone", "N_MAX"),
+    ("bracket", "INTEGER A(5)|A[1] = 0", "( and )", "["),
+    ("sign", "K = 2*-3", "2*(-3)", "-3"),
+    ("assign-twice", "K = L = 1", "are two", "= 1"),
+    ("misspelt", "INTEGR A(5)", "INTEGER is one", "INTEGR"),
+    ("misspelt", "PRIMT *, K", "PRINT is one", "PRIMT"),
+    ("open_text", "PRINT *, 'A", "no second one closes", "'A"),
+    ("functions", "DO 10 I = 1, 5|   10 K = MOD(I, 2)", "I - 2*(I/2)", "MOD"),
+    ("functions", "K = ABS(L)", "MAX(K, -K)", "ABS"),
+    ("parentheses", "INTEGER A(5)|A(1 = 0", "not closed", "(1"),
+    ("parentheses", "K = (L + 1))", "closes none", ")"),
+    ("trailing", "PRINT *, K,", "missing behind ,", ","),
+    ("trailing", "K = L +", "missing behind +", "+"),
+    ("trailing", "PRINT *, K,, L", "missing in front of ,", ", L"),
+    ("out_of_order", "K = 1|INTEGER A(5)", "declarations come first", "INTEGER"),
+    ("long_name", "KILOGRAM = 1", "at most 6", "KILOGRAM"),
+    ("long_name", "INTEGER DENSITY(5)", "at most 6", "DENSITY"),
+    ("short_minimum", "K = MIN(3)", "two values or more", "MIN"),
+    ("gone_on", "INTEGER A(5)|     K = 1", "column 6 of this line", "K = 1"),
+    ("no_array", "K = L(1)", "INTEGER L(N)", "L(1)"),
+    ("no_constant", "INTEGER A(M)", "PARAMETER (M = 8)", "M)"),
+    ("no_constant", "PARAMETER (N = 1)|N = 2", "nothing can be stored", "N = 2"),
+    ("no_integer", "K = X + 1", "add INTEGER X", "X +"),
+    ("no_integer", "TEMP = 1", "add INTEGER TEMP", "TEMP"),
+    ("loop_variable", "DO 10 I = 1, 3|   10 CONTINUE|K = I", "the DO in line 1", "I"),
+    ("loop_variable", "DO 10 I = 1, 3|   10 I = 2", "stored nowhere", "I = 2"),
+    ("subscript_count", "INTEGER A(2,2)|A(1) = 0", "2 dimensions, and 1 subscript here", "A(1)"),
+    ("divisor", "K = 1/L", "the divisor L is no constant", "L"),
+    ("divisor", "PARAMETER (N = 1)|K = 1/(N - 1)", "(N-1) is 0", "(N - 1)"),
+    ("step", "DO 10 I = 1, 9, 2 - 2|   10 CONTINUE", "the step is 0", "2 - 2"),
+    ("step", "DO 10 I = 1, 9, K|   10 CONTINUE", "a step is a constant", "K"),
+    ("not_affine", "INTEGER A(5), IDX(5)|DO 10 I = 1, 5|   10 A(IDX(I)) = I", "IDX is an element", "IDX(I)"),
+    ("not_affine", "INTEGER A(5)|A(K) = 1", "K is a variable whose value may change", "K)"),
+    ("not_affine", "IF (K .EQ. 1) L = 2", "a comparison is of sums", "K .EQ."),
+    ("not_affine", "DO 10 I = 1, K|   10 L = I", "a DO's bounds", "K"),
+    ("twice_labelled", "   10 K = 1|   10 L = 2", "stands in line 1 already", None),
+    ("open_loop", "DO 10 I = 1, 3|K = I", "the loop of line 1, DO 10, is open", None),
+    ("ends_here", "DO 10 I = 1, 3|DO 20 J = 1, 3|   10 CONTINUE|   20 CONTINUE", "the loop of line 2, DO 20,", None),
+    ("range", "INTEGER A(8)|DO 10 I = 1, 8|   10 A(I+1) = I", "comes to 9", "I+1"),
+    ("range", "INTEGER A(8), B(9)|A(0) = B(9)", "comes to 0", "0)"),
+    ("missing_end", "K = 1|CEND", "END, in columns 7 to 72", None),
+    ("tab", "\tK = 1", "this is a tab", "^I"),
+    ("byte", "K = 1 \x80", "no character", "?"),
+    ("comment-line", "! one", "C or * in column 1", "! one"),
+    ("zero-label", "    0 K = 1", "1 to 99999", "0 K"),
+    ("free-form", "@program heat", "begins in column 7", "program"),
+    ("free-form", "@  k = 1", "begins in column 7", "k = 1"),
+    ("free-form", "@    K = 1", "begins in column 7", "K = 1"),
+    ("free-form", "@     K = 1", "begins in column 7", "K = 1"),
+    ("label-place", "K = 1|@    15 K = 2", "a label ends in column 5", "15 K"),
+    ("glued-plan", "K = 1|ENDSPMD PLAN 2|@WORKERS 2", "has no line end", "SPMD PLAN"),
+    ("plan-behind", "K = 1|END|@SPMD PLAN 2", "verify", "SPMD PLAN"),
+    ("unit-behind", "K = 1|END|SUBROUTINE S", "no subroutines", "SUBROUTINE"),
+]
+
+
+def source_of(text):
+    lines = []
+    for line in text.split("|"):
+        if line.startswith("@"):
+            lines.append(line[1:])
+        elif line[0] in " \t" or line == "CEND" or line[0] == "!":
+            lines.append(line)
+        else:
+            lines.append("      " + line)
+    if not any(it.startswith(("      END|", "CEND", "      ENDSPMD")) or it == "      END" for it in lines):
+        lines += [] if "END PROGRAM" in lines[-1] else ["      END"]
+    return "\n".join(lines) + "\n"
+
+
+def told(text):
+    """What is told of a source, line by line."""
+    done = subprocess.run(
+        [f"{ROOT}/bin/seagrynt", "seq"],
+        input=source_of(text).encode("latin-1"),
+        capture_output=True,
+        timeout=60,
+        env={**os.environ, "SEAGRYNT_UNPROVED": "no"},
+    )
+    return done.returncode, done.stderr.decode("latin-1").split("\n")
+
+
+def fault_in(name, text, said, below):
+    """What is wrong with what is told of a source, or None."""
+    status, lines = told(text)
+    if status != 1:
+        return f"status {status} instead of 1"
+    if said not in lines[0]:
+        return f"{said!r} is not told"
+    carets = [k for k, it in enumerate(lines) if re.fullmatch(r"seagrynt: +\^", it)]
+    if below is None:
+        return "a caret is shown" if carets else None
+    if not carets:
+        return "no caret is shown"
+    return None if lines[carets[0] - 1][len(lines[carets[0]]) - 1 :].startswith(below) else f"the caret is not below {below!r}"
+
+
+def main(names):
+    failed = 0
+    cases = [it for it in CASES if not names or it[0] in names]
+    with ThreadPoolExecutor(4) as runners:
+        faults = list(runners.map(lambda it: fault_in(*it), cases))
+    for (name, text, _, _), fault in zip(cases, faults):
+        if fault:
+            failed += 1
+            print(f"{name}: {fault}: {source_of(text)!r}", *told(text)[1], sep="\n  ")
+    known = {it[0] for it in [*hints.LINES, *hints.PATTERNS, *hints.FINDERS]}
+    for name in sorted(known - {it[0] for it in CASES}):
+        failed += 1
+        print(f"{name}: no source tries it")
+    print(f"{len(CASES)} sources, {failed} faults")
+    return 1 if failed else 0
+
+
+if __name__ == "__main__":
+    sys.exit(main(sys.argv[1:]))
