@@ -16,14 +16,15 @@ use Rattle.sync_plan.specs.declared.plan.Plan.{Plan}
 use Rattle.spmd_model.specs.Planned.{machine_of}
 use Rattle.spmd_model.specs.States.{State, first_state}
 use Rattle.spmd_machine.specs.Machines.{IsReached}
-use Rattle.spmd_machine.specs.Processors.{IsFresh, IsIdle, IsKept, all_of, is_turn_inside, left_of, position_of, room_of, state_of, turn_room, widths}
-use Rattle.spmd_machine.specs.Rooms.{longest_output}
-use Rattle.spmd_machine.specs.Turns.{turn_deeds, turns_from}
-use Rattle.spmd_machine.specs.TurnsLeft.{turns_left}
+use Rattle.spmd_machine.specs.Processors.{IsFresh, IsIdle, IsKept, all_of, left_of, position_of, room_of, state_of}
+use Rattle.spmd_turns.specs.Rooms.{longest_output, turn_room}
+use Rattle.spmd_turns.specs.Turns.{is_turn_inside, turn_deeds, turns_from}
+use Rattle.spmd_turns.specs.TurnsLeft.{turns_left}
 use Rattle.spmd_machine.specs.declared.processor.Processor.{Processor}
-use Rattle.spmd_machine.proofs.Kept.{AreWide, idle_begun, left_idle}
-use Rattle.spmd_machine.proofs.PhaseSums.{all_inside, rooms_below}
-use Rattle.spmd_machine.proofs.TurnDeeds.{turns_do}
+use Rattle.spmd_machine.proofs.Kept.{idle_begun, left_idle}
+use Rattle.spmd_turns.proofs.PhaseSums.{all_inside, rooms_below}
+use Rattle.spmd_turns.proofs.TurnDeeds.{turns_do}
+use Rattle.spmd_turns.specs.Loads.{widths, AreWide}
 
 pub pushed_all : {X : Type 0} (P : ℕ → X → Type 0) (xs ys : List X) (x : X) (n : ℕ) → length xs ≡ n → ys ≡ xs ++ x ∷ [] → ((p : ℕ) (d : X) → p < length xs → P p (get_or xs p d)) → P n x →
     (p : ℕ) (d : X) → p < length ys → P p (get_or ys p d)

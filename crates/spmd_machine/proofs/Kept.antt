@@ -10,16 +10,14 @@ use Rattle.nest_walk.specs.declared.table.LoadCells.{LoadCells}
 use Rattle.nest_walk.specs.declared.table.WorkCells.{WorkCells}
 use Rattle.sync_plan.specs.declared.plan.Plan.{Plan}
 use Rattle.spmd_model.specs.Deeds.{Deed, awaiting}
-use Rattle.spmd_machine.specs.Processors.{IsBegun, IsIdle, IsKept, PassesTurn, all_of, is_turn_inside, left_of, room_of, turn_room, width, widths}
-use Rattle.spmd_machine.specs.Turns.{Turn, posts, awaits, works, turn_deeds}
-use Rattle.spmd_machine.specs.TurnsLeft.{AreSound, at_turn, turns_left, turns_plan, turns_processor, turns_tree}
+use Rattle.spmd_machine.specs.Processors.{IsBegun, IsIdle, IsKept, PassesTurn, all_of, left_of, room_of}
+use Rattle.spmd_turns.specs.Turns.{Turn, awaits, is_turn_inside, posts, turn_deeds, works}
+use Rattle.spmd_turns.specs.TurnsLeft.{AreSound, at_turn, turns_left, turns_plan, turns_processor, turns_tree}
 use Rattle.spmd_machine.specs.declared.processor.Processor.{Processor}
-use Rattle.spmd_machine.specs.declared.turns.Turns.{Turns}
+use Rattle.spmd_turns.specs.declared.turns.Turns.{Turns}
 use Rattle.spmd_machine.proofs.Suffixes.{suffix_at, suffix_rest}
-
--- every load of a table gives a value
-abbrev pub AreWide : List WorkCells → Type 0
-AreWide entries = (n k : ℕ) (cells : WorkCells) (l : LoadCells) → slice_get entries n ≡ Some cells → slice_get cells.loads.items k ≡ Some l → 0 < width l
+use Rattle.spmd_turns.specs.Rooms.{turn_room}
+use Rattle.spmd_turns.specs.Loads.{AreWide, widths}
 
 no_loads : (loads : List LoadCells) → slice_get loads 0 ≡ None → widths loads ≡ 0
 no_loads [] h = refl

@@ -37,17 +37,18 @@ use Rattle.seq_meaning.proofs.Found.{Found}
 use Rattle.seq_meaning.proofs.RunSteps.{assign_same, assign_valued, items_loads-length, numbered_more, placed-good, same_work, store_within, texts_same, texts_there}
 use Rattle.spmd_model.specs.Deeds.{last_deed, printing, storing}
 use Rattle.spmd_machine.specs.Machines.{AreLoadsDone, ComesNext, IsReady, StepsTo, plan_in, tree_in}
-use Rattle.spmd_machine.specs.Processors.{IsKept, PassesTurn, left_of, room_of, turn_room}
-use Rattle.spmd_machine.specs.Turns.{Turn, works}
-use Rattle.spmd_machine.specs.TurnsLeft.{turns_left, turns_path}
+use Rattle.spmd_machine.specs.Processors.{IsKept, PassesTurn, left_of, room_of}
+use Rattle.spmd_turns.specs.Turns.{Turn, works}
+use Rattle.spmd_turns.specs.TurnsLeft.{turns_left, turns_path}
 use Rattle.spmd_machine.specs.declared.answer.StepAnswer.TheVariants.{Stepped}
 use Rattle.spmd_machine.specs.declared.machine.Machine.{Machine}
 use Rattle.spmd_machine.specs.declared.processor.Processor.{Processor}
-use Rattle.spmd_machine.specs.declared.turns.Next.TheVariants.{Work as Working}
+use Rattle.spmd_turns.specs.declared.turns.Next.TheVariants.{Work as Working}
 use Rattle.spmd_machine.proofs.Kept.{first_is, passed_kept, picked, room_passed}
 use Rattle.spmd_machine.proofs.LoadSteps.{high, inst, kept, low, rest, turns_are}
 use Rattle.spmd_machine.proofs.Ready.{kept_here, steps}
 use Rattle.spmd_machine.proofs.Steps.{registers_read, same_counters}
+use Rattle.spmd_turns.specs.Rooms.{turn_room}
 use Rattle.spmd_machine.proofs.Works as here
 
 nothing_in : {X : Type 0} (xs : List X) → length xs ≡ 0 → xs ≡ []

@@ -1,17 +1,11 @@
-mod TurnLists
-mod TurnDeeds
 mod Suffixes
 mod Steps
 mod Kept
 mod Ready
 mod Awaited
-mod LoadPlaces
 mod Works
 mod LoadSteps
 mod LastSteps
 mod Rounds
 mod Sequential
-mod TableLoads
-mod Silent
-mod PhaseSums
 mod Fresh

@@ -12,18 +12,19 @@ use Rattle.nest_walk.specs.declared.table.LoadCells.{LoadCells}
 use Rattle.nest_walk.specs.declared.table.WorkCells.{WorkCells}
 use Rattle.spmd_model.specs.Deeds.{loading}
 use Rattle.spmd_machine.specs.Machines.{AreLoadsLeft, ComesNext, IsReady, StepsTo, plan_in, tree_in}
-use Rattle.spmd_machine.specs.Processors.{IsBegun, IsKept, IsLoading, all_of, cell_of_load, left_of, room_of}
-use Rattle.spmd_machine.specs.Turns.{Turn, works}
-use Rattle.spmd_machine.specs.TurnsLeft.{IsInstance, turns_left, turns_rounds, turns_tree}
+use Rattle.spmd_machine.specs.Processors.{IsBegun, IsKept, all_of, left_of, room_of}
+use Rattle.spmd_turns.specs.Turns.{Turn, works}
+use Rattle.spmd_turns.specs.TurnsLeft.{IsInstance, turns_left, turns_rounds, turns_tree}
 use Rattle.spmd_machine.specs.declared.answer.StepAnswer.TheVariants.{Stepped}
 use Rattle.spmd_machine.specs.declared.machine.Machine.{Machine}
 use Rattle.spmd_machine.specs.declared.processor.Processor.{Processor}
-use Rattle.spmd_machine.specs.declared.turns.Next.TheVariants.{Work}
+use Rattle.spmd_turns.specs.declared.turns.Next.TheVariants.{Work}
 use Rattle.spmd_machine.proofs.Kept.{same_room}
 use Rattle.spmd_machine.proofs.Ready.{kept_here, next_here, steps}
 use Rattle.spmd_machine.proofs.Steps.{registers_read, same_counters}
 use Rattle.spmd_machine.proofs.Suffixes.{suffix_rest}
 use Rattle.spmd_machine.proofs.Works.{begun_here, instance_is, left_load, load_below, load_inside}
+use Rattle.spmd_turns.specs.Loads.{IsLoading, cell_of_load}
 use Rattle.spmd_machine.proofs.Works as here
 
 module _ (m : Machine) (ready : IsReady m) (p : ℕ) (x : Processor) (lt : p < length m.processors.items) (read : x ≡ get_or m.processors.items p x) (stop : Stop) (next : ComesNext m p (Work stop)) where

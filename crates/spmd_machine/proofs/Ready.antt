@@ -14,12 +14,12 @@ use Rattle.spmd_model.specs.States.{State, first_state, stepped}
 use Rattle.spmd_model.specs.Timelines as Timelines
 use Rattle.spmd_machine.specs.Machines.{ComesNext, IsAtNext, IsReached, IsReady, StepsTo, model_of, plan_in, shown, step_answer, tree_in}
 use Rattle.spmd_machine.specs.Processors.{IsKept, left_of, room_of}
-use Rattle.spmd_machine.specs.TurnsLeft.{turns_processor}
+use Rattle.spmd_turns.specs.TurnsLeft.{turns_processor}
 use Rattle.spmd_machine.specs.declared.answer.StepAnswer.TheVariants.{Stepped, Ended}
 use Rattle.spmd_machine.specs.declared.machine.Machine.{Machine}
 use Rattle.spmd_machine.specs.declared.processor.Processor.{Processor}
-use Rattle.spmd_machine.specs.declared.turns.Next.{Next}
-use Rattle.spmd_machine.specs.declared.turns.Next.TheVariants.{End}
+use Rattle.spmd_turns.specs.declared.turns.Next.{Next}
+use Rattle.spmd_turns.specs.declared.turns.Next.TheVariants.{End}
 use Rattle.spmd_machine.proofs.Kept.{end_idle, picked, written_all}
 use Rattle.spmd_machine.proofs.Steps.{Does, done_state, ended_answer, ended_state, still_state, stepped_answer}
 

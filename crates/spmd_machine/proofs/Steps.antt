@@ -14,7 +14,7 @@ use Rattle.spmd_model.specs.Timelines.{Act, post, await, load, store, print, act
 use Rattle.spmd_model.proofs.Deeds.{acted_is, plan_deeds, possible_is}
 use Rattle.spmd_machine.specs.Machines.{answer_at, step_answer}
 use Rattle.spmd_machine.specs.Processors.{IsKept, all_of, left_of, position_of, state_of}
-use Rattle.spmd_machine.specs.TurnsLeft.{turns_processor}
+use Rattle.spmd_turns.specs.TurnsLeft.{turns_processor}
 use Rattle.spmd_machine.specs.declared.answer.StepAnswer.TheVariants.{Stepped, Blocked, Ended}
 use Rattle.spmd_machine.specs.declared.processor.Processor.{Processor}
 use Rattle.spmd_machine.proofs.Suffixes.{MappedFrom, head, head-cons, head-nil, mapped_from, mapped_none, place_more, slice_get-left}

@@ -32,13 +32,14 @@ use Rattle.seq_meaning.proofs.RunInstances.{placed_work}
 use Rattle.seq_meaning.proofs.RunSteps.{placed-found, placed-high, placed-low, same_work}
 use Rattle.spmd_model.specs.Deeds.{Deed, last_deed, loading}
 use Rattle.spmd_machine.specs.Machines.{IsReady, plan_in, tree_in}
-use Rattle.spmd_machine.specs.Processors.{IsBegun, IsKept, IsLoading, cell_of_load, is_turn_inside, left_of, widths}
-use Rattle.spmd_machine.specs.Turns.{Turn, turn_deeds, works}
-use Rattle.spmd_machine.specs.TurnsLeft.{IsInstance, turns_left, turns_path, turns_rounds, turns_tree}
+use Rattle.spmd_machine.specs.Processors.{IsBegun, IsKept, left_of}
+use Rattle.spmd_turns.specs.Turns.{Turn, is_turn_inside, turn_deeds, works}
+use Rattle.spmd_turns.specs.TurnsLeft.{IsInstance, turns_left, turns_path, turns_rounds, turns_tree}
 use Rattle.spmd_machine.specs.declared.machine.Machine.{Machine}
 use Rattle.spmd_machine.specs.declared.processor.Processor.{Processor}
-use Rattle.spmd_machine.proofs.LoadPlaces.{cells-widths, drop_there, loading_below, loading_cell, loading_within}
+use Rattle.spmd_turns.proofs.LoadPlaces.{cells-widths, drop_there, loading_below, loading_cell, loading_within}
 use Rattle.sync_plan.proofs.Gets.{get-front}
+use Rattle.spmd_turns.specs.Loads.{IsLoading, cell_of_load, widths}
 
 -- what is left of an instance of which so many loads are done
 load_first : (f : ℕ → Deed) (cells : List ℕ) (behind : List Deed) (n cell : ℕ) → slice_get cells n ≡ Some cell → drop n (map f cells ++ behind) ≡ f cell ∷ drop (suc n) (map f cells ++ behind)

@@ -14,14 +14,15 @@ use Rattle.spmd_model.specs.Planned.{machine_of}
 use Rattle.spmd_model.specs.States.{State, next_act, run_of, stepped}
 use Rattle.spmd_model.specs.Timelines as Timelines
 use Rattle.spmd_model.specs.Timelines.{Act, post, await, load, store, print}
-use Rattle.spmd_machine.specs.Processors.{IsKept, room_of, state_of, width}
-use Rattle.spmd_machine.specs.TurnsLeft.{IsNext, at_turn, turns_left}
+use Rattle.spmd_machine.specs.Processors.{IsKept, room_of, state_of}
+use Rattle.spmd_turns.specs.TurnsLeft.{IsNext, at_turn, turns_left}
 use Rattle.spmd_machine.specs.declared.answer.StepAnswer.{StepAnswer}
 use Rattle.spmd_machine.specs.declared.answer.StepAnswer.TheVariants.{Stepped, Blocked, Ended}
 use Rattle.spmd_machine.specs.declared.machine.Machine.{Machine}
 use Rattle.spmd_machine.specs.declared.processor.Processor.{Processor}
-use Rattle.spmd_machine.specs.declared.turns.Next.{Next}
-use Rattle.spmd_machine.specs.declared.turns.Turns.{Turns}
+use Rattle.spmd_turns.specs.declared.turns.Next.{Next}
+use Rattle.spmd_turns.specs.declared.turns.Turns.{Turns}
+use Rattle.spmd_turns.specs.Loads.{width}
 
 abbrev pub tree_in : Machine → Tree
 tree_in m = tree_of m.program.now

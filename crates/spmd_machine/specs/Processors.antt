@@ -1,20 +1,16 @@
 -- What a processor of the machine shows, and what it keeps.
-use Rattle.std.specs.Prelude.{ℕ, ◌+◌, ◌-◌, ◌≡◌, ◌≤◌, ◌<◌, ℤ, Bool, true, List, [], ◌∷◌, ◌++◌, drop, take, length, map, Some, None, slice_get, slice_index_or, sum_by, vec_capacity}
+use Rattle.std.specs.Prelude.{ℕ, ◌-◌, ◌≡◌, ◌≤◌, ◌<◌, ℤ, true, List, [], ◌∷◌, ◌++◌, drop, length, map, Some, slice_get, slice_index_or, sum_by, vec_capacity}
 use Rattle.std.specs.List.{flat_map, list_all}
 use Rattle.nest_tree.specs.Tree.{Tree}
-use Rattle.nest_model.specs.Ranges.{is_instance_inside}
-use Rattle.nest_walk.specs.CellForms.{cell_at}
-use Rattle.nest_walk.specs.declared.table.LoadCells.{LoadCells}
-use Rattle.nest_walk.specs.declared.table.LoadCells.TheVariants.{Element, Array}
 use Rattle.nest_walk.specs.declared.table.WorkCells.{WorkCells}
 use Rattle.owner_partition.specs.Phases.{phases}
-use Rattle.seq_meaning.specs.Room.{longest_line}
 use Rattle.sync_plan.specs.declared.plan.Plan.{Plan}
 use Rattle.spmd_model.specs.Deeds.{Deed, deeds_from}
 use Rattle.spmd_model.specs.States.{State}
-pub use Rattle.spmd_machine.specs.Widths.{width, widths}
-use Rattle.spmd_machine.specs.Turns.{Turn, posts, awaits, works, turn_deeds, turns_from}
-use Rattle.spmd_machine.specs.TurnsLeft.{AreSound, turns_left, turns_plan, turns_processor, turns_tree}
+use Rattle.spmd_turns.specs.Loads.{IsLoading, widths}
+use Rattle.spmd_turns.specs.Rooms.{turn_room}
+use Rattle.spmd_turns.specs.Turns.{Turn, is_turn_inside, posts, awaits, works, turn_deeds, turns_from}
+use Rattle.spmd_turns.specs.TurnsLeft.{AreSound, turns_left, turns_plan, turns_processor, turns_tree}
 use Rattle.spmd_machine.specs.declared.processor.Processor.{Processor}
 
 -- all that a processor does, and what it has left
@@ -38,17 +34,6 @@ state_of tree plan processors memory output = record {
   output = output;
 }
 
--- the cell of a load whose elements up to this one are loaded, where the loops have these values by depth
-abbrev pub cell_of_load : List ℤ → LoadCells → ℕ → ℕ
-cell_of_load values (Element form) element = cell_at form values
-cell_of_load values (Array first count) element = first + element
-
--- so many values are loaded where this load comes next and so many of its elements are loaded
-pub record IsLoading (loads : List LoadCells) (done load element : ℕ) : Type 0 where
-  pub counted : widths (take load loads) + element ≡ done
-  pub within : (l : LoadCells) → slice_get loads load ≡ Some l → element < width l
-  pub over : slice_get loads load ≡ None → widths loads ≡ done
-
 -- nothing is loaded
 pub record IsIdle (done load element : ℕ) : Type 0 where
   pub none_done : done ≡ 0
@@ -61,18 +46,6 @@ IsBegun entries [] done load element = IsIdle done load element
 IsBegun entries (posts number ∷ rest) done load element = IsIdle done load element
 IsBegun entries (awaits on wanted ∷ rest) done load element = IsIdle done load element
 IsBegun entries (works i ∷ rest) done load element = (cells : WorkCells) → slice_get entries (i.statement - 1) ≡ Some cells → IsLoading cells.loads.items done load element
-
--- each access of an instance that is left is in range
-abbrev pub is_turn_inside : Tree → Turn → Bool
-is_turn_inside tree (posts number) = true
-is_turn_inside tree (awaits on wanted) = true
-is_turn_inside tree (works i) = is_instance_inside tree i
-
--- how many bytes the turns that are left can print at most
-abbrev pub turn_room : Tree → Turn → ℕ
-turn_room tree (posts number) = 0
-turn_room tree (awaits on wanted) = 0
-turn_room tree (works i) = longest_line tree i.what
 
 unfoldable pub room_of : Tree → Processor → ℕ
 room_of tree x = sum_by (turn_room tree) (turns_left x.turns)

@@ -9,12 +9,11 @@ ghost use Rattle.sync_plan.specs.Fit.{IsFit};
 ghost use Rattle.spmd_machine.specs.Processors.{AreFresh};
 
 use crate::answer::StepAnswer;
-use crate::processor::{Processor, width};
-use crate::room::{longest_output, most_loads, open_printing};
-use crate::turns::{Next, Turns};
+use crate::processor::Processor;
 use nest_tree::{Expr, Item, PrintItem, Program};
 use nest_walk::{CellTable, Stop};
 use seq_meaning::{Given, Output, eval};
+use spmd_turns::{Next, Turns, longest_output, most_loads, open_printing, width};
 use std::alloc::{AllocError, Global};
 use sync_plan::Plan;
 

@@ -1,10 +1,9 @@
 // A processor of the machine.
 
 ghost use Rattle.std.specs.Prelude.{◌≡◌};
-ghost use Rattle.spmd_machine.specs.Widths.{width};
 
-use crate::turns::Turns;
 use nest_walk::LoadCells;
+use spmd_turns::Turns;
 
 /// The turns that a processor has left, what the loads of the instance that has begun gave, the
 /// load of it that comes next with how many of its elements are loaded, and the counter.
@@ -20,9 +19,10 @@ pub(crate) struct Processor<'a> {
 impl Processor<'_> {
     ghost use Rattle.std.specs.Prelude.{true};
     ghost use Rattle.nest_walk.specs.Paths.{by_depth};
-    ghost use Rattle.spmd_machine.specs.Processors.{PassesTurn, cell_of_load};
-    ghost use Rattle.spmd_machine.specs.Turns.{Turn};
-    ghost use Rattle.spmd_machine.specs.TurnsLeft.{AreSound, at_turn, turns_rounds};
+    ghost use Rattle.spmd_machine.specs.Processors.{PassesTurn};
+    ghost use Rattle.spmd_turns.specs.Turns.{Turn};
+    ghost use Rattle.spmd_turns.specs.TurnsLeft.{AreSound, at_turn, turns_rounds};
+    ghost use Rattle.spmd_turns.specs.Loads.{cell_of_load};
 
     // The cell that comes next of a load.
     pub(crate) fn cell_of(&self, load: &LoadCells) -> usize
@@ -45,15 +45,5 @@ impl Processor<'_> {
         self.load = 0;
         self.element = 0;
         self.turns.pass();
-    }
-}
-
-// How many values a load gives.
-pub(crate) fn width(load: &LoadCells) -> u32
-    ensures { result ≡ width load.now }
-{
-    match load {
-        LoadCells::Element(_) => 1,
-        LoadCells::Array { count, .. } => *count,
     }
 }

@@ -6,10 +6,10 @@ use Rattle.nest_walk.specs.Tables.{entries}
 use Rattle.spmd_model.specs.Deeds.{awaiting}
 use Rattle.spmd_machine.specs.Machines.{shown}
 use Rattle.spmd_machine.specs.Processors.{PassesTurn}
-use Rattle.spmd_machine.specs.Turns.{awaits, turn_deeds}
-use Rattle.spmd_machine.specs.TurnsLeft.{turns_left, turns_tree}
+use Rattle.spmd_turns.specs.Turns.{awaits, turn_deeds}
+use Rattle.spmd_turns.specs.TurnsLeft.{turns_left, turns_tree}
 use Rattle.spmd_machine.specs.declared.processor.Processor.{Processor}
-use Rattle.spmd_machine.specs.declared.turns.Next.TheVariants.{Await}
+use Rattle.spmd_turns.specs.declared.turns.Next.TheVariants.{Await}
 use Rattle.spmd_machine.proofs.Awaited.{awaits_processor, counter_read}
 use Rattle.spmd_machine.proofs.Kept.{await_idle, await_left, first_is, left_turn, passed_kept, picked, room_passed}
 use Rattle.spmd_machine.proofs.Ready.{kept_here, next_here, steps}

@@ -1,7 +1,7 @@
 use Rattle.std.proofs.Common.{◌≡◌, length, ◌+◌, ◌-◌, ◌∷◌, ◌++◌, [], ◌≢◌, w64, FitsSigned, to_z, of_z, if◌then◌else◌, ap, sym, ◌∙◌, arith, rules}
 use Rattle.std.proofs.lemmas.Int.{to_z-of_z}
-use Rattle.spmd_machine.specs.Widths.{width}
-use Rattle.spmd_machine.proofs.LoadPlaces.{loading_more, loading_next}
+use Rattle.spmd_turns.specs.Loads.{width}
+use Rattle.spmd_turns.proofs.LoadPlaces.{loading_more, loading_next}
 use Rattle.spmd_machine.proofs.LoadSteps.{high, inside, load_steps, load_there, loading_here, low, room_left, value_read}
 use Rattle.spmd_machine.proofs.machine.Machine.load.Goals as goal
 

@@ -12,11 +12,11 @@ use Rattle.nest_walk.specs.declared.table.WorkCells.{WorkCells}
 use Rattle.nest_walk.proofs.CellPlaces.{few_cells}
 use Rattle.nest_walk.proofs.CursorMoves.{values_are}
 use Rattle.spmd_machine.specs.Machines.{shown}
-use Rattle.spmd_machine.specs.Rooms.{AreSilent, longest_output, visit_room}
-use Rattle.spmd_machine.specs.Widths.{widths}
+use Rattle.spmd_turns.specs.Rooms.{AreSilent, longest_output, visit_room}
+use Rattle.spmd_turns.specs.Loads.{widths}
 use Rattle.spmd_machine.proofs.Fresh.{first_is, fresh_rooms, kept_fresh, reached_first, written_whole}
-use Rattle.spmd_machine.proofs.Silent.{room_of_walk}
-use Rattle.spmd_machine.proofs.TableLoads.{table_wide}
+use Rattle.spmd_turns.proofs.Silent.{room_of_walk}
+use Rattle.spmd_turns.proofs.TableLoads.{table_wide}
 use Rattle.spmd_machine.proofs.machine.Machine.new.Goals as goal
 
 pub overflow_cast-cell_count : goal.overflow_cast-cell_count

@@ -3,10 +3,10 @@ use Rattle.nest_tree.specs.View.{tree_of}
 use Rattle.nest_walk.specs.Tables.{entries}
 use Rattle.spmd_model.specs.Deeds.{posting}
 use Rattle.spmd_machine.specs.Processors.{PassesTurn}
-use Rattle.spmd_machine.specs.Turns.{posts}
-use Rattle.spmd_machine.specs.TurnsLeft.{turns_left}
+use Rattle.spmd_turns.specs.Turns.{posts}
+use Rattle.spmd_turns.specs.TurnsLeft.{turns_left}
 use Rattle.spmd_machine.specs.declared.processor.Processor.{Processor}
-use Rattle.spmd_machine.specs.declared.turns.Next.TheVariants.{Post}
+use Rattle.spmd_turns.specs.declared.turns.Next.TheVariants.{Post}
 use Rattle.spmd_machine.proofs.Kept.{first_is, left_turn, passed_kept, post_idle, room_passed}
 use Rattle.spmd_machine.proofs.Ready.{kept_here, next_here, steps}
 use Rattle.spmd_machine.proofs.Steps.{same_registers}

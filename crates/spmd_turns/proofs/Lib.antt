@@ -1,0 +1,6 @@
+pub mod TurnLists
+pub mod TurnDeeds
+pub mod LoadPlaces
+pub mod TableLoads
+pub mod Silent
+pub mod PhaseSums

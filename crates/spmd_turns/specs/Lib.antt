@@ -1,0 +1,4 @@
+pub mod Turns
+pub mod TurnsLeft
+pub mod Loads
+pub mod Rooms

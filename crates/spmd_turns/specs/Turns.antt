@@ -1,0 +1,38 @@
+-- What a processor does, turn by turn: the posts and awaits of each boundary, and the instances that it owns.
+use Rattle.std.specs.Prelude.{ℕ, suc, ◌-◌, Bool, true, List, [], ◌∷◌, ◌++◌, map, slice_get, if◌then◌else◌}
+use Rattle.nest_tree.specs.Tree.{Tree}
+use Rattle.nest_model.specs.Instances.{Instance}
+use Rattle.nest_model.specs.Ranges.{is_instance_inside}
+use Rattle.nest_model.specs.Visits.{Visit}
+use Rattle.sync_plan.specs.declared.plan.Plan.{Plan}
+use Rattle.sync_plan.specs.Waits.{posts_at, waits_for}
+use Rattle.spmd_model.specs.Deeds.{Deed, posting, awaiting, instance_deeds, owned_by}
+
+pub data Turn : Type 0 where
+  posts : (number : ℕ) → Turn
+  awaits : (on wanted : ℕ) → Turn
+  works : (i : Instance) → Turn
+
+abbrev pub turn_deeds : Tree → Turn → List Deed
+turn_deeds tree (posts number) = posting number ∷ []
+turn_deeds tree (awaits on wanted) = awaiting on wanted ∷ []
+turn_deeds tree (works i) = instance_deeds tree i
+
+-- in front of a phase
+abbrev pub boundary_turns : ℕ → Bool → List ℕ → List Turn
+boundary_turns number does awaited = (if does then posts number ∷ [] else []) ++ map (λ q. awaits q number) awaited
+
+abbrev pub phase_turns : Tree → Plan → ℕ → ℕ → Visit → List Turn
+phase_turns tree plan p e v =
+    boundary_turns (e - 1) (posts_at tree plan p v.place v.loops) (waits_for tree plan p v.place v.loops) ++ map works (owned_by tree (slice_get plan.anchors (v.place - 1)) plan.workers p v)
+
+-- in phases of which the first has this number
+abbrev pub turns_from : Tree → Plan → ℕ → ℕ → List Visit → List Turn
+turns_from tree plan p e [] = []
+turns_from tree plan p e (v ∷ rest) = phase_turns tree plan p e v ++ turns_from tree plan p (suc e) rest
+
+-- each access of an instance is in range
+abbrev pub is_turn_inside : Tree → Turn → Bool
+is_turn_inside tree (posts number) = true
+is_turn_inside tree (awaits on wanted) = true
+is_turn_inside tree (works i) = is_instance_inside tree i

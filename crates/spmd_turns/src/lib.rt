@@ -1,0 +1,17 @@
+//! What a processor does under a plan, turn by turn, for whoever runs a program by it: the machine
+//! of a plan, workers, and runs that fork and join.
+//!
+//! - [`turns`]: the turns that a processor has left.
+//! - [`loads`]: the values that a piece of work loads.
+//! - [`room`]: how much room a run needs.
+//! - [`laws`]: what turns have to do with acts.
+#![tactic(auto)]
+
+pub mod laws;
+pub mod loads;
+pub mod room;
+pub mod turns;
+
+pub use loads::width;
+pub use room::{longest_output, most_loads, open_printing};
+pub use turns::{Next, Turns};
