@@ -1,0 +1,2 @@
+pub mod OwnScalars
+pub mod Looks

@@ -1,0 +1,10 @@
+//! Which scalars of a loop each processor may have a cell of its own for.
+//!
+//! - [`scalars`]: sum scalars, which a loop only adds to, and private ones, which it stores first.
+#![tactic(auto)]
+
+mod expressions;
+pub mod scalars;
+mod works;
+
+pub use scalars::{MOST_OWN, is_private, is_sum, private_scalars, sum_scalars};
