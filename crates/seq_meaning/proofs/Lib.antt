@@ -6,5 +6,4 @@ pub mod Found
 pub mod Meanings
 pub mod RunSteps
 pub mod RunInstances
-pub mod StopInstances
-pub mod Repeats
+pub mod Written

@@ -1,19 +1,19 @@
 -- One instance after another of a run.
-use Rattle.std.proofs.Common.{◌≡◌, ℕ, ℤ, true, List, [], ◌∷◌, ◌++◌, append_assoc, ap, sym, ◌∙◌, subst, refl}
-use Rattle.std.specs.List.{flat_map, fold}
-use Rattle.nest_tree.specs.Tree.{Work, Statement, work, Tree, param_values}
+use Rattle.std.proofs.Common.{◌≡◌, ℕ, ℤ, true, List, [], ◌∷◌, ◌++◌, append_assoc, append-nil, ap, sym, ◌∙◌, subst, refl}
+use Rattle.std.specs.List.{fold}
+use Rattle.nest_tree.specs.Tree.{Assignment, Work, Statement, assign, work, Tree, param_values}
 use Rattle.nest_tree.specs.View.{statement_of}
-use Rattle.nest_model.specs.Instances.{Instance, instances_of}
+use Rattle.nest_model.specs.Instances.{Instance}
 use Rattle.nest_model.specs.Memory.{line_of, loaded_in, memory_after, output_from}
 use Rattle.nest_model.specs.Ranges.{is_instance_inside}
-use Rattle.nest_model.specs.Visits.{Visit, every, executed_at}
-use Rattle.nest_walk.specs.Cursors.{is_reached, loops_in, visit_at}
+use Rattle.nest_model.specs.Visits.{every, executed_at}
+use Rattle.nest_walk.specs.Cursors.{is_reached, loops_in}
 use Rattle.nest_walk.specs.Paths.{Round}
 use Rattle.nest_walk.specs.Places.{numbers_of}
 use Rattle.nest_walk.specs.Texts.{StandFrom, placed_in, works}
 use Rattle.nest_walk.specs.declared.cursor.Stop.{Stop}
 use Rattle.nest_walk.proofs.PlacedWorks.{instance_at, reached_numbered}
-use Rattle.seq_meaning.specs.Executions.{IsPlacedWork, instances_there, memory_behind, printed_behind, stop_instances}
+use Rattle.seq_meaning.specs.Executions.{IsPlacedWork, memory_behind, printed_behind}
 
 -- its statement is a piece of work of the text
 pub placed_work : (tree : Tree) (rounds : List Round) (s : Stop) (i : Instance) → executed_at (param_values tree) s.first (statement_of s.item.now) (loops_in tree rounds) ≡ i ∷ [] → is_reached tree rounds s ≡ true →
@@ -65,19 +65,18 @@ said_append tree memory (x ∷ xs) ys =
     let next = memory_after tree memory x in
     ap (λ o. line ++ o) (said_append tree next xs ys) ∙ sym (append_assoc line (output_from tree next xs) (output_from tree (fold (memory_after tree) next xs) ys))
 
--- the rest of the run behind the instances of a stop
-pub memory_behind_stop : (tree : Tree) (old new end : List ℤ) (left here rest : List Instance) → left ≡ here ++ rest → new ≡ fold (memory_after tree) old here → fold (memory_after tree) old left ≡ end → fold (memory_after tree) new rest ≡ end
-memory_behind_stop tree old new end left here rest is ran h = ap (λ m. fold (memory_after tree) m rest) ran ∙ sym (ran_append tree old here rest) ∙ sym (ap (fold (memory_after tree) old) is) ∙ h
+-- the rest of the run behind some instances
+pub memory_behind_some : (tree : Tree) (old new end : List ℤ) (left here rest : List Instance) → left ≡ here ++ rest → new ≡ fold (memory_after tree) old here → fold (memory_after tree) old left ≡ end → fold (memory_after tree) new rest ≡ end
+memory_behind_some tree old new end left here rest is ran h = ap (λ m. fold (memory_after tree) m rest) ran ∙ sym (ran_append tree old here rest) ∙ sym (ap (fold (memory_after tree) old) is) ∙ h
 
-pub output_behind_stop : (tree : Tree) (old new : List ℤ) (said saying end : List ℕ) (left here rest : List Instance) → left ≡ here ++ rest → new ≡ fold (memory_after tree) old here → saying ≡ said ++ output_from tree old here →
+pub output_behind_some : (tree : Tree) (old new : List ℤ) (said saying end : List ℕ) (left here rest : List Instance) → left ≡ here ++ rest → new ≡ fold (memory_after tree) old here → saying ≡ said ++ output_from tree old here →
     said ++ output_from tree old left ≡ end → saying ++ output_from tree new rest ≡ end
-output_behind_stop tree old new said saying end left here rest is ran lines h =
+output_behind_some tree old new said saying end left here rest is ran lines h =
     ap (λ m. saying ++ output_from tree m rest) ran ∙ ap (λ xs. xs ++ output_from tree (fold (memory_after tree) old here) rest) lines
     ∙ append_assoc said (output_from tree old here) (output_from tree (fold (memory_after tree) old here) rest) ∙ ap (λ o. said ++ o) (sym (said_append tree old here rest)) ∙ sym (ap (λ xs. said ++ output_from tree old xs) is) ∙ h
 
--- those of the next stop of a walk, and those behind it
-pub stop_first : (tree walked : Tree) (rounds : List Round) (s : Stop) (left rest : List Visit) → walked ≡ tree → left ≡ visit_at walked rounds s ∷ rest →
-    flat_map (stop_instances (param_values tree)) left ≡ instances_there tree rounds s ++ flat_map (stop_instances (param_values tree)) rest
-stop_first tree walked rounds s left rest same is =
-    ap (flat_map (stop_instances (param_values tree))) is
-    ∙ ap (λ t. instances_of (param_values tree) (statement_of s.item.now) s.first (loops_in t rounds) ++ flat_map (stop_instances (param_values tree)) rest) same
+-- an assignment prints nothing
+pub assigned_quiet : (tree : Tree) (rounds : List Round) (s : Statement) (a : Assignment) (old new : List ℕ) (memory : List ℤ) → s ≡ work (assign a) → new ≡ old → (w : Work) → s ≡ work w → new ≡ old ++ printed_behind tree (loops_in tree rounds) w memory
+assigned_quiet tree rounds s a old new memory is same w w_is =
+    let both : w ≡ assign a = cc in
+    same ∙ sym (append-nil old) ∙ ap (λ x. old ++ printed_behind tree (loops_in tree rounds) x memory) (sym both)

@@ -1,18 +1,12 @@
 -- What a piece of work does where the loops have these values by number: memory and the output behind it.
-use Rattle.std.specs.Prelude.{ℕ, ◌≤◌, ℤ, Option, None, Some, List, [], ◌∷◌, map, length, ◌≡◌, IsTrue}
+use Rattle.std.specs.Prelude.{ℕ, ◌≤◌, ℤ, List, [], ◌∷◌, map, length, ◌≡◌, IsTrue}
 use Rattle.std.specs.List.{list_all}
 use Rattle.nest_tree.specs.Layout.{cell_count}
 use Rattle.nest_tree.specs.Tree.{Work, work, Statement, Tree, param_values}
-use Rattle.nest_tree.specs.View.{statement_of, tree_of}
-use Rattle.nest_tree.specs.declared.tree.Access.{Access}
-use Rattle.nest_tree.specs.declared.tree.Expr.{Expr}
-use Rattle.nest_tree.specs.declared.tree.Item.{Item}
-use Rattle.nest_tree.specs.declared.tree.Item.TheVariants.{Assign, Continue}
+use Rattle.nest_tree.specs.View.{tree_of}
 use Rattle.nest_tree.specs.WellFormed.{is_number_of, loops_of}
-use Rattle.nest_model.specs.Instances.{Instance, instances_of}
 use Rattle.nest_model.specs.Accesses.{work_loads, work_store}
 use Rattle.nest_model.specs.Memory.{assigned, cell_value, printed_text, with_store}
-use Rattle.nest_model.specs.Visits.{Visit}
 use Rattle.nest_model.specs.Ranges.{accesses_of, is_access_inside}
 use Rattle.nest_walk.specs.Cursors.{loops_in}
 use Rattle.nest_walk.specs.ByNumber.{with_rounds}
@@ -20,7 +14,6 @@ use Rattle.nest_walk.specs.Paths.{Round}
 use Rattle.nest_walk.specs.Places.{numbers_of}
 use Rattle.nest_walk.specs.Tables.{IsCellTable}
 use Rattle.nest_walk.specs.Texts.{StandFrom, works}
-use Rattle.nest_walk.specs.declared.cursor.Stop.{Stop}
 use Rattle.seq_meaning.specs.declared.run.Run.{Run}
 
 -- what its loads give in a memory
@@ -42,23 +35,6 @@ pub record IsPlacedWork (tree : Tree) (rounds : List Round) (number : ℕ) (s : 
   pub text : StandFrom (works tree) number (record { what = work what; around = numbers_of rounds } ∷ [])
   pub numbered : IsTrue (list_all (λ (r : Round). is_number_of (loops_of tree.items) r.number) rounds)
   pub inside : IsTrue (list_all (is_access_inside tree (loops_in tree rounds)) (accesses_of what))
-
--- the instances of the statement of a stop with these loops round it
-abbrev pub instances_there : Tree → List Round → Stop → List Instance
-instances_there tree rounds s = instances_of (param_values tree) (statement_of s.item.now) s.first (loops_in tree rounds)
-
--- and of a stop of the program's walk
-abbrev pub stop_instances : List ℤ → Visit → List Instance
-stop_instances params v = instances_of params v.what v.first v.loops
-
--- the CONTINUE at the end of a loop's body, where there is one
-abbrev pub ending : Option ℕ → List Item
-ending None = []
-ending (Some line) = Continue line ∷ []
-
--- statements are one assignment of this value, without a comparison, and at most a CONTINUE behind it
-abbrev pub IsOnlyValue : List Item → Expr → Type 0
-IsOnlyValue items e = (target : Access) × (line : ℕ) × (end : Option ℕ) × (items ≡ Assign target e None line ∷ ending end)
 
 -- a run of a program is ready for an instance
 pub record IsReady (run : Run) : Type 0 where

@@ -4,7 +4,7 @@
 //!
 //! - [`value`]: the value of an expression.
 //! - [`output`]: the bytes of the lines that a run prints.
-//! - `line`, `load`, `trips`: the line of a PRINT, what loads give, and the trips of a loop.
+//! - `line`, `load`: the line of a PRINT, and what loads give.
 //! - [`run`]: the run.
 #![tactic(auto)]
 
@@ -13,7 +13,6 @@ mod line;
 mod load;
 pub mod output;
 pub mod run;
-mod trips;
 pub mod value;
 
 pub use output::Output;

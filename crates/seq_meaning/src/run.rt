@@ -1,6 +1,6 @@
 // The sequential run.
 
-ghost use Rattle.std.specs.Prelude.{◌≡◌, ◌++◌, ℕ, IfOk, IfSome, IsTrue, None, OnOk, Option, fold, slice_set, true};
+ghost use Rattle.std.specs.Prelude.{◌≡◌, ◌++◌, ℕ, IfOk, IsTrue, OnOk, Option, fold};
 ghost use Rattle.std.specs.List.{list_all};
 ghost use Rattle.nest_tree.specs.Limits.{IsWithinLimits};
 ghost use Rattle.nest_tree.specs.Tree.{Work, work};
@@ -10,21 +10,17 @@ ghost use Rattle.nest_tree.specs.declared.tree.Access.{Access};
 ghost use Rattle.nest_tree.specs.declared.tree.Guard.{Guard};
 ghost use Rattle.nest_model.specs.Memory.{last_memory, memory_after, output_from, output_of};
 ghost use Rattle.nest_model.specs.Ranges.{IsInRange, is_instance_inside};
-ghost use Rattle.nest_model.specs.Visits.{every};
 ghost use Rattle.nest_walk.specs.CellForms.{cell_at};
-ghost use Rattle.nest_walk.specs.Cursors.{is_reached, loops_in};
+ghost use Rattle.nest_walk.specs.Cursors.{loops_in};
 ghost use Rattle.nest_walk.specs.InstancesLeft.{instances_left, instances_tree};
-ghost use Rattle.nest_walk.specs.Places.{numbers_of};
-ghost use Rattle.nest_walk.specs.Texts.{StandFrom, placed_in, works};
-ghost use Rattle.seq_meaning.specs.Executions.{IsOnlyValue};
+ghost use Rattle.nest_walk.specs.Strips.{strip_left, strip_tree};
 ghost use Rattle.nest_walk.specs.RoundsOf.{rounds_of};
 
 use crate::load::load;
 use crate::output::Output;
-use crate::trips::trips_of;
 use crate::value::{Given, Source, Valuation};
-use nest_tree::{Expr, Item, Nest, Program};
-use nest_walk::{CellTable, Cursor, Instances, Path, Stop};
+use nest_tree::{Expr, Item, Program};
+use nest_walk::{CellTable, Instances, Path, Stop, Strip};
 use std::alloc::{AllocError, Global};
 
 // The most statements that a program has, and so the most loops.
@@ -40,12 +36,7 @@ pub fn run_sequential(alloc: Global, program: &Program) -> Result<(Vec<i64>, Out
     ensures output { IfOk result (λ end. end.1.bytes ≡ output_of (tree_of program.now)) }
 {
     let mut run = Run::new(alloc, program)?;
-    let mut marks = vec![in alloc; false; MOST_STATEMENTS]?;
-    mark(&program.items, &mut marks);
-    let mut stops = Cursor::new(program, &marks);
-    while let Some(stop) = stops.next() {
-        run.execute_all(stop, stops.path())?;
-    }
+    run.execute_all(Instances::new(program))?;
     let Run { memory, output, .. } = run;
     Ok((memory, output))
 }
@@ -66,7 +57,7 @@ struct Run<'a> {
 impl<'a> Run<'a> {
     ghost use Rattle.std.specs.Prelude.{[]};
     ghost use Rattle.nest_model.specs.Memory.{first_memory};
-    ghost use Rattle.seq_meaning.specs.Executions.{IsPlacedWork, IsReady, IsWritten, instances_there, memory_behind, printed_behind};
+    ghost use Rattle.seq_meaning.specs.Executions.{IsPlacedWork, IsReady, IsWritten, memory_behind, printed_behind};
 
     // A run in front of its first instance.
     fn new(alloc: Global, program: &'a Program) -> Result<Self, AllocError>
@@ -92,29 +83,8 @@ impl<'a> Run<'a> {
         })
     }
 
-    // The executions of the statement of a stop, with these loops round it.
-    fn execute_all(&mut self, stop: Stop, path: &Path) -> Result<(), AllocError>
-        requires formed { IsWellFormed (tree_of self.old.program.now) }
-        requires ready { IsReady self.old }
-        requires reached { IsTrue (is_reached (tree_of self.old.program.now) (rounds_of path.now) stop) }
-        requires text { StandFrom (works (tree_of self.old.program.now)) stop.first (placed_in every (numbers_of (rounds_of path.now)) (statement_of stop.item.now)) }
-        requires inside { IsTrue (list_all (is_instance_inside (tree_of self.old.program.now)) (instances_there (tree_of self.old.program.now) (rounds_of path.now) stop)) }
-        ensures ready { OnOk result (IsReady self.new) }
-        ensures program { OnOk result (self.new.program.now ≡ self.old.program.now) }
-        ensures memory { OnOk result (self.new.memory.items ≡ fold (memory_after (tree_of self.old.program.now)) self.old.memory.items (instances_there (tree_of self.old.program.now) (rounds_of path.now) stop.entry)) }
-        ensures output { OnOk result (self.new.output.bytes ≡ self.old.output.bytes ++ output_from (tree_of self.old.program.now) self.old.memory.items (instances_there (tree_of self.old.program.now) (rounds_of path.now) stop.entry)) }
-    {
-        if let Item::Loop(nest) = stop.item {
-            if let Some(e) = only_value(&nest.items) {
-                self.repeat(stop, nest, e, path);
-                return Ok(());
-            }
-        }
-        self.execute_each(Instances::over(self.program, path, stop))
-    }
-
     // The execution of these instances.
-    fn execute_each(&mut self, instances: Instances) -> Result<(), AllocError>
+    fn execute_all(&mut self, instances: Instances) -> Result<(), AllocError>
         requires formed { IsWellFormed (tree_of self.old.program.now) }
         requires ready { IsReady self.old }
         requires walked { instances_tree instances ≡ (tree_of self.old.program.now) }
@@ -125,42 +95,36 @@ impl<'a> Run<'a> {
         ensures output { OnOk result (self.new.output.bytes ≡ self.old.output.bytes ++ output_from (tree_of self.old.program.now) self.old.memory.items (instances_left instances.entry)) }
     {
         let mut left = instances;
-        while let Some(stop) = left.next() {
-            self.execute(stop, left.path())?;
+        'rest: loop {
+            if let Some(strip) = left.strip() {
+                self.repeat(strip);
+            } else if let Some(stop) = left.next() {
+                self.execute(stop, left.path())?;
+            } else {
+                return Ok(());
+            }
         }
-        Ok(())
     }
 
     // The trips of a loop round one assignment, which is always executed.
-    fn repeat(&mut self, stop: Stop, nest: &Nest, e: &Expr, path: &Path)
+    fn repeat(&mut self, strip: Strip)
         requires formed { IsWellFormed (tree_of self.old.program.now) }
         requires ready { IsReady self.old }
-        requires reached { IsTrue (is_reached (tree_of self.old.program.now) (rounds_of path.now) stop) }
-        requires text { StandFrom (works (tree_of self.old.program.now)) stop.first (placed_in every (numbers_of (rounds_of path.now)) (statement_of stop.item.now)) }
-        requires inside { IsTrue (list_all (is_instance_inside (tree_of self.old.program.now)) (instances_there (tree_of self.old.program.now) (rounds_of path.now) stop)) }
-        requires nest { stop.item.now ≡ Item.Loop nest.now }
-        requires only { IsOnlyValue nest.now.items.items e.now }
+        requires walked { strip_tree strip ≡ tree_of self.old.program.now }
+        requires inside { IsTrue (list_all (is_instance_inside (tree_of self.old.program.now)) (strip_left strip)) }
         ensures ready { IsReady self.new }
         ensures program { self.new.program.now ≡ self.old.program.now }
-        ensures memory { self.new.memory.items ≡ fold (memory_after (tree_of self.old.program.now)) self.old.memory.items (instances_there (tree_of self.old.program.now) (rounds_of path.now) stop.entry) }
-        ensures output { self.new.output.bytes ≡ self.old.output.bytes }
+        ensures memory { self.new.memory.items ≡ fold (memory_after (tree_of self.old.program.now)) self.old.memory.items (strip_left strip.entry) }
+        ensures output { self.new.output.bytes ≡ self.old.output.bytes ++ output_from (tree_of self.old.program.now) self.old.memory.items (strip_left strip.entry) }
     {
-        let mut trips = trips_of(self.program, nest, path);
-        let mut inner = *path;
-        inner.push(nest.number, 0);
-        inner.write_to(&mut self.loops);
-        let place = nest.number as usize - 1;
-        let first = stop.first;
-        let work = Stop {
-            item: &nest.items[0],
-            place: first,
-            first,
-        };
-        while !trips.is_empty() {
-            let value = trips.take();
-            inner.set(value);
+        let mut left = strip;
+        let stop = left.stop();
+        let e = left.value();
+        let place = left.number() as usize - 1;
+        left.path().write_to(&mut self.loops);
+        while let Some(value) = left.next() {
             self.loops[place] = value;
-            self.assign(work, e, &inner);
+            self.assign(stop, e, left.path());
         }
     }
 
@@ -222,55 +186,4 @@ impl<'a> Run<'a> {
             Item::Loop(_) | Item::Continue(_) => unreachable!(),
         }
     }
-}
-
-// The value of the one assignment in these statements, where it has no comparison, and no other
-// statement stands there but one CONTINUE behind it.
-fn only_value(items: &[Item]) -> Option<&Expr>
-    ensures { IfSome result (λ e. IsOnlyValue items.now e.now) }
-{
-    match items {
-        [only] => plain_value(only),
-        [first, last] => {
-            let e = plain_value(first)?;
-            if is_continue(last) { Some(e) } else { None }
-        }
-        _ => None,
-    }
-}
-
-fn is_continue(item: &Item) -> bool
-    ensures { result ≡ true → (line : ℕ) × (item.now ≡ Item.Continue line) }
-{
-    match item {
-        Item::Continue(_) => true,
-        _ => false,
-    }
-}
-
-// The value of an assignment without a comparison.
-fn plain_value(item: &Item) -> Option<&Expr>
-    ensures { IfSome result (λ e. (target : Access) × (line : ℕ) × (item.now ≡ Item.Assign target e.now None line)) }
-{
-    match item {
-        Item::Assign(_, e, None, _) => Some(e),
-        _ => None,
-    }
-}
-
-// Marks the loops with no loop inside that has one assignment alone; whether one of these has that,
-// or has such a loop inside.
-fn mark(items: &[Item], marks: &mut [bool]) -> bool {
-    let mut found = false;
-    for item in items {
-        if let Item::Loop(nest) = item {
-            let inside = mark(&nest.items, marks);
-            let place = (nest.number as usize).saturating_sub(1);
-            if place < marks.len() {
-                marks[place] = !inside;
-            }
-            found = found || inside || only_value(&nest.items).is_some();
-        }
-    }
-    found
 }

@@ -5,10 +5,10 @@ use Rattle.nest_model.specs.Memory.{memory_after, output_from}
 use Rattle.nest_model.specs.Ranges.{is_instance_inside}
 use Rattle.nest_walk.specs.InstancesLeft.{instances_left, instances_tree}
 use Rattle.seq_meaning.specs.Executions.{IsReady}
-use Rattle.seq_meaning.proofs.run.Run.execute_each.Given as goal
+use Rattle.seq_meaning.proofs.run.Run.execute_all.Given as goal
 
-abbrev pub invariant-loop-stop : goal.invariant-loop-stop
-invariant-loop-stop l =
+abbrev pub invariant-rest : goal.invariant-rest
+invariant-rest l =
     let tree = tree_of l.fn.self.program.now in
     let left = instances_left l.left in
     let all = instances_left l.fn.instances in
@@ -21,5 +21,5 @@ invariant-loop-stop l =
       output : l.self.output.bytes ++ output_from tree l.self.memory.items left ≡ l.fn.self.output.bytes ++ output_from tree l.fn.self.memory.items all;
     }
 
-abbrev pub decreases-loop-stop : goal.decreases-loop-stop
-decreases-loop-stop l = length (instances_left l.left)
+abbrev pub decreases-rest : goal.decreases-rest
+decreases-rest l = length (instances_left l.left)
