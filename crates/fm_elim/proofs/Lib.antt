@@ -31,3 +31,4 @@ pub mod Further
 pub mod Moving
 pub mod Joining
 pub mod Extending
+pub mod Whole

@@ -7,7 +7,7 @@ ghost use Rattle.std.specs.List.{All};
 ghost use Rattle.farkas_cert.specs.Combination.{is_narrow as narrow, stays_narrow};
 ghost use Rattle.fm_elim.specs.Pairs.{combination as combination_of, IsWide, IsNarrow};
 
-use crate::reduction::greatest_common_divisor;
+use crate::reduction::{greatest_common_divisor, size_quotient};
 use farkas_cert::Row;
 use farkas_cert::narrow::{narrow_product, narrow_sum};
 use std::alloc::AllocError;
@@ -33,7 +33,9 @@ pub fn multipliers(upper: i128, lower: i128) -> (i128, i128)
     if divisor == 1 {
         return (below as i128, above as i128);
     }
-    ((below / divisor) as i128, (above / divisor) as i128)
+    let m = size_quotient(below, divisor) as i128;
+    let n = size_quotient(above, divisor) as i128;
+    (m, n)
 }
 
 /// Whether no product and no sum of m times the first row and n times the other passes 2 ^ 126 in size.

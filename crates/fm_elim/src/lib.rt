@@ -7,6 +7,9 @@
 //! so that it has a rational solution; or a number gets too large, or a level has too many rows.
 //! [`Level`] is the same in steps.
 //!
+//! [`whole_solutions_keep_levels_clear`] is a law: where there is a whole solution no level of any
+//! order has a contradiction.
+//!
 //! - `answer`: the answers.
 //! - `elimination`: levels, and the decision over them.
 //! - `extension`: a level with further rows.
@@ -26,6 +29,7 @@ mod derivation;
 mod elimination;
 mod extension;
 mod forming;
+mod law;
 mod level;
 mod pairs;
 mod reduction;
@@ -34,3 +38,4 @@ mod table;
 
 pub use answer::{Answer, NoMemory};
 pub use elimination::{Advance, Level, decide};
+pub use law::whole_solutions_keep_levels_clear;

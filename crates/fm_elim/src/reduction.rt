@@ -1,7 +1,7 @@
 // Rows in their lowest terms.
 
-ghost use Rattle.std.specs.Prelude.{◌≡◌, ℕ, ◌≤◌, ◌^◌, max, ℤ, pos, ◌≤ℤ◌, int_div, map, IsTrue, IfOk};
-ghost use Rattle.std.specs.Int.{IsGcd};
+ghost use Rattle.std.specs.Prelude.{◌≡◌, ℕ, ◌≤◌, ◌^◌, ◌/◌, max, ℤ, pos, ◌≤ℤ◌, int_div, map, IsTrue, IfOk};
+ghost use Rattle.std.specs.Int.{IsGcd, int_div_euclid};
 ghost use Rattle.std.specs.List.{All};
 ghost use Rattle.farkas_cert.specs.Combination.{is_narrow as narrow};
 ghost use Rattle.fm_elim.specs.Reduction.{IsCommonDivisor, IsReducedBy};
@@ -73,13 +73,65 @@ fn common_divisor(coefs: &[i128]) -> u128
     divisor
 }
 
+/// The quotient of two sizes, rounded down: by a division of 64 bits where that does.
+pub fn size_quotient(size: u128, divisor: u128) -> u128
+    requires { 1 ≤ divisor }
+    ensures { result ≡ size / divisor }
+{
+    if size < WORD && divisor < WORD {
+        return u128::from(size as u64 / divisor as u64);
+    }
+    size / divisor
+}
+
+// The quotient of numbers of 64 bits, with the remainder dropped.
+#[inline(always)]
+fn small_quotient(number: i64, divisor: i64) -> i128
+    requires { pos 1 ≤ℤ divisor }
+    ensures { result ≡ int_div number divisor }
+{
+    i128::from(number / divisor)
+}
+
+// The quotient, with the remainder dropped: by a division of 64 bits where that does.
+#[inline(always)]
+fn quotient(number: i128, divisor: i128) -> i128
+    requires { pos 1 ≤ℤ divisor }
+    ensures { result ≡ int_div number divisor }
+{
+    match (i64::try_from(number), i64::try_from(divisor)) {
+        (Ok(number), Ok(divisor)) => small_quotient(number, divisor),
+        _ => number / divisor,
+    }
+}
+
+// The quotient of numbers of 64 bits, rounded down.
+#[inline(always)]
+fn small_floor_quotient(number: i64, divisor: i64) -> i128
+    requires { pos 1 ≤ℤ divisor }
+    ensures { result ≡ int_div_euclid number divisor }
+{
+    i128::from(number.div_euclid(divisor))
+}
+
+// The quotient, rounded down: by a division of 64 bits where that does.
+fn floor_quotient(number: i128, divisor: i128) -> i128
+    requires { pos 1 ≤ℤ divisor }
+    ensures { result ≡ int_div_euclid number divisor }
+{
+    match (i64::try_from(number), i64::try_from(divisor)) {
+        (Ok(number), Ok(divisor)) => small_floor_quotient(number, divisor),
+        _ => number.div_euclid(divisor),
+    }
+}
+
 // Divides each number, with the remainder dropped.
 fn divide(numbers: &mut [i128], divisor: i128)
     requires { pos 1 ≤ℤ divisor }
     ensures { numbers.new ≡ map (λ a. int_div a divisor) numbers.old }
 {
     for number in numbers.iter_mut() {
-        *number = *number / divisor;
+        *number = quotient(*number, divisor);
     }
 }
 
@@ -103,5 +155,5 @@ pub fn reduce(coefs: &mut Vec<i128>, bound: i128) -> (i128, i128)
     }
     let divisor = divisor as i128;
     divide_all(coefs, divisor);
-    (bound.div_euclid(divisor), divisor)
+    (floor_quotient(bound, divisor), divisor)
 }

@@ -5,14 +5,14 @@ use Rattle.fm_elim.proofs.Divisors.{le_from_narrow}
 use Rattle.fm_elim.proofs.Combined.{divisor_above_zero, quotient_le, size_above_zero}
 use Rattle.fm_elim.proofs.combination.multipliers.Goals as goal
 
-pub nonzero_div-result : goal.nonzero_div-result
-nonzero_div-result c =
+pub size_quotient-m-requires : goal.size_quotient-m-requires
+size_quotient-m-requires c =
     let above = c.unsigned_abs-above.ensures.value ∙ ap unsigned_abs (to_z-of_z w128 c.args.upper c.ranges.upper) in
     let size = size_above_zero c.args.upper (inl c.requires.above) in
     divisor_above_zero c.unsigned_abs-above.result _ _ (omega (arith, above, size)) c.greatest_common_divisor-divisor.ensures.common
 
-pub nonzero_div-result-2 : goal.nonzero_div-result-2
-nonzero_div-result-2 c =
+pub size_quotient-n-requires : goal.size_quotient-n-requires
+size_quotient-n-requires c =
     let above = c.unsigned_abs-above.ensures.value ∙ ap unsigned_abs (to_z-of_z w128 c.args.upper c.ranges.upper) in
     let size = size_above_zero c.args.upper (inl c.requires.above) in
     divisor_above_zero c.unsigned_abs-above.result _ _ (omega (arith, above, size)) c.greatest_common_divisor-divisor.ensures.common
@@ -43,6 +43,6 @@ returns c =
     let fits_above : unsigned_abs c.args.upper / g < 2 ^ 127 = omega (arith, quotient_le (unsigned_abs c.args.upper) g, size_above) in (
       g,
       subst (λ b. IsGcd (unsigned_abs c.args.upper) b g) below (subst (λ a. IsGcd a c.unsigned_abs-below.result g) above c.greatest_common_divisor-divisor.ensures.common),
-      ap (λ n. to_z w128 (n / g)) below ∙ to_z_pos w128 (unsigned_abs c.args.lower / g) fits_below,
-      ap (λ n. to_z w128 (n / g)) above ∙ to_z_pos w128 (unsigned_abs c.args.upper / g) fits_above,
+      ap (to_z w128) (c.size_quotient-m.ensures ∙ ap (λ n. n / g) below) ∙ to_z_pos w128 (unsigned_abs c.args.lower / g) fits_below,
+      ap (to_z w128) (c.size_quotient-n.ensures ∙ ap (λ n. n / g) above) ∙ to_z_pos w128 (unsigned_abs c.args.upper / g) fits_above,
     )

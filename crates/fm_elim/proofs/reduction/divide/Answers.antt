@@ -13,10 +13,10 @@ loop-number-preserved c =
     let d = c.args.divisor in
     let x : ℤ = get_or ys i (pos 0) in
     let fits : FitsSigned w128 x = search rules in
-    let positive : pos 0 <ℤ d = omega (arith, ints) in
-    let quotient = quot_is w128 x d fits c.ranges.divisor (quot_fits w128 x d fits positive) in
     let back : to_z w128 (of_z w128 d) ≡ d = to_z-of_z w128 d c.ranges.divisor in
+    let back_x : to_z w128 (of_z w128 x) ≡ x = to_z-of_z w128 x fits in
+    let fits_q : FitsSigned w128 c.quotient.result = search rules in
+    let here : to_z w128 (of_z w128 c.quotient.result) ≡ int_div x d = to_z-of_z w128 c.quotient.result fits_q ∙ c.quotient.ensures ∙ ap (λ z. int_div z (to_z w128 (of_z w128 d))) back_x ∙ ap (λ z. int_div x z) back in
     let so_far = rw back at c.loop-number.invariant in
-    let here = rw back at quotient in
     let same : length ys ≡ length xs = c.loop-number.auto.numbers in
     rw back (ap (λ z. set ys i z) here ∙ map_over_more (λ a. int_div a d) xs ys i x c.loop-number-test.true so_far (get_or_default ys i (pos 0) x (omega (arith, c.loop-number-test.true, same))))
