@@ -11,7 +11,7 @@
 - In the text of every document: a clause that is named with its call (`call`'s clause `name`, or
   `module::call` (`name`, ..)) stands in that call's contract, and one that is named alone (the
   clause `name`) in the contract of some call.
-- Each crate has its README.md, which the repository's README.md links.
+- Each crate has its README.md, which docs/CRATES.md links.
 
 Nothing is looked up below a heading "To come".
 """
@@ -288,8 +288,8 @@ def main():
     for crate in CODE:
         if not os.path.exists(f"crates/{crate}/README.md"):
             found.append(("crates.txt", 1, f"crates/{crate}/README.md"))
-        if f"](crates/{crate}/README.md)" not in text_of("README.md"):
-            found.append(("README.md", 1, f"the link to crates/{crate}/README.md"))
+        if f"](../crates/{crate}/README.md)" not in text_of("docs/CRATES.md"):
+            found.append(("docs/CRATES.md", 1, f"the link to crates/{crate}/README.md"))
     for document, number, what in found:
         print(f"{document}:{number}: {what} is not there")
     return 1 if found else 0

@@ -5,55 +5,40 @@ over, so that as much as possible can be told of the others.
 """
 
 import re
-from dataclasses import dataclass, field
 
 MOST = 2**63
 NAME = r"[A-Z][A-Z0-9]*"
 FUNCTIONS = ("MIN", "MAX")
 
 
-@dataclass
 class Statement:
     """A statement: its text without blanks and in capitals, and the line and column of each byte.
 
     In `code` the characters of constants are `~`, so that patterns do not see them.
     """
 
-    line: int
-    label: int
-    text: str
-    code: str
-    spots: list
-    lines: list
+    def __init__(self, line, label):
+        self.line, self.label = line, label
+        self.text, self.code, self.spots, self.lines = "", "", [], []
 
 
-@dataclass
 class Directive:
-    line: int
-    text: str
+    def __init__(self, line, text):
+        self.line, self.text = line, text
 
 
-@dataclass
 class Loop:
-    number: int
-    line: int
-    label: int
-    variable: str
-    bounds: list
-    above: list
-    end: int = 0
+    def __init__(self, number, line, label, variable, bounds, above):
+        self.number, self.line, self.label = number, line, label
+        self.variable, self.bounds, self.above, self.end = variable, bounds, above, 0
 
 
-@dataclass
 class Action:
     """An assignment or a PRINT, and the loops round it."""
 
-    line: int
-    loops: list
-    target: str = ""
-    subscripts: list = field(default_factory=list)
-    value: str = ""
-    guard: str = ""
+    def __init__(self, line, loops, value, target="", subscripts=(), guard=""):
+        self.line, self.loops, self.value = line, loops, value
+        self.target, self.subscripts, self.guard = target, subscripts, guard
 
 
 def shown(text):
@@ -102,7 +87,7 @@ class Source:
             if columns[5] in " 0":
                 label = columns[:5].replace(" ", "")
                 label = int(label) if label.isdigit() else 0
-                self.statements.append(Statement(number, label, "", "", [], []))
+                self.statements.append(Statement(number, label))
                 quoted = False
             elif not self.statements:
                 continue
@@ -305,7 +290,7 @@ class Program:
         """Takes an assignment, an IF with one, or a PRINT."""
         code, guard = statement.code, ""
         if code.startswith("PRINT*"):
-            self.actions.append(Action(statement.line, self.open[:], value=code[7:]))
+            self.actions.append(Action(statement.line, self.open[:], code[7:]))
             return True
         if code.startswith("IF("):
             end = closing(code, 2)
@@ -317,7 +302,7 @@ class Program:
         if end < 0 or code[end + 1 : end + 2] != "=" or len(split_outside(code[end + 2 :])) > 1:
             return False
         subscripts = split_outside(code[found.end() : end]) if found[2] == "(" else []
-        action = Action(statement.line, self.open[:], found[1], subscripts, code[end + 2 :], guard)
+        action = Action(statement.line, self.open[:], code[end + 2 :], found[1], subscripts, guard)
         self.actions.append(action)
         return True
 

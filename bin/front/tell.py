@@ -6,13 +6,10 @@ written), with WHAT `done` warnings on the source and, of the plan in the file O
 to. SOURCE is the file with what was read; the WORDs are those of the command.
 """
 
-import difflib
 import os
 import re
-import shlex
 import sys
 
-import hints
 import source as sources
 
 ROOT = os.path.dirname(os.path.dirname(os.path.dirname(os.path.abspath(__file__))))
@@ -72,6 +69,8 @@ def show_line(lines, number, column, what="line"):
 
 def tell_refusal(line, data, settings):
     words = line.split()
+    import hints
+
     code = words[1] if len(words) > 1 else ""
     number = int(words[3]) if len(words) > 3 and words[2] == "LINE" else 0
     source = sources.Source(data)
@@ -86,6 +85,13 @@ def tell_refusal(line, data, settings):
 
 
 # ---- words
+
+
+def close_to(word, known):
+    """The word among these that may be meant, in a list, or none."""
+    import difflib
+
+    return difflib.get_close_matches(word, known, 1, 0.55)
 
 
 def parts_of(words):
@@ -116,6 +122,8 @@ def from_a_file(words, file):
     rest = [it for it in words if it != file]
     if not rest or rest[0] not in COMMANDS:
         rest = ["seq", *rest]
+    import shlex
+
     return f"{file} is a file's name; the source comes on standard input: seagrynt {shlex.join(rest)} < {shlex.quote(file)}"
 
 
@@ -151,7 +159,7 @@ def wrong_word(words):
             return "seagrynt --help writes the help, seagrynt run --help that of run"
         if is_file(command):
             return from_a_file(words, command)
-        close = difflib.get_close_matches(command.lower(), COMMANDS, 1, 0.6)
+        close = close_to(command.lower(), COMMANDS)
         meant = f"; {close[0]} is one" if close else ""
         return f"{command} is no command{meant}: there are seq, plan, run and verify"
     return wrong_option(words, command)
@@ -162,7 +170,7 @@ def wrong_option(words, command):
     seen = set()
     for name, value in options:
         if name not in OPTIONS[command]:
-            close = difflib.get_close_matches(name, OPTIONS[command], 1, 0.5)
+            close = close_to(name, OPTIONS[command])
             has = " and ".join(OPTIONS[command]) or "no options"
             meant = f"; {close[0]} is one" if close else f"; {command} has {has}"
             return f"{name} is no option of {command}{meant}"
