@@ -4,3 +4,6 @@ pub mod LoadPlaces
 pub mod TableLoads
 pub mod Silent
 pub mod PhaseSums
+pub mod LoadLists
+pub mod Wholes
+pub mod StripDeeds

@@ -2,3 +2,4 @@ pub mod Turns
 pub mod TurnsLeft
 pub mod Loads
 pub mod Rooms
+pub mod Executors

@@ -2,16 +2,21 @@
 //! of a plan, workers, and runs that fork and join.
 //!
 //! - [`turns`]: the turns that a processor has left.
+//! - [`deeds`], [`execute`]: an instance run whole, over whatever keeps the cells.
 //! - [`loads`]: the values that a piece of work loads.
 //! - [`room`]: how much room a run needs.
 //! - [`laws`]: what turns have to do with acts.
 #![tactic(auto)]
 
+pub mod deeds;
+pub mod execute;
 pub mod laws;
 pub mod loads;
 pub mod room;
 pub mod turns;
 
+pub use deeds::Deeds;
+pub use execute::Executor;
 pub use loads::width;
 pub use room::{longest_output, most_loads, open_printing};
 pub use turns::{Next, Turns};

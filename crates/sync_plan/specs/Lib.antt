@@ -7,3 +7,4 @@ pub mod Shape
 pub mod Fit
 pub mod Barriers
 pub mod Points
+pub mod Boundaries

@@ -14,6 +14,33 @@ use crate::plan::{Kind, Plan};
 use nest_tree::Program;
 use owner_partition::Phase;
 
+impl Kind {
+    ghost use Rattle.std.specs.Prelude.{Some};
+    ghost use Rattle.sync_plan.specs.Boundaries.{is_barrier, is_join};
+
+    /// Whether it is a barrier. A join isn't one.
+    pub fn is_barrier(&self) -> bool
+        ensures { result ≡ is_barrier (Some self.now) }
+    {
+        match self {
+            Kind::Nothing | Kind::Producer(_) => false,
+            Kind::Left | Kind::Right | Kind::Both | Kind::Join => false,
+            Kind::Barrier => true,
+        }
+    }
+
+    /// Whether it is a join.
+    pub fn is_join(&self) -> bool
+        ensures { result ≡ is_join (Some self.now) }
+    {
+        match self {
+            Kind::Nothing | Kind::Producer(_) => false,
+            Kind::Left | Kind::Right | Kind::Both | Kind::Barrier => false,
+            Kind::Join => true,
+        }
+    }
+}
+
 /// The word of the processors for which `p` waits in front of a phase: bit q is processor q. It
 /// goes down the program's text to the phase; [`awaited`] costs the same wherever the phase is.
 pub fn waits(program: &Program, plan: &Plan, p: u32, phase: &Phase) -> u64

@@ -1,0 +1,33 @@
+-- Loads that are done one behind another.
+use Rattle.std.proofs.Common.{◌≡◌, ℕ, zero, suc, ◌+◌, List, [], ◌∷◌, ◌++◌, map, sym, ap, ◌∙◌, append_assoc, arith}
+use Rattle.std.specs.List.{range_with_len}
+use Rattle.std.proofs.lemmas.List.{append_cancel_left, map-append}
+use Rattle.spmd_model.specs.Deeds.{Deed, loading}
+
+-- what comes next of loads of which some are done
+pub loads_next : (all done mid later : List ℕ) (first now rest : List Deed) → all ≡ done ++ (mid ++ later) → first ≡ map loading all ++ rest → first ≡ map loading done ++ now → now ≡ map loading mid ++ (map loading later ++ rest)
+loads_next all done mid later first now rest split is behind =
+    let parts = map-append loading done (mid ++ later) ∙ ap (λ l. map loading done ++ l) (map-append loading mid later) in
+    append_cancel_left (map loading done) now (map loading mid ++ (map loading later ++ rest))
+    (sym behind ∙ is ∙ ap (λ l. map loading l ++ rest) split ∙ ap (λ l. l ++ rest) parts ∙ append_assoc (map loading done) (map loading mid ++ map loading later) rest
+    ∙ ap (λ l. map loading done ++ l) (append_assoc (map loading mid) (map loading later) rest))
+
+-- and some more are done
+pub loads_more : (done mid more : List ℕ) (first now new : List Deed) → more ≡ done ++ mid → first ≡ map loading done ++ now → now ≡ map loading mid ++ new → first ≡ map loading more ++ new
+loads_more done mid more first now new is behind went =
+    behind ∙ ap (λ l. map loading done ++ l) went ∙ sym (append_assoc (map loading done) (map loading mid) new) ∙ ap (λ l. l ++ new) (sym (map-append loading done mid)) ∙ ap (λ l. map loading l ++ new) (sym is)
+
+-- numbers from one on, with one of them
+pub range_split : (a k m : ℕ) → range_with_len a (k + suc m) ≡ range_with_len a k ++ ((a + k) ∷ range_with_len (a + k + 1) m)
+range_split a zero m =
+    let none : zero + suc m ≡ suc m = omega arith in
+    let here : a ≡ a + zero = omega arith in
+    let behind : a + 1 ≡ a + zero + 1 = omega arith in
+    ap (range_with_len a) none ∙ ap (λ b. b ∷ range_with_len (a + 1) m) here ∙ ap (λ b. (a + zero) ∷ range_with_len b m) behind
+range_split a (suc k) m =
+    let more : suc k + suc m ≡ suc (k + suc m) = omega arith in
+    let here : a + 1 + k ≡ a + suc k = omega arith in
+    ap (range_with_len a) more ∙ ap (λ l. a ∷ l) (range_split (a + 1) k m) ∙ ap (λ b. (a ∷ range_with_len (a + 1) k) ++ (b ∷ range_with_len (b + 1) m)) here
+
+pub range_more : (a k : ℕ) → range_with_len a (k + 1) ≡ range_with_len a k ++ ((a + k) ∷ [])
+range_more a k = range_split a k 0

@@ -1,0 +1,207 @@
+-- The instance at a stop, whole: what it loads, and what stands behind its loads.
+use Rattle.std.proofs.Common.{◌≡◌, ℕ, suc, ◌+◌, ◌-◌, ◌<◌, ◌≤◌, ℤ, nat_le, nat_lt, true, List, [], ◌∷◌, ◌++◌, length, map, Option, Some, None, refl, sym, ◌∙◌, ap, append_assoc, arith}
+use Rattle.std.specs.Prelude.{slice_get}
+use Rattle.std.specs.List.{flat_map, list_all}
+use Rattle.std.specs.Option.{option_to_list}
+use Rattle.std.proofs.lemmas.Bool.{and_from, and_parts, leb-true, ltb-true}
+use Rattle.std.proofs.lemmas.Bool.Decides.{nat_tests}
+use Rattle.std.proofs.lemmas.List.{append_cancel_left, length-map}
+use Rattle.nest_tree.specs.Layout.{cell_count}
+use Rattle.nest_tree.specs.Limits.{IsWithinLimits}
+use Rattle.nest_tree.specs.Loads.{loads_in}
+use Rattle.nest_tree.specs.Tree.{Assignment, Printing, Work, assign, print, work, Tree, param_values}
+use Rattle.nest_tree.specs.View.{expression_of, printed_of, statement_of}
+use Rattle.nest_tree.specs.WellFormed.{IsWellFormed, is_good_item, is_good_work, loops_of, scope_of}
+use Rattle.nest_tree.specs.declared.tree.Access.{Access}
+use Rattle.nest_tree.specs.declared.tree.Expr.{Expr}
+use Rattle.nest_tree.specs.declared.tree.Guard.{Guard}
+use Rattle.nest_tree.specs.declared.tree.Item.TheVariants.{Assign}
+use Rattle.nest_tree.specs.declared.tree.PrintItem.{PrintItem}
+use Rattle.nest_model.specs.Accesses.{access_cell, loads_of, store_of, work_loads, work_store}
+use Rattle.nest_model.specs.Instances.{Instance}
+use Rattle.nest_model.specs.Meaning.{has_value, value_of}
+use Rattle.nest_model.specs.Memory.{assigned, assigned_value, items_text, line_of, printed_text}
+use Rattle.nest_walk.specs.ByNumber.{with_rounds}
+use Rattle.nest_walk.specs.CellForms.{cell_at}
+use Rattle.nest_walk.specs.Cursors.{loops_in}
+use Rattle.nest_walk.specs.Paths.{Round, by_depth}
+use Rattle.nest_walk.specs.Places.{numbers_of}
+use Rattle.nest_walk.specs.RoundsOf.{rounds_of}
+use Rattle.nest_walk.specs.Tables.{IsCellTable, entries}
+use Rattle.nest_walk.specs.declared.cells.CellForm.{CellForm}
+use Rattle.nest_walk.specs.declared.cursor.Stop.{Stop}
+use Rattle.nest_walk.specs.declared.path.Path.{Path}
+use Rattle.nest_walk.specs.declared.table.CellTable.{CellTable}
+use Rattle.nest_walk.specs.declared.table.LoadCells.{LoadCells}
+use Rattle.nest_walk.specs.declared.table.LoadCells.TheVariants.{Element, Array}
+use Rattle.nest_walk.specs.declared.table.WorkCells.{WorkCells}
+use Rattle.nest_walk.proofs.CellPlaces.{few_cells}
+use Rattle.nest_walk.proofs.PlacedWorks.{instance_at}
+use Rattle.seq_meaning.specs.Executions.{IsPlacedWork}
+use Rattle.seq_meaning.specs.Lines.{has_text, items_load_count}
+use Rattle.seq_meaning.specs.Loads.{cells_of_load, is_load_within, is_store_within}
+use Rattle.seq_meaning.specs.Room.{longest_items, longest_line}
+use Rattle.seq_meaning.proofs.Found.{Found}
+use Rattle.seq_meaning.proofs.RunInstances.{placed_work}
+use Rattle.seq_meaning.proofs.RunSteps.{assign_same, assign_valued, items_loads-length, placed-found, placed-good, same_work, texts_same, texts_there}
+use Rattle.spmd_model.specs.Deeds.{Deed, last_deed, loading, printing, storing}
+use Rattle.spmd_turns.specs.Executors.{Begins}
+use Rattle.spmd_turns.specs.Loads.{widths}
+use Rattle.spmd_turns.proofs.LoadPlaces.{cells-widths}
+
+one_within : (n m : ℕ) (values : List ℤ) (l : LoadCells) → n ≤ m → is_load_within n values l ≡ true → is_load_within m values l ≡ true
+one_within n m values (Element form) more h = grind (arith, nat_tests, ltb-true (cell_at form values) n h, more)
+one_within n m values (Array first count) more h = grind (arith, nat_tests, leb-true (first + count) n h, more)
+
+all_within : (n m : ℕ) (values : List ℤ) (loads : List LoadCells) → n ≤ m → list_all (is_load_within n values) loads ≡ true → list_all (is_load_within m values) loads ≡ true
+all_within n m values [] more h = refl
+all_within n m values (l ∷ loads) more h =
+    let parts = and_parts (is_load_within n values l) (list_all (is_load_within n values) loads) h in
+    and_from (is_load_within m values l) (list_all (is_load_within m values) loads) (one_within n m values l more parts.0) (all_within n m values loads more parts.1)
+
+one_in : (o : Option ℕ) (n : ℕ) → n ∷ [] ≡ option_to_list o → o ≡ Some n
+one_in None n h = cc
+one_in (Some k) n h = cc
+
+module _ (tree : Tree) (path : Path) (stop : Stop) (left : List Deed) (b : Begins tree (rounds_of path) stop left) where
+  abbrev pub rounds : List Round
+  rounds = rounds_of path
+
+  abbrev loops : List ℤ
+  loops = loops_in tree (rounds_of path)
+
+  abbrev i : Instance
+  i = b.at.instance
+
+  pub placed : IsPlacedWork tree (rounds_of path) stop.first (statement_of stop.item.now)
+  placed = placed_work tree (rounds_of path) stop b.at.instance b.at.is b.at.reached b.at.text b.inside
+
+  instance_is : i ≡ record { statement = stop.first; what = placed.what; loops = loops }
+  instance_is =
+      let at = instance_at tree (rounds_of path) stop.first (statement_of stop.item.now) b.at.instance b.at.is in
+      at.instance_is ∙ ap (λ w. record { statement = stop.first; what = w; loops = loops }) (same_work at.what placed.what (sym at.is ∙ placed.is))
+
+  abbrev last : Deed
+  last = last_deed (store_of tree i) (assigned_value tree i) (line_of tree i)
+
+  module _ (formed : IsWellFormed tree) (table : CellTable) (are : IsCellTable tree table) (cells : WorkCells) (at : slice_get (entries table) (stop.first - 1) ≡ Some cells) where
+    pub found : Found tree path placed.numbered placed.what cells
+    found = placed-found tree path stop.first (statement_of stop.item.now) placed table cells are at
+
+    loads_are : flat_map (cells_of_load (by_depth (rounds_of path))) cells.loads.items ≡ loads_of tree i
+    loads_are = found.loads ∙ ap (loads_of tree) (sym instance_is)
+
+    -- the loads come first, and one deed behind them
+    pub loads_first : (values : List ℤ) (loads : List LoadCells) → values ≡ by_depth (rounds_of path) → loads ≡ cells.loads.items → left ≡ map loading (flat_map (cells_of_load values) loads) ++ (last ∷ b.rest)
+    loads_first values loads depth listed =
+        b.is ∙ append_assoc (map loading (loads_of tree i)) (last ∷ []) b.rest ∙ ap (λ cs. map loading cs ++ (last ∷ b.rest)) (sym loads_are)
+        ∙ ap (λ vs. map loading (flat_map (cells_of_load vs) cells.loads.items) ++ (last ∷ b.rest)) (sym depth) ∙ ap (λ ls. map loading (flat_map (cells_of_load values) ls) ++ (last ∷ b.rest)) (sym listed)
+
+    pub last_left : (values : List ℤ) (loads : List LoadCells) (now : List Deed) → values ≡ by_depth (rounds_of path) → loads ≡ cells.loads.items → left ≡ map loading (flat_map (cells_of_load values) loads) ++ now → now ≡ last ∷ b.rest
+    last_left values loads now depth listed is = append_cancel_left (map loading (flat_map (cells_of_load values) loads)) now (last ∷ b.rest) (sym is ∙ loads_first values loads depth listed)
+
+    pub loads_within : (values : List ℤ) (loads : List LoadCells) → IsWithinLimits tree → values ≡ by_depth (rounds_of path) → loads ≡ cells.loads.items → list_all (is_load_within 1048576 values) loads ≡ true
+    loads_within values loads limits depth listed =
+        ap (λ vs. list_all (is_load_within 1048576 vs) loads) depth ∙ ap (list_all (is_load_within 1048576 (by_depth (rounds_of path)))) listed
+        ∙ all_within (cell_count tree) 1048576 (by_depth (rounds_of path)) cells.loads.items (few_cells tree limits) found.within
+
+    count : length (loads_of tree i) ≡ widths cells.loads.items
+    count = ap (λ (cs : List ℕ). length cs) (sym loads_are) ∙ cells-widths (by_depth (rounds_of path)) cells.loads.items
+
+    good : is_good_work (scope_of tree) (numbers_of (rounds_of path)) placed.what ≡ true
+    good = placed-good tree path stop.first (statement_of stop.item.now) placed formed
+
+    -- what is written of the loops' values, what the named constants are, and the registers
+    module _ (before ls : List ℤ) (long : loops_of tree.items ≤ length before) (written : ls ≡ with_rounds before (rounds_of path)) (ps : List ℤ) (params : ps ≡ param_values tree) where
+      -- ---- an assignment
+      module _ (e : Expr) (target : Access) (guard : Option Guard) (line : ℕ) (statement : stop.item.now ≡ Assign target e guard line) where
+        abbrev a : Assignment
+        a = record { target = target; value = expression_of e; guard = guard; line = line }
+
+        assigns : placed.what ≡ assign a
+        assigns = same_work placed.what (assign a) (sym placed.is ∙ ap statement_of statement)
+
+        good_here : is_good_work (scope_of tree) (numbers_of (rounds_of path)) (assign a) ≡ true
+        good_here = sym (ap (is_good_work (scope_of tree) (numbers_of (rounds_of path))) assigns) ∙ good
+
+        pub store_valued : has_value (length ls) (length ps) (expression_of e) ≡ true
+        store_valued =
+            ap (λ (l : List ℤ). has_value (length l) (length ps) (expression_of e)) written
+            ∙ ap (λ (l : List ℤ). has_value (length (with_rounds before (rounds_of path))) (length l) (expression_of e)) params
+            ∙ assign_valued tree (rounds_of path) placed.numbered before long a good_here
+
+        pub store_loads : length (loads_in (expression_of e)) ≡ widths cells.loads.items
+        store_loads =
+            let these = ap (λ (j : Instance). length (loads_of tree j)) instance_is ∙ ap (λ (w : Work). length (work_loads tree loops w)) assigns ∙ length-map (loads_in (expression_of e)) (access_cell tree loops) in
+            omega (arith, count, these)
+
+        pub store_value : (v : ℤ) (given registers : List ℤ) → v ≡ value_of (expression_of e) ls ps given → given ≡ registers → v ≡ assigned_value tree i registers
+        store_value v given registers is same =
+            is ∙ ap (λ l. value_of (expression_of e) l ps given) written ∙ ap (λ l. value_of (expression_of e) (with_rounds before (rounds_of path)) l given) params
+            ∙ ap (value_of (expression_of e) (with_rounds before (rounds_of path)) (param_values tree)) same
+            ∙ assign_same tree (rounds_of path) placed.numbered before long a registers good_here
+            ∙ ap (λ w. assigned tree loops w registers) (sym assigns)
+            ∙ ap (λ (j : Instance). assigned_value tree j registers) (sym instance_is)
+
+        stores : store_of tree i ≡ Some (access_cell tree loops target)
+        stores = ap (store_of tree) instance_is ∙ ap (work_store tree loops) assigns
+
+        stored_by : (o : Option CellForm) → cells.store ≡ o → map (λ f. cell_at f (by_depth (rounds_of path))) (option_to_list o) ≡ option_to_list (store_of tree i)
+        stored_by o is = ap (λ q. map (λ f. cell_at f (by_depth (rounds_of path))) (option_to_list q)) (sym is) ∙ found.store ∙ ap (λ (j : Instance). option_to_list (store_of tree j)) (sym instance_is)
+
+        pub some_store : cells.store ≡ None → ⊥
+        some_store none = let clash : [] ≡ option_to_list (Some (access_cell tree loops target)) = stored_by None none ∙ ap option_to_list stores in cc
+
+        module _ (f : CellForm) (stored : cells.store ≡ Some f) (k : ℕ) (values : List ℤ) (k_is : k ≡ cell_at f values) (depth : values ≡ by_depth (rounds_of path)) where
+          store_is : store_of tree i ≡ Some k
+          store_is = one_in (store_of tree i) k (ap (λ n. n ∷ []) (k_is ∙ ap (cell_at f) depth) ∙ stored_by (Some f) stored)
+
+          pub store_small : IsWithinLimits tree → k < 1048576
+          store_small limits =
+              let all = sym (ap (λ o. list_all (is_store_within (cell_count tree) (by_depth (rounds_of path))) (option_to_list o)) stored) ∙ found.store_within in
+              let here = (and_parts (is_store_within (cell_count tree) (by_depth (rounds_of path)) f) true all).0 in
+              let below = ltb-true (cell_at f (by_depth (rounds_of path))) (cell_count tree) here in
+              let same = k_is ∙ ap (cell_at f) depth in
+              omega (arith, below, same, few_cells tree limits)
+
+          pub last_store : last ∷ b.rest ≡ storing k (assigned_value tree i) ∷ b.rest
+          last_store = ap (λ o. last_deed o (assigned_value tree i) (line_of tree i) ∷ b.rest) store_is
+
+      -- ---- a PRINT
+      module _ (listed items : List PrintItem) (line : ℕ) (is_print : statement_of stop.item.now ≡ work (print (record { items = map printed_of listed; line = line }))) (items_are : items ≡ listed) where
+        abbrev q : Printing
+        q = record { items = map printed_of items; line = line }
+
+        prints : placed.what ≡ print q
+        prints =
+            same_work placed.what (print (record { items = map printed_of listed; line = line })) (sym placed.is ∙ is_print) ∙ ap (λ (ps : List PrintItem). print (record { items = map printed_of ps; line = line })) (sym items_are)
+
+        good_there : list_all (is_good_item (scope_of tree) (numbers_of (rounds_of path))) (map printed_of items) ≡ true
+        good_there = sym (ap (is_good_work (scope_of tree) (numbers_of (rounds_of path))) prints) ∙ good
+
+        pub print_texts : list_all (has_text tree (length ls)) (map printed_of items) ≡ true
+        print_texts = ap (λ (l : List ℤ). list_all (has_text tree (length l)) (map printed_of items)) written ∙ texts_there tree (rounds_of path) placed.numbered before long (map printed_of items) good_there
+
+        pub print_loads : items_load_count tree (map printed_of items) ≡ widths cells.loads.items
+        print_loads =
+            let these = ap (λ (j : Instance). length (loads_of tree j)) instance_is ∙ ap (λ (w : Work). length (work_loads tree loops w)) prints ∙ items_loads-length tree loops (map printed_of items) in
+            omega (arith, count, these)
+
+        pub print_line : (given registers : List ℤ) → given ≡ registers → items_text tree ls (map printed_of items) given ++ 10 ∷ [] ≡ line_of tree i registers
+        print_line given registers same =
+            ap (λ l. items_text tree l (map printed_of items) given ++ 10 ∷ []) written ∙ ap (λ l. items_text tree (with_rounds before (rounds_of path)) (map printed_of items) l ++ 10 ∷ []) same
+            ∙ ap (λ t. t ++ 10 ∷ []) (texts_same tree (rounds_of path) placed.numbered before long (map printed_of items) registers good_there)
+            ∙ ap (λ w. printed_text tree loops w registers) (sym prints) ∙ ap (λ (j : Instance). line_of tree j registers) (sym instance_is)
+
+        no_store : store_of tree i ≡ None
+        no_store = ap (store_of tree) instance_is ∙ ap (work_store tree loops) prints
+
+        pub last_print : last ∷ b.rest ≡ printing (line_of tree i) ∷ b.rest
+        last_print = ap (λ o. last_deed o (assigned_value tree i) (line_of tree i) ∷ b.rest) no_store
+
+-- what stands behind a deed, and what line a PRINT writes
+pub same_rest : {d e : Deed} {rest new : List Deed} → d ∷ rest ≡ e ∷ new → new ≡ rest
+same_rest is = cc
+
+pub same_first : {f h : List ℤ → List ℕ} {rest new : List Deed} → printing f ∷ rest ≡ printing h ∷ new → f ≡ h
+same_first is = cc

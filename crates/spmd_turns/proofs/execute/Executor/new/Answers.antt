@@ -1,0 +1,24 @@
+use Rattle.std.proofs.Common.{◌≡◌, ◌≤◌, ℕ, Option, Some, IfSome, List, length, pos, ap, ◌∙◌, subst, arith}
+use Rattle.std.specs.Prelude.{slice_get}
+use Rattle.std.proofs.lemmas.List.{length-replicate}
+use Rattle.nest_tree.specs.View.{tree_of}
+use Rattle.nest_tree.proofs.Good.{loops-few}
+use Rattle.nest_walk.specs.Tables.{entries}
+use Rattle.nest_walk.specs.declared.table.WorkCells.{WorkCells}
+use Rattle.spmd_turns.specs.Loads.{widths}
+use Rattle.spmd_turns.proofs.execute.Executor.new.Goals as goal
+
+pub returns-clause-can : goal.returns-clause-can
+returns-clause-can c =
+    let tree = tree_of c.args.program.now in
+    let table = c.args.table.now in
+    let loops = ap (λ xs. length xs) (c.in_ok-vec.ensures.items_if_clones_equal (λ y e. e)) ∙ length-replicate 400 (pos 0) in
+    let most = subst (λ (o : Option ℕ). IfSome o (λ n. (k : ℕ) (w : WorkCells) → slice_get (entries table) k ≡ Some w → widths w.loads.items ≤ n)) c.in_ok-registers.ensures.ok_part c.most_loads.ensures in
+    record {
+      formed = c.requires.formed;
+      limits = c.requires.limits;
+      table = c.requires.table;
+      params = c.requires.params;
+      loops = omega (arith, loops, loops-few tree c.requires.formed);
+      room = λ n cells at. omega (arith, most n cells at, c.in_ok-with_capacity.ensures.capacity);
+    }

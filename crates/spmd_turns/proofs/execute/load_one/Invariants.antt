@@ -1,0 +1,13 @@
+use Rattle.std.proofs.Common.{◌≡◌, ◌+◌, ◌≤◌, ◌++◌, length, map, vec_capacity}
+use Rattle.std.specs.List.{range_with_len}
+use Rattle.spmd_model.specs.Deeds.{loading}
+use Rattle.spmd_turns.proofs.execute.load_one.Given as goal
+
+abbrev pub invariant-loop-element : goal.invariant-loop-element
+invariant-loop-element g l = record {
+  left : g.D.Deeds.left l.fn.deeds ≡ map loading (range_with_len l.first l.element) ++ g.D.Deeds.left l.deeds;
+  registers : l.registers.items ≡ g.D.Deeds.registers l.deeds;
+  count : length l.registers.items ≡ length l.fn.registers.items + l.element;
+  room : vec_capacity l.fn.registers ≤ vec_capacity l.registers;
+  printed : g.D.Deeds.printed l.deeds ≡ g.D.Deeds.printed l.fn.deeds;
+}

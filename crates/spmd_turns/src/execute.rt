@@ -1,0 +1,256 @@
+// Instances run whole.
+
+ghost use Rattle.std.specs.Prelude.{◌≡◌, ◌+◌, ◌≤◌, ◌<◌, ℕ, [], ◌∷◌, ◌++◌, IfOk, IsTrue, List, Option, length, map, vec_capacity};
+ghost use Rattle.std.specs.List.{flat_map, list_all};
+ghost use Rattle.nest_tree.specs.Limits.{IsWithinLimits};
+ghost use Rattle.nest_tree.specs.Tree.{param_values};
+ghost use Rattle.nest_tree.specs.View.{statement_of, tree_of};
+ghost use Rattle.nest_tree.specs.WellFormed.{IsWellFormed};
+ghost use Rattle.nest_tree.specs.declared.tree.Access.{Access};
+ghost use Rattle.nest_tree.specs.declared.tree.Guard.{Guard};
+ghost use Rattle.nest_walk.specs.RoundsOf.{rounds_of};
+ghost use Rattle.nest_walk.specs.Tables.{IsCellTable};
+ghost use Rattle.seq_meaning.specs.Loads.{cells_of_load, is_load_within};
+ghost use Rattle.spmd_model.specs.Deeds.{Deed, loading};
+ghost use Rattle.spmd_turns.specs.Loads.{width, widths};
+
+use crate::deeds::Deeds;
+use crate::room::most_loads;
+use nest_tree::{Expr, Item, PrintItem, Program};
+use nest_walk::{CellTable, LoadCells, MOST_LOOPS, Path, Stop, Strip};
+use seq_meaning::{Given, Output, eval};
+use std::alloc::{AllocError, Global};
+
+// The most statements that a program has, and so the most loops.
+const MOST_STATEMENTS: usize = 400;
+
+/// What a processor executes its instances with: the program with its cells and the values of its
+/// named constants, which others may be lent too, the values of loops by number, what the loads of
+/// the instance that has begun gave, and the output.
+#[derive(Drop)]
+pub struct Executor<'a> {
+    program: &'a Program,
+    table: &'a CellTable,
+    params: &'a [i64],
+    loops: Vec<i64>,
+    registers: Vec<i64>,
+    output: Output,
+}
+
+impl<'a> Executor<'a> {
+    ghost use Rattle.std.specs.Prelude.{Vec};
+    ghost use Rattle.std.specs.Global.{Global};
+    ghost use Rattle.nest_tree.specs.declared.tree.PrintItem.{PrintItem};
+    ghost use Rattle.nest_model.specs.Ranges.{is_instance_inside};
+    ghost use Rattle.nest_walk.specs.Cursors.{visit_at};
+    ghost use Rattle.nest_walk.specs.Strips.{strip_left, strip_tree};
+    ghost use Rattle.spmd_model.specs.Deeds.{instance_deeds};
+    ghost use Rattle.spmd_turns.specs.Executors.{AreWritten, Begins, CanExecute, executor_output, executor_room, executor_tree};
+    ghost use Rattle.spmd_turns.specs.Rooms.{visit_room};
+
+    /// No output yet, with room for so many bytes of it.
+    pub fn new(
+        alloc: Global,
+        program: &'a Program,
+        table: &'a CellTable,
+        params: &'a [i64],
+        room: usize,
+    ) -> Result<Self, AllocError>
+        requires formed { IsWellFormed (tree_of program.now) }
+        requires limits { IsWithinLimits (tree_of program.now) }
+        requires table { IsCellTable (tree_of program.now) table.now }
+        requires params { params.now ≡ param_values (tree_of program.now) }
+        ensures can { IfOk result (λ x. CanExecute x) }
+        ensures program { IfOk result (λ x. executor_tree x ≡ tree_of program.now) }
+        ensures output { IfOk result (λ x. executor_output x ≡ []) }
+        ensures room { IfOk result (λ x. room ≤ executor_room x) }
+    {
+        let registers = most_loads(program, table).ok_or(AllocError)?;
+        Ok(Executor {
+            program,
+            table,
+            params,
+            loops: vec![in alloc; 0; MOST_STATEMENTS]?,
+            registers: Vec::with_capacity(alloc, registers)?,
+            output: Output::with_room(alloc, room)?,
+        })
+    }
+
+    /// The output so far.
+    pub fn output(&self) -> &[u8]
+        ensures { result.now ≡ executor_output self.now }
+    {
+        self.output.as_slice()
+    }
+
+    /// The instance at a stop with these loops round it, whole: its loads, one behind another, and
+    /// its store or its line. It takes no memory.
+    pub fn execute<D: Deeds>(&mut self, stop: Stop, path: &Path, deeds: &mut D)
+        requires can { CanExecute self.old }
+        requires begins { Begins (executor_tree self.old) (rounds_of path.now) stop (D.left deeds.old) }
+        requires idle { D.registers deeds.old ≡ [] }
+        requires output { executor_output self.old ≡ D.printed deeds.old }
+        requires room { length (executor_output self.old) + visit_room (executor_tree self.old) (visit_at (executor_tree self.old) (rounds_of path.now) stop) ≤ executor_room self.old }
+        ensures can { CanExecute self.new }
+        ensures program { executor_tree self.new ≡ executor_tree self.old }
+        ensures left { (b : Begins (executor_tree self.old) (rounds_of path.now) stop.entry (D.left deeds.old)) → D.left deeds.new ≡ b.rest }
+        ensures idle { D.registers deeds.new ≡ [] }
+        ensures output { executor_output self.new ≡ D.printed deeds.new }
+        ensures room { executor_room self.old ≤ executor_room self.new }
+        ensures grown { length (executor_output self.new) ≤ length (executor_output self.old) + visit_room (executor_tree self.old) (visit_at (executor_tree self.old) (rounds_of path.now) stop.entry) }
+    {
+        path.write_to(&mut self.loops);
+        match stop.item {
+            Item::Assign(_, e, _, _) => self.assign(stop, e, path, deeds),
+            Item::Print(items, _) => self.print(stop, items, path, deeds),
+            Item::Loop(_) | Item::Continue(_) => unreachable!(),
+        }
+    }
+
+    /// The instances of a strip, one after another, each whole.
+    pub fn repeat<D: Deeds>(&mut self, strip: Strip, deeds: &mut D)
+        requires can { CanExecute self.old }
+        requires walked { strip_tree strip ≡ executor_tree self.old }
+        requires inside { IsTrue (list_all (is_instance_inside (executor_tree self.old)) (strip_left strip)) }
+        requires left { (rest : List Deed) × (D.left deeds.old ≡ flat_map (instance_deeds (executor_tree self.old)) (strip_left strip) ++ rest) }
+        requires idle { D.registers deeds.old ≡ [] }
+        ensures can { CanExecute self.new }
+        ensures program { executor_tree self.new ≡ executor_tree self.old }
+        ensures left { D.left deeds.old ≡ flat_map (instance_deeds (executor_tree self.old)) (strip_left strip.entry) ++ D.left deeds.new }
+        ensures idle { D.registers deeds.new ≡ [] }
+        ensures printed { D.printed deeds.new ≡ D.printed deeds.old }
+        ensures output { executor_output self.new ≡ executor_output self.old }
+        ensures room { executor_room self.new ≡ executor_room self.old }
+    {
+        let mut trips = strip;
+        let stop = trips.stop();
+        let e = trips.value();
+        let place = trips.number() as usize - 1;
+        trips.path().write_to(&mut self.loops);
+        while let Some(value) = trips.next() {
+            self.loops[place] = value;
+            self.assign(stop, e, trips.path(), deeds);
+        }
+    }
+
+    // An assignment with these loops round it, whose values are written.
+    #[inline(always)]
+    fn assign<D: Deeds>(&mut self, stop: Stop, e: &Expr, path: &Path, deeds: &mut D)
+        requires can { CanExecute self.old }
+        requires written { AreWritten self.old (rounds_of path.now) }
+        requires statement { (target : Access) × (guard : Option Guard) × (line : ℕ) × (stop.item.now ≡ Item.Assign target e.now guard line) }
+        requires begins { Begins (executor_tree self.old) (rounds_of path.now) stop (D.left deeds.old) }
+        requires idle { D.registers deeds.old ≡ [] }
+        ensures can { CanExecute self.new }
+        ensures program { executor_tree self.new ≡ executor_tree self.old }
+        ensures loops { self.new.loops.items ≡ self.old.loops.items }
+        ensures left { (b : Begins (executor_tree self.old) (rounds_of path.now) stop.entry (D.left deeds.old)) → D.left deeds.new ≡ b.rest }
+        ensures idle { D.registers deeds.new ≡ [] }
+        ensures printed { D.printed deeds.new ≡ D.printed deeds.old }
+        ensures output { self.new.output ≡ self.old.output }
+    {
+        let cells = self.table.work(stop.first);
+        self.registers.clear();
+        load_all(&cells.loads, path.values(), &mut self.registers, deeds);
+        let value = eval(e, &self.loops, self.params, &self.registers);
+        let Some(form) = &cells.store else {
+            unreachable!()
+        };
+        deeds.store(form.at(path.values()) as u32, value);
+    }
+
+    // A PRINT with these loops round it, whose values are written.
+    fn print<D: Deeds>(&mut self, stop: Stop, items: &[PrintItem], path: &Path, deeds: &mut D)
+        requires can { CanExecute self.old }
+        requires written { AreWritten self.old (rounds_of path.now) }
+        requires statement { (listed : Vec PrintItem Global) × (line : ℕ) × (stop.item.now ≡ Item.Print listed line) × (items.now ≡ listed.items) }
+        requires begins { Begins (executor_tree self.old) (rounds_of path.now) stop (D.left deeds.old) }
+        requires idle { D.registers deeds.old ≡ [] }
+        requires output { executor_output self.old ≡ D.printed deeds.old }
+        requires room { length (executor_output self.old) + visit_room (executor_tree self.old) (visit_at (executor_tree self.old) (rounds_of path.now) stop) ≤ executor_room self.old }
+        ensures can { CanExecute self.new }
+        ensures program { executor_tree self.new ≡ executor_tree self.old }
+        ensures left { (b : Begins (executor_tree self.old) (rounds_of path.now) stop.entry (D.left deeds.old)) → D.left deeds.new ≡ b.rest }
+        ensures idle { D.registers deeds.new ≡ [] }
+        ensures output { executor_output self.new ≡ D.printed deeds.new }
+        ensures room { executor_room self.old ≤ executor_room self.new }
+        ensures grown { length (executor_output self.new) ≤ length (executor_output self.old) + visit_room (executor_tree self.old) (visit_at (executor_tree self.old) (rounds_of path.now) stop.entry) }
+    {
+        let cells = self.table.work(stop.first);
+        self.registers.clear();
+        load_all(&cells.loads, path.values(), &mut self.registers, deeds);
+        let given = Given {
+            loops: &self.loops,
+            params: self.params,
+            loaded: &self.registers,
+        };
+        self.output.push_line(self.program, items, &given).unwrap();
+        deeds.print();
+    }
+}
+
+// The values of loads, one behind another, into registers.
+#[inline(always)]
+fn load_all<D: Deeds>(
+    loads: &[LoadCells],
+    values: &[i64; MOST_LOOPS],
+    registers: &mut Vec<i64>,
+    deeds: &mut D,
+)
+    requires within { IsTrue (list_all (is_load_within 1048576 values.now) loads.now) }
+    requires left { (rest : List Deed) × (D.left deeds.old ≡ map loading (flat_map (cells_of_load values.now) loads.now) ++ rest) }
+    requires registers { registers.old.items ≡ D.registers deeds.old }
+    requires room { length registers.old.items + widths loads.now ≤ vec_capacity registers.old }
+    ensures left { D.left deeds.old ≡ map loading (flat_map (cells_of_load values.now) loads.now) ++ D.left deeds.new }
+    ensures registers { registers.new.items ≡ D.registers deeds.new }
+    ensures count { length registers.new.items ≡ length registers.old.items + widths loads.now }
+    ensures room { vec_capacity registers.old ≤ vec_capacity registers.new }
+    ensures printed { D.printed deeds.new ≡ D.printed deeds.old }
+{
+    for load in loads {
+        load_one(load, values, registers, deeds);
+    }
+}
+
+// The values of a load.
+#[inline(always)]
+fn load_one<D: Deeds>(
+    load: &LoadCells,
+    values: &[i64; MOST_LOOPS],
+    registers: &mut Vec<i64>,
+    deeds: &mut D,
+)
+    requires within { IsTrue (is_load_within 1048576 values.now load.now) }
+    requires left { (rest : List Deed) × (D.left deeds.old ≡ map loading (cells_of_load values.now load.now) ++ rest) }
+    requires registers { registers.old.items ≡ D.registers deeds.old }
+    requires room { length registers.old.items + width load.now ≤ vec_capacity registers.old }
+    ensures left { D.left deeds.old ≡ map loading (cells_of_load values.now load.now) ++ D.left deeds.new }
+    ensures registers { registers.new.items ≡ D.registers deeds.new }
+    ensures count { length registers.new.items ≡ length registers.old.items + width load.now }
+    ensures room { vec_capacity registers.old ≤ vec_capacity registers.new }
+    ensures printed { D.printed deeds.new ≡ D.printed deeds.old }
+{
+    match load {
+        LoadCells::Element(form) => load_cell(form.at(values) as u32, registers, deeds),
+        LoadCells::Array { first, count } => {
+            for element in 0..*count {
+                load_cell(*first + element, registers, deeds);
+            }
+        }
+    }
+}
+
+// The value of a cell.
+#[inline(always)]
+fn load_cell<D: Deeds>(cell: u32, registers: &mut Vec<i64>, deeds: &mut D)
+    requires left { (rest : List Deed) × (D.left deeds.old ≡ loading cell ∷ rest) }
+    requires registers { registers.old.items ≡ D.registers deeds.old }
+    requires room { length registers.old.items < vec_capacity registers.old }
+    ensures left { D.left deeds.old ≡ loading cell ∷ D.left deeds.new }
+    ensures registers { registers.new.items ≡ D.registers deeds.new }
+    ensures count { length registers.new.items ≡ length registers.old.items + 1 }
+    ensures room { vec_capacity registers.old ≤ vec_capacity registers.new }
+    ensures printed { D.printed deeds.new ≡ D.printed deeds.old }
+{
+    registers.push(deeds.load(cell)).unwrap();
+}
