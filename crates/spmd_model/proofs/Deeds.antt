@@ -12,10 +12,10 @@ use Rattle.owner_partition.specs.declared.anchor.Anchor.{Anchor}
 use Rattle.owner_partition.specs.Owners.{owner_by}
 use Rattle.owner_partition.specs.Phases.{phase_instances, phases}
 use Rattle.sync_plan.specs.declared.plan.Plan.{Plan}
-use Rattle.spmd_model.specs.Timelines.{Act, post, await, load, store, print, Job, Machine, Moment, boundary, job, acts_from, acts_of, boundary_acts, job_acts, last_act, moment_acts}
+use Rattle.spmd_model.specs.Timelines.{Act, post, await, load, store, add, print, Job, Machine, Moment, Word, boundary, job, acts_from, acts_of, boundary_acts, job_acts, last_act, moment_acts}
 use Rattle.spmd_model.specs.States.{State, acted, assigned_by, is_possible, line_by}
 use Rattle.spmd_model.specs.Planned.{boundary_of, job_of, jobs_of, machine_of, timeline_from, timeline_of}
-use Rattle.spmd_model.specs.Deeds.{Deed, posting, awaiting, loading, storing, printing, boundary_deeds, can_do, deed_of, deeds_from, did, instance_deeds, job_deeds, last_deed, moment_deeds, owned_by}
+use Rattle.spmd_model.specs.Deeds.{Deed, posting, awaiting, loading, storing, adding, printing, boundary_deeds, can_do, deed_of, deeds_from, did, instance_deeds, job_deeds, last_deed, moment_deeds, owned_by}
 use Rattle.std.proofs.lemmas.Option.{slice_get_cases, slice_get_within}
 use Rattle.nest_tree.specs.Limits.{no_ends}
 use Rattle.nest_tree.specs.WellFormed.{IsWellFormed, scope_of}
@@ -31,30 +31,31 @@ use Rattle.spmd_model.proofs.LastValues.{StandsFrom, stands_here, stands_later}
 
 -- ---- the deeds of acts
 
-awaits_deeds : (m : Machine) (n : ℕ) (awaited : List ℕ) → map (deed_of m) (map (λ q. await q n) awaited) ≡ map (λ q. awaiting q n) awaited
-awaits_deeds m n [] = refl
-awaits_deeds m n (q ∷ rest) = ap (λ l. awaiting q n ∷ l) (awaits_deeds m n rest)
+awaits_deeds : (m : Machine) (w : Word) (n : ℕ) (awaited : List ℕ) → map (deed_of m) (map (λ q. await w q n) awaited) ≡ map (λ q. awaiting w q n) awaited
+awaits_deeds m w n [] = refl
+awaits_deeds m w n (q ∷ rest) = ap (λ l. awaiting w q n ∷ l) (awaits_deeds m w n rest)
 
-boundary_is : (m : Machine) (p n : ℕ) (posts : Bool) (awaited : List ℕ) → map (deed_of m) (boundary_acts p n posts awaited) ≡ boundary_deeds n posts awaited
-boundary_is m p n true awaited = ap (λ l. posting n ∷ l) (awaits_deeds m n awaited)
-boundary_is m p n false awaited = awaits_deeds m n awaited
+boundary_is : (m : Machine) (w : Word) (p n : ℕ) (posts : Bool) (awaited : List ℕ) → map (deed_of m) (boundary_acts p w n posts awaited) ≡ boundary_deeds w n posts awaited
+boundary_is m w p n true awaited = ap (λ l. posting w n ∷ l) (awaits_deeds m w n awaited)
+boundary_is m w p n false awaited = awaits_deeds m w n awaited
 
 loads_deeds : (m : Machine) (t : ℕ) (loads : List ℕ) → map (deed_of m) (map (load t) loads) ≡ map loading loads
 loads_deeds m t [] = refl
 loads_deeds m t (c ∷ rest) = ap (λ l. loading c ∷ l) (loads_deeds m t rest)
 
-last_is : (m : Machine) (t : ℕ) (j : Job) (o : Option ℕ) → slice_get m.timeline t ≡ Some (job j) → deed_of m (last_act t o) ≡ last_deed o j.assigned j.line
-last_is m t j (Some cell) at = ap (λ x. storing cell (assigned_by x)) at
-last_is m t j None at = ap (λ x. printing (line_by x)) at
+last_is : (m : Machine) (t : ℕ) (j : Job) (o : Option ℕ) (adds : Bool) → slice_get m.timeline t ≡ Some (job j) → deed_of m (last_act t o adds) ≡ last_deed o adds j.assigned j.line
+last_is m t j (Some cell) false at = ap (λ x. storing cell (assigned_by x)) at
+last_is m t j (Some cell) true at = ap (λ x. adding cell (assigned_by x)) at
+last_is m t j None adds at = ap (λ x. printing (line_by x)) at
 
 job_is : (m : Machine) (t : ℕ) (j : Job) → slice_get m.timeline t ≡ Some (job j) → map (deed_of m) (job_acts t j) ≡ job_deeds j
 job_is m t j at =
-    map-append (deed_of m) (map (load t) j.loads) (last_act t j.store ∷ [])
-    ∙ ap (λ l. l ++ deed_of m (last_act t j.store) ∷ []) (loads_deeds m t j.loads)
-    ∙ ap (λ d. map loading j.loads ++ d ∷ []) (last_is m t j j.store at)
+    map-append (deed_of m) (map (load t) j.loads) (last_act t j.store j.adds ∷ [])
+    ∙ ap (λ l. l ++ deed_of m (last_act t j.store j.adds) ∷ []) (loads_deeds m t j.loads)
+    ∙ ap (λ d. map loading j.loads ++ d ∷ []) (last_is m t j j.store j.adds at)
 
 moment_is : (m : Machine) (p t : ℕ) (x : Moment) → slice_get m.timeline t ≡ Some x → map (deed_of m) (moment_acts p t x) ≡ moment_deeds p x
-moment_is m p t (boundary n posts awaits) at = boundary_is m p n (posts p) (awaits p)
+moment_is m p t (boundary w n posts awaits) at = boundary_is m w p n (posts p) (awaits p)
 moment_is m p t (job j) at = by (j.owner == p)
   where
     by : (b : Bool) → map (deed_of m) (if b then job_acts t j else []) ≡ (if b then job_deeds j else [])
@@ -109,17 +110,19 @@ deeds_are tree plan p anchors =
 -- ---- a step by its deed
 
 pub acted_is : (m : Machine) (s : State) (p : ℕ) (a : Act) → acted m s p a ≡ did s p (deed_of m a)
-acted_is m s p (post n) = refl
-acted_is m s p (await q n) = refl
+acted_is m s p (post w n) = refl
+acted_is m s p (await w q n) = refl
 acted_is m s p (load t c) = refl
 acted_is m s p (store t c) = refl
+acted_is m s p (add t c) = refl
 acted_is m s p (print t) = refl
 
 pub possible_is : (m : Machine) (s : State) (a : Act) → is_possible s a ≡ can_do s (deed_of m a)
-possible_is m s (post n) = refl
-possible_is m s (await q n) = refl
+possible_is m s (post w n) = refl
+possible_is m s (await w q n) = refl
 possible_is m s (load t c) = refl
 possible_is m s (store t c) = refl
+possible_is m s (add t c) = refl
 possible_is m s (print t) = refl
 
 -- each phase of a plan that fits has an anchor

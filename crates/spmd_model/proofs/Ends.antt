@@ -6,7 +6,7 @@ use Rattle.std.proofs.lemmas.Bool.{cases_Bool, eq-eqb}
 use Rattle.nest_model.specs.Memory.{cell_value}
 use Rattle.std.proofs.lemmas.Grind.{flat_map-append}
 use Rattle.std.proofs.lemmas.List.{append-nil, ext_get_or, length-replicate, take-append-drop, take_all}
-use Rattle.spmd_model.specs.Timelines.{await, load, Job, Machine, Moment, boundary, job, boundary_acts, job_acts, last_act, moment_acts, acts_from, acts_of}
+use Rattle.spmd_model.specs.Timelines.{await, load, Job, Machine, Moment, Word, boundary, job, boundary_acts, job_acts, last_act, moment_acts, acts_from, acts_of}
 use Rattle.spmd_model.specs.States.{State, IsEnded, line_by}
 use Rattle.spmd_model.specs.Sequential.{given_at, last_memory, loads_by, memory_at, moment_line, output_along, printed_line, whole_output}
 use Rattle.spmd_model.specs.Ordered.{IsSound}
@@ -21,27 +21,28 @@ silent_loads : (m : Machine) (t : ℕ) (loads : List ℕ) → flat_map (act_line
 silent_loads m t [] = refl
 silent_loads m t (c ∷ rest) = silent_loads m t rest
 
-silent_awaits : (m : Machine) (n : ℕ) (awaited : List ℕ) → flat_map (act_line m) (map (λ q. await q n) awaited) ≡ []
-silent_awaits m n [] = refl
-silent_awaits m n (q ∷ rest) = silent_awaits m n rest
+silent_awaits : (m : Machine) (w : Word) (n : ℕ) (awaited : List ℕ) → flat_map (act_line m) (map (λ q. await w q n) awaited) ≡ []
+silent_awaits m w n [] = refl
+silent_awaits m w n (q ∷ rest) = silent_awaits m w n rest
 
-silent_boundary : (m : Machine) (n : ℕ) (posts : Bool) (awaited : List ℕ) → flat_map (act_line m) (boundary_acts 0 n posts awaited) ≡ []
-silent_boundary m n true awaited = silent_awaits m n awaited
-silent_boundary m n false awaited = silent_awaits m n awaited
+silent_boundary : (m : Machine) (w : Word) (n : ℕ) (posts : Bool) (awaited : List ℕ) → flat_map (act_line m) (boundary_acts 0 w n posts awaited) ≡ []
+silent_boundary m w n true awaited = silent_awaits m w n awaited
+silent_boundary m w n false awaited = silent_awaits m w n awaited
 
-last_line : (m : Machine) (t : ℕ) (j : Job) (o : Option ℕ) → slice_get m.timeline t ≡ Some (job j) → flat_map (act_line m) (last_act t o ∷ []) ≡ printed_line j o (given_at m t)
-last_line m t j (Some cell) at = refl
-last_line m t j None at = append-nil (line_by (slice_get m.timeline t) (given_at m t)) ∙ ap (λ o. line_by o (given_at m t)) at
+last_line : (m : Machine) (t : ℕ) (j : Job) (o : Option ℕ) (b : Bool) → slice_get m.timeline t ≡ Some (job j) → flat_map (act_line m) (last_act t o b ∷ []) ≡ printed_line j o (given_at m t)
+last_line m t j (Some cell) false at = refl
+last_line m t j (Some cell) true at = refl
+last_line m t j None b at = append-nil (line_by (slice_get m.timeline t) (given_at m t)) ∙ ap (λ o. line_by o (given_at m t)) at
 
 -- what processor 0 prints for a moment is its line
 moment_prints : (m : Machine) (t : ℕ) (x : Moment) → IsSound m → slice_get m.timeline t ≡ Some x → flat_map (act_line m) (moment_acts 0 t x) ≡ moment_line (memory_at m t) x
-moment_prints m t (boundary n posts awaits) sound at = silent_boundary m n (posts 0) (awaits 0)
+moment_prints m t (boundary w n posts awaits) sound at = silent_boundary m w n (posts 0) (awaits 0)
 moment_prints m t (job j) sound at = elim (cases_Bool (j.owner == 0)) [
   | inl own ↦
       ap (λ b. flat_map (act_line m) (if b then job_acts t j else [])) own
-      ∙ flat_map-append (act_line m) (map (load t) j.loads) (last_act t j.store ∷ [])
-      ∙ ap (λ l. l ++ flat_map (act_line m) (last_act t j.store ∷ [])) (silent_loads m t j.loads)
-      ∙ last_line m t j j.store at
+      ∙ flat_map-append (act_line m) (map (load t) j.loads) (last_act t j.store j.adds ∷ [])
+      ∙ ap (λ l. l ++ flat_map (act_line m) (last_act t j.store j.adds ∷ [])) (silent_loads m t j.loads)
+      ∙ last_line m t j j.store j.adds at
       ∙ ap (λ o. printed_line j j.store (map (cell_value (memory_at m t)) (loads_by o))) at
   | inr other ↦ ap (λ b. flat_map (act_line m) (if b then job_acts t j else [])) other ∙ sym (silent other j.store refl)
 ]

@@ -1,13 +1,13 @@
 -- What lawful places keep, act by act.
-use Rattle.std.proofs.Common.{◌≡◌, ◌≢◌, nat_le, ℕ, suc, ◌+◌, ◌<◌, ◌≤◌, ℤ, true, true≢false, List, [], ◌∷◌, ◌++◌, length, map, Option, Some, None, ap, sym, subst, ◌∙◌, inl, inr, ⊎_elim, arith}
+use Rattle.std.proofs.Common.{◌≡◌, ◌≢◌, nat_le, ℕ, suc, ◌+◌, ◌<◌, ◌≤◌, ℤ, true, false, true≢false, List, [], ◌∷◌, ◌++◌, length, map, Option, Some, None, ap, sym, subst, ◌∙◌, inl, inr, ⊎_elim, arith}
 use Rattle.std.specs.Prelude.{slice_get}
 use Rattle.std.specs.List.{Contains}
 use Rattle.std.specs.Option.{option_to_list}
-use Rattle.std.proofs.lemmas.Bool.{cases_eq, cases_lt, eqb-true, le-leb, lt-leb, lt-ltb, le-ltb}
+use Rattle.std.proofs.lemmas.Bool.{cases_Bool, cases_eq, cases_lt, eqb-true, le-leb, lt-leb, lt-ltb, le-ltb}
 use Rattle.std.proofs.lemmas.List.{length-append, length-map}
 use Rattle.std.proofs.lemmas.Option.{slice_get_within}
 use Rattle.spmd_model.specs.Timelines.{Act, load, Job, Machine, job, act_at, acts_of, last_act, moment_acts}
-use Rattle.spmd_model.specs.Ordered.{IsOrdered, IsSound, cells_of}
+use Rattle.spmd_model.specs.Ordered.{Conflict, IsOrdered, IsSound, Needs}
 use Rattle.spmd_model.specs.Lawful.{IsLawful, Moves, acts_in_front, is_done, stores_to}
 use Rattle.sync_plan.proofs.Gets.{get-behind, get-front}
 use Rattle.spmd_model.proofs.Lists.{contains_at}
@@ -31,7 +31,7 @@ stands m p n a f =
 -- a job of the processor has acts
 pub some_acts : (m : Machine) (p u : ℕ) (k : Job) → slice_get m.timeline u ≡ Some (job k) → k.owner ≡ p → acts_in_front m p u + length k.loads + 1 ≡ acts_in_front m p (suc u)
 some_acts m p u k at own =
-    let acts = ap length (own_acts p u k own) ∙ length-append (map (load u) k.loads) (last_act u k.store ∷ []) in
+    let acts = ap length (own_acts p u k own) ∙ length-append (map (load u) k.loads) (last_act u k.store k.adds ∷ []) in
     omega (arith, in_front-more m p u (job k) at, acts, length-map k.loads (load u))
 
 pub within_acts : (m : Machine) (p n : ℕ) (a : Act) → act_at m p n ≡ Some a → n < length (acts_of m p)
@@ -58,24 +58,22 @@ same_elsewhere m at after p t u k here moves there apart = elim (cases_eq k.owne
 
 -- ---- conflicts with the job that a processor is at
 
-pub loads_cell : (j : Job) (i cell : ℕ) → slice_get j.loads i ≡ Some cell → Contains (cells_of j) cell
-loads_cell j i cell e = contains_at (cells_of j) i cell (get-front j.loads (option_to_list j.store) i (slice_get_within j.loads i cell e) ∙ e)
+pub loads_cell : (j : Job) (i cell : ℕ) → slice_get j.loads i ≡ Some cell → Needs j cell
+loads_cell j i cell e = inl (contains_at j.loads i cell e)
 
-pub stores_cell : (j : Job) (cell : ℕ) → j.store ≡ Some cell → Contains (cells_of j) cell
-stores_cell j cell e =
-    let same : length j.loads ≡ length j.loads + 0 = omega arith in
-    contains_at (cells_of j) (length j.loads) cell (ap (slice_get (j.loads ++ option_to_list j.store)) same ∙ get-behind j.loads (option_to_list j.store) 0 ∙ ap (λ o. slice_get (option_to_list o) 0) e)
+pub stores_cell : (j : Job) (cell : ℕ) → j.store ≡ Some cell → j.adds ≡ false → Needs j cell
+stores_cell j cell e plain = inr (e, plain)
 
 pub store_is : (o : Option ℕ) (cell : ℕ) → stores_to o cell ≡ true → o ≡ Some cell
 store_is None cell h = absurd (true≢false (sym h))
 store_is (Some c) cell h = ap Some (eqb-true c cell h)
 
--- where a processor is at a job that has the cell, the jobs that store to the cell are done exactly if they stand in front of it
-pub agrees_in_front : (m : Machine) (cells : List ℤ) (at : ℕ → ℕ) (p t cell : ℕ) (j : Job) → IsSound m → IsOrdered m → IsLawful m cells at → IsAt m p (at p) t j → Contains (cells_of j) cell → Agree m cell (is_done m at) (in_front_of t)
+-- where a processor is at a job that needs the cell for itself, the jobs that change the cell are done exactly if they stand in front of it
+pub agrees_in_front : (m : Machine) (cells : List ℤ) (at : ℕ → ℕ) (p t cell : ℕ) (j : Job) → IsSound m → IsOrdered m → IsLawful m cells at → IsAt m p (at p) t j → Needs j cell → Agree m cell (is_done m at) (in_front_of t)
 agrees_in_front m cells at p t cell j sound ordered law here among u k there stores =
     let stored = store_is k.store cell stores in
     ⊎_elim
-    (λ lt. le-leb (acts_in_front m k.owner (suc u)) (at k.owner) (earlier_done m cells at p t u j k sound ordered law here there lt (record { cell = cell; first = stores_cell k cell stored; second = among; stored = inl stored })) ∙ sym (lt-ltb u t lt))
+    (λ lt. le-leb (acts_in_front m k.owner (suc u)) (at k.owner) (earlier_done m cells at p t u j k sound ordered law here there lt (record { cell = cell; clash = inr (stored, among) })) ∙ sym (lt-ltb u t lt))
     (λ le. lt-leb (acts_in_front m k.owner (suc u)) (at k.owner) (not_done le) ∙ sym (le-ltb u t le)) (cases_lt u t)
   where
     not_done : t ≤ u → at k.owner < acts_in_front m k.owner (suc u)
@@ -85,5 +83,16 @@ agrees_in_front m cells at p t cell j sound ordered law here among u k there sto
         let equal : j ≡ k = cc in
         let owner : k.owner ≡ p = ap (λ (x : Job). x.owner) (sym equal) ∙ here.owner in
         subst (λ o. at o < acts_in_front m o (suc u)) (sym owner) (subst (λ x. at p < acts_in_front m p (suc x)) same here.to))
-        (λ apart. later_not m cells at p t u j k sound ordered law here there (omega (arith, le, apart)) (record { cell = cell; first = among; second = stores_cell k cell (store_is k.store cell stores); stored = inr (store_is k.store cell stores) }))
+        (λ apart. later_not m cells at p t u j k sound ordered law here there (omega (arith, le, apart)) (record { cell = cell; clash = inl (among, store_is k.store cell stores) }))
         (cases_eq t u)
+
+-- where it is at a job that adds to the cell, a job that stores to it is done exactly if it stands in front of that
+pub stores_in_front : (m : Machine) (cells : List ℤ) (at : ℕ → ℕ) (p t cell : ℕ) (j : Job) → IsSound m → IsOrdered m → IsLawful m cells at → IsAt m p (at p) t j → j.store ≡ Some cell → (u : ℕ) (k : Job) → slice_get m.timeline u ≡ Some (job k) → stores_to k.store cell ≡ true → t < u → is_done m at u k ≡ true →
+    k.adds ≡ true
+stores_in_front m cells at p t cell j sound ordered law here changes u k there stores later done = elim (cases_Bool k.adds) [
+  | inl adds ↦ adds
+  | inr plain ↦
+      let conflict : Conflict j k = record { cell = cell; clash = inr (changes, stores_cell k cell (store_is k.store cell stores) plain) } in
+      let not_yet = later_not m cells at p t u j k sound ordered law here there later conflict in
+      absurd (true≢false (sym done ∙ lt-leb (acts_in_front m k.owner (suc u)) (at k.owner) not_yet))
+]

@@ -10,6 +10,9 @@ pub mod Counters
 pub mod Unstuck
 pub mod Runs
 pub mod Ends
+pub mod Rounds
+pub mod Quiet
+pub mod Shared
 mod PlannedMoments
 mod PlannedOrder
 pub mod PlannedMemory

@@ -1,15 +1,16 @@
 -- The sequential values along a plan's timeline are those of its program.
-use Rattle.std.proofs.Common.{◌≡◌, ℕ, zero, suc, ◌+◌, ℤ, List, [], ◌∷◌, ◌++◌, map, take, fold, refl, ap, sym, ◌∙◌, arith}
+use Rattle.std.proofs.Common.{◌≡◌, ℕ, zero, suc, ◌+◌, ℤ, false, List, [], ◌∷◌, ◌++◌, map, take, fold, Option, Some, None, refl, ap, sym, ◌∙◌, arith}
 use Rattle.std.proofs.lemmas.List.{map-append, take-map}
 use Rattle.nest_tree.specs.Tree.{Work, assign, print, Tree, param_values}
 use Rattle.nest_model.specs.Instances.{Instance}
-use Rattle.nest_model.specs.Memory.{cell_value, with_store, memory_after, memory_before, output_from, output_of, line_of, loaded_in, printed_text, first_memory}
-use Rattle.nest_model.specs.Accesses.{work_store}
+use Rattle.nest_model.specs.Memory.{assigned_value, cell_value, with_store, memory_after, memory_before, output_from, output_of, line_of, loaded_in, printed_text, first_memory}
+use Rattle.nest_model.specs.Accesses.{store_of, work_store}
 use Rattle.nest_model.specs.Memory as Model
 use Rattle.nest_model.specs.Visits.{Visit}
 use Rattle.owner_partition.specs.Phases.{Execution, executions, executions_from, phase_instances, phases}
 use Rattle.owner_partition.proofs.Instances.{all_executed}
 use Rattle.sync_plan.specs.declared.plan.Plan.{Plan}
+use Rattle.spmd_model.specs.Cells.{with_change}
 use Rattle.spmd_model.specs.Timelines.{Job, Moment, boundary, job}
 use Rattle.spmd_model.specs.Planned.{job_count, job_of, jobs_in_front, jobs_of, machine_of, timeline_from, timeline_of}
 use Rattle.spmd_model.specs.Sequential.{last_memory, memory_at, memory_behind, output_along, printed_line, whole_output}
@@ -17,12 +18,12 @@ use Rattle.spmd_model.specs.Sequential.{last_memory, memory_at, memory_behind, o
 -- the jobs among moments
 abbrev jobs_in : List Moment → List Job
 jobs_in [] = []
-jobs_in (boundary n posts awaits ∷ rest) = jobs_in rest
+jobs_in (boundary w n posts awaits ∷ rest) = jobs_in rest
 jobs_in (job j ∷ rest) = j ∷ jobs_in rest
 
 jobs_in-append : (xs ys : List Moment) → jobs_in (xs ++ ys) ≡ jobs_in xs ++ jobs_in ys
 jobs_in-append [] ys = refl
-jobs_in-append (boundary n posts awaits ∷ rest) ys = jobs_in-append rest ys
+jobs_in-append (boundary w n posts awaits ∷ rest) ys = jobs_in-append rest ys
 jobs_in-append (job j ∷ rest) ys = ap (λ l. j ∷ l) (jobs_in-append rest ys)
 
 jobs_in-jobs : (f : Instance → Job) (is : List Instance) → jobs_in (map (λ i. job (f i)) is) ≡ map f is
@@ -32,7 +33,7 @@ jobs_in-jobs f (i ∷ is) = ap (λ l. f i ∷ l) (jobs_in-jobs f is)
 jobs_in-take : (xs : List Moment) (t : ℕ) → jobs_in (take t xs) ≡ take (job_count (take t xs)) (jobs_in xs)
 jobs_in-take xs zero = refl
 jobs_in-take [] (suc t) = refl
-jobs_in-take (boundary n posts awaits ∷ rest) (suc t) = let same : 0 + job_count (take t rest) ≡ job_count (take t rest) = omega arith in jobs_in-take rest t ∙ ap (λ k. take k (jobs_in rest)) (sym same)
+jobs_in-take (boundary w n posts awaits ∷ rest) (suc t) = let same : 0 + job_count (take t rest) ≡ job_count (take t rest) = omega arith in jobs_in-take rest t ∙ ap (λ k. take k (jobs_in rest)) (sym same)
 jobs_in-take (job j ∷ rest) (suc t) = let same : 1 + job_count (take t rest) ≡ suc (job_count (take t rest)) = omega arith in ap (λ l. j ∷ l) (jobs_in-take rest t) ∙ ap (λ k. take k (j ∷ jobs_in rest)) (sym same)
 
 map_map : {X Y Z : Type 0} (f : Y → Z) (g : X → Y) (xs : List X) → map f (map g xs) ≡ map (λ x. f (g x)) xs
@@ -53,16 +54,23 @@ jobs_along tree plan e (v ∷ vs) =
 -- ---- memory
 
 abbrev job_behind : List ℤ → Job → List ℤ
-job_behind memory j = with_store memory j.store (j.assigned (map (cell_value memory) j.loads))
+job_behind memory j = with_change memory j.store j.adds (j.assigned (map (cell_value memory) j.loads))
 
 fold_jobs : (memory : List ℤ) (xs : List Moment) → fold memory_behind memory xs ≡ fold job_behind memory (jobs_in xs)
 fold_jobs memory [] = refl
-fold_jobs memory (boundary n posts awaits ∷ rest) = fold_jobs memory rest
+fold_jobs memory (boundary w n posts awaits ∷ rest) = fold_jobs memory rest
 fold_jobs memory (job j ∷ rest) = fold_jobs (job_behind memory j) rest
+
+same_change : (memory : List ℤ) (store : Option ℕ) (v : ℤ) → with_change memory store false v ≡ with_store memory store v
+same_change memory None v = refl
+same_change memory (Some cell) v = refl
+
+behind_instance : (tree : Tree) (plan : Plan) (memory : List ℤ) (x : Execution) → job_behind memory (job_of tree plan x) ≡ memory_after tree memory x.instance
+behind_instance tree plan memory x = same_change memory (store_of tree x.instance) (assigned_value tree x.instance (loaded_in tree memory x.instance))
 
 fold_instances : (tree : Tree) (plan : Plan) (memory : List ℤ) (xs : List Execution) → fold job_behind memory (map (job_of tree plan) xs) ≡ fold (memory_after tree) memory (map (λ (x : Execution). x.instance) xs)
 fold_instances tree plan memory [] = refl
-fold_instances tree plan memory (x ∷ xs) = fold_instances tree plan (memory_after tree memory x.instance) xs
+fold_instances tree plan memory (x ∷ xs) = ap (λ l. fold job_behind l (map (job_of tree plan) xs)) (behind_instance tree plan memory x) ∙ fold_instances tree plan (memory_after tree memory x.instance) xs
 
 pub memory_is : (tree : Tree) (plan : Plan) (t : ℕ) → memory_at (machine_of tree plan) t ≡ memory_before tree (jobs_in_front tree plan t)
 memory_is tree plan t =
@@ -90,7 +98,7 @@ output_jobs memory (j ∷ rest) = printed_line j j.store (map (cell_value memory
 
 output_moments : (memory : List ℤ) (xs : List Moment) → output_along memory xs ≡ output_jobs memory (jobs_in xs)
 output_moments memory [] = refl
-output_moments memory (boundary n posts awaits ∷ rest) = output_moments memory rest
+output_moments memory (boundary w n posts awaits ∷ rest) = output_moments memory rest
 output_moments memory (job j ∷ rest) = ap (λ l. printed_line j j.store (map (cell_value memory) j.loads) ++ l) (output_moments (job_behind memory j) rest)
 
 line_for : (j : Job) (tree : Tree) (loops : List ℤ) (w : Work) (given : List ℤ) → j.line given ≡ printed_text tree loops w given → printed_line j (work_store tree loops w) given ≡ printed_text tree loops w given
@@ -103,7 +111,8 @@ line_is tree plan x given = line_for (job_of tree plan x) tree x.instance.loops 
 output_instances : (tree : Tree) (plan : Plan) (memory : List ℤ) (xs : List Execution) → output_jobs memory (map (job_of tree plan) xs) ≡ output_from tree memory (map (λ (x : Execution). x.instance) xs)
 output_instances tree plan memory [] = refl
 output_instances tree plan memory (x ∷ xs) =
-    ap (λ l. l ++ output_jobs (memory_after tree memory x.instance) (map (job_of tree plan) xs)) (line_is tree plan x (loaded_in tree memory x.instance))
+    ap (λ l. l ++ output_jobs (job_behind memory (job_of tree plan x)) (map (job_of tree plan) xs)) (line_is tree plan x (loaded_in tree memory x.instance))
+    ∙ ap (λ l. line_of tree x.instance (loaded_in tree memory x.instance) ++ output_jobs l (map (job_of tree plan) xs)) (behind_instance tree plan memory x)
     ∙ ap (λ l. line_of tree x.instance (loaded_in tree memory x.instance) ++ l) (output_instances tree plan (memory_after tree memory x.instance) xs)
 
 pub output_is : (tree : Tree) (plan : Plan) → whole_output (machine_of tree plan) ≡ output_of tree

@@ -1,5 +1,5 @@
 -- An ordered plan has an ordered timeline.
-use Rattle.std.proofs.Common.{◌≡◌, ℕ, zero, suc, ◌+◌, ◌-◌, ◌<◌, ◌≤◌, Bool, true, false, cond, List, [], ◌∷◌, map, take, Option, Some, None, refl, ap, sym, subst, ◌∙◌, arith}
+use Rattle.std.proofs.Common.{◌≡◌, ℕ, zero, suc, ◌+◌, ◌-◌, ◌<◌, ◌≤◌, Bool, true, false, cond, List, [], ◌∷◌, map, take, Option, Some, None, refl, ap, sym, subst, ◌∙◌, ◌⊎◌, inl, inr, arith}
 use Rattle.std.specs.Prelude.{slice_get}
 use Rattle.std.specs.List.{Contains, filter, range_with_len}
 use Rattle.nest_tree.specs.Tree.{Tree, param_values}
@@ -7,10 +7,14 @@ use Rattle.nest_model.specs.Visits.{Visit}
 use Rattle.owner_partition.specs.Phases.{Execution, executions, phases}
 use Rattle.sync_plan.specs.declared.plan.Kind.{Kind}
 use Rattle.sync_plan.specs.declared.plan.Plan.{Plan}
+use Rattle.std.specs.Option.{option_to_list}
+use Rattle.std.proofs.lemmas.List.Elements.{Contains-append_left, Contains-append_right}
+use Rattle.nest_model.specs.Accesses.{cells_of, loads_of, store_of}
+use Rattle.sync_plan.specs.Conflicts.{ConflictUnder}
 use Rattle.sync_plan.specs.Ordered.{IsOrdered as IsOrderedPlan, IsChain as IsPlanChain, Hop as PlanHop, awaited_in as awaited_in_plan, awaited_in_front, owner_under}
 use Rattle.sync_plan.specs.Waits.{awaited_behind, does_wait_at, kind_owner}
 use Rattle.spmd_model.specs.Timelines.{Job, job}
-use Rattle.spmd_model.specs.Ordered.{Conflict, Hop, IsChain, IsOrdered, awaited_in, number_in}
+use Rattle.spmd_model.specs.Ordered.{Conflict, Hop, IsChain, IsOrdered, Needs, awaited_in, number_in}
 use Rattle.spmd_model.specs.Planned.{boundary_of, job_count, job_of, machine_of, timeline_of}
 use Rattle.spmd_model.proofs.PlannedMoments.{boundary_place_from, boundary_rises, boundary_step, boundary_there, counts_rise, executed}
 
@@ -91,6 +95,24 @@ chain_along tree plan q e t (h ∷ hops) p f u some inside (lt, among, rest) fro
         let rise = boundary_rises tree plan 1 (phases tree plan.cut) (suc (h.phase - 1)) (k - 1) (omega (arith, next, lt)) in
         omega (arith, one, rise)
 
+-- ---- conflicts
+
+-- the owner's instance has a cell that its job changes, or needs for itself
+changed_cell : (tree : Tree) (plan : Plan) (x : Execution) (cell : ℕ) → (job_of tree plan x).store ≡ Some cell → Contains (cells_of tree x.instance) cell
+changed_cell tree plan x cell stores = Contains-append_right (loads_of tree x.instance) (option_to_list (store_of tree x.instance)) cell (subst (λ o. Contains (option_to_list o) cell) (sym stores) (0, omega arith, refl))
+
+needed_cell : (tree : Tree) (plan : Plan) (x : Execution) (cell : ℕ) → Needs (job_of tree plan x) cell → Contains (cells_of tree x.instance) cell
+needed_cell tree plan x cell (inl among) = Contains-append_left (loads_of tree x.instance) (option_to_list (store_of tree x.instance)) cell among
+needed_cell tree plan x cell (inr stores) = changed_cell tree plan x cell stores.0
+
+-- jobs that conflict are those of instances that do
+conflict_under : (tree : Tree) (plan : Plan) (x y : Execution) → Conflict (job_of tree plan x) (job_of tree plan y) → ConflictUnder tree plan x y
+conflict_under tree plan x y conflict = by conflict.clash
+  where
+    by : (Needs (job_of tree plan x) conflict.cell × ((job_of tree plan y).store ≡ Some conflict.cell)) ⊎ (((job_of tree plan x).store ≡ Some conflict.cell) × Needs (job_of tree plan y) conflict.cell) → ConflictUnder tree plan x y
+    by (inl (needs, stores)) = record { cell = conflict.cell; first = needed_cell tree plan x conflict.cell needs; second = changed_cell tree plan y conflict.cell stores; stored = inr stores }
+    by (inr (stores, needs)) = record { cell = conflict.cell; first = changed_cell tree plan x conflict.cell stores; second = needed_cell tree plan y conflict.cell needs; stored = inl stores }
+
 pub ordered_along : (tree : Tree) (plan : Plan) → ((x : Execution) (k : ℕ) → slice_get (executions tree plan.cut) k ≡ Some x → owner_under tree plan x < plan.workers) → IsOrderedPlan tree plan → IsOrdered (machine_of tree plan)
 ordered_along tree plan owned ordered t u i j lt at at' conflict apart =
     let vs = phases tree plan.cut in
@@ -100,7 +122,7 @@ ordered_along tree plan owned ordered t u i j lt at at' conflict apart =
     let conflict_xy : Conflict (job_of tree plan x.execution) (job_of tree plan y.execution) = subst (λ a. Conflict a (job_of tree plan y.execution)) x.is (subst (λ a. Conflict i a) y.is conflict) in
     let owner_x : i.owner ≡ owner_under tree plan x.execution = ap (λ (a : Job). a.owner) x.is in
     let owner_y : j.owner ≡ owner_under tree plan y.execution = ap (λ (a : Job). a.owner) y.is in
-    let chain = ordered x.number y.number x.execution y.execution less x.at y.at (record { cell = conflict_xy.cell; first = conflict_xy.first; second = conflict_xy.second; stored = conflict_xy.stored }) (λ e. apart (owner_x ∙ e ∙ sym owner_y)) in
+    let chain = ordered x.number y.number x.execution y.execution less x.at y.at (conflict_under tree plan x.execution y.execution conflict_xy) (λ e. apart (owner_x ∙ e ∙ sym owner_y)) in
     let along = chain_along tree plan (owner_under tree plan x.execution) x.execution.phase t chain.0 (owner_under tree plan y.execution) y.execution.phase u (omega (arith, x.phase_is)) (owned y.execution y.number y.at) chain.1
     (λ k next. let rise = boundary_rises tree plan 1 vs (suc x.phase) (k - 1) (omega (arith, next, x.phase_is)) in omega (arith, rise, x.in_front))
     (λ k first le. let rise = boundary_rises tree plan 1 vs (k - 1) y.phase (omega (arith, le, y.phase_is)) in omega (arith, rise, y.behind)) lt in

@@ -11,7 +11,7 @@ use Rattle.owner_partition.specs.Phases.{Execution, phase_instances, phases}
 use Rattle.sync_plan.specs.declared.plan.Kind.{Kind}
 use Rattle.sync_plan.specs.declared.plan.Plan.{Plan}
 use Rattle.sync_plan.specs.Waits.{awaited_behind, does_wait_at, is_awaited_behind, kind_owner, posts_at, waits_for}
-use Rattle.spmd_model.specs.Timelines.{Job, boundary, job}
+use Rattle.spmd_model.specs.Timelines.{Job, Word, boundary, job}
 use Rattle.spmd_model.specs.Planned.{boundary_of, job_of, jobs_of, timeline_from, timeline_of}
 use Rattle.std.specs.List.{All}
 use Rattle.nest_tree.specs.Tree.{Printing, Work, assign, print}
@@ -28,33 +28,33 @@ use Rattle.spmd_model.proofs.PlannedOrder.{ordered_along}
 use Rattle.spmd_model.proofs.PlannedMoments.{boundary_place_from, boundary_rises, executed}
 
 -- a boundary on the timeline is that of a phase
-pub record IsBoundary (tree : Tree) (plan : Plan) (e : ℕ) (vs : List Visit) (t n : ℕ) (posts : ℕ → Bool) (awaits : ℕ → List ℕ) : Type 0 where
+pub record IsBoundary (tree : Tree) (plan : Plan) (e : ℕ) (vs : List Visit) (t : ℕ) (w : Word) (n : ℕ) (posts : ℕ → Bool) (awaits : ℕ → List ℕ) : Type 0 where
   pub phase : ℕ
   pub visit : Visit
   pub at : slice_get vs phase ≡ Some visit
-  pub is : boundary n posts awaits ≡ boundary_of tree plan (e + phase) visit
+  pub is : boundary w n posts awaits ≡ boundary_of tree plan (e + phase) visit
   pub place : t ≡ boundary_place_from tree plan e vs phase
 
-no_boundary : (f : Instance → Job) (is : List Instance) (k n : ℕ) (posts : ℕ → Bool) (awaits : ℕ → List ℕ) → slice_get (map (λ i. job (f i)) is) k ≡ Some (boundary n posts awaits) → ⊥
-no_boundary f [] k n posts awaits e = let clash : None ≡ Some (boundary n posts awaits) = e in cc
-no_boundary f (i ∷ is) zero n posts awaits e = let clash : Some (job (f i)) ≡ Some (boundary n posts awaits) = e in cc
-no_boundary f (i ∷ is) (suc k) n posts awaits e = no_boundary f is k n posts awaits e
+no_boundary : (f : Instance → Job) (is : List Instance) (k : ℕ) (w : Word) (n : ℕ) (posts : ℕ → Bool) (awaits : ℕ → List ℕ) → slice_get (map (λ i. job (f i)) is) k ≡ Some (boundary w n posts awaits) → ⊥
+no_boundary f [] k w n posts awaits e = let clash : None ≡ Some (boundary w n posts awaits) = e in cc
+no_boundary f (i ∷ is) zero w n posts awaits e = let clash : Some (job (f i)) ≡ Some (boundary w n posts awaits) = e in cc
+no_boundary f (i ∷ is) (suc k) w n posts awaits e = no_boundary f is k w n posts awaits e
 
-pub boundary_is : (tree : Tree) (plan : Plan) (e : ℕ) (vs : List Visit) (t n : ℕ) (posts : ℕ → Bool) (awaits : ℕ → List ℕ) → slice_get (timeline_from tree plan e vs) t ≡ Some (boundary n posts awaits) → IsBoundary tree plan e vs t n posts awaits
-boundary_is tree plan e [] t n posts awaits at = let clash : None ≡ Some (boundary n posts awaits) = at in absurd (cc)
-boundary_is tree plan e (v ∷ vs) zero n posts awaits at =
-    let same : Some (boundary_of tree plan e v) ≡ Some (boundary n posts awaits) = at in
-    let equal : boundary_of tree plan e v ≡ boundary n posts awaits = cc in
+pub boundary_is : (tree : Tree) (plan : Plan) (e : ℕ) (vs : List Visit) (t : ℕ) (w : Word) (n : ℕ) (posts : ℕ → Bool) (awaits : ℕ → List ℕ) → slice_get (timeline_from tree plan e vs) t ≡ Some (boundary w n posts awaits) → IsBoundary tree plan e vs t w n posts awaits
+boundary_is tree plan e [] t w n posts awaits at = let clash : None ≡ Some (boundary w n posts awaits) = at in absurd (cc)
+boundary_is tree plan e (v ∷ vs) zero w n posts awaits at =
+    let same : Some (boundary_of tree plan e v) ≡ Some (boundary w n posts awaits) = at in
+    let equal : boundary_of tree plan e v ≡ boundary w n posts awaits = cc in
     let here : e ≡ e + 0 = omega arith in
     record { phase = 0; visit = v; at = refl; is = sym equal ∙ ap (λ k. boundary_of tree plan k v) here; place = refl }
-boundary_is tree plan e (v ∷ vs) (suc t) n posts awaits at =
+boundary_is tree plan e (v ∷ vs) (suc t) w n posts awaits at =
     let jobs = jobs_of tree plan e v in
     let later = timeline_from tree plan (suc e) vs in
     elim (cases_lt t (length jobs)) [
-      | inl inside ↦ absurd (no_boundary (λ i. job_of tree plan (record { phase = e; place = v.place; instance = i })) (phase_instances (param_values tree) v) t n posts awaits (sym (get-front jobs later t inside) ∙ at))
+      | inl inside ↦ absurd (no_boundary (λ i. job_of tree plan (record { phase = e; place = v.place; instance = i })) (phase_instances (param_values tree) v) t w n posts awaits (sym (get-front jobs later t inside) ∙ at))
       | inr past ↦
           let more : length jobs + (t - length jobs) ≡ t = omega (arith, past) in
-          let rest = boundary_is tree plan (suc e) vs (t - length jobs) n posts awaits (sym (ap (slice_get (jobs ++ later)) (sym more) ∙ get-behind jobs later (t - length jobs)) ∙ at) in
+          let rest = boundary_is tree plan (suc e) vs (t - length jobs) w n posts awaits (sym (ap (slice_get (jobs ++ later)) (sym more) ∙ get-behind jobs later (t - length jobs)) ∙ at) in
           let number : suc e + rest.phase ≡ e + suc rest.phase = omega arith in
           record {
             phase = suc rest.phase;
@@ -66,16 +66,16 @@ boundary_is tree plan e (v ∷ vs) (suc t) n posts awaits at =
     ]
 
 -- its number
-number_is : (tree : Tree) (plan : Plan) (e n : ℕ) (v : Visit) (posts : ℕ → Bool) (awaits : ℕ → List ℕ) → boundary n posts awaits ≡ boundary_of tree plan e v → n ≡ e - 1
-number_is tree plan e n v posts awaits same = cc
+number_is : (tree : Tree) (plan : Plan) (e : ℕ) (w : Word) (n : ℕ) (v : Visit) (posts : ℕ → Bool) (awaits : ℕ → List ℕ) → boundary w n posts awaits ≡ boundary_of tree plan e v → n ≡ e - 1
+number_is tree plan e w n v posts awaits same = cc
 
-pub numbers_rise : (tree : Tree) (plan : Plan) (s t n k : ℕ) (f g : ℕ → Bool) (a b : ℕ → List ℕ) → s < t → slice_get (timeline_of tree plan) s ≡ Some (boundary n f a) → slice_get (timeline_of tree plan) t ≡ Some (boundary k g b) → n < k
-numbers_rise tree plan s t n k f g a b lt at at' =
+pub numbers_rise : (tree : Tree) (plan : Plan) (w : Word) (s t n k : ℕ) (f g : ℕ → Bool) (a b : ℕ → List ℕ) → s < t → slice_get (timeline_of tree plan) s ≡ Some (boundary w n f a) → slice_get (timeline_of tree plan) t ≡ Some (boundary w k g b) → n < k
+numbers_rise tree plan w s t n k f g a b lt at at' =
     let vs = phases tree plan.cut in
-    let x = boundary_is tree plan 1 vs s n f a at in
-    let y = boundary_is tree plan 1 vs t k g b at' in
-    let nx = number_is tree plan (1 + x.phase) n x.visit f a x.is in
-    let ny = number_is tree plan (1 + y.phase) k y.visit g b y.is in
+    let x = boundary_is tree plan 1 vs s w n f a at in
+    let y = boundary_is tree plan 1 vs t w k g b at' in
+    let nx = number_is tree plan (1 + x.phase) w n x.visit f a x.is in
+    let ny = number_is tree plan (1 + y.phase) w k y.visit g b y.is in
     let less : x.phase < y.phase = ⊎_elim (λ l. l) (λ le. let rise = boundary_rises tree plan 1 vs y.phase x.phase le in absurd (omega (arith, rise, x.place, y.place, lt))) (cases_lt x.phase y.phase) in
     omega (arith, nx, ny, less)
 
@@ -119,19 +119,19 @@ awaited_posts tree plan v p q inside among = by (slice_get plan.kinds (v.place -
         let f = filtered (does_wait_at kind owner p) 0 plan.workers q found in
         (omega (arith, f.1), any_of (λ o. does_wait_at kind owner o q) 0 plan.workers p (omega arith) (omega (arith, inside)) f.0)
 
-pub awaited_on : (tree : Tree) (plan : Plan) (t n p q : ℕ) (posts : ℕ → Bool) (awaits : ℕ → List ℕ) → slice_get (timeline_of tree plan) t ≡ Some (boundary n posts awaits) → p < plan.workers → Contains (awaits p) q → (q < plan.workers) × (posts q ≡ true)
-awaited_on tree plan t n p q posts awaits at inside among =
-    let x = boundary_is tree plan 1 (phases tree plan.cut) t n posts awaits at in
+pub awaited_on : (tree : Tree) (plan : Plan) (w : Word) (t n p q : ℕ) (posts : ℕ → Bool) (awaits : ℕ → List ℕ) → slice_get (timeline_of tree plan) t ≡ Some (boundary w n posts awaits) → p < plan.workers → Contains (awaits p) q → (q < plan.workers) × (posts q ≡ true)
+awaited_on tree plan w t n p q posts awaits at inside among =
+    let x = boundary_is tree plan 1 (phases tree plan.cut) t w n posts awaits at in
     let v = x.visit in
     let same_posts : posts ≡ (λ o. posts_at tree plan o v.place v.loops) = posts_are (1 + x.phase) v x.is in
     let same_awaits : awaits ≡ (λ o. waits_for tree plan o v.place v.loops) = awaits_are (1 + x.phase) v x.is in
     let a = awaited_posts tree plan v p q inside (subst (λ f. Contains (f p) q) same_awaits among) in
     (a.0, ap (λ f. f q) same_posts ∙ a.1)
   where
-    posts_are : (e : ℕ) (v : Visit) → boundary n posts awaits ≡ boundary_of tree plan e v → posts ≡ (λ o. posts_at tree plan o v.place v.loops)
+    posts_are : (e : ℕ) (v : Visit) → boundary w n posts awaits ≡ boundary_of tree plan e v → posts ≡ (λ o. posts_at tree plan o v.place v.loops)
     posts_are e v same = cc
 
-    awaits_are : (e : ℕ) (v : Visit) → boundary n posts awaits ≡ boundary_of tree plan e v → awaits ≡ (λ o. waits_for tree plan o v.place v.loops)
+    awaits_are : (e : ℕ) (v : Visit) → boundary w n posts awaits ≡ boundary_of tree plan e v → awaits ≡ (λ o. waits_for tree plan o v.place v.loops)
     awaits_are e v same = cc
 
 -- ---- a plan that fits has a sound timeline
@@ -155,7 +155,7 @@ printed_along tree plan zero_owns t j at none =
 pub sound_of : (tree : Tree) (plan : Plan) → IsWellFormed tree → IsFit tree plan → IsSound (machine_of tree plan)
 sound_of tree plan formed fits = record {
   rising = numbers_rise tree plan;
-  awaited = λ t n p q posts awaits at inside among. awaited_on tree plan t n p q posts awaits at inside among;
+  awaited = awaited_on tree plan;
   owned = owned_along tree plan (owners_below tree plan formed fits);
   printed = printed_along tree plan (printers tree plan formed fits);
 }

@@ -8,11 +8,12 @@ use Rattle.std.proofs.lemmas.List.Elements.{All-head, All-tail}
 use Rattle.std.proofs.lemmas.Grind.{flat_map-append}
 use Rattle.std.proofs.lemmas.List.Sums.{fold-append}
 use Rattle.nest_model.specs.Memory.{cell_value}
-use Rattle.spmd_model.specs.Timelines.{Act, post, await, load, store, print, Machine, act_at, acts_of}
-use Rattle.spmd_model.specs.States.{State, acted, assigned_by, first_state, is_possible, line_by, moved, next_act, registers_of, run_of, stepped, stepped_by}
+use Rattle.spmd_model.specs.Cells.{plus}
+use Rattle.spmd_model.specs.Timelines.{Act, post, await, load, store, add, print, Machine, Word, counter, signal, act_at, acts_of}
+use Rattle.spmd_model.specs.States.{State, acted, assigned_by, first_state, is_possible, line_by, moved, next_act, registers_of, run_of, stepped, stepped_by, with_words, words_of}
 use Rattle.spmd_model.specs.Sequential.{registers_at, registers_behind, stored_at, stored_by}
 use Rattle.spmd_model.specs.Ordered.{IsOrdered, IsSound}
-use Rattle.spmd_model.specs.Lawful.{IsLawful, IsPosted, Moves, act_line, counted, counter_at, printed_at}
+use Rattle.spmd_model.specs.Lawful.{IsLawful, IsPosted, Moves, act_line, counted, counter_at, is_same, printed_at}
 use Rattle.spmd_model.specs.Reached.{HasCome, IsSequential, positions_of}
 use Rattle.spmd_model.proofs.Lists.{take-more}
 use Rattle.spmd_model.proofs.ActLists.{found}
@@ -24,10 +25,10 @@ use Rattle.spmd_model.proofs.ActLaws as law
 
 -- ---- one more act
 
-counter_more : (m : Machine) (p n : ℕ) (a : Act) → act_at m p n ≡ Some a → counter_at m p (n + 1) ≡ counted (counter_at m p n) a
-counter_more m p n a e =
+counter_more : (m : Machine) (w : Word) (p n : ℕ) (a : Act) → act_at m p n ≡ Some a → counter_at m w p (n + 1) ≡ counted w (counter_at m w p n) a
+counter_more m w p n a e =
     let one : n + 1 ≡ suc n = omega arith in
-    ap (counter_at m p) one ∙ ap (fold counted 0) (take-more (acts_of m p) n a e) ∙ fold-append counted 0 (take n (acts_of m p)) (a ∷ [])
+    ap (counter_at m w p) one ∙ ap (fold (counted w) 0) (take-more (acts_of m p) n a e) ∙ fold-append (counted w) 0 (take n (acts_of m p)) (a ∷ [])
 
 registers_more : (m : Machine) (p n : ℕ) (a : Act) → act_at m p n ≡ Some a → registers_at m p (n + 1) ≡ registers_behind m (registers_at m p n) a
 registers_more m p n a e =
@@ -44,13 +45,21 @@ printed_more m p n a e =
 pub come_first : (m : Machine) → HasCome m (first_state m)
 come_first m = record {
   count = length-replicate m.workers 0;
-  as_many = length-replicate m.workers 0;
+  as_many = λ w. many w;
   within = λ p lt. let none : slice_index (replicate m.workers 0) p ≡ 0 = get_or-replicate m.workers p 0 0 lt in omega (arith, none);
-  counters = λ p lt. let none : slice_index (replicate m.workers 0) p ≡ 0 = get_or-replicate m.workers p 0 0 lt in none ∙ sym (ap (counter_at m p) none);
+  counters = λ w p lt. let none : slice_index (replicate m.workers 0) p ≡ 0 = get_or-replicate m.workers p 0 0 lt in zero_at w p lt ∙ sym (ap (counter_at m w p) none);
 }
+  where
+    many : (w : Word) → length (words_of (first_state m) w) ≡ m.workers
+    many counter = length-replicate m.workers 0
+    many signal = length-replicate m.workers 0
 
-come_moved : (m : Machine) (s after : State) (p : ℕ) (a : Act) → p < m.workers → HasCome m s → next_act m s p ≡ Some a → after.positions ≡ set s.positions p (slice_index s.positions p + 1) → length after.counters ≡ m.workers →
-    slice_index after.counters p ≡ counted (slice_index s.counters p) a → ((q : ℕ) → q ≢ p → slice_index after.counters q ≡ slice_index s.counters q) → HasCome m after
+    zero_at : (w : Word) (p : ℕ) → p < m.workers → slice_index (words_of (first_state m) w) p ≡ 0
+    zero_at counter p lt = get_or-replicate m.workers p 0 0 lt
+    zero_at signal p lt = get_or-replicate m.workers p 0 0 lt
+
+come_moved : (m : Machine) (s after : State) (p : ℕ) (a : Act) → p < m.workers → HasCome m s → next_act m s p ≡ Some a → after.positions ≡ set s.positions p (slice_index s.positions p + 1) → ((w : Word) → length (words_of after w) ≡ m.workers) →
+    ((w : Word) → slice_index (words_of after w) p ≡ counted w (slice_index (words_of s w) p) a) → ((w : Word) (q : ℕ) → q ≢ p → slice_index (words_of after w) q ≡ slice_index (words_of s w) q) → HasCome m after
 come_moved m s after p a lt come next moves count here others =
     let at : p < length s.positions = omega (arith, come.count, lt) in
     let mine : slice_index after.positions p ≡ slice_index s.positions p + 1 = ap (λ l. slice_index l p) moves ∙ get_or-set_same s.positions p (slice_index s.positions p + 1) 0 at in
@@ -62,21 +71,114 @@ come_moved m s after p a lt come next moves count here others =
         | inl e ↦ subst (λ k. slice_index after.positions k ≤ length (acts_of m k)) (sym e) (omega (arith, mine, within_acts m p (slice_index s.positions p) a next))
         | inr ne ↦ omega (arith, theirs q ne, come.within q below)
       ];
-      counters = λ q below. elim (cases_eq q p) [
-        | inl e ↦ subst (λ k. slice_index after.counters k ≡ counter_at m k (slice_index after.positions k)) (sym e)
-            (here ∙ ap (λ k. counted k a) (come.counters p lt) ∙ sym (counter_more m p (slice_index s.positions p) a next) ∙ ap (counter_at m p) (sym mine))
-        | inr ne ↦ others q ne ∙ come.counters q below ∙ ap (counter_at m q) (sym (theirs q ne))
+      counters = λ w q below. elim (cases_eq q p) [
+        | inl e ↦ subst (λ k. slice_index (words_of after w) k ≡ counter_at m w k (slice_index after.positions k)) (sym e)
+            (here w ∙ ap (λ k. counted w k a) (come.counters w p lt) ∙ sym (counter_more m w p (slice_index s.positions p) a next) ∙ ap (counter_at m w p) (sym mine))
+        | inr ne ↦ others w q ne ∙ come.counters w q below ∙ ap (counter_at m w q) (sym (theirs q ne))
       ];
     }
 
 come_act : (m : Machine) (s : State) (p : ℕ) (a : Act) → p < m.workers → HasCome m s → next_act m s p ≡ Some a → HasCome m (moved (acted m s p a) p)
-come_act m s p (post n) lt come next =
-    let at : p < length s.counters = omega (arith, come.as_many, lt) in
-    come_moved m s (moved (acted m s p (post n)) p) p (post n) lt come next refl (length-set s.counters p n ∙ come.as_many) (get_or-set_same s.counters p n 0 at) (λ q ne. get_or-set_other s.counters p q n 0 ne)
-come_act m s p (await on n) lt come next = come_moved m s (moved (acted m s p (await on n)) p) p (await on n) lt come next refl come.as_many refl (λ q ne. refl)
-come_act m s p (load t c) lt come next = come_moved m s (moved (acted m s p (load t c)) p) p (load t c) lt come next refl come.as_many refl (λ q ne. refl)
-come_act m s p (store t c) lt come next = come_moved m s (moved (acted m s p (store t c)) p) p (store t c) lt come next refl come.as_many refl (λ q ne. refl)
-come_act m s p (print t) lt come next = come_moved m s (moved (acted m s p (print t)) p) p (print t) lt come next refl come.as_many refl (λ q ne. refl)
+come_act m s p (post counter n) lt come next =
+    let at : p < length s.counters = omega (arith, come.as_many counter, lt) in
+    come_moved m s (moved (acted m s p (post counter n)) p) p (post counter n) lt come next refl many (here at) others
+  where
+    many : (w : Word) → length (words_of (moved (acted m s p (post counter n)) p) w) ≡ m.workers
+    many counter = length-set s.counters p n ∙ come.as_many counter
+    many signal = come.as_many signal
+
+    here : p < length s.counters → (w : Word) → slice_index (words_of (moved (acted m s p (post counter n)) p) w) p ≡ counted w (slice_index (words_of s w) p) (post counter n)
+    here at counter = get_or-set_same s.counters p n 0 at
+    here at signal = refl
+
+    others : (w : Word) (q : ℕ) → q ≢ p → slice_index (words_of (moved (acted m s p (post counter n)) p) w) q ≡ slice_index (words_of s w) q
+    others counter q ne = get_or-set_other s.counters p q n 0 ne
+    others signal q ne = refl
+come_act m s p (post signal n) lt come next =
+    let at : p < length s.signals = omega (arith, come.as_many signal, lt) in
+    come_moved m s (moved (acted m s p (post signal n)) p) p (post signal n) lt come next refl many (here at) others
+  where
+    many : (w : Word) → length (words_of (moved (acted m s p (post signal n)) p) w) ≡ m.workers
+    many signal = length-set s.signals p n ∙ come.as_many signal
+    many counter = come.as_many counter
+
+    here : p < length s.signals → (w : Word) → slice_index (words_of (moved (acted m s p (post signal n)) p) w) p ≡ counted w (slice_index (words_of s w) p) (post signal n)
+    here at signal = get_or-set_same s.signals p n 0 at
+    here at counter = refl
+
+    others : (w : Word) (q : ℕ) → q ≢ p → slice_index (words_of (moved (acted m s p (post signal n)) p) w) q ≡ slice_index (words_of s w) q
+    others signal q ne = get_or-set_other s.signals p q n 0 ne
+    others counter q ne = refl
+come_act m s p (await v on n) lt come next = come_moved m s (moved (acted m s p (await v on n)) p) p (await v on n) lt come next refl (λ w. same_many w) (λ w. same_here w) (λ w q ne. same_others w q)
+  where
+    same_many : (w : Word) → length (words_of (moved (acted m s p (await v on n)) p) w) ≡ m.workers
+    same_many counter = come.as_many counter
+    same_many signal = come.as_many signal
+
+    same_here : (w : Word) → slice_index (words_of (moved (acted m s p (await v on n)) p) w) p ≡ slice_index (words_of s w) p
+    same_here counter = refl
+    same_here signal = refl
+
+    same_others : (w : Word) (q : ℕ) → slice_index (words_of (moved (acted m s p (await v on n)) p) w) q ≡ slice_index (words_of s w) q
+    same_others counter q = refl
+    same_others signal q = refl
+
+come_act m s p (load t c) lt come next = come_moved m s (moved (acted m s p (load t c)) p) p (load t c) lt come next refl (λ w. same_many w) (λ w. same_here w) (λ w q ne. same_others w q)
+  where
+    same_many : (w : Word) → length (words_of (moved (acted m s p (load t c)) p) w) ≡ m.workers
+    same_many counter = come.as_many counter
+    same_many signal = come.as_many signal
+
+    same_here : (w : Word) → slice_index (words_of (moved (acted m s p (load t c)) p) w) p ≡ slice_index (words_of s w) p
+    same_here counter = refl
+    same_here signal = refl
+
+    same_others : (w : Word) (q : ℕ) → slice_index (words_of (moved (acted m s p (load t c)) p) w) q ≡ slice_index (words_of s w) q
+    same_others counter q = refl
+    same_others signal q = refl
+
+come_act m s p (store t c) lt come next = come_moved m s (moved (acted m s p (store t c)) p) p (store t c) lt come next refl (λ w. same_many w) (λ w. same_here w) (λ w q ne. same_others w q)
+  where
+    same_many : (w : Word) → length (words_of (moved (acted m s p (store t c)) p) w) ≡ m.workers
+    same_many counter = come.as_many counter
+    same_many signal = come.as_many signal
+
+    same_here : (w : Word) → slice_index (words_of (moved (acted m s p (store t c)) p) w) p ≡ slice_index (words_of s w) p
+    same_here counter = refl
+    same_here signal = refl
+
+    same_others : (w : Word) (q : ℕ) → slice_index (words_of (moved (acted m s p (store t c)) p) w) q ≡ slice_index (words_of s w) q
+    same_others counter q = refl
+    same_others signal q = refl
+
+come_act m s p (add t c) lt come next = come_moved m s (moved (acted m s p (add t c)) p) p (add t c) lt come next refl (λ w. same_many w) (λ w. same_here w) (λ w q ne. same_others w q)
+  where
+    same_many : (w : Word) → length (words_of (moved (acted m s p (add t c)) p) w) ≡ m.workers
+    same_many counter = come.as_many counter
+    same_many signal = come.as_many signal
+
+    same_here : (w : Word) → slice_index (words_of (moved (acted m s p (add t c)) p) w) p ≡ slice_index (words_of s w) p
+    same_here counter = refl
+    same_here signal = refl
+
+    same_others : (w : Word) (q : ℕ) → slice_index (words_of (moved (acted m s p (add t c)) p) w) q ≡ slice_index (words_of s w) q
+    same_others counter q = refl
+    same_others signal q = refl
+
+come_act m s p (print t) lt come next = come_moved m s (moved (acted m s p (print t)) p) p (print t) lt come next refl (λ w. same_many w) (λ w. same_here w) (λ w q ne. same_others w q)
+  where
+    same_many : (w : Word) → length (words_of (moved (acted m s p (print t)) p) w) ≡ m.workers
+    same_many counter = come.as_many counter
+    same_many signal = come.as_many signal
+
+    same_here : (w : Word) → slice_index (words_of (moved (acted m s p (print t)) p) w) p ≡ slice_index (words_of s w) p
+    same_here counter = refl
+    same_here signal = refl
+
+    same_others : (w : Word) (q : ℕ) → slice_index (words_of (moved (acted m s p (print t)) p) w) q ≡ slice_index (words_of s w) q
+    same_others counter q = refl
+    same_others signal q = refl
+
 
 come_by : (m : Machine) (s : State) (p : ℕ) (o : Option Act) → p < m.workers → HasCome m s → next_act m s p ≡ o → HasCome m (stepped_by m s p o)
 come_by m s p None lt come next = come
@@ -127,19 +229,22 @@ sequential_moved m s after p a lt come seq next moves lawful count here others o
     by_zero e first more = sym (ap (printed_at m 0) more ∙ printed_more m 0 (slice_index s.positions 0) a first)
 
 sequential_act : (m : Machine) (s : State) (p : ℕ) (a : Act) → p < m.workers → IsSound m → IsOrdered m → HasCome m s → IsSequential m s → next_act m s p ≡ Some a → is_possible s a ≡ true → IsSequential m (moved (acted m s p a) p)
-sequential_act m s p (post n) lt sound ordered come seq next possible =
-    let after = moved (acted m s p (post n)) p in
-    sequential_moved m s after p (post n) lt come seq next refl (λ moves. law.by_post m s.memory (positions_of s) (positions_of after) p n lt seq.lawful next moves) seq.as_many (seq.registers p lt) (λ q ne. refl) (sym (append-nil s.output)) (λ ne. refl)
-sequential_act m s p (await on n) lt sound ordered come seq next possible =
-    let after = moved (acted m s p (await on n)) p in
-    let enough : n ≤ slice_index s.counters on = leb-true n (slice_index s.counters on) possible in
-    sequential_moved m s after p (await on n) lt come seq next refl
-    (λ moves. law.by_await m s.memory (positions_of s) (positions_of after) p on n lt seq.lawful next (is_posted enough) moves) seq.as_many (seq.registers p lt) (λ q ne. refl) (sym (append-nil s.output)) (λ ne. refl)
+sequential_act m s p (post counter n) lt sound ordered come seq next possible =
+    let after = moved (acted m s p (post counter n)) p in
+    sequential_moved m s after p (post counter n) lt come seq next refl (λ moves. law.by_post m s.memory (positions_of s) (positions_of after) counter p n lt seq.lawful next moves) seq.as_many (seq.registers p lt) (λ q ne. refl) (sym (append-nil s.output)) (λ ne. refl)
+sequential_act m s p (post signal n) lt sound ordered come seq next possible =
+    let after = moved (acted m s p (post signal n)) p in
+    sequential_moved m s after p (post signal n) lt come seq next refl (λ moves. law.by_post m s.memory (positions_of s) (positions_of after) signal p n lt seq.lawful next moves) seq.as_many (seq.registers p lt) (λ q ne. refl) (sym (append-nil s.output)) (λ ne. refl)
+sequential_act m s p (await w on n) lt sound ordered come seq next possible =
+    let after = moved (acted m s p (await w on n)) p in
+    let enough : n ≤ slice_index (words_of s w) on = leb-true n (slice_index (words_of s w) on) possible in
+    sequential_moved m s after p (await w on n) lt come seq next refl
+    (λ moves. law.by_await m s.memory (positions_of s) (positions_of after) w p on n lt seq.lawful next (is_posted enough) moves) seq.as_many (seq.registers p lt) (λ q ne. refl) (sym (append-nil s.output)) (λ ne. refl)
   where
-    is_posted : n ≤ slice_index s.counters on → (n ≡ 0) ⊎ IsPosted m on n (positions_of s on)
+    is_posted : n ≤ slice_index (words_of s w) on → (n ≡ 0) ⊎ IsPosted (acts_of m on) w n (positions_of s on)
     is_posted enough =
-        let below = (awaited_post m p (positions_of s p) on n sound lt next).0 in
-        (posted m p (positions_of s p) on n (positions_of s on) sound lt next (omega (arith, enough, come.counters on below))).1
+        let below = (awaited_post m w p (positions_of s p) on n sound lt next).0 in
+        (posted m w p (positions_of s p) on n (positions_of s on) sound lt next (omega (arith, enough, come.counters w on below))).1
 sequential_act m s p (load t c) lt sound ordered come seq next possible =
     let after = moved (acted m s p (load t c)) p in
     let given = registers_of s p ++ cell_value s.memory c ∷ [] in
@@ -151,6 +256,12 @@ sequential_act m s p (store t c) lt sound ordered come seq next possible =
     let value : assigned_by (slice_get m.timeline t) (registers_of s p) ≡ stored_at m p (positions_of s p) = ap (assigned_by (slice_get m.timeline t)) (seq.registers p lt) ∙ sym (ap (stored_by m (registers_at m p (positions_of s p))) next) in
     sequential_moved m s after p (store t c) lt come seq next refl
     (λ moves. subst (λ v. IsLawful m (slice_set s.memory c v) (positions_of after)) (sym value) (law.by_store m s.memory (positions_of s) (positions_of after) p t c lt sound ordered seq.lawful next moves)) (length-set s.registers p [] ∙ seq.as_many)
+    (get_or-set_same s.registers p [] [] (omega (arith, seq.as_many, lt))) (λ q ne. get_or-set_other s.registers p q [] [] ne) (sym (append-nil s.output)) (λ ne. refl)
+sequential_act m s p (add t c) lt sound ordered come seq next possible =
+    let after = moved (acted m s p (add t c)) p in
+    let value : assigned_by (slice_get m.timeline t) (registers_of s p) ≡ stored_at m p (positions_of s p) = ap (assigned_by (slice_get m.timeline t)) (seq.registers p lt) ∙ sym (ap (stored_by m (registers_at m p (positions_of s p))) next) in
+    sequential_moved m s after p (add t c) lt come seq next refl
+    (λ moves. subst (λ v. IsLawful m (slice_set s.memory c (plus (cell_value s.memory c) v)) (positions_of after)) (sym value) (law.by_add m s.memory (positions_of s) (positions_of after) p t c lt sound ordered seq.lawful next moves)) (length-set s.registers p [] ∙ seq.as_many)
     (get_or-set_same s.registers p [] [] (omega (arith, seq.as_many, lt))) (λ q ne. get_or-set_other s.registers p q [] [] ne) (sym (append-nil s.output)) (λ ne. refl)
 sequential_act m s p (print t) lt sound ordered come seq next possible =
     let after = moved (acted m s p (print t)) p in

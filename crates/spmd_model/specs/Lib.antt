@@ -1,8 +1,12 @@
+pub mod Cells
 pub mod Timelines
 pub mod States
 pub mod Sequential
 pub mod Ordered
 pub mod Lawful
 pub mod Reached
+pub mod Rounds
+pub mod Quiet
+pub mod Shared
 pub mod Planned
 pub mod Deeds

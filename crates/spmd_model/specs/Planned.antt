@@ -1,5 +1,5 @@
 -- The timeline of a program under a plan: in front of each phase its boundary, and behind that the phase's instances.
-use Rattle.std.specs.Prelude.{ℕ, suc, ◌+◌, ◌-◌, List, [], ◌∷◌, ◌++◌, map, take}
+use Rattle.std.specs.Prelude.{false, ℕ, suc, ◌+◌, ◌-◌, List, [], ◌∷◌, ◌++◌, map, take}
 use Rattle.nest_tree.specs.Layout.{cell_count}
 use Rattle.nest_tree.specs.Tree.{Tree, param_values}
 use Rattle.nest_model.specs.Instances.{Instance}
@@ -10,7 +10,7 @@ use Rattle.sync_plan.specs.declared.plan.Plan.{Plan}
 use Rattle.sync_plan.specs.Conflicts.{loads_under, store_under}
 use Rattle.sync_plan.specs.Ordered.{owner_under}
 use Rattle.sync_plan.specs.Waits.{posts_at, waits_for}
-use Rattle.spmd_model.specs.Timelines.{Job, Machine, Moment, boundary, job}
+use Rattle.spmd_model.specs.Timelines.{Job, Machine, Moment, boundary, counter, job}
 
 -- an instance as a job of its owner
 abbrev pub job_of : Tree → Plan → Execution → Job
@@ -18,13 +18,14 @@ job_of tree plan x = record {
   owner = owner_under tree plan x;
   loads = loads_under tree plan x;
   store = store_under tree plan x;
+  adds = false;
   assigned = assigned_value tree x.instance;
   line = line_of tree x.instance;
 }
 
--- in front of phase number e, from 1, the number e - 1 is posted
+-- in front of phase number e, from 1, the number e - 1 is posted on the counters
 abbrev pub boundary_of : Tree → Plan → ℕ → Visit → Moment
-boundary_of tree plan e v = boundary (e - 1) (λ q. posts_at tree plan q v.place v.loops) (λ p. waits_for tree plan p v.place v.loops)
+boundary_of tree plan e v = boundary counter (e - 1) (λ q. posts_at tree plan q v.place v.loops) (λ p. waits_for tree plan p v.place v.loops)
 
 abbrev pub jobs_of : Tree → Plan → ℕ → Visit → List Moment
 jobs_of tree plan e v = map (λ (i : Instance). job (job_of tree plan (record { phase = e; place = v.place; instance = i }))) (phase_instances (param_values tree) v)
@@ -43,7 +44,7 @@ machine_of tree plan = record { workers = plan.workers; cells = cell_count tree;
 
 -- how many jobs stand among moments: in front of a job, the number of its instance, from 0
 abbrev pub is_job : Moment → ℕ
-is_job (boundary number posts awaits) = 0
+is_job (boundary word number posts awaits) = 0
 is_job (job j) = 1
 
 abbrev pub job_count : List Moment → ℕ

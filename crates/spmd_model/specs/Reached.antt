@@ -1,7 +1,7 @@
 -- What holds of every state that a run comes to.
 use Rattle.std.specs.Prelude.{ℕ, ◌≡◌, ◌≤◌, ◌<◌, true, Some, length, slice_index}
-use Rattle.spmd_model.specs.Timelines.{Act, Machine, acts_of}
-use Rattle.spmd_model.specs.States.{State, is_possible, next_act, registers_of}
+use Rattle.spmd_model.specs.Timelines.{Act, Machine, Word, acts_of}
+use Rattle.spmd_model.specs.States.{State, is_possible, next_act, registers_of, words_of}
 use Rattle.spmd_model.specs.Sequential.{registers_at}
 use Rattle.spmd_model.specs.Lawful.{IsLawful, counter_at, printed_at}
 
@@ -9,12 +9,12 @@ use Rattle.spmd_model.specs.Lawful.{IsLawful, counter_at, printed_at}
 abbrev pub positions_of : State → ℕ → ℕ
 positions_of s p = slice_index s.positions p
 
--- no processor is past its end, and each counter is the number that its processor posted last
+-- no processor is past its end, and each word is the number that its processor posted last
 pub record HasCome (m : Machine) (s : State) : Type 0 where
   pub count : length s.positions ≡ m.workers
-  pub as_many : length s.counters ≡ m.workers
+  pub as_many : (w : Word) → length (words_of s w) ≡ m.workers
   pub within : (p : ℕ) → p < m.workers → slice_index s.positions p ≤ length (acts_of m p)
-  pub counters : (p : ℕ) → p < m.workers → slice_index s.counters p ≡ counter_at m p (slice_index s.positions p)
+  pub counters : (w : Word) (p : ℕ) → p < m.workers → slice_index (words_of s w) p ≡ counter_at m w p (slice_index s.positions p)
 
 -- cells are lawful, registers and output are those of the sequential program
 pub record IsSequential (m : Machine) (s : State) : Type 0 where

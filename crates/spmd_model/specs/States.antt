@@ -1,13 +1,15 @@
 -- The states of a machine, one step of one processor, and the run of a schedule.
 use Rattle.std.specs.Prelude.{ℕ, ◌+◌, ◌≡◌, ◌<◌, ℤ, pos, Bool, true, nat_le, List, [], ◌∷◌, ◌++◌, Option, Some, None, length, fold, replicate, slice_get, slice_index, slice_index_or, slice_set, if◌then◌else◌}
 use Rattle.nest_model.specs.Memory.{cell_value}
-use Rattle.spmd_model.specs.Timelines.{Act, post, await, load, store, print, Machine, Moment, boundary, job, act_at, acts_of}
+use Rattle.spmd_model.specs.Cells.{plus}
+use Rattle.spmd_model.specs.Timelines.{Act, post, await, load, store, add, print, Machine, Moment, Word, counter, signal, boundary, job, act_at, acts_of}
 
--- per processor how many of its acts are done, what its loads gave since its last store or PRINT, and its counter; one memory; one output
+-- per processor how many of its acts are done, what its loads gave since its last store or PRINT, its counter and its signal; one memory; one output
 pub record State : Type 0 where
   pub positions : List ℕ
   pub registers : List (List ℤ)
   pub counters : List ℕ
+  pub signals : List ℕ
   pub memory : List ℤ
   pub output : List ℕ
 
@@ -17,6 +19,7 @@ first_state m = record {
   positions = replicate m.workers 0;
   registers = replicate m.workers [];
   counters = replicate m.workers 0;
+  signals = replicate m.workers 0;
   memory = replicate m.cells (pos 0);
   output = [];
 }
@@ -25,23 +28,33 @@ first_state m = record {
 abbrev pub next_act : Machine → State → ℕ → Option Act
 next_act m s p = act_at m p (slice_index s.positions p)
 
--- an act is possible, but an await only where the awaited counter is at least the number
+-- the words of one sort, by processor
+abbrev pub words_of : State → Word → List ℕ
+words_of s counter = s.counters
+words_of s signal = s.signals
+
+abbrev pub with_words : State → Word → List ℕ → State
+with_words s counter words = record s { counters = words }
+with_words s signal words = record s { signals = words }
+
+-- an act is possible, but an await only where the awaited word is at least the number
 abbrev pub is_possible : State → Act → Bool
-is_possible s (post number) = true
-is_possible s (await on wanted) = nat_le wanted (slice_index s.counters on)
+is_possible s (post word number) = true
+is_possible s (await word on wanted) = nat_le wanted (slice_index (words_of s word) on)
 is_possible s (load place cell) = true
 is_possible s (store place cell) = true
+is_possible s (add place cell) = true
 is_possible s (print place) = true
 
 -- the value that the job at a place of the timeline computes, and the line that it prints, from what its loads gave
 abbrev pub assigned_by : Option Moment → List ℤ → ℤ
 assigned_by None given = pos 0
-assigned_by (Some (boundary number posts awaits)) given = pos 0
+assigned_by (Some (boundary word number posts awaits)) given = pos 0
 assigned_by (Some (job j)) given = j.assigned given
 
 abbrev pub line_by : Option Moment → List ℤ → List ℕ
 line_by None given = []
-line_by (Some (boundary number posts awaits)) given = []
+line_by (Some (boundary word number posts awaits)) given = []
 line_by (Some (job j)) given = j.line given
 
 -- what p's loads gave so far
@@ -54,11 +67,13 @@ moved s p = record s { positions = slice_set s.positions p (slice_index s.positi
 
 -- the state behind an act of p
 abbrev pub acted : Machine → State → ℕ → Act → State
-acted m s p (post number) = record s { counters = slice_set s.counters p number }
-acted m s p (await on wanted) = s
+acted m s p (post word number) = with_words s word (slice_set (words_of s word) p number)
+acted m s p (await word on wanted) = s
 acted m s p (load place cell) = record s { registers = slice_set s.registers p (registers_of s p ++ cell_value s.memory cell ∷ []) }
 acted m s p (store place cell) =
     record s { registers = slice_set s.registers p []; memory = slice_set s.memory cell (assigned_by (slice_get m.timeline place) (registers_of s p)) }
+acted m s p (add place cell) =
+    record s { registers = slice_set s.registers p []; memory = slice_set s.memory cell (plus (cell_value s.memory cell) (assigned_by (slice_get m.timeline place) (registers_of s p))) }
 acted m s p (print place) = record s { registers = slice_set s.registers p []; output = s.output ++ line_by (slice_get m.timeline place) (registers_of s p) }
 
 -- the state behind a step of p: nothing changes where it has no act or its act isn't possible

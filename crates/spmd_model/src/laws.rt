@@ -1,6 +1,6 @@
 // What holds of every run: there is nothing to call.
 
-ghost use Rattle.std.specs.Prelude.{ℕ, ℤ, map, List, Some, All, ◌≡◌, ◌<◌, ◌⊎◌, ◌++◌};
+ghost use Rattle.std.specs.Prelude.{ℕ, ℤ, map, List, Some, All, ◌≡◌, ◌≢◌, ◌<◌, ◌≤◌, ◌+◌, ◌⊎◌, ◌++◌};
 ghost use Rattle.nest_tree.specs.Tree.{Tree};
 ghost use Rattle.nest_tree.specs.WellFormed.{IsWellFormed};
 ghost use Rattle.nest_model.specs.Memory as Memory;
@@ -10,9 +10,12 @@ ghost use Rattle.sync_plan.specs.Ordered.{IsOrdered as IsOrderedPlan};
 ghost use Rattle.sync_plan.specs.declared.plan.Plan.{Plan};
 ghost use Rattle.owner_partition.specs.Phases.{phases};
 ghost use Rattle.spmd_model.specs.Deeds.{can_do, deed_of, deeds_from, did};
-ghost use Rattle.spmd_model.specs.Ordered.{IsOrdered, IsSound};
+ghost use Rattle.spmd_model.specs.Lawful.{IsLawful, acts_in_front};
+ghost use Rattle.spmd_model.specs.Ordered.{Hop, IsChain, IsOrdered, IsSound};
 ghost use Rattle.spmd_model.specs.Planned.{jobs_in_front, machine_of};
+ghost use Rattle.spmd_model.specs.Quiet.{quiet_next, turns_of};
 ghost use Rattle.spmd_model.specs.Reached.{CanGo};
+ghost use Rattle.spmd_model.specs.Rounds.{AreEnough, AreRounds};
 ghost use Rattle.spmd_model.specs.Sequential.{last_memory, memory_at, whole_output};
 ghost use Rattle.spmd_model.specs.States.{IsEnded, State, acted, is_possible, next_act, run_of};
 ghost use Rattle.spmd_model.specs.Timelines.{Act, Machine, acts_of, load};
@@ -36,6 +39,22 @@ pub fn runs_are_sequential()
     ensures front { (m : Machine) (schedule : List ℕ) → IsSound m → IsOrdered m → All (λ p. p < m.workers) schedule → (rest : List ℕ) × ((run_of m schedule).output ++ rest ≡ whole_output m) }
     ensures memory { (m : Machine) (schedule : List ℕ) → IsSound m → IsOrdered m → All (λ p. p < m.workers) schedule → IsEnded m (run_of m schedule) → (run_of m schedule).memory ≡ last_memory m }
     ensures output { (m : Machine) (schedule : List ℕ) → 0 < m.workers → IsSound m → IsOrdered m → All (λ p. p < m.workers) schedule → IsEnded m (run_of m schedule) → (run_of m schedule).output ≡ whole_output m }
+{}
+
+/// A barrier by signals is as many rounds as reach every processor: a chain of waits leads through
+/// them from every processor to every other. So whoever is behind the last round knows that every
+/// other processor has posted in the first one.
+pub fn rounds_lead_to_all()
+    ensures chain { (m : Machine) (place first rounds q p t u : ℕ) → AreRounds m place first rounds → AreEnough m.workers rounds → 0 < first → q < m.workers → p < m.workers → t < place → place + rounds ≤ u → (hops : List Hop) × IsChain m q t hops p u }
+    ensures posted { (m : Machine) (cells : List ℤ) (at : ℕ → ℕ) (place first rounds q p : ℕ) → IsSound m → IsLawful m cells at → AreRounds m place first rounds → AreEnough m.workers rounds → 0 < first → q < m.workers → p < m.workers → q ≢ p
+        → acts_in_front m p (place + rounds) ≤ at p → acts_in_front m q place < at q }
+{}
+
+/// A run by turns, each an act and then the acts on the processor's own cells that stand next, is a
+/// run act by act; and in front of each turn no such act stands next.
+pub fn turns_are_runs()
+    ensures runs { (m : Machine) (shared : ℕ) (schedule : List ℕ) → All (λ p. p < m.workers) schedule → (acts : List ℕ) × All (λ p. p < m.workers) acts × (turns_of m shared schedule ≡ run_of m acts) }
+    ensures settled { (m : Machine) (shared : ℕ) (schedule : List ℕ) (p : ℕ) → All (λ q. q < m.workers) schedule → p < m.workers → quiet_next m shared (turns_of m shared schedule) p ≡ 0 }
 {}
 
 /// A plan that fits a well-formed program has a sound timeline, and an ordered plan an ordered one.

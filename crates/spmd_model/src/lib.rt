@@ -1,11 +1,15 @@
 //! What a run of several processors is, and what holds of every run: definitions and laws, with
 //! nothing to call.
 //!
+//! - `specs/Cells.antt`: what an act leaves in a cell.
 //! - `specs/Timelines.antt`: what stands on the timeline of a run, and each processor's acts.
 //! - `specs/States.antt`: the machine's states, its step, and the run of a schedule.
 //! - `specs/Sequential.antt`: what one processor alone would compute.
 //! - `specs/Ordered.antt`: ordered timelines, by chains of waits.
 //! - `specs/Lawful.antt`: what holds of memory wherever the processors have come to.
+//! - `specs/Rounds.antt`: a barrier by signals, round by round.
+//! - `specs/Quiet.antt`: acts on a processor's own cells, and runs by turns.
+//! - `specs/Shared.antt`: lawful shared cells, with own cells behind them.
 //! - `specs/Planned.antt`: the timeline of a program under a plan.
 //! - `specs/Deeds.antt`: what acts do, phase by phase.
 //! - `laws`: no state is stuck, and runs of ordered plans are sequential.
@@ -14,6 +18,6 @@
 mod laws;
 
 pub use laws::{
-    acts_by_their_deeds, every_load_is_sequential, no_state_is_stuck, runs_are_sequential,
-    timelines_are_sequential, timelines_of_plans,
+    acts_by_their_deeds, every_load_is_sequential, no_state_is_stuck, rounds_lead_to_all,
+    runs_are_sequential, timelines_are_sequential, timelines_of_plans, turns_are_runs,
 };
