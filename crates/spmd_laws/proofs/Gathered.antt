@@ -1,5 +1,5 @@
 -- Barriers of a plan: what is gathered there, and how often.
-use Rattle.std.proofs.Common.{◌≡◌, ◌≢◌, ◌&&◌, ◌||◌, not, ℕ, zero, suc, ◌+◌, ◌-◌, ◌^◌, ◌<◌, ◌≤◌, nat_lt, Bool, true, false, true≢false, cond, List, [], ◌∷◌, ◌++◌, length, map, take, drop, fold, Option, Some, None, refl, ap, sym, ◌∙◌, inl, inr, ⊎_elim, arith, if◌then◌else◌, take_all, drop-cons}
+use Rattle.std.proofs.Common.{◌≡◌, ◌≢◌, ◌&&◌, ◌||◌, not, ℕ, zero, suc, ◌+◌, ◌-◌, ◌^◌, ◌<◌, ◌≤◌, ◌⊎◌, nat_lt, Bool, true, false, true≢false, cond, List, [], ◌∷◌, ◌++◌, length, map, take, drop, fold, Option, Some, None, refl, ap, sym, subst, ◌∙◌, inl, inr, ⊎_elim, arith, if◌then◌else◌, take_all, drop-cons}
 use Rattle.std.specs.Prelude.{slice_get}
 use Rattle.std.specs.List.{All, filter, list_any, range_with_len}
 use Rattle.std.proofs.lemmas.Bool.{and_parts, cases_Bool, cases_lt, ltb-true, ne_eqb}
@@ -19,16 +19,16 @@ use Rattle.sync_plan.specs.declared.plan.Kind.{Kind}
 use Rattle.sync_plan.specs.declared.plan.Kind.TheVariants.{Nothing, Producer, Left, Right, Both, Barrier, Join}
 use Rattle.sync_plan.specs.declared.plan.Plan.{Plan}
 use Rattle.sync_plan.specs.Waits.{awaited_behind, does_wait_at, is_awaited_behind, posts_at, waits_for}
-use Rattle.spmd_model.specs.Timelines.{Act, post, await, load, store, print, Job, Machine, Moment, boundary, job, act_at, acts_of}
+use Rattle.spmd_model.specs.Timelines.{Act, post, await, load, store, add, print, Job, Machine, Moment, Word, counter, signal, boundary, job, act_at, acts_of}
 use Rattle.spmd_model.specs.Ordered.{IsSound}
-use Rattle.spmd_model.specs.Lawful as Lawful
+use Rattle.spmd_model.specs.Lawful.{IsPosted, counted, counter_at}
 use Rattle.spmd_model.specs.Planned.{boundary_of, job_of, machine_of, timeline_from, timeline_of}
-use Rattle.spmd_model.proofs.Counters.{counter_posted, lower_in_front}
+use Rattle.spmd_model.proofs.Counters.{counter_posted, counter_reaches, lower_in_front}
+use Rattle.spmd_model.proofs.Lists.{one_element, take-more}
 use Rattle.spmd_model.proofs.PlannedSound.{boundary_is}
-use Rattle.spmd_laws.specs.Machines.{counted, prints_first, settled}
+use Rattle.spmd_laws.specs.Protocols.{is_arrival, passed_first, settled, shown, shown_behind}
 use Rattle.spmd_laws.specs.Viewed.{gathers, is_barrier, kind_before}
 use Rattle.spmd_laws.proofs.Arrivals.{Joins, arrivals, await_behind, boundaries, few_arrivals, front, seen}
-use Rattle.spmd_laws.proofs.Lists.{one_more}
 
 -- ---- at a barrier each processor awaits another
 
@@ -71,14 +71,15 @@ barrier_is (Some Join) h = absurd (cc)
 
 joins_at : (tree : Tree) (plan : Plan) (p : ℕ) → p < plan.workers → (t : ℕ) (x : Moment) → slice_get (timeline_of tree plan) t ≡ Some x → Joins (gathers tree plan) p x
 joins_at tree plan p inside t (job j) at = tt
-joins_at tree plan p inside t (boundary n posts awaits) at = λ g. at_barrier g
+joins_at tree plan p inside t (boundary signal n posts awaits) at = λ g. absurd (true≢false (sym g))
+joins_at tree plan p inside t (boundary counter n posts awaits) at = λ g. at_barrier g
   where
-    parts_of : (e : ℕ) (v : Visit) → boundary n posts awaits ≡ boundary_of tree plan e v → (n ≡ e - 1) × (posts ≡ (λ q. posts_at tree plan q v.place v.loops)) × (awaits ≡ (λ q. waits_for tree plan q v.place v.loops))
+    parts_of : (e : ℕ) (v : Visit) → boundary counter n posts awaits ≡ boundary_of tree plan e v → (n ≡ e - 1) × (posts ≡ (λ q. posts_at tree plan q v.place v.loops)) × (awaits ≡ (λ q. waits_for tree plan q v.place v.loops))
     parts_of e v same = (cc, cc, cc)
 
     at_barrier : gathers tree plan n ≡ true → (posts p ≡ true) × ((o : ℕ) × (rest : List ℕ) × (awaits p ≡ o ∷ rest))
     at_barrier g =
-        let b = boundary_is tree plan 1 (phases tree plan.cut) t n posts awaits at in
+        let b = boundary_is tree plan 1 (phases tree plan.cut) t counter n posts awaits at in
         let v = b.visit in
         let parts = parts_of (1 + b.phase) v b.is in
         let number : n ≡ b.phase = omega (arith, parts.0) in
@@ -100,18 +101,18 @@ joins : (tree : Tree) (plan : Plan) (p : ℕ) → p < plan.workers → All (Join
 joins tree plan p inside = all_from (Joins (gathers tree plan) p) (timeline_of tree plan) (joins_at tree plan p inside)
 
 -- who has arrived as often as one who awaits has done the post
-pub arrived_posted : (tree : Tree) (plan : Plan) (p q i k n : ℕ) → p < plan.workers → q < plan.workers → act_at (machine_of tree plan) p i ≡ Some (await q n) → gathers tree plan n ≡ true →
-    arrivals (gathers tree plan) (take i (acts_of (machine_of tree plan) p)) ≤ arrivals (gathers tree plan) (take k (acts_of (machine_of tree plan) q)) → Lawful.IsPosted (machine_of tree plan) q n k
-arrived_posted tree plan p q i k n inside other e g le = seen (gathers tree plan) p q 0 (timeline_of tree plan) (joins tree plan p inside) (joins tree plan q other) i k q n e g le
+pub arrived_posted : (tree : Tree) (plan : Plan) (p q i k n : ℕ) → p < plan.workers → q < plan.workers → act_at (machine_of tree plan) p i ≡ Some (await counter q n) → gathers tree plan n ≡ true →
+    arrivals (gathers tree plan) (take i (acts_of (machine_of tree plan) p)) ≤ arrivals (gathers tree plan) (take k (acts_of (machine_of tree plan) q)) → IsPosted (acts_of (machine_of tree plan) q) counter n k
+arrived_posted tree plan p q i k n inside other e g le = seen (gathers tree plan) p q 0 (timeline_of tree plan) (joins tree plan p inside) (joins tree plan q other) i k counter q n e g le
 
 -- an await stands behind an arrival
-pub arrival_awaits : (tree : Tree) (plan : Plan) (p i n : ℕ) → p < plan.workers → act_at (machine_of tree plan) p i ≡ Some (post n) → gathers tree plan n ≡ true → (o : ℕ) × (act_at (machine_of tree plan) p (i + 1) ≡ Some (await o n))
-arrival_awaits tree plan p i n inside e g = await_behind (gathers tree plan) p 0 (timeline_of tree plan) (joins tree plan p inside) i n e g
+pub arrival_awaits : (tree : Tree) (plan : Plan) (p i n : ℕ) → p < plan.workers → act_at (machine_of tree plan) p i ≡ Some (post counter n) → gathers tree plan n ≡ true → (o : ℕ) × (act_at (machine_of tree plan) p (i + 1) ≡ Some (await counter o n))
+arrival_awaits tree plan p i n inside e g = await_behind (gathers tree plan) p 0 (timeline_of tree plan) (joins tree plan p inside) i counter n e g
 
-pub await_settled : (acts : List Act) (i o n : ℕ) → slice_get acts i ≡ Some (await o n) → settled acts i ≡ i
-await_settled acts i o n e =
-    let first : drop i acts ≡ await o n ∷ drop (suc i) acts = drop-cons acts i (await o n) (slice_get_within acts i (await o n) e) ∙ ap (λ a. a ∷ drop (suc i) acts) (get_or_from_slice_get acts i (await o n) (await o n) e) in
-    let none : prints_first (drop i acts) ≡ 0 = ap prints_first first in
+pub await_settled : (cells : ℕ) (acts : List Act) (i o n : ℕ) → slice_get acts i ≡ Some (await counter o n) → settled cells acts i ≡ i
+await_settled cells acts i o n e =
+    let first : drop i acts ≡ await counter o n ∷ drop (suc i) acts = drop-cons acts i (await counter o n) (slice_get_within acts i (await counter o n) e) ∙ ap (λ a. a ∷ drop (suc i) acts) (get_or_from_slice_get acts i (await counter o n) (await counter o n) e) in
+    let none : passed_first cells (drop i acts) ≡ 0 = ap (passed_first cells) first in
     omega (arith, none)
 
 -- ---- how often a processor arrives
@@ -138,39 +139,83 @@ arrivals_few tree plan p k formed limits =
     most : {a b c : ℕ} → a ≤ b → b ≤ c → a ≤ c
     most le le' = omega (arith, le, le')
 
--- ---- counters
+-- ---- words
 
--- a counter that leaves arrivals out shows no more than the last post
-pub shows_less : (m : Machine) (gathered : ℕ → Bool) (q k : ℕ) → IsSound m → fold (counted gathered) 0 (take k (acts_of m q)) ≤ Lawful.counter_at m q k
-shows_less m gathered q zero sound = omega arith
-shows_less m gathered q (suc k) sound = elim ((slice_get_cases (acts_of m q) k).1) [
-  | inl h ↦
-      let front_is = one_more (acts_of m q) k h.0 h.2 in
-      let mine : fold (counted gathered) 0 (take (suc k) (acts_of m q)) ≡ counted gathered (fold (counted gathered) 0 (take k (acts_of m q))) h.0 =
-      ap (fold (counted gathered) 0) front_is ∙ fold-append (counted gathered) 0 (take k (acts_of m q)) (h.0 ∷ []) in
-      let whole : Lawful.counter_at m q (suc k) ≡ Lawful.counted (Lawful.counter_at m q k) h.0 = ap (fold Lawful.counted 0) front_is ∙ fold-append Lawful.counted 0 (take k (acts_of m q)) (h.0 ∷ []) in
-      let less = by (shows_less m gathered q k sound) h.0 h.2 in
-      omega (arith, mine, whole, less)
-  | inr h ↦
-      let same : take (suc k) (acts_of m q) ≡ take k (acts_of m q) = take_all (suc k) (acts_of m q) (omega (arith, h.0)) ∙ sym (take_all k (acts_of m q) h.0) in
-      let mine = ap (fold (counted gathered) 0) same in
-      let whole = ap (fold Lawful.counted 0) same in
-      let before = shows_less m gathered q k sound in
-      omega (arith, mine, whole, before)
+-- a post on a word is an arrival or on another word, and changes nothing; or the word shows it
+post_shows : (gathers : ℕ → Bool) (w v : Word) (n s : ℕ) → ((shown_behind gathers w v n s ≡ s) × (w ≡ v → is_arrival gathers w n ≡ true)) ⊎ ((w ≡ v) × (is_arrival gathers w n ≡ false) × (shown_behind gathers w v n s ≡ n))
+post_shows gathers counter counter n s = elim (cases_Bool (gathers n)) [
+  | inl arrives ↦ inl (ap (λ b. if b then s else n) arrives, λ e. arrives)
+  | inr not_so ↦ inr (refl, not_so, ap (λ b. if b then s else n) not_so)
 ]
-  where
-    -- the last post in front of one of n is of n at most
-    rises : (n : ℕ) → act_at m q k ≡ Some (post n) → Lawful.counter_at m q k ≤ n
-    rises n e = ⊎_elim
-        (λ lower. let p = counter_posted m q k (omega (arith, lower)) in absurd (omega (arith, lower_in_front m q k p.0 n (Lawful.counter_at m q k) sound e p.2 lower, p.1)))
-        (λ le. le) (cases_lt n (Lawful.counter_at m q k))
+post_shows gathers counter signal n s = inl (refl, λ e. absurd (cc))
+post_shows gathers signal counter n s = inl (refl, λ e. absurd (cc))
+post_shows gathers signal signal n s = inr (refl, refl, refl)
 
-    by : fold (counted gathered) 0 (take k (acts_of m q)) ≤ Lawful.counter_at m q k → (a : Act) → act_at m q k ≡ Some a → counted gathered (fold (counted gathered) 0 (take k (acts_of m q))) a ≤ Lawful.counted (Lawful.counter_at m q k) a
-    by before (post n) e = elim (gathered n) as (λ b. (if b then fold (counted gathered) 0 (take k (acts_of m q)) else n) ≤ n) [
-      | true ↦ let rise = rises n e in omega (arith, before, rise)
-      | false ↦ omega arith
-    ]
-    by before (await o n) e = before
-    by before (load t c) e = before
-    by before (store t c) e = before
-    by before (print t) e = before
+module _ (m : Machine) (gathers : ℕ → Bool) (w : Word) (q : ℕ) (sound : IsSound m) where
+  abbrev shown_by : ℕ → ℕ
+  shown_by k = fold (shown gathers w) 0 (take k (acts_of m q))
+
+  shown_more : (k : ℕ) (a : Act) → act_at m q k ≡ Some a → shown_by (suc k) ≡ shown gathers w (shown_by k) a
+  shown_more k a e = ap (fold (shown gathers w) 0) (take-more (acts_of m q) k a e) ∙ fold-append (shown gathers w) 0 (take k (acts_of m q)) (a ∷ [])
+
+  shown_past : (k : ℕ) → length (acts_of m q) ≤ k → shown_by (suc k) ≡ shown_by k
+  shown_past k le = ap (fold (shown gathers w) 0) (take_all (suc k) (acts_of m q) (omega (arith, le)) ∙ sym (take_all k (acts_of m q) le))
+
+  -- it shows no more than the last post
+  pub shows_less : (k : ℕ) → shown_by k ≤ counter_at m w q k
+  shows_less zero = omega arith
+  shows_less (suc k) = elim ((slice_get_cases (acts_of m q) k).1) [
+    | inl h ↦ by (shows_less k) h.0 h.2 (shown_more k h.0 h.2)
+    | inr h ↦
+        let whole : counter_at m w q (suc k) ≡ counter_at m w q k = ap (fold (counted w) 0) (take_all (suc k) (acts_of m q) (omega (arith, h.0)) ∙ sym (take_all k (acts_of m q) h.0)) in
+        omega (arith, shown_past k h.0, whole, shows_less k)
+  ]
+    where
+      counter_more : (a : Act) → act_at m q k ≡ Some a → counter_at m w q (suc k) ≡ counted w (counter_at m w q k) a
+      counter_more a e = ap (fold (counted w) 0) (take-more (acts_of m q) k a e) ∙ fold-append (counted w) 0 (take k (acts_of m q)) (a ∷ [])
+
+      -- the counter never falls
+      rises : (a : Act) → act_at m q k ≡ Some a → counter_at m w q k ≤ counter_at m w q (suc k)
+      rises a e = ⊎_elim
+          (λ some. let p = counter_posted m w q k some in counter_reaches m w q (suc k) p.0 (counter_at m w q k) sound p.2 (omega (arith, p.1)))
+          (λ none. omega (arith, none)) (cases_lt 0 (counter_at m w q k))
+
+      by : shown_by k ≤ counter_at m w q k → (a : Act) → act_at m q k ≡ Some a → shown_by (suc k) ≡ shown gathers w (shown_by k) a → shown_by (suc k) ≤ counter_at m w q (suc k)
+      by before (post v n) e more = elim (post_shows gathers w v n (shown_by k)) [
+        | inl stays ↦ omega (arith, more, stays.0, before, rises (post v n) e)
+        | inr (same, no_arrival, shows) ↦ omega (arith, more, shows, counter_reaches m w q (suc k) k n sound (subst (λ x. act_at m q k ≡ Some (post x n)) (sym same) e) (omega arith))
+      ]
+      by before (await v o n) e more = omega (arith, more, before, rises (await v o n) e)
+      by before (load t c) e more = omega (arith, more, before, rises (load t c) e)
+      by before (store t c) e more = omega (arith, more, before, rises (store t c) e)
+      by before (add t c) e more = omega (arith, more, before, rises (add t c) e)
+      by before (print t) e more = omega (arith, more, before, rises (print t) e)
+
+  -- behind a post that is no arrival it shows that number at least
+  pub shows_post : (n k l : ℕ) → is_arrival gathers w n ≡ false → act_at m q l ≡ Some (post w n) → l < k → n ≤ shown_by k
+  shows_post n zero l plain e lt = absurd (omega (arith, lt))
+  shows_post n (suc k) l plain e lt = elim ((slice_get_cases (acts_of m q) k).1) [
+    | inl h ↦ by (shows_post n k l plain e) h.0 h.2 (shown_more k h.0 h.2)
+    | inr h ↦
+        let before = shows_post n k l plain e (omega (arith, slice_get_within (acts_of m q) l (post w n) e, h.0)) in
+        omega (arith, shown_past k h.0, before)
+  ]
+    where
+      in_front : (a : Act) → act_at m q k ≡ Some a → (a ≡ post w n → ⊥) → l < k
+      in_front a g apart = ⊎_elim (λ less. less) (λ le. let here : l ≡ k = omega (arith, lt, le) in absurd (apart (one_element (act_at m q k) a (post w n) g (ap (act_at m q) (sym here) ∙ e)))) (cases_lt l k)
+
+      kept : (l < k → n ≤ shown_by k) → (a : Act) → act_at m q k ≡ Some a → (a ≡ post w n → ⊥) → shown_by (suc k) ≡ shown_by k → n ≤ shown_by (suc k)
+      kept before a g apart same = let le = before (in_front a g apart) in omega (arith, le, same)
+
+      by : (l < k → n ≤ shown_by k) → (a : Act) → act_at m q k ≡ Some a → shown_by (suc k) ≡ shown gathers w (shown_by k) a → n ≤ shown_by (suc k)
+      by before (post v i) g more = elim (post_shows gathers w v i (shown_by k)) [
+        | inl stays ↦ kept before (post v i) g (λ c. let word : v ≡ w = cc in let number : i ≡ n = cc in true≢false (sym (stays.1 (sym word)) ∙ ap (is_arrival gathers w) number ∙ plain)) (more ∙ stays.0)
+        | inr (same, no_arrival, shows) ↦ ⊎_elim
+            (λ lower. let behind = lower_in_front m w q k l i n sound (subst (λ x. act_at m q k ≡ Some (post x i)) (sym same) g) e lower in absurd (omega (arith, behind, lt)))
+            (λ le. omega (arith, more, shows, le)) (cases_lt i n)
+      ]
+      by before (await v o i) g more = kept before (await v o i) g (λ c. absurd (cc)) more
+      by before (load t c) g more = kept before (load t c) g (λ x. absurd (cc)) more
+      by before (store t c) g more = kept before (store t c) g (λ x. absurd (cc)) more
+      by before (add t c) g more = kept before (add t c) g (λ x. absurd (cc)) more
+      by before (print t) g more = kept before (print t) g (λ x. absurd (cc)) more

@@ -20,8 +20,7 @@ use Rattle.owner_partition.proofs.Instances.{all_executed}
 use Rattle.sync_plan.specs.declared.plan.Plan.{Plan}
 use Rattle.owner_partition.proofs.Sites.{All-flat_map, all_at}
 use Rattle.spmd_model.specs.Timelines as timeline
-use Rattle.spmd_model.specs.Timelines.{Act, post, await, load, store, Job, Moment, boundary, job, acts_from, boundary_acts, job_acts, last_act, moment_acts}
-use Rattle.spmd_model.specs.Ordered as Ordered
+use Rattle.spmd_model.specs.Timelines.{Act, post, await, load, store, add, Job, Word, Moment, boundary, job, acts_from, boundary_acts, job_acts, last_act, moment_acts}
 use Rattle.spmd_model.specs.Planned.{boundary_of, job_of, jobs_of, machine_of, timeline_from, timeline_of}
 use Rattle.spmd_laws.proofs.Lists.{every, passed}
 use Rattle.spmd_laws.proofs.Loads.{access_there, expression_there, items_there}
@@ -73,9 +72,12 @@ instances_there tree formed ranges = passed (is_instance_inside tree) (λ i. Are
 
 -- ---- moments
 
+abbrev job_cells : Job → List ℕ
+job_cells j = j.loads ++ option_to_list j.store
+
 abbrev IsThereAt : ℕ → Moment → Type 0
-IsThereAt cells (boundary number posts awaits) = Unit {0}
-IsThereAt cells (job j) = All (λ c. c < cells) (Ordered.cells_of j)
+IsThereAt cells (boundary w number posts awaits) = Unit {0}
+IsThereAt cells (job j) = All (λ c. c < cells) (job_cells j)
 
 unmapped : {X Y : Type 0} (P : Y → Type 0) (f : X → Y) (xs : List X) → All P (map f xs) → All (λ x. P (f x)) xs
 unmapped P f [] all = All-nil (λ x. P (f x))
@@ -110,33 +112,35 @@ timeline_there tree plan formed ranges =
 -- ---- acts
 
 abbrev IsActThere : ℕ → Act → Type 0
-IsActThere cells (post number) = Unit {0}
-IsActThere cells (await on wanted) = Unit {0}
+IsActThere cells (post w number) = Unit {0}
+IsActThere cells (await w on wanted) = Unit {0}
 IsActThere cells (load place cell) = cell < cells
 IsActThere cells (store place cell) = cell < cells
+IsActThere cells (add place cell) = cell < cells
 IsActThere cells (timeline.print place) = Unit {0}
 
 loads_there : (cells place : ℕ) (loads : List ℕ) → All (λ c. c < cells) loads → All (IsActThere cells) (map (load place) loads)
 loads_there cells place loads all = All-map (IsActThere cells) (load place) loads all
 
-last_there : (cells place : ℕ) (o : Option ℕ) → All (λ c. c < cells) (option_to_list o) → IsActThere cells (last_act place o)
-last_there cells place None all = tt
-last_there cells place (Some c) all = All-head (λ k. k < cells) c [] all
+last_there : (cells place : ℕ) (o : Option ℕ) (adds : Bool) → All (λ c. c < cells) (option_to_list o) → IsActThere cells (last_act place o adds)
+last_there cells place None adds all = tt
+last_there cells place (Some c) false all = All-head (λ k. k < cells) c [] all
+last_there cells place (Some c) true all = All-head (λ k. k < cells) c [] all
 
-job_there : (cells place : ℕ) (j : Job) → All (λ c. c < cells) (Ordered.cells_of j) → All (IsActThere cells) (job_acts place j)
+job_there : (cells place : ℕ) (j : Job) → All (λ c. c < cells) (job_cells j) → All (IsActThere cells) (job_acts place j)
 job_there cells place j all =
-    All-append (IsActThere cells) (map (load place) j.loads) (last_act place j.store ∷ []) (loads_there cells place j.loads (front_of (λ c. c < cells) j.loads (option_to_list j.store) all))
-    (All-cons (IsActThere cells) (last_act place j.store) [] (last_there cells place j.store (back_of (λ c. c < cells) j.loads (option_to_list j.store) all)) (All-nil (IsActThere cells)))
+    All-append (IsActThere cells) (map (load place) j.loads) (last_act place j.store j.adds ∷ []) (loads_there cells place j.loads (front_of (λ c. c < cells) j.loads (option_to_list j.store) all))
+    (All-cons (IsActThere cells) (last_act place j.store j.adds) [] (last_there cells place j.store j.adds (back_of (λ c. c < cells) j.loads (option_to_list j.store) all)) (All-nil (IsActThere cells)))
 
-awaits_there : (cells number : ℕ) (awaited : List ℕ) → All (IsActThere cells) (map (λ q. await q number) awaited)
-awaits_there cells number awaited = All-map (IsActThere cells) (λ q. await q number) awaited (every (λ q. Unit {0}) (λ q. tt) awaited)
+awaits_there : (cells : ℕ) (w : Word) (number : ℕ) (awaited : List ℕ) → All (IsActThere cells) (map (λ q. await w q number) awaited)
+awaits_there cells w number awaited = All-map (IsActThere cells) (λ q. await w q number) awaited (every (λ q. Unit {0}) (λ q. tt) awaited)
 
-boundary_there : (cells p number : ℕ) (posts : Bool) (awaited : List ℕ) → All (IsActThere cells) (boundary_acts p number posts awaited)
-boundary_there cells p number true awaited = All-cons (IsActThere cells) (post number) (map (λ q. await q number) awaited) tt (awaits_there cells number awaited)
-boundary_there cells p number false awaited = awaits_there cells number awaited
+boundary_there : (cells p : ℕ) (w : Word) (number : ℕ) (posts : Bool) (awaited : List ℕ) → All (IsActThere cells) (boundary_acts p w number posts awaited)
+boundary_there cells p w number true awaited = All-cons (IsActThere cells) (post w number) (map (λ q. await w q number) awaited) tt (awaits_there cells w number awaited)
+boundary_there cells p w number false awaited = awaits_there cells w number awaited
 
 moment_there : (cells p place : ℕ) (x : Moment) → IsThereAt cells x → All (IsActThere cells) (moment_acts p place x)
-moment_there cells p place (boundary number posts awaits) there = boundary_there cells p number (posts p) (awaits p)
+moment_there cells p place (boundary w number posts awaits) there = boundary_there cells p w number (posts p) (awaits p)
 moment_there cells p place (job j) there = elim (j.owner == p) as (λ b. All (IsActThere cells) (if b then job_acts place j else [])) [ true ↦ job_there cells place j there | false ↦ All-nil (IsActThere cells) ]
 
 acts_there : (cells p place : ℕ) (xs : List Moment) → All (IsThereAt cells) xs → All (IsActThere cells) (acts_from p place xs)
@@ -146,9 +150,3 @@ acts_there cells p place (x ∷ xs) all =
 
 pub act_there : (tree : Tree) (plan : Plan) (p n : ℕ) (a : Act) → IsWellFormed tree → IsInRange tree → timeline.act_at (machine_of tree plan) p n ≡ Some a → IsActThere (cell_count tree) a
 act_there tree plan p n a formed ranges e = all_at (IsActThere (cell_count tree)) (acts_from p 0 (timeline_of tree plan)) n a (acts_there (cell_count tree) p 0 (timeline_of tree plan) (timeline_there tree plan formed ranges)) e
-
-pub load_there : (tree : Tree) (plan : Plan) (p n place cell : ℕ) → IsWellFormed tree → IsInRange tree → timeline.act_at (machine_of tree plan) p n ≡ Some (load place cell) → cell < cell_count tree
-load_there tree plan p n place cell formed ranges e = act_there tree plan p n (load place cell) formed ranges e
-
-pub store_there : (tree : Tree) (plan : Plan) (p n place cell : ℕ) → IsWellFormed tree → IsInRange tree → timeline.act_at (machine_of tree plan) p n ≡ Some (store place cell) → cell < cell_count tree
-store_there tree plan p n place cell formed ranges e = act_there tree plan p n (store place cell) formed ranges e

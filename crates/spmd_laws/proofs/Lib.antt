@@ -1,7 +1,7 @@
 mod Lists
 mod Loads
 mod Inside
-mod Prints
+mod Passed
 mod Arrivals
 mod Gathered
 mod Held

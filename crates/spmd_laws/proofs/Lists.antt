@@ -1,6 +1,5 @@
 -- Lists from a place on, and places by processor.
-use Rattle.std.proofs.lemmas.Option.{get_or_from_slice_get, slice_get_within}
-use Rattle.std.proofs.Common.{take, take-suc, ◌++◌, ◌≡◌, ◌==◌, ℕ, zero, suc, ◌+◌, Bool, true, List, [], ◌∷◌, drop, Some, refl, ap, sym, ◌∙◌, arith, if◌then◌else◌}
+use Rattle.std.proofs.Common.{◌≡◌, ◌==◌, ℕ, zero, suc, ◌+◌, Bool, true, List, [], ◌∷◌, drop, Some, refl, ap, sym, ◌∙◌, arith, if◌then◌else◌, zero-add}
 use Rattle.std.specs.Prelude.{slice_get}
 use Rattle.std.specs.List.{All, list_all}
 use Rattle.std.proofs.Math.Seq.{drop-nil}
@@ -19,6 +18,11 @@ first_from (y ∷ ys) (suc n) x rest e =
     let later = first_from ys n x rest e in
     let more : suc n + 1 ≡ suc (n + 1) = omega arith in
     (later.0, ap (λ k. drop k (y ∷ ys)) more ∙ later.1)
+
+pub get_drop : {X : Type 0} (xs : List X) (n k : ℕ) → slice_get (drop n xs) k ≡ slice_get xs (n + k)
+get_drop [] n k = ap (λ l. slice_get l k) (drop-nil n)
+get_drop (x ∷ xs) zero k = ap (slice_get (x ∷ xs)) (sym (zero-add k))
+get_drop (x ∷ xs) (suc n) k = let more : suc n + k ≡ suc (n + k) = omega arith in get_drop xs n k ∙ sym (ap (slice_get (x ∷ xs)) more)
 
 -- one processor goes to a place, and the others stay
 abbrev pub gone_to : (ℕ → ℕ) → ℕ → ℕ → ℕ → ℕ
@@ -41,7 +45,3 @@ passed test P [] all tests = All-nil P
 passed test P (x ∷ xs) all tests =
     let parts = and_parts (test x) (list_all test xs) tests in
     All-cons P x xs (All-head (λ y. test y ≡ true → P y) x xs all parts.0) (passed test P xs (All-tail (λ y. test y ≡ true → P y) x xs all) parts.1)
-
--- one more element of a front
-pub one_more : {X : Type 0} (xs : List X) (n : ℕ) (x : X) → slice_get xs n ≡ Some x → take (suc n) xs ≡ take n xs ++ x ∷ []
-one_more xs n x e = take-suc xs n x (slice_get_within xs n x e) ∙ ap (λ y. take n xs ++ y ∷ []) (get_or_from_slice_get xs n x x e)

@@ -1,3 +1,3 @@
-pub mod Machines
+pub mod Protocols
 pub mod Laws
 pub mod Viewed

@@ -1,8 +1,8 @@
--- The machine of a program under a plan, by its acts.
+-- The protocol of a program under a plan.
 use Rattle.std.specs.Prelude.{ℕ, ◌-◌, Bool, true, false, ◌&&◌, nat_lt, Option, Some, None, slice_get}
 use Rattle.nest_tree.specs.Layout.{cell_count}
 use Rattle.nest_tree.specs.Tree.{Tree}
-use Rattle.nest_model.specs.Memory.{cell_value, last_memory}
+use Rattle.nest_model.specs.Memory.{last_memory, output_of}
 use Rattle.nest_model.specs.Visits.{Visit}
 use Rattle.owner_partition.specs.Phases.{phases}
 use Rattle.sync_plan.specs.declared.plan.Kind.{Kind}
@@ -10,9 +10,10 @@ use Rattle.sync_plan.specs.declared.plan.Kind.TheVariants.{Nothing, Producer, Le
 use Rattle.sync_plan.specs.declared.plan.Plan.{Plan}
 use Rattle.spmd_model.specs.Timelines.{acts_of}
 use Rattle.spmd_model.specs.Sequential.{loaded_at, registers_at, stored_at}
-use Rattle.spmd_model.specs.Lawful.{IsLawful}
+use Rattle.spmd_model.specs.Lawful.{printed_at}
+use Rattle.spmd_model.specs.Shared.{AreLawful}
 use Rattle.spmd_model.specs.Planned as Planned
-use Rattle.spmd_laws.specs.Machines.{Machine}
+use Rattle.spmd_laws.specs.Protocols.{Protocol}
 
 -- a kind is a barrier; at a join too all wait for all, but each by the others' counters
 abbrev pub is_barrier : Option Kind → Bool
@@ -35,8 +36,8 @@ abbrev pub gathers : Tree → Plan → ℕ → Bool
 gathers tree plan number = is_barrier (kind_before plan (slice_get (phases tree plan.cut) number)) && nat_lt 1 plan.workers
 
 -- acts along the plan's timeline, their sequential values, and lawful cells
-abbrev pub machine_of : Tree → Plan → Machine
-machine_of tree plan = record {
+abbrev pub protocol_of : Tree → Plan → Protocol
+protocol_of tree plan = record {
   workers = plan.workers;
   cells = cell_count tree;
   acts = acts_of (Planned.machine_of tree plan);
@@ -44,6 +45,8 @@ machine_of tree plan = record {
   registers_at = registers_at (Planned.machine_of tree plan);
   loaded_at = loaded_at (Planned.machine_of tree plan);
   stored_at = stored_at (Planned.machine_of tree plan);
-  last = cell_value (last_memory tree);
-  lawful = IsLawful (Planned.machine_of tree plan);
+  printed_at = printed_at (Planned.machine_of tree plan);
+  last = last_memory tree;
+  output = output_of tree;
+  lawful = AreLawful (Planned.machine_of tree plan) (cell_count tree);
 }

@@ -1,12 +1,11 @@
 -- Each act keeps lawful places lawful, and a load gives the sequential value.
 use Rattle.std.proofs.Common.{◌≡◌, ◌==◌, ℕ, suc, ◌+◌, ◌<◌, ◌≤◌, ◌⊎◌, ℤ, pos, Bool, true, false, true≢false, List, length, map, fold, replicate, Option, Some, None, refl, ap, sym, subst, ◌∙◌, inl, inr, ⊎_elim, arith, if◌then◌else◌}
 use Rattle.std.specs.Prelude.{slice_get, slice_set}
-use Rattle.std.specs.List.{Contains}
 use Rattle.std.proofs.lemmas.Bool.{cases_Bool, cases_eq, cases_lt, eq-eqb, eqb-true, le-leb, lt-leb, lt-ltb, le-ltb}
 use Rattle.std.proofs.lemmas.List.{get_or-replicate, get_or_past, length-replicate, length-set, take_all}
 use Rattle.std.proofs.lemmas.Option.{slice_get_within}
 use Rattle.nest_model.specs.Memory.{cell_value}
-use Rattle.spmd_model.specs.Cells.{changed, plus, with_change}
+use Rattle.spmd_model.specs.Cells.{plus, with_change}
 use Rattle.spmd_model.specs.Timelines.{Act, post, await, load, store, add, print, Job, Machine, Moment, Word, boundary, job, act_at, acts_from, acts_of}
 use Rattle.spmd_model.specs.States.{assigned_by}
 use Rattle.spmd_model.specs.Sequential.{last_memory, loads_by, memory_at, memory_behind, stored_at, value_at}
@@ -14,7 +13,7 @@ use Rattle.spmd_model.specs.Ordered.{IsOrdered, IsSound, Needs}
 use Rattle.spmd_model.specs.Lawful.{IsLawful, IsPosted, Moves, acts_in_front, is_done, last_value, stores_to}
 use Rattle.spmd_model.proofs.Lists.{one_element}
 use Rattle.spmd_model.proofs.ActLists.{Found, found, in_front-rises}
-use Rattle.spmd_model.proofs.MomentActs.{IsAwaitIn, IsChangeIn, IsLastIn, IsLoadIn, IsPostIn, last_of, tells}
+use Rattle.spmd_model.proofs.MomentActs.{IsAwaitIn, IsChangeIn, IsLastIn, IsLoadIn, IsPostIn, tells}
 use Rattle.spmd_model.proofs.Chains.{IsAt}
 use Rattle.spmd_model.proofs.LastValues.{Agree, add_here, agree, cell_set, in_front_of, memory_more, memory_size, sequential}
 use Rattle.spmd_model.proofs.Registers.{added_is, stored_is}
@@ -223,7 +222,7 @@ by_add m cells at after p t cell inside sound ordered law e moves =
         (le-leb (acts_in_front m j.owner (suc t)) (after j.owner) (subst (λ o. acts_in_front m o (suc t) ≤ after o) (sym here.owner) (omega (arith, moves.here, end))))
         (λ u k there stores apart. sym (same_elsewhere m at after p t u k (record { from = here.from; to = here.to }) moves there apart))
         (λ u k there stores later done. stores_in_front m cells at p t cell j sound ordered law here changes u k there stores later
-            (sym (same_elsewhere m at after p t u k (record { from = here.from; to = here.to }) moves there (λ same. omega (arith, same, later))) ∙ done))
+        (sym (same_elsewhere m at after p t u k (record { from = here.from; to = here.to }) moves there (λ same. omega (arith, same, later))) ∙ done))
 
 -- ---- the end
 

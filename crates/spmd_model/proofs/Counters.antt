@@ -1,5 +1,5 @@
 -- Counters: a processor's posts rise, and an awaited counter that has come to a number shows that its post is done.
-use Rattle.std.proofs.Common.{◌≡◌, ◌≢◌, ℕ, zero, suc, ◌+◌, ◌<◌, ◌≤◌, ◌⊎◌, Bool, true, false, true≢false, if◌then◌else◌, refl, [], ◌∷◌, take, fold, Some, ap, sym, subst, ◌∙◌, inl, inr, ⊎_elim, arith}
+use Rattle.std.proofs.Common.{◌≡◌, ◌≢◌, ℕ, zero, suc, ◌+◌, ◌<◌, ◌≤◌, ◌⊎◌, true, false, true≢false, if◌then◌else◌, refl, [], ◌∷◌, take, fold, Some, ap, sym, subst, ◌∙◌, inl, inr, ⊎_elim, arith}
 use Rattle.std.specs.Prelude.{slice_get}
 use Rattle.std.proofs.lemmas.Bool.{cases_Bool, cases_eq, cases_lt}
 use Rattle.std.proofs.lemmas.List.Sums.{fold-append}

@@ -1,5 +1,5 @@
 -- Outputs, and the states in which a run has ended.
-use Rattle.std.proofs.Common.{◌≡◌, ◌==◌, ℕ, suc, ◌<◌, pos, Bool, true, false, true≢false, List, [], ◌∷◌, ◌++◌, length, map, take, drop, replicate, Option, Some, None, refl, ap, sym, ◌∙◌, inl, inr, arith, if◌then◌else◌, zero-add}
+use Rattle.std.proofs.Common.{◌≡◌, ◌==◌, ℕ, suc, ◌<◌, ℤ, pos, Bool, true, false, true≢false, List, [], ◌∷◌, ◌++◌, length, map, take, drop, replicate, Option, Some, None, refl, ap, sym, ◌∙◌, inl, inr, arith, if◌then◌else◌, zero-add}
 use Rattle.std.specs.Prelude.{slice_get, slice_index}
 use Rattle.std.specs.List.{flat_map}
 use Rattle.std.proofs.lemmas.Bool.{cases_Bool, eq-eqb}
@@ -10,7 +10,7 @@ use Rattle.spmd_model.specs.Timelines.{await, load, Job, Machine, Moment, Word, 
 use Rattle.spmd_model.specs.States.{State, IsEnded, line_by}
 use Rattle.spmd_model.specs.Sequential.{given_at, last_memory, loads_by, memory_at, moment_line, output_along, printed_line, whole_output}
 use Rattle.spmd_model.specs.Ordered.{IsSound}
-use Rattle.spmd_model.specs.Lawful.{act_line, printed_at}
+use Rattle.spmd_model.specs.Lawful.{IsLawful, act_line, printed_at}
 use Rattle.spmd_model.specs.Reached.{IsSequential, positions_of}
 use Rattle.spmd_model.proofs.LastValues.{StandsFrom, folded_size, memory_more, stands_here, stands_later}
 use Rattle.spmd_model.proofs.ActLaws.{ended}
@@ -74,7 +74,11 @@ pub ended_output : (m : Machine) (s : State) → 0 < m.workers → IsSound m →
 ended_output m s some sound seq end =
     seq.output ∙ ap (printed_at m 0) (end 0 some) ∙ ap (flat_map (act_line m)) (take_all (length (acts_of m 0)) (acts_of m 0) (omega arith)) ∙ prints_whole m sound
 
-pub ended_memory : (m : Machine) (s : State) → IsSound m → IsSequential m s → IsEnded m s → s.memory ≡ last_memory m
-ended_memory m s sound seq end =
+-- lawful memory is the last one where all have ended
+pub whole_memory : (m : Machine) (memory : List ℤ) (at : ℕ → ℕ) → IsSound m → IsLawful m memory at → ((p : ℕ) → p < m.workers → at p ≡ length (acts_of m p)) → memory ≡ last_memory m
+whole_memory m memory at sound law end =
     let size : length (last_memory m) ≡ m.cells = folded_size (replicate m.cells (pos 0)) m.timeline ∙ length-replicate m.cells (pos 0) in
-    ext_get_or (pos 0) s.memory (last_memory m) (seq.lawful.size ∙ sym size) (λ i lt. ended m s.memory (positions_of s) sound seq.lawful end i (omega (arith, lt, seq.lawful.size)))
+    ext_get_or (pos 0) memory (last_memory m) (law.size ∙ sym size) (λ i lt. ended m memory at sound law end i (omega (arith, lt, law.size)))
+
+pub ended_memory : (m : Machine) (s : State) → IsSound m → IsSequential m s → IsEnded m s → s.memory ≡ last_memory m
+ended_memory m s sound seq end = whole_memory m s.memory (positions_of s) sound seq.lawful end

@@ -1,4 +1,4 @@
-mod Lists
+pub mod Lists
 mod ActLists
 mod MomentActs
 mod Registers

@@ -1,8 +1,9 @@
 -- The sequential values along a plan's timeline are those of its program.
-use Rattle.std.proofs.Common.{◌≡◌, ℕ, zero, suc, ◌+◌, ℤ, false, List, [], ◌∷◌, ◌++◌, map, take, fold, Option, Some, None, refl, ap, sym, ◌∙◌, arith}
-use Rattle.std.proofs.lemmas.List.{map-append, take-map}
+use Rattle.std.proofs.Common.{◌≡◌, ℕ, zero, suc, ◌+◌, ℤ, pos, false, List, [], ◌∷◌, ◌++◌, length, map, take, fold, Option, Some, None, refl, ap, sym, ◌∙◌, arith}
+use Rattle.std.proofs.lemmas.List.{length-replicate, length-set, map-append, take-map}
 use Rattle.nest_tree.specs.Tree.{Work, assign, print, Tree, param_values}
-use Rattle.nest_model.specs.Instances.{Instance}
+use Rattle.nest_tree.specs.Layout.{cell_count}
+use Rattle.nest_model.specs.Instances.{Instance, instances}
 use Rattle.nest_model.specs.Memory.{assigned_value, cell_value, with_store, memory_after, memory_before, output_from, output_of, line_of, loaded_in, printed_text, first_memory}
 use Rattle.nest_model.specs.Accesses.{store_of, work_store}
 use Rattle.nest_model.specs.Memory as Model
@@ -89,6 +90,18 @@ last_memory_is tree plan =
     ∙ ap (fold job_behind first) (jobs_along tree plan 1 (phases tree plan.cut))
     ∙ fold_instances tree plan first (executions tree plan.cut)
     ∙ ap (fold (memory_after tree) first) (all_executed tree plan.cut)
+
+-- the last memory has a cell for each of the program's
+after_size : (tree : Tree) (memory : List ℤ) (is : List Instance) → length (fold (memory_after tree) memory is) ≡ length memory
+after_size tree memory [] = refl
+after_size tree memory (i ∷ is) = after_size tree (memory_after tree memory i) is ∙ kept (store_of tree i) (assigned_value tree i (loaded_in tree memory i))
+  where
+    kept : (store : Option ℕ) (v : ℤ) → length (with_store memory store v) ≡ length memory
+    kept None v = refl
+    kept (Some cell) v = length-set memory cell v
+
+pub last_size : (tree : Tree) → length (Model.last_memory tree) ≡ cell_count tree
+last_size tree = after_size tree (first_memory tree) (instances tree) ∙ length-replicate (cell_count tree) (pos 0)
 
 -- ---- output
 

@@ -1,13 +1,13 @@
 -- Runs by turns are runs, and in front of each turn no quiet act stands next.
-use Rattle.std.proofs.Common.{◌≡◌, ◌≢◌, ℕ, zero, suc, ◌+◌, ◌<◌, ◌≤◌, Bool, true, false, true≢false, cond, List, [], ◌∷◌, ◌++◌, length, drop, set, fold, replicate, Option, Some, None, refl, ap, sym, subst, ◌∙◌, inl, inr, ⊎_elim, arith, if◌then◌else◌}
+use Rattle.std.proofs.Common.{◌≡◌, ◌≢◌, ℕ, zero, suc, ◌+◌, ◌<◌, ◌≤◌, Bool, true, false, true≢false, cond, List, [], ◌∷◌, ◌++◌, length, drop, fold, replicate, Option, Some, None, refl, ap, sym, subst, ◌∙◌, inl, inr, arith, if◌then◌else◌}
 use Rattle.std.specs.Prelude.{slice_get, slice_index}
 use Rattle.std.specs.List.{All, range_with_len}
-use Rattle.std.proofs.lemmas.Bool.{cases_Bool, cases_eq, cases_lt}
+use Rattle.std.proofs.lemmas.Bool.{cases_eq}
 use Rattle.std.proofs.lemmas.List.{get_or-set_other, get_or-set_same}
 use Rattle.std.proofs.lemmas.List.Elements.{All-head, All-nil, All-tail, All-cons}
 use Rattle.std.proofs.lemmas.List.Sums.{fold-append}
-use Rattle.spmd_model.specs.Timelines.{Act, post, await, load, store, add, print, Machine, Word, counter, signal, act_at, acts_of}
-use Rattle.spmd_model.specs.States.{State, acted, first_state, is_possible, moved, next_act, run_of, stepped, stepped_by}
+use Rattle.spmd_model.specs.Timelines.{Act, post, await, load, store, add, print, Machine, Word, counter, signal, acts_of}
+use Rattle.spmd_model.specs.States.{State, acted, first_state, is_possible, moved, next_act, stepped, stepped_by}
 use Rattle.spmd_model.specs.Quiet.{first_turn, is_quiet, quiet_first, quiet_next, settled, turned, turns_of}
 use Rattle.spmd_model.specs.Reached.{HasCome}
 use Rattle.spmd_model.proofs.Runs.{come_first, come_stepped}
@@ -126,9 +126,10 @@ settles_all m shared p (a ∷ rest) s lt come left = by (is_quiet shared a) refl
         let one = drop_more (acts_of m p) (slice_index s.positions p) a rest left in
         let moves = quiet_moves m shared s p a (omega (arith, come.count, lt)) one.0 quiet in
         let more = further (ap (λ n. drop n (acts_of m p)) moves ∙ one.1) in
-        let count : quiet_first shared (a ∷ rest) ≡ suc (quiet_first shared rest) = ap (λ b. if b then suc (quiet_first shared rest) else 0) quiet in
-        (ap (λ n. quiet_next m shared (fold (stepped m) s (replicate n p)) p) count ∙ more.0,
-         λ q ne. ap (λ n. slice_index (fold (stepped m) s (replicate n p)).positions q) count ∙ more.1 q ne ∙ others_stay m s p q ne)
+        let count : quiet_first shared (a ∷ rest) ≡ suc (quiet_first shared rest) = ap (λ b. if b then suc (quiet_first shared rest) else 0) quiet in (
+          ap (λ n. quiet_next m shared (fold (stepped m) s (replicate n p)) p) count ∙ more.0,
+          λ q ne. ap (λ n. slice_index (fold (stepped m) s (replicate n p)).positions q) count ∙ more.1 q ne ∙ others_stay m s p q ne,
+        )
     by false loud further =
         let count : quiet_first shared (a ∷ rest) ≡ 0 = ap (λ b. if b then suc (quiet_first shared rest) else 0) loud in
         (ap (λ n. quiet_next m shared (fold (stepped m) s (replicate n p)) p) count ∙ ap (quiet_first shared) left ∙ count, λ q ne. ap (λ n. slice_index (fold (stepped m) s (replicate n p)).positions q) count)

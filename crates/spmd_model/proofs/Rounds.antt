@@ -1,12 +1,11 @@
 -- Whoever has come behind all rounds of a barrier knows that every processor has come to it.
-use Rattle.std.proofs.Common.{◌≡◌, ◌≢◌, ℕ, zero, suc, ◌+◌, ◌-◌, ◌*◌, ◌^◌, ◌%◌, ◌/◌, ◌<◌, ◌≤◌, ◌⊎◌, ℤ, List, [], ◌∷◌, Option, Some, None, refl, ap, sym, subst, ◌∙◌, inl, inr, ⊎_elim, arith}
+use Rattle.std.proofs.Common.{◌≡◌, ◌≢◌, ℕ, zero, suc, ◌+◌, ◌-◌, ◌*◌, ◌^◌, ◌%◌, ◌<◌, ◌≤◌, ◌⊎◌, ℤ, List, [], ◌∷◌, Some, refl, ap, sym, subst, ◌∙◌, inl, inr, ⊎_elim, arith}
 use Rattle.std.specs.Prelude.{slice_get}
 use Rattle.std.specs.List.{Contains}
-use Rattle.std.proofs.lemmas.Bool.{cases_eq, cases_lt}
+use Rattle.std.proofs.lemmas.Bool.{cases_lt}
 use Rattle.std.proofs.Math.Nat.{add-mod-mod, add-mod_right, mod-add-mod}
-use Rattle.std.proofs.lemmas.Nat.{pow_pos}
 use Rattle.std.proofs.Math.Pow.{pow_mono}
-use Rattle.spmd_model.specs.Timelines.{Machine, Moment, boundary, signal}
+use Rattle.spmd_model.specs.Timelines.{Machine}
 use Rattle.spmd_model.specs.Ordered.{Hop, IsChain, IsSound, awaited_in, number_in}
 use Rattle.spmd_model.specs.Lawful.{IsLawful, acts_in_front}
 use Rattle.spmd_model.proofs.ActLists.{in_front-rises}
@@ -68,9 +67,16 @@ module _ (m : Machine) (place first rounds u : ℕ) (there : AreRounds m place f
             let rest = from_round k (suc r) next p (place + r) h (omega (arith, count)) (subst (λ n. 2 ^ n ≤ m.workers + m.workers) shift few) (omega arith) (mod_less (q + 2 ^ r) m.workers (omega (arith, lt))) (half h (omega (arith, odd)))
             (mod-add-mod (q + 2 ^ r) m.workers (2 ^ suc r * h) ∙ ap (λ x. x % m.workers) (odd_sum h odd) ∙ is) in
             let here_is = there r (omega (arith, count)) in
-            let hop : Hop = record { place = place + r; processor = next } in
-            (hop ∷ rest.0, (omega (arith, here), mod_less (q + 2 ^ r) m.workers (omega (arith, lt)), subst (λ o. 0 < number_in o) (sym here_is) (omega (arith, some)),
-              subst (λ o. Contains (awaited_in o next) q) (sym here_is) (0, omega arith, back m.workers r q lt near), rest.1))
+            let hop : Hop = record { place = place + r; processor = next } in (
+              hop ∷ rest.0,
+              (
+                omega (arith, here),
+                mod_less (q + 2 ^ r) m.workers (omega (arith, lt)),
+                subst (λ o. 0 < number_in o) (sym here_is) (omega (arith, some)),
+                subst (λ o. Contains (awaited_in o next) q) (sym here_is) (0, omega arith, back m.workers r q lt near),
+                rest.1,
+              ),
+            )
       ]
     where
       shift : r + suc k ≡ suc r + k

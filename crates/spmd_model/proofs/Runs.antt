@@ -10,10 +10,10 @@ use Rattle.std.proofs.lemmas.List.Sums.{fold-append}
 use Rattle.nest_model.specs.Memory.{cell_value}
 use Rattle.spmd_model.specs.Cells.{plus}
 use Rattle.spmd_model.specs.Timelines.{Act, post, await, load, store, add, print, Machine, Word, counter, signal, act_at, acts_of}
-use Rattle.spmd_model.specs.States.{State, acted, assigned_by, first_state, is_possible, line_by, moved, next_act, registers_of, run_of, stepped, stepped_by, with_words, words_of}
+use Rattle.spmd_model.specs.States.{State, acted, assigned_by, first_state, is_possible, line_by, moved, next_act, registers_of, run_of, stepped, stepped_by, words_of}
 use Rattle.spmd_model.specs.Sequential.{registers_at, registers_behind, stored_at, stored_by}
 use Rattle.spmd_model.specs.Ordered.{IsOrdered, IsSound}
-use Rattle.spmd_model.specs.Lawful.{IsLawful, IsPosted, Moves, act_line, counted, counter_at, is_same, printed_at}
+use Rattle.spmd_model.specs.Lawful.{IsLawful, IsPosted, Moves, act_line, counted, counter_at, printed_at}
 use Rattle.spmd_model.specs.Reached.{HasCome, IsSequential, positions_of}
 use Rattle.spmd_model.proofs.Lists.{take-more}
 use Rattle.spmd_model.proofs.ActLists.{found}
@@ -25,17 +25,17 @@ use Rattle.spmd_model.proofs.ActLaws as law
 
 -- ---- one more act
 
-counter_more : (m : Machine) (w : Word) (p n : ℕ) (a : Act) → act_at m p n ≡ Some a → counter_at m w p (n + 1) ≡ counted w (counter_at m w p n) a
+pub counter_more : (m : Machine) (w : Word) (p n : ℕ) (a : Act) → act_at m p n ≡ Some a → counter_at m w p (n + 1) ≡ counted w (counter_at m w p n) a
 counter_more m w p n a e =
     let one : n + 1 ≡ suc n = omega arith in
     ap (counter_at m w p) one ∙ ap (fold (counted w) 0) (take-more (acts_of m p) n a e) ∙ fold-append (counted w) 0 (take n (acts_of m p)) (a ∷ [])
 
-registers_more : (m : Machine) (p n : ℕ) (a : Act) → act_at m p n ≡ Some a → registers_at m p (n + 1) ≡ registers_behind m (registers_at m p n) a
+pub registers_more : (m : Machine) (p n : ℕ) (a : Act) → act_at m p n ≡ Some a → registers_at m p (n + 1) ≡ registers_behind m (registers_at m p n) a
 registers_more m p n a e =
     let one : n + 1 ≡ suc n = omega arith in
     ap (registers_at m p) one ∙ ap (fold (registers_behind m) []) (take-more (acts_of m p) n a e) ∙ fold-append (registers_behind m) [] (take n (acts_of m p)) (a ∷ [])
 
-printed_more : (m : Machine) (p n : ℕ) (a : Act) → act_at m p n ≡ Some a → printed_at m p (n + 1) ≡ printed_at m p n ++ act_line m a
+pub printed_more : (m : Machine) (p n : ℕ) (a : Act) → act_at m p n ≡ Some a → printed_at m p (n + 1) ≡ printed_at m p n ++ act_line m a
 printed_more m p n a e =
     let one : n + 1 ≡ suc n = omega arith in
     ap (printed_at m p) one ∙ ap (flat_map (act_line m)) (take-more (acts_of m p) n a e) ∙ flat_map-append (act_line m) (take n (acts_of m p)) (a ∷ []) ∙ ap (λ l. printed_at m p n ++ l) (append-nil (act_line m a))
@@ -78,6 +78,17 @@ come_moved m s after p a lt come next moves count here others =
       ];
     }
 
+same_words : (s t : State) → t.counters ≡ s.counters → t.signals ≡ s.signals → (w : Word) → words_of t w ≡ words_of s w
+same_words s t c g counter = c
+same_words s t c g signal = g
+
+-- an act that posts nothing
+come_stays : (m : Machine) (s after : State) (p : ℕ) (a : Act) → p < m.workers → HasCome m s → next_act m s p ≡ Some a → after.positions ≡ set s.positions p (slice_index s.positions p + 1) → after.counters ≡ s.counters → after.signals ≡ s.signals →
+    ((w : Word) (n : ℕ) → counted w n a ≡ n) → HasCome m after
+come_stays m s after p a lt come next moves counters signals none =
+    let same = same_words s after counters signals in
+    come_moved m s after p a lt come next moves (λ w. ap length (same w) ∙ come.as_many w) (λ w. ap (λ l. slice_index l p) (same w) ∙ sym (none w (slice_index (words_of s w) p))) (λ w q ne. ap (λ l. slice_index l q) (same w))
+
 come_act : (m : Machine) (s : State) (p : ℕ) (a : Act) → p < m.workers → HasCome m s → next_act m s p ≡ Some a → HasCome m (moved (acted m s p a) p)
 come_act m s p (post counter n) lt come next =
     let at : p < length s.counters = omega (arith, come.as_many counter, lt) in
@@ -109,76 +120,11 @@ come_act m s p (post signal n) lt come next =
     others : (w : Word) (q : ℕ) → q ≢ p → slice_index (words_of (moved (acted m s p (post signal n)) p) w) q ≡ slice_index (words_of s w) q
     others signal q ne = get_or-set_other s.signals p q n 0 ne
     others counter q ne = refl
-come_act m s p (await v on n) lt come next = come_moved m s (moved (acted m s p (await v on n)) p) p (await v on n) lt come next refl (λ w. same_many w) (λ w. same_here w) (λ w q ne. same_others w q)
-  where
-    same_many : (w : Word) → length (words_of (moved (acted m s p (await v on n)) p) w) ≡ m.workers
-    same_many counter = come.as_many counter
-    same_many signal = come.as_many signal
-
-    same_here : (w : Word) → slice_index (words_of (moved (acted m s p (await v on n)) p) w) p ≡ slice_index (words_of s w) p
-    same_here counter = refl
-    same_here signal = refl
-
-    same_others : (w : Word) (q : ℕ) → slice_index (words_of (moved (acted m s p (await v on n)) p) w) q ≡ slice_index (words_of s w) q
-    same_others counter q = refl
-    same_others signal q = refl
-
-come_act m s p (load t c) lt come next = come_moved m s (moved (acted m s p (load t c)) p) p (load t c) lt come next refl (λ w. same_many w) (λ w. same_here w) (λ w q ne. same_others w q)
-  where
-    same_many : (w : Word) → length (words_of (moved (acted m s p (load t c)) p) w) ≡ m.workers
-    same_many counter = come.as_many counter
-    same_many signal = come.as_many signal
-
-    same_here : (w : Word) → slice_index (words_of (moved (acted m s p (load t c)) p) w) p ≡ slice_index (words_of s w) p
-    same_here counter = refl
-    same_here signal = refl
-
-    same_others : (w : Word) (q : ℕ) → slice_index (words_of (moved (acted m s p (load t c)) p) w) q ≡ slice_index (words_of s w) q
-    same_others counter q = refl
-    same_others signal q = refl
-
-come_act m s p (store t c) lt come next = come_moved m s (moved (acted m s p (store t c)) p) p (store t c) lt come next refl (λ w. same_many w) (λ w. same_here w) (λ w q ne. same_others w q)
-  where
-    same_many : (w : Word) → length (words_of (moved (acted m s p (store t c)) p) w) ≡ m.workers
-    same_many counter = come.as_many counter
-    same_many signal = come.as_many signal
-
-    same_here : (w : Word) → slice_index (words_of (moved (acted m s p (store t c)) p) w) p ≡ slice_index (words_of s w) p
-    same_here counter = refl
-    same_here signal = refl
-
-    same_others : (w : Word) (q : ℕ) → slice_index (words_of (moved (acted m s p (store t c)) p) w) q ≡ slice_index (words_of s w) q
-    same_others counter q = refl
-    same_others signal q = refl
-
-come_act m s p (add t c) lt come next = come_moved m s (moved (acted m s p (add t c)) p) p (add t c) lt come next refl (λ w. same_many w) (λ w. same_here w) (λ w q ne. same_others w q)
-  where
-    same_many : (w : Word) → length (words_of (moved (acted m s p (add t c)) p) w) ≡ m.workers
-    same_many counter = come.as_many counter
-    same_many signal = come.as_many signal
-
-    same_here : (w : Word) → slice_index (words_of (moved (acted m s p (add t c)) p) w) p ≡ slice_index (words_of s w) p
-    same_here counter = refl
-    same_here signal = refl
-
-    same_others : (w : Word) (q : ℕ) → slice_index (words_of (moved (acted m s p (add t c)) p) w) q ≡ slice_index (words_of s w) q
-    same_others counter q = refl
-    same_others signal q = refl
-
-come_act m s p (print t) lt come next = come_moved m s (moved (acted m s p (print t)) p) p (print t) lt come next refl (λ w. same_many w) (λ w. same_here w) (λ w q ne. same_others w q)
-  where
-    same_many : (w : Word) → length (words_of (moved (acted m s p (print t)) p) w) ≡ m.workers
-    same_many counter = come.as_many counter
-    same_many signal = come.as_many signal
-
-    same_here : (w : Word) → slice_index (words_of (moved (acted m s p (print t)) p) w) p ≡ slice_index (words_of s w) p
-    same_here counter = refl
-    same_here signal = refl
-
-    same_others : (w : Word) (q : ℕ) → slice_index (words_of (moved (acted m s p (print t)) p) w) q ≡ slice_index (words_of s w) q
-    same_others counter q = refl
-    same_others signal q = refl
-
+come_act m s p (await v on n) lt come next = come_stays m s (moved (acted m s p (await v on n)) p) p (await v on n) lt come next refl refl refl (λ w k. refl)
+come_act m s p (load t c) lt come next = come_stays m s (moved (acted m s p (load t c)) p) p (load t c) lt come next refl refl refl (λ w k. refl)
+come_act m s p (store t c) lt come next = come_stays m s (moved (acted m s p (store t c)) p) p (store t c) lt come next refl refl refl (λ w k. refl)
+come_act m s p (add t c) lt come next = come_stays m s (moved (acted m s p (add t c)) p) p (add t c) lt come next refl refl refl (λ w k. refl)
+come_act m s p (print t) lt come next = come_stays m s (moved (acted m s p (print t)) p) p (print t) lt come next refl refl refl (λ w k. refl)
 
 come_by : (m : Machine) (s : State) (p : ℕ) (o : Option Act) → p < m.workers → HasCome m s → next_act m s p ≡ o → HasCome m (stepped_by m s p o)
 come_by m s p None lt come next = come

@@ -1,22 +1,37 @@
 -- The laws of acts, of shared cells alone.
-use Rattle.std.proofs.Common.{◌≡◌, ℕ, ◌+◌, ◌-◌, ◌<◌, ◌≤◌, ◌⊎◌, ℤ, pos, Bool, true, false, true≢false, List, ◌++◌, length, Option, Some, None, refl, ap, sym, subst, ◌∙◌, arith}
+use Rattle.std.proofs.Common.{◌≡◌, ℕ, ◌+◌, ◌-◌, ◌<◌, ◌≤◌, ◌⊎◌, ℤ, pos, true, true≢false, List, ◌++◌, length, replicate, take, Some, ap, sym, subst, ◌∙◌, arith}
 use Rattle.std.specs.Prelude.{slice_set}
 use Rattle.std.proofs.lemmas.Bool.{leb-true}
-use Rattle.std.proofs.lemmas.List.{get_or_append_left, length-set, set-append_left, set-append_right}
+use Rattle.std.proofs.lemmas.List.{get_or_append_left, length-replicate, length-set, replicate-append-replicate, set-append_left, set-append_right, take_at}
 use Rattle.nest_model.specs.Memory.{cell_value}
 use Rattle.spmd_model.specs.Cells.{plus}
 use Rattle.spmd_model.specs.Timelines.{Act, post, await, load, store, add, print, Machine, Word, act_at, acts_of}
-use Rattle.spmd_model.specs.Sequential.{memory_at, stored_at}
+use Rattle.spmd_model.specs.Sequential.{last_memory, memory_at, stored_at}
 use Rattle.spmd_model.specs.Ordered.{IsOrdered, IsSound}
 use Rattle.spmd_model.specs.Lawful.{IsLawful, IsPosted, Moves}
 use Rattle.spmd_model.specs.Quiet.{is_quiet}
 use Rattle.spmd_model.specs.Shared.{AreLawful}
 use Rattle.spmd_model.proofs.ActLaws as law
+use Rattle.spmd_model.proofs.Ends.{whole_memory}
+
+pub first : (m : Machine) (shared : ℕ) (at : ℕ → ℕ) → IsSound m → shared ≤ m.cells → ((p : ℕ) → p < m.workers → at p ≡ 0) → AreLawful m shared (replicate shared (pos 0)) at
+first m shared at sound le none =
+    let all : shared + (m.cells - shared) ≡ m.cells = omega (arith, le) in
+    record {
+      count = length-replicate shared (pos 0);
+      own = replicate (m.cells - shared) (pos 0);
+      lawful = subst (λ x. IsLawful m x at) (ap (λ n. replicate n (pos 0)) (sym all) ∙ sym (replicate-append-replicate shared (m.cells - shared) (pos 0))) (law.first m at sound none);
+    }
+
+-- where all have ended, they are those of the last memory
+pub ended : (m : Machine) (shared : ℕ) (cells : List ℤ) (at : ℕ → ℕ) → IsSound m → AreLawful m shared cells at → ((p : ℕ) → p < m.workers → at p ≡ length (acts_of m p)) → cells ≡ take shared (last_memory m)
+ended m shared cells at sound l end = sym (take_at cells l.own shared l.count) ∙ ap (take shared) (whole_memory m (cells ++ l.own) at sound l.lawful end)
+
+-- a shared cell whose load stands next holds the sequential value
+pub gives : (m : Machine) (shared : ℕ) (cells : List ℤ) (at : ℕ → ℕ) (p : ℕ) → IsSound m → IsOrdered m → AreLawful m shared cells at → (t c : ℕ) → c < shared → act_at m p (at p) ≡ Some (load t c) → cell_value cells c ≡ cell_value (memory_at m t) c
+gives m shared cells at p sound ordered l t c lt e = sym (get_or_append_left cells l.own (pos 0) c (omega (arith, lt, l.count))) ∙ law.gives m (cells ++ l.own) at p t c sound ordered l.lawful e
 
 module _ (m : Machine) (shared : ℕ) (cells : List ℤ) (at after : ℕ → ℕ) (p : ℕ) (inside : p < m.workers) (sound : IsSound m) (ordered : IsOrdered m) (l : AreLawful m shared cells at) (moves : Moves at after p (at p + 1)) where
-  pub gives : (t c : ℕ) → c < shared → act_at m p (at p) ≡ Some (load t c) → cell_value cells c ≡ cell_value (memory_at m t) c
-  gives t c lt e = sym (get_or_append_left cells l.own (pos 0) c (omega (arith, lt, l.count))) ∙ law.gives m (cells ++ l.own) at p t c sound ordered l.lawful e
-
   pub by_load : (t c : ℕ) → act_at m p (at p) ≡ Some (load t c) → AreLawful m shared cells after
   by_load t c e = record { count = l.count; own = l.own; lawful = law.by_load m (cells ++ l.own) at after p t c inside l.lawful e moves }
 

@@ -1,5 +1,5 @@
 -- A barrier by signals, as boundaries in a row: in each round a processor awaits the one that stands a power of two before it.
-use Rattle.std.specs.Prelude.{ℕ, suc, ◌+◌, ◌-◌, ◌^◌, ◌%◌, ◌<◌, ◌≤◌, ◌≡◌, true, List, [], ◌∷◌, Some, map, slice_get, refl}
+use Rattle.std.specs.Prelude.{ℕ, ◌+◌, ◌-◌, ◌^◌, ◌%◌, ◌<◌, ◌≤◌, ◌≡◌, true, [], ◌∷◌, Some, map, slice_get, refl}
 use Rattle.std.specs.List.{range_with_len}
 use Rattle.spmd_model.specs.Timelines.{Machine, Moment, boundary, signal}
 
