@@ -5,7 +5,7 @@ use Rattle.std.proofs.lemmas.List.{get_or-map}
 use Rattle.nest_walk.specs.Tables.{entries}
 use Rattle.spmd_model.specs.Deeds.{Deed, awaiting, deed_of}
 use Rattle.spmd_model.specs.Timelines as Timelines
-use Rattle.spmd_model.specs.Timelines.{Act, post, await, load, store, print, act_at}
+use Rattle.spmd_model.specs.Timelines.{Act, post, await, load, store, add, print, counter, act_at}
 use Rattle.spmd_model.proofs.Counters.{awaited_post}
 use Rattle.spmd_model.proofs.PlannedSound.{sound_of}
 use Rattle.spmd_machine.specs.Machines.{IsReady, model_of, plan_in, tree_in}
@@ -15,21 +15,22 @@ use Rattle.spmd_machine.specs.declared.processor.Processor.{Processor}
 use Rattle.spmd_machine.proofs.Steps.{next_from}
 
 -- an act that awaits
-await_is : (m : Timelines.Machine) (a : Act) (on wanted : ℕ) → deed_of m a ≡ awaiting on wanted → a ≡ await on wanted
-await_is m (post k) on wanted h = cc
-await_is m (await q k) on wanted h = let same : q ≡ on = cc in let wants : k ≡ wanted = cc in cc
+await_is : (m : Timelines.Machine) (a : Act) (on wanted : ℕ) → deed_of m a ≡ awaiting counter on wanted → a ≡ await counter on wanted
+await_is m (post w k) on wanted h = cc
+await_is m (await w q k) on wanted h = let word : w ≡ counter = cc in let same : q ≡ on = cc in let wants : k ≡ wanted = cc in cc
 await_is m (load t c) on wanted h = cc
 await_is m (store t c) on wanted h = cc
+await_is m (add t c) on wanted h = cc
 await_is m (print t) on wanted h = cc
 
 -- it awaits a processor
 pub awaits_processor : (m : Machine) (ready : IsReady m) (p : ℕ) (x : Processor) (lt : p < length m.processors.items) (read : x ≡ get_or m.processors.items p x) (kept : IsKept (tree_in m) (plan_in m) (entries m.table) p x) (on wanted : ℕ) (rest : List Deed) →
-    left_of x ≡ awaiting on wanted ∷ rest → on < length m.processors.items
+    left_of x ≡ awaiting counter on wanted ∷ rest → on < length m.processors.items
 awaits_processor m ready p x lt read kept on wanted rest left =
     let s = state_of (tree_in m) (plan_in m) m.processors.items m.memory.items m.output.bytes in
-    let n = next_from (tree_in m) (plan_in m) ready.formed ready.fits (entries m.table) m.processors.items m.memory.items m.output.bytes p x lt read kept (awaiting on wanted) rest left in
-    let act : act_at (model_of m) p (slice_index s.positions p) ≡ Some (await on wanted) = n.there ∙ ap (λ a. Some a) (await_is (model_of m) n.element on wanted n.is) in
-    let below = (awaited_post (model_of m) p (slice_index s.positions p) on wanted (sound_of (tree_in m) (plan_in m) ready.formed ready.fits) (omega (arith, lt, ready.count)) act).0 in
+    let n = next_from (tree_in m) (plan_in m) ready.formed ready.fits (entries m.table) m.processors.items m.memory.items m.output.bytes p x lt read kept (awaiting counter on wanted) rest left in
+    let act : act_at (model_of m) p (slice_index s.positions p) ≡ Some (await counter on wanted) = n.there ∙ ap (λ a. Some a) (await_is (model_of m) n.element on wanted n.is) in
+    let below = (awaited_post (model_of m) counter p (slice_index s.positions p) on wanted (sound_of (tree_in m) (plan_in m) ready.formed ready.fits) (omega (arith, lt, ready.count)) act).0 in
     omega (arith, below, ready.count)
 
 -- a counter that is read

@@ -92,6 +92,7 @@ module _ (tree : Tree) (plan : Plan) (size : ℕ) where
         let positions = map_same (position_of tree plan) ps 0 (λ p d lt. fresh_position p (get_or ps p d) (fresh p d lt)) ∙ ap (λ n. replicate n 0) count in
         let registers = map_same (λ (x : Processor). x.registers.items) ps [] (λ p d lt. (fresh p d lt).registers) ∙ ap (λ n. replicate n []) count in
         let counters = map_same (λ (x : Processor). x.counter) ps 0 (λ p d lt. (fresh p d lt).counter) ∙ ap (λ n. replicate n 0) count in
+        let signals : (state_of tree plan ps memory output).signals ≡ (first_state (machine_of tree plan)).signals = map_same (λ (x : Processor). 0) ps 0 (λ p d lt. refl) ∙ ap (λ n. replicate n 0) count in
         cc
 
 pub reached_first : (tree : Tree) (plan : Plan) (s : State) → s ≡ first_state (machine_of tree plan) → IsReached (machine_of tree plan) s

@@ -9,6 +9,7 @@ use Rattle.nest_tree.specs.Tree.{Tree}
 use Rattle.nest_walk.specs.declared.table.LoadCells.{LoadCells}
 use Rattle.nest_walk.specs.declared.table.WorkCells.{WorkCells}
 use Rattle.sync_plan.specs.declared.plan.Plan.{Plan}
+use Rattle.spmd_model.specs.Timelines.{counter}
 use Rattle.spmd_model.specs.Deeds.{Deed, awaiting}
 use Rattle.spmd_machine.specs.Processors.{IsBegun, IsIdle, IsKept, PassesTurn, all_of, left_of, room_of}
 use Rattle.spmd_turns.specs.Turns.{Turn, awaits, is_turn_inside, posts, turn_deeds, works}
@@ -96,7 +97,7 @@ module _ (tree : Tree) (plan : Plan) (entries : List WorkCells) (p : ℕ) (x : P
   pub await_idle : (on wanted : ℕ) (rest : List Turn) → turns_left x.turns ≡ awaits on wanted ∷ rest → IsIdle (length x.registers.items) x.load x.element
   await_idle on wanted rest is = subst (λ ts. IsBegun entries ts (length x.registers.items) x.load x.element) is kept.begun
 
-  pub await_left : (on wanted : ℕ) (rest : List Turn) → turns_left x.turns ≡ awaits on wanted ∷ rest → left_of x ≡ awaiting on wanted ∷ flat_map (turn_deeds (turns_tree x.turns)) rest
+  pub await_left : (on wanted : ℕ) (rest : List Turn) → turns_left x.turns ≡ awaits on wanted ∷ rest → left_of x ≡ awaiting counter on wanted ∷ flat_map (turn_deeds (turns_tree x.turns)) rest
   await_left on wanted rest is = left_idle x (await_idle on wanted rest is).none_done ∙ ap (flat_map (turn_deeds (turns_tree x.turns))) is
 
   pub end_idle : turns_left x.turns ≡ [] → left_of x ≡ []

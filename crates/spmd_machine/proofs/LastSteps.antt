@@ -1,5 +1,5 @@
 -- The store or the PRINT of an instance whose loads are done.
-use Rattle.std.proofs.Common.{◌≡◌, ℕ, suc, ◌+◌, ◌-◌, ◌<◌, ◌≤◌, ℤ, true, List, [], ◌∷◌, ◌++◌, length, map, set, get_or, Vec, Global, Option, Some, None, refl, sym, ◌∙◌, ap, subst, arith, length-set, sum_by}
+use Rattle.std.proofs.Common.{false, ◌≡◌, ℕ, suc, ◌+◌, ◌-◌, ◌<◌, ◌≤◌, ℤ, true, List, [], ◌∷◌, ◌++◌, length, map, set, get_or, Vec, Global, Option, Some, None, refl, sym, ◌∙◌, ap, subst, arith, length-set, sum_by}
 use Rattle.std.specs.Prelude.{slice_get}
 use Rattle.std.specs.List.{list_all}
 use Rattle.std.specs.Option.{option_to_list}
@@ -107,7 +107,7 @@ module _ (m : Machine) (ready : IsReady m) (p : ℕ) (x : Processor) (lt : p < l
     unfolding placed
     found = here.found m ready p x own stop (inst m ready p x lt read stop next) (rest m ready p x lt read stop next) turns_is cells at
 
-    left_is : (y : Processor) (t : Turn) → PassesTurn x y t → left_of x ≡ last_deed (store_of tree i) (assigned_value tree i) (line_of tree i) ∷ left_of y
+    left_is : (y : Processor) (t : Turn) → PassesTurn x y t → left_of x ≡ last_deed (store_of tree i) false (assigned_value tree i) (line_of tree i) ∷ left_of y
     left_is y t passes = here.left_last m ready p x own stop (inst m ready p x lt read stop next) (rest m ready p x lt read stop next) turns_is cells at over y t passes.program passes.turns passes.idle.none_done
 
     -- ---- an assignment
@@ -162,7 +162,7 @@ module _ (m : Machine) (ready : IsReady m) (p : ℕ) (x : Processor) (lt : p < l
             v ≡ value_of (expression_of e) ls ps given → ls ≡ with_rounds m.loops.items rounds → ps ≡ m.params.items → given ≡ x.registers.items → loops.items ≡ with_rounds m.loops.items rounds →
             StepsTo m (record m { processors = with_item m.processors p y; loops = loops; memory = with_item m.memory k v }) p Stepped
         store_steps y t v ls ps given loops passes counter is written params same loops_are =
-            let left = left_is y t passes ∙ ap (λ o. last_deed o (assigned_value tree i) (line_of tree i) ∷ left_of y) store_is in
+            let left = left_is y t passes ∙ ap (λ o. last_deed o false (assigned_value tree i) (line_of tree i) ∷ left_of y) store_is in
             let room = room_passed tree (plan_in m) (entries m.table) p x own y t passes.turns in
             steps m ready p x y lt read loops (with_item m.memory k v) m.output (storing k (assigned_value tree i)) (passed_kept tree (plan_in m) (entries m.table) p x own ready.wide y t (storing k (assigned_value tree i)) passes left)
             (ap (λ (l : List ℤ). length l) loops_are ∙ with_rounds-length m.loops.items rounds) (length-set m.memory.items k v) (omega (arith, room)) (omega arith)
@@ -172,6 +172,7 @@ module _ (m : Machine) (ready : IsReady m) (p : ℕ) (x : Processor) (lt : p < l
               can = refl;
               registers = ap (set (map (λ (z : Processor). z.registers.items) m.processors.items) p) (nothing_in y.registers.items passes.idle.none_done);
               counters = same_counters tree (plan_in m) ready.formed ready.fits (entries m.table) m.processors.items m.memory.items m.output.bytes p x lt read (kept_here m ready p x y lt read) y counter;
+              signals = refl;
               memory_is = ap (set m.memory.items k) (store_value v ls ps given is written params same
                   ∙ ap (assigned_value tree i) (sym (registers_read tree (plan_in m) ready.formed ready.fits (entries m.table) m.processors.items m.memory.items m.output.bytes p x lt read (kept_here m ready p x y lt read))));
               output_is = refl;
@@ -228,7 +229,7 @@ module _ (m : Machine) (ready : IsReady m) (p : ℕ) (x : Processor) (lt : p < l
           output.bytes ≡ m.output.bytes ++ (items_text tree ls (map printed_of items) given ++ 10 ∷ []) → length output.bytes ≤ length m.output.bytes + (longest_items tree (map printed_of items) + 1) → m.output.room ≤ output.room →
           StepsTo m (record m { processors = with_item m.processors p y; loops = loops; output = output }) p Stepped
       print_steps y t ls given loops output passes counter written same loops_are said grown capacity =
-          let left = left_is y t passes ∙ ap (λ o. last_deed o (assigned_value tree i) (line_of tree i) ∷ left_of y) no_store in
+          let left = left_is y t passes ∙ ap (λ o. last_deed o false (assigned_value tree i) (line_of tree i) ∷ left_of y) no_store in
           let turn = first_is (turns_left x.turns) (works i) t (rest m ready p x lt read stop next) (turns_left y.turns) turns_is passes.turns in
           let turns = passes.turns ∙ ap (λ u. u ∷ turns_left y.turns) (sym turn.0) in
           let room = room_passed tree (plan_in m) (entries m.table) p x own y (works i) turns in
@@ -240,6 +241,7 @@ module _ (m : Machine) (ready : IsReady m) (p : ℕ) (x : Processor) (lt : p < l
             can = refl;
             registers = ap (set (map (λ (z : Processor). z.registers.items) m.processors.items) p) (nothing_in y.registers.items passes.idle.none_done);
             counters = same_counters tree (plan_in m) ready.formed ready.fits (entries m.table) m.processors.items m.memory.items m.output.bytes p x lt read (kept_here m ready p x y lt read) y counter;
+            signals = refl;
             memory_is = refl;
             output_is = said ∙ ap (λ l. m.output.bytes ++ l) (line_is ls given written same
                 ∙ ap (line_of tree i) (sym (registers_read tree (plan_in m) ready.formed ready.fits (entries m.table) m.processors.items m.memory.items m.output.bytes p x lt read (kept_here m ready p x y lt read))));

@@ -99,6 +99,7 @@ module _ (m : Machine) (ready : IsReady m) (p : ℕ) (x : Processor) (lt : p < l
           can = refl;
           registers = ap (set (map (λ (z : Processor). z.registers.items) m.processors.items) p) (pushed ∙ ap (λ r. r ++ cell_value m.memory.items cell ∷ []) (sym (registers_read (tree_in m) (plan_in m) ready.formed ready.fits (entries m.table) m.processors.items m.memory.items m.output.bytes p x lt read (kept_here m ready p x y lt read))));
           counters = same_counters (tree_in m) (plan_in m) ready.formed ready.fits (entries m.table) m.processors.items m.memory.items m.output.bytes p x lt read (kept_here m ready p x y lt read) y refl;
+          signals = refl;
           memory_is = refl;
           output_is = refl;
         })

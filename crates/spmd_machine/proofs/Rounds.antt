@@ -9,8 +9,8 @@ use Rattle.std.proofs.lemmas.List.Concat.{flat_map-append}
 use Rattle.sync_plan.proofs.ProcessorSets.{range_split}
 use Rattle.spmd_model.specs.Ordered.{IsSound}
 use Rattle.spmd_model.specs.Reached.{HasCome}
-use Rattle.spmd_model.specs.States.{State, next_act, moved, acted, stepped, stepped_by, IsEnded}
-use Rattle.spmd_model.specs.Timelines.{Act, post, await, load, store, print, Machine, acts_of}
+use Rattle.spmd_model.specs.States.{State, next_act, moved, acted, stepped, stepped_by, words_of, IsEnded}
+use Rattle.spmd_model.specs.Timelines.{Act, post, await, load, store, add, print, Machine, counter, signal, acts_of}
 use Rattle.spmd_model.proofs.Keeps.{within_acts}
 use Rattle.spmd_model.proofs.Unstuck.{ended_or_goes}
 use Rattle.spmd_machine.specs.Machines.{answer_at, step_answer}
@@ -40,10 +40,12 @@ go_length : Machine → State → ℕ → ℕ
 go_length m s q = length (acts_of m q) - slice_index s.positions q
 
 moved_positions : (m : Machine) (s : State) (p : ℕ) (act : Act) → (moved (acted m s p act) p).positions ≡ set s.positions p (slice_index s.positions p + 1)
-moved_positions m s p (post number) = refl
-moved_positions m s p (await on wanted) = refl
+moved_positions m s p (post counter number) = refl
+moved_positions m s p (post signal number) = refl
+moved_positions m s p (await w on wanted) = refl
 moved_positions m s p (load t cell) = refl
 moved_positions m s p (store t cell) = refl
+moved_positions m s p (add t cell) = refl
 moved_positions m s p (print t) = refl
 
 moved_less : (m : Machine) (s : State) (p : ℕ) (act : Act) → p < m.workers → HasCome m s → next_act m s p ≡ Some act → acts_to_go m (moved (acted m s p act) p) + 1 ≡ acts_to_go m s
@@ -84,30 +86,33 @@ blocked_answer false on wanted seen on' wanted' seen' h = refl
 
 can_by : (s : State) (o : Option Act) → answer_at s o ≡ Stepped → can_go s o ≡ true
 can_by s None h = absurd (cc)
-can_by s (Some (post number)) h = refl
-can_by s (Some (await on wanted)) h = stepped_answer (nat_le wanted (slice_index s.counters on)) on wanted (slice_index s.counters on) h
+can_by s (Some (post w number)) h = refl
+can_by s (Some (await w on wanted)) h = stepped_answer (nat_le wanted (slice_index (words_of s w) on)) on wanted (slice_index (words_of s w) on) h
 can_by s (Some (load t cell)) h = refl
 can_by s (Some (store t cell)) h = refl
+can_by s (Some (add t cell)) h = refl
 can_by s (Some (print t)) h = refl
 
 cannot_ended : (s : State) (o : Option Act) → answer_at s o ≡ Ended → can_go s o ≡ false
 cannot_ended s None h = refl
-cannot_ended s (Some (post number)) h = absurd (cc)
-cannot_ended s (Some (await on wanted)) h = go (nat_le wanted (slice_index s.counters on)) h
+cannot_ended s (Some (post w number)) h = absurd (cc)
+cannot_ended s (Some (await w on wanted)) h = go (nat_le wanted (slice_index (words_of s w) on)) h
   where
-    go : (b : Bool) → cond b Stepped (Blocked on wanted (slice_index s.counters on)) ≡ Ended → b ≡ false
+    go : (b : Bool) → cond b Stepped (Blocked on wanted (slice_index (words_of s w) on)) ≡ Ended → b ≡ false
     go true h = absurd (cc)
     go false h = refl
 cannot_ended s (Some (load t cell)) h = absurd (cc)
 cannot_ended s (Some (store t cell)) h = absurd (cc)
+cannot_ended s (Some (add t cell)) h = absurd (cc)
 cannot_ended s (Some (print t)) h = absurd (cc)
 
 cannot_blocked : (s : State) (o : Option Act) (on' wanted' seen' : ℕ) → answer_at s o ≡ Blocked on' wanted' seen' → can_go s o ≡ false
 cannot_blocked s None on' wanted' seen' h = refl
-cannot_blocked s (Some (post number)) on' wanted' seen' h = absurd (cc)
-cannot_blocked s (Some (await on wanted)) on' wanted' seen' h = blocked_answer (nat_le wanted (slice_index s.counters on)) on wanted (slice_index s.counters on) on' wanted' seen' h
+cannot_blocked s (Some (post w number)) on' wanted' seen' h = absurd (cc)
+cannot_blocked s (Some (await w on wanted)) on' wanted' seen' h = blocked_answer (nat_le wanted (slice_index (words_of s w) on)) on wanted (slice_index (words_of s w) on) on' wanted' seen' h
 cannot_blocked s (Some (load t cell)) on' wanted' seen' h = absurd (cc)
 cannot_blocked s (Some (store t cell)) on' wanted' seen' h = absurd (cc)
+cannot_blocked s (Some (add t cell)) on' wanted' seen' h = absurd (cc)
 cannot_blocked s (Some (print t)) on' wanted' seen' h = absurd (cc)
 
 pub answered_stepped : (m : Machine) (s : State) (p : ℕ) → Stepped ≡ step_answer m s p → can_step m s p ≡ true

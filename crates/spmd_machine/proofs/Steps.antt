@@ -1,5 +1,5 @@
 -- Steps of the definition's machine by the deed that comes next, over a machine's parts.
-use Rattle.std.proofs.Common.{◌≡◌, ℕ, ◌+◌, ◌-◌, ◌<◌, ℤ, true, false, nat_le, cond, List, [], ◌∷◌, length, map, set, get_or, Some, None, refl, sym, ◌∙◌, ap}
+use Rattle.std.proofs.Common.{◌≡◌, ℕ, zero, suc, ◌+◌, ◌-◌, ◌<◌, ℤ, true, false, nat_le, cond, List, [], ◌∷◌, length, map, set, get_or, Some, None, refl, sym, ◌∙◌, ap}
 use Rattle.std.specs.Prelude.{slice_get, slice_index}
 use Rattle.std.proofs.lemmas.List.{get_or-map, map-set, set-get_or}
 use Rattle.nest_tree.specs.Tree.{Tree}
@@ -7,10 +7,10 @@ use Rattle.nest_tree.specs.WellFormed.{IsWellFormed}
 use Rattle.nest_walk.specs.declared.table.WorkCells.{WorkCells}
 use Rattle.sync_plan.specs.Fit.{IsFit}
 use Rattle.sync_plan.specs.declared.plan.Plan.{Plan}
-use Rattle.spmd_model.specs.Deeds.{Deed, posting, awaiting, loading, storing, printing, can_do, deed_of, did}
+use Rattle.spmd_model.specs.Deeds.{Deed, posting, awaiting, loading, storing, adding, printing, can_do, deed_of, did}
 use Rattle.spmd_model.specs.Planned.{machine_of}
-use Rattle.spmd_model.specs.States.{State, acted, is_possible, moved, next_act, registers_of, stepped, stepped_by}
-use Rattle.spmd_model.specs.Timelines.{Act, post, await, load, store, print, acts_of}
+use Rattle.spmd_model.specs.States.{State, acted, is_possible, moved, next_act, registers_of, stepped, stepped_by, words_of}
+use Rattle.spmd_model.specs.Timelines.{Act, post, await, load, store, add, print, counter, signal, acts_of}
 use Rattle.spmd_model.proofs.Deeds.{acted_is, plan_deeds, possible_is}
 use Rattle.spmd_machine.specs.Machines.{answer_at, step_answer}
 use Rattle.spmd_machine.specs.Processors.{IsKept, all_of, left_of, position_of, state_of}
@@ -59,19 +59,20 @@ module _ (tree : Tree) (plan : Plan) (formed : IsWellFormed tree) (fits : IsFit 
       let not_possible = possible_is (machine_of tree plan) here n.element ∙ ap (can_do here) n.is ∙ cannot in
       sym (ap (stepped_by (machine_of tree plan) here p) n.there ∙ ap (λ b. cond b (moved (acted (machine_of tree plan) here p n.element) p) here) not_possible)
 
-  pub blocked_answer : (on wanted seen : ℕ) (rest : List Deed) → left_of x ≡ awaiting on wanted ∷ rest → slice_index here.counters on ≡ seen → nat_le wanted seen ≡ false → Blocked on wanted seen ≡ step_answer (machine_of tree plan) here p
-  blocked_answer on wanted seen rest left counter less =
-      let n = next_from (awaiting on wanted) rest left in
+  pub blocked_answer : (on wanted seen : ℕ) (rest : List Deed) → left_of x ≡ awaiting counter on wanted ∷ rest → slice_index here.counters on ≡ seen → nat_le wanted seen ≡ false → Blocked on wanted seen ≡ step_answer (machine_of tree plan) here p
+  blocked_answer on wanted seen rest left shows less =
+      let n = next_from (awaiting counter on wanted) rest left in
       sym (ap (answer_at here) n.there ∙ by n.element n.is)
     where
-      by : (a : Act) → deed_of (machine_of tree plan) a ≡ awaiting on wanted → answer_at here (Some a) ≡ Blocked on wanted seen
-      by (post k) h = absurd (cc)
-      by (await q k) h =
-          let same : q ≡ on = cc in let wants : k ≡ wanted = cc in
-          ap (λ i. answer_at here (Some (await i k))) same ∙ ap (λ i. answer_at here (Some (await on i))) wants
-          ∙ ap (λ c. cond (nat_le wanted c) Stepped (Blocked on wanted c)) counter ∙ ap (λ b. cond b Stepped (Blocked on wanted seen)) less
+      by : (a : Act) → deed_of (machine_of tree plan) a ≡ awaiting counter on wanted → answer_at here (Some a) ≡ Blocked on wanted seen
+      by (post w k) h = absurd (cc)
+      by (await w q k) h =
+          let word : w ≡ counter = cc in let same : q ≡ on = cc in let wants : k ≡ wanted = cc in
+          ap (λ v. answer_at here (Some (await v q k))) word ∙ ap (λ i. answer_at here (Some (await counter i k))) same ∙ ap (λ i. answer_at here (Some (await counter on i))) wants
+          ∙ ap (λ c. cond (nat_le wanted c) Stepped (Blocked on wanted c)) shows ∙ ap (λ b. cond b Stepped (Blocked on wanted seen)) less
       by (load t c) h = absurd (cc)
       by (store t c) h = absurd (cc)
+      by (add t c) h = absurd (cc)
       by (print t) h = absurd (cc)
 
   -- ---- a deed that is done
@@ -89,21 +90,24 @@ module _ (tree : Tree) (plan : Plan) (formed : IsWellFormed tree) (fits : IsFit 
       sym (ap (answer_at here) n.there ∙ by n.element (possible_is (machine_of tree plan) here n.element ∙ ap (can_do here) n.is ∙ can))
     where
       by : (a : Act) → is_possible here a ≡ true → answer_at here (Some a) ≡ Stepped
-      by (post k) h = refl
-      by (await q k) h = ap (λ b. cond b Stepped (Blocked q k (slice_index here.counters q))) h
+      by (post w k) h = refl
+      by (await w q k) h = ap (λ b. cond b Stepped (Blocked q k (slice_index (words_of here w) q))) h
       by (load t c) h = refl
       by (store t c) h = refl
+      by (add t c) h = refl
       by (print t) h = refl
 
-  same_state : {a a' : List ℕ} {b b' : List (List ℤ)} {c c' : List ℕ} {m m' : List ℤ} {o o' : List ℕ} → a ≡ a' → b ≡ b' → c ≡ c' → m ≡ m' → o ≡ o' →
-      (let left : State = record { positions = a; registers = b; counters = c; memory = m; output = o } in let right : State = record { positions = a'; registers = b'; counters = c'; memory = m'; output = o' } in left ≡ right)
-  same_state a b c m o = cc
+  same_state : {a a' : List ℕ} {b b' : List (List ℤ)} {c c' d d' : List ℕ} {m m' : List ℤ} {o o' : List ℕ} → a ≡ a' → b ≡ b' → c ≡ c' → d ≡ d' → m ≡ m' → o ≡ o' →
+      (let left : State = record { positions = a; registers = b; counters = c; signals = d; memory = m; output = o } in let right : State = record { positions = a'; registers = b'; counters = c'; signals = d'; memory = m'; output = o' } in left ≡ right)
+  same_state a b c d m o = cc
 
   did_positions : (d : Deed) → (did here p d).positions ≡ here.positions
-  did_positions (posting k) = refl
-  did_positions (awaiting q k) = refl
+  did_positions (posting counter k) = refl
+  did_positions (posting signal k) = refl
+  did_positions (awaiting w q k) = refl
   did_positions (loading c) = refl
   did_positions (storing c v) = refl
+  did_positions (adding c v) = refl
   did_positions (printing l) = refl
 
   -- a processor behind a deed, with memory and output behind it
@@ -113,8 +117,18 @@ module _ (tree : Tree) (plan : Plan) (formed : IsWellFormed tree) (fits : IsFit 
     pub can : can_do here d ≡ true
     pub registers : set here.registers p y.registers.items ≡ (did here p d).registers
     pub counters : set here.counters p y.counter ≡ (did here p d).counters
+    pub signals : (did here p d).signals ≡ here.signals
     pub memory_is : after ≡ (did here p d).memory
     pub output_is : said ≡ (did here p d).output
+
+  -- nobody posts on signals
+  same_signals : (y : Processor) → (state_of tree plan (set ps p y) memory output).signals ≡ here.signals
+  same_signals y = map-set (λ (z : Processor). 0) ps p y ∙ zero_there ps p
+    where
+      zero_there : (zs : List Processor) (k : ℕ) → set {A = ℕ} (map (λ (z : Processor). 0) zs) k 0 ≡ map (λ (z : Processor). 0) zs
+      zero_there [] k = refl
+      zero_there (z ∷ zs) zero = refl
+      zero_there (z ∷ zs) (suc k) = ap (λ l. 0 ∷ l) (zero_there zs k)
 
   pub done_state : (d : Deed) (y : Processor) (after : List ℤ) (said : List ℕ) → Does d y after said → state_of tree plan (set ps p y) after said ≡ stepped (machine_of tree plan) here p
   unfolding position_of
@@ -124,7 +138,7 @@ module _ (tree : Tree) (plan : Plan) (formed : IsWellFormed tree) (fits : IsFit 
       ap (λ n. length (all_of tree plan n) - length (left_of y)) does.processor ∙ more ∙ ap (λ n. n + 1) (sym position_read) ∙ ap (λ l. slice_index l p + 1) (sym (did_positions d)) in
       same_state
       (map-set (position_of tree plan) ps p y ∙ ap (set (map (position_of tree plan) ps) p) mine ∙ ap (λ l. set l p (slice_index (did here p d).positions p + 1)) (sym (did_positions d)))
-      (map-set (λ (z : Processor). z.registers.items) ps p y ∙ does.registers) (map-set (λ (z : Processor). z.counter) ps p y ∙ does.counters) does.memory_is does.output_is
+      (map-set (λ (z : Processor). z.registers.items) ps p y ∙ does.registers) (map-set (λ (z : Processor). z.counter) ps p y ∙ does.counters) (same_signals y ∙ sym does.signals) does.memory_is does.output_is
       ∙ sym (stepped_is d (left_of y) does.left does.can)
 
   -- what stays where the processor's does
@@ -142,9 +156,9 @@ module _ (tree : Tree) (plan : Plan) (formed : IsWellFormed tree) (fits : IsFit 
   -- a processor that shows the same
   pub still_state : (y : Processor) → left_of y ≡ left_of x → turns_processor y.turns ≡ p → y.registers.items ≡ x.registers.items → y.counter ≡ x.counter → state_of tree plan (set ps p y) memory output ≡ here
   unfolding position_of
-  still_state y left processor registers counter =
+  still_state y left processor registers shows =
       let mine : position_of tree plan y ≡ slice_index here.positions p =
       ap (λ n. length (all_of tree plan n) - length (left_of y)) processor ∙ ap (λ l. length (all_of tree plan p) - length l) left ∙ sym position_read in
       same_state
       (map-set (position_of tree plan) ps p y ∙ ap (set here.positions p) mine ∙ set-get_or here.positions p 0)
-      (map-set (λ (z : Processor). z.registers.items) ps p y ∙ same_registers y registers) (map-set (λ (z : Processor). z.counter) ps p y ∙ same_counters y counter) refl refl
+      (map-set (λ (z : Processor). z.registers.items) ps p y ∙ same_registers y registers) (map-set (λ (z : Processor). z.counter) ps p y ∙ same_counters y shows) (same_signals y) refl refl

@@ -1,5 +1,5 @@
 -- The instance that comes next of a processor: its statement stands in the text, and its cells are those of the table.
-use Rattle.std.proofs.Common.{◌≡◌, ℕ, suc, ◌-◌, ◌<◌, ◌≤◌, ℤ, true, List, [], ◌∷◌, ◌++◌, length, drop, map, Some, refl, sym, ◌∙◌, ap, subst, arith, append_assoc}
+use Rattle.std.proofs.Common.{false, ◌≡◌, ℕ, suc, ◌-◌, ◌<◌, ◌≤◌, ℤ, true, List, [], ◌∷◌, ◌++◌, length, drop, map, Some, refl, sym, ◌∙◌, ap, subst, arith, append_assoc}
 use Rattle.std.specs.Prelude.{slice_get}
 use Rattle.std.specs.List.{flat_map, list_all}
 use Rattle.std.specs.Option.{option_map}
@@ -108,12 +108,12 @@ module _ (m : Machine) (ready : IsReady m) (p : ℕ) (x : Processor) (kept : IsK
     behind_it : List Deed
     behind_it = flat_map (turn_deeds tree) rest
 
-    left_is : left_of x ≡ drop (length x.registers.items) (map loading (loads_of tree inst.instance) ++ (last_deed (store_of tree inst.instance) (assigned_value tree inst.instance) (line_of tree inst.instance) ∷ behind_it))
+    left_is : left_of x ≡ drop (length x.registers.items) (map loading (loads_of tree inst.instance) ++ (last_deed (store_of tree inst.instance) false (assigned_value tree inst.instance) (line_of tree inst.instance) ∷ behind_it))
     unfolding left_of behind_it
     left_is =
         ap (λ (w : Tree). drop (length x.registers.items) (flat_map (turn_deeds w) (turns_left x.turns))) kept.program
         ∙ ap (λ ts. drop (length x.registers.items) (flat_map (turn_deeds tree) ts)) next
-        ∙ ap (drop (length x.registers.items)) (append_assoc (map loading (loads_of tree inst.instance)) (last_deed (store_of tree inst.instance) (assigned_value tree inst.instance) (line_of tree inst.instance) ∷ []) (flat_map (turn_deeds tree) rest))
+        ∙ ap (drop (length x.registers.items)) (append_assoc (map loading (loads_of tree inst.instance)) (last_deed (store_of tree inst.instance) false (assigned_value tree inst.instance) (line_of tree inst.instance) ∷ []) (flat_map (turn_deeds tree) rest))
 
     -- a load
     pub load_there : (l : LoadCells) → slice_get cells.loads.items x.load ≡ Some l → slice_get (loads_of tree inst.instance) (length x.registers.items) ≡ Some (cell_of_load values l x.element)
@@ -130,7 +130,7 @@ module _ (m : Machine) (ready : IsReady m) (p : ℕ) (x : Processor) (kept : IsK
     unfolding left_of behind_it
     left_load l y there program turns more =
         let cs = loads_of tree inst.instance in
-        let d = last_deed (store_of tree inst.instance) (assigned_value tree inst.instance) (line_of tree inst.instance) in
+        let d = last_deed (store_of tree inst.instance) false (assigned_value tree inst.instance) (line_of tree inst.instance) in
         left_is ∙ load_first loading cs (d ∷ behind_it) (length x.registers.items) (cell_of_load values l x.element) (load_there l there)
         ∙ ap (λ ds. loading (cell_of_load values l x.element) ∷ ds)
         (ap (drop (suc (length x.registers.items))) (sym (append_assoc (map loading cs) (d ∷ []) (flat_map (turn_deeds tree) rest)))
@@ -146,10 +146,10 @@ module _ (m : Machine) (ready : IsReady m) (p : ℕ) (x : Processor) (kept : IsK
           ap (λ (cs : List ℕ). length cs) (sym loads_are) ∙ cells-widths values cells.loads.items ∙ all
 
       pub left_last : (y : Processor) (t : Turn) → turns_tree y.turns ≡ turns_tree x.turns → turns_left x.turns ≡ t ∷ turns_left y.turns → length y.registers.items ≡ 0 →
-          left_of x ≡ last_deed (store_of tree inst.instance) (assigned_value tree inst.instance) (line_of tree inst.instance) ∷ left_of y
+          left_of x ≡ last_deed (store_of tree inst.instance) false (assigned_value tree inst.instance) (line_of tree inst.instance) ∷ left_of y
       unfolding left_of behind_it
       left_last y t program turns none =
-          let d = last_deed (store_of tree inst.instance) (assigned_value tree inst.instance) (line_of tree inst.instance) in
+          let d = last_deed (store_of tree inst.instance) false (assigned_value tree inst.instance) (line_of tree inst.instance) in
           let same : works inst.instance ∷ rest ≡ t ∷ turns_left y.turns = sym next ∙ turns in
           let rest_is : rest ≡ turns_left y.turns = cc in
           left_is ∙ last_first loading (loads_of tree inst.instance) d behind_it (length x.registers.items) loads_done

@@ -11,9 +11,9 @@ use Rattle.nest_walk.specs.declared.table.WorkCells.{WorkCells}
 use Rattle.sync_plan.specs.Fit.{IsFit}
 use Rattle.sync_plan.specs.declared.plan.Plan.{Plan}
 use Rattle.spmd_model.specs.Planned.{machine_of}
-use Rattle.spmd_model.specs.States.{State, next_act, run_of, stepped}
+use Rattle.spmd_model.specs.States.{State, next_act, run_of, stepped, words_of}
 use Rattle.spmd_model.specs.Timelines as Timelines
-use Rattle.spmd_model.specs.Timelines.{Act, post, await, load, store, print}
+use Rattle.spmd_model.specs.Timelines.{Act, post, await, load, store, add, print}
 use Rattle.spmd_machine.specs.Processors.{IsKept, room_of, state_of}
 use Rattle.spmd_turns.specs.TurnsLeft.{IsNext, at_turn, turns_left}
 use Rattle.spmd_machine.specs.declared.answer.StepAnswer.{StepAnswer}
@@ -41,10 +41,11 @@ shown m = state_of (tree_in m) (plan_in m) m.processors.items m.memory.items m.o
 -- what a step answers where this is the processor's next act
 abbrev pub answer_at : State → Option Act → StepAnswer
 answer_at s None = Ended
-answer_at s (Some (post number)) = Stepped
-answer_at s (Some (await on wanted)) = if nat_le wanted (slice_index s.counters on) then Stepped else Blocked on wanted (slice_index s.counters on)
+answer_at s (Some (post word number)) = Stepped
+answer_at s (Some (await word on wanted)) = if nat_le wanted (slice_index (words_of s word) on) then Stepped else Blocked on wanted (slice_index (words_of s word) on)
 answer_at s (Some (load place cell)) = Stepped
 answer_at s (Some (store place cell)) = Stepped
+answer_at s (Some (add place cell)) = Stepped
 answer_at s (Some (print place)) = Stepped
 
 abbrev pub step_answer : Timelines.Machine → State → ℕ → StepAnswer

@@ -30,6 +30,7 @@ state_of tree plan processors memory output = record {
   positions = map (position_of tree plan) processors;
   registers = map (λ (x : Processor). x.registers.items) processors;
   counters = map (λ (x : Processor). x.counter) processors;
+  signals = map (λ (x : Processor). 0) processors;
   memory = memory;
   output = output;
 }

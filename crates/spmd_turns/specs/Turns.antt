@@ -7,6 +7,7 @@ use Rattle.nest_model.specs.Visits.{Visit}
 use Rattle.sync_plan.specs.declared.plan.Plan.{Plan}
 use Rattle.sync_plan.specs.Waits.{posts_at, waits_for}
 use Rattle.spmd_model.specs.Deeds.{Deed, posting, awaiting, instance_deeds, owned_by}
+use Rattle.spmd_model.specs.Timelines.{counter}
 
 pub data Turn : Type 0 where
   posts : (number : ℕ) → Turn
@@ -14,8 +15,8 @@ pub data Turn : Type 0 where
   works : (i : Instance) → Turn
 
 abbrev pub turn_deeds : Tree → Turn → List Deed
-turn_deeds tree (posts number) = posting number ∷ []
-turn_deeds tree (awaits on wanted) = awaiting on wanted ∷ []
+turn_deeds tree (posts number) = posting counter number ∷ []
+turn_deeds tree (awaits on wanted) = awaiting counter on wanted ∷ []
 turn_deeds tree (works i) = instance_deeds tree i
 
 -- in front of a phase

@@ -3,6 +3,7 @@ use Rattle.std.specs.List.{flat_map}
 use Rattle.std.proofs.lemmas.Bool.{le-leb, lt-leb}
 use Rattle.nest_tree.specs.View.{tree_of}
 use Rattle.nest_walk.specs.Tables.{entries}
+use Rattle.spmd_model.specs.Timelines.{counter}
 use Rattle.spmd_model.specs.Deeds.{awaiting}
 use Rattle.spmd_machine.specs.Machines.{shown}
 use Rattle.spmd_machine.specs.Processors.{PassesTurn}
@@ -48,7 +49,7 @@ returns-then-seen-wanted c =
       ready = ready;
       program = refl;
       plan = refl;
-      state = blocked_state tree plan ready.formed ready.fits table m.processors.items m.memory.items m.output.bytes p x lt read kept (awaiting c.args.on c.args.wanted) deeds left (ap (nat_le c.args.wanted) seen ∙ less);
+      state = blocked_state tree plan ready.formed ready.fits table m.processors.items m.memory.items m.output.bytes p x lt read kept (awaiting counter c.args.on c.args.wanted) deeds left (ap (nat_le c.args.wanted) seen ∙ less);
       answer = blocked_answer tree plan ready.formed ready.fits table m.processors.items m.memory.items m.output.bytes p x lt read kept c.args.on c.args.wanted c.index.result.now.counter deeds left seen less;
     }
 
@@ -65,7 +66,7 @@ returns c =
     let read = c.index_mut.ensures.value in
     let y : Processor = record { turns = c.pass.new.self; registers = x.registers; load = x.load; element = x.element; counter = x.counter } in
     let turn = awaits c.args.on c.args.wanted in
-    let deed = awaiting c.args.on c.args.wanted in
+    let deed = awaiting counter c.args.on c.args.wanted in
     let kept = kept_here m ready p x y lt read in
     let (rest, next) = (next_here m ready p x y lt read (Await c.args.on c.args.wanted) c.requires.next).next in
     let idle = await_idle tree plan table p x kept c.args.on c.args.wanted rest next in
@@ -82,6 +83,7 @@ returns c =
       can = ap (nat_le c.args.wanted) seen ∙ le-leb c.args.wanted c.index.result.now.counter c.if-seen-wanted.false;
       registers = same_registers tree plan ready.formed ready.fits table m.processors.items m.memory.items m.output.bytes p x lt read kept y refl;
       counters = same_counters tree plan ready.formed ready.fits table m.processors.items m.memory.items m.output.bytes p x lt read kept y refl;
+      signals = refl;
       memory_is = refl;
       output_is = refl;
     })

@@ -1,6 +1,7 @@
 use Rattle.std.proofs.Common.{◌∷◌, ap, ◌∙◌, refl, arith}
 use Rattle.nest_tree.specs.View.{tree_of}
 use Rattle.nest_walk.specs.Tables.{entries}
+use Rattle.spmd_model.specs.Timelines.{counter}
 use Rattle.spmd_model.specs.Deeds.{posting}
 use Rattle.spmd_machine.specs.Processors.{PassesTurn}
 use Rattle.spmd_turns.specs.Turns.{posts}
@@ -31,15 +32,16 @@ returns c =
     let turn = first_is (turns_left x.turns) (posts c.args.number) t rest (turns_left y.turns) next passed in
     let turns = next ∙ ap (λ ts. posts c.args.number ∷ ts) turn.1 in
     let passes : PassesTurn x y (posts c.args.number) = record { sound = c.pass.ensures.sound; program = c.pass.ensures.program; plan_is = c.pass.ensures.plan; processor = c.pass.ensures.processor; turns = turns; idle = idle; room = omega arith } in
-    let left = left_turn tree plan table p x kept y (posts c.args.number) (posting c.args.number) passes refl idle.none_done in
+    let left = left_turn tree plan table p x kept y (posts c.args.number) (posting counter c.args.number) passes refl idle.none_done in
     let room = room_passed tree plan table p x kept y (posts c.args.number) turns in
-    steps m ready p x y lt read m.loops m.memory m.output (posting c.args.number) (passed_kept tree plan table p x kept ready.wide y (posts c.args.number) (posting c.args.number) passes left) refl refl (omega (arith, room)) (omega arith)
+    steps m ready p x y lt read m.loops m.memory m.output (posting counter c.args.number) (passed_kept tree plan table p x kept ready.wide y (posts c.args.number) (posting counter c.args.number) passes left) refl refl (omega (arith, room)) (omega arith)
     (record {
       left = left;
       processor = passes.processor ∙ kept.processor;
       can = refl;
       registers = same_registers tree plan ready.formed ready.fits table m.processors.items m.memory.items m.output.bytes p x lt read kept y refl;
       counters = refl;
+      signals = refl;
       memory_is = refl;
       output_is = refl;
     })
