@@ -108,6 +108,16 @@ CASES = [
     ("label-place", "K = 1|@    15 K = 2", "a label ends in column 5", "15 K"),
     ("glued-plan", "K = 1|ENDSPMD PLAN 2|@WORKERS 2", "has no line end", "SPMD PLAN"),
     ("plan-behind", "K = 1|END|@SPMD PLAN 2", "verify", "SPMD PLAN"),
+    ("label-field", "K = 1|@  ; K = 2", "columns 1 to 5", "; K"),
+    ("goes-on", "@     * K = 1", "none to go on with", "* K"),
+    ("behind_end", "K = 1|END|K = 2", "the program ends in line 2", None),
+    ("character", "K = L > 1", "no meaning here", "> 1"),
+    ("large-number", "K = 9223372036854775808", "at most 9223372036854775807", "9223"),
+    ("trailing", "K =, L", "missing in front of ,", ", L"),
+    ("declared_below", "A(1) = 0|INTEGER A(5)", "declared below, in line 2", "A(1)"),
+    ("text_outside", "K = 'A'", "in a PRINT alone", "'A'"),
+    ("no_statement", "K 1", "misspelt, or an =", "K 1"),
+    ("no_statement", "DO 10 I 1, 5|   10 CONTINUE", "misspelt, or an =", "DO 10"),
     ("unit-behind", "K = 1|END|SUBROUTINE S", "no subroutines", "SUBROUTINE"),
 ]
 
@@ -162,7 +172,7 @@ def main(names):
         if fault:
             failed += 1
             print(f"{name}: {fault}: {source_of(text)!r}", *told(text)[1], sep="\n  ")
-    known = {it[0] for it in [*hints.LINES, *hints.PATTERNS, *hints.FINDERS]}
+    known = {it[0] for it in [*hints.LINES, *hints.PATTERNS, *hints.FINDERS]} | {*hints.PLAIN}
     for name in sorted(known - {it[0] for it in CASES}):
         failed += 1
         print(f"{name}: no source tries it")

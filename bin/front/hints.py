@@ -60,7 +60,9 @@ PATTERNS = [
     ("stop", "F1", r"STOP", "STOP stands directly in front of END alone, outside all loops: leave it out"),
     ("underscore", "F1 F2", r".*?(?P<at>[A-Z0-9]*_\w*)", "a name has letters and digits alone, at most 6 of them"),
     ("bracket", "F1 F2", r".*?(?P<at>[\[\]{}])", "subscripts stand in ( and )"),
+    ("character", "F1 F2", r"[A-Z0-9=+*/(),.:'~-]*(?P<at>[^A-Z0-9=+*/(),.:'~-])", "this character has no meaning here"),
     ("sign", "F1", r".*?[-+*/](?P<at>[-+*/])", "a sign stands in front of a first term alone: K = 2*(-3)"),
+    ("large-number", "F11", r".*?(?P<at>\d{19,})", "a number is at most 9223372036854775807"),
     ("assign-twice", "F1", r"[A-Z0-9]+(\(.*?\))?=[^=]*(?P<at>=)", "a statement stores one value: K = 1 and L = 1 are two"),
 ]
 
@@ -73,8 +75,10 @@ LINES = [
     ("comment-line", "L2 L3 F1", r"\s*(?P<at>!|//|#)", "a comment is a line with C or * in column 1"),
     ("zero-label", "L2", r" *(?P<at>0[ 0]*)", "a label is 1 to 99999"),
     ("free-form", "L2 L3", r" {0,5}(?P<at>[A-Za-z'].*)", COLUMNS),
+    ("label-field", "L2", r"[ \d]{0,4}(?P<at>[^ \d])", "columns 1 to 5 have a label or blanks: " + COLUMNS),
     ("label-place", "L3", r" {0,4}(?P<at>\d)[ \d]*[^ 0]", f"column 6 goes on with the line in front, and a label ends in column 5; {COLUMNS}"),
     ("plan-behind", "L5", r"(?P<at>SPMD PLAN)", "a plan behind END is for `verify` and for `run --plan given`"),
+    ("goes-on", "L3", r" {5}(?P<at>[^ 0])", f"column 6 is no blank, so this line goes on with one above, and there is none to go on with; {COLUMNS}"),
     ("unit-behind", "L5", r" *(?P<at>(?i:SUBROUTINE|FUNCTION|INTEGER +FUNCTION|PROGRAM))",
      "there are no subroutines, and one program stands in a source"),
 ]
@@ -157,9 +161,10 @@ class Finders:
             return found.start(), (
                 f"something is missing behind {found[0]}; a statement goes on in the next line by a character in its column 6"
             )
-        found = re.search(r"[,(](?P<at>[,)])", self.code)
+        begun = body_of(self.code)
+        found = re.search(r"[-+*/=(,](?P<at>[*/=),])", self.code[begun:])
         if found:
-            return found.start("at"), f"something is missing in front of {found['at']}"
+            return begun + found.start("at"), f"something is missing in front of {found['at']}"
 
     def long_name(self):
         begun = body_of(self.code)
@@ -198,6 +203,26 @@ class Finders:
             if subscripts is not None and name in known and name not in self.program.arrays:
                 more = f": {instead[name]}" if name in instead else ""
                 return at, f"there is no function but MIN and MAX{more}"
+
+    def declared_below(self):
+        """An array that is declared behind its first use."""
+        for name, at, subscripts in reads(self.code):
+            line = self.program.declared.get(name, 0)
+            if subscripts is not None and line > self.statement.line:
+                return at, f"{name} is declared below, in line {line}; declarations come first"
+
+    def text_outside(self):
+        at = self.code.find("'")
+        if at >= 0 and not self.code.startswith("PRINT*,"):
+            return at, "text stands in a PRINT alone: PRINT *, 'K', K"
+
+    def no_statement(self):
+        if not re.match(r"[A-Z0-9]+(\(.*\))?=|DO\d+,?[A-Z]\w*=.*,|IF\(.*\).*=", self.code):
+            return 0, "this is no statement: its first word is misspelt, or an = or a comma is missing"
+
+    @staticmethod
+    def behind_end_of(end):
+        return f"the program ends in line {end}, and only comments may stand behind END"
 
     def no_array(self):
         begun = body_of(self.code)
@@ -355,12 +380,15 @@ class Finders:
 
 # name, codes; in the order in which they are tried, behind the patterns
 FINDERS = [
-    ("missing_label", "F1 F2"), ("open_text", "F1 F2"), ("functions", "F4 F5 F1 F3"), ("parentheses", "F1 F2"), ("trailing", "F1 F2"),
-    ("misspelt", "F1 F2"), ("out_of_order", "F1"), ("long_name", "F1 F2"), ("short_minimum", "F1"), ("gone_on", "F1 F2 F4"),
-    ("no_array", "F4"), ("no_constant", "F4"), ("no_integer", "F3"), ("loop_variable", "F10"),
+    ("missing_label", "F1 F2"), ("open_text", "F1 F2"), ("functions", "F4 F5 F1 F3"), ("misspelt", "F1 F2"), ("parentheses", "F1 F2"),
+    ("trailing", "F1 F2"), ("out_of_order", "F1"), ("long_name", "F1 F2"), ("short_minimum", "F1"), ("gone_on", "F1 F2 F4"),
+    ("declared_below", "F4"), ("no_array", "F4"), ("no_constant", "F4"), ("no_integer", "F3"), ("loop_variable", "F10"),
     ("subscript_count", "F5"), ("divisor", "F8"), ("step", "F6 F7"), ("not_affine", "F6"),
-    ("twice_labelled", "F9"), ("open_loop", "F9"), ("ends_here", "F9"), ("range", "S1"), ("missing_end", "L4"),
+    ("text_outside", "F2"), ("no_statement", "F1"), ("twice_labelled", "F9"), ("open_loop", "F9"), ("ends_here", "F9"), ("range", "S1"), ("missing_end", "L4"),
 ]
+
+# told without a finder of its own
+PLAIN = ["behind_end"]
 
 
 class Hint:
@@ -391,6 +419,8 @@ def hint_for(program, code, number, refusal):
         if ends:
             return Hint("end-name", ends[-1].line, ends[-1].spots[0][1], "the last line is END alone")
     statement = source.statement_at(number)
+    if code == "L5" and source.end:
+        return Hint("behind_end", number, None, Finders.behind_end_of(source.end))
     if statement is None:
         statement = source.statements[-1] if source.statements and code == "L4" else None
     if statement is None:

@@ -252,7 +252,7 @@ class Program:
     def __init__(self, source, settings=None):
         self.source, self.settings = source, settings or {}
         self.constants, self.values = [], []
-        self.integers, self.arrays = set(), {}
+        self.integers, self.arrays, self.declared = set(), {}, {}
         self.loops, self.actions, self.stops = [], [], []
         self.open = []
         for statement in source.statements:
@@ -282,7 +282,7 @@ class Program:
             self.loops.append(loop)
             self.open.append(loop)
             return
-        self.act(statement) or self.declare(code)
+        self.act(statement) or self.declare(code, statement.line)
         while statement.label and self.open and self.open[-1].label == statement.label:
             self.open.pop().end = statement.lines[-1]
 
@@ -306,7 +306,7 @@ class Program:
         self.actions.append(action)
         return True
 
-    def declare(self, code):
+    def declare(self, code, line):
         parameter = re.match(r"PARAMETER\((.*)\)$", code)
         if parameter:
             for it in split_outside(parameter[1]):
@@ -324,6 +324,7 @@ class Program:
                 self.integers.add(name)
             if bounds:
                 self.arrays[name] = [self.bounds_of(b) for b in split_outside(bounds[:-1])]
+                self.declared.setdefault(name, line)
 
     def bounds_of(self, text):
         lower, colon, upper = text.partition(":")
