@@ -1,5 +1,5 @@
 -- The instance at a stop, whole: what it loads, and what stands behind its loads.
-use Rattle.std.proofs.Common.{◌≡◌, ℕ, suc, ◌+◌, ◌-◌, ◌<◌, ◌≤◌, ℤ, nat_le, nat_lt, true, List, [], ◌∷◌, ◌++◌, length, map, Option, Some, None, refl, sym, ◌∙◌, ap, append_assoc, arith}
+use Rattle.std.proofs.Common.{◌≡◌, ℕ, suc, ◌+◌, ◌-◌, ◌<◌, ◌≤◌, ℤ, nat_le, nat_lt, true, false, List, [], ◌∷◌, ◌++◌, length, map, Option, Some, None, refl, sym, ◌∙◌, ap, append_assoc, arith}
 use Rattle.std.specs.Prelude.{slice_get}
 use Rattle.std.specs.List.{flat_map, list_all}
 use Rattle.std.specs.Option.{option_to_list}
@@ -82,7 +82,7 @@ module _ (tree : Tree) (path : Path) (stop : Stop) (left : List Deed) (b : Begin
       at.instance_is ∙ ap (λ w. record { statement = stop.first; what = w; loops = loops }) (same_work at.what placed.what (sym at.is ∙ placed.is))
 
   abbrev last : Deed
-  last = last_deed (store_of tree i) (assigned_value tree i) (line_of tree i)
+  last = last_deed (store_of tree i) false (assigned_value tree i) (line_of tree i)
 
   module _ (formed : IsWellFormed tree) (table : CellTable) (are : IsCellTable tree table) (cells : WorkCells) (at : slice_get (entries table) (stop.first - 1) ≡ Some cells) where
     pub found : Found tree path placed.numbered placed.what cells
@@ -165,7 +165,7 @@ module _ (tree : Tree) (path : Path) (stop : Stop) (left : List Deed) (b : Begin
               omega (arith, below, same, few_cells tree limits)
 
           pub last_store : last ∷ b.rest ≡ storing k (assigned_value tree i) ∷ b.rest
-          last_store = ap (λ o. last_deed o (assigned_value tree i) (line_of tree i) ∷ b.rest) store_is
+          last_store = ap (λ o. last_deed o false (assigned_value tree i) (line_of tree i) ∷ b.rest) store_is
 
       -- ---- a PRINT
       module _ (listed items : List PrintItem) (line : ℕ) (is_print : statement_of stop.item.now ≡ work (print (record { items = map printed_of listed; line = line }))) (items_are : items ≡ listed) where
@@ -197,7 +197,7 @@ module _ (tree : Tree) (path : Path) (stop : Stop) (left : List Deed) (b : Begin
         no_store = ap (store_of tree) instance_is ∙ ap (work_store tree loops) prints
 
         pub last_print : last ∷ b.rest ≡ printing (line_of tree i) ∷ b.rest
-        last_print = ap (λ o. last_deed o (assigned_value tree i) (line_of tree i) ∷ b.rest) no_store
+        last_print = ap (λ o. last_deed o false (assigned_value tree i) (line_of tree i) ∷ b.rest) no_store
 
 -- what stands behind a deed, and what line a PRINT writes
 pub same_rest : {d e : Deed} {rest new : List Deed} → d ∷ rest ≡ e ∷ new → new ≡ rest
