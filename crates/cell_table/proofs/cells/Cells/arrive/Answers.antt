@@ -1,0 +1,37 @@
+use Rattle.std.proofs.Common.{cond, List, ℕ, ◌+◌, sym, ◌∙◌, ap, subst, arith}
+use Rattle.spmd_model.specs.Timelines.{counter, post}
+use Rattle.cell_table.specs.declared.view.View.{View}
+use Rattle.cell_table.specs.Words.{word_count, arrival_word}
+use Rattle.cell_table.specs.Homes.{IsSeatOf, protocol_at, misses_of, position_of, role_in}
+use Rattle.cell_table.proofs.Keeps.{arrive_allowed}
+use Rattle.cell_table.proofs.Calls.{stands, same, same_table, its_gathers, its_laws, its_next, gone_seat, gone_here}
+use Rattle.std.specs.Prelude.{◌-◌}
+use Rattle.cell_table.proofs.cells.Cells.arrive.Goals as goal
+
+pub fetch_add-requires : goal.fetch_add-requires
+fetch_add-requires c =
+    let s = c.seat.inside in
+    let k = stands s.seat.table_id s.seat.me.0 s.processor s.arrivals c.args.seat.now _ c.seat.invariant.0 c.seat.view_is (c.requires.own ∙ sym c.self.view_is) in
+    let next = its_next k (post counter (c.args.e - 1)) c.requires.next.0 in
+    let joint = its_gathers k (c.args.e - 1) ∙ c.requires.next.1 in
+    let word = c.arrival_word-word.ensures ∙ ap (λ h. arrival_word (protocol_at h)) (sym c.self.view_is) ∙ ap arrival_word (sym (same k)) in
+    let wide = c.self.invariant.0 ∙ ap word_count (sym (same k)) in (
+      same_table k,
+      omega (arith, word, wide),
+      arrive_allowed c.self.inside.table.shared.key c.self.inside.table.shared.table_id.slots s.seat.id s.seat.me (its_laws k c.self.invariant.3) s.processor (position_of (role_in s.seat.me.0)) (misses_of (role_in s.seat.me.0)) c.seat.invariant.0.role (c.args.e - 1) _ next joint word,
+    )
+
+pub invariant_of-seat : goal.invariant_of-seat
+invariant_of-seat c =
+    let s = c.seat.inside in
+    let k = stands s.seat.table_id s.seat.me.0 s.processor s.arrivals c.args.seat.now _ c.seat.invariant.0 c.seat.view_is (c.requires.own ∙ sym c.self.view_is) in
+    let new = c.fetch_add.ensures.2.0 in (
+      subst (λ (x : View). IsSeatOf x s.processor (s.arrivals + 1)) (sym (ap (λ (x : View × List (ℕ × ℕ)). x.0) new)) (gone_seat s.seat.me.0 s.processor s.arrivals (s.arrivals + 1) (post counter (c.args.e - 1)) c.seat.invariant.0 (its_next k (post counter (c.args.e - 1)) c.requires.next.0) (sym (ap (λ b. cond b (s.arrivals + 1) s.arrivals) (its_gathers k (c.args.e - 1) ∙ c.requires.next.1)))),
+      ap (λ (x : View × List (ℕ × ℕ)). x.1) new ∙ c.seat.invariant.1,
+    )
+
+pub returns : goal.returns
+returns c =
+    let s = c.seat.inside in
+    let k = stands s.seat.table_id s.seat.me.0 s.processor s.arrivals c.args.seat.now _ c.seat.invariant.0 c.seat.view_is (c.requires.own ∙ sym c.self.view_is) in
+    record { goes = gone_here k c.fetch_add.ensures.0 (ap (λ (x : View × List (ℕ × ℕ)). x.0) c.fetch_add.ensures.2.0) }

@@ -1,0 +1,41 @@
+use Rattle.std.proofs.Common.{List, ℕ, refl, sym, ◌∙◌, ap, subst, arith}
+use Rattle.spmd_model.specs.Timelines.{load}
+use Rattle.cell_table.specs.declared.view.View.{View}
+use Rattle.cell_table.specs.Words.{word_count}
+use Rattle.cell_table.specs.Homes.{IsSeatOf, misses_of, plan_given, position_of, role_in, tree_given}
+use Rattle.cell_table.proofs.Keeps.{load_allowed}
+use Rattle.cell_table.proofs.Calls.{stands, same, same_table, load_inside, its_laws, its_next, gone_seat, gone_here, loaded_here, memory_there}
+use Rattle.nest_model.specs.Memory.{cell_value}
+use Rattle.cell_table.proofs.cells.Cells.load.Goals as goal
+
+pub load-requires : goal.load-requires
+load-requires c =
+    let s = c.seat.inside in
+    let k = stands s.seat.table_id s.seat.me.0 s.processor s.arrivals c.args.seat.now _ c.seat.invariant.0 c.seat.view_is (c.requires.own ∙ sym c.self.view_is) in
+    let next = its_next k (load c.requires.next.0 c.args.cell) c.requires.next.1 in
+    let inside = load_inside k (its_laws k c.self.invariant.3) c.requires.next.0 c.args.cell next in
+    let wide = c.self.invariant.0 ∙ ap word_count (sym (same k)) in (
+      same_table k,
+      omega (arith, inside, wide),
+      load_allowed c.self.inside.table.shared.key c.self.inside.table.shared.table_id.slots s.seat.id s.seat.me (its_laws k c.self.invariant.3) s.processor (position_of (role_in s.seat.me.0)) (misses_of (role_in s.seat.me.0)) c.seat.invariant.0.role c.requires.next.0 c.args.cell next inside,
+    )
+
+pub invariant_of-seat : goal.invariant_of-seat
+invariant_of-seat c =
+    let s = c.seat.inside in
+    let k = stands s.seat.table_id s.seat.me.0 s.processor s.arrivals c.args.seat.now _ c.seat.invariant.0 c.seat.view_is (c.requires.own ∙ sym c.self.view_is) in
+    let new = c.load.ensures.2.0 in (
+      subst (λ (x : View). IsSeatOf x s.processor s.arrivals) (sym (ap (λ (x : View × List (ℕ × ℕ)). x.0) new)) (gone_seat s.seat.me.0 s.processor s.arrivals s.arrivals (load c.requires.next.0 c.args.cell) c.seat.invariant.0 (its_next k (load c.requires.next.0 c.args.cell) c.requires.next.1) refl),
+      ap (λ (x : View × List (ℕ × ℕ)). x.1) new ∙ c.seat.invariant.1,
+    )
+
+pub returns : goal.returns
+returns c =
+    let s = c.seat.inside in
+    let k = stands s.seat.table_id s.seat.me.0 s.processor s.arrivals c.args.seat.now _ c.seat.invariant.0 c.seat.view_is (c.requires.own ∙ sym c.self.view_is) in
+    let value = loaded_here k c.load.result c.cast_signed.result c.load.type_inv c.cast_signed.ensures c.load.ensures.2.1 in record {
+      value = value;
+      memory = λ place next.
+          value ∙ memory_there c.args.seat.now c.args.self.now c.requires.own place c.args.cell next ∙ ap (λ m. cell_value m c.args.cell) (c.timelines_are_sequential.ensures.memory (tree_given c.args.self.now.given) (plan_given c.args.self.now.given) place);
+      goes = gone_here k c.load.ensures.0 (ap (λ (x : View × List (ℕ × ℕ)). x.0) c.load.ensures.2.0);
+    }

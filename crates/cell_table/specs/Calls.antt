@@ -1,0 +1,54 @@
+-- What the calls of a table ask and tell.
+use Rattle.std.specs.Prelude.{ℕ, ◌*◌, ◌≡◌, ◌<◌, true, false, Some, length, replicate, slice_set}
+use Rattle.spmd_model.specs.Timelines.{counter, post, await, load, store}
+use Rattle.cell_table.specs.declared.poll.Poll.{Poll}
+use Rattle.cell_table.specs.declared.poll.Poll.TheVariants.{Ready, NotYet}
+use Rattle.cell_table.specs.declared.view.Stage.{Stage}
+use Rattle.cell_table.specs.declared.view.Stage.TheVariants.{NotOut}
+use Rattle.cell_table.specs.Places.{settled_at}
+use Rattle.cell_table.specs.Homes.{Home, CellView, MainView, protocol_at, next_act, missed, arrivals_of}
+
+-- the next act loads this cell, or stores to it
+abbrev pub LoadsNext : CellView → ℕ → Type 0
+LoadsNext v cell = (place : ℕ) × (next_act v ≡ Some (load place cell))
+
+abbrev pub StoresNext : CellView → ℕ → Type 0
+StoresNext v cell = (place : ℕ) × (next_act v ≡ Some (store place cell))
+
+-- it posts this number on the processor's counter, or awaits it on another's
+abbrev pub PostsNext : CellView → ℕ → Type 0
+PostsNext v number = (next_act v ≡ Some (post counter number)) × ((protocol_at v.home).gathers number ≡ false)
+
+abbrev pub AwaitsNext : CellView → ℕ → ℕ → Type 0
+AwaitsNext v on wanted = (next_act v ≡ Some (await counter on wanted)) × ((protocol_at v.home).gathers wanted ≡ false)
+
+-- it arrives at the barrier of this number, or awaits another there
+abbrev pub ArrivesNext : CellView → ℕ → Type 0
+ArrivesNext v number = (next_act v ≡ Some (post counter number)) × ((protocol_at v.home).gathers number ≡ true)
+
+abbrev pub GathersNext : CellView → ℕ → Type 0
+GathersNext v number = (on : ℕ) × (next_act v ≡ Some (await counter on number)) × ((protocol_at v.home).gathers number ≡ true)
+
+-- a poll that is ready goes on; another one is a miss, and shows what it found, which is less than what was wanted
+abbrev pub PollTells : CellView → CellView → ℕ → Poll → CellView → Type 0
+PollTells old further wanted Ready new = new ≡ further
+PollTells old further wanted (NotYet seen) new = (seen < wanted) × (new ≡ missed old)
+
+-- how many arrivals there are once all have come
+abbrev pub all_arrivals : CellView → ℕ
+all_arrivals v = (protocol_at v.home).workers * arrivals_of v
+
+abbrev pub with_stage : ℕ → Stage → MainView → MainView
+with_stage p stage v = record { home = v.home; stages = slice_set v.stages p stage }
+
+-- a processor's seat at its first act
+abbrev pub first_seat : Home → ℕ → CellView
+first_seat h p = record { home = h; processor = p; position = settled_at (protocol_at h) p 0; misses = 0 }
+
+-- all acts of the seat's processor are done
+abbrev pub IsEndedSeat : CellView → Type 0
+IsEndedSeat v = v.position ≡ length ((protocol_at v.home).acts v.processor)
+
+-- the main seat of a new table
+abbrev pub main_seat : Home → MainView
+main_seat h = record { home = h; stages = replicate (protocol_at h).workers NotOut }

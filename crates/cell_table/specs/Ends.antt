@@ -1,0 +1,13 @@
+-- What contracts see of a table that is closed.
+use Rattle.std.specs.Prelude.{◌≡◌, ℤ, List, Option}
+use Rattle.nest_tree.specs.declared.tree.Program.{Program}
+use Rattle.sync_plan.specs.declared.plan.Plan.{Plan}
+use Rattle.cell_table.specs.Homes.{protocol_given}
+
+pub record End : Type 0 where
+  pub given : Option (Program × Plan)
+  pub memory : List ℤ
+
+-- its memory is the sequential program's last one
+abbrev pub IsLast : End → Type 0
+IsLast e = e.memory ≡ (protocol_given e.given).last

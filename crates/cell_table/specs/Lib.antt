@@ -1,0 +1,9 @@
+pub mod Places
+pub mod Words
+pub mod Seats
+pub mod Steps
+pub mod Homes
+pub mod Rule
+pub mod Calls
+pub mod Ends
+pub mod Codes

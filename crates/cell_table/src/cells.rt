@@ -1,0 +1,320 @@
+// The shared words, and the calls on them.
+
+ghost use Rattle.std.specs.Prelude.{◌≡◌, ◌<◌, ◌≤◌, ◌-◌, ℕ, IfOk, IfErr, Some, replicate, slice_get, length};
+ghost use Rattle.nest_tree.specs.View.{tree_of};
+ghost use Rattle.nest_tree.specs.Limits.{IsWithinLimits};
+ghost use Rattle.nest_tree.specs.WellFormed.{IsWellFormed};
+ghost use Rattle.nest_model.specs.Ranges.{IsInRange};
+ghost use Rattle.sync_plan.specs.Fit.{IsFit};
+ghost use Rattle.sync_plan.specs.Ordered.{IsOrdered};
+ghost use Rattle.spmd_laws.specs.Laws.{Laws};
+ghost use Rattle.spmd_laws.specs.Protocols.{settled};
+ghost use Rattle.cell_table.specs.Calls.{ArrivesNext, AwaitsNext, GathersNext, LoadsNext, PollTells, PostsNext, IsEndedSeat, StoresNext, all_arrivals, first_seat, main_seat, with_stage};
+ghost use Rattle.cell_table.specs.Ends.{IsLast};
+ghost use Rattle.nest_model.specs.Memory.{cell_value, memory_before};
+ghost use Rattle.spmd_model.specs.Planned.{jobs_in_front};
+ghost use Rattle.spmd_model.specs.Timelines.{counter, load};
+ghost use Rattle.cell_table.specs.Homes.{gone, protocol_at, next_act, plan_given, through, tree_given};
+ghost use Rattle.cell_table.specs.Words.{arrival_word, word_of};
+ghost use Rattle.cell_table.specs.declared.view.Stage.{Stage};
+ghost use Rattle.cell_table.specs.declared.view.Stage.TheVariants.{Ended, NotOut, Out};
+
+use crate::closed::{Closed, read_words};
+use crate::poll::Poll;
+use crate::rule::{Cut, Glue, Go, Load, Look, LookAround, Rule, Twin, Which};
+use crate::view::{Given, View};
+use atomic_table::{Seat, Table};
+use nest_tree::Program;
+use spmd_laws::laws_of;
+use spmd_model::timelines_are_sequential;
+use std::alloc::{AllocError, Global};
+use std::marker::{Brand, Model};
+use sync_plan::Plan;
+
+/// The cells, the counters and the arrival word of a program under a plan, as words that threads
+/// share. Contracts see which table it is, and of which program and plan.
+#[derive(Drop)]
+pub struct Cells<'a> {
+    program: &'a Program,
+    plan: &'a Plan,
+    // where the counters begin: behind the cells
+    cells: u32,
+    table: Table<u8, View, Given<'a>, Rule, Global>,
+}
+
+impl<'a> Model for Cells<'a> {
+    ghost use Rattle.std.specs.Prelude.{◌≡◌, Some};
+    ghost use Rattle.nest_tree.specs.View.{tree_of};
+    ghost use Rattle.spmd_laws.specs.Laws.{Laws};
+    ghost use Rattle.spmd_laws.specs.Viewed.{protocol_of};
+    ghost use Rattle.cell_table.specs.Homes.{Home};
+    ghost use Rattle.cell_table.specs.Words.{word_count};
+    ghost use Rattle.cell_table.specs.Codes.{home_code};
+
+    ghost Value = { Home };
+
+    ghost coded = { home_code };
+
+    ghost view = { λ c. record { table = c.table.shared.table_id; given = Some (c.program.now, c.plan.now) } };
+
+    ghost invariant = { λ c. (c.table.shared.table_id.words ≡ word_count (protocol_of (tree_of c.program.now) c.plan.now)) × (c.table.shared.table_id.slots ≡ 0) × (c.cells ≡ (protocol_of (tree_of c.program.now) c.plan.now).cells) × Laws (protocol_of (tree_of c.program.now) c.plan.now) };
+}
+
+/// The seat of one processor. Contracts see the processor, how many of its acts are done, and its
+/// misses.
+#[derive(Drop)]
+pub struct CellSeat {
+    seat: Seat<u8, View>,
+    processor: u32,
+    // how often it has arrived at barriers
+    arrivals: u64,
+}
+
+impl Model for CellSeat {
+    ghost use Rattle.std.specs.Prelude.{◌≡◌, []};
+    ghost use Rattle.cell_table.specs.Homes.{CellView, IsSeatOf, cell_view};
+    ghost use Rattle.cell_table.specs.Codes.{cell_view_code};
+
+    ghost Value = { CellView };
+
+    ghost coded = { cell_view_code };
+
+    ghost view = { λ s. cell_view s.seat.table_id s.seat.me.0 };
+
+    ghost invariant = { λ s. IsSeatOf s.seat.me.0 s.processor s.arrivals × (s.seat.me.1 ≡ []) };
+}
+
+/// There was no memory to close the table. Cells and main seat come back.
+#[derive(Drop)]
+pub struct CloseRefused<'a> {
+    pub cells: Cells<'a>,
+    pub seat: MainSeat,
+}
+
+/// The main seat. Contracts see how far it has come with each processor's seat.
+#[derive(Drop)]
+pub struct MainSeat {
+    seat: Seat<u8, View>,
+}
+
+impl Model for MainSeat {
+    ghost use Rattle.std.specs.Prelude.{◌≡◌, []};
+    ghost use Rattle.cell_table.specs.declared.view.Role.TheVariants.{Main};
+    ghost use Rattle.cell_table.specs.Homes.{MainView, main_view, role_in, stages_of};
+    ghost use Rattle.cell_table.specs.Codes.{main_view_code};
+
+    ghost Value = { MainView };
+
+    ghost coded = { main_view_code };
+
+    ghost view = { λ s. main_view s.seat.table_id s.seat.me.0 };
+
+    ghost invariant = { λ s. (role_in s.seat.me.0 ≡ Main (stages_of (role_in s.seat.me.0))) × (s.seat.me.1 ≡ []) };
+}
+
+impl<'a> Cells<'a> {
+    ghost use Rattle.spmd_laws.specs.Protocols.{settled};
+
+    /// All words at 0, and the main seat, with which no processor's seat is out.
+    pub fn new(
+        alloc: Global,
+        program: &'a Program,
+        plan: &'a Plan,
+    ) -> Result<(Cells<'a>, MainSeat), AllocError>
+        requires formed { IsWellFormed (tree_of program.now) }
+        requires limits { IsWithinLimits (tree_of program.now) }
+        requires ranges { IsInRange (tree_of program.now) }
+        requires fits { IsFit (tree_of program.now) plan.now }
+        requires ordered { IsOrdered (tree_of program.now) plan.now }
+        ensures given { IfOk result (λ t. t.0.given ≡ Some (program.now, plan.now)) }
+        ensures main { IfOk result (λ t. t.1 ≡ main_seat t.0) }
+    {
+        laws_of();
+        let cells = program.cell_count() as u32;
+        let count = cells as usize + 8 * (plan.workers as usize + 2);
+        let zeros = vec![in alloc; 0u64; count]?;
+        let (table, seat) = Table::of_words(alloc, zeros.as_slice(), &Given { program, plan })?;
+        Ok((
+            Cells {
+                program,
+                plan,
+                cells,
+                table,
+            },
+            MainSeat { seat },
+        ))
+    }
+
+    /// What holds of the machine that the words show; nothing is done.
+    pub fn laws(&self)
+        ensures { Laws (protocol_at self.now) }
+    {
+        let _cells = self.cells;
+    }
+
+    /// The end of a table whose processors have all ended.
+    pub fn close(self, alloc: Global, main: MainSeat) -> Result<Closed, CloseRefused<'a>>
+        requires own { main.home ≡ self }
+        requires ended { (p : ℕ) → p < (protocol_at self).workers → slice_get main.stages p ≡ Some Ended }
+        ensures given { IfOk result (λ c. c.given ≡ self.entry.given) }
+        ensures last { IfOk result (λ c. IsLast c) }
+        ensures refused { IfErr result (λ r. (r.cells ≡ self.entry) × (r.seat ≡ main)) }
+    {
+        let Ok(mut memory) = vec![in alloc; 0i64; self.cells as usize] else {
+            return Err(CloseRefused {
+                cells: self,
+                seat: main,
+            });
+        };
+        let MainSeat { mut seat } = main;
+        let over = self.table.shared.split_seat::<Twin>(&mut seat);
+        let Cells {
+            program: _,
+            plan,
+            cells: _,
+            table,
+        } = self;
+        let words = table.close_with(over);
+        read_words(&words, &mut memory);
+        words.free();
+        Ok(Closed {
+            seat: MainSeat { seat },
+            workers: plan.workers,
+            memory,
+        })
+    }
+
+    /// A load, which gives what the sequential program has there.
+    pub fn load(&self, seat: &mut CellSeat, cell: u32) -> i64
+        requires own { seat.old.home ≡ self.now }
+        requires next { LoadsNext seat.old cell }
+        ensures value { result ≡ (protocol_at seat.old.home).loaded_at seat.old.processor seat.old.position }
+        ensures memory { (place : ℕ) → next_act seat.old ≡ Some (load place cell) → result ≡ cell_value (memory_before (tree_given self.now.given) (jobs_in_front (tree_given self.now.given) (plan_given self.now.given) place)) cell }
+        ensures goes { seat.new ≡ gone seat.old }
+    {
+        timelines_are_sequential();
+        self.table
+            .shared
+            .load::<Load>(&mut seat.seat, cell as usize)
+            .cast_signed()
+    }
+
+    /// A store of the sequential program's value.
+    pub fn store(&self, seat: &mut CellSeat, cell: u32, value: i64)
+        requires own { seat.old.home ≡ self.now }
+        requires next { StoresNext seat.old cell }
+        requires value { value ≡ (protocol_at seat.old.home).stored_at seat.old.processor seat.old.position }
+        ensures goes { seat.new ≡ gone seat.old }
+    {
+        self.table
+            .shared
+            .store::<Go>(&mut seat.seat, cell as usize, value.cast_unsigned());
+    }
+
+    /// A post of the seat's processor, on its own counter.
+    pub fn post(&self, seat: &mut CellSeat, number: u64)
+        requires own { seat.old.home ≡ self.now }
+        requires next { PostsNext seat.old number }
+        ensures goes { seat.new ≡ gone seat.old }
+    {
+        let word = self.counter_word(seat.processor);
+        self.table.shared.store::<Go>(&mut seat.seat, word, number);
+    }
+
+    /// A look at the counter of processor `q`.
+    pub fn poll(&self, seat: &mut CellSeat, q: u32, number: u64) -> Poll
+        requires own { seat.old.home ≡ self.now }
+        requires next { AwaitsNext seat.old q number }
+        ensures { PollTells seat.old (gone seat.old) number result seat.new }
+    {
+        let word = self.counter_word(q);
+        let seen = self.table.shared.load::<Look>(&mut seat.seat, word);
+        if number <= seen {
+            Poll::Ready
+        } else {
+            Poll::NotYet { seen }
+        }
+    }
+
+    /// The seat's processor arrives at the barrier in front of phase number `e`: a post of e - 1.
+    pub fn arrive(&self, seat: &mut CellSeat, e: u64)
+        requires own { seat.old.home ≡ self.now }
+        requires next { ArrivesNext seat.old (e - 1) }
+        ensures goes { seat.new ≡ gone seat.old }
+    {
+        let word = self.arrival_word();
+        self.table.shared.fetch_add::<Go>(&mut seat.seat, word, 1);
+        seat.arrivals += 1;
+    }
+
+    /// A look at all arrivals, at the barrier in front of phase number `e`.
+    pub fn poll_arrivals(&self, seat: &mut CellSeat, e: u64) -> Poll
+        requires own { seat.old.home ≡ self.now }
+        requires next { GathersNext seat.old (e - 1) }
+        ensures { PollTells seat.old (through seat.old) (all_arrivals seat.old) result seat.new }
+    {
+        let word = self.arrival_word();
+        let wanted = u64::from(self.plan.workers) * seat.arrivals;
+        let seen = self.table.shared.load::<LookAround>(&mut seat.seat, word);
+        if wanted <= seen {
+            Poll::Ready
+        } else {
+            Poll::NotYet { seen }
+        }
+    }
+
+    fn cut<J: Which>(&self, main: &mut MainSeat, p: u32) -> CellSeat
+        requires own { main.old.home ≡ self.now }
+        requires idle { slice_get main.old.stages p ≡ Some NotOut }
+        requires worker { p < (protocol_at self.now).workers }
+        requires which { p ≡ J.which }
+        ensures seat { result ≡ first_seat self.now p }
+        ensures main { main.new ≡ with_stage p Out main.old }
+    {
+        CellSeat {
+            seat: self.table.shared.split_seat::<Cut<J>>(&mut main.seat),
+            processor: p,
+            arrivals: 0,
+        }
+    }
+
+    /// The seat of processor `p`, at its first act.
+    pub fn seat_for(&self, main: &mut MainSeat, p: u32) -> CellSeat
+        requires own { main.old.home ≡ self.now }
+        requires idle { slice_get main.old.stages p ≡ Some NotOut }
+        requires worker { p < (protocol_at self.now).workers }
+        ensures seat { result ≡ first_seat self.now p }
+        ensures main { main.new ≡ with_stage p Out main.old }
+    {
+        self.cut::<Brand>(main, p)
+    }
+
+    /// The seat of a processor that has ended is taken in.
+    pub fn take_in(&self, main: &mut MainSeat, seat: CellSeat)
+        requires own { main.old.home ≡ self.now }
+        requires seat { seat.home ≡ self.now }
+        requires ended { IsEndedSeat seat }
+        ensures main { main.new ≡ with_stage seat.processor Ended main.old }
+    {
+        let CellSeat {
+            seat,
+            processor: _,
+            arrivals: _,
+        } = seat;
+        self.table.shared.join_seat::<Glue>(&mut main.seat, seat);
+    }
+
+    // Where the counter of this processor lies.
+    fn counter_word(&self, p: u32) -> usize
+        ensures { result ≡ word_of (protocol_at self.now) counter p }
+    {
+        self.cells as usize + 8 * (p as usize + 1)
+    }
+
+    // Where all arrivals are shown.
+    fn arrival_word(&self) -> usize
+        ensures { result ≡ arrival_word (protocol_at self.now) }
+    {
+        self.cells as usize + 8 * (self.plan.workers as usize + 1)
+    }
+}
