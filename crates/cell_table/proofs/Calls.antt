@@ -1,5 +1,5 @@
 -- What a call owes and tells, by what contracts see of its seat.
-use Rattle.std.proofs.Common.{◌≡◌, ℕ, ◌+◌, ◌*◌, ◌^◌, ◌<◌, nat_le, Bool, true, false, cond, List, Some, refl, sym, ◌∙◌, ap, subst}
+use Rattle.std.proofs.Common.{◌≡◌, ℕ, ◌+◌, ◌*◌, ◌^◌, ◌<◌, nat_le, Bool, true, false, cond, List, Some, refl, sym, ◌∙◌, ap, subst, arith}
 use Rattle.std.specs.Prelude.{ℤ, FitsSigned}
 use Rattle.std.specs.Int.{w64, cast_signed, cast_unsigned}
 use Rattle.std.proofs.lemmas.Int.{of_z-to_z, to_z-of_z}
@@ -86,12 +86,15 @@ by_cell A Away p a seat then = let clash = seat.role in absurd (cc)
 gone_is : (id : TableId) (v : View) (p a : ℕ) → IsSeatOf v p a → cell_view id (with_role v (goes_to (protocol_in v) (role_in v))) ≡ gone (cell_view id v)
 gone_is id v p a seat = by_cell (λ v. cell_view id (with_role v (goes_to (protocol_in v) (role_in v))) ≡ gone (cell_view id v)) v p a seat (λ program plan q n misses seat. refl)
 
-pub gone_seat : (v : View) (p a b : ℕ) (act : Act) → IsSeatOf v p a → act_at (protocol_in v) p (position_of (role_in v)) ≡ Some act → b ≡ arrived (protocol_in v).gathers a act → IsSeatOf (with_role v (goes_to (protocol_in v) (role_in v))) p b
-gone_seat v p a b act seat = by_cell (λ v. act_at (protocol_in v) p (position_of (role_in v)) ≡ Some act → b ≡ arrived (protocol_in v).gathers a act → IsSeatOf (with_role v (goes_to (protocol_in v) (role_in v))) p b) v p a seat
-    (λ program plan q n misses seat next is. let m : Protocol = protocol_in (Seated program plan (Cell q n misses)) in let same : q ≡ p = ap processor_of seat.role in record {
+pub gone_seat : (v : View) (p a b : ℕ) (act : Act) → IsSeatOf v p a → act_at (protocol_in v) p (position_of (role_in v)) ≡ Some act
+    → ((n : ℕ) → a ≡ (protocol_in v).workers * n → b ≡ (protocol_in v).workers * arrived (protocol_in v).gathers n act) → IsSeatOf (with_role v (goes_to (protocol_in v) (role_in v))) p b
+gone_seat v p a b act seat = by_cell
+    (λ v. act_at (protocol_in v) p (position_of (role_in v)) ≡ Some act → ((n : ℕ) → a ≡ (protocol_in v).workers * n → b ≡ (protocol_in v).workers * arrived (protocol_in v).gathers n act)
+    → IsSeatOf (with_role v (goes_to (protocol_in v) (role_in v))) p b) v p a seat
+    (λ program plan q n misses seat next count. let m : Protocol = protocol_in (Seated program plan (Cell q n misses)) in let same : q ≡ p = ap processor_of seat.role in record {
       role = ap (λ x. Cell x (behind m q n) 0) same;
       worker = seat.worker;
-      arrived = is ∙ ap (λ x. arrived m.gathers x act) seat.arrived ∙ sym (arrivals_behind m p n act next) ∙ ap (λ x. arrivals_at m p (behind m x n)) (sym same);
+      arrived = count (arrivals_at m p n) seat.arrived ∙ ap (λ x. m.workers * x) (sym (arrivals_behind m p n act next)) ∙ ap (λ x. m.workers * arrivals_at m p (behind m x n)) (sym same);
       settled = ap (λ x. settled_at m p (behind m x n)) same ∙ settled_settled m p (n + 1) ∙ ap (λ x. behind m x n) (sym same);
     })
 
@@ -109,16 +112,20 @@ missed_is id v p a seat = by_cell (λ v. cell_view id (with_role v (Cell p (posi
 -- behind all awaits at a barrier
 pub through_seat : (v : View) (p a : ℕ) → IsSeatOf v p a → IsSeatOf (with_role v (Cell p (behind_row (protocol_in v) p (position_of (role_in v))) 0)) p a
 through_seat v p a seat = by_cell (λ v. IsSeatOf (with_role v (Cell p (behind_row (protocol_in v) p (position_of (role_in v))) 0)) p a) v p a seat
-    (λ program plan q n misses seat. record { role = refl; worker = seat.worker; arrived = seat.arrived ∙ sym (arrivals_row (protocol_in (Seated program plan (Cell q n misses))) p n); settled = settled_settled (protocol_in (Seated program plan (Cell q n misses))) p _ })
+    (λ program plan q n misses seat. record { role = refl; worker = seat.worker; arrived = seat.arrived ∙ ap (λ x. (protocol_in (Seated program plan (Cell q n misses))).workers * x) (sym (arrivals_row (protocol_in (Seated program plan (Cell q n misses))) p n)); settled = settled_settled (protocol_in (Seated program plan (Cell q n misses))) p _ })
 
 pub through_is : (id : TableId) (v : View) (p a : ℕ) → IsSeatOf v p a → cell_view id (with_role v (Cell p (behind_row (protocol_in v) p (position_of (role_in v))) 0)) ≡ through (cell_view id v)
 through_is id v p a seat = by_cell (λ v. cell_view id (with_role v (Cell p (behind_row (protocol_in v) p (position_of (role_in v))) 0)) ≡ through (cell_view id v)) v p a seat
     (λ program plan q n misses seat. let same : q ≡ p = ap processor_of seat.role in let m : Protocol = protocol_in (Seated program plan (Cell q n misses)) in
     λ i. record { home = home_of id (Seated program plan (Cell q n misses)); processor = sym same i; position = behind_row m (sym same i) n; misses = 0 })
 
+-- nobody arrives without a worker's arrival
+none : (workers n : ℕ) → n ≡ 0 → 0 ≡ workers * n
+none workers n is = let zero : workers * n ≡ workers * 0 = ap (λ x. workers * x) is in omega (arith, zero)
+
 -- a processor's seat at its first act
 pub first_seat_of : (v : View) (stages : List Stage) (p : ℕ) → role_in v ≡ Main stages → p < (protocol_in v).workers → IsSeatOf (first_of p v) p 0
-first_seat_of (Seated program plan role) stages p main worker = record { role = refl; worker = worker; arrived = sym (arrivals_settled (protocol_in (Seated program plan role)) p 0); settled = settled_settled (protocol_in (Seated program plan role)) p 0 }
+first_seat_of (Seated program plan role) stages p main worker = record { role = refl; worker = worker; arrived = none (protocol_in (Seated program plan role)).workers _ (arrivals_settled (protocol_in (Seated program plan role)) p 0); settled = settled_settled (protocol_in (Seated program plan role)) p 0 }
 first_seat_of Away stages p main worker = let clash = main in absurd (cc)
 
 -- where a poll's seat stands: behind its act, or at it with a miss more
@@ -138,7 +145,7 @@ module _ (v : View) (p a : ℕ) (mine : IsSeatOf v p a) (w : Word) (on wanted fo
   poll_seat = go (nat_le wanted found) refl
     where
       go : (b : Bool) → nat_le wanted found ≡ b → IsSeatOf (with_role v (polls_to (protocol_in v) (role_in v) found)) p a
-      go true come = subst (λ r. IsSeatOf (with_role v r) p a) (sym (poll_ready come)) (gone_seat v p a a (await w on wanted) mine next refl)
+      go true come = subst (λ r. IsSeatOf (with_role v r) p a) (sym (poll_ready come)) (gone_seat v p a a (await w on wanted) mine next (λ n is. is))
       go false come = subst (λ r. IsSeatOf (with_role v r) p a) (sym (poll_missed come)) (missed_seat v p a mine)
 
 -- where a look at all arrivals leaves its seat

@@ -1,5 +1,5 @@
 -- What contracts see of a table and of its seats.
-use Rattle.std.specs.Prelude.{ℕ, ◌+◌, ◌≡◌, ◌<◌, List, [], Option, Some, None}
+use Rattle.std.specs.Prelude.{ℕ, ◌+◌, ◌*◌, ◌≡◌, ◌<◌, List, [], Option, Some, None}
 use Rattle.atomic_table.specs.Seated.{TableId}
 use Rattle.nest_tree.specs.declared.tree.Program.{Program}
 use Rattle.nest_tree.specs.Tree.{Tree, done}
@@ -117,9 +117,9 @@ cell_view id v = record { home = home_of id v; processor = processor_of (role_in
 abbrev pub main_view : TableId → View → MainView
 main_view id v = record { home = home_of id v; stages = stages_of (role_in v) }
 
--- a seat's view is that of this processor, which has arrived so often, and whose next act is one that another processor may see
-pub record IsSeatOf (v : View) (p arrivals : ℕ) : Type 0 where
+-- a seat's view is that of this processor, and so many arrivals there are once all have arrived as often; its next act is one that another processor may see
+pub record IsSeatOf (v : View) (p all : ℕ) : Type 0 where
   pub role : role_in v ≡ Cell p (position_of (role_in v)) (misses_of (role_in v))
   pub worker : p < (protocol_in v).workers
-  pub arrived : arrivals ≡ arrivals_at (protocol_in v) p (position_of (role_in v))
+  pub arrived : all ≡ (protocol_in v).workers * arrivals_at (protocol_in v) p (position_of (role_in v))
   pub settled : settled_at (protocol_in v) p (position_of (role_in v)) ≡ position_of (role_in v)

@@ -15,7 +15,7 @@ ghost use Rattle.nest_model.specs.Memory.{cell_value, memory_before};
 ghost use Rattle.spmd_model.specs.Planned.{jobs_in_front};
 ghost use Rattle.spmd_model.specs.Timelines.{counter, load};
 ghost use Rattle.cell_table.specs.Homes.{gone, protocol_at, next_act, plan_given, through, tree_given};
-ghost use Rattle.cell_table.specs.Words.{arrival_word, word_of};
+ghost use Rattle.cell_table.specs.Words.{word_of};
 ghost use Rattle.cell_table.specs.declared.view.Stage.{Stage};
 ghost use Rattle.cell_table.specs.declared.view.Stage.TheVariants.{Ended, NotOut, Out};
 
@@ -37,8 +37,10 @@ use sync_plan::Plan;
 pub struct Cells<'a> {
     program: &'a Program,
     plan: &'a Plan,
-    // where the counters begin: behind the cells
+    // how many cells there are; the counters lie behind them
     cells: u32,
+    // where all arrivals are counted
+    arrivals: usize,
     table: Table<u8, View, Given<'a>, Rule, Global>,
 }
 
@@ -48,7 +50,7 @@ impl<'a> Model for Cells<'a> {
     ghost use Rattle.spmd_laws.specs.Laws.{Laws};
     ghost use Rattle.spmd_laws.specs.Viewed.{protocol_of};
     ghost use Rattle.cell_table.specs.Homes.{Home};
-    ghost use Rattle.cell_table.specs.Words.{word_count};
+    ghost use Rattle.cell_table.specs.Words.{arrival_word, word_count};
     ghost use Rattle.cell_table.specs.Codes.{home_code};
 
     ghost Value = { Home };
@@ -57,7 +59,7 @@ impl<'a> Model for Cells<'a> {
 
     ghost view = { λ c. record { table = c.table.shared.table_id; given = Some (c.program.now, c.plan.now) } };
 
-    ghost invariant = { λ c. (c.table.shared.table_id.words ≡ word_count (protocol_of (tree_of c.program.now) c.plan.now)) × (c.table.shared.table_id.slots ≡ 0) × (c.cells ≡ (protocol_of (tree_of c.program.now) c.plan.now).cells) × Laws (protocol_of (tree_of c.program.now) c.plan.now) };
+    ghost invariant = { λ c. (c.table.shared.table_id.words ≡ word_count (protocol_of (tree_of c.program.now) c.plan.now)) × (c.table.shared.table_id.slots ≡ 0) × (c.cells ≡ (protocol_of (tree_of c.program.now) c.plan.now).cells) × Laws (protocol_of (tree_of c.program.now) c.plan.now) × (c.arrivals ≡ arrival_word (protocol_of (tree_of c.program.now) c.plan.now)) };
 }
 
 /// The seat of one processor. Contracts see the processor, how many of its acts are done, and its
@@ -66,8 +68,8 @@ impl<'a> Model for Cells<'a> {
 pub struct CellSeat {
     seat: Seat<u8, View>,
     processor: u32,
-    // how often it has arrived at barriers
-    arrivals: u64,
+    // how many arrivals there are at barriers once all have arrived as often as it has
+    all: u64,
 }
 
 impl Model for CellSeat {
@@ -81,7 +83,7 @@ impl Model for CellSeat {
 
     ghost view = { λ s. cell_view s.seat.table_id s.seat.me.0 };
 
-    ghost invariant = { λ s. IsSeatOf s.seat.me.0 s.processor s.arrivals × (s.seat.me.1 ≡ []) };
+    ghost invariant = { λ s. IsSeatOf s.seat.me.0 s.processor s.all × (s.seat.me.1 ≡ []) };
 }
 
 /// There was no memory to close the table. Cells and main seat come back.
@@ -139,6 +141,7 @@ impl<'a> Cells<'a> {
                 program,
                 plan,
                 cells,
+                arrivals: count - 8,
                 table,
             },
             MainSeat { seat },
@@ -172,6 +175,7 @@ impl<'a> Cells<'a> {
             program: _,
             plan,
             cells: _,
+            arrivals: _,
             table,
         } = self;
         let words = table.close_with(over);
@@ -242,9 +246,10 @@ impl<'a> Cells<'a> {
         requires next { ArrivesNext seat.old (e - 1) }
         ensures goes { seat.new ≡ gone seat.old }
     {
-        let word = self.arrival_word();
-        self.table.shared.fetch_add::<Go>(&mut seat.seat, word, 1);
-        seat.arrivals += 1;
+        self.table
+            .shared
+            .fetch_add::<Go>(&mut seat.seat, self.arrivals, 1);
+        seat.all += u64::from(self.plan.workers);
     }
 
     /// A look at all arrivals, at the barrier in front of phase number `e`.
@@ -253,10 +258,11 @@ impl<'a> Cells<'a> {
         requires next { GathersNext seat.old (e - 1) }
         ensures { PollTells seat.old (through seat.old) (all_arrivals seat.old) result seat.new }
     {
-        let word = self.arrival_word();
-        let wanted = u64::from(self.plan.workers) * seat.arrivals;
-        let seen = self.table.shared.load::<LookAround>(&mut seat.seat, word);
-        if wanted <= seen {
+        let seen = self
+            .table
+            .shared
+            .load::<LookAround>(&mut seat.seat, self.arrivals);
+        if seat.all <= seen {
             Poll::Ready
         } else {
             Poll::NotYet { seen }
@@ -274,7 +280,7 @@ impl<'a> Cells<'a> {
         CellSeat {
             seat: self.table.shared.split_seat::<Cut<J>>(&mut main.seat),
             processor: p,
-            arrivals: 0,
+            all: 0,
         }
     }
 
@@ -299,7 +305,7 @@ impl<'a> Cells<'a> {
         let CellSeat {
             seat,
             processor: _,
-            arrivals: _,
+            all: _,
         } = seat;
         self.table.shared.join_seat::<Glue>(&mut main.seat, seat);
     }
@@ -309,12 +315,5 @@ impl<'a> Cells<'a> {
         ensures { result ≡ word_of (protocol_at self.now) counter p }
     {
         self.cells as usize + 8 * (p as usize + 1)
-    }
-
-    // Where all arrivals are shown.
-    fn arrival_word(&self) -> usize
-        ensures { result ≡ arrival_word (protocol_at self.now) }
-    {
-        self.cells as usize + 8 * (self.plan.workers as usize + 1)
     }
 }

@@ -10,7 +10,7 @@ use Rattle.cell_table.proofs.cells.Cells.poll.Goals as goal
 pub load-seen-requires : goal.load-seen-requires
 load-seen-requires c =
     let s = c.seat.inside in
-    let k = stands s.seat.table_id s.seat.me.0 s.processor s.arrivals c.args.seat.now _ c.seat.invariant.0 c.seat.view_is (c.requires.own ∙ sym c.self.view_is) in
+    let k = stands s.seat.table_id s.seat.me.0 s.processor s.all c.args.seat.now _ c.seat.invariant.0 c.seat.view_is (c.requires.own ∙ sym c.self.view_is) in
     let next = its_next k (await counter c.args.q c.args.number) c.requires.next.0 in
     let plain = its_gathers k c.args.number ∙ c.requires.next.1 in
     let word = c.counter_word-word.ensures ∙ ap (λ h. word_of (protocol_at h) counter c.args.q) (sym c.self.view_is) ∙ ap (λ m. word_of m counter c.args.q) (sym (same k)) in
@@ -24,8 +24,8 @@ load-seen-requires c =
 pub invariant_of-seat : goal.invariant_of-seat
 invariant_of-seat c =
     let s = c.seat.inside in
-    let k = stands s.seat.table_id s.seat.me.0 s.processor s.arrivals c.args.seat.now _ c.seat.invariant.0 c.seat.view_is (c.requires.own ∙ sym c.self.view_is) in
+    let k = stands s.seat.table_id s.seat.me.0 s.processor s.all c.args.seat.now _ c.seat.invariant.0 c.seat.view_is (c.requires.own ∙ sym c.self.view_is) in
     let new = c.load-seen.ensures.2.0 in (
-      subst (λ (x : View). IsSeatOf x s.processor s.arrivals) (sym (ap (λ (x : View × List (ℕ × ℕ)). x.0) new)) (poll_seat s.seat.me.0 s.processor s.arrivals c.seat.invariant.0 counter c.args.q c.args.number c.load-seen.result (its_next k (await counter c.args.q c.args.number) c.requires.next.0)),
+      subst (λ (x : View). IsSeatOf x s.processor s.all) (sym (ap (λ (x : View × List (ℕ × ℕ)). x.0) new)) (poll_seat s.seat.me.0 s.processor s.all c.seat.invariant.0 counter c.args.q c.args.number c.load-seen.result (its_next k (await counter c.args.q c.args.number) c.requires.next.0)),
       ap (λ (x : View × List (ℕ × ℕ)). x.1) new ∙ c.seat.invariant.1,
     )

@@ -9,8 +9,8 @@ use Rattle.cell_table.proofs.cells.Cells.poll_arrivals.Goals as goal
 pub load-seen-requires : goal.load-seen-requires
 load-seen-requires c =
     let s = c.seat.inside in
-    let k = stands s.seat.table_id s.seat.me.0 s.processor s.arrivals c.args.seat.now _ c.seat.invariant.0 c.seat.view_is (c.requires.own ∙ sym c.self.view_is) in
-    let word = c.arrival_word-word.ensures ∙ ap (λ h. arrival_word (protocol_at h)) (sym c.self.view_is) ∙ ap arrival_word (sym (same k)) in
+    let k = stands s.seat.table_id s.seat.me.0 s.processor s.all c.args.seat.now _ c.seat.invariant.0 c.seat.view_is (c.requires.own ∙ sym c.self.view_is) in
+    let word = c.self.invariant.4 ∙ ap arrival_word (sym (same k)) in
     let wide = c.self.invariant.0 ∙ ap word_count (sym (same k)) in (
       same_table k,
       omega (arith, word, wide),
@@ -20,8 +20,8 @@ load-seen-requires c =
 pub invariant_of-seat : goal.invariant_of-seat
 invariant_of-seat c =
     let s = c.seat.inside in
-    let k = stands s.seat.table_id s.seat.me.0 s.processor s.arrivals c.args.seat.now _ c.seat.invariant.0 c.seat.view_is (c.requires.own ∙ sym c.self.view_is) in
+    let k = stands s.seat.table_id s.seat.me.0 s.processor s.all c.args.seat.now _ c.seat.invariant.0 c.seat.view_is (c.requires.own ∙ sym c.self.view_is) in
     let new = c.load-seen.ensures.2.0 in (
-      subst (λ (x : View). IsSeatOf x s.processor s.arrivals) (sym (ap (λ (x : View × List (ℕ × ℕ)). x.0) new)) (row_seat s.seat.me.0 s.processor s.arrivals c.seat.invariant.0 c.load-seen.result),
+      subst (λ (x : View). IsSeatOf x s.processor s.all) (sym (ap (λ (x : View × List (ℕ × ℕ)). x.0) new)) (row_seat s.seat.me.0 s.processor s.all c.seat.invariant.0 c.load-seen.result),
       ap (λ (x : View × List (ℕ × ℕ)). x.1) new ∙ c.seat.invariant.1,
     )

@@ -12,7 +12,7 @@ use Rattle.cell_table.proofs.cells.Cells.store.Goals as goal
 pub store-requires : goal.store-requires
 store-requires c =
     let s = c.seat.inside in
-    let k = stands s.seat.table_id s.seat.me.0 s.processor s.arrivals c.args.seat.now _ c.seat.invariant.0 c.seat.view_is (c.requires.own ∙ sym c.self.view_is) in
+    let k = stands s.seat.table_id s.seat.me.0 s.processor s.all c.args.seat.now _ c.seat.invariant.0 c.seat.view_is (c.requires.own ∙ sym c.self.view_is) in
     let next = its_next k (store c.requires.next.0 c.args.cell) c.requires.next.1 in
     let inside = store_inside k (its_laws k c.self.invariant.3) c.requires.next.0 c.args.cell next in
     let wide = c.self.invariant.0 ∙ ap word_count (sym (same k)) in (
@@ -25,14 +25,14 @@ store-requires c =
 pub invariant_of-seat : goal.invariant_of-seat
 invariant_of-seat c =
     let s = c.seat.inside in
-    let k = stands s.seat.table_id s.seat.me.0 s.processor s.arrivals c.args.seat.now _ c.seat.invariant.0 c.seat.view_is (c.requires.own ∙ sym c.self.view_is) in
+    let k = stands s.seat.table_id s.seat.me.0 s.processor s.all c.args.seat.now _ c.seat.invariant.0 c.seat.view_is (c.requires.own ∙ sym c.self.view_is) in
     let new = c.store.ensures.2.0 in (
-      subst (λ (x : View). IsSeatOf x s.processor s.arrivals) (sym (ap (λ (x : View × List (ℕ × ℕ)). x.0) new)) (gone_seat s.seat.me.0 s.processor s.arrivals s.arrivals (store c.requires.next.0 c.args.cell) c.seat.invariant.0 (its_next k (store c.requires.next.0 c.args.cell) c.requires.next.1) refl),
+      subst (λ (x : View). IsSeatOf x s.processor s.all) (sym (ap (λ (x : View × List (ℕ × ℕ)). x.0) new)) (gone_seat s.seat.me.0 s.processor s.all s.all (store c.requires.next.0 c.args.cell) c.seat.invariant.0 (its_next k (store c.requires.next.0 c.args.cell) c.requires.next.1) (λ n is. is)),
       ap (λ (x : View × List (ℕ × ℕ)). x.1) new ∙ c.seat.invariant.1,
     )
 
 pub returns : goal.returns
 returns c =
     let s = c.seat.inside in
-    let k = stands s.seat.table_id s.seat.me.0 s.processor s.arrivals c.args.seat.now _ c.seat.invariant.0 c.seat.view_is (c.requires.own ∙ sym c.self.view_is) in
+    let k = stands s.seat.table_id s.seat.me.0 s.processor s.all c.args.seat.now _ c.seat.invariant.0 c.seat.view_is (c.requires.own ∙ sym c.self.view_is) in
     record { goes = gone_here k c.store.ensures.0 (ap (λ (x : View × List (ℕ × ℕ)). x.0) c.store.ensures.2.0) }
