@@ -18,7 +18,7 @@ use Rattle.cell_table.specs.declared.view.View.{View}
 use Rattle.cell_table.specs.declared.view.View.TheVariants.{Seated, Away}
 use Rattle.cell_table.specs.Places.{behind, behind_row, settled_at}
 use Rattle.cell_table.specs.Words.{word_value}
-use Rattle.cell_table.specs.Homes.{plan_given, tree_given, Home, CellView, protocol_at, protocol_in, home_of, role_in, processor_of, position_of, misses_of, cell_view, IsSeatOf, next_act, gone, through, missed}
+use Rattle.cell_table.specs.Homes.{loaded_next, plan_given, tree_given, Home, CellView, protocol_at, protocol_in, home_of, role_in, processor_of, position_of, misses_of, cell_view, IsSeatOf, next_act, gone, through, missed}
 use Rattle.cell_table.specs.Rule.{first_of, with_role, goes_to, wanted_by, polls_to, rows_to}
 use Rattle.cell_table.proofs.Places.{arrivals_behind, arrivals_row, arrivals_settled, settled_settled}
 
@@ -171,8 +171,5 @@ module _ (v : View) (p a : ℕ) (mine : IsSeatOf v p a) (found : ℕ) where
       go false come = subst (λ r. IsSeatOf (with_role v r) p a) (sym (row_missed come)) (missed_seat v p a mine)
 
 -- what a load gives is in memory in front of its job
-pub memory_there : (now : CellView) (home : Home) → now.home ≡ home → (place cell : ℕ) → next_act now ≡ Some (load place cell)
-    → (protocol_at now.home).loaded_at now.processor now.position ≡ cell_value (memory_at (Planned.machine_of (tree_given home.given) (plan_given home.given)) place) cell
-memory_there now home own place cell next =
-    ap (loaded_by (Planned.machine_of (tree_given now.home.given) (plan_given now.home.given))) next
-    ∙ ap (λ (h : Home). cell_value (memory_at (Planned.machine_of (tree_given h.given) (plan_given h.given)) place) cell) own
+pub memory_there : (now : CellView) (place cell : ℕ) → next_act now ≡ Some (load place cell) → loaded_next now ≡ cell_value (memory_at (Planned.machine_of (tree_given now.home.given) (plan_given now.home.given)) place) cell
+memory_there now place cell next = ap (loaded_by (Planned.machine_of (tree_given now.home.given) (plan_given now.home.given))) next

@@ -1,12 +1,14 @@
 -- What the calls of a table ask and tell.
-use Rattle.std.specs.Prelude.{ℕ, ◌*◌, ◌≡◌, ◌<◌, true, false, Some, length, replicate, slice_set}
+use Rattle.std.specs.Prelude.{ℕ, ℤ, ◌*◌, ◌≡◌, ◌<◌, true, false, Some, length, replicate, slice_get, slice_set}
+use Rattle.nest_model.specs.Memory.{cell_value, memory_before}
+use Rattle.spmd_model.specs.Planned.{jobs_in_front}
 use Rattle.spmd_model.specs.Timelines.{counter, post, await, load, store}
 use Rattle.cell_table.specs.declared.poll.Poll.{Poll}
 use Rattle.cell_table.specs.declared.poll.Poll.TheVariants.{Ready, NotYet}
 use Rattle.cell_table.specs.declared.view.Stage.{Stage}
-use Rattle.cell_table.specs.declared.view.Stage.TheVariants.{NotOut}
+use Rattle.cell_table.specs.declared.view.Stage.TheVariants.{Ended, NotOut}
 use Rattle.cell_table.specs.Places.{settled_at}
-use Rattle.cell_table.specs.Homes.{Home, CellView, MainView, protocol_at, next_act, missed, arrivals_of}
+use Rattle.cell_table.specs.Homes.{Home, CellView, MainView, protocol_at, next_act, missed, arrivals_of, plan_given, tree_given}
 
 -- the next act loads this cell, or stores to it
 abbrev pub LoadsNext : CellView → ℕ → Type 0
@@ -29,6 +31,12 @@ ArrivesNext v number = (next_act v ≡ Some (post counter number)) × ((protocol
 abbrev pub GathersNext : CellView → ℕ → Type 0
 GathersNext v number = (on : ℕ) × (next_act v ≡ Some (await counter on number)) × ((protocol_at v.home).gathers number ≡ true)
 
+-- a value is what memory has in a cell in front of the instance whose load of it stands next
+abbrev pub IsInMemory : CellView → ℕ → ℤ → Type 0
+IsInMemory v cell z =
+    (place : ℕ) → next_act v ≡ Some (load place cell)
+    → z ≡ cell_value (memory_before (tree_given v.home.given) (jobs_in_front (tree_given v.home.given) (plan_given v.home.given) place)) cell
+
 -- a poll that is ready goes on; another one is a miss, and shows what it found, which is less than what was wanted
 abbrev pub PollTells : CellView → CellView → ℕ → Poll → CellView → Type 0
 PollTells old further wanted Ready new = new ≡ further
@@ -48,6 +56,10 @@ first_seat h p = record { home = h; processor = p; position = settled_at (protoc
 -- all acts of the seat's processor are done
 abbrev pub IsEndedSeat : CellView → Type 0
 IsEndedSeat v = v.position ≡ length ((protocol_at v.home).acts v.processor)
+
+-- the seats of all processors were taken in
+abbrev pub AreAllEnded : MainView → Type 0
+AreAllEnded v = (p : ℕ) → p < (protocol_at v.home).workers → slice_get v.stages p ≡ Some Ended
 
 -- the main seat of a new table
 abbrev pub main_seat : Home → MainView

@@ -1,5 +1,5 @@
 -- What contracts see of a table and of its seats.
-use Rattle.std.specs.Prelude.{ℕ, ◌+◌, ◌*◌, ◌≡◌, ◌<◌, List, [], Option, Some, None}
+use Rattle.std.specs.Prelude.{ℕ, ℤ, ◌+◌, ◌*◌, ◌≡◌, ◌<◌, List, [], Option, Some, None}
 use Rattle.atomic_table.specs.Seated.{TableId}
 use Rattle.nest_tree.specs.declared.tree.Program.{Program}
 use Rattle.nest_tree.specs.Tree.{Tree, done}
@@ -16,6 +16,8 @@ use Rattle.cell_table.specs.declared.view.Stage.{Stage}
 use Rattle.cell_table.specs.declared.view.View.{View}
 use Rattle.cell_table.specs.declared.view.View.TheVariants.{Seated, Away}
 use Rattle.cell_table.specs.Places.{behind, behind_row, settled_at}
+use Rattle.cell_table.specs.Words.{arrival_word, word_count}
+use Rattle.spmd_laws.specs.Laws.{Laws}
 
 -- which table it is, and for which program and plan it was made
 pub record Home : Type 0 where
@@ -71,6 +73,13 @@ missed v = record { home = v.home; processor = v.processor; position = v.positio
 abbrev pub arrivals_of : CellView → ℕ
 arrivals_of v = arrivals_at (protocol_at v.home) v.processor v.position
 
+-- what its next act loads, and what its next act stores, in the sequential program
+abbrev pub loaded_next : CellView → ℤ
+loaded_next v = (protocol_at v.home).loaded_at v.processor v.position
+
+abbrev pub stored_next : CellView → ℤ
+stored_next v = (protocol_at v.home).stored_at v.processor v.position
+
 -- ---- by the seats' own views; of a seat that is away nothing is said
 
 abbrev pub given_in : View → Option (Program × Plan)
@@ -123,3 +132,11 @@ pub record IsSeatOf (v : View) (p all : ℕ) : Type 0 where
   pub worker : p < (protocol_in v).workers
   pub arrived : all ≡ (protocol_in v).workers * arrivals_at (protocol_in v) p (position_of (role_in v))
   pub settled : settled_at (protocol_in v) p (position_of (role_in v)) ≡ position_of (role_in v)
+
+-- a table has the words of a protocol of which the laws hold, with so many cells, and its arrivals at this word
+pub record IsTableOf (m : Protocol) (table : TableId) (count arrivals : ℕ) : Type 0 where
+  pub words : table.words ≡ word_count m
+  pub slots : table.slots ≡ 0
+  pub cells : count ≡ m.cells
+  pub arrived : arrivals ≡ arrival_word m
+  pub laws : Laws m

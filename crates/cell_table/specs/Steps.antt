@@ -6,6 +6,10 @@ use Rattle.spmd_model.specs.Cells.{plus}
 use Rattle.spmd_model.specs.Timelines.{Word, counter, post, await, load, store, add}
 use Rattle.spmd_model.specs.Lawful.{Moves}
 use Rattle.spmd_laws.specs.Protocols.{Protocol, act_at, arrivals_at, is_arrival}
+use Rattle.nest_tree.specs.Tree.{Tree}
+use Rattle.sync_plan.specs.declared.plan.Plan.{Plan}
+use Rattle.spmd_laws.specs.Laws.{Laws}
+use Rattle.spmd_laws.specs.Viewed.{protocol_of}
 use Rattle.cell_table.specs.declared.view.Role.{Role}
 use Rattle.cell_table.specs.declared.view.Role.TheVariants.{Main, Cell, Spent}
 use Rattle.cell_table.specs.declared.view.Stage.{Stage}
@@ -93,3 +97,9 @@ Opens m = AreOne m (replicate (word_count m) 0) (Main (replicate m.workers NotOu
 -- the arrivals of two processors differ by at most one
 abbrev pub AreClose : Protocol → Type 0
 AreClose m = (words : List ℕ) (roles : List Role) (one : AreOne m words roles) (p q : ℕ) → p < m.workers → q < m.workers → arrivals_at m p (one.at p) ≤ arrivals_at m q (one.at q) + 1
+
+-- ---- of every plan
+
+-- of the protocol of every program under every plan where the laws hold of it
+abbrev pub Always : (Protocol → Type 0) → Type 0
+Always Steps = (tree : Tree) (plan : Plan) → Laws (protocol_of tree plan) → Steps (protocol_of tree plan)

@@ -1,6 +1,6 @@
 // The shared words, and the calls on them.
 
-ghost use Rattle.std.specs.Prelude.{◌≡◌, ◌<◌, ◌≤◌, ◌-◌, ℕ, IfOk, IfErr, Some, replicate, slice_get, length};
+ghost use Rattle.std.specs.Prelude.{◌≡◌, ◌<◌, ◌-◌, IfOk, IfErr, Some, slice_get};
 ghost use Rattle.nest_tree.specs.View.{tree_of};
 ghost use Rattle.nest_tree.specs.Limits.{IsWithinLimits};
 ghost use Rattle.nest_tree.specs.WellFormed.{IsWellFormed};
@@ -8,13 +8,10 @@ ghost use Rattle.nest_model.specs.Ranges.{IsInRange};
 ghost use Rattle.sync_plan.specs.Fit.{IsFit};
 ghost use Rattle.sync_plan.specs.Ordered.{IsOrdered};
 ghost use Rattle.spmd_laws.specs.Laws.{Laws};
-ghost use Rattle.spmd_laws.specs.Protocols.{settled};
-ghost use Rattle.cell_table.specs.Calls.{ArrivesNext, AwaitsNext, GathersNext, LoadsNext, PollTells, PostsNext, IsEndedSeat, StoresNext, all_arrivals, first_seat, main_seat, with_stage};
+ghost use Rattle.cell_table.specs.Calls.{AreAllEnded, ArrivesNext, AwaitsNext, GathersNext, IsInMemory, LoadsNext, PollTells, PostsNext, IsEndedSeat, StoresNext, all_arrivals, first_seat, main_seat, with_stage};
 ghost use Rattle.cell_table.specs.Ends.{IsLast};
-ghost use Rattle.nest_model.specs.Memory.{cell_value, memory_before};
-ghost use Rattle.spmd_model.specs.Planned.{jobs_in_front};
-ghost use Rattle.spmd_model.specs.Timelines.{counter, load};
-ghost use Rattle.cell_table.specs.Homes.{gone, protocol_at, next_act, plan_given, through, tree_given};
+ghost use Rattle.spmd_model.specs.Timelines.{counter};
+ghost use Rattle.cell_table.specs.Homes.{gone, loaded_next, protocol_at, stored_next, through};
 ghost use Rattle.cell_table.specs.Words.{word_of};
 ghost use Rattle.cell_table.specs.declared.view.Stage.{Stage};
 ghost use Rattle.cell_table.specs.declared.view.Stage.TheVariants.{Ended, NotOut, Out};
@@ -47,10 +44,8 @@ pub struct Cells<'a> {
 impl<'a> Model for Cells<'a> {
     ghost use Rattle.std.specs.Prelude.{◌≡◌, Some};
     ghost use Rattle.nest_tree.specs.View.{tree_of};
-    ghost use Rattle.spmd_laws.specs.Laws.{Laws};
     ghost use Rattle.spmd_laws.specs.Viewed.{protocol_of};
-    ghost use Rattle.cell_table.specs.Homes.{Home};
-    ghost use Rattle.cell_table.specs.Words.{arrival_word, word_count};
+    ghost use Rattle.cell_table.specs.Homes.{Home, IsTableOf};
     ghost use Rattle.cell_table.specs.Codes.{home_code};
 
     ghost Value = { Home };
@@ -59,7 +54,7 @@ impl<'a> Model for Cells<'a> {
 
     ghost view = { λ c. record { table = c.table.shared.table_id; given = Some (c.program.now, c.plan.now) } };
 
-    ghost invariant = { λ c. (c.table.shared.table_id.words ≡ word_count (protocol_of (tree_of c.program.now) c.plan.now)) × (c.table.shared.table_id.slots ≡ 0) × (c.cells ≡ (protocol_of (tree_of c.program.now) c.plan.now).cells) × Laws (protocol_of (tree_of c.program.now) c.plan.now) × (c.arrivals ≡ arrival_word (protocol_of (tree_of c.program.now) c.plan.now)) };
+    ghost invariant = { λ c. IsTableOf (protocol_of (tree_of c.program.now) c.plan.now) c.table.shared.table_id c.cells c.arrivals };
 }
 
 /// The seat of one processor. Contracts see the processor, how many of its acts are done, and its
@@ -115,8 +110,6 @@ impl Model for MainSeat {
 }
 
 impl<'a> Cells<'a> {
-    ghost use Rattle.spmd_laws.specs.Protocols.{settled};
-
     /// All words at 0, and the main seat, with which no processor's seat is out.
     pub fn new(
         alloc: Global,
@@ -158,7 +151,7 @@ impl<'a> Cells<'a> {
     /// The end of a table whose processors have all ended.
     pub fn close(self, alloc: Global, main: MainSeat) -> Result<Closed, CloseRefused<'a>>
         requires own { main.home ≡ self }
-        requires ended { (p : ℕ) → p < (protocol_at self).workers → slice_get main.stages p ≡ Some Ended }
+        requires ended { AreAllEnded main }
         ensures given { IfOk result (λ c. c.given ≡ self.entry.given) }
         ensures last { IfOk result (λ c. IsLast c) }
         ensures refused { IfErr result (λ r. (r.cells ≡ self.entry) × (r.seat ≡ main)) }
@@ -192,8 +185,8 @@ impl<'a> Cells<'a> {
     pub fn load(&self, seat: &mut CellSeat, cell: u32) -> i64
         requires own { seat.old.home ≡ self.now }
         requires next { LoadsNext seat.old cell }
-        ensures value { result ≡ (protocol_at seat.old.home).loaded_at seat.old.processor seat.old.position }
-        ensures memory { (place : ℕ) → next_act seat.old ≡ Some (load place cell) → result ≡ cell_value (memory_before (tree_given self.now.given) (jobs_in_front (tree_given self.now.given) (plan_given self.now.given) place)) cell }
+        ensures value { result ≡ loaded_next seat.old }
+        ensures memory { IsInMemory seat.old cell result }
         ensures goes { seat.new ≡ gone seat.old }
     {
         timelines_are_sequential();
@@ -207,7 +200,7 @@ impl<'a> Cells<'a> {
     pub fn store(&self, seat: &mut CellSeat, cell: u32, value: i64)
         requires own { seat.old.home ≡ self.now }
         requires next { StoresNext seat.old cell }
-        requires value { value ≡ (protocol_at seat.old.home).stored_at seat.old.processor seat.old.position }
+        requires value { value ≡ stored_next seat.old }
         ensures goes { seat.new ≡ gone seat.old }
     {
         self.table

@@ -15,7 +15,7 @@ returns c = record {
   miss = λ tree plan laws words roles one seat p n misses there. miss_step (protocol_of tree plan) laws words roles one seat p n misses there;
   arrive = λ tree plan laws words roles one seat p n misses number there next joint. arrive_step (protocol_of tree plan) laws words roles one seat p n misses there number next joint;
   gather = λ tree plan laws words roles one seat p n misses there come. row_step (protocol_of tree plan) laws words roles one seat p n misses there come;
-  split = λ tree plan words roles one seat p stages there idle. splits (protocol_of tree plan) words roles one seat p stages there idle;
-  take_in = λ tree plan words roles one seat other p n misses stages there away end theirs. joins (protocol_of tree plan) words roles one seat p n misses other stages end there away theirs;
-  apart = λ tree plan words roles one p q lp lq. apart (protocol_of tree plan) words one.at p q lp lq one.shown.gathered;
+  split = λ tree plan laws words roles one seat p stages there idle. splits (protocol_of tree plan) words roles one seat p stages there idle;
+  take_in = λ tree plan laws words roles one seat other p n misses stages there away end theirs. joins (protocol_of tree plan) words roles one seat p n misses other stages end there away theirs;
+  apart = λ tree plan laws words roles one p q lp lq. apart (protocol_of tree plan) words one.at p q lp lq one.shown.gathered;
 }

@@ -18,11 +18,11 @@ fetch_add-requires c =
     let k = stands s.seat.table_id s.seat.me.0 s.processor s.all c.args.seat.now _ c.seat.invariant.0 c.seat.view_is (c.requires.own ∙ sym c.self.view_is) in
     let next = its_next k (post counter (c.args.e - 1)) c.requires.next.0 in
     let joint = its_gathers k (c.args.e - 1) ∙ c.requires.next.1 in
-    let word = c.self.invariant.4 ∙ ap arrival_word (sym (same k)) in
-    let wide = c.self.invariant.0 ∙ ap word_count (sym (same k)) in (
+    let word = c.self.invariant.arrived ∙ ap arrival_word (sym (same k)) in
+    let wide = c.self.invariant.words ∙ ap word_count (sym (same k)) in (
       same_table k,
       omega (arith, word, wide),
-      arrive_allowed c.self.inside.table.shared.key c.self.inside.table.shared.table_id.slots s.seat.id s.seat.me (its_laws k c.self.invariant.3) s.processor (position_of (role_in s.seat.me.0)) (misses_of (role_in s.seat.me.0)) c.seat.invariant.0.role (c.args.e - 1) _ next joint word,
+      arrive_allowed c.self.inside.table.shared.key c.self.inside.table.shared.table_id.slots s.seat.id s.seat.me (its_laws k c.self.invariant.laws) s.processor (position_of (role_in s.seat.me.0)) (misses_of (role_in s.seat.me.0)) c.seat.invariant.0.role (c.args.e - 1) _ next joint word,
     )
 
 pub invariant_of-seat : goal.invariant_of-seat

@@ -11,7 +11,7 @@ use Rattle.cell_table.proofs.cells.Cells.cut.Goals as goal
 
 pub split_seat-requires : goal.split_seat-requires
 split_seat-requires g c =
-    let s = c.main.inside in let wide = c.self.invariant.0 in
+    let s = c.main.inside in let wide = c.self.invariant.words in
     let own = ap (λ (x : MainView). x.home) c.main.view_is ∙ c.requires.own ∙ sym c.self.view_is in (
       ap (λ (h : Home). h.table) own,
       omega (arith, wide),

@@ -4,4 +4,4 @@ use Rattle.cell_table.specs.Homes.{protocol_at}
 use Rattle.cell_table.proofs.cells.Cells.laws.Goals as goal
 
 pub returns : goal.returns
-returns c = subst Laws (ap protocol_at c.self.view_is) c.self.invariant.3
+returns c = subst Laws (ap protocol_at c.self.view_is) c.self.invariant.laws

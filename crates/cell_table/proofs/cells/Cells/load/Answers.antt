@@ -1,4 +1,4 @@
-use Rattle.std.proofs.Common.{List, ℕ, refl, sym, ◌∙◌, ap, subst, arith}
+use Rattle.std.proofs.Common.{List, ℕ, sym, ◌∙◌, ap, subst, arith}
 use Rattle.spmd_model.specs.Timelines.{load}
 use Rattle.cell_table.specs.declared.view.View.{View}
 use Rattle.cell_table.specs.Words.{word_count}
@@ -13,11 +13,11 @@ load-requires c =
     let s = c.seat.inside in
     let k = stands s.seat.table_id s.seat.me.0 s.processor s.all c.args.seat.now _ c.seat.invariant.0 c.seat.view_is (c.requires.own ∙ sym c.self.view_is) in
     let next = its_next k (load c.requires.next.0 c.args.cell) c.requires.next.1 in
-    let inside = load_inside k (its_laws k c.self.invariant.3) c.requires.next.0 c.args.cell next in
-    let wide = c.self.invariant.0 ∙ ap word_count (sym (same k)) in (
+    let inside = load_inside k (its_laws k c.self.invariant.laws) c.requires.next.0 c.args.cell next in
+    let wide = c.self.invariant.words ∙ ap word_count (sym (same k)) in (
       same_table k,
       omega (arith, inside, wide),
-      load_allowed c.self.inside.table.shared.key c.self.inside.table.shared.table_id.slots s.seat.id s.seat.me (its_laws k c.self.invariant.3) s.processor (position_of (role_in s.seat.me.0)) (misses_of (role_in s.seat.me.0)) c.seat.invariant.0.role c.requires.next.0 c.args.cell next inside,
+      load_allowed c.self.inside.table.shared.key c.self.inside.table.shared.table_id.slots s.seat.id s.seat.me (its_laws k c.self.invariant.laws) s.processor (position_of (role_in s.seat.me.0)) (misses_of (role_in s.seat.me.0)) c.seat.invariant.0.role c.requires.next.0 c.args.cell next inside,
     )
 
 pub invariant_of-seat : goal.invariant_of-seat
@@ -36,6 +36,7 @@ returns c =
     let value = loaded_here k c.load.result c.cast_signed.result c.load.type_inv c.cast_signed.ensures c.load.ensures.2.1 in record {
       value = value;
       memory = λ place next.
-          value ∙ memory_there c.args.seat.now c.args.self.now c.requires.own place c.args.cell next ∙ ap (λ m. cell_value m c.args.cell) (c.timelines_are_sequential.ensures.memory (tree_given c.args.self.now.given) (plan_given c.args.self.now.given) place);
+          let h = c.args.seat.now.home.given in
+          value ∙ memory_there c.args.seat.now place c.args.cell next ∙ ap (λ m. cell_value m c.args.cell) (c.timelines_are_sequential.ensures.memory (tree_given h) (plan_given h) place);
       goes = gone_here k c.load.ensures.0 (ap (λ (x : View × List (ℕ × ℕ)). x.0) c.load.ensures.2.0);
     }

@@ -1,7 +1,7 @@
 use Rattle.std.proofs.Common.{List, ℕ, sym, ◌∙◌, ap, subst, arith}
 use Rattle.cell_table.specs.declared.view.View.{View}
 use Rattle.cell_table.specs.Words.{word_count, arrival_word}
-use Rattle.cell_table.specs.Homes.{IsSeatOf, protocol_at, misses_of, position_of, role_in}
+use Rattle.cell_table.specs.Homes.{IsSeatOf, misses_of, position_of, role_in}
 use Rattle.cell_table.proofs.Keeps.{row_allowed}
 use Rattle.cell_table.proofs.Calls.{stands, same, same_table, its_laws, row_seat}
 use Rattle.cell_table.proofs.cells.Cells.poll_arrivals.Goals as goal
@@ -10,11 +10,11 @@ pub load-seen-requires : goal.load-seen-requires
 load-seen-requires c =
     let s = c.seat.inside in
     let k = stands s.seat.table_id s.seat.me.0 s.processor s.all c.args.seat.now _ c.seat.invariant.0 c.seat.view_is (c.requires.own ∙ sym c.self.view_is) in
-    let word = c.self.invariant.4 ∙ ap arrival_word (sym (same k)) in
-    let wide = c.self.invariant.0 ∙ ap word_count (sym (same k)) in (
+    let word = c.self.invariant.arrived ∙ ap arrival_word (sym (same k)) in
+    let wide = c.self.invariant.words ∙ ap word_count (sym (same k)) in (
       same_table k,
       omega (arith, word, wide),
-      row_allowed c.self.inside.table.shared.key c.self.inside.table.shared.table_id.slots s.seat.id s.seat.me (its_laws k c.self.invariant.3) s.processor (position_of (role_in s.seat.me.0)) (misses_of (role_in s.seat.me.0)) c.seat.invariant.0.role _ word,
+      row_allowed c.self.inside.table.shared.key c.self.inside.table.shared.table_id.slots s.seat.id s.seat.me (its_laws k c.self.invariant.laws) s.processor (position_of (role_in s.seat.me.0)) (misses_of (role_in s.seat.me.0)) c.seat.invariant.0.role _ word,
     )
 
 pub invariant_of-seat : goal.invariant_of-seat

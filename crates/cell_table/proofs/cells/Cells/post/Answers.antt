@@ -15,10 +15,10 @@ store-requires c =
     let plain = its_gathers k c.args.number ∙ c.requires.next.1 in
     let word = c.counter_word-word.ensures ∙ ap (λ h. word_of (protocol_at h) counter s.processor) (sym c.self.view_is) ∙ ap (λ m. word_of m counter s.processor) (sym (same k)) in
     let below = c.seat.invariant.0.worker in
-    let wide = c.self.invariant.0 ∙ ap word_count (sym (same k)) in (
+    let wide = c.self.invariant.words ∙ ap word_count (sym (same k)) in (
       same_table k,
       omega (arith, word, wide, below),
-      post_allowed c.self.inside.table.shared.key c.self.inside.table.shared.table_id.slots s.seat.id s.seat.me (its_laws k c.self.invariant.3) s.processor (position_of (role_in s.seat.me.0)) (misses_of (role_in s.seat.me.0)) c.seat.invariant.0.role counter c.args.number _ next plain word,
+      post_allowed c.self.inside.table.shared.key c.self.inside.table.shared.table_id.slots s.seat.id s.seat.me (its_laws k c.self.invariant.laws) s.processor (position_of (role_in s.seat.me.0)) (misses_of (role_in s.seat.me.0)) c.seat.invariant.0.role counter c.args.number _ next plain word,
     )
 
 pub invariant_of-seat : goal.invariant_of-seat

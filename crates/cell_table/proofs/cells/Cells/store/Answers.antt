@@ -1,4 +1,4 @@
-use Rattle.std.proofs.Common.{List, ℕ, refl, sym, ◌∙◌, ap, subst, arith}
+use Rattle.std.proofs.Common.{List, ℕ, sym, ◌∙◌, ap, subst, arith}
 use Rattle.spmd_model.specs.Timelines.{store}
 use Rattle.cell_table.specs.declared.view.View.{View}
 use Rattle.cell_table.specs.Words.{word_count}
@@ -14,11 +14,11 @@ store-requires c =
     let s = c.seat.inside in
     let k = stands s.seat.table_id s.seat.me.0 s.processor s.all c.args.seat.now _ c.seat.invariant.0 c.seat.view_is (c.requires.own ∙ sym c.self.view_is) in
     let next = its_next k (store c.requires.next.0 c.args.cell) c.requires.next.1 in
-    let inside = store_inside k (its_laws k c.self.invariant.3) c.requires.next.0 c.args.cell next in
-    let wide = c.self.invariant.0 ∙ ap word_count (sym (same k)) in (
+    let inside = store_inside k (its_laws k c.self.invariant.laws) c.requires.next.0 c.args.cell next in
+    let wide = c.self.invariant.words ∙ ap word_count (sym (same k)) in (
       same_table k,
       omega (arith, inside, wide),
-      store_allowed c.self.inside.table.shared.key c.self.inside.table.shared.table_id.slots s.seat.id s.seat.me (its_laws k c.self.invariant.3) s.processor (position_of (role_in s.seat.me.0)) (misses_of (role_in s.seat.me.0)) c.seat.invariant.0.role c.requires.next.0 c.args.cell _ next inside
+      store_allowed c.self.inside.table.shared.key c.self.inside.table.shared.table_id.slots s.seat.id s.seat.me (its_laws k c.self.invariant.laws) s.processor (position_of (role_in s.seat.me.0)) (misses_of (role_in s.seat.me.0)) c.seat.invariant.0.role c.requires.next.0 c.args.cell _ next inside
           (stored_here k c.args.value _ c.ranges.value c.requires.value (c.cast_unsigned.ensures ∙ ap (cast_unsigned w64) (to_z-of_z w64 c.args.value c.ranges.value))),
     )
 

@@ -8,7 +8,7 @@ use Rattle.cell_table.proofs.cells.Cells.take_in.Goals as goal
 
 pub join_seat-requires : goal.join_seat-requires
 join_seat-requires c =
-    let s = c.main.inside in let t = c.seat.inside in let v = t.seat.me.0 in let mine = c.seat.invariant.0 in let wide = c.self.invariant.0 in
+    let s = c.main.inside in let t = c.seat.inside in let v = t.seat.me.0 in let mine = c.seat.invariant.0 in let wide = c.self.invariant.words in
     let end : position_of (role_in v) ≡ length ((protocol_in v).acts t.processor) = subst IsEndedSeat (sym c.seat.view_is) c.requires.ended ∙ ap (λ k. length ((protocol_in v).acts k)) (ap processor_of mine.role) in
     let own = ap (λ (x : MainView). x.home) c.main.view_is ∙ c.requires.own ∙ sym c.self.view_is in
     let theirs = ap (λ (x : CellView). x.home) c.seat.view_is ∙ c.requires.seat ∙ sym c.self.view_is in (
