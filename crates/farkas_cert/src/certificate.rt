@@ -1,9 +1,9 @@
 // Certificates, and why one is refused.
 
-ghost use Rattle.std.specs.Prelude.{◌≡◌};
+ghost use Rattle.std.specs.Prelude.{◌≡◌, IfOk};
 ghost use Rattle.farkas_cert.specs.declared.certificate.CertRefusal.TheVariants.{NoMemory};
 
-use std::alloc::{AllocError, AllocFailed};
+use std::alloc::{AllocError, AllocFailed, Global};
 use std::marker::Model;
 use thiserror::Error;
 
@@ -54,6 +54,19 @@ pub struct Step {
     pub terms: Terms,
 }
 
+impl Step {
+    /// The same step.
+    pub fn copy(&self, alloc: Global) -> Result<Self, AllocError>
+        ensures { IfOk result (λ copy. copy ≡ self.now) }
+    {
+        let terms = Vec::from_slice(alloc, self.terms.as_slice())?;
+        Ok(Step {
+            divisor: self.divisor,
+            terms: Terms::from_vec(terms),
+        })
+    }
+}
+
 /// Steps, numbered from 1. Contracts see the list of them.
 #[derive(Drop)]
 pub struct StepList {
@@ -98,6 +111,22 @@ impl StepList {
 #[derive(Drop)]
 pub struct Certificate {
     pub steps: StepList,
+}
+
+impl Certificate {
+    /// The same certificate.
+    pub fn copy(&self, alloc: Global) -> Result<Self, AllocError>
+        ensures { IfOk result (λ copy. copy ≡ self.now) }
+    {
+        let given = self.steps.as_slice();
+        let mut steps = Vec::with_capacity(alloc, given.len())?;
+        for step in given {
+            steps.push(step.copy(alloc)?)?;
+        }
+        Ok(Certificate {
+            steps: StepList::from_vec(steps),
+        })
+    }
 }
 
 /// Why a certificate is refused. Steps are numbered from 1, and rows too, those of the system

@@ -100,6 +100,18 @@ pub struct Row {
     pub bound: i128,
 }
 
+impl Row {
+    /// The same row.
+    pub fn copy(&self, alloc: Global) -> Result<Self, AllocError>
+        ensures { IfOk result (λ copy. copy ≡ self.now) }
+    {
+        Ok(Row {
+            coefs: Coefs::from_slice(alloc, self.coefs.as_slice())?,
+            bound: self.bound,
+        })
+    }
+}
+
 /// Rows, numbered from 1. Contracts see the list of them.
 #[derive(Drop)]
 pub struct Rows {
@@ -194,6 +206,17 @@ impl System {
             vars,
             rows: Rows::new(alloc),
         }
+    }
+
+    /// The same system.
+    pub fn copy(&self, alloc: Global) -> Result<Self, AllocError>
+        ensures { IfOk result (λ copy. copy ≡ self.now) }
+    {
+        let mut copy = System::empty(alloc, self.vars());
+        for row in self.rows() {
+            copy.push(row.copy(alloc)?)?;
+        }
+        Ok(copy)
     }
 
     /// One more row at the end. Where memory runs out nothing has changed.

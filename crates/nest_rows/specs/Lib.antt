@@ -5,3 +5,4 @@ pub mod Places
 pub mod Groups
 pub mod Views
 pub mod More
+pub mod InCommon

@@ -21,8 +21,8 @@ use farkas_cert::NarrowSystem;
 use nest_tree::{Affine, Compare, Guard, Nest, Pairs, Parameter};
 use std::alloc::{AllocError, Global};
 
-// An unknown, with this sign, is at most a value, with this sign.
-fn equal(alloc: Global, sign: Sign, number: u32, value: i64) -> Result<Constraint, AllocError>
+/// An unknown, with this sign, is at most a value, with this sign.
+pub fn bounded(alloc: Global, sign: Sign, number: u32, value: i64) -> Result<Constraint, AllocError>
     ensures is { IfOk result (λ c. c ≡ equal_of sign number value) }
     ensures tame { IfOk result (λ c. IsTrue (is_tame c)) }
 {
@@ -179,8 +179,8 @@ fn push_equal(
 ) -> Result<(), AllocError>
     ensures { OnOk result (HasMore (equal_of Plus number value ∷ equal_of Minus number value ∷ []) system.old system.new) }
 {
-    push_row(alloc, system, &equal(alloc, Sign::Plus, number, value)?)?;
-    push_row(alloc, system, &equal(alloc, Sign::Minus, number, value)?)
+    push_row(alloc, system, &bounded(alloc, Sign::Plus, number, value)?)?;
+    push_row(alloc, system, &bounded(alloc, Sign::Minus, number, value)?)
 }
 
 /// The rows of the named constants' values, behind the others.

@@ -13,3 +13,4 @@ pub mod LimitText
 pub mod LimitRows
 pub mod Straight
 pub mod LaidOut
+pub mod Prints

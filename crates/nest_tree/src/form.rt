@@ -1,6 +1,6 @@
 // Affine forms: a constant plus multiples of DO variables and of named constants.
 
-ghost use Rattle.std.specs.Prelude.{◌≡◌, ℕ, ◌+◌, ◌-◌, ◌^◌, ◌≤◌, ◌++◌, [], ◌∷◌, ◌+ℤ◌, ◌*ℤ◌, OnOk, OnErr, IsTrue, length, map, unsigned_abs};
+ghost use Rattle.std.specs.Prelude.{◌≡◌, ℕ, ◌+◌, ◌-◌, ◌^◌, ◌≤◌, ◌++◌, [], ◌∷◌, ◌+ℤ◌, ◌*ℤ◌, IfOk, OnOk, OnErr, IsTrue, length, map, unsigned_abs};
 ghost use Rattle.nest_tree.specs.Form.{dot, is_small, reach_within, rises_above};
 ghost use Rattle.nest_tree.specs.Intervals.{dot_ends, multiple, plus};
 ghost use Rattle.nest_tree.specs.Values.{wrapped};
@@ -34,6 +34,17 @@ impl Pairs {
         Pairs {
             items: SmallVec::new(alloc),
         }
+    }
+
+    /// These pairs.
+    pub fn from_slice(alloc: Global, pairs: &[(u32, i64)]) -> Result<Self, AllocError>
+        ensures { IfOk result (λ made. made ≡ pairs.now) }
+    {
+        let mut made = Pairs::new(alloc);
+        for &(number, coefficient) in pairs {
+            made.push(number, coefficient)?;
+        }
+        Ok(made)
     }
 
     /// The pairs, in order.
@@ -88,6 +99,15 @@ impl Affine {
             loops,
             params,
         }
+    }
+
+    /// The same form.
+    pub fn copy(&self, alloc: Global) -> Result<Self, AllocError>
+        ensures { IfOk result (λ copy. copy ≡ self.now) }
+    {
+        let loops = Pairs::from_slice(alloc, self.loops())?;
+        let params = Pairs::from_slice(alloc, self.params())?;
+        Ok(Affine::new(self.constant, loops, params))
     }
 
     /// The constant.

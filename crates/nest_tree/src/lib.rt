@@ -8,6 +8,7 @@
 #![tactic(auto)]
 
 pub mod form;
+pub mod items;
 pub mod layout;
 pub mod limits;
 pub mod tree;

@@ -24,6 +24,20 @@ pub struct Stop<'a> {
     pub first: u32,
 }
 
+impl Stop<'_> {
+    ghost use Rattle.std.specs.Prelude.{◌≡◌, ◌<◌, ◌^◌};
+    ghost use Rattle.nest_tree.specs.View.{statement_of};
+    ghost use Rattle.nest_model.specs.Instances.{works_in};
+
+    /// How many pieces of work stand in the statement.
+    pub fn works(&self) -> u32
+        requires { works_in (statement_of self.now.item.now) < 2 ^ 32 }
+        ensures { result ≡ works_in (statement_of self.now.item.now) }
+    {
+        works_in_item(self.item)
+    }
+}
+
 /// A walk of a program, as far as it is left. It goes into each loop that isn't marked, in each
 /// trip, and stops at every other statement but a CONTINUE. It takes no memory.
 #[derive(Clone, Copy)]

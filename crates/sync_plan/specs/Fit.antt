@@ -3,7 +3,8 @@ use Rattle.std.specs.Prelude.{ℕ, suc, ◌≡◌, ℤ, pos, int_le, Bool, true,
 use Rattle.std.specs.Option.{option_or}
 use Rattle.std.specs.Ordering.{int_eq}
 use Rattle.nest_tree.specs.Form.{Form, dot}
-use Rattle.nest_tree.specs.Tree.{assign, print, Statement, Statements, do_loop, work, continue, done, next, Tree, param_values}
+pub use Rattle.nest_tree.specs.Prints.{has_print, have_print}
+use Rattle.nest_tree.specs.Tree.{Statement, Statements, do_loop, work, continue, done, next, Tree, param_values}
 use Rattle.nest_walk.specs.Texts.{Placed}
 use Rattle.owner_partition.specs.declared.anchor.Anchor.{Anchor}
 use Rattle.owner_partition.specs.declared.cut.Mark.{Mark}
@@ -42,18 +43,6 @@ kind_anchors n (Join ∷ rest) = kind_anchors (suc n) rest
 -- the phases' anchors are placed first, then the kinds'
 abbrev pub placed_anchors : Plan → List (ℕ × Anchor)
 placed_anchors plan = numbered_anchors 1 plan.anchors ++ kind_anchors 1 plan.kinds
-
--- a PRINT stands in a statement
-abbrev mutual
-  pub has_print : Statement → Bool
-  has_print (do_loop head body) = have_print body
-  has_print (work (assign a)) = false
-  has_print (work (print p)) = true
-  has_print (continue line) = false
-
-  pub have_print : Statements → Bool
-  have_print done = false
-  have_print (next s rest) = has_print s || have_print rest
 
 -- a static phase is a Doall loop
 abbrev pub is_dealt : List Mark → Statement → Bool
