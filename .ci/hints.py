@@ -22,6 +22,7 @@ CASES = [
     ("end-do", "DO 10 I = 1, 5|K = I|END DO", "10 CONTINUE", "END DO"),
     ("end-do", "DO I = 1, 5|K = I|ENDDO", "the label of its last statement", "I = 1, 5"),
     ("missing_label", "DO I = 1, 5|K = I|   10 CONTINUE", "DO 10 I = 1, N", "I = 1, 5"),
+    ("past_column", "INTEGER A(9)|A(1) = 1111111111 + 1111111111 + 1111111111 + 1111111111 + (1111 + 1)", "a line ends in column 72", "1)"),
     ("do-while", "DO WHILE (K .LT. 5)", "no DO WHILE", "DO WHILE"),
     ("end-if", "ELSE", "an IF of its own", "ELSE"),
     ("end-if", "END IF", "an IF of its own", "END IF"),

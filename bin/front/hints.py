@@ -128,6 +128,14 @@ class Finders:
         if found and "," in self.code and not re.match(r"DO\d", self.code):
             return found.start(1), f"a DO names the label of its last statement: {LABELLED}"
 
+    def past_column(self):
+        """Text that the statement's line has behind its last column."""
+        for number in self.statement.lines:
+            line = self.program.source.lines[number - 1]
+            if line[72:].strip():
+                at = 73 + len(line[72:]) - len(line[72:].lstrip())
+                return (number, at), "a line ends in column 72, and what stands behind it is no part of it; go on in the next line, by a character in its column 6"
+
     def misspelt(self):
         first = "".join(self.statement_words()[:1])
         close = difflib.get_close_matches(first, STATEMENTS, 1, 0.75)
@@ -380,7 +388,7 @@ class Finders:
 
 # name, codes; in the order in which they are tried, behind the patterns
 FINDERS = [
-    ("missing_label", "F1 F2"), ("open_text", "F1 F2"), ("functions", "F4 F5 F1 F3"), ("misspelt", "F1 F2"), ("parentheses", "F1 F2"),
+    ("past_column", "F1"), ("missing_label", "F1 F2"), ("open_text", "F1 F2"), ("functions", "F4 F5 F1 F3"), ("misspelt", "F1 F2"), ("parentheses", "F1 F2"),
     ("trailing", "F1 F2"), ("out_of_order", "F1"), ("long_name", "F1 F2"), ("short_minimum", "F1"), ("gone_on", "F1 F2 F4"),
     ("declared_below", "F4"), ("no_array", "F4"), ("no_constant", "F4"), ("no_integer", "F3"), ("loop_variable", "F10"),
     ("subscript_count", "F5"), ("divisor", "F8"), ("step", "F6 F7"), ("not_affine", "F6"),

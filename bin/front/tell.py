@@ -133,16 +133,18 @@ def wrong_setting(words, number, program):
     if is_file(word):
         return from_a_file(words, word)
     name, equals, value = word.partition("=")
+    names = ", ".join(program.constants)
     if not equals:
-        return f"{word} is no setting: a setting is NAME=VALUE, as N=8"
+        # nothing has been read then, but of a file
+        has = f", one of {names}" if names else ""
+        return f"{word} is no setting: a setting is NAME=VALUE for a named constant of the program{has}"
     if not re.fullmatch(r"[A-Za-z][A-Za-z0-9]*", name):
         return f"{word}: no named constant has the name {name or 'that is empty'}"
     if not re.fullmatch(r"-?\d+", value):
         return f"{word}: {value or 'nothing'} is no whole number in decimal digits"
     if not -(2**63) <= int(value) < 2**63:
         return f"{word}: {value} does not fit 64 bits"
-    has = ", ".join(program.constants)
-    has = f"its named constants are {has}" if has else "it has none; PARAMETER (N = 8) makes one"
+    has = f"its named constants are {names}" if names else "it has none; PARAMETER (N = 8) makes one"
     return f"{word}: the program has no named constant (PARAMETER) {name.upper()}; {has}"
 
 
