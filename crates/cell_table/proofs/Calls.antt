@@ -7,6 +7,7 @@ use Rattle.atomic_table.specs.Seated.{TableId}
 use Rattle.nest_tree.specs.declared.tree.Program.{Program}
 use Rattle.sync_plan.specs.declared.plan.Plan.{Plan}
 use Rattle.nest_model.specs.Memory.{cell_value}
+use Rattle.spmd_laws.specs.Viewed.{acts_under, loaded_under}
 use Rattle.spmd_model.specs.Planned as Planned
 use Rattle.spmd_model.specs.Sequential.{loaded_by, memory_at}
 use Rattle.spmd_model.specs.Timelines.{Act, Word, await, load, store}
@@ -172,4 +173,5 @@ module _ (v : View) (p a : ℕ) (mine : IsSeatOf v p a) (found : ℕ) where
 
 -- what a load gives is in memory in front of its job
 pub memory_there : (now : CellView) (place cell : ℕ) → next_act now ≡ Some (load place cell) → loaded_next now ≡ cell_value (memory_at (Planned.machine_of (tree_given now.home.given) (plan_given now.home.given)) place) cell
+unfolding acts_under loaded_under
 memory_there now place cell next = ap (loaded_by (Planned.machine_of (tree_given now.home.given) (plan_given now.home.given))) next

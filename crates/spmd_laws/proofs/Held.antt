@@ -1,5 +1,5 @@
 -- The laws of the machine of an ordered plan.
-use Rattle.std.proofs.Common.{◌≤◌, ◌≡◌, ℕ, ◌+◌, ℤ, List, [], ◌∷◌, ◌++◌, take, Option, Some, None, refl, ap, sym, ◌∙◌, arith}
+use Rattle.std.proofs.Common.{◌≤◌, ◌≡◌, false, true≢false, length, ℕ, ◌+◌, ℤ, List, [], ◌∷◌, ◌++◌, take, Option, Some, None, refl, ap, sym, ◌∙◌, arith}
 use Rattle.std.specs.Prelude.{slice_get}
 use Rattle.std.specs.Option.{option_map}
 use Rattle.std.proofs.lemmas.Option.{slice_get-map}
@@ -8,33 +8,57 @@ use Rattle.nest_tree.specs.WellFormed.{IsWellFormed}
 use Rattle.nest_model.specs.Memory.{last_memory}
 use Rattle.nest_tree.specs.Layout.{cell_count}
 use Rattle.std.proofs.lemmas.Bool.{leb-false}
-use Rattle.std.proofs.lemmas.List.{take_all}
+use Rattle.std.proofs.lemmas.List.{append-nil, take_all}
 use Rattle.nest_model.specs.Ranges.{IsInRange}
 use Rattle.owner_partition.specs.Phases.{phases}
 use Rattle.sync_plan.specs.declared.plan.Plan.{Plan}
 use Rattle.sync_plan.specs.Fit.{IsFit}
 use Rattle.sync_plan.specs.Ordered.{IsOrdered as IsOrderedPlan}
-use Rattle.spmd_model.specs.Deeds.{deed_of, deeds_from, storing}
+use Rattle.spmd_model.specs.Deeds.{Deed, deed_of, deeds_from, printing, storing}
+use Rattle.spmd_model.specs.States.{line_by}
+use Rattle.spmd_model.proofs.Registers.{print_whole}
+use Rattle.spmd_laws.specs.Protocols as Protocols
 use Rattle.spmd_model.specs.Ordered.{IsOrdered, IsSound}
 use Rattle.spmd_model.specs.Planned as Planned
 use Rattle.spmd_model.specs.Sequential.{loaded_by, registers_at, stored_by}
 use Rattle.spmd_model.specs.Timelines.{Act, post, await, load, store, add, print, Machine, counter, act_at, acts_of}
+use Rattle.spmd_model.proofs.ActLists.{found}
+use Rattle.spmd_model.proofs.MomentActs.{IsLastIn, tells}
 use Rattle.spmd_model.proofs.Shared as shared
-use Rattle.spmd_model.proofs.Runs.{registers_more}
+use Rattle.spmd_model.proofs.Runs.{printed_more, registers_more}
+use Rattle.spmd_model.proofs.Ends.{prints_whole}
+use Rattle.spmd_model.specs.Lawful.{act_line, printed_at}
+use Rattle.std.specs.List.{flat_map}
 use Rattle.spmd_model.proofs.Counters as counters
 use Rattle.spmd_model.proofs.Deeds.{plan_deeds}
-use Rattle.spmd_model.proofs.PlannedMemory.{last_memory_is, last_size}
+use Rattle.spmd_model.proofs.PlannedMemory.{last_memory_is, last_size, output_is}
 use Rattle.spmd_model.proofs.PlannedSound.{ordered_of, sound_of}
 use Rattle.nest_tree.specs.Limits.{IsWithinLimits}
 use Rattle.sync_plan.proofs.Fits.{fit_parts}
 use Rattle.spmd_laws.specs.Laws.{Laws}
-use Rattle.spmd_laws.specs.Protocols.{is_gathered}
+use Rattle.spmd_laws.specs.Protocols.{is_gathered, is_print}
 use Rattle.spmd_laws.proofs.Gathered.{arrival_awaits, arrivals_few, arrived_posted, await_settled, shows_less, shows_post}
-use Rattle.spmd_laws.specs.Viewed.{gathers, protocol_of}
+use Rattle.spmd_laws.specs.Viewed.{AreLawfulUnder, acts_under, gathers, loaded_under, printed_under, protocol_of, registers_under, stored_under}
 use Rattle.spmd_laws.proofs.Inside.{act_there}
 use Rattle.spmd_laws.proofs.Passed.{by_passed, first_settled, none_passed}
 
+-- acts that print nothing
+prints_nothing : (m : Machine) (a : Act) → is_print a ≡ false → act_line m a ≡ []
+prints_nothing m (post w n) silent = refl
+prints_nothing m (await w q n) silent = refl
+prints_nothing m (load t c) silent = refl
+prints_nothing m (store t c) silent = refl
+prints_nothing m (add t c) silent = refl
+prints_nothing m (print t) silent = absurd (true≢false silent)
+
+printer_is : (m : Machine) (p n t : ℕ) → IsSound m → act_at m p n ≡ Some (print t) → p ≡ 0
+printer_is m p n t sound e =
+    let f = found m p n (print t) e in
+    let l : IsLastIn p f.place f.index t None f.moment = tells p f.place f.index f.moment (print t) f.is in
+    sym l.owner ∙ sound.printed f.place l.job_is (f.at ∙ ap Some l.moment) l.stores
+
 pub held : (tree : Tree) (plan : Plan) → IsWellFormed tree → IsWithinLimits tree → IsInRange tree → plan.workers ≤ 64 → IsSound (Planned.machine_of tree plan) → IsOrdered (Planned.machine_of tree plan) → Laws (protocol_of tree plan)
+unfolding acts_under registers_under loaded_under stored_under printed_under AreLawfulUnder
 held tree plan formed limits ranges few sound ordered =
     let m = Planned.machine_of tree plan in
     let c = cell_count tree in
@@ -71,6 +95,10 @@ held tree plan formed limits ranges few sound ordered =
       print_empties = λ p n place e. registers_more m p n (print place) e;
       post_leaves = λ w p n number e. registers_more m p n (post w number) e;
       await_leaves = λ w p n on wanted e. registers_more m p n (await w on wanted) e;
+      printed_first = λ p. refl;
+      printed_leaves = λ p n a e silent. printed_more m p n a e ∙ ap (λ l. printed_at m p n ++ l) (prints_nothing m a silent) ∙ append-nil (printed_at m p n);
+      prints_of_first = λ p n place lt e. printer_is m p n place sound e;
+      printed_whole = ap (flat_map (act_line m)) (take_all (length (acts_of m 0)) (acts_of m 0) (omega arith)) ∙ prints_whole m sound ∙ output_is tree plan;
     }
   where
     no_less : {a b c : ℕ} → a ≤ b → b ≤ c → a ≤ c
@@ -99,6 +127,40 @@ stored_by_deed m given (Some (print t)) cell value e = absurd (cc)
 
 pub stored_values : (tree : Tree) (plan : Plan) (p n cell : ℕ) (value : List ℤ → ℤ) → IsWellFormed tree → IsFit tree plan → slice_get (deeds_from tree plan p 1 (phases tree plan.cut)) n ≡ Some (storing cell value) →
     (protocol_of tree plan).stored_at p n ≡ value ((protocol_of tree plan).registers_at p n)
+unfolding stored_under registers_under
 stored_values tree plan p n cell value formed fits e =
     let m = Planned.machine_of tree plan in
     stored_by_deed m (registers_at m p n) (act_at m p n) cell value (sym (slice_get-map (deed_of m) (acts_of m p) n) ∙ ap (λ deeds. slice_get deeds n) (plan_deeds tree plan p formed fits) ∙ e)
+
+-- ---- acts and lines by their deeds
+
+module _ (tree : Tree) (plan : Plan) (p n : ℕ) (formed : IsWellFormed tree) (fits : IsFit tree plan) where
+  deed_at : (d : Deed) → slice_get (deeds_from tree plan p 1 (phases tree plan.cut)) n ≡ Some d → option_map (deed_of (Planned.machine_of tree plan)) (act_at (Planned.machine_of tree plan) p n) ≡ Some d
+  deed_at d e =
+      let m = Planned.machine_of tree plan in
+      sym (slice_get-map (deed_of m) (acts_of m p) n) ∙ ap (λ deeds. slice_get deeds n) (plan_deeds tree plan p formed fits) ∙ e
+
+  pub act_of_deed : (d : Deed) → slice_get (deeds_from tree plan p 1 (phases tree plan.cut)) n ≡ Some d → (a : Act) × (Protocols.act_at (protocol_of tree plan) p n ≡ Some a) × (deed_of (Planned.machine_of tree plan) a ≡ d)
+  unfolding acts_under
+  act_of_deed d e = by (act_at (Planned.machine_of tree plan) p n) refl (deed_at d e)
+    where
+      by : (o : Option Act) → act_at (Planned.machine_of tree plan) p n ≡ o → option_map (deed_of (Planned.machine_of tree plan)) o ≡ Some d → (a : Act) × (act_at (Planned.machine_of tree plan) p n ≡ Some a) × (deed_of (Planned.machine_of tree plan) a ≡ d)
+      by None at h = absurd (cc)
+      by (Some a) at h = let same : Some (deed_of (Planned.machine_of tree plan) a) ≡ Some d = h in (a, at, cc)
+
+  pub printed_line : (line : List ℤ → List ℕ) → slice_get (deeds_from tree plan p 1 (phases tree plan.cut)) n ≡ Some (printing line) → (protocol_of tree plan).printed_at p (n + 1) ≡ (protocol_of tree plan).printed_at p n ++ line ((protocol_of tree plan).registers_at p n)
+  unfolding printed_under registers_under acts_under
+  printed_line line e = let a = act_of_deed (printing line) e in by a.0 a.1 a.2
+    where
+      by : (a : Act) → act_at (Planned.machine_of tree plan) p n ≡ Some a → deed_of (Planned.machine_of tree plan) a ≡ printing line → printed_at (Planned.machine_of tree plan) p (n + 1) ≡ printed_at (Planned.machine_of tree plan) p n ++ line (registers_at (Planned.machine_of tree plan) p n)
+      by (post w k) at h = absurd (cc)
+      by (await w q k) at h = absurd (cc)
+      by (load t c) at h = absurd (cc)
+      by (store t c) at h = absurd (cc)
+      by (add t c) at h = absurd (cc)
+      by (print t) at h =
+          let m = Planned.machine_of tree plan in
+          printed_more m p n (print t) at ∙ ap (λ l. printed_at m p n ++ l) (ap (line_by (slice_get m.timeline t)) (sym (print_whole m p n t at)) ∙ ap (λ f. f (registers_at m p n)) (of_deed t h))
+        where
+          of_deed : (t : ℕ) → deed_of (Planned.machine_of tree plan) (print t) ≡ printing line → line_by (slice_get (Planned.machine_of tree plan).timeline t) ≡ line
+          of_deed t h = let deeds : printing (line_by (slice_get (Planned.machine_of tree plan).timeline t)) ≡ printing line = h in cc

@@ -5,3 +5,5 @@ mod Passed
 mod Arrivals
 mod Gathered
 mod Held
+mod States
+mod Phases

@@ -5,7 +5,7 @@ use Rattle.spmd_model.specs.Cells.{plus}
 use Rattle.spmd_model.specs.Timelines.{Act, Word, counter, post, await, load, store, add, print}
 use Rattle.spmd_model.specs.Lawful.{IsPosted, Moves}
 use Rattle.spmd_model.specs.Quiet.{is_quiet}
-use Rattle.spmd_laws.specs.Protocols.{Protocol, act_at, arrivals_at, is_arrival, is_gathered, settled, shown_at}
+use Rattle.spmd_laws.specs.Protocols.{Protocol, act_at, arrivals_at, is_arrival, is_gathered, is_print, settled, shown_at}
 
 -- in each law p is a processor, and `at` says how many acts each one has done
 pub record Laws (m : Protocol) : Type 0 where
@@ -66,3 +66,8 @@ pub record Laws (m : Protocol) : Type 0 where
   pub print_empties : (p n place : ℕ) → act_at m p n ≡ Some (print place) → m.registers_at p (n + 1) ≡ []
   pub post_leaves : (w : Word) (p n number : ℕ) → act_at m p n ≡ Some (post w number) → m.registers_at p (n + 1) ≡ m.registers_at p n
   pub await_leaves : (w : Word) (p n on wanted : ℕ) → act_at m p n ≡ Some (await w on wanted) → m.registers_at p (n + 1) ≡ m.registers_at p n
+  -- nothing is printed at first, only PRINTs print, only processor 0 has any, and behind its last act it has printed the whole output
+  pub printed_first : (p : ℕ) → m.printed_at p 0 ≡ []
+  pub printed_leaves : (p n : ℕ) (a : Act) → act_at m p n ≡ Some a → is_print a ≡ false → m.printed_at p (n + 1) ≡ m.printed_at p n
+  pub prints_of_first : (p n place : ℕ) → p < m.workers → act_at m p n ≡ Some (print place) → p ≡ 0
+  pub printed_whole : m.printed_at 0 (length (m.acts 0)) ≡ m.output

@@ -27,6 +27,15 @@ pub record Protocol : Type 1 where
 abbrev pub act_at : Protocol → ℕ → ℕ → Option Act
 act_at m p n = slice_get (m.acts p) n
 
+-- an act prints
+abbrev pub is_print : Act → Bool
+is_print (post word number) = false
+is_print (await word on wanted) = false
+is_print (load place cell) = false
+is_print (store place cell) = false
+is_print (add place cell) = false
+is_print (print place) = true
+
 -- ---- words
 
 -- a number on a word is one of arrivals at a barrier: signals have none

@@ -9,4 +9,6 @@
 
 mod laws;
 
-pub use laws::{laws_of, values_of_deeds};
+pub use laws::{
+    conflicts_in_a_phase, laws_of, shared_cells_are_states, values_of_deeds, values_of_instances,
+};

@@ -1,7 +1,7 @@
 pub mod Lists
-mod ActLists
-mod MomentActs
-mod Registers
+pub mod ActLists
+pub mod MomentActs
+pub mod Registers
 mod Chains
 mod LastValues
 pub mod Keeps
@@ -10,11 +10,13 @@ pub mod Counters
 pub mod Unstuck
 pub mod Runs
 pub mod Ends
+pub mod StateAt
 pub mod Rounds
 pub mod Quiet
 pub mod Shared
 mod PlannedMoments
 mod PlannedOrder
 pub mod PlannedMemory
+pub mod PlannedInstances
 pub mod PlannedSound
 pub mod Deeds

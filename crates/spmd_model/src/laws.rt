@@ -1,24 +1,26 @@
 // What holds of every run: there is nothing to call.
 
-ghost use Rattle.std.specs.Prelude.{ℕ, ℤ, map, List, Some, All, ◌≡◌, ◌≢◌, ◌<◌, ◌≤◌, ◌+◌, ◌⊎◌, ◌++◌};
+ghost use Rattle.std.specs.Prelude.{ℕ, ℤ, pos, length, replicate, slice_get, map, List, Some, All, ◌≡◌, ◌≢◌, ◌<◌, ◌≤◌, ◌+◌, ◌⊎◌, ◌++◌};
+ghost use Rattle.nest_tree.specs.Layout.{cell_count};
 ghost use Rattle.nest_tree.specs.Tree.{Tree};
 ghost use Rattle.nest_tree.specs.WellFormed.{IsWellFormed};
+ghost use Rattle.nest_model.specs.Instances.{instances};
 ghost use Rattle.nest_model.specs.Memory as Memory;
 ghost use Rattle.nest_model.specs.Memory.{cell_value, memory_before, output_of};
 ghost use Rattle.sync_plan.specs.Fit.{IsFit};
 ghost use Rattle.sync_plan.specs.Ordered.{IsOrdered as IsOrderedPlan};
 ghost use Rattle.sync_plan.specs.declared.plan.Plan.{Plan};
-ghost use Rattle.owner_partition.specs.Phases.{phases};
+ghost use Rattle.owner_partition.specs.Phases.{Execution, phases};
 ghost use Rattle.spmd_model.specs.Deeds.{can_do, deed_of, deeds_from, did};
-ghost use Rattle.spmd_model.specs.Lawful.{IsLawful, acts_in_front};
+ghost use Rattle.spmd_model.specs.Lawful.{IsLawful, Moves, acts_in_front};
 ghost use Rattle.spmd_model.specs.Ordered.{Hop, IsChain, IsOrdered, IsSound};
-ghost use Rattle.spmd_model.specs.Planned.{jobs_in_front, machine_of};
+ghost use Rattle.spmd_model.specs.Planned.{job_of, jobs_in_front, machine_of, timeline_of};
 ghost use Rattle.spmd_model.specs.Quiet.{quiet_next, turns_of};
-ghost use Rattle.spmd_model.specs.Reached.{CanGo};
+ghost use Rattle.spmd_model.specs.Reached.{CanGo, IsPossibleAt, memory_by, state_at};
 ghost use Rattle.spmd_model.specs.Rounds.{AreEnough, AreRounds};
-ghost use Rattle.spmd_model.specs.Sequential.{last_memory, memory_at, whole_output};
-ghost use Rattle.spmd_model.specs.States.{IsEnded, State, acted, is_possible, next_act, run_of};
-ghost use Rattle.spmd_model.specs.Timelines.{Act, Machine, acts_of, load};
+ghost use Rattle.spmd_model.specs.Sequential.{last_memory, memory_at, stored_at, value_at, whole_output};
+ghost use Rattle.spmd_model.specs.States.{IsEnded, State, acted, first_state, is_possible, next_act, run_of, stepped};
+ghost use Rattle.spmd_model.specs.Timelines.{Act, Job, Machine, act_at, acts_of, add, job, load, store};
 
 /// A state of a run, in whatever order its processors went, is never stuck before its end: it is
 /// ended, or the next act of some processor is possible.
@@ -57,6 +59,23 @@ pub fn turns_are_runs()
     ensures settled { (m : Machine) (shared : ℕ) (schedule : List ℕ) (p : ℕ) → All (λ q. q < m.workers) schedule → p < m.workers → quiet_next m shared (turns_of m shared schedule) p ≡ 0 }
 {}
 
+/// Lawful memory, with how many acts each processor has done, is a state of the machine; and each
+/// act that is possible there is one step of it, to memory that is lawful again.
+pub fn acts_are_steps()
+    ensures first { (m : Machine) → first_state m ≡ state_at m (replicate m.cells (pos 0)) (λ p. 0) }
+    ensures step { (m : Machine) (memory : List ℤ) (at after : ℕ → ℕ) (p : ℕ) (a : Act) → IsSound m → IsOrdered m → p < m.workers → IsLawful m memory at → act_at m p (at p) ≡ Some a → IsPossibleAt (acts_of m) at a → Moves at after p (at p + 1)
+        → stepped m (state_at m memory at) p ≡ state_at m (memory_by memory (stored_at m p (at p)) a) after }
+    ensures lawful { (m : Machine) (memory : List ℤ) (at after : ℕ → ℕ) (p : ℕ) (a : Act) → IsSound m → IsOrdered m → p < m.workers → IsLawful m memory at → act_at m p (at p) ≡ Some a → IsPossibleAt (acts_of m) at a → Moves at after p (at p + 1)
+        → IsLawful m (memory_by memory (stored_at m p (at p)) a) after }
+{}
+
+/// What a store stores and an addition adds where each load gave the sequential value is the
+/// sequential value of its job.
+pub fn stored_values()
+    ensures stored { (m : Machine) (p n place cell : ℕ) → act_at m p n ≡ Some (store place cell) → stored_at m p n ≡ value_at m place }
+    ensures added { (m : Machine) (p n place cell : ℕ) → act_at m p n ≡ Some (add place cell) → stored_at m p n ≡ value_at m place }
+{}
+
 /// A plan that fits a well-formed program has a sound timeline, and an ordered plan an ordered one.
 pub fn timelines_of_plans()
     ensures sound { (tree : Tree) → (plan : Plan) → IsWellFormed tree → IsFit tree plan → IsSound (machine_of tree plan) }
@@ -65,11 +84,14 @@ pub fn timelines_of_plans()
 
 /// The sequential values along a plan's timeline are the program's: memory in front of a job is
 /// the program's in front of the instance with as many jobs in front of it, memory behind all is
-/// the program's last one, and the output is the program's.
+/// the program's last one, and the output is the program's. The program's last memory has each of
+/// its cells.
 pub fn timelines_are_sequential()
     ensures memory { (tree : Tree) → (plan : Plan) → (place : ℕ) → memory_at (machine_of tree plan) place ≡ memory_before tree (jobs_in_front tree plan place) }
     ensures last { (tree : Tree) → (plan : Plan) → last_memory (machine_of tree plan) ≡ Memory.last_memory tree }
     ensures output { (tree : Tree) → (plan : Plan) → whole_output (machine_of tree plan) ≡ output_of tree }
+    ensures instance { (tree : Tree) → (plan : Plan) → (place : ℕ) → (j : Job) → slice_get (timeline_of tree plan) place ≡ Some (job j) → (x : Execution) × (j ≡ job_of tree plan x) × (slice_get (instances tree) (jobs_in_front tree plan place) ≡ Some x.instance) }
+    ensures size { (tree : Tree) → length (Memory.last_memory tree) ≡ cell_count tree }
 {}
 
 /// What a processor's acts do under a plan that fits, phase by phase: the boundary's post and

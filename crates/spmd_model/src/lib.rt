@@ -18,6 +18,7 @@
 mod laws;
 
 pub use laws::{
-    acts_by_their_deeds, every_load_is_sequential, no_state_is_stuck, rounds_lead_to_all,
-    runs_are_sequential, timelines_are_sequential, timelines_of_plans, turns_are_runs,
+    acts_are_steps, acts_by_their_deeds, every_load_is_sequential, no_state_is_stuck,
+    rounds_lead_to_all, runs_are_sequential, stored_values, timelines_are_sequential,
+    timelines_of_plans, turns_are_runs,
 };

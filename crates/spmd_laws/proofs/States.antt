@@ -1,0 +1,89 @@
+-- Shared cells as those of a state of the machine, act by act.
+use Rattle.std.proofs.Common.{◌≡◌, ℕ, ◌+◌, ◌-◌, ◌<◌, ℤ, pos, true, true≢false, List, [], ◌++◌, length, replicate, Some, refl, ap, sym, subst, ◌∙◌, ⊎_elim}
+use Rattle.std.specs.Prelude.{slice_set}
+use Rattle.std.proofs.lemmas.Bool.{cases_lt, leb-true}
+use Rattle.std.proofs.lemmas.List.{append-nil, get_or_append_left, length-replicate, length-set, set_past, set-append_left, set-append_right}
+use Rattle.nest_tree.specs.Layout.{cell_count}
+use Rattle.nest_tree.specs.Tree.{Tree}
+use Rattle.nest_tree.specs.WellFormed.{IsWellFormed}
+use Rattle.nest_model.specs.Memory.{cell_value}
+use Rattle.sync_plan.specs.Fit.{IsFit}
+use Rattle.sync_plan.specs.Ordered.{IsOrdered as IsOrderedPlan}
+use Rattle.sync_plan.specs.declared.plan.Plan.{Plan}
+use Rattle.spmd_model.specs.Cells.{plus}
+use Rattle.spmd_model.specs.Timelines.{Act, post, await, load, store, add, print}
+use Rattle.spmd_model.specs.Lawful.{IsLawful, Moves}
+use Rattle.spmd_model.specs.Planned.{machine_of}
+use Rattle.spmd_model.specs.Reached.{IsPossibleAt, memory_by, state_at}
+use Rattle.spmd_model.specs.Sequential.{stored_at}
+use Rattle.spmd_model.specs.States.{State, first_state, stepped}
+use Rattle.spmd_model.proofs.ActLaws as law
+use Rattle.spmd_model.proofs.PlannedSound.{ordered_of, sound_of}
+use Rattle.spmd_model.proofs.StateAt.{first_at, stays_lawful, steps_to}
+use Rattle.spmd_laws.specs.Protocols.{is_passed}
+use Rattle.spmd_laws.specs.Viewed.{AreLawfulUnder, AreOfState, acts_under, protocol_of, stored_under}
+use Rattle.spmd_laws.specs.Protocols as Protocols
+
+-- an act leaves the shared cells in front of the own ones
+split_by : (cells own : List ℤ) (v : ℤ) (a : Act) → (after : List ℤ) × (memory_by (cells ++ own) v a ≡ memory_by cells v a ++ after)
+split_by cells own v (post w n) = (own, refl)
+split_by cells own v (await w q n) = (own, refl)
+split_by cells own v (load t c) = (own, refl)
+split_by cells own v (store t c) = ⊎_elim
+    (λ lt. (own, set-append_left cells own c v lt))
+    (λ past. (slice_set own (c - length cells) v, set-append_right cells own (length cells) c v refl past ∙ ap (λ l. l ++ slice_set own (c - length cells) v) (sym (set_past cells c v past)))) (cases_lt c (length cells))
+split_by cells own v (add t c) = ⊎_elim
+    (λ lt. (own, ap (λ y. slice_set (cells ++ own) c (plus y v)) (get_or_append_left cells own (pos 0) c lt) ∙ set-append_left cells own c (plus (cell_value cells c) v) lt))
+    (λ past. let w = plus (cell_value (cells ++ own) c) v in (slice_set own (c - length cells) w, set-append_right cells own (length cells) c w refl past ∙ ap (λ l. l ++ slice_set own (c - length cells) w) (sym (set_past cells c (plus (cell_value cells c) v) past)))) (cases_lt c (length cells))
+split_by cells own v (print t) = (own, refl)
+
+size_by : (cells : List ℤ) (v : ℤ) (a : Act) → length (memory_by cells v a) ≡ length cells
+size_by cells v (post w n) = refl
+size_by cells v (await w q n) = refl
+size_by cells v (load t c) = refl
+size_by cells v (store t c) = length-set cells c v
+size_by cells v (add t c) = length-set cells c (plus (cell_value cells c) v)
+size_by cells v (print t) = refl
+
+-- an act that nobody else sees leaves them
+pub passed_leaves : (cells : List ℤ) (v : ℤ) (a : Act) → is_passed (length cells) a ≡ true → memory_by cells v a ≡ cells
+passed_leaves cells v (post w n) passed = refl
+passed_leaves cells v (await w q n) passed = refl
+passed_leaves cells v (load t c) passed = refl
+passed_leaves cells v (store t c) passed = set_past cells c v (leb-true (length cells) c passed)
+passed_leaves cells v (add t c) passed = absurd (true≢false (sym passed))
+passed_leaves cells v (print t) passed = refl
+
+module _ (tree : Tree) (plan : Plan) where
+  pub first_of_state : IsWellFormed tree → IsFit tree plan → AreOfState tree plan (replicate (cell_count tree) (pos 0)) (λ p. 0) (first_state (machine_of tree plan))
+  first_of_state formed fits = record {
+    own = [];
+    count = length-replicate (cell_count tree) (pos 0);
+    lawful = subst (λ x. IsLawful (machine_of tree plan) x (λ p. 0)) (sym (append-nil (replicate (cell_count tree) (pos 0)))) (law.first (machine_of tree plan) (λ p. 0) (sound_of tree plan formed fits) (λ p lt. refl));
+    is = first_at (machine_of tree plan) ∙ ap (λ x. state_at (machine_of tree plan) x (λ p. 0)) (sym (append-nil (replicate (cell_count tree) (pos 0))));
+  }
+
+  pub lawful_of_state : (cells : List ℤ) (at : ℕ → ℕ) (s : State) → AreOfState tree plan cells at s → (protocol_of tree plan).lawful cells at
+  unfolding AreLawfulUnder
+  lawful_of_state cells at s shows = record { count = shows.count; own = shows.own; lawful = shows.lawful }
+
+  pub state_of_lawful : (cells : List ℤ) (at : ℕ → ℕ) → (protocol_of tree plan).lawful cells at → (s : State) × AreOfState tree plan cells at s
+  unfolding AreLawfulUnder
+  state_of_lawful cells at l = (state_at (machine_of tree plan) (cells ++ l.own) at, record { own = l.own; count = l.count; lawful = l.lawful; is = refl })
+
+  pub step_of_state : (cells : List ℤ) (at after : ℕ → ℕ) (p : ℕ) (a : Act) (s : State) → IsWellFormed tree → IsFit tree plan → IsOrderedPlan tree plan → p < plan.workers → AreOfState tree plan cells at s → Protocols.act_at (protocol_of tree plan) p (at p) ≡ Some a →
+      IsPossibleAt (protocol_of tree plan).acts at a → Moves at after p (at p + 1) → AreOfState tree plan (memory_by cells ((protocol_of tree plan).stored_at p (at p)) a) after (stepped (machine_of tree plan) s p)
+  unfolding acts_under stored_under
+  step_of_state cells at after p a s formed fits ordered lt shows e possible moves =
+      let m = machine_of tree plan in
+      let memory = cells ++ shows.own in
+      let v = stored_at m p (at p) in
+      let sound = sound_of tree plan formed fits in
+      let chained = ordered_of tree plan formed fits ordered in
+      let split = split_by cells shows.own v a in
+      record {
+        own = split.0;
+        count = size_by cells v a ∙ shows.count;
+        lawful = subst (λ x. IsLawful m x after) split.1 (stays_lawful m memory at after p lt moves sound chained shows.lawful a e possible);
+        is = ap (λ x. stepped m x p) shows.is ∙ steps_to m memory at after p lt moves sound chained shows.lawful a e possible ∙ ap (λ x. state_at m x after) split.1;
+      }
