@@ -6,10 +6,6 @@ use Rattle.std.proofs.lemmas.Int.{of_z-to_z, to_z-of_z}
 use Rattle.atomic_table.specs.Seated.{TableId}
 use Rattle.nest_tree.specs.declared.tree.Program.{Program}
 use Rattle.sync_plan.specs.declared.plan.Plan.{Plan}
-use Rattle.nest_model.specs.Memory.{cell_value}
-use Rattle.spmd_laws.specs.Viewed.{acts_under, loaded_under}
-use Rattle.spmd_model.specs.Planned as Planned
-use Rattle.spmd_model.specs.Sequential.{loaded_by, memory_at}
 use Rattle.spmd_model.specs.Timelines.{Act, Word, await, load, store}
 use Rattle.spmd_laws.specs.Protocols.{Protocol, act_at, arrived, arrivals_at}
 use Rattle.spmd_laws.specs.Laws.{Laws}
@@ -19,7 +15,7 @@ use Rattle.cell_table.specs.declared.view.View.{View}
 use Rattle.cell_table.specs.declared.view.View.TheVariants.{Seated, Away}
 use Rattle.cell_table.specs.Places.{behind, behind_row, settled_at}
 use Rattle.cell_table.specs.Words.{word_value}
-use Rattle.cell_table.specs.Homes.{loaded_next, plan_given, tree_given, Home, CellView, protocol_at, protocol_in, home_of, role_in, processor_of, position_of, misses_of, cell_view, IsSeatOf, next_act, gone, through, missed}
+use Rattle.cell_table.specs.Homes.{Home, CellView, protocol_at, protocol_in, home_of, role_in, processor_of, position_of, misses_of, cell_view, IsSeatOf, next_act, gone, through, missed}
 use Rattle.cell_table.specs.Rule.{first_of, with_role, goes_to, wanted_by, polls_to, rows_to}
 use Rattle.cell_table.proofs.Places.{arrivals_behind, arrivals_row, arrivals_settled, settled_settled}
 
@@ -170,8 +166,3 @@ module _ (v : View) (p a : ℕ) (mine : IsSeatOf v p a) (found : ℕ) where
       go : (b : Bool) → nat_le whole found ≡ b → IsSeatOf (with_role v (rows_to (protocol_in v) (role_in v) found)) p a
       go true come = subst (λ r. IsSeatOf (with_role v r) p a) (sym (row_ready come)) (through_seat v p a mine)
       go false come = subst (λ r. IsSeatOf (with_role v r) p a) (sym (row_missed come)) (missed_seat v p a mine)
-
--- what a load gives is in memory in front of its job
-pub memory_there : (now : CellView) (place cell : ℕ) → next_act now ≡ Some (load place cell) → loaded_next now ≡ cell_value (memory_at (Planned.machine_of (tree_given now.home.given) (plan_given now.home.given)) place) cell
-unfolding acts_under loaded_under
-memory_there now place cell next = ap (loaded_by (Planned.machine_of (tree_given now.home.given) (plan_given now.home.given))) next

@@ -160,7 +160,7 @@ module _ (m : Protocol) (laws : Laws m) where
   }
 
   -- another value in a cell
-  cell_set : (words : List ℕ) (c word : ℕ) → c < m.cells → cells_in m (set words c word) ≡ set (cells_in m words) c (word_value word)
+  pub cell_set : (words : List ℕ) (c word : ℕ) → c < m.cells → cells_in m (set words c word) ≡ set (cells_in m words) c (word_value word)
   cell_set words c word inside = ap (map word_value) (take-set-lt m.cells words c word inside) ∙ map-set word_value (take m.cells words) c word
 
   pub load_gives : (words : List ℕ) (at : ℕ → ℕ) (p place c : ℕ) → p < m.workers → c < m.cells → AreShown m words at → act_at m p (at p) ≡ Some (load place c) → word_value (slice_index words c) ≡ m.loaded_at p (at p)
@@ -255,7 +255,7 @@ module _ (m : Protocol) (laws : Laws m) where
   ]
 
   -- an act that is gathered awaits
-  gathered_await : (a : Act) → is_gathered m (Some a) ≡ true → (on : ℕ) × (wanted : ℕ) × (a ≡ await counter on wanted) × (m.gathers wanted ≡ true)
+  pub gathered_await : (a : Act) → is_gathered m (Some a) ≡ true → (on : ℕ) × (wanted : ℕ) × (a ≡ await counter on wanted) × (m.gathers wanted ≡ true)
   gathered_await (post w number) joint = absurd (true≢false (sym joint))
   gathered_await (await counter on wanted) joint = (on, wanted, refl, joint)
   gathered_await (await signal on wanted) joint = absurd (true≢false (sym joint))

@@ -1,5 +1,7 @@
 -- What the calls of a table ask and tell.
-use Rattle.std.specs.Prelude.{ℕ, ℤ, ◌*◌, ◌≡◌, ◌<◌, true, false, Some, length, replicate, slice_get, slice_set}
+use Rattle.std.specs.Prelude.{ℕ, ℤ, ◌*◌, ◌≡◌, ◌<◌, true, false, Contains, Some, length, replicate, slice_get, slice_set}
+use Rattle.nest_model.specs.Accesses.{loads_of}
+use Rattle.nest_model.specs.Instances.{Instance, instances}
 use Rattle.nest_model.specs.Memory.{cell_value, memory_before}
 use Rattle.spmd_model.specs.Planned.{jobs_in_front}
 use Rattle.spmd_model.specs.Timelines.{counter, post, await, load, store}
@@ -31,11 +33,11 @@ ArrivesNext v number = (next_act v ≡ Some (post counter number)) × ((protocol
 abbrev pub GathersNext : CellView → ℕ → Type 0
 GathersNext v number = (on : ℕ) × (next_act v ≡ Some (await counter on number)) × ((protocol_at v.home).gathers number ≡ true)
 
--- a value is what memory has in a cell in front of the instance whose load of it stands next
+-- the next act is the load of this cell by an instance of the program, and this is what memory in front of that instance has there
 abbrev pub IsInMemory : CellView → ℕ → ℤ → Type 0
 IsInMemory v cell z =
-    (place : ℕ) → next_act v ≡ Some (load place cell)
-    → z ≡ cell_value (memory_before (tree_given v.home.given) (jobs_in_front (tree_given v.home.given) (plan_given v.home.given) place)) cell
+    (place : ℕ) → next_act v ≡ Some (load place cell) → let tree = tree_given v.home.given in let number = jobs_in_front tree (plan_given v.home.given) place in
+    (i : Instance) × (slice_get (instances tree) number ≡ Some i) × Contains (loads_of tree i) cell × (z ≡ cell_value (memory_before tree number) cell)
 
 -- a poll that is ready goes on; another one is a miss, and shows what it found, which is less than what was wanted
 abbrev pub PollTells : CellView → CellView → ℕ → Poll → CellView → Type 0

@@ -2,6 +2,7 @@ pub mod Places
 pub mod Words
 pub mod Seats
 pub mod Steps
+pub mod Runs
 pub mod Homes
 pub mod Rule
 pub mod Calls

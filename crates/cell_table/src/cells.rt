@@ -22,8 +22,7 @@ use crate::rule::{Cut, Glue, Go, Load, Look, LookAround, Rule, Twin, Which};
 use crate::view::{Given, View};
 use atomic_table::{Seat, Table};
 use nest_tree::Program;
-use spmd_laws::laws_of;
-use spmd_model::timelines_are_sequential;
+use spmd_laws::{laws_of, values_of_instances};
 use std::alloc::{AllocError, Global};
 use std::marker::{Brand, Model};
 use sync_plan::Plan;
@@ -189,7 +188,7 @@ impl<'a> Cells<'a> {
         ensures memory { IsInMemory seat.old cell result }
         ensures goes { seat.new ≡ gone seat.old }
     {
-        timelines_are_sequential();
+        values_of_instances();
         self.table
             .shared
             .load::<Load>(&mut seat.seat, cell as usize)

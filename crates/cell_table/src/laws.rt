@@ -1,6 +1,11 @@
 // What each step does to the words and to the seats: there is nothing to call.
 
+ghost use Rattle.nest_tree.specs.Tree.{Tree};
+ghost use Rattle.sync_plan.specs.declared.plan.Plan.{Plan};
+ghost use Rattle.cell_table.specs.Runs.{AreAddsSteps, AreArrivalsSteps, AreLoadsSteps, ArePollsSteps, ArePostsSteps, AreRowsSteps, AreStoresSteps, IsRunnable};
 ghost use Rattle.cell_table.specs.Steps.{AddSteps, Always, AreClose, ArriveSteps, GatherSteps, LoadSteps, MissSteps, Opens, PollSteps, PostSteps, SplitSteps, StoreSteps, TakeSteps};
+
+use spmd_laws::{laws_of, shared_cells_are_states};
 
 /// Words and seats that show a state of a machine of which the laws hold show one behind each kind
 /// of step, in which the seat's processor has done its next act and those behind it that no other
@@ -19,3 +24,19 @@ pub fn steps_show_the_machine()
     ensures take_in { Always TakeSteps }
     ensures apart { Always AreClose }
 {}
+
+/// Each kind of step is steps of the machine: of whatever state the words show, the words behind
+/// the step show the state behind the seat's processor's next act, or behind all its awaits at the
+/// barrier, and the acts behind those that no other processor sees.
+pub fn steps_are_the_machines()
+    ensures load { (tree : Tree) (plan : Plan) → IsRunnable tree plan → AreLoadsSteps tree plan }
+    ensures store { (tree : Tree) (plan : Plan) → IsRunnable tree plan → AreStoresSteps tree plan }
+    ensures add { (tree : Tree) (plan : Plan) → IsRunnable tree plan → AreAddsSteps tree plan }
+    ensures post { (tree : Tree) (plan : Plan) → IsRunnable tree plan → ArePostsSteps tree plan }
+    ensures poll { (tree : Tree) (plan : Plan) → IsRunnable tree plan → ArePollsSteps tree plan }
+    ensures arrive { (tree : Tree) (plan : Plan) → IsRunnable tree plan → AreArrivalsSteps tree plan }
+    ensures gather { (tree : Tree) (plan : Plan) → IsRunnable tree plan → AreRowsSteps tree plan }
+{
+    laws_of();
+    shared_cells_are_states();
+}

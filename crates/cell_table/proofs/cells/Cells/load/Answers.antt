@@ -4,8 +4,7 @@ use Rattle.cell_table.specs.declared.view.View.{View}
 use Rattle.cell_table.specs.Words.{word_count}
 use Rattle.cell_table.specs.Homes.{IsSeatOf, misses_of, plan_given, position_of, role_in, tree_given}
 use Rattle.cell_table.proofs.Keeps.{load_allowed}
-use Rattle.cell_table.proofs.Calls.{stands, same, same_table, load_inside, its_laws, its_next, gone_seat, gone_here, loaded_here, memory_there}
-use Rattle.nest_model.specs.Memory.{cell_value}
+use Rattle.cell_table.proofs.Calls.{stands, same, same_table, load_inside, its_laws, its_next, gone_seat, gone_here, loaded_here}
 use Rattle.cell_table.proofs.cells.Cells.load.Goals as goal
 
 pub load-requires : goal.load-requires
@@ -36,7 +35,8 @@ returns c =
     let value = loaded_here k c.load.result c.cast_signed.result c.load.type_inv c.cast_signed.ensures c.load.ensures.2.1 in record {
       value = value;
       memory = λ place next.
-          let h = c.args.seat.now.home.given in
-          value ∙ memory_there c.args.seat.now place c.args.cell next ∙ ap (λ m. cell_value m c.args.cell) (c.timelines_are_sequential.ensures.memory (tree_given h) (plan_given h) place);
+          let v = c.args.seat.now in
+          let of = c.values_of_instances.ensures.loaded (tree_given v.home.given) (plan_given v.home.given) v.processor v.position place c.args.cell next in
+          (of.0, of.1, of.2, value ∙ of.3);
       goes = gone_here k c.load.ensures.0 (ap (λ (x : View × List (ℕ × ℕ)). x.0) c.load.ensures.2.0);
     }
