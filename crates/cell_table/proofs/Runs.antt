@@ -1,5 +1,5 @@
 -- Steps of the words are steps of the machine's run.
-use Rattle.std.proofs.Common.{◌≡◌, ℕ, zero, suc, ◌+◌, ◌*◌, ◌<◌, ◌≤◌, ◌⊎◌, ℤ, true, false, true≢false, List, length, take, drop, map, set, Some, refl, sym, ◌∙◌, ap, subst, inl, inr, length-set, arith}
+use Rattle.std.proofs.Common.{◌≡◌, ℕ, suc, ◌+◌, ◌*◌, ◌<◌, ◌≤◌, ℤ, true, false, true≢false, List, length, drop, map, set, Some, refl, sym, ◌∙◌, ap, subst, inl, inr, length-set, arith}
 use Rattle.std.specs.Prelude.{slice_index}
 use Rattle.std.proofs.lemmas.Bool.{cases_eq}
 use Rattle.std.proofs.lemmas.List.{take-set-le}
@@ -12,13 +12,13 @@ use Rattle.spmd_model.specs.Reached.{IsPossibleAt, memory_by}
 use Rattle.spmd_model.specs.States.{State, stepped}
 use Rattle.spmd_model.specs.Timelines.{Act, Word, counter, post, await, load, store, add, print}
 use Rattle.spmd_laws.specs.Laws.{Laws}
-use Rattle.spmd_laws.specs.Protocols.{Protocol, act_at, arrivals_at, is_arrival, is_gathered, is_passed}
+use Rattle.spmd_laws.specs.Protocols.{Protocol, act_at, arrivals_at, is_arrival, is_passed}
 use Rattle.spmd_laws.specs.Viewed.{AreOfState, protocol_of}
 use Rattle.cell_table.specs.Places.{behind, behind_row, row_first, settled_at}
 use Rattle.cell_table.specs.Runs.{AreStepsOf, AreWordsOf, behind_steps}
 use Rattle.cell_table.specs.Words.{AreShown, arrival_word, cells_in, word_of, word_value}
 use Rattle.cell_table.proofs.Places.{put, put_moves, put_on, over_passed, over_row, arrivals_next}
-use Rattle.cell_table.proofs.WordSteps.{all_come, cell_set, gathered_await, in_line, value_in}
+use Rattle.cell_table.proofs.WordSteps.{all_come, cell_set, gathered_await, value_in}
 
 -- places that move alike are alike
 same_moves : (at to : ℕ → ℕ) (p n : ℕ) → Moves at to p n → (q : ℕ) → put at p n q ≡ to q
