@@ -77,7 +77,9 @@ def tell_refusal(line, data, settings):
     program = sources.Program(source, settings)
     hint = hints.hint_for(program, code, number, line) if number else None
     say(f"{line}: {(hint and hint.say) or meaning_of('LANGUAGE.md', code) or 'the source is refused'}")
-    if number:
+    if not data:
+        say("nothing was read; the source comes on standard input: seagrynt seq < heat.f")
+    elif number:
         show_line(source.lines, *((hint.line, hint.column) if hint else (number, None)))
     if hint and hint.line != number and number <= len(source.lines):
         show_line(source.lines, number, None)
