@@ -100,6 +100,7 @@ CASES = [
     ("missing_end", "K = 1|CEND", "END, in columns 7 to 72", None),
     ("tab", "\tK = 1", "this is a tab", "^I"),
     ("byte", "K = 1 \x80", "no character", "?"),
+    ("directive", "INTEGER A(5)|@!$DIST A(BLOCK)", "C$DIST in columns 1 to 6", "!$DIST"),
     ("comment-line", "! one", "C or * in column 1", "! one"),
     ("zero-label", "    0 K = 1", "1 to 99999", "0 K"),
     ("free-form", "@program heat", "begins in column 7", "program"),

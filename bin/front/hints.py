@@ -72,6 +72,7 @@ LINES = [
      "the source's last line has no line end, so the plan begins in it: add one to the source"),
     ("tab", "L1", r"[^\t]*(?P<at>\t)", f"this is a tab: write blanks; {COLUMNS}"),
     ("byte", "L1", r"[ -~]*(?P<at>[^ -~])", "this byte is no character from a blank to a tilde"),
+    ("directive", "L2 L3", r"\s*(?P<at>!?\$ *(?i:DIST))", "a directive has C$DIST in columns 1 to 6: C$DIST A(BLOCK)"),
     ("comment-line", "L2 L3 F1", r"\s*(?P<at>!|//|#)", "a comment is a line with C or * in column 1"),
     ("zero-label", "L2", r" *(?P<at>0[ 0]*)", "a label is 1 to 99999"),
     ("free-form", "L2 L3", r" {0,5}(?P<at>[A-Za-z'].*)", COLUMNS),

@@ -292,7 +292,7 @@ def source_warnings(source, program):
         if it.line not in taken:
             yield f"line {it.line}: {why_no_directive(it, program)}; it is a comment"
     for number, line in enumerate(source.lines[: source.end or None], 1):
-        if re.match(r"[Cc*!].{0,2}\$? *DIST\b", line) and not re.match(r"C\$DIST", line[:6], re.I):
+        if re.match(r"(?i)[C*!].{0,2}(\$ *DIST\b|DIST *[A-Z]\w*\()", line) and not re.match(r"C\$DIST", line[:6], re.I):
             yield f"line {number}: a directive has C$DIST in columns 1 to 6; this line is a comment"
 
 
