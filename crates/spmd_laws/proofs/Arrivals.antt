@@ -1,5 +1,5 @@
 -- Arrivals at barriers: along a timeline every processor arrives at each one, and then awaits others there.
-use Rattle.std.proofs.Common.{◌≡◌, ◌==◌, ℕ, zero, suc, ◌+◌, ◌-◌, ◌<◌, ◌≤◌, Bool, true, false, List, [], ◌∷◌, ◌++◌, length, map, take, drop, fold, Option, Some, None, refl, ap, sym, ◌∙◌, inl, inr, arith, if◌then◌else◌}
+use Rattle.std.proofs.Common.{◌≡◌, ◌==◌, ℕ, zero, suc, ◌+◌, ◌-◌, ◌<◌, ◌≤◌, Bool, true, false, List, [], ◌∷◌, ◌++◌, length, map, take, drop, fold, Option, Some, None, refl, ap, sym, ◌∙◌, inl, inr, arith, if◌then◌else◌, zero-add}
 use Rattle.std.specs.Prelude.{slice_get}
 use Rattle.std.specs.List.{All}
 use Rattle.std.proofs.Math.Seq.{take-append-add}
@@ -213,6 +213,71 @@ module _ (gathers : ℕ → Bool) where
                   (length B + found.0, omega (arith, found.1, rest), get-behind B S found.0 ∙ found.2)
             ]
       ]
+
+  -- ---- which they are
+
+  abbrev pub weights : List Moment → ℕ
+  weights [] = 0
+  weights (x ∷ xs) = weight x + weights xs
+
+  pub weights-append : (xs ys : List Moment) → weights (xs ++ ys) ≡ weights xs + weights ys
+  weights-append [] ys = omega arith
+  weights-append (x ∷ xs) ys = let rest = weights-append xs ys in omega (arith, rest)
+
+  -- an act's moment, with as many arrivals in front of the act as stand in front of the moment, and so many more
+  pub record IsReachedBy (p place : ℕ) (xs : List Moment) (i : ℕ) (a : Act) (more : ℕ) : Type 0 where
+    pub at : ℕ
+    pub moment : Moment
+    pub index : ℕ
+    pub there : slice_get xs at ≡ Some moment
+    pub is : slice_get (moment_acts p (place + at) moment) index ≡ Some a
+    pub count : arrivals (take i (acts_from p place xs)) ≡ weights (take at xs) + more
+
+  reached_by : (p place : ℕ) (xs : List Moment) → All (Joins p) xs → (i : ℕ) (a : Act) (more : ℕ) → ((t k : ℕ) (x : Moment) → Joins p x → slice_get (moment_acts p t x) k ≡ Some a → arrivals (take k (moment_acts p t x)) ≡ more) → slice_get (acts_from p place xs) i ≡ Some a →
+      IsReachedBy p place xs i a more
+  reached_by p place [] all i a more here e = let clash : None ≡ Some a = e in absurd (cc)
+  reached_by p place (x ∷ xs) all i a more here e =
+      let A = moment_acts p place x in
+      let R = acts_from p (suc place) xs in
+      let joins = All-head (Joins p) x xs all in
+      elim (cases_lt i (length A)) [
+        | inl inside ↦
+            let mine = sym (get-front A R i inside) ∙ e in
+            let same : place ≡ place + 0 = omega arith in
+            record {
+              at = 0;
+              moment = x;
+              index = i;
+              there = refl;
+              is = ap (λ t. slice_get (moment_acts p t x) i) (sym same) ∙ mine;
+              count = ap arrivals (take-append-le i A R (omega (arith, inside))) ∙ here place i x joins mine ∙ sym (zero-add more);
+            }
+        | inr past ↦
+            let on : length A + (i - length A) ≡ i = omega (arith, past) in
+            let rest = reached_by p (suc place) xs (All-tail (Joins p) x xs all) (i - length A) a more here (sym (ap (slice_get (A ++ R)) (sym on) ∙ get-behind A R (i - length A)) ∙ e) in
+            let next : suc place + rest.at ≡ place + suc rest.at = omega arith in
+            let front_is : arrivals (take i (A ++ R)) ≡ weight x + arrivals (take (i - length A) R) =
+            ap (λ z. arrivals (take z (A ++ R))) (sym on) ∙ ap arrivals (take-append-add A R (i - length A)) ∙ both A (take (i - length A) R) ∙ ap (λ z. z + arrivals (take (i - length A) R)) (moment_arrivals p place x joins) in
+            record {
+              at = suc rest.at;
+              moment = rest.moment;
+              index = rest.index;
+              there = rest.there;
+              is = ap (λ t. slice_get (moment_acts p t rest.moment) rest.index) (sym next) ∙ rest.is;
+              count = omega (arith, front_is, rest.count);
+            }
+      ]
+
+  -- in front of an await at a barrier stands one arrival more than in front of the barrier, in front of an arrival there none
+  pub await_reached : (p place : ℕ) (xs : List Moment) → All (Joins p) xs → (i : ℕ) (w : Word) (o n : ℕ) → slice_get (acts_from p place xs) i ≡ Some (await w o n) → is_arrival gathers w n ≡ true → IsReachedBy p place xs i (await w o n) 1
+  await_reached p place xs all i w o n e g = reached_by p place xs all i (await w o n) 1 (λ t k x joins h. (await_in p p t k w o n x joins joins h g).0) e
+
+  pub post_reached : (p place : ℕ) (xs : List Moment) → All (Joins p) xs → (i : ℕ) (w : Word) (n : ℕ) → slice_get (acts_from p place xs) i ≡ Some (post w n) → IsReachedBy p place xs i (post w n) 0
+  post_reached p place xs all i w n e = reached_by p place xs all i (post w n) 0 (λ t k x joins h. first_there t k x h) e
+    where
+      first_there : (t k : ℕ) (x : Moment) → slice_get (moment_acts p t x) k ≡ Some (post w n) → arrivals (take k (moment_acts p t x)) ≡ 0
+      first_there t k (boundary v m posts awaits) h = let there = posted_there p v w m n (awaits p) (posts p) k h in ap (λ z. arrivals (take z (boundary_acts p v m (posts p) (awaits p)))) there.0
+      first_there t k (job j) h = absurd (all_at IsWork (moment_acts p t (job j)) k (post w n) (owned_works p t j) h)
 
   -- ---- how many there are
 

@@ -1,5 +1,5 @@
 -- Barriers of a plan: what is gathered there, and how often.
-use Rattle.std.proofs.Common.{◌≡◌, ◌≢◌, ◌&&◌, ◌||◌, not, ℕ, zero, suc, ◌+◌, ◌-◌, ◌^◌, ◌<◌, ◌≤◌, ◌⊎◌, nat_lt, Bool, true, false, true≢false, cond, List, [], ◌∷◌, ◌++◌, length, map, take, drop, fold, Option, Some, None, refl, ap, sym, subst, ◌∙◌, inl, inr, ⊎_elim, arith, if◌then◌else◌, take_all, drop-cons}
+use Rattle.std.proofs.Common.{◌≡◌, ◌≢◌, ◌&&◌, ◌||◌, not, ℕ, zero, suc, ◌+◌, ◌-◌, ◌^◌, ◌<◌, ◌≤◌, ◌⊎◌, nat_lt, Bool, true, false, true≢false, cond, List, [], ◌∷◌, ◌++◌, length, map, take, drop, fold, Option, Some, None, refl, ap, sym, subst, ◌∙◌, inl, inr, ⊎_elim, arith, if◌then◌else◌, take_all, drop-cons, length-append, zero-add}
 use Rattle.std.specs.Prelude.{slice_get}
 use Rattle.std.specs.List.{All, filter, list_any, range_with_len}
 use Rattle.std.proofs.lemmas.Bool.{and_parts, cases_Bool, cases_lt, ltb-true, ne_eqb}
@@ -24,11 +24,14 @@ use Rattle.spmd_model.specs.Ordered.{IsSound}
 use Rattle.spmd_model.specs.Lawful.{IsPosted, counted, counter_at}
 use Rattle.spmd_model.specs.Planned.{boundary_of, job_of, machine_of, timeline_from, timeline_of}
 use Rattle.spmd_model.proofs.Counters.{counter_posted, counter_reaches, lower_in_front}
-use Rattle.spmd_model.proofs.Lists.{one_element, take-more}
+use Rattle.spmd_model.proofs.Lists.{one_element, take-behind, take-more}
+use Rattle.spmd_model.proofs.MomentActs.{IsAwaitIn, IsPostIn, tells}
+use Rattle.spmd_model.proofs.PlannedMoments.{boundary_place_from}
 use Rattle.spmd_model.proofs.PlannedSound.{boundary_is}
+use Rattle.spmd_laws.specs.Viewed.{barriers_in_front}
 use Rattle.spmd_laws.specs.Protocols.{is_arrival, passed_first, settled, shown, shown_behind}
-use Rattle.spmd_laws.specs.Viewed.{gathers, is_barrier, kind_before}
-use Rattle.spmd_laws.proofs.Arrivals.{Joins, arrivals, await_behind, boundaries, few_arrivals, front, seen}
+use Rattle.sync_plan.specs.Boundaries.{gathers, is_barrier, kind_before}
+use Rattle.spmd_laws.proofs.Arrivals.{Joins, arrivals, await_behind, await_reached, boundaries, few_arrivals, front, post_reached, seen, weights, weights-append}
 
 -- ---- at a barrier each processor awaits another
 
@@ -138,6 +141,62 @@ arrivals_few tree plan p k formed limits =
   where
     most : {a b c : ℕ} → a ≤ b → b ≤ c → a ≤ c
     most le le' = omega (arith, le, le')
+
+-- ---- which barriers a processor has arrived at
+
+no_weight : (gathered : ℕ → Bool) (f : Instance → Job) (is : List Instance) → weights gathered (map (λ i. job (f i)) is) ≡ 0
+no_weight gathered f [] = refl
+no_weight gathered f (i ∷ is) = zero-add (weights gathered (map (λ k. job (f k)) is)) ∙ no_weight gathered f is
+
+-- in front of a phase's boundary the timeline has the barriers of the phases in front
+weights_there : (tree : Tree) (plan : Plan) (e : ℕ) (vs : List Visit) (k : ℕ) → 1 ≤ e → k ≤ length vs → weights (gathers tree plan) (take (boundary_place_from tree plan e vs k) (timeline_from tree plan e vs)) ≡ length (filter (gathers tree plan) (range_with_len (e - 1) k))
+weights_there tree plan e vs zero some le = refl
+weights_there tree plan e [] (suc k) some le = absurd (omega (arith, le))
+weights_there tree plan e (v ∷ vs) (suc k) some le =
+    let jobs = map (λ i. job (job_of tree plan (record { phase = e; place = v.place; instance = i }))) (phase_instances (param_values tree) v) in
+    let later = timeline_from tree plan (suc e) vs in
+    let to = boundary_place_from tree plan (suc e) vs k in
+    let count : boundary_place_from tree plan e (v ∷ vs) (suc k) ≡ suc (length jobs + to) = omega (arith, length-append jobs (timeline_from tree plan (suc e) (take k vs))) in
+    let less : suc e - 1 ≡ e = omega arith in
+    let rest = weights_there tree plan (suc e) vs k (omega arith) (omega (arith, le)) ∙ ap (λ a. length (filter (gathers tree plan) (range_with_len a k))) less in
+    let none = no_weight (gathers tree plan) (λ i. job_of tree plan (record { phase = e; place = v.place; instance = i })) (phase_instances (param_values tree) v) in
+    let behind : weights (gathers tree plan) (take (length jobs + to) (jobs ++ later)) ≡ length (filter (gathers tree plan) (range_with_len e k)) =
+    ap (weights (gathers tree plan)) (take-behind jobs later to) ∙ weights-append (gathers tree plan) jobs (take to later) ∙ ap (λ n. n + weights (gathers tree plan) (take to later)) none ∙ zero-add (weights (gathers tree plan) (take to later)) ∙ rest in
+    let next : e - 1 + 1 ≡ e = omega (arith, some) in
+    ap (λ n. weights (gathers tree plan) (take n (boundary_of tree plan e v ∷ (jobs ++ later)))) count
+    ∙ ap (λ n. (if gathers tree plan (e - 1) then 1 else 0) + n) (behind ∙ ap (λ a. length (filter (gathers tree plan) (range_with_len a k))) (sym next))
+    ∙ by (gathers tree plan (e - 1)) (filter (gathers tree plan) (range_with_len (e - 1 + 1) k))
+  where
+    by : (b : Bool) (xs : List ℕ) → (if b then 1 else 0) + length xs ≡ length (cond b ((e - 1) ∷ xs) xs)
+    by true xs = omega arith
+    by false xs = omega arith
+
+boundary_counts : (tree : Tree) (plan : Plan) (t n : ℕ) (posts : ℕ → Bool) (awaits : ℕ → List ℕ) → slice_get (timeline_of tree plan) t ≡ Some (boundary counter n posts awaits) → weights (gathers tree plan) (take t (timeline_of tree plan)) ≡ barriers_in_front tree plan n
+boundary_counts tree plan t n posts awaits at =
+    let vs = phases tree plan.cut in
+    let b = boundary_is tree plan 1 vs t counter n posts awaits at in
+    let number : n ≡ b.phase = number_of (1 + b.phase) b.visit b.is ∙ omega arith in
+    let within = slice_get_within vs b.phase b.visit b.at in
+    ap (λ k. weights (gathers tree plan) (take k (timeline_of tree plan))) b.place ∙ weights_there tree plan 1 vs b.phase (omega arith) (omega (arith, within)) ∙ ap (λ k. length (filter (gathers tree plan) (range_with_len 0 k))) (sym number)
+  where
+    number_of : (e : ℕ) (v : Visit) → boundary counter n posts awaits ≡ boundary_of tree plan e v → n ≡ e - 1
+    number_of e v same = cc
+
+-- whoever awaits others at a barrier has arrived at it and at all barriers in front, whoever arrives at those in front
+pub await_counts : (tree : Tree) (plan : Plan) (p i o n : ℕ) → p < plan.workers → act_at (machine_of tree plan) p i ≡ Some (await counter o n) → gathers tree plan n ≡ true → arrivals (gathers tree plan) (take i (acts_of (machine_of tree plan) p)) ≡ barriers_in_front tree plan n + 1
+await_counts tree plan p i o n inside e g =
+    let r = await_reached (gathers tree plan) p 0 (timeline_of tree plan) (joins tree plan p inside) i counter o n e g in
+    let h : IsAwaitIn counter p o n r.moment = tells p (0 + r.at) r.index r.moment (await counter o n) r.is in
+    r.count ∙ ap (λ k. k + 1) (boundary_counts tree plan r.at n h.posts h.awaits (r.there ∙ ap Some h.moment))
+
+pub post_counts : (tree : Tree) (plan : Plan) (p i n : ℕ) → p < plan.workers → act_at (machine_of tree plan) p i ≡ Some (post counter n) → arrivals (gathers tree plan) (take i (acts_of (machine_of tree plan) p)) ≡ barriers_in_front tree plan n
+post_counts tree plan p i n inside e =
+    let r = post_reached (gathers tree plan) p 0 (timeline_of tree plan) (joins tree plan p inside) i counter n e in
+    let h : IsPostIn counter p r.index n r.moment = tells p (0 + r.at) r.index r.moment (post counter n) r.is in
+    r.count ∙ add-zero (weights (gathers tree plan) (take r.at (timeline_of tree plan))) ∙ boundary_counts tree plan r.at n h.posts h.awaits (r.there ∙ ap Some h.moment)
+  where
+    add-zero : (k : ℕ) → k + 0 ≡ k
+    add-zero k = omega arith
 
 -- ---- words
 

@@ -35,10 +35,11 @@ use Rattle.spmd_model.proofs.PlannedMemory.{last_memory_is, last_size, output_is
 use Rattle.spmd_model.proofs.PlannedSound.{ordered_of, sound_of}
 use Rattle.nest_tree.specs.Limits.{IsWithinLimits}
 use Rattle.sync_plan.proofs.Fits.{fit_parts}
+use Rattle.sync_plan.specs.Boundaries.{gathers}
 use Rattle.spmd_laws.specs.Laws.{Laws}
 use Rattle.spmd_laws.specs.Protocols.{is_gathered, is_print}
 use Rattle.spmd_laws.proofs.Gathered.{arrival_awaits, arrivals_few, arrived_posted, await_settled, shows_less, shows_post}
-use Rattle.spmd_laws.specs.Viewed.{AreLawfulUnder, acts_under, gathers, loaded_under, printed_under, protocol_of, registers_under, stored_under}
+use Rattle.spmd_laws.specs.Viewed.{AreLawfulUnder, acts_under, loaded_under, printed_under, protocol_of, registers_under, stored_under}
 use Rattle.spmd_laws.proofs.Inside.{act_there}
 use Rattle.spmd_laws.proofs.Passed.{by_passed, first_settled, none_passed}
 

@@ -1,12 +1,10 @@
 -- The protocol of a program under a plan.
-use Rattle.std.specs.Prelude.{ℕ, ◌-◌, ◌≡◌, ◌++◌, ℤ, List, length, Bool, true, false, ◌&&◌, nat_lt, Option, Some, None, slice_get}
+use Rattle.std.specs.Prelude.{ℕ, ◌≡◌, ◌++◌, ℤ, List, length}
+use Rattle.std.specs.List.{filter, range_with_len}
 use Rattle.nest_tree.specs.Layout.{cell_count}
 use Rattle.nest_tree.specs.Tree.{Tree}
 use Rattle.nest_model.specs.Memory.{last_memory, output_of}
-use Rattle.nest_model.specs.Visits.{Visit}
-use Rattle.owner_partition.specs.Phases.{phases}
-use Rattle.sync_plan.specs.declared.plan.Kind.{Kind}
-use Rattle.sync_plan.specs.declared.plan.Kind.TheVariants.{Nothing, Producer, Left, Right, Both, Barrier, Join}
+use Rattle.sync_plan.specs.Boundaries.{gathers}
 use Rattle.sync_plan.specs.declared.plan.Plan.{Plan}
 use Rattle.spmd_model.specs.Timelines.{Act, acts_of}
 use Rattle.spmd_model.specs.Sequential.{loaded_at, registers_at, stored_at}
@@ -17,25 +15,9 @@ use Rattle.spmd_model.specs.Reached.{state_at}
 use Rattle.spmd_model.specs.States.{State}
 use Rattle.spmd_laws.specs.Protocols.{Protocol}
 
--- a kind is a barrier; at a join too all wait for all, but each by the others' counters
-abbrev pub is_barrier : Option Kind → Bool
-is_barrier None = false
-is_barrier (Some Nothing) = false
-is_barrier (Some (Producer a)) = false
-is_barrier (Some Left) = false
-is_barrier (Some Right) = false
-is_barrier (Some Both) = false
-is_barrier (Some Barrier) = true
-is_barrier (Some Join) = false
-
--- the kind in front of a phase
-abbrev pub kind_before : Plan → Option Visit → Option Kind
-kind_before plan None = None
-kind_before plan (Some v) = slice_get plan.kinds (v.place - 1)
-
--- a barrier stands in front of the phase with so many phases in front of it, and some processor awaits another there
-abbrev pub gathers : Tree → Plan → ℕ → Bool
-gathers tree plan number = is_barrier (kind_before plan (slice_get (phases tree plan.cut) number)) && nat_lt 1 plan.workers
+-- how many barriers are gathered in front of those with this number of phases in front of them
+abbrev pub barriers_in_front : Tree → Plan → ℕ → ℕ
+barriers_in_front tree plan number = length (filter (gathers tree plan) (range_with_len 0 number))
 
 -- ---- along the plan's timeline, as names that goals show in place of the timeline
 

@@ -10,6 +10,7 @@ ghost use Rattle.nest_model.specs.Instances.{Instance, instances};
 ghost use Rattle.nest_model.specs.Memory.{assigned_value, cell_value, loaded_in, memory_before};
 ghost use Rattle.nest_model.specs.Ranges.{IsInRange};
 ghost use Rattle.owner_partition.specs.Phases.{Execution, executions, phases};
+ghost use Rattle.sync_plan.specs.Boundaries.{gathers};
 ghost use Rattle.sync_plan.specs.Conflicts.{ConflictUnder};
 ghost use Rattle.sync_plan.specs.Fit.{IsFit};
 ghost use Rattle.sync_plan.specs.Ordered.{IsOrdered, owner_under};
@@ -19,10 +20,10 @@ ghost use Rattle.spmd_model.specs.Lawful.{Moves};
 ghost use Rattle.spmd_model.specs.Planned.{jobs_in_front, machine_of};
 ghost use Rattle.spmd_model.specs.Reached.{IsPossibleAt, memory_by};
 ghost use Rattle.spmd_model.specs.States.{State, first_state, stepped};
-ghost use Rattle.spmd_model.specs.Timelines.{Act, load, print, store};
+ghost use Rattle.spmd_model.specs.Timelines.{Act, await, counter, load, post, print, store};
 ghost use Rattle.spmd_laws.specs.Laws.{Laws};
-ghost use Rattle.spmd_laws.specs.Protocols.{act_at, is_passed};
-ghost use Rattle.spmd_laws.specs.Viewed.{AreOfState, protocol_of};
+ghost use Rattle.spmd_laws.specs.Protocols.{act_at, arrivals_at, is_passed};
+ghost use Rattle.spmd_laws.specs.Viewed.{AreOfState, barriers_in_front, protocol_of};
 
 /// For every well-formed program within its limits and in range, and every plan that fits it and is
 /// ordered, the laws hold of the protocol of the program under the plan.
@@ -70,4 +71,11 @@ pub fn shared_cells_are_states()
 pub fn conflicts_in_a_phase()
     ensures { (tree : Tree) → (plan : Plan) → (j k : ℕ) → (x y : Execution) → IsOrdered tree plan → j < k → slice_get (executions tree plan.cut) j ≡ Some x → slice_get (executions tree plan.cut) k ≡ Some y → x.phase ≡ y.phase → ConflictUnder tree plan x y
         → owner_under tree plan x ≡ owner_under tree plan y }
+{}
+
+/// In front of an arrival at a barrier its processor has arrived at all barriers in front of that
+/// one, and in front of an await there at that one too.
+pub fn arrivals_are_barriers()
+    ensures posts { (tree : Tree) → (plan : Plan) → (p n number : ℕ) → p < plan.workers → act_at (protocol_of tree plan) p n ≡ Some (post counter number) → arrivals_at (protocol_of tree plan) p n ≡ barriers_in_front tree plan number }
+    ensures awaits { (tree : Tree) → (plan : Plan) → (p n on wanted : ℕ) → p < plan.workers → act_at (protocol_of tree plan) p n ≡ Some (await counter on wanted) → gathers tree plan wanted ≡ true → arrivals_at (protocol_of tree plan) p n ≡ barriers_in_front tree plan wanted + 1 }
 {}

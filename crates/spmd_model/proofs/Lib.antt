@@ -14,7 +14,7 @@ pub mod StateAt
 pub mod Rounds
 pub mod Quiet
 pub mod Shared
-mod PlannedMoments
+pub mod PlannedMoments
 mod PlannedOrder
 pub mod PlannedMemory
 pub mod PlannedInstances
