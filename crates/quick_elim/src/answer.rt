@@ -42,10 +42,12 @@ pub struct Budget {
     pub steps: usize,
     /// The most values that are tried for one variable at a time.
     pub values: usize,
+    /// The most orders of removal that are tried one after the other, each with all of the above.
+    pub orders: u32,
 }
 
 impl Default for Budget {
-    /// What settled all but 33 of 120,832 systems that planning asks about, and three times as much.
+    /// Three times what the systems of a thousand programs needed in one order.
     fn default() -> Budget {
         Budget {
             vars: 200,
@@ -54,6 +56,7 @@ impl Default for Budget {
             sums: 1000,
             steps: 500,
             values: 6,
+            orders: 200,
         }
     }
 }

@@ -39,9 +39,9 @@ fn guess_point(alloc: Global, work: &Work) -> Result<Guess, AllocError> {
     Ok(Guess::Point(Point::from_vec(values)))
 }
 
-// Looks for a certificate or a point.
-fn search(alloc: Global, system: &System, budget: &Budget) -> Result<Guess, AllocError> {
-    let mut work = match Work::new(alloc, system, budget) {
+// Looks for a certificate or a point in an order.
+fn look(alloc: Global, system: &System, budget: &Budget, order: u32) -> Result<Guess, AllocError> {
+    let mut work = match Work::new(alloc, system, budget, order) {
         Ok(work) => work,
         Err(Stop::NoMemory) => return Err(AllocError),
         Err(_) => return Ok(Guess::Nothing),
@@ -83,6 +83,22 @@ fn checked_point(system: &System, point: Point) -> Settled
     }
 }
 
+// What is found of a system in an order, and checked.
+fn settle_in(
+    alloc: Global,
+    system: &System,
+    budget: &Budget,
+    order: u32,
+) -> Result<Settled, NoMemory>
+    ensures { IfOk result (IsSettled system.now) }
+{
+    match look(alloc, system, budget, order)? {
+        Guess::Certificate(certificate) => checked_certificate(alloc, system, certificate),
+        Guess::Point(point) => Ok(checked_point(system, point)),
+        Guess::Nothing => Ok(Settled::Unknown),
+    }
+}
+
 /// Looks for what settles a system, within a budget.
 ///
 /// Refuted comes with a certificate that is good for the system, so that it has no whole solution;
@@ -92,9 +108,11 @@ fn checked_point(system: &System, point: Point) -> Settled
 pub fn settle(alloc: Global, system: &System, budget: &Budget) -> Result<Settled, NoMemory>
     ensures { IfOk result (IsSettled system.now) }
 {
-    match search(alloc, system, budget)? {
-        Guess::Certificate(certificate) => checked_certificate(alloc, system, certificate),
-        Guess::Point(point) => Ok(checked_point(system, point)),
-        Guess::Nothing => Ok(Settled::Unknown),
+    for order in 0..budget.orders {
+        match settle_in(alloc, system, budget, order)? {
+            Settled::Unknown => {}
+            settled => return Ok(settled),
+        }
     }
+    Ok(Settled::Unknown)
 }

@@ -13,6 +13,8 @@ use std::mem;
 #[derive(Drop)]
 pub(crate) struct Work {
     pub budget: Budget,
+    /// In which order variables are removed, from 0.
+    pub order: u32,
     /// How many rows were given.
     pub given: usize,
     pub vars: usize,
@@ -35,6 +37,24 @@ struct Tally {
     lowers: i64,
     rough_uppers: i64,
     rough_lowers: i64,
+}
+
+/// What a rough removal costs more than any other.
+const ROUGH: i64 = 1 << 32;
+
+/// What numbers are multiplied by to look random: odd, and with no pattern.
+const FACTOR: u64 = 0x9E37_79B9_7F4A_7C15;
+
+// What a variable's removal costs more in an order, so that orders differ: nothing in order 0, and up to
+// two or ten rows in the others.
+fn handicap(order: u32, variable: usize) -> i64 {
+    if order == 0 {
+        return 0;
+    }
+    let seed = u64::from(order).wrapping_mul(FACTOR);
+    let mixed = (variable as u64).wrapping_add(seed).wrapping_mul(FACTOR);
+    let spread = if order % 2 == 0 { 8 } else { 40 };
+    ((mixed >> 40) % spread) as i64
 }
 
 impl Tally {
@@ -61,8 +81,8 @@ impl Tally {
         }
     }
 
-    // What its removal costs, None where no row has the variable: four for each row more, and a bit where
-    // coefficients on both sides make it rough.
+    // What its removal costs, None where no row has the variable: four for each row more, and much where
+    // neither side has coefficients 1 and -1 alone, since whole solutions may come in between then.
     fn cost(self) -> Option<i64> {
         let Tally { uppers, lowers, .. } = self;
         let having = uppers.saturating_add(lowers);
@@ -74,20 +94,26 @@ impl Tally {
         if self.rough_uppers == 0 || self.rough_lowers == 0 {
             Some(cost)
         } else {
-            Some(cost.saturating_add(uppers.min(lowers)))
+            Some(cost.saturating_add(ROUGH))
         }
     }
 }
 
 impl Work {
-    /// The rows of a system, within a budget.
-    pub(crate) fn new(alloc: Global, system: &System, budget: &Budget) -> Result<Self, Stop> {
+    /// A system at work within a budget, in an order.
+    pub(crate) fn new(
+        alloc: Global,
+        system: &System,
+        budget: &Budget,
+        order: u32,
+    ) -> Result<Self, Stop> {
         let vars = system.vars() as usize;
         if vars > budget.vars || system.rows().len() > budget.rows {
             return Err(Stop::GivenUp);
         }
         Ok(Work {
             budget: *budget,
+            order,
             given: system.rows().len(),
             vars,
             rows: Vec::new(alloc),
@@ -312,6 +338,7 @@ impl Work {
         let mut least = i64::MAX;
         for (variable, tally) in tallies.iter().enumerate() {
             if let Some(cost) = tally.cost() {
+                let cost = cost.saturating_add(handicap(self.order, variable));
                 if cost < least {
                     least = cost;
                     best = Some(variable);
