@@ -41,6 +41,5 @@ mod SystemParts
 pub mod ShapeParts
 mod SmallLoops
 mod Steps
-mod Heads
 mod Looks
 mod RowSteps

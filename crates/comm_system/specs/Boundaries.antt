@@ -1,5 +1,6 @@
 -- The boundaries that stand certainly between two instances.
 use Rattle.std.specs.Prelude.{ℕ, suc, ◌==◌, Bool, true, false, ◌&&◌, not, nat_le, nat_lt, List, [], ◌∷◌, ◌++◌, length, if◌then◌else◌}
+pub use Rattle.nest_rows.specs.InCommon.{is_prefix}
 use Rattle.nest_tree.specs.Tree.{Head}
 use Rattle.comm_system.specs.References.{StaticPhase}
 
@@ -12,12 +13,6 @@ pub data Side : Type 0 where
 pub record Boundary : Type 0 where
   pub phase : ℕ
   pub side : Side
-
--- these loops are the first of those
-abbrev pub is_prefix : List Head → List Head → Bool
-is_prefix [] others = true
-is_prefix (h ∷ heads) [] = false
-is_prefix (h ∷ heads) (g ∷ others) = h.number == g.number && is_prefix heads others
 
 -- behind the first instance: at level 0 in front of a phase behind s, up to t; carried by a loop, in front of a phase behind s inside that loop; its Outer loops are the first of those round s
 abbrev pub is_behind_first : List Head → ℕ → ℕ → ℕ → ℕ → List Head → Bool

@@ -16,7 +16,6 @@ pub mod SignatureViews
 pub mod RowViews
 pub mod OwnerViews
 pub mod Certain
-pub mod LoopsAt
 pub mod SmallSteps
 pub mod Subjects
 pub mod SubjectViews

@@ -30,11 +30,11 @@ use crate::pieces::{Direction, Piece};
 use crate::producer::Side;
 use crate::reference::Reference;
 use crate::rows::{Order, apart, push_pair, unknowns};
-use crate::slot::{Slot, common};
+use crate::slot::Slot;
 use crate::waits::Waits;
-use farkas_cert::{Coefs, NarrowSystem, Row, System};
-use nest_rows::Constraint;
+use farkas_cert::{NarrowSystem, Row, System};
 use nest_rows::rows::row;
+use nest_rows::{Constraint, common};
 use nest_tree::{Affine, Pairs, Program};
 use owner_partition::{Anchor, Dist};
 use std::alloc::{AllocError, Global};
@@ -71,21 +71,6 @@ fn unknowns_of_pair(program: &Program, a: &Reference, b: &Reference) -> Result<U
         }
         _ => Err(AllocError),
     }
-}
-
-// A copy of a system.
-fn copied(alloc: Global, system: &System) -> Result<System, AllocError>
-    ensures { IfOk result (λ copy. copy ≡ system.now) }
-{
-    let mut copy = System::empty(alloc, system.vars());
-    for row in system.rows() {
-        let coefs = Coefs::from_slice(alloc, row.coefs.as_slice())?;
-        copy.push(Row {
-            coefs,
-            bound: row.bound,
-        })?;
-    }
-    Ok(copy)
 }
 
 // Two trips of a loop inside so many Outer loops. So many that their number passes 29 bits have no
@@ -130,7 +115,7 @@ pub fn trips_obligation(
     )?;
     Ok(Obligation {
         number,
-        system: copied(alloc, system.as_system())?,
+        system: system.as_system().copy(alloc)?,
         lines: (a.line, b.line),
         variable: a.target.variable(),
         level: 0,
@@ -365,7 +350,7 @@ fn copy_of(alloc: Global, obligation: &Obligation) -> Result<Obligation, AllocEr
 {
     Ok(Obligation {
         number: obligation.number,
-        system: copied(alloc, &obligation.system)?,
+        system: obligation.system.copy(alloc)?,
         lines: obligation.lines,
         variable: obligation.variable,
         level: obligation.level,

@@ -22,7 +22,7 @@ ghost use Rattle.comm_system.specs.RowViews.{bounds_have, condition_of, free_at,
 
 use crate::reference::{Reference, Target};
 use farkas_cert::NarrowSystem;
-use nest_rows::groups::{push_constants, push_guard, push_loops};
+use nest_rows::groups::{bounded, push_constants, push_guard, push_loops};
 use nest_rows::rows::push_row;
 use nest_rows::terms::push_form;
 use nest_rows::{Around, Constraint, Sign};
@@ -215,19 +215,6 @@ fn push_bounds(
     let (low, high) = bounds;
     push_row(alloc, system, &bounded(alloc, Sign::Plus, unknown, high)?)?;
     push_row(alloc, system, &bounded(alloc, Sign::Minus, unknown, low)?)
-}
-
-// An unknown, with this sign, is at most a number, with this sign.
-fn bounded(alloc: Global, sign: Sign, unknown: u32, most: i64) -> Result<Constraint, AllocError>
-    ensures is { IfOk result (λ c. c ≡ equal_of sign unknown most) }
-    ensures tame { IfOk result (λ c. IsTrue (is_tame c)) }
-{
-    let mut terms = Pairs::new(alloc);
-    terms.push(unknown, sign.of(1))?;
-    Ok(Constraint {
-        terms,
-        bound: sign.of_wide(most),
-    })
 }
 
 // An access's instance: its loops, whose first value has this number, its free subscripts, and its

@@ -1,18 +1,16 @@
 // Slots: two static phases and a level.
 
 ghost use Rattle.std.specs.Prelude.{◌≡◌, ◌≤◌, drop, length};
-ghost use Rattle.comm_system.specs.Boundaries.{is_before_second as stands_before_second, is_behind_first as stands_behind_first, is_prefix as are_first_of};
-ghost use Rattle.comm_system.specs.Levels.{common as in_common};
+ghost use Rattle.comm_system.specs.Boundaries.{is_before_second as stands_before_second, is_behind_first as stands_behind_first};
 ghost use Rattle.comm_system.specs.Certain.{is_certain as stands_certain};
 ghost use Rattle.comm_system.specs.SideViews.{side_seen};
-ghost use Rattle.comm_system.specs.LoopsAt.{first_has};
 ghost use Rattle.comm_system.specs.PhaseViews.{phase_seen};
 ghost use Rattle.comm_system.specs.SlotViews.{slot_seen};
 ghost use Rattle.nest_rows.specs.Views.{heads_of};
 
 use crate::phase::Phase;
 use crate::producer::Side;
-use nest_rows::Around;
+use nest_rows::{Around, is_prefix};
 
 /// Two static phases by their numbers, from 1, and a level: the common loop, from 1, that is at an
 /// earlier trip for the first; 0 where all common loops are equal.
@@ -23,38 +21,6 @@ pub struct Slot<'b, 'a> {
     pub t: u32,
     pub second: &'b Phase<'a>,
     pub level: u32,
-}
-
-// Whether the loop with this number stands at this place, from 0.
-fn is_loop_at(loops: &[Around], place: usize, number: u32) -> bool
-    ensures { result ≡ first_has (heads_of (drop place loops.now)) number }
-{
-    place < loops.len() && number == loops[place].nest.number
-}
-
-// Whether these loops are the first of those.
-pub(crate) fn is_prefix(these: &[Around], those: &[Around]) -> bool
-    ensures { result ≡ are_first_of (heads_of these.now) (heads_of those.now) }
-{
-    for (index, one) in these.iter().enumerate() {
-        if !is_loop_at(those, index, one.nest.number) {
-            return false;
-        }
-    }
-    true
-}
-
-// How many loops two phases have in common.
-pub(crate) fn common(these: &[Around], those: &[Around]) -> usize
-    ensures common { result ≡ in_common (heads_of these.now) (heads_of those.now) }
-    ensures these { result ≤ length these.now }
-{
-    for (index, one) in these.iter().enumerate() {
-        if !is_loop_at(those, index, one.nest.number) {
-            return index;
-        }
-    }
-    these.len()
 }
 
 impl Slot<'_, '_> {

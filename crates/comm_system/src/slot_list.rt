@@ -7,7 +7,8 @@ ghost use Rattle.comm_system.specs.PhaseViews.{phase_seen};
 ghost use Rattle.comm_system.specs.SlotViews.{at_level, slot_seen};
 
 use crate::phase::Phase;
-use crate::slot::{Slot, common};
+use crate::slot::Slot;
+use nest_rows::common;
 use std::alloc::{AllocError, Global};
 
 /// The slots of these static phases, in order: the second phase, the first, the level. Two phases
