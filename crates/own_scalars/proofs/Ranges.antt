@@ -1,8 +1,8 @@
 -- What passes a test among the numbers below one, number by number.
-use Rattle.std.proofs.Common.{◌≡◌, ℕ, zero, suc, ◌+◌, ◌<◌, ◌≤◌, Bool, true, false, List, [], ◌∷◌, ◌++◌, length, cond, ◌==◌, refl, true≢false, ap, sym, ◌∙◌, inl, inr, arith}
+use Rattle.std.proofs.Common.{◌≡◌, ℕ, zero, suc, ◌+◌, ◌<◌, ◌≤◌, Bool, true, false, List, [], ◌∷◌, ◌++◌, length, cond, ◌==◌, refl, true≢false, subst, ap, sym, ◌∙◌, inl, inr, arith}
 use Rattle.std.proofs.lemmas.Bool.{cases_eq, eqb-true}
-use Rattle.std.specs.List.{filter, range_with_len}
-use Rattle.std.proofs.lemmas.List.Elements.{filter-append}
+use Rattle.std.specs.List.{Contains, filter, range_with_len}
+use Rattle.std.proofs.lemmas.List.Elements.{Contains-append_right, filter-append}
 
 split : (a n k : ℕ) → range_with_len a (n + k) ≡ range_with_len a n ++ range_with_len (a + n) k
 split a zero k =
@@ -34,6 +34,7 @@ pub record Front (p : ℕ → Bool) (n m : ℕ) : Type 0 where
   pub behind : List ℕ
   pub all : filter p (range_with_len 0 m) ≡ filter p (range_with_len 0 n) ++ behind
   pub one : p n ≡ true → 1 ≤ length behind
+  pub first : p n ≡ true → Contains behind n
 
 pub front_of : (p : ℕ → Bool) (n m : ℕ) → n < m → Front p n m
 front_of p n m lt =
@@ -42,6 +43,7 @@ front_of p n m lt =
       behind = filter p (range_with_len n (suc k));
       all = ap (λ x. filter p (range_with_len 0 x)) is ∙ kept_front p n (suc k);
       one = λ passed. let first = ap (λ b. length (cond b (n ∷ filter p (range_with_len (n + 1) k)) (filter p (range_with_len (n + 1) k)))) passed in omega (arith, first);
+      first = λ passed. subst (λ b. Contains (cond b (n ∷ filter p (range_with_len (n + 1) k)) (filter p (range_with_len (n + 1) k))) n) (sym passed) (0, omega arith, refl);
     }
   where
     rest : (n m : ℕ) → n < m → (k : ℕ) × (m ≡ n + suc k)
@@ -61,3 +63,9 @@ is_filled n full is filled = eqb-true n 16 (sym is ∙ filled)
 
 pub too_many : (n m k l : ℕ) → n ≡ m → m ≡ k + l → k ≡ 16 → 1 ≤ l → n ≤ 16 → false ≡ true
 too_many n m k l same sum full one few = absurd (omega arith)
+
+-- what passes below a number is there
+pub there : (p : ℕ → Bool) (n m : ℕ) → n < m → p n ≡ true → Contains (filter p (range_with_len 0 m)) n
+there p n m lt passes =
+    let front = front_of p n m lt in
+    subst (λ xs. Contains xs n) (sym front.all) (Contains-append_right (filter p (range_with_len 0 n)) front.behind n (front.first passes))

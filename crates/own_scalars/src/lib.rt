@@ -1,9 +1,11 @@
 //! Which scalars of a loop each processor may have a cell of its own for.
 //!
 //! - [`scalars`]: sum scalars, which a loop only adds to, and private ones, which it stores first.
+//! - [`laws`]: the lists have all of them, and no scalar is both.
 #![tactic(auto)]
 
 mod expressions;
+pub mod laws;
 pub mod scalars;
 mod works;
 
