@@ -86,16 +86,6 @@ pub fn is_empty(row: &Row) -> bool
     are_zero(row.coefs.as_slice())
 }
 
-/// The same row. An error says that memory ran out.
-pub fn copy_of(alloc: Global, row: &Row) -> Result<Row, AllocError>
-    ensures { IfOk result (λ copy. copy ≡ row.now) }
-{
-    Ok(Row {
-        coefs: Coefs::from_slice(alloc, row.coefs.as_slice())?,
-        bound: row.bound,
-    })
-}
-
 // Where a given row, with its number, comes from when it is divided.
 fn given_origin(number: u64, divisor: i128) -> Origin
     ensures { result ≡ origin_of number divisor }
@@ -239,8 +229,8 @@ pub fn next_level(
     let above = uppers.as_slice();
     let below = lowers.as_slice();
     if let Some((upper, lower)) = wide_pair(above, below, variable) {
-        let upper = copy_of(alloc, &upper.row)?;
-        let lower = copy_of(alloc, &lower.row)?;
+        let upper = upper.row.copy(alloc)?;
+        let lower = lower.row.copy(alloc)?;
         return Ok(Formed::Wide(upper, lower));
     }
     let mut table = apart;
