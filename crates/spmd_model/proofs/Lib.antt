@@ -20,3 +20,4 @@ pub mod PlannedMemory
 pub mod PlannedInstances
 pub mod PlannedSound
 pub mod Deeds
+mod Examples

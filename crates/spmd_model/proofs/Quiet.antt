@@ -8,7 +8,7 @@ use Rattle.std.proofs.lemmas.List.Elements.{All-head, All-nil, All-tail, All-con
 use Rattle.std.proofs.lemmas.List.Sums.{fold-append}
 use Rattle.spmd_model.specs.Timelines.{Act, post, await, load, store, add, print, Machine, Word, counter, signal, acts_of}
 use Rattle.spmd_model.specs.States.{State, acted, first_state, is_possible, moved, next_act, stepped, stepped_by}
-use Rattle.spmd_model.specs.Quiet.{first_turn, is_quiet, quiet_first, quiet_next, settled, turned, turns_of}
+use Rattle.spmd_model.specs.Quiet.{first_turn, is_quiet, quiet_first, quiet_next, past_quiet, turned, turns_of}
 use Rattle.spmd_model.specs.Reached.{HasCome}
 use Rattle.spmd_model.proofs.Runs.{come_first, come_stepped}
 
@@ -35,17 +35,17 @@ then_leads m s t u a b = record {
   is = b.is ∙ ap (λ x. fold (stepped m) x b.schedule) a.is ∙ sym (fold-append (stepped m) s a.schedule b.schedule);
 }
 
-settles : (m : Machine) (shared : ℕ) (s : State) (p : ℕ) → p < m.workers → Leads m s (settled m shared s p)
+settles : (m : Machine) (shared : ℕ) (s : State) (p : ℕ) → p < m.workers → Leads m s (past_quiet m shared s p)
 settles m shared s p lt = record { schedule = replicate (quiet_next m shared s p) p; workers = all_same (λ q. q < m.workers) (quiet_next m shared s p) p lt; is = refl }
 
 one_step : (m : Machine) (s : State) (p : ℕ) → p < m.workers → Leads m s (stepped m s p)
 one_step m s p lt = record { schedule = p ∷ []; workers = All-cons (λ q. q < m.workers) p [] lt (All-nil (λ q. q < m.workers)); is = refl }
 
-all_settle : (m : Machine) (shared a n : ℕ) (s : State) → a + n ≤ m.workers → Leads m s (fold (settled m shared) s (range_with_len a n))
+all_settle : (m : Machine) (shared a n : ℕ) (s : State) → a + n ≤ m.workers → Leads m s (fold (past_quiet m shared) s (range_with_len a n))
 all_settle m shared a zero s le = record { schedule = []; workers = All-nil (λ q. q < m.workers); is = refl }
 all_settle m shared a (suc n) s le =
     let one = settles m shared s a (omega (arith, le)) in
-    then_leads m s (settled m shared s a) (fold (settled m shared) s (range_with_len a (suc n))) one (all_settle m shared (a + 1) n (settled m shared s a) (omega (arith, le)))
+    then_leads m s (past_quiet m shared s a) (fold (past_quiet m shared) s (range_with_len a (suc n))) one (all_settle m shared (a + 1) n (past_quiet m shared s a) (omega (arith, le)))
 
 turns_lead : (m : Machine) (shared : ℕ) (schedule : List ℕ) (s : State) → All (λ p. p < m.workers) schedule → Leads m s (fold (turned m shared) s schedule)
 turns_lead m shared [] s all = record { schedule = []; workers = All-nil (λ q. q < m.workers); is = refl }
@@ -148,16 +148,16 @@ AreSettled m shared s a b = (p : ℕ) → a ≤ p → p < b → quiet_next m sha
 same_next : (m : Machine) (shared : ℕ) (s t : State) (q : ℕ) → slice_index t.positions q ≡ slice_index s.positions q → quiet_next m shared t q ≡ quiet_next m shared s q
 same_next m shared s t q same = ap (λ n. quiet_first shared (drop n (acts_of m q))) same
 
-all_settled : (m : Machine) (shared a n : ℕ) (s : State) → a + n ≤ m.workers → HasCome m s → AreSettled m shared s 0 a → AreSettled m shared (fold (settled m shared) s (range_with_len a n)) 0 (a + n)
+all_settled : (m : Machine) (shared a n : ℕ) (s : State) → a + n ≤ m.workers → HasCome m s → AreSettled m shared s 0 a → AreSettled m shared (fold (past_quiet m shared) s (range_with_len a n)) 0 (a + n)
 all_settled m shared a zero s le come before = λ p low high. before p low (omega (arith, high))
 all_settled m shared a (suc n) s le come before =
     let here = settles_all m shared a (drop (slice_index s.positions a) (acts_of m a)) s (omega (arith, le)) come refl in
     let count : a + suc n ≡ a + 1 + n = omega arith in
-    subst (λ k. AreSettled m shared (fold (settled m shared) (settled m shared s a) (range_with_len (a + 1) n)) 0 k) (sym count)
-    (all_settled m shared (a + 1) n (settled m shared s a) (omega (arith, le)) (come_led m s (settled m shared s a) come (settles m shared s a (omega (arith, le))))
+    subst (λ k. AreSettled m shared (fold (past_quiet m shared) (past_quiet m shared s a) (range_with_len (a + 1) n)) 0 k) (sym count)
+    (all_settled m shared (a + 1) n (past_quiet m shared s a) (omega (arith, le)) (come_led m s (past_quiet m shared s a) come (settles m shared s a (omega (arith, le))))
     (λ p low high. elim (cases_eq p a) [
-      | inl same ↦ subst (λ x. quiet_next m shared (settled m shared s a) x ≡ 0) (sym same) here.0
-      | inr ne ↦ same_next m shared s (settled m shared s a) p (here.1 p ne) ∙ before p low (omega (arith, high, ne))
+      | inl same ↦ subst (λ x. quiet_next m shared (past_quiet m shared s a) x ≡ 0) (sym same) here.0
+      | inr ne ↦ same_next m shared s (past_quiet m shared s a) p (here.1 p ne) ∙ before p low (omega (arith, high, ne))
     ]))
 
 turns_settled : (m : Machine) (shared : ℕ) (schedule : List ℕ) (s : State) → All (λ p. p < m.workers) schedule → HasCome m s → AreSettled m shared s 0 m.workers → AreSettled m shared (fold (turned m shared) s schedule) 0 m.workers

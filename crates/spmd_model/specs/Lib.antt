@@ -10,3 +10,4 @@ pub mod Quiet
 pub mod Shared
 pub mod Planned
 pub mod Deeds
+pub mod Examples

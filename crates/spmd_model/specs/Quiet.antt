@@ -22,15 +22,15 @@ abbrev pub quiet_next : Machine → ℕ → State → ℕ → ℕ
 quiet_next m shared s p = quiet_first shared (drop (slice_index s.positions p) (acts_of m p))
 
 -- behind the quiet acts of p that stand next
-abbrev pub settled : Machine → ℕ → State → ℕ → State
-settled m shared s p = fold (stepped m) s (replicate (quiet_next m shared s p) p)
+abbrev pub past_quiet : Machine → ℕ → State → ℕ → State
+past_quiet m shared s p = fold (stepped m) s (replicate (quiet_next m shared s p) p)
 
 abbrev pub turned : Machine → ℕ → State → ℕ → State
-turned m shared s p = settled m shared (stepped m s p) p
+turned m shared s p = past_quiet m shared (stepped m s p) p
 
 -- the first state, with the leading quiet acts of each processor done, and the state behind a schedule of turns
 abbrev pub first_turn : Machine → ℕ → State
-first_turn m shared = fold (settled m shared) (first_state m) (range_with_len 0 m.workers)
+first_turn m shared = fold (past_quiet m shared) (first_state m) (range_with_len 0 m.workers)
 
 abbrev pub turns_of : Machine → ℕ → List ℕ → State
 turns_of m shared schedule = fold (turned m shared) (first_turn m shared) schedule
