@@ -12,7 +12,8 @@ use Rattle.sync_plan.specs.declared.plan.Plan.{Plan}
 use Rattle.spmd_model.specs.Timelines.{counter}
 use Rattle.spmd_model.specs.Deeds.{Deed, awaiting}
 use Rattle.spmd_machine.specs.Processors.{IsBegun, IsIdle, IsKept, PassesTurn, all_of, left_of, room_of}
-use Rattle.spmd_turns.specs.Turns.{Turn, awaits, is_turn_inside, posts, turn_deeds, works}
+use Rattle.spmd_turns.proofs.TurnDeeds.{unseen_deeds, unseen_inside, unseen_room}
+use Rattle.spmd_turns.specs.Turns.{begins, without_beginnings, Turn, awaits, is_turn_inside, posts, turn_deeds, works}
 use Rattle.spmd_turns.specs.TurnsLeft.{AreSound, at_turn, turns_left, turns_plan, turns_processor, turns_tree}
 use Rattle.spmd_machine.specs.declared.processor.Processor.{Processor}
 use Rattle.spmd_turns.specs.declared.turns.Turns.{Turns}
@@ -29,6 +30,7 @@ pub idle_begun : (entries : List WorkCells) → AreWide entries → (turns : Lis
 idle_begun entries wide [] done load element idle = idle
 idle_begun entries wide (posts n ∷ rest) done load element idle = idle
 idle_begun entries wide (awaits on n ∷ rest) done load element idle = idle
+idle_begun entries wide (begins e ∷ rest) done load element idle = idle
 idle_begun entries wide (works i ∷ rest) done load element idle = λ cells at. record {
   counted = let none : widths (take load cells.loads.items) ≡ 0 = ap (λ k. widths (take k cells.loads.items)) idle.first_load in omega (arith, none, idle.first_element, idle.none_done);
   within = λ l there.
@@ -37,12 +39,24 @@ idle_begun entries wide (works i ∷ rest) done load element idle = λ cells at.
   over = λ none. no_loads cells.loads.items (ap (slice_get cells.loads.items) (sym idle.first_load) ∙ none) ∙ sym idle.none_done;
 }
 
+-- where a phase begins nothing is loaded
+begun_unseen : (entries : List WorkCells) → AreWide entries → (turns : List Turn) (done load element : ℕ) → IsBegun entries turns done load element → IsBegun entries (without_beginnings turns) done load element
+begun_unseen entries wide [] done load element h = h
+begun_unseen entries wide (posts n ∷ rest) done load element h = h
+begun_unseen entries wide (awaits on n ∷ rest) done load element h = h
+begun_unseen entries wide (begins e ∷ rest) done load element idle = idle_begun entries wide (without_beginnings rest) done load element idle
+begun_unseen entries wide (works i ∷ rest) done load element h = h
+
 -- the deeds that are left where nothing is loaded
 pub left_idle : (x : Processor) → length x.registers.items ≡ 0 → left_of x ≡ flat_map (turn_deeds (turns_tree x.turns)) (turns_left x.turns)
 unfolding left_of
 left_idle x none = ap (λ n. drop n (flat_map (turn_deeds (turns_tree x.turns)) (turns_left x.turns))) none
 
--- the room of turns that stay
+-- the room of turns that stay, and where phases begin unseen
+pub looked_room : (tree : Tree) (x y : Processor) → turns_left y.turns ≡ without_beginnings (turns_left x.turns) → room_of tree y ≡ room_of tree x
+unfolding room_of
+looked_room tree x y turns = ap (sum_by (turn_room tree)) turns ∙ unseen_room tree (turns_left x.turns)
+
 pub same_room : (tree : Tree) (x y : Processor) → turns_left y.turns ≡ turns_left x.turns → room_of tree y ≡ room_of tree x
 unfolding room_of
 same_room tree x y turns = ap (sum_by (turn_room tree)) turns
@@ -61,20 +75,21 @@ module _ (tree : Tree) (plan : Plan) (entries : List WorkCells) (p : ℕ) (x : P
   }
 
   -- the cursor has looked for what comes next
-  pub looked_left : (t : Turns) → turns_tree t ≡ turns_tree x.turns → turns_left t ≡ turns_left x.turns → left_of (record x { turns = t }) ≡ left_of x
+  pub looked_left : (t : Turns) → turns_tree t ≡ turns_tree x.turns → turns_left t ≡ without_beginnings (turns_left x.turns) → left_of (record x { turns = t }) ≡ left_of x
   unfolding left_of
   looked_left t program turns =
       ap (λ (w : Tree). drop (length x.registers.items) (flat_map (turn_deeds w) (turns_left t))) program ∙ ap (λ ts. drop (length x.registers.items) (flat_map (turn_deeds (turns_tree x.turns)) ts)) turns
+      ∙ ap (drop (length x.registers.items)) (unseen_deeds (turns_tree x.turns) (turns_left x.turns))
 
-  pub looked_kept : (t : Turns) → AreSound t → turns_tree t ≡ turns_tree x.turns → turns_plan t ≡ turns_plan x.turns → turns_processor t ≡ turns_processor x.turns → turns_left t ≡ turns_left x.turns → IsKept tree plan entries p (record x { turns = t })
-  looked_kept t sound program plan_is processor turns = record {
+  pub looked_kept : AreWide entries → (t : Turns) → AreSound t → turns_tree t ≡ turns_tree x.turns → turns_plan t ≡ turns_plan x.turns → turns_processor t ≡ turns_processor x.turns → turns_left t ≡ without_beginnings (turns_left x.turns) → IsKept tree plan entries p (record x { turns = t })
+  looked_kept wide t sound program plan_is processor turns = record {
     sound = sound;
     program = program ∙ kept.program;
     plan_is = plan_is ∙ kept.plan_is;
     processor = processor ∙ kept.processor;
     behind = suffix_at (all_of tree plan p) (left_of x) (left_of (record x { turns = t })) (looked_left t program turns) kept.behind;
-    begun = subst (λ ts. IsBegun entries ts (length x.registers.items) x.load x.element) (sym turns) kept.begun;
-    inside = ap (list_all (is_turn_inside tree)) turns ∙ kept.inside;
+    begun = subst (λ ts. IsBegun entries ts (length x.registers.items) x.load x.element) (sym turns) (begun_unseen entries wide (turns_left x.turns) (length x.registers.items) x.load x.element kept.begun);
+    inside = ap (list_all (is_turn_inside tree)) turns ∙ unseen_inside tree (turns_left x.turns) ∙ kept.inside;
     room = kept.room;
   }
 
@@ -104,13 +119,6 @@ module _ (tree : Tree) (plan : Plan) (entries : List WorkCells) (p : ℕ) (x : P
   end_idle is =
       let idle : IsIdle (length x.registers.items) x.load x.element = subst (λ ts. IsBegun entries ts (length x.registers.items) x.load x.element) is kept.begun in
       left_idle x idle.none_done ∙ ap (flat_map (turn_deeds (turns_tree x.turns))) is
-
--- something comes next
-pub some_turn : (c : Turns) (t : Turn) (rest : List Turn) → turns_left c ≡ t ∷ rest → (at_turn c ≡ false → turns_left c ≡ []) → at_turn c ≡ true
-some_turn c t rest is end = elim (cases_Bool (at_turn c)) [
-  | inl yes_it_does ↦ yes_it_does
-  | inr none ↦ absurd (let no : t ∷ rest ≡ [] = sym is ∙ end none in cc)
-]
 
 -- the first of a list is one element
 pub first_is : {X : Type 0} (xs : List X) (x y : X) (rest rest' : List X) → xs ≡ x ∷ rest → xs ≡ y ∷ rest' → (x ≡ y) × (rest ≡ rest')

@@ -9,7 +9,7 @@ use Rattle.spmd_model.specs.Deeds.{Deed, deeds_from}
 use Rattle.spmd_model.specs.States.{State}
 use Rattle.spmd_turns.specs.Loads.{IsLoading, widths}
 use Rattle.spmd_turns.specs.Rooms.{turn_room}
-use Rattle.spmd_turns.specs.Turns.{Turn, is_turn_inside, posts, awaits, works, turn_deeds, turns_from}
+use Rattle.spmd_turns.specs.Turns.{Turn, is_turn_inside, posts, awaits, begins, works, turn_deeds, turns_from}
 use Rattle.spmd_turns.specs.TurnsLeft.{AreSound, turns_left, turns_plan, turns_processor, turns_tree}
 use Rattle.spmd_machine.specs.declared.processor.Processor.{Processor}
 
@@ -46,6 +46,7 @@ abbrev pub IsBegun : List WorkCells → List Turn → ℕ → ℕ → ℕ → Ty
 IsBegun entries [] done load element = IsIdle done load element
 IsBegun entries (posts number ∷ rest) done load element = IsIdle done load element
 IsBegun entries (awaits on wanted ∷ rest) done load element = IsIdle done load element
+IsBegun entries (begins e ∷ rest) done load element = IsIdle done load element
 IsBegun entries (works i ∷ rest) done load element = (cells : WorkCells) → slice_get entries (i.statement - 1) ≡ Some cells → IsLoading cells.loads.items done load element
 
 unfoldable pub room_of : Tree → Processor → ℕ

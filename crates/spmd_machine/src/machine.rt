@@ -48,6 +48,7 @@ impl<'a> Machine<'a> {
     ghost use Rattle.spmd_model.specs.States.{IsEnded, first_state, next_act, stepped};
     ghost use Rattle.spmd_model.specs.Timelines.{load};
     ghost use Rattle.spmd_machine.specs.Promises.{acts_to_go, can_step, one_round, rounds};
+    ghost use Rattle.spmd_turns.specs.TurnsLeft.{IsAct};
     ghost use Rattle.spmd_machine.specs.Machines.{AreLoadsDone, AreLoadsLeft, ComesNext, IsReady, StepsTo, model_of, plan_in, shown, step_answer, tree_in};
 
     /// The first state: nothing is done, and all is 0 or empty. What a run can need is reserved.
@@ -112,22 +113,24 @@ impl<'a> Machine<'a> {
             Next::Post(number) => self.post(p, number),
             Next::Await { on, wanted } => self.await_counter(p, on, wanted),
             Next::Work(stop) => self.work(p, stop),
+            Next::Phase(_) => unreachable!(),
             Next::End => StepAnswer::Ended,
         }
     }
 
-    // The turn that comes next.
+    // The act or the instance that comes next.
     fn peek(&mut self, p: usize) -> Next<'a>
         requires ready { IsReady self.old }
         requires worker { p < length self.old.processors.items }
         ensures ready { IsReady self.new }
         ensures next { ComesNext self.new p result }
+        ensures act { IsAct result }
         ensures count { length self.new.processors.items ≡ length self.old.processors.items }
         ensures state { shown self.new ≡ shown self.old }
         ensures program { tree_in self.new ≡ tree_in self.old }
         ensures plan { plan_in self.new ≡ plan_in self.old }
     {
-        self.processors[p].turns.peek()
+        self.processors[p].turns.peek_act()
     }
 
     // A post.

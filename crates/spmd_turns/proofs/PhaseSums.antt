@@ -19,7 +19,7 @@ use Rattle.sync_plan.specs.declared.plan.Plan.{Plan}
 use Rattle.sync_plan.specs.Waits.{posts_at, waits_for}
 use Rattle.spmd_model.specs.Deeds.{owned_by}
 use Rattle.spmd_turns.specs.Rooms.{instance_room, longest_output, turn_room}
-use Rattle.spmd_turns.specs.Turns.{awaits, boundary_turns, is_turn_inside, phase_turns, posts, turns_from, works}
+use Rattle.spmd_turns.specs.Turns.{awaits, begins, boundary_turns, is_turn_inside, phase_turns, posts, turns_from, works}
 
 -- the phases' instances are the program's
 executed_phases : (params : List ℤ) (e : ℕ) (vs : List Visit) → map (λ (x : Execution). x.instance) (executions_from params e vs) ≡ flat_map (phase_instances params) vs
@@ -116,7 +116,8 @@ module _ (tree : Tree) (plan : Plan) where
       omega (
         arith,
         sum_by-append (turn_room tree) (phase_turns tree plan p e v) (turns_from tree plan p (suc e) vs),
-        sum_by-append (turn_room tree) front (map works (own p v)),
+        sum_by-append (turn_room tree) front (begins e ∷ map works (own p v)),
+        sum_by-cons (turn_room tree) (begins e) (map works (own p v)),
         boundary_room (e - 1) (posts_at tree plan p v.place v.loops) (waits_for tree plan p v.place v.loops),
         works_room (own p v),
       )
@@ -172,7 +173,7 @@ module _ (tree : Tree) (plan : Plan) where
       let qs = waits_for tree plan p v.place v.loops in
       list_all-append (is_turn_inside tree) (phase_turns tree plan p e v) (turns_from tree plan p (suc e) vs)
       ∙ and_from (list_all (is_turn_inside tree) (phase_turns tree plan p e v)) (list_all (is_turn_inside tree) (turns_from tree plan p (suc e) vs))
-      (list_all-append (is_turn_inside tree) (boundary_turns (e - 1) does qs) (map works (own p v))
+      (list_all-append (is_turn_inside tree) (boundary_turns (e - 1) does qs) (begins e ∷ map works (own p v))
       ∙ and_from (list_all (is_turn_inside tree) (boundary_turns (e - 1) does qs)) (list_all (is_turn_inside tree) (map works (own p v))) (boundary_inside (e - 1) does qs) (list_all-map (is_turn_inside tree) works (own p v) ∙ own_inside p v parts.0))
       (turns_inside p (suc e) vs parts.1)
 

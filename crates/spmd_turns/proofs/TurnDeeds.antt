@@ -1,8 +1,9 @@
 -- What turns do is what a phase's deeds are.
-use Rattle.std.proofs.Common.{◌≡◌, ℕ, suc, ◌-◌, Bool, true, false, List, [], ◌∷◌, ◌++◌, map, if◌then◌else◌, refl, ap, ◌∙◌}
+use Rattle.std.proofs.Common.{◌≡◌, ℕ, suc, ◌-◌, Bool, true, false, List, [], ◌∷◌, ◌++◌, map, if◌then◌else◌, refl, ap, ◌∙◌, sum_by, arith}
 use Rattle.std.specs.Prelude.{slice_get}
-use Rattle.std.specs.List.{flat_map}
+use Rattle.std.specs.List.{flat_map, list_all}
 use Rattle.std.proofs.lemmas.Grind.{flat_map-append}
+use Rattle.std.proofs.lemmas.List.Sums.{sum_by-cons}
 use Rattle.nest_tree.specs.Tree.{Tree}
 use Rattle.nest_model.specs.Instances.{Instance}
 use Rattle.nest_model.specs.Visits.{Visit}
@@ -10,7 +11,8 @@ use Rattle.sync_plan.specs.declared.plan.Plan.{Plan}
 use Rattle.sync_plan.specs.Waits.{posts_at, waits_for}
 use Rattle.spmd_model.specs.Deeds.{awaiting, boundary_deeds, deeds_from, instance_deeds, owned_by, phase_deeds, posting}
 use Rattle.spmd_model.specs.Timelines.{counter}
-use Rattle.spmd_turns.specs.Turns.{awaits, posts, works, boundary_turns, phase_turns, turn_deeds, turns_from}
+use Rattle.spmd_turns.specs.Turns.{Turn, awaits, begins, posts, works, boundary_turns, is_turn_inside, phase_turns, turn_deeds, turns_from, without_beginnings}
+use Rattle.spmd_turns.specs.Rooms.{turn_room}
 
 posted : (tree : Tree) (number : ℕ) (does : Bool) → flat_map (turn_deeds tree) (if does then posts number ∷ [] else []) ≡ (if does then posting counter number ∷ [] else [])
 posted tree number true = refl
@@ -35,7 +37,7 @@ in_phase tree plan p e v =
     let does = posts_at tree plan p v.place v.loops in
     let qs = waits_for tree plan p v.place v.loops in
     let own = owned_by tree (slice_get plan.anchors (v.place - 1)) plan.workers p v in
-    flat_map-append (turn_deeds tree) (boundary_turns (e - 1) does qs) (map works own)
+    flat_map-append (turn_deeds tree) (boundary_turns (e - 1) does qs) (begins e ∷ map works own)
     ∙ ap (λ l. l ++ flat_map (turn_deeds tree) (map works own)) (bounded tree (e - 1) does qs)
     ∙ ap (λ l. boundary_deeds counter (e - 1) does qs ++ l) (worked tree own)
 
@@ -45,3 +47,25 @@ turns_do tree plan p e (v ∷ rest) =
     flat_map-append (turn_deeds tree) (phase_turns tree plan p e v) (turns_from tree plan p (suc e) rest)
     ∙ ap (λ l. l ++ flat_map (turn_deeds tree) (turns_from tree plan p (suc e) rest)) (in_phase tree plan p e v)
     ∙ ap (λ l. phase_deeds tree plan p e v ++ l) (turns_do tree plan p (suc e) rest)
+
+-- phases that begin do nothing
+pub unseen_deeds : (tree : Tree) (ts : List Turn) → flat_map (turn_deeds tree) (without_beginnings ts) ≡ flat_map (turn_deeds tree) ts
+unseen_deeds tree [] = refl
+unseen_deeds tree (posts number ∷ rest) = refl
+unseen_deeds tree (awaits on wanted ∷ rest) = refl
+unseen_deeds tree (begins e ∷ rest) = unseen_deeds tree rest
+unseen_deeds tree (works i ∷ rest) = refl
+
+pub unseen_room : (tree : Tree) (ts : List Turn) → sum_by (turn_room tree) (without_beginnings ts) ≡ sum_by (turn_room tree) ts
+unseen_room tree [] = refl
+unseen_room tree (posts number ∷ rest) = refl
+unseen_room tree (awaits on wanted ∷ rest) = refl
+unseen_room tree (begins e ∷ rest) = omega (arith, unseen_room tree rest, sum_by-cons (turn_room tree) (begins e) rest)
+unseen_room tree (works i ∷ rest) = refl
+
+pub unseen_inside : (tree : Tree) (ts : List Turn) → list_all (is_turn_inside tree) (without_beginnings ts) ≡ list_all (is_turn_inside tree) ts
+unseen_inside tree [] = refl
+unseen_inside tree (posts number ∷ rest) = refl
+unseen_inside tree (awaits on wanted ∷ rest) = refl
+unseen_inside tree (begins e ∷ rest) = unseen_inside tree rest
+unseen_inside tree (works i ∷ rest) = refl

@@ -2,7 +2,7 @@
 use Rattle.std.proofs.Common.{◌≡◌, ◌==◌, ◌||◌, not, ℕ, zero, suc, ◌-◌, ◌*◌, ◌%◌, ◌^◌, ◌<◌, ◌≤◌, ℤ, ◌&&◌, nat_le, Bool, true, false, true≢false, is_some, List, [], ◌∷◌, ◌++◌, drop, length, map, Option, Some, None, if◌then◌else◌, refl, ap, sym, ◌∙◌, inl, inr, arith}
 use Rattle.std.specs.Prelude.{slice_get}
 use Rattle.std.specs.List.{list_all}
-use Rattle.std.proofs.lemmas.Bool.{and_from, and_parts, cases_Bool, eqb-true, leb-true, or_parts}
+use Rattle.std.proofs.lemmas.Bool.{and_from, and_parts, cases_Bool, cases_lt, eqb-true, leb-true, or_parts}
 use Rattle.std.proofs.lemmas.Option.{slice_get_within}
 use Rattle.nest_tree.specs.Form.{Form, is_form, reach_within}
 use Rattle.nest_tree.specs.Tree.{Statement, do_loop, work, continue, Tree, param_values}
@@ -35,9 +35,14 @@ use Rattle.sync_plan.specs.ProcessorSets.{members}
 use Rattle.sync_plan.proofs.ProcessorSets.{members-zero, members_first}
 use Rattle.sync_plan.specs.Waits.{posts_at, waits_for}
 use Rattle.spmd_model.specs.Deeds.{owned_by}
-use Rattle.std.proofs.lemmas.List.{append_assoc}
-use Rattle.spmd_turns.specs.Turns.{Turn, awaits, works, boundary_turns, turns_from}
-use Rattle.spmd_turns.specs.TurnsLeft.{IsOne, come_of}
+use Rattle.std.proofs.lemmas.List.{append_assoc, map-append}
+use Rattle.nest_walk.specs.InstancesLeft.{instances_left}
+use Rattle.owner_partition.specs.PhasesLeft.{phases_left, phases_passed}
+use Rattle.spmd_turns.specs.Turns.{Turn, awaits, begins, posts, works, boundary_turns, turns_from, without_beginnings}
+use Rattle.spmd_turns.specs.TurnsLeft.{AreSound, IsAct, IsNext, IsOne, at_turn, begun_by, come_of, turns_left, turns_plan, turns_rounds, turns_tree}
+use Rattle.spmd_turns.specs.declared.turns.Next.{Next}
+use Rattle.spmd_turns.specs.declared.turns.Next.TheVariants.{Post, Await, Phase, Work, End}
+use Rattle.spmd_turns.specs.declared.turns.Turns.{Turns}
 
 -- the element behind so many
 pub drop_at : {X : Type 0} (xs : List X) (k : ℕ) (x : X) (rest : List X) → drop k xs ≡ x ∷ rest → (slice_get xs k ≡ Some x) × (drop (suc k) xs ≡ rest)
@@ -47,16 +52,18 @@ drop_at (y ∷ ys) zero x rest e = let is : y ∷ ys ≡ x ∷ rest = e in (cc, 
 drop_at (y ∷ ys) (suc k) x rest e = drop_at ys k x rest e
 
 -- nothing stands in front
-pub record IsBare (post : Bool) (word : ℕ) (come : Bool) : Type 0 where
+pub record IsBare (post : Bool) (word : ℕ) (begin come : Bool) : Type 0 where
   pub no_post : post ≡ false
   pub no_await : word ≡ 0
+  pub none_begins : begin ≡ false
   pub none_come : come ≡ false
 
-pub bare_parts : (post : Bool) (word : ℕ) (come : Bool) → (post || not (word == 0) || come) ≡ false → IsBare post word come
-bare_parts post word come h =
-    let last = or_parts (post || not (word == 0)) come h in
-    let first = or_parts post (not (word == 0)) last.0 in
-    record { no_post = first.0; no_await = eqb-true word 0 (not_not (word == 0) first.1); none_come = last.1 }
+pub bare_parts : (post : Bool) (word : ℕ) (begin come : Bool) → (post || not (word == 0) || begin || come) ≡ false → IsBare post word begin come
+bare_parts post word begin come h =
+    let last = or_parts (post || not (word == 0) || begin) come h in
+    let middle = or_parts (post || not (word == 0)) begin last.0 in
+    let first = or_parts post (not (word == 0)) middle.0 in
+    record { no_post = first.0; no_await = eqb-true word 0 (not_not (word == 0) first.1); none_begins = middle.1; none_come = last.1 }
   where
     not_not : (b : Bool) → not b ≡ false → b ≡ true
     not_not true h = refl
@@ -123,15 +130,35 @@ await_first number word post later none some small =
     ∙ ap (λ ms. map (λ q. awaits q number) ms ++ later) (members_first word some small)
     ∙ ap (λ b. awaits (trailing_zeros w64 word) number ∷ (boundary_turns number b rest ++ later)) (sym none)
 
-pub work_first : (number word : ℕ) (post : Bool) (tree : Tree) (rounds : List Round) (o : Option Stop) (later : List Turn) → post ≡ false → word ≡ 0 → is_some o ≡ true → IsOne tree rounds o →
-    (t : Turn) × (boundary_turns number post (members word) ++ (map works (come_of tree rounds o) ++ later) ≡ t ∷ (boundary_turns number post (members word) ++ later))
-work_first number word post tree rounds None later none empty come one = absurd (true≢false (sym come))
-work_first number word post tree rounds (Some stop) later none no_word come one =
-    let empty : boundary_turns number post (members word) ≡ [] = ap (λ b. boundary_turns number b (members word)) none ∙ ap (λ w. map (λ q. awaits q number) (members w)) no_word ∙ ap (map (λ q. awaits q number)) members-zero in
-    (works one.instance, ap (λ l. l ++ (map works (instances_at (param_values tree) (visit_at tree rounds stop)) ++ later)) empty ∙ ap (λ is. map works is ++ later) one.is ∙ ap (λ l. works one.instance ∷ (l ++ later)) (sym empty))
+-- nothing of the boundary is left
+pub no_boundary : (number word : ℕ) (post : Bool) → post ≡ false → word ≡ 0 → boundary_turns number post (members word) ≡ []
+no_boundary number word post none no_word = ap (λ b. boundary_turns number b (members word)) none ∙ ap (λ w. map (λ q. awaits q number) (members w)) no_word ∙ ap (map (λ q. awaits q number)) members-zero
 
-pub come_is : {X : Type 0} (post : Bool) (word : ℕ) (o : Option X) → post ≡ false → word ≡ 0 → (post || not (word == 0) || is_some o) ≡ true → is_some o ≡ true
-come_is post word o none empty h = sym (ap (λ b. b || not (word == 0) || is_some o) none ∙ ap (λ w. not (w == 0) || is_some o) empty) ∙ h
+pub begin_first : (number word e : ℕ) (post : Bool) (o : Option ℕ) (later : List Turn) → post ≡ false → word ≡ 0 → o ≡ Some e → boundary_turns number post (members word) ++ (begun_by o ++ later) ≡ begins e ∷ later
+begin_first number word e post o later none no_word is = ap (λ l. l ++ (begun_by o ++ later)) (no_boundary number word post none no_word) ∙ ap (λ b. begun_by b ++ later) is
+
+pub work_first : (number word : ℕ) (post : Bool) (begin : Option ℕ) (tree : Tree) (rounds : List Round) (o : Option Stop) (later : List Turn) → post ≡ false → word ≡ 0 → begin ≡ None → is_some o ≡ true → IsOne tree rounds o →
+    (i : Instance) × (boundary_turns number post (members word) ++ (begun_by begin ++ (map works (come_of tree rounds o) ++ later)) ≡ works i ∷ (boundary_turns number post (members word) ++ (begun_by begin ++ later)))
+work_first number word post begin tree rounds None later none empty no_begin come one = absurd (true≢false (sym come))
+work_first number word post begin tree rounds (Some stop) later none no_word no_begin come one =
+    let empty = no_boundary number word post none no_word in (
+      one.instance,
+      ap (λ l. l ++ (begun_by begin ++ (map works (instances_at (param_values tree) (visit_at tree rounds stop)) ++ later))) empty
+          ∙ ap (λ b. begun_by b ++ (map works (instances_at (param_values tree) (visit_at tree rounds stop)) ++ later)) no_begin ∙ ap (λ is. map works is ++ later) one.is
+          ∙ ap (λ b. works one.instance ∷ (begun_by b ++ later)) (sym no_begin) ∙ ap (λ l. works one.instance ∷ (l ++ (begun_by begin ++ later))) (sym empty),
+    )
+
+pub come_is : {X : Type 0} (post : Bool) (word : ℕ) (begin : Option ℕ) (o : Option X) → post ≡ false → word ≡ 0 → begin ≡ None → (post || not (word == 0) || is_some begin || is_some o) ≡ true → is_some o ≡ true
+come_is post word begin o none empty no_begin h =
+    sym (ap (λ b. b || not (word == 0) || is_some begin || is_some o) none ∙ ap (λ w. not (w == 0) || is_some begin || is_some o) empty ∙ ap (λ b. is_some b || is_some o) no_begin) ∙ h
+
+-- something of the boundary is left
+pub some_word : (post : Bool) (word : ℕ) → 0 < word → (post || not (word == 0)) ≡ true
+some_word true word some = refl
+some_word false word some = elim (cases_Bool (word == 0)) [
+  | inl none ↦ absurd (let e : word ≡ 0 = eqb-true word 0 none in omega arith)
+  | inr not_none ↦ ap not not_none
+]
 
 -- ---- into a phase
 
@@ -141,12 +168,12 @@ pub next_phase : (tree : Tree) (plan : Plan) (passed : ℕ) (left rest : List Vi
 next_phase tree plan passed left rest v behind is = drop_at (phases tree plan.cut) passed v rest (sym behind ∙ is)
 
 -- the phase's turns are those that stood behind
-pub entered_turns : (tree : Tree) (plan : Plan) (p e number number' word word' : ℕ) (post post' : Bool) (v : Visit) (rest : List Visit) (rounds rounds' : List Round) (come : Option Stop) (own own' : List Instance) →
-    IsBare post word (is_some come) → own ≡ [] → number' ≡ e - 1 → post' ≡ posts_at tree plan p v.place v.loops → members word' ≡ waits_for tree plan p v.place v.loops →
+pub entered_turns : (tree : Tree) (plan : Plan) (p e number number' word word' : ℕ) (post post' : Bool) (begin begin' : Option ℕ) (v : Visit) (rest : List Visit) (rounds rounds' : List Round) (come : Option Stop) (own own' : List Instance) →
+    IsBare post word (is_some begin) (is_some come) → own ≡ [] → number' ≡ e - 1 → begin' ≡ Some e → post' ≡ posts_at tree plan p v.place v.loops → members word' ≡ waits_for tree plan p v.place v.loops →
     own' ≡ owned_by tree (slice_get plan.anchors (v.place - 1)) plan.workers p v →
-    boundary_turns number' post' (members word') ++ (map works (come_of tree rounds' come) ++ (map works own' ++ turns_from tree plan p (suc e) rest))
-    ≡ boundary_turns number post (members word) ++ (map works (come_of tree rounds come) ++ (map works own ++ turns_from tree plan p e (v ∷ rest)))
-entered_turns tree plan p e number number' word word' post post' v rest rounds rounds' come own own' bare empty number_is post_is word_is own_is =
+    boundary_turns number' post' (members word') ++ (begun_by begin' ++ (map works (come_of tree rounds' come) ++ (map works own' ++ turns_from tree plan p (suc e) rest)))
+    ≡ boundary_turns number post (members word) ++ (begun_by begin ++ (map works (come_of tree rounds come) ++ (map works own ++ turns_from tree plan p e (v ∷ rest))))
+entered_turns tree plan p e number number' word word' post post' begin begin' v rest rounds rounds' come own own' bare empty number_is begin_is post_is word_is own_is =
     let later = turns_from tree plan p (suc e) rest in
     let all = turns_from tree plan p e (v ∷ rest) in
     let posted = posts_at tree plan p v.place v.loops in
@@ -154,29 +181,134 @@ entered_turns tree plan p e number number' word word' post post' v rest rounds r
     let owned = owned_by tree (slice_get plan.anchors (v.place - 1)) plan.workers p v in
     let none = none_is come bare.none_come in
     let came : (rs : List Round) → map works (come_of tree rs come) ≡ [] = λ rs. ap (λ o. map works (come_of tree rs o)) none in
-    let new : boundary_turns number' post' (members word') ++ (map works (come_of tree rounds' come) ++ (map works own' ++ later)) ≡ all =
-    ap (λ l. boundary_turns number' post' (members word') ++ (l ++ (map works own' ++ later))) (came rounds')
-    ∙ ap (λ n. boundary_turns n post' (members word') ++ (map works own' ++ later)) number_is
-    ∙ ap (λ b. boundary_turns (e - 1) b (members word') ++ (map works own' ++ later)) post_is
-    ∙ ap (λ l. boundary_turns (e - 1) posted l ++ (map works own' ++ later)) word_is
-    ∙ ap (λ l. boundary_turns (e - 1) posted awaited ++ (map works l ++ later)) own_is
-    ∙ sym (append_assoc (boundary_turns (e - 1) posted awaited) (map works owned) later) in
-    let old : boundary_turns number post (members word) ++ (map works (come_of tree rounds come) ++ (map works own ++ all)) ≡ all =
-    ap (λ b. boundary_turns number b (members word) ++ (map works (come_of tree rounds come) ++ (map works own ++ all))) bare.no_post
-    ∙ ap (λ w. map (λ q. awaits q number) (members w) ++ (map works (come_of tree rounds come) ++ (map works own ++ all))) bare.no_await
-    ∙ ap (λ ms. map (λ q. awaits q number) ms ++ (map works (come_of tree rounds come) ++ (map works own ++ all))) members-zero
+    let new : boundary_turns number' post' (members word') ++ (begun_by begin' ++ (map works (come_of tree rounds' come) ++ (map works own' ++ later))) ≡ all =
+    ap (λ l. boundary_turns number' post' (members word') ++ (begun_by begin' ++ (l ++ (map works own' ++ later)))) (came rounds')
+    ∙ ap (λ b. boundary_turns number' post' (members word') ++ (begun_by b ++ (map works own' ++ later))) begin_is
+    ∙ ap (λ n. boundary_turns n post' (members word') ++ (begins e ∷ (map works own' ++ later))) number_is
+    ∙ ap (λ b. boundary_turns (e - 1) b (members word') ++ (begins e ∷ (map works own' ++ later))) post_is
+    ∙ ap (λ l. boundary_turns (e - 1) posted l ++ (begins e ∷ (map works own' ++ later))) word_is
+    ∙ ap (λ l. boundary_turns (e - 1) posted awaited ++ (begins e ∷ (map works l ++ later))) own_is
+    ∙ sym (append_assoc (boundary_turns (e - 1) posted awaited) (begins e ∷ map works owned) later) in
+    let old : boundary_turns number post (members word) ++ (begun_by begin ++ (map works (come_of tree rounds come) ++ (map works own ++ all))) ≡ all =
+    ap (λ l. l ++ (begun_by begin ++ (map works (come_of tree rounds come) ++ (map works own ++ all)))) (no_boundary number word post bare.no_post bare.no_await)
+    ∙ ap (λ b. begun_by b ++ (map works (come_of tree rounds come) ++ (map works own ++ all))) (none_is begin bare.none_begins)
     ∙ ap (λ l. l ++ (map works own ++ all)) (came rounds)
     ∙ ap (λ l. map works l ++ all) empty in
     new ∙ sym old
 
 -- nothing is left
-pub none_left : (tree : Tree) (plan : Plan) (p e number word : ℕ) (post : Bool) (left : List Visit) (rounds : List Round) (come : Option Stop) (own : List Instance) → IsBare post word (is_some come) → own ≡ [] → left ≡ [] →
-    boundary_turns number post (members word) ++ (map works (come_of tree rounds come) ++ (map works own ++ turns_from tree plan p e left)) ≡ []
-none_left tree plan p e number word post left rounds come own bare empty is =
+pub none_left : (tree : Tree) (plan : Plan) (p e number word : ℕ) (post : Bool) (begin : Option ℕ) (left : List Visit) (rounds : List Round) (come : Option Stop) (own : List Instance) → IsBare post word (is_some begin) (is_some come) → own ≡ [] → left ≡ [] →
+    boundary_turns number post (members word) ++ (begun_by begin ++ (map works (come_of tree rounds come) ++ (map works own ++ turns_from tree plan p e left))) ≡ []
+none_left tree plan p e number word post begin left rounds come own bare empty is =
     let later = map works (come_of tree rounds come) ++ (map works own ++ turns_from tree plan p e left) in
-    ap (λ b. boundary_turns number b (members word) ++ later) bare.no_post
-    ∙ ap (λ w. map (λ q. awaits q number) (members w) ++ later) bare.no_await
-    ∙ ap (λ ms. map (λ q. awaits q number) ms ++ later) members-zero
+    ap (λ l. l ++ (begun_by begin ++ later)) (no_boundary number word post bare.no_post bare.no_await)
+    ∙ ap (λ b. begun_by b ++ later) (none_is begin bare.none_begins)
     ∙ ap (λ o. map works (come_of tree rounds o) ++ (map works own ++ turns_from tree plan p e left)) (none_is come bare.none_come)
     ∙ ap (λ l. map works l ++ turns_from tree plan p e left) empty
     ∙ ap (turns_from tree plan p e) is
+
+-- ---- phases that begin unseen
+
+-- something comes next
+pub some_turn : (c : Turns) (t : Turn) (rest : List Turn) → turns_left c ≡ t ∷ rest → (at_turn c ≡ false → turns_left c ≡ []) → at_turn c ≡ true
+some_turn c t rest is end = elim (cases_Bool (at_turn c)) [
+  | inl yes_it_does ↦ yes_it_does
+  | inr none ↦ absurd (let no : t ∷ rest ≡ [] = sym is ∙ end none in cc)
+]
+
+-- where an act comes next no phase begins
+pub act_first : (c : Turns) (n : Next) → IsNext c n → IsAct n → turns_left c ≡ without_beginnings (turns_left c)
+act_first c (Post number) next act = next.1 ∙ sym (ap without_beginnings next.1)
+act_first c (Await on wanted) next act = next.1 ∙ sym (ap without_beginnings next.1)
+act_first c (Phase e) next act = absurd act
+act_first c (Work stop) next act = next.2 ∙ sym (ap without_beginnings next.2)
+act_first c End next act = next ∙ sym (ap without_beginnings next)
+
+-- past the beginning of a phase
+pub begin_passed : (left rest : List Turn) (e : ℕ) (t : Turn) (new : List Turn) → left ≡ begins e ∷ rest → left ≡ t ∷ new → without_beginnings new ≡ without_beginnings left
+begin_passed left rest e t new is passed =
+    let both : begins e ∷ rest ≡ t ∷ new = sym is ∙ passed in
+    let same : rest ≡ new = cc in
+    sym (ap without_beginnings is ∙ ap without_beginnings same)
+
+-- the first of turns is one turn
+no_post : {n on wanted : ℕ} {xs ys : List Turn} → posts n ∷ xs ≡ awaits on wanted ∷ ys → ⊥
+no_post is = absurd (cc)
+
+no_beginning : {e on wanted : ℕ} {xs ys : List Turn} → begins e ∷ xs ≡ awaits on wanted ∷ ys → ⊥
+no_beginning is = absurd (cc)
+
+no_work : {i : Instance} {on wanted : ℕ} {xs ys : List Turn} → works i ∷ xs ≡ awaits on wanted ∷ ys → ⊥
+no_work is = absurd (cc)
+
+same_wanted : {on wanted p number : ℕ} {xs ys : List Turn} → awaits on wanted ∷ xs ≡ awaits p number ∷ ys → wanted ≡ number
+same_wanted is = cc
+
+-- the number that is awaited is the boundary's
+pub same_number : (number on wanted e : ℕ) (qs : List ℕ) (come rest : List Turn) → map (λ q. awaits q number) qs ++ (begins e ∷ come) ≡ awaits on wanted ∷ rest → wanted ≡ number
+same_number number on wanted e [] come rest is = absurd (no_beginning is)
+same_number number on wanted e (q ∷ qs) come rest is = same_wanted (sym is)
+
+-- where an await comes next, nothing is posted and somebody is awaited
+pub await_stands : (c : Turns) (on wanted : ℕ) (rest : List Turn) → AreSound c → at_turn c ≡ true → turns_left c ≡ awaits on wanted ∷ rest → (c.posts ≡ false) × (0 < c.awaits)
+await_stands c on wanted rest sound some is = elim (cases_Bool c.posts) [
+  | inl posting ↦ absurd (no_post (sym (ap (λ b. boundary_turns c.number b (members c.awaits) ++ behind) posting) ∙ is))
+  | inr silent ↦ (
+    silent,
+    elim (cases_lt 0 c.awaits) [
+      | inl some_word ↦ some_word
+      | inr none ↦ absurd (no_word silent (omega arith) c.begins refl)
+    ],
+  )
+]
+  where
+    come : List Turn
+    come = map works (come_of (turns_tree c) (turns_rounds c) c.come) ++ (map works (instances_left c.own) ++ turns_from (turns_tree c) (turns_plan c) c.processor (suc (phases_passed c.phases)) (phases_left c.phases))
+
+    behind : List Turn
+    behind = begun_by c.begins ++ come
+
+    no_word : c.posts ≡ false → c.awaits ≡ 0 → (o : Option ℕ) → c.begins ≡ o → ⊥
+    no_word silent zero_word (Some e) begin = no_beginning (sym (begin_first c.number c.awaits e c.posts c.begins come silent zero_word begin) ∙ is)
+    no_word silent zero_word None begin =
+        let first = work_first c.number c.awaits c.posts c.begins (turns_tree c) (turns_rounds c) c.come (map works (instances_left c.own) ++ turns_from (turns_tree c) (turns_plan c) c.processor (suc (phases_passed c.phases)) (phases_left c.phases)) silent zero_word begin
+        (come_is c.posts c.awaits c.begins c.come silent zero_word begin some) sound.one in
+        no_work (sym first.1 ∙ is)
+
+-- with less at hand
+pub sound_less : (c : Turns) → AreSound c → (post : Bool) (word : ℕ) (begin : Option ℕ) (come : Option Stop) → ((post || not (word == 0)) ≡ true → begin ≡ Some (suc c.number) × ((c.posts || not (c.awaits == 0)) ≡ true)) → IsOne (turns_tree c) (turns_rounds c) come →
+    AreSound (record c { posts = post; awaits = word; begins = begin; come = come })
+sound_less c sound post word begin come front one = record {
+  formed = sound.formed;
+  fits = sound.fits;
+  worker = sound.worker;
+  walked = sound.walked;
+  owned = sound.owned;
+  entered = sound.entered;
+  behind = sound.behind;
+  boundary = λ h. record { passed = (sound.boundary (front h).1).passed; phase = (front h).0 };
+  one = one;
+}
+
+pub no_front : (post : Bool) (word : ℕ) → post ≡ false → word ≡ 0 → (post || not (word == 0)) ≡ true → ⊥
+no_front post word none no_word h = true≢false (sym h ∙ ap (λ b. b || not (word == 0)) none ∙ ap (λ w. not (w == 0)) no_word)
+
+pub some_is : {X : Type 0} (o : Option X) → is_some o ≡ true → (x : X) × (o ≡ Some x)
+some_is None h = absurd (true≢false (sym h))
+some_is (Some x) h = (x, refl)
+
+-- ---- some of the phase's instances at once
+
+module _ (tree : Tree) (number word : ℕ) (post : Bool) (begin : Option ℕ) (come : Option Stop) (bare : IsBare post word (is_some begin) (is_some come)) (later : List Turn) where
+  bare_left : (rounds : List Round) (own : List Instance) → boundary_turns number post (members word) ++ (begun_by begin ++ (map works (come_of tree rounds come) ++ (map works own ++ later))) ≡ map works own ++ later
+  bare_left rounds own =
+      ap (λ l. l ++ (begun_by begin ++ (map works (come_of tree rounds come) ++ (map works own ++ later)))) (no_boundary number word post bare.no_post bare.no_await)
+      ∙ ap (λ b. begun_by b ++ (map works (come_of tree rounds come) ++ (map works own ++ later))) (none_is begin bare.none_begins)
+      ∙ ap (λ o. map works (come_of tree rounds o) ++ (map works own ++ later)) (none_is come bare.none_come)
+
+  pub strip_turns : (rounds rounds' : List Round) (own front own' : List Instance) → own ≡ front ++ own' →
+      boundary_turns number post (members word) ++ (begun_by begin ++ (map works (come_of tree rounds come) ++ (map works own ++ later)))
+      ≡ map works front ++ (boundary_turns number post (members word) ++ (begun_by begin ++ (map works (come_of tree rounds' come) ++ (map works own' ++ later))))
+  strip_turns rounds rounds' own front own' is =
+      bare_left rounds own ∙ ap (λ l. map works l ++ later) is ∙ ap (λ l. l ++ later) (map-append works front own') ∙ append_assoc (map works front) (map works own') later
+      ∙ ap (λ l. map works front ++ l) (sym (bare_left rounds' own'))

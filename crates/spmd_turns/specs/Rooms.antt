@@ -5,7 +5,7 @@ use Rattle.nest_model.specs.Instances.{Instance, instances}
 use Rattle.nest_model.specs.Visits.{Visit}
 use Rattle.seq_meaning.specs.Room.{longest_line}
 use Rattle.sync_plan.specs.Fit.{have_print}
-use Rattle.spmd_turns.specs.Turns.{Turn, posts, awaits, works}
+use Rattle.spmd_turns.specs.Turns.{Turn, posts, awaits, begins, works}
 
 -- of an instance, and of all
 abbrev pub instance_room : Tree → Instance → ℕ
@@ -46,4 +46,5 @@ abbrev mutual
 abbrev pub turn_room : Tree → Turn → ℕ
 turn_room tree (posts number) = 0
 turn_room tree (awaits on wanted) = 0
+turn_room tree (begins e) = 0
 turn_room tree (works i) = longest_line tree i.what

@@ -19,4 +19,4 @@ pub use deeds::Deeds;
 pub use execute::Executor;
 pub use loads::width;
 pub use room::{longest_output, most_loads, open_printing};
-pub use turns::{Next, Turns};
+pub use turns::{Boundary, Next, Turns};

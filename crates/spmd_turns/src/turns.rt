@@ -1,17 +1,29 @@
 // What a processor does, turn by turn.
 
-ghost use Rattle.std.specs.Prelude.{◌≡◌, ◌<◌, [], ◌∷◌, true, false};
+ghost use Rattle.std.specs.Prelude.{◌≡◌, ◌<◌, ◌-◌, ℕ, suc, List, [], ◌∷◌, ◌++◌, IfSome, MatchOption, Some, length, map, slice_get, true, false};
 ghost use Rattle.nest_tree.specs.Limits.{IsWithinLimits};
 ghost use Rattle.nest_tree.specs.View.{tree_of};
 ghost use Rattle.nest_tree.specs.WellFormed.{IsWellFormed};
 ghost use Rattle.nest_walk.specs.InstancesLeft.{instances_left};
 ghost use Rattle.owner_partition.specs.Phases.{phases as phases_of};
 ghost use Rattle.sync_plan.specs.Fit.{IsFit};
+ghost use Rattle.spmd_turns.specs.Turns.{boundary_of};
 
 use nest_tree::Program;
-use nest_walk::{Path, Stop};
-use owner_partition::{OwnStops, PhaseCursor};
-use sync_plan::{Plan, posts, waits};
+use nest_walk::{Path, Stop, Strip};
+use owner_partition::{OwnStops, Phase, PhaseCursor};
+use sync_plan::{Kind, Plan, posts, waits};
+
+/// How the processors pass a boundary.
+#[derive(Clone, Copy, Debug, PartialEq, Eq)]
+pub enum Boundary {
+    /// Each awaits the counters of those for which it waits, of nobody maybe.
+    Counters,
+    /// All of two or more wait for all, so that their arrivals can be gathered.
+    Barrier,
+    /// All wait for all, and the workers end their leg there.
+    Join,
+}
 
 /// What a processor does next.
 #[derive(Clone, Copy)]
@@ -20,6 +32,8 @@ pub enum Next<'a> {
     Post(u64),
     /// It awaits that the counter of another is at least a number.
     Await { on: u32, wanted: u64 },
+    /// It begins the phase with this number, from 1, of which it may own no instance.
+    Phase(u64),
     /// It executes an instance, with the loops round it that the cursor shows.
     Work(Stop<'a>),
     /// Nothing is left.
@@ -37,18 +51,23 @@ pub struct Turns<'a> {
     pub(crate) phases: PhaseCursor<'a>,
     // the phase's instances that are left
     pub(crate) own: OwnStops<'a>,
-    // the boundary's number, whether it is still posted, and who is still awaited there
+    // the boundary's number and how it is passed, whether it is still posted, and who is still
+    // awaited there
     pub(crate) number: u64,
+    pub(crate) boundary: Boundary,
     pub(crate) posts: bool,
     pub(crate) awaits: u64,
+    // the phase that begins behind the boundary
+    pub(crate) begins: Option<u64>,
     // the instance that comes next
     pub(crate) come: Option<Stop<'a>>,
 }
 
 impl<'a> Turns<'a> {
     ghost use Rattle.nest_walk.specs.RoundsOf.{rounds_of};
-    ghost use Rattle.spmd_turns.specs.Turns.{Turn, turns_from};
-    ghost use Rattle.spmd_turns.specs.TurnsLeft.{AreSound, IsNext, at_turn, to_go, turns_left, turns_plan, turns_processor, turns_rounds, turns_tree};
+    ghost use Rattle.nest_walk.specs.Strips.{strip_left, strip_tree};
+    ghost use Rattle.spmd_turns.specs.Turns.{Turn, awaits, begins, works, turns_from, without_beginnings};
+    ghost use Rattle.spmd_turns.specs.TurnsLeft.{AreSound, IsAct, IsNext, at_turn, to_go, turns_boundary, turns_left, turns_plan, turns_processor, turns_rounds, turns_tree};
 
     /// All turns of a processor.
     pub fn new(program: &'a Program, plan: &'a Plan, processor: u32) -> Self
@@ -69,8 +88,10 @@ impl<'a> Turns<'a> {
             phases: PhaseCursor::new(program, &plan.cut),
             own: OwnStops::none(program),
             number: 0,
+            boundary: Boundary::Counters,
             posts: false,
             awaits: 0,
+            begins: None,
             come: None,
         }
     }
@@ -80,6 +101,13 @@ impl<'a> Turns<'a> {
         ensures { rounds_of result.now ≡ turns_rounds self.now }
     {
         self.own.path()
+    }
+
+    /// How the boundary is passed whose post or await comes next.
+    pub fn boundary(&self) -> Boundary
+        ensures { result ≡ turns_boundary self.now }
+    {
+        self.boundary
     }
 
     /// What comes next. Nothing of what is left changes.
@@ -97,11 +125,31 @@ impl<'a> Turns<'a> {
         self.next()
     }
 
+    /// What comes next that does something: phases begin unseen.
+    pub fn peek_act(&mut self) -> Next<'a>
+        requires { AreSound self.old }
+        ensures sound { AreSound self.new }
+        ensures left { turns_left self.new ≡ without_beginnings (turns_left self.old) }
+        ensures next { IsNext self.new result }
+        ensures act { IsAct result }
+        ensures end { at_turn self.new ≡ false → turns_left self.new ≡ [] }
+        ensures program { turns_tree self.new ≡ turns_tree self.old }
+        ensures plan { turns_plan self.new ≡ turns_plan self.old }
+        ensures processor { turns_processor self.new ≡ turns_processor self.old }
+    {
+        let mut next = self.peek();
+        while let Next::Phase(_) = next {
+            self.pass();
+            next = self.peek();
+        }
+        next
+    }
+
     // Whether something comes next without a look at what is behind.
     fn is_at_turn(&self) -> bool
         ensures { result ≡ at_turn self.now }
     {
-        self.posts || self.awaits != 0 || self.come.is_some()
+        self.posts || self.awaits != 0 || self.begins.is_some() || self.come.is_some()
     }
 
     // To the next instance, or into the next phase; whether there was one.
@@ -137,6 +185,8 @@ impl<'a> Turns<'a> {
             return false;
         };
         self.number = phase.number - 1;
+        self.boundary = boundary_before(self.plan, &phase);
+        self.begins = Some(phase.number);
         self.posts = posts(self.program, self.plan, self.processor, &phase);
         self.awaits = waits(self.program, self.plan, self.processor, &phase);
         let anchor = &self.plan.anchors.as_slice()[phase.place as usize - 1];
@@ -161,6 +211,9 @@ impl<'a> Turns<'a> {
                 wanted: self.number,
             };
         }
+        if let Some(phase) = self.begins {
+            return Next::Phase(phase);
+        }
         match self.come {
             Some(stop) => Next::Work(stop),
             None => Next::End,
@@ -181,8 +234,68 @@ impl<'a> Turns<'a> {
             self.posts = false;
         } else if self.awaits != 0 {
             self.awaits &= !(1 << self.awaits.trailing_zeros());
+        } else if self.begins.is_some() {
+            self.begins = None;
         } else {
             self.come = None;
         }
+    }
+
+    /// Past all awaits of a boundary at once, where one of them comes next: the phase comes next.
+    pub fn pass_awaits(&mut self)
+        requires sound { AreSound self.old }
+        requires some { at_turn self.old ≡ true }
+        requires next { (on wanted : ℕ) × IsNext self.old (Next.Await on wanted) }
+        ensures sound { AreSound self.new }
+        ensures program { turns_tree self.new ≡ turns_tree self.old }
+        ensures plan { turns_plan self.new ≡ turns_plan self.old }
+        ensures processor { turns_processor self.new ≡ turns_processor self.old }
+        ensures passed { (number : ℕ) × (awaited : List ℕ) × (turns_left self.old ≡ map (λ q. awaits q number) awaited ++ turns_left self.new) }
+        ensures phase { (on wanted : ℕ) → IsNext self.old (Next.Await on wanted) → (rest : List Turn) × (turns_left self.new ≡ begins (suc wanted) ∷ rest) }
+    {
+        self.awaits = 0;
+    }
+
+    /// The trips that are left of a loop round one assignment, where the next turn is the first of
+    /// them and hasn't been looked at: a strip's instances come next, and what is behind them is
+    /// left.
+    #[inline(always)]
+    pub fn strip(&mut self) -> Option<Strip<'a>>
+        requires { AreSound self.old }
+        ensures sound { AreSound self.new }
+        ensures left { MatchOption result (turns_left self.new ≡ turns_left self.old) (λ s. turns_left self.old ≡ map works (strip_left s) ++ turns_left self.new) }
+        ensures some { IfSome result (λ s. 0 < length (strip_left s)) }
+        ensures tree { IfSome result (λ s. strip_tree s ≡ turns_tree self.new) }
+        ensures program { turns_tree self.new ≡ turns_tree self.old }
+        ensures plan { turns_plan self.new ≡ turns_plan self.old }
+        ensures processor { turns_processor self.new ≡ turns_processor self.old }
+    {
+        if self.is_at_turn() {
+            return None;
+        }
+        self.own.strip()
+    }
+}
+
+// How the processors pass the boundary in front of a phase.
+fn boundary_before(plan: &Plan, phase: &Phase) -> Boundary
+    ensures { result ≡ boundary_of (slice_get plan.now.kinds (phase.now.place - 1)) plan.now.workers }
+{
+    let place = (phase.place as usize).saturating_sub(1);
+    match plan.kinds.as_slice().get(place) {
+        Some(kind) => passed_by(kind, plan.workers),
+        None => Boundary::Counters,
+    }
+}
+
+fn passed_by(kind: &Kind, workers: u32) -> Boundary
+    ensures { result ≡ boundary_of (Some kind.now) workers }
+{
+    if kind.is_join() {
+        Boundary::Join
+    } else if kind.is_barrier() && 1 < workers {
+        Boundary::Barrier
+    } else {
+        Boundary::Counters
     }
 }

@@ -24,7 +24,7 @@ index-requires c =
     let lt = c.requires.worker in
     let (x, read) = picked m.processors.items c.args.p lt in
     let kept = kept_here m ready c.args.p x x lt read in
-    let (rest, next) = (next_here m ready c.args.p x x lt read (Await c.args.on c.args.wanted) c.requires.next).next in
+    let (rest, next, passed_by) = (next_here m ready c.args.p x x lt read (Await c.args.on c.args.wanted) c.requires.next).next in
     let left = await_left (tree_of m.program.now) m.plan.now (entries m.table) c.args.p x kept c.args.on c.args.wanted rest next in
     omega (arith, awaits_processor m ready c.args.p x lt read kept c.args.on c.args.wanted (flat_map (turn_deeds (turns_tree x.turns)) rest) left)
 
@@ -40,7 +40,7 @@ returns-then-seen-wanted c =
     let lt = c.requires.worker in
     let (x, read) = picked m.processors.items p lt in
     let kept = kept_here m ready p x x lt read in
-    let (rest, next) = (next_here m ready p x x lt read (Await c.args.on c.args.wanted) c.requires.next).next in
+    let (rest, next, passed_by) = (next_here m ready p x x lt read (Await c.args.on c.args.wanted) c.requires.next).next in
     let deeds = flat_map (turn_deeds (turns_tree x.turns)) rest in
     let left = await_left tree plan table p x kept c.args.on c.args.wanted rest next in
     let seen = counter_read m.processors.items c.args.on c.index.result.now (awaits_processor m ready p x lt read kept c.args.on c.args.wanted deeds left) c.index.ensures in
@@ -68,7 +68,7 @@ returns c =
     let turn = awaits c.args.on c.args.wanted in
     let deed = awaiting counter c.args.on c.args.wanted in
     let kept = kept_here m ready p x y lt read in
-    let (rest, next) = (next_here m ready p x y lt read (Await c.args.on c.args.wanted) c.requires.next).next in
+    let (rest, next, passed_by) = (next_here m ready p x y lt read (Await c.args.on c.args.wanted) c.requires.next).next in
     let idle = await_idle tree plan table p x kept c.args.on c.args.wanted rest next in
     let (t, passed) = c.pass.ensures.passed in
     let turns = next ∙ ap (λ ts. turn ∷ ts) (first_is (turns_left x.turns) turn t rest (turns_left y.turns) next passed).1 in

@@ -20,21 +20,22 @@ use Rattle.nest_walk.specs.Cursors.{loops_in}
 use Rattle.nest_walk.specs.Paths.{Round}
 use Rattle.sync_plan.specs.declared.plan.Plan.{Plan}
 use Rattle.nest_tree.specs.WellFormed.{IsWellFormed}
+use Rattle.sync_plan.specs.Boundaries.{kind_before}
 use Rattle.sync_plan.specs.PhaseLoops.{phase_loops}
 use Rattle.sync_plan.specs.ProcessorSets.{members}
 use Rattle.sync_plan.specs.Waits.{posts_at, waits_for}
 use Rattle.sync_plan.proofs.OuterLoops.{phase_has_loops}
 use Rattle.spmd_model.specs.Deeds.{owned_by}
-use Rattle.spmd_turns.specs.Turns.{works, boundary_turns, turns_from}
-use Rattle.spmd_turns.specs.TurnsLeft.{IsOne, come_of, phases_to_go, turns_plan, turns_rounds, turns_tree}
+use Rattle.spmd_turns.specs.Turns.{works, boundary_at, boundary_of, boundary_turns, turns_from}
+use Rattle.spmd_turns.specs.TurnsLeft.{IsOne, begun_by, come_of, phases_to_go, turns_plan, turns_rounds, turns_tree}
 use Rattle.spmd_turns.proofs.TurnLists.{bare_parts, entered_turns, next_phase, none_is, none_left, phase_anchor}
 use Rattle.spmd_turns.proofs.turns.Turns.enter.Goals as goal
 
 pub returns-in_default-clause-end : goal.returns-in_default-clause-end
 returns-in_default-clause-end c = λ _.
     let t = c.args.self.now in
-    let b = bare_parts t.posts t.awaits (is_some t.come) c.requires.bare in
-    (none_left (turns_tree t) (turns_plan t) t.processor (suc (phases_passed t.phases)) t.number t.awaits t.posts (phases_left t.phases) (turns_rounds t) t.come (instances_left t.own) b c.requires.own c.in_default.ensures.phase, c.requires.bare)
+    let b = bare_parts t.posts t.awaits (is_some t.begins) (is_some t.come) c.requires.bare in
+    (none_left (turns_tree t) (turns_plan t) t.processor (suc (phases_passed t.phases)) t.number t.awaits t.posts t.begins (phases_left t.phases) (turns_rounds t) t.come (instances_left t.own) b c.requires.own c.in_default.ensures.phase, c.requires.bare)
 
 pub overflow_sub-anchor : goal.overflow_sub-anchor
 overflow_sub-anchor c =
@@ -113,7 +114,7 @@ returns-clause-sound c =
     let sound = c.requires.sound in
     let (v, left, last, is) = c.in-Some.ensures.phase in
     let n = next_phase (turns_tree t) (turns_plan t) (phases_passed t.phases) (phases_left t.phases) _ v sound.behind left in
-    let b = bare_parts t.posts t.awaits (is_some t.come) c.requires.bare in
+    let b = bare_parts t.posts t.awaits (is_some t.begins) (is_some t.come) c.requires.bare in
     let passed : suc (phases_passed t.phases) ≡ phases_passed c.next.new.self = omega (arith, c.in-Some.ensures.passed) in
     let none = none_is t.come b.none_come in
     record {
@@ -124,6 +125,11 @@ returns-clause-sound c =
       owned = c.own_iterations-self.ensures.program ∙ c.next.ensures.program ∙ sound.walked;
       entered = c.next.ensures.enters ∙ sound.entered;
       behind = sym n.1 ∙ ap (λ k. drop k (phases (turns_tree t) (turns_plan t).cut)) passed;
+      boundary = λ _. record {
+        passed = c.boundary_before-self.ensures ∙ ap (λ k. boundary_of (slice_get (turns_plan t).kinds (k - 1)) (turns_plan t).workers) is.place_is ∙ ap (λ o. boundary_of (kind_before (turns_plan t) o) (turns_plan t).workers) (sym n.0)
+            ∙ ap (boundary_at (turns_tree t) (turns_plan t)) (omega (arith, is.number_is));
+        phase = ap (λ k. Some k) (omega (arith, is.number_is));
+      };
       one = subst (IsOne (turns_tree t) (instances_rounds c.own_iterations-self.result)) (sym none) tt;
     }
 
@@ -140,19 +146,20 @@ returns-clause-left c =
     let n = next_phase tree plan passed (phases_left t.phases) rest v sound.behind left in
     let a = phase_anchor tree plan passed v sound.formed sound.fits n.0 in
     let read = read_is plan.anchors c.as_slice.result.now c.in-Some.phase.place v.place c.index-as_slice-phase.result a.anchor c.as_slice.ensures is.place_is c.index-as_slice-phase.is a.at in
-    let b = bare_parts t.posts t.awaits (is_some t.come) c.requires.bare in
+    let b = bare_parts t.posts t.awaits (is_some t.begins) (is_some t.come) c.requires.bare in
     let walked = c.next.ensures.program ∙ sound.walked in
     let loops = loops_are tree plan passed v c.in-Some.phase (phases_tree new) (phases_enters new) (phases_rounds new) (passed + 1) sound.formed n.0 walked (c.next.ensures.enters ∙ sound.entered) is in
     let own = own_is tree (phases_tree new) t.processor plan.workers v (phase_last new) c.index-as_slice-phase.result a.anchor (instances_left c.own_iterations-self.result) (slice_get plan.anchors (v.place - 1)) walked last read a.at c.own_iterations-self.ensures.own in
     let posted = c.posts-self.ensures ∙ ap (λ k. posts_at tree plan t.processor k (phase_loops tree plan.cut k c.in-Some.phase.outer)) is.place_is ∙ ap (posts_at tree plan t.processor v.place) loops in
     let awaited = c.waits-self.ensures ∙ ap (λ k. waits_for tree plan t.processor k (phase_loops tree plan.cut k c.in-Some.phase.outer)) is.place_is ∙ ap (waits_for tree plan t.processor v.place) loops in
     let number : c.in-Some.phase.number - 1 ≡ suc passed - 1 = omega (arith, is.number_is) in
+    let begin : Some c.in-Some.phase.number ≡ Some (suc passed) = ap (λ n. Some n) (omega (arith, is.number_is)) in
     let next : phases_passed new ≡ suc passed = omega (arith, c.in-Some.ensures.passed) in
     let rounds = instances_rounds c.own_iterations-self.result in
-    let entered = entered_turns tree plan t.processor (suc passed) t.number (c.in-Some.phase.number - 1) t.awaits c.waits-self.result t.posts c.posts-self.result v rest (turns_rounds t) rounds t.come (instances_left t.own) (instances_left c.own_iterations-self.result) b c.requires.own number posted awaited own in
-    ap (λ e. boundary_turns (c.in-Some.phase.number - 1) c.posts-self.result (members c.waits-self.result) ++ (map works (come_of tree rounds t.come) ++ (map works (instances_left c.own_iterations-self.result) ++ turns_from tree plan t.processor (suc e) rest))) next
+    let entered = entered_turns tree plan t.processor (suc passed) t.number (c.in-Some.phase.number - 1) t.awaits c.waits-self.result t.posts c.posts-self.result t.begins (Some c.in-Some.phase.number) v rest (turns_rounds t) rounds t.come (instances_left t.own) (instances_left c.own_iterations-self.result) b c.requires.own number begin posted awaited own in
+    ap (λ e. boundary_turns (c.in-Some.phase.number - 1) c.posts-self.result (members c.waits-self.result) ++ (begun_by (Some c.in-Some.phase.number) ++ (map works (come_of tree rounds t.come) ++ (map works (instances_left c.own_iterations-self.result) ++ turns_from tree plan t.processor (suc e) rest)))) next
     ∙ entered
-    ∙ ap (λ l. boundary_turns t.number t.posts (members t.awaits) ++ (map works (come_of tree (turns_rounds t) t.come) ++ (map works (instances_left t.own) ++ turns_from tree plan t.processor (suc passed) l))) (sym left)
+    ∙ ap (λ l. boundary_turns t.number t.posts (members t.awaits) ++ (begun_by t.begins ++ (map works (come_of tree (turns_rounds t) t.come) ++ (map works (instances_left t.own) ++ turns_from tree plan t.processor (suc passed) l)))) (sym left)
 
 pub returns-clause-nearer : goal.returns-clause-nearer
 returns-clause-nearer c = λ _.

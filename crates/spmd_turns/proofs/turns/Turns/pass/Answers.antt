@@ -1,19 +1,22 @@
-use Rattle.std.proofs.Common.{suc, ◌<◌, List, ◌++◌, map, ap, arith}
+use Rattle.std.proofs.Common.{◌||◌, ◌==◌, not, false, suc, ◌<◌, List, ◌∷◌, ◌++◌, map, None, sym, ◌∙◌, ap, arith}
 use Rattle.sync_plan.specs.ProcessorSets.{members}
 use Rattle.nest_walk.specs.InstancesLeft.{instances_left}
 use Rattle.owner_partition.specs.PhasesLeft.{phases_left, phases_passed}
-use Rattle.spmd_turns.specs.Turns.{Turn, posts, works, boundary_turns, turns_from}
-use Rattle.spmd_turns.specs.TurnsLeft.{come_of, turns_plan, turns_rounds, turns_tree}
+use Rattle.spmd_turns.specs.Turns.{Turn, begins, posts, works, boundary_turns, turns_from}
+use Rattle.spmd_turns.specs.TurnsLeft.{begun_by, come_of, turns_plan, turns_rounds, turns_tree}
 use Rattle.spmd_turns.specs.declared.turns.Turns.{Turns}
-use Rattle.spmd_turns.proofs.TurnLists.{await_first, come_is, work_first}
+use Rattle.spmd_turns.proofs.TurnLists.{await_first, begin_first, come_is, no_boundary, no_front, none_is, some_is, some_word, sound_less, work_first}
 use Rattle.spmd_turns.proofs.turns.Turns.pass.Goals as goal
 
 -- what stands behind the instance that has come, and behind the boundary
 abbrev later : Turns → List Turn
 later c = map works (instances_left c.own) ++ turns_from (turns_tree c) (turns_plan c) c.processor (suc (phases_passed c.phases)) (phases_left c.phases)
 
+abbrev come : Turns → List Turn
+come c = map works (come_of (turns_tree c) (turns_rounds c) c.come) ++ later c
+
 abbrev behind : Turns → List Turn
-behind c = map works (come_of (turns_tree c) (turns_rounds c) c.come) ++ later c
+behind c = begun_by c.begins ++ come c
 
 pub returns-then-self-clause-passed : goal.returns-then-self-clause-passed
 returns-then-self-clause-passed c =
@@ -26,7 +29,37 @@ returns-then-self-ne0-clause-passed c =
     let some : 0 < t.awaits = omega (arith, c.if-self-ne0.true) in
     (_, await_first t.number t.awaits t.posts (behind t) c.if-self.false some (omega arith))
 
-pub returns-else-self-ne0-clause-passed : goal.returns-else-self-ne0-clause-passed
-returns-else-self-ne0-clause-passed c =
+pub returns-then-is_some-clause-passed : goal.returns-then-is_some-clause-passed
+returns-then-is_some-clause-passed c =
     let t = c.args.self.now in
-    work_first t.number t.awaits t.posts (turns_tree t) (turns_rounds t) t.come (later t) c.if-self.false c.if-self-ne0.false (come_is t.posts t.awaits t.come c.if-self.false c.if-self-ne0.false c.requires.some) c.requires.sound.one
+    let (e, is) = some_is t.begins (sym c.is_some.ensures ∙ c.if-is_some.true) in
+    (begins e, begin_first t.number t.awaits e t.posts t.begins (come t) c.if-self.false c.if-self-ne0.false is ∙ ap (λ l. begins e ∷ (l ++ come t)) (sym (no_boundary t.number t.awaits t.posts c.if-self.false c.if-self-ne0.false)))
+
+pub returns-else-is_some-clause-passed : goal.returns-else-is_some-clause-passed
+returns-else-is_some-clause-passed c =
+    let t = c.args.self.now in
+    let none = none_is t.begins (sym c.is_some.ensures ∙ c.if-is_some.false) in
+    let (i, is) = work_first t.number t.awaits t.posts t.begins (turns_tree t) (turns_rounds t) t.come (later t) c.if-self.false c.if-self-ne0.false none (come_is t.posts t.awaits t.begins t.come c.if-self.false c.if-self-ne0.false none c.requires.some) c.requires.sound.one in
+    (works i, is)
+
+pub returns-then-self-clause-sound : goal.returns-then-self-clause-sound
+returns-then-self-clause-sound c =
+    let t = c.args.self.now in
+    let here = ap (λ b. b || not (t.awaits == 0)) c.if-self.true in
+    sound_less t c.requires.sound false t.awaits t.begins t.come (λ h. ((c.requires.sound.boundary here).phase, here)) c.requires.sound.one
+
+pub returns-then-self-ne0-clause-sound : goal.returns-then-self-ne0-clause-sound
+returns-then-self-ne0-clause-sound c =
+    let t = c.args.self.now in
+    let here = some_word t.posts t.awaits (omega (arith, c.if-self-ne0.true)) in
+    sound_less t c.requires.sound t.posts _ t.begins t.come (λ h. ((c.requires.sound.boundary here).phase, here)) c.requires.sound.one
+
+pub returns-then-is_some-clause-sound : goal.returns-then-is_some-clause-sound
+returns-then-is_some-clause-sound c =
+    let t = c.args.self.now in
+    sound_less t c.requires.sound t.posts t.awaits None t.come (λ h. absurd (no_front t.posts t.awaits c.if-self.false c.if-self-ne0.false h)) c.requires.sound.one
+
+pub returns-else-is_some-clause-sound : goal.returns-else-is_some-clause-sound
+returns-else-is_some-clause-sound c =
+    let t = c.args.self.now in
+    sound_less t c.requires.sound t.posts t.awaits t.begins None (λ h. absurd (no_front t.posts t.awaits c.if-self.false c.if-self-ne0.false h)) tt
