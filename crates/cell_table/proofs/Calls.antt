@@ -41,6 +41,9 @@ module _ {id : TableId} {v : View} {p a : ℕ} {now : CellView} {home : Home} (k
   its_processor : processor_of (role_in v) ≡ p
   its_processor = ap processor_of k.seat.role
 
+  pub its_worker : now.processor < (protocol_at now.home).workers
+  its_worker = subst (λ (x : CellView). x.processor < (protocol_at x.home).workers) k.is (subst (λ q. q < (protocol_in v).workers) (sym its_processor) k.seat.worker)
+
   pub its_next : (act : Act) → next_act now ≡ Some act → act_at (protocol_in v) p (position_of (role_in v)) ≡ Some act
   its_next act next = subst (λ x. act_at (protocol_in v) x (position_of (role_in v)) ≡ Some act) its_processor (subst (λ (x : CellView). next_act x ≡ Some act) (sym k.is) next)
 

@@ -1,10 +1,11 @@
 -- What the calls of a table ask and tell.
-use Rattle.std.specs.Prelude.{ℕ, ℤ, ◌*◌, ◌≡◌, ◌<◌, true, false, Contains, Some, length, replicate, slice_get, slice_set}
+use Rattle.std.specs.Prelude.{ℕ, ℤ, ◌+◌, ◌-◌, ◌*◌, ◌≡◌, ◌<◌, true, false, Contains, Some, length, replicate, slice_get, slice_set}
 use Rattle.nest_model.specs.Accesses.{loads_of}
 use Rattle.nest_model.specs.Instances.{Instance, instances}
 use Rattle.nest_model.specs.Memory.{cell_value, memory_before}
 use Rattle.spmd_model.specs.Planned.{jobs_in_front}
 use Rattle.spmd_model.specs.Timelines.{counter, post, await, load, store}
+use Rattle.spmd_laws.specs.Viewed.{barriers_in_front}
 use Rattle.cell_table.specs.declared.poll.Poll.{Poll}
 use Rattle.cell_table.specs.declared.poll.Poll.TheVariants.{Ready, NotYet}
 use Rattle.cell_table.specs.declared.view.Stage.{Stage}
@@ -44,9 +45,13 @@ abbrev pub PollTells : CellView → CellView → ℕ → Poll → CellView → T
 PollTells old further wanted Ready new = new ≡ further
 PollTells old further wanted (NotYet seen) new = (seen < wanted) × (new ≡ missed old)
 
--- how many arrivals there are once all have come
+-- how many arrivals there are once all have arrived as often as the seat's processor
 abbrev pub all_arrivals : CellView → ℕ
 all_arrivals v = (protocol_at v.home).workers * arrivals_of v
+
+-- as many as the barriers up to the one in front of phase number e, for each processor
+abbrev pub arrivals_up_to : Home → ℕ → ℕ
+arrivals_up_to h e = (protocol_at h).workers * (barriers_in_front (tree_given h.given) (plan_given h.given) (e - 1) + 1)
 
 abbrev pub with_stage : ℕ → Stage → MainView → MainView
 with_stage p stage v = record { home = v.home; stages = slice_set v.stages p stage }

@@ -8,7 +8,7 @@ ghost use Rattle.nest_model.specs.Ranges.{IsInRange};
 ghost use Rattle.sync_plan.specs.Fit.{IsFit};
 ghost use Rattle.sync_plan.specs.Ordered.{IsOrdered};
 ghost use Rattle.spmd_laws.specs.Laws.{Laws};
-ghost use Rattle.cell_table.specs.Calls.{AreAllEnded, ArrivesNext, AwaitsNext, GathersNext, IsInMemory, LoadsNext, PollTells, PostsNext, IsEndedSeat, StoresNext, all_arrivals, first_seat, main_seat, with_stage};
+ghost use Rattle.cell_table.specs.Calls.{AreAllEnded, ArrivesNext, AwaitsNext, GathersNext, IsInMemory, LoadsNext, PollTells, PostsNext, IsEndedSeat, StoresNext, all_arrivals, arrivals_up_to, first_seat, main_seat, with_stage};
 ghost use Rattle.cell_table.specs.Ends.{IsLast};
 ghost use Rattle.spmd_model.specs.Timelines.{counter};
 ghost use Rattle.cell_table.specs.Homes.{gone, loaded_next, protocol_at, stored_next, through};
@@ -22,7 +22,7 @@ use crate::rule::{Cut, Glue, Go, Load, Look, LookAround, Rule, Twin, Which};
 use crate::view::{Given, View};
 use atomic_table::{Seat, Table};
 use nest_tree::Program;
-use spmd_laws::{laws_of, values_of_instances};
+use spmd_laws::{arrivals_are_barriers, laws_of, values_of_instances};
 use std::alloc::{AllocError, Global};
 use std::marker::{Brand, Model};
 use sync_plan::Plan;
@@ -248,8 +248,10 @@ impl<'a> Cells<'a> {
     pub fn poll_arrivals(&self, seat: &mut CellSeat, e: u64) -> Poll
         requires own { seat.old.home ≡ self.now }
         requires next { GathersNext seat.old (e - 1) }
-        ensures { PollTells seat.old (through seat.old) (all_arrivals seat.old) result seat.new }
+        ensures tells { PollTells seat.old (through seat.old) (all_arrivals seat.old) result seat.new }
+        ensures wanted { all_arrivals seat.old ≡ arrivals_up_to self.now e }
     {
+        arrivals_are_barriers();
         let seen = self
             .table
             .shared
