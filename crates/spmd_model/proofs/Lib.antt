@@ -14,6 +14,8 @@ pub mod StateAt
 pub mod Rounds
 pub mod Quiet
 pub mod Shared
+pub mod OwnPhases
+pub mod Trips
 pub mod PlannedMoments
 mod PlannedOrder
 pub mod PlannedMemory

@@ -8,6 +8,8 @@ pub mod Reached
 pub mod Rounds
 pub mod Quiet
 pub mod Shared
+pub mod OwnPhases
+pub mod Trips
 pub mod Planned
 pub mod Deeds
 pub mod Examples

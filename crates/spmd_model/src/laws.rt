@@ -1,6 +1,6 @@
 // What holds of every run: there is nothing to call.
 
-ghost use Rattle.std.specs.Prelude.{ℕ, ℤ, pos, length, replicate, slice_get, map, List, Some, All, ◌≡◌, ◌≢◌, ◌<◌, ◌≤◌, ◌+◌, ◌⊎◌, ◌++◌};
+ghost use Rattle.std.specs.Prelude.{ℕ, ℤ, pos, Bool, true, false, Option, None, Contains, fold, ◌∷◌, length, replicate, slice_get, map, List, Some, All, ◌≡◌, ◌≢◌, ◌<◌, ◌≤◌, ◌+◌, ◌⊎◌, ◌++◌};
 ghost use Rattle.nest_tree.specs.Layout.{cell_count};
 ghost use Rattle.nest_tree.specs.Tree.{Tree};
 ghost use Rattle.nest_tree.specs.WellFormed.{IsWellFormed};
@@ -15,6 +15,9 @@ ghost use Rattle.spmd_model.specs.Deeds.{can_do, deed_of, deeds_from, did};
 ghost use Rattle.spmd_model.specs.Lawful.{IsLawful, Moves, acts_in_front};
 ghost use Rattle.spmd_model.specs.Ordered.{Hop, IsChain, IsOrdered, IsSound};
 ghost use Rattle.spmd_model.specs.Planned.{job_of, jobs_in_front, machine_of, timeline_of};
+ghost use Rattle.std.specs.List.{AllByRecursion};
+ghost use Rattle.spmd_model.specs.OwnPhases.{AreApart, Come, IsGoodLoad, IsSumJob, Own, adds_total, behind_job, clears, keeps_private, own_cell, own_job, put, without};
+ghost use Rattle.spmd_model.specs.Trips.{IsTrip, last_behind};
 ghost use Rattle.spmd_model.specs.Quiet.{quiet_next, turns_of};
 ghost use Rattle.spmd_model.specs.Reached.{CanGo, IsPossibleAt, memory_by, state_at};
 ghost use Rattle.spmd_model.specs.Rounds.{AreEnough, AreRounds};
@@ -25,61 +28,141 @@ ghost use Rattle.spmd_model.specs.Timelines.{Act, Job, Machine, act_at, acts_of,
 /// A state of a run, in whatever order its processors went, is never stuck before its end: it is
 /// ended, or the next act of some processor is possible.
 pub fn no_state_is_stuck()
-    ensures { (m : Machine) (schedule : List ℕ) → IsSound m → All (λ p. p < m.workers) schedule → IsEnded m (run_of m schedule) ⊎ CanGo m (run_of m schedule) }
+    ensures { (m : Machine) (schedule : List ℕ) → IsSound m → All (λ p. p < m.workers) schedule
+        → IsEnded m (run_of m schedule) ⊎ CanGo m (run_of m schedule) }
 {}
 
 /// On an ordered timeline, in whatever order the processors go, every load that stands next finds
 /// in its cell what the sequential program's memory has there in front of its job.
 pub fn every_load_is_sequential()
-    ensures { (m : Machine) (schedule : List ℕ) (p place cell : ℕ) → IsSound m → IsOrdered m → All (λ p. p < m.workers) schedule → p < m.workers
-        → next_act m (run_of m schedule) p ≡ Some (load place cell) → cell_value (run_of m schedule).memory cell ≡ cell_value (memory_at m place) cell }
+    ensures { (m : Machine) (schedule : List ℕ) (p place cell : ℕ) → IsSound m → IsOrdered m
+        → All (λ p. p < m.workers) schedule → p < m.workers
+        → next_act m (run_of m schedule) p ≡ Some (load place cell)
+        → cell_value (run_of m schedule).memory cell ≡ cell_value (memory_at m place) cell }
 {}
 
 /// On an ordered timeline the output of a run is at all times a front of the sequential one, and a
 /// run that has ended has the sequential program's memory and its whole output.
 pub fn runs_are_sequential()
-    ensures front { (m : Machine) (schedule : List ℕ) → IsSound m → IsOrdered m → All (λ p. p < m.workers) schedule → (rest : List ℕ) × ((run_of m schedule).output ++ rest ≡ whole_output m) }
-    ensures memory { (m : Machine) (schedule : List ℕ) → IsSound m → IsOrdered m → All (λ p. p < m.workers) schedule → IsEnded m (run_of m schedule) → (run_of m schedule).memory ≡ last_memory m }
-    ensures output { (m : Machine) (schedule : List ℕ) → 0 < m.workers → IsSound m → IsOrdered m → All (λ p. p < m.workers) schedule → IsEnded m (run_of m schedule) → (run_of m schedule).output ≡ whole_output m }
+    ensures front { (m : Machine) (schedule : List ℕ) → IsSound m → IsOrdered m
+        → All (λ p. p < m.workers) schedule → (rest : List ℕ)
+        × ((run_of m schedule).output ++ rest ≡ whole_output m) }
+    ensures memory { (m : Machine) (schedule : List ℕ) → IsSound m → IsOrdered m
+        → All (λ p. p < m.workers) schedule → IsEnded m (run_of m schedule)
+        → (run_of m schedule).memory ≡ last_memory m }
+    ensures output { (m : Machine) (schedule : List ℕ) → 0 < m.workers → IsSound m → IsOrdered m
+        → All (λ p. p < m.workers) schedule → IsEnded m (run_of m schedule)
+        → (run_of m schedule).output ≡ whole_output m }
+{}
+
+/// Where each processor has cells of its own for some scalars of a phase, memory with them follows
+/// memory with shared cells alone, job by job: loads of shared cells and of privates that the same
+/// processor stored last give the same; a private is kept, and a sum's own cell takes what the
+/// assignment adds. Behind the phase, the owner of a private stores its cell to the shared one, and
+/// each processor that assigned a sum adds its total to the shared cell and sets it to 0.
+pub fn own_cells_follow()
+    ensures loads { (o : Own) (m f : ℕ → ℤ) (last : ℕ → Option ℕ) (assigned : ℕ → ℕ
+        → Bool) (p : ℕ) (cells : List ℕ) → AreApart o → Come o m f last assigned
+        → AllByRecursion (IsGoodLoad o last p) cells
+        → map f (map (own_cell o p) cells) ≡ map m cells }
+    ensures shared { (o : Own) (m f : ℕ → ℤ) (last : ℕ → Option ℕ) (assigned : ℕ → ℕ
+        → Bool) (j : Job) (c : ℕ) → AreApart o → Come o m f last assigned
+        → AllByRecursion (IsGoodLoad o last j.owner) j.loads → j.adds ≡ false → j.store ≡ Some c
+        → c < o.shared → o.slot c ≡ None → Come o (behind_job m j) (behind_job f (own_job o j))
+        last assigned }
+    ensures private { (o : Own) (m f : ℕ → ℤ) (last : ℕ → Option ℕ) (assigned : ℕ → ℕ
+        → Bool) (j : Job) (c k : ℕ) → AreApart o → Come o m f last assigned
+        → AllByRecursion (IsGoodLoad o last j.owner) j.loads → j.adds ≡ false → j.store ≡ Some c
+        → c < o.shared → o.slot c ≡ Some k → o.is_sum c ≡ false
+        → Come o (behind_job m j) (behind_job f (own_job o j)) (put last c (Some j.owner)) assigned }
+    ensures sum { (o : Own) (m f : ℕ → ℤ) (last : ℕ → Option ℕ) (assigned : ℕ → ℕ
+        → Bool) (j : Job) (c k : ℕ) → AreApart o → Come o m f last assigned
+        → (s : IsSumJob o j c k) → j.adds ≡ false → j.owner < o.workers
+        → AllByRecursion (IsGoodLoad o last j.owner) s.rest
+        → Come o (behind_job m j) (behind_job f (own_job o j)) last (put assigned c (put (assigned
+        c) j.owner true)) }
+    ensures kept { (o : Own) (m f : ℕ → ℤ) (last : ℕ → Option ℕ) (assigned : ℕ → ℕ
+        → Bool) (c k p : ℕ) (j : Job) → AreApart o → Come o m f last assigned → o.slot c ≡ Some k
+        → o.is_sum c ≡ false → last c ≡ Some p → keeps_private o c k p j
+        → Come (without o c) m (behind_job f j) last assigned }
+    ensures total { (o : Own) (m f : ℕ → ℤ) (last : ℕ → Option ℕ) (assigned : ℕ → ℕ
+        → Bool) (c k p : ℕ) (i j : Job) → AreApart o → Come o m f last assigned → o.slot c ≡ Some k
+        → o.is_sum c ≡ true → p < o.workers → assigned c p ≡ true → adds_total o c k p i
+        → clears o k p j → Come o m (behind_job (behind_job f i) j) last (put assigned c (put
+        (assigned c) p false)) }
+    ensures none_left { (o : Own) (m f : ℕ → ℤ) (last : ℕ → Option ℕ) (assigned : ℕ → ℕ
+        → Bool) (c k : ℕ) → AreApart o → Come o m f last assigned → o.slot c ≡ Some k
+        → o.is_sum c ≡ true → ((p : ℕ) → p < o.workers → assigned c p ≡ false)
+        → Come (without o c) m f last assigned }
+{}
+
+/// In a trip of a loop whose first job with a private stores it, all of one processor, each load of
+/// the private is of what that processor stored last, and so it is behind the trip.
+pub fn trips_keep_privates()
+    ensures load { (o : Own) (c k p : ℕ) (last : ℕ
+        → Option ℕ) (js before after : List Job) (j : Job) → o.slot c ≡ Some k → o.is_sum c ≡ false
+        → IsTrip o c p js → js ≡ before ++ j ∷ after → Contains j.loads c
+        → fold (last_behind o) last before c ≡ Some p }
+    ensures behind { (o : Own) (c k p : ℕ) (last : ℕ → Option ℕ) (js : List Job)
+        → o.slot c ≡ Some k → o.is_sum c ≡ false → IsTrip o c p js
+        → fold (last_behind o) last js c ≡ Some p }
 {}
 
 /// A barrier by signals is as many rounds as reach every processor: a chain of waits leads through
 /// them from every processor to every other. So whoever is behind the last round knows that every
 /// other processor has posted in the first one.
 pub fn rounds_lead_to_all()
-    ensures chain { (m : Machine) (place first rounds q p t u : ℕ) → AreRounds m place first rounds → AreEnough m.workers rounds → 0 < first → q < m.workers → p < m.workers → t < place → place + rounds ≤ u → (hops : List Hop) × IsChain m q t hops p u }
-    ensures posted { (m : Machine) (cells : List ℤ) (at : ℕ → ℕ) (place first rounds q p : ℕ) → IsSound m → IsLawful m cells at → AreRounds m place first rounds → AreEnough m.workers rounds → 0 < first → q < m.workers → p < m.workers → q ≢ p
+    ensures chain { (m : Machine) (place first rounds q p t u : ℕ) → AreRounds m place first rounds
+        → AreEnough m.workers rounds → 0 < first → q < m.workers → p < m.workers → t < place
+        → place + rounds ≤ u → (hops : List Hop) × IsChain m q t hops p u }
+    ensures posted { (m : Machine) (cells : List ℤ) (at : ℕ → ℕ) (place first rounds q p : ℕ)
+        → IsSound m → IsLawful m cells at → AreRounds m place first rounds
+        → AreEnough m.workers rounds → 0 < first → q < m.workers → p < m.workers → q ≢ p
         → acts_in_front m p (place + rounds) ≤ at p → acts_in_front m q place < at q }
 {}
 
 /// A run by turns, each an act and then the acts on the processor's own cells that stand next, is a
 /// run act by act; and in front of each turn no such act stands next.
 pub fn turns_are_runs()
-    ensures runs { (m : Machine) (shared : ℕ) (schedule : List ℕ) → All (λ p. p < m.workers) schedule → (acts : List ℕ) × All (λ p. p < m.workers) acts × (turns_of m shared schedule ≡ run_of m acts) }
-    ensures settled { (m : Machine) (shared : ℕ) (schedule : List ℕ) (p : ℕ) → All (λ q. q < m.workers) schedule → p < m.workers → quiet_next m shared (turns_of m shared schedule) p ≡ 0 }
+    ensures runs { (m : Machine) (shared : ℕ) (schedule : List ℕ)
+        → All (λ p. p < m.workers) schedule → (acts : List ℕ) × All (λ p. p < m.workers) acts
+        × (turns_of m shared schedule ≡ run_of m acts) }
+    ensures settled { (m : Machine) (shared : ℕ) (schedule : List ℕ) (p : ℕ)
+        → All (λ q. q < m.workers) schedule → p < m.workers
+        → quiet_next m shared (turns_of m shared schedule) p ≡ 0 }
 {}
 
 /// Lawful memory, with how many acts each processor has done, is a state of the machine; and each
 /// act that is possible there is one step of it, to memory that is lawful again.
 pub fn acts_are_steps()
-    ensures first { (m : Machine) → first_state m ≡ state_at m (replicate m.cells (pos 0)) (λ p. 0) }
-    ensures step { (m : Machine) (memory : List ℤ) (at after : ℕ → ℕ) (p : ℕ) (a : Act) → IsSound m → IsOrdered m → p < m.workers → IsLawful m memory at → act_at m p (at p) ≡ Some a → IsPossibleAt (acts_of m) at a → Moves at after p (at p + 1)
-        → stepped m (state_at m memory at) p ≡ state_at m (memory_by memory (stored_at m p (at p)) a) after }
-    ensures lawful { (m : Machine) (memory : List ℤ) (at after : ℕ → ℕ) (p : ℕ) (a : Act) → IsSound m → IsOrdered m → p < m.workers → IsLawful m memory at → act_at m p (at p) ≡ Some a → IsPossibleAt (acts_of m) at a → Moves at after p (at p + 1)
+    ensures first { (m : Machine) → first_state m
+        ≡ state_at m (replicate m.cells (pos 0)) (λ p. 0) }
+    ensures step { (m : Machine) (memory : List ℤ) (at after : ℕ → ℕ) (p : ℕ) (a : Act) → IsSound m
+        → IsOrdered m → p < m.workers → IsLawful m memory at → act_at m p (at p) ≡ Some a
+        → IsPossibleAt (acts_of m) at a → Moves at after p (at p + 1)
+        → stepped m (state_at m memory at) p ≡ state_at m (memory_by memory (stored_at m p (at p))
+        a) after }
+    ensures lawful { (m : Machine) (memory : List ℤ) (at after : ℕ → ℕ) (p : ℕ) (a : Act)
+        → IsSound m → IsOrdered m → p < m.workers → IsLawful m memory at
+        → act_at m p (at p) ≡ Some a → IsPossibleAt (acts_of m) at a → Moves at after p (at p + 1)
         → IsLawful m (memory_by memory (stored_at m p (at p)) a) after }
 {}
 
 /// What a store stores and an addition adds where each load gave the sequential value is the
 /// sequential value of its job.
 pub fn stored_values()
-    ensures stored { (m : Machine) (p n place cell : ℕ) → act_at m p n ≡ Some (store place cell) → stored_at m p n ≡ value_at m place }
-    ensures added { (m : Machine) (p n place cell : ℕ) → act_at m p n ≡ Some (add place cell) → stored_at m p n ≡ value_at m place }
+    ensures stored { (m : Machine) (p n place cell : ℕ) → act_at m p n ≡ Some (store place cell)
+        → stored_at m p n ≡ value_at m place }
+    ensures added { (m : Machine) (p n place cell : ℕ) → act_at m p n ≡ Some (add place cell)
+        → stored_at m p n ≡ value_at m place }
 {}
 
 /// A plan that fits a well-formed program has a sound timeline, and an ordered plan an ordered one.
 pub fn timelines_of_plans()
-    ensures sound { (tree : Tree) → (plan : Plan) → IsWellFormed tree → IsFit tree plan → IsSound (machine_of tree plan) }
-    ensures ordered { (tree : Tree) → (plan : Plan) → IsWellFormed tree → IsFit tree plan → IsOrderedPlan tree plan → IsOrdered (machine_of tree plan) }
+    ensures sound { (tree : Tree) → (plan : Plan) → IsWellFormed tree → IsFit tree plan
+        → IsSound (machine_of tree plan) }
+    ensures ordered { (tree : Tree) → (plan : Plan) → IsWellFormed tree → IsFit tree plan
+        → IsOrderedPlan tree plan → IsOrdered (machine_of tree plan) }
 {}
 
 /// The sequential values along a plan's timeline are the program's: memory in front of a job is
@@ -87,10 +170,17 @@ pub fn timelines_of_plans()
 /// the program's last one, and the output is the program's. The program's last memory has each of
 /// its cells.
 pub fn timelines_are_sequential()
-    ensures memory { (tree : Tree) → (plan : Plan) → (place : ℕ) → memory_at (machine_of tree plan) place ≡ memory_before tree (jobs_in_front tree plan place) }
-    ensures last { (tree : Tree) → (plan : Plan) → last_memory (machine_of tree plan) ≡ Memory.last_memory tree }
-    ensures output { (tree : Tree) → (plan : Plan) → whole_output (machine_of tree plan) ≡ output_of tree }
-    ensures instance { (tree : Tree) → (plan : Plan) → (place : ℕ) → (j : Job) → slice_get (timeline_of tree plan) place ≡ Some (job j) → (x : Execution) × (j ≡ job_of tree plan x) × (slice_get (instances tree) (jobs_in_front tree plan place) ≡ Some x.instance) }
+    ensures memory { (tree : Tree) → (plan : Plan) → (place : ℕ)
+        → memory_at (machine_of tree plan) place ≡ memory_before tree (jobs_in_front tree plan
+        place) }
+    ensures last { (tree : Tree) → (plan : Plan)
+        → last_memory (machine_of tree plan) ≡ Memory.last_memory tree }
+    ensures output { (tree : Tree) → (plan : Plan)
+        → whole_output (machine_of tree plan) ≡ output_of tree }
+    ensures instance { (tree : Tree) → (plan : Plan) → (place : ℕ) → (j : Job)
+        → slice_get (timeline_of tree plan) place ≡ Some (job j)
+        → (x : Execution) × (j ≡ job_of tree plan x)
+        × (slice_get (instances tree) (jobs_in_front tree plan place) ≡ Some x.instance) }
     ensures size { (tree : Tree) → length (Memory.last_memory tree) ≡ cell_count tree }
 {}
 
@@ -98,7 +188,11 @@ pub fn timelines_are_sequential()
 /// awaits, and then the loads and the store or the PRINT of each instance that it owns. And what an
 /// act does to a state, and whether it is possible, follows from that alone.
 pub fn acts_by_their_deeds()
-    ensures phases { (tree : Tree) → (plan : Plan) → (p : ℕ) → IsWellFormed tree → IsFit tree plan → map (deed_of (machine_of tree plan)) (acts_of (machine_of tree plan) p) ≡ deeds_from tree plan p 1 (phases tree plan.cut) }
-    ensures acted { (m : Machine) → (s : State) → (p : ℕ) → (a : Act) → acted m s p a ≡ did s p (deed_of m a) }
-    ensures possible { (m : Machine) → (s : State) → (a : Act) → is_possible s a ≡ can_do s (deed_of m a) }
+    ensures phases { (tree : Tree) → (plan : Plan) → (p : ℕ) → IsWellFormed tree → IsFit tree plan
+        → map (deed_of (machine_of tree plan)) (acts_of (machine_of tree plan) p)
+        ≡ deeds_from tree plan p 1 (phases tree plan.cut) }
+    ensures acted { (m : Machine) → (s : State) → (p : ℕ) → (a : Act)
+        → acted m s p a ≡ did s p (deed_of m a) }
+    ensures possible { (m : Machine) → (s : State) → (a : Act)
+        → is_possible s a ≡ can_do s (deed_of m a) }
 {}

@@ -10,6 +10,8 @@
 //! - `specs/Rounds.antt`: a barrier by signals, round by round.
 //! - `specs/Quiet.antt`: acts on a processor's own cells, and runs by turns.
 //! - `specs/Shared.antt`: lawful shared cells, with own cells behind them.
+//! - `specs/OwnPhases.antt`, `specs/Trips.antt`: phases in which each processor has cells of its
+//!   own for some scalars, and their closings.
 //! - `specs/Planned.antt`: the timeline of a program under a plan.
 //! - `specs/Deeds.antt`: what acts do, phase by phase.
 //! - `laws`: no state is stuck, and runs of ordered plans are sequential.
@@ -19,6 +21,6 @@ mod laws;
 
 pub use laws::{
     acts_are_steps, acts_by_their_deeds, every_load_is_sequential, no_state_is_stuck,
-    rounds_lead_to_all, runs_are_sequential, stored_values, timelines_are_sequential,
-    timelines_of_plans, turns_are_runs,
+    own_cells_follow, rounds_lead_to_all, runs_are_sequential, stored_values,
+    timelines_are_sequential, timelines_of_plans, trips_keep_privates, turns_are_runs,
 };
