@@ -1,37 +1,12 @@
 // The marks of loops, and which marks a program's loops may have.
 
-ghost use Rattle.std.specs.Prelude.{◌≡◌, ◌<◌, ◌^◌, ◌||◌};
+ghost use Rattle.std.specs.Prelude.{◌≡◌, ◌||◌};
 ghost use Rattle.nest_tree.specs.View.{statement_of, statements_from};
-ghost use Rattle.nest_tree.specs.WellFormed.{loops_in, loops_of};
 ghost use Rattle.owner_partition.specs.Marks.{is_closed};
 ghost use Rattle.sync_plan.specs.Shape.{are_marked_well, fits_mark, is_doall, is_marked_well, mark_of};
 
 use nest_tree::Item;
 use owner_partition::Mark;
-
-// How many loops there are in these statements.
-#[cycle(loops)]
-pub(crate) fn loop_count(items: &[Item]) -> usize
-    requires { loops_of (statements_from items.now) < 2 ^ 32 }
-    ensures { result ≡ loops_of (statements_from items.now) }
-{
-    let mut count = 0;
-    for item in items {
-        count += loops_in_item(item);
-    }
-    count
-}
-
-#[cycle(loops)]
-fn loops_in_item(item: &Item) -> usize
-    requires { loops_in (statement_of item.now) < 2 ^ 32 }
-    ensures { result ≡ loops_in (statement_of item.now) }
-{
-    match item {
-        Item::Loop(nest) => 1 + loop_count(&nest.items),
-        Item::Assign(..) | Item::Print(..) | Item::Continue(_) => 0,
-    }
-}
 
 /// The mark of the loop with this number, from 1; a loop without one counts as Inner.
 pub fn mark_of(marks: &[Mark], number: u32) -> Mark

@@ -7,7 +7,7 @@ ghost use Rattle.nest_tree.specs.Limits.{IsWithinLimits};
 ghost use Rattle.nest_tree.specs.View.{statement_of, statements_from, tree_of};
 ghost use Rattle.nest_tree.specs.WellFormed.{IsWellFormed, loops_of};
 ghost use Rattle.owner_partition.specs.Placement.{unplaced};
-ghost use Rattle.sync_plan.specs.Fit.{has_print, have_print, is_dealt, is_zero_form, kind_anchors, misplaced_print, numbered_anchors, placed_anchors};
+ghost use Rattle.sync_plan.specs.Fit.{has_print, is_dealt, is_zero_form, kind_anchors, misplaced_print, numbered_anchors, placed_anchors};
 ghost use Rattle.sync_plan.specs.Shape.{static_phases, wrong_field};
 ghost use Rattle.sync_plan.specs.declared.plan.Kind.{Kind};
 ghost use Rattle.plan_checker.specs.Named.{are_given_anchors, are_given_kinds, is_given_kind};
@@ -106,31 +106,7 @@ pub(crate) fn misplaced_print(program: &Program, cut: &Cut, anchors: &[Anchor]) 
 fn is_misplaced(marks: &[Mark], item: &Item, form: &Affine) -> bool
     ensures { result ≡ (has_print (statement_of item.now) && (is_dealt marks.now (statement_of item.now) || not (is_zero_form form.now))) }
 {
-    has_print(item) && (is_dealt(marks, item) || !is_zero_form(form))
-}
-
-// Whether a PRINT stands in these statements.
-#[cycle(print)]
-fn have_print(items: &[Item]) -> bool
-    ensures { result ≡ have_print (statements_from items.now) }
-{
-    for item in items {
-        if has_print(item) {
-            return true;
-        }
-    }
-    false
-}
-
-#[cycle(print)]
-fn has_print(item: &Item) -> bool
-    ensures { result ≡ has_print (statement_of item.now) }
-{
-    match item {
-        Item::Loop(nest) => have_print(&nest.items),
-        Item::Print(..) => true,
-        Item::Assign(..) | Item::Continue(_) => false,
-    }
+    item.has_print() && (is_dealt(marks, item) || !is_zero_form(form))
 }
 
 // Whether a static phase is a Doall loop.

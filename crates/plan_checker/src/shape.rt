@@ -7,7 +7,7 @@ ghost use Rattle.sync_plan.specs.Shape.{wrong_field};
 
 use crate::anchors::{are_good_anchors, are_good_kinds, constant_count};
 use crate::conditions::are_good_conditions;
-use crate::marks::{are_marked_well, loop_count};
+use crate::marks::are_marked_well;
 use nest_tree::Program;
 use owner_partition::StaticPhase;
 use sync_plan::Plan;
@@ -25,7 +25,7 @@ pub(crate) fn wrong_field(program: &Program, plan: &Plan) -> Option<u32>
     let phases = StaticPhase::count(program, &plan.cut) as usize;
     if plan.workers < 1 || plan.workers > 64 {
         Some(1)
-    } else if marks.len() != loop_count(&program.items) {
+    } else if marks.len() != program.loop_count() as usize {
         Some(2)
     } else if !are_marked_well(marks, false, &program.items) {
         Some(3)
