@@ -1,8 +1,8 @@
 -- The acts of a program in range under a plan load and store cells that are there.
-use Rattle.std.proofs.Common.{◌≡◌, ◌==◌, ℕ, suc, ◌+◌, ◌<◌, ◌&&◌, ℤ, Bool, true, false, List, [], ◌∷◌, ◌++◌, map, Option, Some, None, sym, subst, ◌∙◌, if◌then◌else◌}
+use Rattle.std.proofs.Common.{◌≡◌, ◌==◌, ℕ, suc, ◌+◌, ◌<◌, ◌&&◌, ℤ, Bool, true, false, List, [], ◌∷◌, ◌++◌, map, Option, Some, None, refl, sym, subst, ◌∙◌, if◌then◌else◌}
 use Rattle.std.specs.List.{All, list_all}
 use Rattle.std.specs.Option.{option_to_list}
-use Rattle.std.proofs.lemmas.Bool.{and_parts}
+use Rattle.std.proofs.lemmas.Bool.{and_parts, lt-leb}
 use Rattle.std.proofs.lemmas.List.Elements.{All-append, All-cons, All-head, All-map, All-nil, All-tail}
 use Rattle.std.proofs.lemmas.List.Folds.{list_all-append}
 use Rattle.nest_tree.specs.Layout.{cell_count}
@@ -22,6 +22,9 @@ use Rattle.owner_partition.proofs.Sites.{All-flat_map, all_at}
 use Rattle.spmd_model.specs.Timelines as timeline
 use Rattle.spmd_model.specs.Timelines.{Act, post, await, load, store, add, Job, Word, Moment, boundary, job, acts_from, boundary_acts, job_acts, last_act, moment_acts}
 use Rattle.spmd_model.specs.Planned.{boundary_of, job_of, jobs_of, machine_of, timeline_from, timeline_of}
+use Rattle.spmd_model.specs.Quiet.{is_quiet}
+use Rattle.spmd_laws.specs.Protocols as Protocols
+use Rattle.spmd_laws.specs.Viewed.{acts_under, protocol_of}
 use Rattle.spmd_laws.proofs.Lists.{every, passed}
 use Rattle.spmd_laws.proofs.Loads.{access_there, expression_there, items_there}
 
@@ -150,3 +153,16 @@ acts_there cells p place (x ∷ xs) all =
 
 pub act_there : (tree : Tree) (plan : Plan) (p n : ℕ) (a : Act) → IsWellFormed tree → IsInRange tree → timeline.act_at (machine_of tree plan) p n ≡ Some a → IsActThere (cell_count tree) a
 act_there tree plan p n a formed ranges e = all_at (IsActThere (cell_count tree)) (acts_from p 0 (timeline_of tree plan)) n a (acts_there (cell_count tree) p 0 (timeline_of tree plan) (timeline_there tree plan formed ranges)) e
+
+-- so none of them is of an own cell
+pub none_quiet : (tree : Tree) (plan : Plan) (p n : ℕ) (a : Act) → IsWellFormed tree → IsInRange tree → Protocols.act_at (protocol_of tree plan) p n ≡ Some a → is_quiet (cell_count tree) a ≡ false
+unfolding acts_under
+none_quiet tree plan p n a formed ranges e = by a (act_there tree plan p n a formed ranges e)
+  where
+    by : (b : Act) → IsActThere (cell_count tree) b → is_quiet (cell_count tree) b ≡ false
+    by (post w k) there = refl
+    by (await w q k) there = refl
+    by (load t c) there = lt-leb (cell_count tree) c there
+    by (store t c) there = lt-leb (cell_count tree) c there
+    by (add t c) there = refl
+    by (timeline.print t) there = refl

@@ -1,6 +1,6 @@
 // The laws of the protocol of an ordered plan: there is nothing to call.
 
-ghost use Rattle.std.specs.Prelude.{ℕ, ℤ, pos, true, List, ◌∷◌, Some, None, Contains, length, replicate, slice_get, ◌≡◌, ◌<◌, ◌+◌, ◌++◌};
+ghost use Rattle.std.specs.Prelude.{ℕ, ℤ, pos, true, false, List, ◌∷◌, Some, None, Contains, length, replicate, slice_get, ◌≡◌, ◌<◌, ◌+◌, ◌++◌};
 ghost use Rattle.nest_tree.specs.Layout.{cell_count};
 ghost use Rattle.nest_tree.specs.Limits.{IsWithinLimits};
 ghost use Rattle.nest_tree.specs.Tree.{Tree};
@@ -18,6 +18,7 @@ ghost use Rattle.sync_plan.specs.declared.plan.Plan.{Plan};
 ghost use Rattle.spmd_model.specs.Deeds.{Deed, deed_of, deeds_from, printing, storing};
 ghost use Rattle.spmd_model.specs.Lawful.{Moves};
 ghost use Rattle.spmd_model.specs.Planned.{jobs_in_front, machine_of};
+ghost use Rattle.spmd_model.specs.Quiet.{is_quiet};
 ghost use Rattle.spmd_model.specs.Reached.{IsPossibleAt, memory_by};
 ghost use Rattle.spmd_model.specs.States.{State, first_state, stepped};
 ghost use Rattle.spmd_model.specs.Timelines.{Act, await, counter, load, post, print, store};
@@ -91,6 +92,14 @@ pub fn shared_cells_are_states()
         after (stepped (machine_of tree plan) s p) }
     ensures passed { (cells : List ℤ) → (v : ℤ) → (a : Act) → is_passed (length cells) a ≡ true
         → memory_by cells v a ≡ cells }
+{}
+
+/// In a program in range each load and each store is of a cell that all share: no plan has cells
+/// that are one processor's own.
+pub fn plans_share_all_cells()
+    ensures { (tree : Tree) → (plan : Plan) → (p n : ℕ) → (a : Act) → IsWellFormed tree
+        → IsInRange tree → act_at (protocol_of tree plan) p n ≡ Some a
+        → is_quiet (cell_count tree) a ≡ false }
 {}
 
 /// Instances of one phase that conflict have one owner, where the plan is ordered: so the

@@ -10,6 +10,6 @@
 mod laws;
 
 pub use laws::{
-    arrivals_are_barriers, conflicts_in_a_phase, laws_of, shared_cells_are_states, values_of_deeds,
-    values_of_instances,
+    arrivals_are_barriers, conflicts_in_a_phase, laws_of, plans_share_all_cells,
+    shared_cells_are_states, values_of_deeds, values_of_instances,
 };
