@@ -1,7 +1,9 @@
 pub mod Lists
+pub mod StopInstances
 pub mod Dimensions
 pub mod Sound
 pub mod Orders
 pub mod Solutions
 pub mod Standing
 pub mod CertifiedLists
+pub mod StopRanges

@@ -23,12 +23,8 @@ use Rattle.nest_walk.specs.Texts.{StandFrom, placed_in, works}
 use Rattle.nest_walk.specs.Walkable.{is_small_at}
 use Rattle.nest_walk.proofs.InstanceLists.{all_same}
 use Rattle.nest_walk.proofs.PlacedWorks.{instance_at, standing-good}
-use Rattle.range_check.specs.Outside.{accesses_outside, are_sound_accesses, instance_outside, is_sound_access}
+use Rattle.range_check.specs.Outside.{accesses_outside, are_sound_accesses, instance_outside, is_small_instance, is_sound_access}
 use Rattle.range_check.specs.declared.outside.OutOfRange.{OutOfRange}
-
--- an instance whose forms are small
-abbrev pub is_small_instance : List ℤ → Instance → Bool
-is_small_instance params i = list_all (is_small_at params i.loops) (work_forms i.what)
 
 executed_small : (params loops : List ℤ) (first : ℕ) (w : Work) (b : Bool) → list_all (is_small_at params loops) (work_forms w) ≡ true →
     list_all (is_small_instance params) (if b then record { statement = first; what = w; loops = loops } ∷ [] else []) ≡ true

@@ -4,3 +4,4 @@ pub mod Sites
 pub mod RangeSystems
 pub mod Certified
 pub mod Seen
+pub mod Stops

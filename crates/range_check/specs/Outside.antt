@@ -4,6 +4,7 @@ use Rattle.std.specs.List.{list_all}
 use Rattle.std.specs.Option.{option_or}
 use Rattle.nest_tree.specs.Layout.{bounds_of}
 use Rattle.nest_tree.specs.Limits.{line_of_work}
+use Rattle.nest_tree.specs.Loads.{work_forms}
 use Rattle.nest_tree.specs.Tree.{Tree, param_values}
 use Rattle.nest_tree.specs.WellFormed.{is_good_access, scope_of}
 use Rattle.nest_tree.specs.declared.tree.Access.{Access}
@@ -56,3 +57,7 @@ is_sound_access tree around loops a = is_good_access (scope_of tree) around a &&
 
 abbrev pub are_sound_accesses : Tree → List ℕ → List ℤ → List Access → Bool
 are_sound_accesses tree around loops accesses = list_all (is_sound_access tree around loops) accesses
+
+-- an instance whose forms are small
+abbrev pub is_small_instance : List ℤ → Instance → Bool
+is_small_instance params i = list_all (is_small_at params i.loops) (work_forms i.what)

@@ -1,6 +1,6 @@
 // Pieces of work all of whose subscripts are certified.
 
-ghost use Rattle.std.specs.Prelude.{◌≡◌, ◌-◌, ◌++◌, [], ◌∷◌, OnOk, IfOk, IsTrue, Some, slice_get, true};
+ghost use Rattle.std.specs.Prelude.{◌≡◌, ℕ, ◌-◌, ◌≤◌, ◌<◌, ◌++◌, [], ◌∷◌, OnOk, IfOk, IsTrue, Some, slice_get, true};
 ghost use Rattle.std.specs.List.{AllZip, list_all};
 ghost use Rattle.nest_tree.specs.Form.{is_small};
 ghost use Rattle.nest_tree.specs.Tree.{Head};
@@ -17,7 +17,7 @@ use crate::accesses::accesses_in;
 use crate::proof::dimension_proof;
 use fm_elim::NoMemory;
 use nest_rows::{Nested, nested_works};
-use nest_tree::{Access, Program};
+use nest_tree::{Access, Item, Program};
 use std::alloc::{AllocError, Global};
 
 // Whether each dimension of an access is certified.
@@ -84,4 +84,38 @@ pub(crate) fn is_certified_at(certified: &[bool], number: u32) -> bool
 {
     let place = (number as usize).saturating_sub(1);
     place < certified.len() && certified[place]
+}
+
+// Whether all pieces of work with these numbers, from the first up to the last, which is left out,
+// are certified.
+pub(crate) fn are_certified(certified: &[bool], first: u32, behind: u32) -> bool
+    ensures { IsTrue result → (number : ℕ) → first ≤ number → number < behind → slice_get certified.now (number - 1) ≡ Some true }
+{
+    for number in first..behind {
+        if !is_certified_at(certified, number) {
+            return false;
+        }
+    }
+    true
+}
+
+// Marks the loops in these statements, whose first piece of work has this number, with certified
+// work alone; the number behind them. A mark that is wrong costs time and nothing else.
+pub(crate) fn mark(items: &[Item], first: u32, certified: &[bool], marks: &mut [bool]) -> u32 {
+    let mut number = first;
+    for item in items {
+        match item {
+            Item::Loop(nest) => {
+                let behind = mark(&nest.items, number, certified, marks);
+                let place = (nest.number as usize).saturating_sub(1);
+                if place < marks.len() {
+                    marks[place] = are_certified(certified, number, behind);
+                }
+                number = behind;
+            }
+            Item::Assign(..) | Item::Print(..) => number = number.saturating_add(1),
+            Item::Continue(_) => {}
+        }
+    }
+    number
 }

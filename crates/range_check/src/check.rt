@@ -1,33 +1,37 @@
 // The check of all subscripts.
 
 ghost use Rattle.std.specs.Prelude.{◌≡◌, ◌↔◌, ℕ, IsOk, IsTrue, Some, map, slice_get, true};
-ghost use Rattle.std.specs.List.{All, flat_map, list_all};
+ghost use Rattle.std.specs.List.{AllByRecursion, flat_map, list_all};
 ghost use Rattle.std.specs.Result.{result_err};
 ghost use Rattle.nest_tree.specs.Limits.{IsWithinLimits, line_of_work};
 ghost use Rattle.nest_tree.specs.Loads.{loads_among, loads_in, loads_in_item};
-ghost use Rattle.nest_tree.specs.Tree.{Work, work};
+ghost use Rattle.nest_tree.specs.Tree.{Work, param_values, work};
 ghost use Rattle.nest_tree.specs.View.{expression_of, expressions_from, printed_of, statement_of, tree_of};
 ghost use Rattle.nest_tree.specs.WellFormed.{IsWellFormed, is_number_of, loops_of};
 ghost use Rattle.nest_model.specs.Ranges.{IsInRange, accesses_of};
 ghost use Rattle.nest_walk.specs.Cursors.{loops_in};
+ghost use Rattle.nest_walk.specs.InstancesLeft.{instances_left, instances_tree};
 ghost use Rattle.nest_walk.specs.Paths.{Round};
 ghost use Rattle.nest_walk.specs.Places.{numbers_of};
 ghost use Rattle.nest_walk.specs.RoundsOf.{rounds_of};
-ghost use Rattle.nest_rows.specs.Nested.{Nested as NestedWork, nested_works};
+ghost use Rattle.nest_rows.specs.Nested.{IsNestedInstance, Nested as NestedWork, nested_works};
 ghost use Rattle.range_check.specs.Certified.{AreCertified};
-ghost use Rattle.range_check.specs.Outside.{access_outside, accesses_outside, are_sound_accesses, is_sound_access, outside_of, subscript_outside};
+ghost use Rattle.range_check.specs.Outside.{access_outside, accesses_outside, are_sound_accesses, instances_outside, is_small_instance, is_sound_access, outside_of, subscript_outside};
 
-use crate::certified::{certified_works, is_certified_at};
+use crate::certified::{are_certified, certified_works, is_certified_at, mark};
 use crate::outside::OutOfRange;
 use fm_elim::NoMemory;
 use nest_tree::{Access, Expr, Item, PrintItem, Program};
-use nest_walk::{Instances, Path, value_at};
+use nest_walk::{Cursor, Instances, Path, value_at};
 use std::alloc::Global;
+
+// The most statements that a program has, and so the most loops.
+const MOST_STATEMENTS: usize = 400;
 
 /// The first subscript that is out of range: of the first instance in sequential order, in it of
 /// the first access, its loads in text order and then its store, in it of the first dimension.
-/// Pieces of work all of whose subscripts are certified are not walked, and where all are, none is.
-/// Where memory runs out each is walked.
+/// Pieces of work all of whose subscripts are certified are not looked at, and a loop round nothing
+/// else isn't entered. Where memory runs out each instance is looked at.
 pub fn check_ranges(alloc: Global, program: &Program) -> Result<(), OutOfRange>
     requires formed { IsWellFormed (tree_of program.now) }
     requires limits { IsWithinLimits (tree_of program.now) }
@@ -35,21 +39,9 @@ pub fn check_ranges(alloc: Global, program: &Program) -> Result<(), OutOfRange>
     ensures inside { IsOk result ↔ IsInRange (tree_of program.now) }
 {
     match certified_works(alloc, program) {
-        Ok(certified) => {
-            if are_all(certified.as_slice()) {
-                return Ok(());
-            }
-            check_others(program, certified.as_slice())
-        }
+        Ok(certified) => check_others(program, certified.as_slice()),
         Err(NoMemory) => check_others(program, &[]),
     }
-}
-
-// Whether all are certified.
-fn are_all(certified: &[bool]) -> bool
-    ensures { IsTrue result → All (λ b. b ≡ true) certified.now }
-{
-    certified.iter().all(|one| *one)
 }
 
 // The first subscript that is out of range, where these pieces of work are certified.
@@ -60,10 +52,36 @@ fn check_others(program: &Program, certified: &[bool]) -> Result<(), OutOfRange>
     ensures first { result_err result ≡ outside_of (tree_of program.now) }
     ensures inside { IsOk result ↔ IsInRange (tree_of program.now) }
 {
-    let mut instances = Instances::new(program);
-    while let Some(stop) = instances.next() {
+    let mut marks = [false; MOST_STATEMENTS];
+    mark(&program.items, 1, certified, &mut marks);
+    let mut stops = Cursor::new(program, &marks);
+    while let Some(stop) = stops.next() {
+        let behind = stop.first + stop.works();
+        if !are_certified(certified, stop.first, behind) {
+            let instances = Instances::over(program, stops.path(), stop);
+            check_instances(program, certified, instances)?;
+        }
+    }
+    Ok(())
+}
+
+// The first subscript of these instances that is out of range.
+fn check_instances(
+    program: &Program,
+    certified: &[bool],
+    instances: Instances,
+) -> Result<(), OutOfRange>
+    requires formed { IsWellFormed (tree_of program.now) }
+    requires certified { (k : ℕ) → (n : NestedWork) → slice_get certified.now k ≡ Some true → slice_get (nested_works (tree_of program.now)) k ≡ Some n → AreCertified (tree_of program.now) n }
+    requires walked { instances_tree instances ≡ tree_of program.now }
+    requires small { IsTrue (list_all (is_small_instance (param_values (tree_of program.now))) (instances_left instances)) }
+    requires nested { AllByRecursion (IsNestedInstance (param_values (tree_of program.now)) (nested_works (tree_of program.now))) (instances_left instances) }
+    ensures { result_err result ≡ instances_outside (tree_of program.now) (instances_left instances.entry) }
+{
+    let mut left = instances;
+    while let Some(stop) = left.next() {
         if !is_certified_at(certified, stop.first) {
-            check_work(program, stop.item, instances.path())?;
+            check_work(program, stop.item, left.path())?;
         }
     }
     Ok(())
