@@ -19,14 +19,27 @@ has_constant text = nat_le 2 (count_by (λ c. c == 39) text)
 
 -- ---- real numbers, dotted words and powers
 
--- digits in front, E or D, and a digit
+-- a digit, a sign and a digit, and a dot
+abbrev pub begins_digit : List ℕ → Bool
+begins_digit [] = false
+begins_digit (c ∷ cs) = is_digit c
+
+abbrev pub begins_signed : List ℕ → Bool
+begins_signed [] = false
+begins_signed (c ∷ cs) = ((c == 43) || (c == 45)) && begins_digit cs
+
+abbrev pub begins_dot : List ℕ → Bool
+begins_dot [] = false
+begins_dot (c ∷ cs) = c == 46
+
+-- E or D, and a digit with a sign or none
 unfoldable pub is_exponent : List ℕ → Bool
 is_exponent [] = false
-is_exponent (e ∷ []) = false
-is_exponent (e ∷ d ∷ cs) = ((e == 69) || (e == 68)) && is_digit d
+is_exponent (c ∷ cs) = ((c == 69) || (c == 68)) && (begins_digit cs || begins_signed cs)
 
+-- digits, and a dot or an exponent
 abbrev pub begins_real : List ℕ → Bool
-begins_real text = nat_lt 0 (length (digits_in text)) && is_exponent (behind_digits text)
+begins_real text = nat_lt 0 (length (digits_in text)) && (begins_dot (behind_digits text) || is_exponent (behind_digits text))
 
 -- capitals and a dot
 unfoldable pub ends_dotted : List ℕ → Bool
@@ -38,12 +51,12 @@ unfoldable pub is_dotted : List ℕ → Bool
 is_dotted [] = false
 is_dotted (c ∷ cs) = is_capital c && ends_dotted cs
 
--- A text begins with `**`, with a digit and a dot or a dot and a digit, with a dotted word, or with a character in front of a real number with an exponent.
+-- A text begins with `**`, with a dot and a digit, with a dotted word, or with a character that is part of no name in front of digits and a dot or an exponent.
 unfoldable pub begins_mark : List ℕ → Bool
 begins_mark [] = false
 begins_mark (c ∷ []) = false
 begins_mark (c ∷ d ∷ cs) =
-    ((c == 42) && (d == 42)) || (is_digit c && (d == 46)) || ((c == 46) && is_digit d) || ((c == 46) && is_dotted (d ∷ cs)) || (not (is_capital_or_digit c) && begins_real (d ∷ cs))
+    ((c == 42) && (d == 42)) || ((c == 46) && is_digit d) || ((c == 46) && is_dotted (d ∷ cs)) || (not (is_capital_or_digit c) && begins_real (d ∷ cs))
 
 -- one of these stands somewhere in a text
 unfoldable pub holds_mark : List ℕ → Bool
@@ -99,9 +112,13 @@ behind_parentheses (c ∷ cs) = if c == 40 then behind_group 1 cs else c ∷ cs
 abbrev pub is_stored : List ℕ → Bool
 is_stored text = begins_equals text && not (has_comma_outside 0 (tail text))
 
--- a name, a pair of parentheses or none, and `=`, with no comma outside behind it
+-- a word that begins with a capital, however long, a pair of parentheses or none, and `=`, with no comma outside behind it
+abbrev pub begins_capital : List ℕ → Bool
+begins_capital [] = false
+begins_capital (c ∷ cs) = is_capital c
+
 abbrev pub looks_assigned : List ℕ → Bool
-looks_assigned text = is_name (word_in text) && is_stored (behind_parentheses (behind_word text))
+looks_assigned text = begins_capital text && is_stored (behind_parentheses (behind_word text))
 
 -- one of the five operators of a comparison
 abbrev pub begins_compare : List ℕ → Bool
@@ -176,12 +193,12 @@ text_fault text = if is_outside_profile text then NotInProfile else (if holds_la
 -- ---- examples
 
 -- GOTO 10 and a power are left out, and the power is seen also in a text without form
-pub outside_profile-examples : list_any (λ text. not (is_outside_profile text)) (codes "GOTO10" ∷ codes "FOO**2" ∷ codes "K=1.5" ∷ codes "K=1E5" ∷ codes "K=I.AND.J" ∷ codes "K='A'" ∷ codes "DOI=1,5" ∷ codes "PRINT1" ∷ codes "IF(I.NE.2)K=I" ∷ []) ≡ false
+pub outside_profile-examples : list_any (λ text. not (is_outside_profile text)) (codes "GOTO10" ∷ codes "FOO**2" ∷ codes "K=1.5" ∷ codes "K=1E5" ∷ codes "K=1E+5" ∷ codes "K=1D-3" ∷ codes "K=1." ∷ codes "K=.5" ∷ codes "K=I.AND.J" ∷ codes "K='A'" ∷ codes "DOI=1,5" ∷ codes "PRINT1" ∷ codes "IF(I.NE.2)K=I" ∷ []) ≡ false
 unfolding is_outside_profile is_marked masked digits_in behind_digits holds_mark begins_mark is_exponent is_dotted ends_dotted word_in behind_word begins_equals tail behind_parentheses behind_group has_comma_outside before_compare from_compare
 outside_profile-examples = refl
 
 -- names may hold an E and a D, a comparison its operator behind a digit, and a constant that is not closed is none
-pub no_form-examples : list_any is_outside_profile (codes "A1E5=" ∷ codes "DO10D5=1," ∷ codes "IF(1.EQ.I)K=1+" ∷ codes "K='A" ∷ codes "READ=1+" ∷ codes "PRINT*,'A**B'+1" ∷ []) ≡ false
+pub no_form-examples : list_any is_outside_profile (codes "A1E5=" ∷ codes "A1E+5=" ∷ codes "K=J0." ∷ codes "LONGNAMEX=1" ∷ codes "REALNUMBER=1" ∷ codes "DO10D5=1," ∷ codes "IF(1.EQ.I)K=1+" ∷ codes "K='A" ∷ codes "READ=1+" ∷ codes "PRINT*,'A**B'+1" ∷ []) ≡ false
 unfolding is_outside_profile is_marked masked digits_in behind_digits holds_mark begins_mark is_exponent is_dotted ends_dotted word_in behind_word begins_equals tail behind_parentheses behind_group has_comma_outside before_compare from_compare
 no_form-examples = refl
 

@@ -41,23 +41,53 @@ fn has_constant(text: &[u8]) -> bool
     text.iter().filter(|byte| **byte == b'\'').count() >= 2
 }
 
-/// E or D and a digit.
+fn begins_digit(text: &[u8]) -> bool
+    ensures { result ≡ marks.begins_digit text.now }
+{
+    match text {
+        [first, ..] => is_digit(*first),
+        [] => false,
+    }
+}
+
+/// A sign and a digit.
+fn begins_signed(text: &[u8]) -> bool
+    ensures { result ≡ marks.begins_signed text.now }
+{
+    match text {
+        [first, behind @ ..] => (*first == b'+' || *first == b'-') && begins_digit(behind),
+        [] => false,
+    }
+}
+
+fn begins_dot(text: &[u8]) -> bool
+    ensures { result ≡ marks.begins_dot text.now }
+{
+    match text {
+        [first, ..] => *first == b'.',
+        [] => false,
+    }
+}
+
+/// E or D, and a digit with a sign or none.
 #[tactic(auto, unfolding(crate::specs::Marks::is_exponent))]
 fn is_exponent(text: &[u8]) -> bool
     ensures { result ≡ marks.is_exponent text.now }
 {
     match text {
-        [letter, digit, ..] => (*letter == b'E' || *letter == b'D') && is_digit(*digit),
-        _ => false,
+        [letter, behind @ ..] => {
+            (*letter == b'E' || *letter == b'D') && (begins_digit(behind) || begins_signed(behind))
+        }
+        [] => false,
     }
 }
 
-/// Whether a real number with an exponent stands in front.
+/// Whether digits, and a dot or an exponent, stand in front.
 fn begins_real(text: &[u8]) -> bool
     ensures { result ≡ marks.begins_real text.now }
 {
     let (digits, behind) = split_digits(text);
-    !digits.is_empty() && is_exponent(behind)
+    !digits.is_empty() && (begins_dot(behind) || is_exponent(behind))
 }
 
 /// Whether capitals and a dot stand in front.
@@ -87,8 +117,8 @@ fn is_dotted(text: &[u8]) -> bool
     }
 }
 
-/// Whether `**`, a digit beside a dot, a dotted word, or a character and a real number with an
-/// exponent stand in front.
+/// Whether `**`, a dot and a digit, a dotted word, or a character that is part of no name and a
+/// real number stand in front.
 #[tactic(auto, unfolding(crate::specs::Marks::begins_mark))]
 fn begins_mark(text: &[u8]) -> bool
     ensures { result ≡ marks.begins_mark text.now }
@@ -97,7 +127,6 @@ fn begins_mark(text: &[u8]) -> bool
         [first, behind @ ..] => match behind {
             [second, ..] => {
                 (*first == b'*' && *second == b'*')
-                    || (is_digit(*first) && *second == b'.')
                     || (*first == b'.' && is_digit(*second))
                     || (*first == b'.' && is_dotted(behind))
                     || (!is_capital_or_digit(*first) && begins_real(behind))
@@ -202,12 +231,21 @@ fn is_stored(text: &[u8]) -> bool
     }
 }
 
+fn begins_capital(text: &[u8]) -> bool
+    ensures { result ≡ marks.begins_capital text.now }
+{
+    match text {
+        [first, ..] => is_capital(*first),
+        [] => false,
+    }
+}
+
 /// Whether a text looks like an assignment.
 fn looks_assigned(text: &[u8]) -> bool
     ensures { result ≡ marks.looks_assigned text.now }
 {
-    let (name, behind) = split_word(text);
-    is_name(name) && is_stored(behind_parentheses(behind))
+    let (_, behind) = split_word(text);
+    begins_capital(text) && is_stored(behind_parentheses(behind))
 }
 
 fn begins_compare(text: &[u8]) -> bool

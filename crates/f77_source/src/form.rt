@@ -12,7 +12,7 @@ use f77_forms::Expression;
 use f77_program::linear::Linear;
 use f77_program::measures::measure;
 use f77_program::{Known, Measure, parts_of};
-use nest_tree::{Affine, Pairs, Subscripts};
+use nest_tree::{Affine, Subscripts};
 use std::alloc::{AllocError, Global};
 
 /// The form that an affine expression stands for.
@@ -60,26 +60,7 @@ fn form_in(alloc: Global, measure: &Measure) -> Result<Affine, AllocError>
     ensures { IfOk result (λ f. f ≡ spec.form_at measure.now) }
 {
     match &measure.linear {
-        Linear::Within(form) => copied(alloc, form),
+        Linear::Within(form) => form.copy(alloc),
         Linear::NotAffine | Linear::Past(_) => unreachable!(),
     }
-}
-
-fn copied(alloc: Global, form: &Affine) -> Result<Affine, AllocError>
-    ensures { IfOk result (λ f. f ≡ form.now) }
-{
-    let constant = form.constant();
-    let loops = pairs_copied(alloc, form.loops())?;
-    let params = pairs_copied(alloc, form.params())?;
-    Ok(Affine::new(constant, loops, params))
-}
-
-fn pairs_copied(alloc: Global, pairs: &[(u32, i64)]) -> Result<Pairs, AllocError>
-    ensures { IfOk result (λ ps. ps ≡ pairs.now) }
-{
-    let mut copy = Pairs::new(alloc);
-    for &(number, coefficient) in pairs {
-        copy.push(number, coefficient)?;
-    }
-    Ok(copy)
 }
