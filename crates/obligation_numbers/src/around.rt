@@ -1,9 +1,6 @@
 // Loops round a place, from the outermost.
 
 ghost use Rattle.std.specs.Prelude.{◌≡◌, ◌<◌, ◌≤◌, ◌++◌, ◌∷◌, [], length};
-ghost use Rattle.comm_system.specs.Boundaries.{is_prefix as are_first_of};
-ghost use Rattle.comm_system.specs.Levels.{common as in_common};
-ghost use Rattle.nest_rows.specs.Views.{heads_of};
 
 use nest_rows::Around;
 use nest_tree::Nest;
@@ -58,38 +55,5 @@ impl<'a> Loops<'a> {
             depth: outer.len() + 1,
             six: Some(Six { items }),
         }
-    }
-}
-
-// Whether these loops are the first of those.
-pub(crate) fn is_prefix(these: &[Around], those: &[Around]) -> bool
-    ensures { result ≡ are_first_of (heads_of these.now) (heads_of those.now) }
-{
-    match these {
-        [] => true,
-        [a, these @ ..] => match those {
-            [] => false,
-            [b, those @ ..] => a.nest.number == b.nest.number && is_prefix(these, those),
-        },
-    }
-}
-
-// How many loops these and those have in common.
-pub(crate) fn common(these: &[Around], those: &[Around]) -> usize
-    ensures common { result ≡ in_common (heads_of these.now) (heads_of those.now) }
-    ensures these { result ≤ length these.now }
-{
-    match these {
-        [] => 0,
-        [a, these @ ..] => match those {
-            [] => 0,
-            [b, those @ ..] => {
-                if a.nest.number == b.nest.number {
-                    1 + common(these, those)
-                } else {
-                    0
-                }
-            }
-        },
     }
 }

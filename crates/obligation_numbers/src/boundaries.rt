@@ -8,9 +8,8 @@ ghost use Rattle.nest_rows.specs.Views.{heads_of};
 ghost use Rattle.obligation_numbers.specs.Counts.{is_producer, sides_at, sides_where};
 ghost use Rattle.obligation_numbers.specs.Tests.{passes};
 
-use crate::around::is_prefix;
 use crate::phases::PhaseWeight;
-use nest_rows::Around;
+use nest_rows::{Around, is_prefix};
 use nest_tree::Item;
 use sync_plan::Kind;
 

@@ -12,12 +12,11 @@ ghost use Rattle.obligation_numbers.specs.Counts.{certain_count, count_before, c
 ghost use Rattle.obligation_numbers.specs.SlotViews.{first_of, phases_at, second_of, slot_at};
 ghost use Rattle.obligation_numbers.specs.Tests.{passes};
 
-use crate::around::common;
 use crate::boundaries::{Certain, Place, Test};
 use crate::conflicts::pair_count;
 use crate::phases::{PhaseWeight, phases_weight};
 use crate::scene::{Both, Scene, Second};
-use nest_rows::Around;
+use nest_rows::{Around, common};
 use nest_tree::Item;
 use owner_partition::Mark;
 use sync_plan::Plan;
