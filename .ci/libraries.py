@@ -1,0 +1,75 @@
+"""Looks at what the pages of the crates that serve alone say under "As a library".
+
+The crates that come with one are those that crates.txt has below it; each signature stands in the
+crate's sources; each example is a function of 20 lines at most of some crate of the repository, so
+that it is proved and run.
+"""
+
+import os
+import re
+import subprocess
+import sys
+
+ROOT = os.path.dirname(os.path.dirname(os.path.abspath(__file__)))
+
+
+def text_of(path):
+    with open(f"{ROOT}/{path}", encoding="utf-8") as it:
+        return it.read()
+
+
+def sources_of(crate):
+    files = []
+    for at, _, names in os.walk(f"{ROOT}/crates/{crate}/src"):
+        files += [os.path.join(at, it) for it in sorted(names) if it.endswith(".rt")]
+    return "\n".join(text_of(os.path.relpath(it, ROOT)) for it in files)
+
+
+def closed(code):
+    """Code without blanks and trailing commas, so that layouts don't differ."""
+    return re.sub(r",(?=[)>])", "", re.sub(r"\s+", "", code))
+
+
+def below(crate):
+    """The crates of the repository below this one, in order."""
+    command = 'root=$1; . "$root/bin/building.sh"; crates_of "$2"; printf "%s\\n" "${crates[@]}"'
+    found = subprocess.run(["bash", "-c", command, "", ROOT, crate], capture_output=True, check=True)
+    return [it for it in found.stdout.decode().split() if it != crate]
+
+
+def faults_in(crate, section):
+    come = re.search(r"With it comes? (.*?)[.;]", section)
+    named = re.findall(r"\w+", come[1].replace(" and ", " ")) if come else []
+    named = [] if named[:3] == ["no", "other", "crate"] else named
+    if named != below(crate):
+        yield f"with it come {' '.join(below(crate))}, and not {' '.join(named)}"
+    blocks = re.findall(r"```rust\n(.*?)```", section, re.S)
+    signatures = [it for it in blocks if it.startswith("pub fn")]
+    for it in re.split(r"\n(?=pub fn)", "\n".join(signatures)):
+        if not it or closed(it) not in closed(sources_of(crate)):
+            yield f"this signature isn't in its sources: {it}"
+    examples = [it for it in blocks if it not in signatures]
+    if not examples:
+        yield "there is no example"
+    for it in examples:
+        if not any(it in sources_of(crate) for crate in os.listdir(f"{ROOT}/crates")):
+            yield f"this is in no crate's sources: {it}"
+        if it.count("\n") > 20:
+            yield f"this example has {it.count(chr(10))} lines"
+
+
+def main():
+    found = 0
+    listed = re.findall(r"\| \[(\w+)\]", text_of("docs/CRATES.md").split("## As libraries")[1].split("\n## ")[0])
+    for crate in listed:
+        page = text_of(f"crates/{crate}/README.md")
+        section = page.split("\n## As a library\n")[-1].split("\n## ")[0] if "\n## As a library\n" in page else ""
+        for fault in faults_in(crate, section) if section else ["no such section"]:
+            found += 1
+            print(f"crates/{crate}/README.md: As a library: {fault}")
+    print(f"{len(listed)} pages, {found} faults")
+    return 1 if found or not listed else 0
+
+
+if __name__ == "__main__":
+    sys.exit(main())
