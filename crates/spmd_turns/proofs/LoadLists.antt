@@ -1,7 +1,10 @@
 -- Loads that are done one behind another.
-use Rattle.std.proofs.Common.{◌≡◌, ℕ, zero, suc, ◌+◌, List, [], ◌∷◌, ◌++◌, map, sym, ap, ◌∙◌, append_assoc, arith}
+use Rattle.std.proofs.Common.{◌≡◌, ◌≤◌, ℕ, zero, suc, ◌+◌, ℤ, length, take, refl, List, [], ◌∷◌, ◌++◌, map, sym, ap, ◌∙◌, append_assoc, arith}
 use Rattle.std.specs.List.{range_with_len}
-use Rattle.std.proofs.lemmas.List.{append_cancel_left, map-append}
+use borrow.Rule.Slice.PartMut.{put_mid}
+use Rattle.std.proofs.Math.Seq.{take-append-add}
+use Rattle.std.proofs.lemmas.List.{append_cancel_left, length-take-le, map-append, take-take}
+use Rattle.std.proofs.lemmas.Slice.{take-put_mid}
 use Rattle.spmd_model.specs.Deeds.{Deed, loading}
 
 -- what comes next of loads of which some are done
@@ -31,3 +34,11 @@ range_split a (suc k) m =
 
 pub range_more : (a k : ℕ) → range_with_len a (k + 1) ≡ range_with_len a k ++ ((a + k) ∷ [])
 range_more a k = range_split a k 0
+
+-- the front of a list of which a part behind so many was written
+pub front_written : (a k w : ℕ) (xs ys : List ℤ) → a ≤ length xs → w ≤ length ys → take (a + w) (put_mid a k xs ys) ≡ take a xs ++ take w ys
+front_written a k w xs ys inside few =
+    let more : a + w ≤ a + length ys = omega (arith, few) in
+    let long : length (take a xs) ≡ a = length-take-le a xs inside in
+    let at : a + w ≡ length (take a xs) + w = omega (arith, long) in
+    sym (take-take (a + w) (a + length ys) (put_mid a k xs ys) more) ∙ ap (take (a + w)) (take-put_mid a k xs ys (a + length ys) refl inside) ∙ ap (λ n. take n (take a xs ++ ys)) at ∙ take-append-add (take a xs) ys w

@@ -1,5 +1,5 @@
 -- What instances are executed with.
-use Rattle.std.specs.Prelude.{ℕ, ℤ, ◌≡◌, ◌≤◌, true, List, ◌++◌, length, Some, slice_get, vec_capacity}
+use Rattle.std.specs.Prelude.{ℕ, ℤ, ◌≡◌, ◌≤◌, true, List, ◌++◌, length, Some, slice_get}
 use Rattle.nest_tree.specs.Limits.{IsWithinLimits}
 use Rattle.nest_tree.specs.Tree.{Tree, param_values}
 use Rattle.nest_tree.specs.View.{tree_of}
@@ -32,7 +32,7 @@ pub record CanExecute (x : Executor) : Type 0 where
   pub table : IsCellTable (executor_tree x) x.table.now
   pub params : x.params.now ≡ param_values (executor_tree x)
   pub loops : loops_of (executor_tree x).items ≤ length x.loops.items
-  pub room : (n : ℕ) (cells : WorkCells) → slice_get (entries x.table.now) n ≡ Some cells → widths cells.loads.items ≤ vec_capacity x.registers
+  pub room : (n : ℕ) (cells : WorkCells) → slice_get (entries x.table.now) n ≡ Some cells → widths cells.loads.items ≤ length x.registers.items
 
 -- its values of loops by number are those of these loops, and of others whatever they were
 pub record AreWritten (x : Executor) (rounds : List Round) : Type 0 where

@@ -1,6 +1,6 @@
 // Instances run whole.
 
-ghost use Rattle.std.specs.Prelude.{◌≡◌, ◌+◌, ◌≤◌, ◌<◌, ℕ, [], ◌∷◌, ◌++◌, IfOk, IsTrue, List, Option, length, map, vec_capacity};
+ghost use Rattle.std.specs.Prelude.{◌≡◌, ◌+◌, ◌≤◌, ◌<◌, ℕ, [], ◌∷◌, ◌++◌, IfOk, IsTrue, List, Option, length, map, take};
 ghost use Rattle.std.specs.List.{flat_map, list_all};
 ghost use Rattle.nest_tree.specs.Limits.{IsWithinLimits};
 ghost use Rattle.nest_tree.specs.Tree.{param_values};
@@ -71,7 +71,7 @@ impl<'a> Executor<'a> {
             table,
             params,
             loops: vec![in alloc; 0; MOST_STATEMENTS]?,
-            registers: Vec::with_capacity(alloc, registers)?,
+            registers: vec![in alloc; 0; registers]?,
             output: Output::with_room(alloc, room)?,
         })
     }
@@ -150,9 +150,8 @@ impl<'a> Executor<'a> {
         ensures output { self.new.output ≡ self.old.output }
     {
         let cells = self.table.work(stop.first);
-        self.registers.clear();
-        load_all(&cells.loads, path.values(), &mut self.registers, deeds);
-        let value = eval(e, &self.loops, self.params, &self.registers);
+        let count = load_all(&cells.loads, path.values(), &mut self.registers, deeds);
+        let value = eval(e, &self.loops, self.params, &self.registers[..count]);
         let Some(form) = &cells.store else {
             unreachable!()
         };
@@ -177,80 +176,67 @@ impl<'a> Executor<'a> {
         ensures grown { length (executor_output self.new) ≤ length (executor_output self.old) + visit_room (executor_tree self.old) (visit_at (executor_tree self.old) (rounds_of path.now) stop.entry) }
     {
         let cells = self.table.work(stop.first);
-        self.registers.clear();
-        load_all(&cells.loads, path.values(), &mut self.registers, deeds);
+        let count = load_all(&cells.loads, path.values(), &mut self.registers, deeds);
         let given = Given {
             loops: &self.loops,
             params: self.params,
-            loaded: &self.registers,
+            loaded: &self.registers[..count],
         };
         self.output.push_line(self.program, items, &given).unwrap();
         deeds.print();
     }
 }
 
-// The values of loads, one behind another, into registers.
+// The values of loads, one behind another, into registers; how many there are.
 #[inline(always)]
 fn load_all<D: Deeds>(
     loads: &[LoadCells],
     values: &[i64; MOST_LOOPS],
-    registers: &mut Vec<i64>,
+    registers: &mut [i64],
     deeds: &mut D,
-)
+) -> usize
     requires within { IsTrue (list_all (is_load_within 1048576 values.now) loads.now) }
     requires left { (rest : List Deed) × (D.left deeds.old ≡ map loading (flat_map (cells_of_load values.now) loads.now) ++ rest) }
-    requires registers { registers.old.items ≡ D.registers deeds.old }
-    requires room { length registers.old.items + widths loads.now ≤ vec_capacity registers.old }
+    requires idle { D.registers deeds.old ≡ [] }
+    requires room { widths loads.now ≤ length registers.old }
     ensures left { D.left deeds.old ≡ map loading (flat_map (cells_of_load values.now) loads.now) ++ D.left deeds.new }
-    ensures registers { registers.new.items ≡ D.registers deeds.new }
-    ensures count { length registers.new.items ≡ length registers.old.items + widths loads.now }
-    ensures room { vec_capacity registers.old ≤ vec_capacity registers.new }
+    ensures registers { D.registers deeds.new ≡ take result registers.new }
+    ensures count { result ≡ widths loads.now }
     ensures printed { D.printed deeds.new ≡ D.printed deeds.old }
 {
+    let mut count = 0;
     for load in loads {
-        load_one(load, values, registers, deeds);
+        count += load_one(load, values, &mut registers[count..], deeds);
     }
+    count
 }
 
-// The values of a load.
+// The values of a load; how many there are.
 #[inline(always)]
 fn load_one<D: Deeds>(
     load: &LoadCells,
     values: &[i64; MOST_LOOPS],
-    registers: &mut Vec<i64>,
+    registers: &mut [i64],
     deeds: &mut D,
-)
+) -> usize
     requires within { IsTrue (is_load_within 1048576 values.now load.now) }
     requires left { (rest : List Deed) × (D.left deeds.old ≡ map loading (cells_of_load values.now load.now) ++ rest) }
-    requires registers { registers.old.items ≡ D.registers deeds.old }
-    requires room { length registers.old.items + width load.now ≤ vec_capacity registers.old }
+    requires room { width load.now ≤ length registers.old }
     ensures left { D.left deeds.old ≡ map loading (cells_of_load values.now load.now) ++ D.left deeds.new }
-    ensures registers { registers.new.items ≡ D.registers deeds.new }
-    ensures count { length registers.new.items ≡ length registers.old.items + width load.now }
-    ensures room { vec_capacity registers.old ≤ vec_capacity registers.new }
+    ensures registers { D.registers deeds.new ≡ D.registers deeds.old ++ take result registers.new }
+    ensures count { result ≡ width load.now }
     ensures printed { D.printed deeds.new ≡ D.printed deeds.old }
 {
     match load {
-        LoadCells::Element(form) => load_cell(form.at(values) as u32, registers, deeds),
+        LoadCells::Element(form) => {
+            registers[0] = deeds.load(form.at(values) as u32);
+            1
+        }
         LoadCells::Array { first, count } => {
             for element in 0..*count {
-                load_cell(*first + element, registers, deeds);
+                registers[element as usize] = deeds.load(*first + element);
             }
+            *count as usize
         }
     }
-}
-
-// The value of a cell.
-#[inline(always)]
-fn load_cell<D: Deeds>(cell: u32, registers: &mut Vec<i64>, deeds: &mut D)
-    requires left { (rest : List Deed) × (D.left deeds.old ≡ loading cell ∷ rest) }
-    requires registers { registers.old.items ≡ D.registers deeds.old }
-    requires room { length registers.old.items < vec_capacity registers.old }
-    ensures left { D.left deeds.old ≡ loading cell ∷ D.left deeds.new }
-    ensures registers { registers.new.items ≡ D.registers deeds.new }
-    ensures count { length registers.new.items ≡ length registers.old.items + 1 }
-    ensures room { vec_capacity registers.old ≤ vec_capacity registers.new }
-    ensures printed { D.printed deeds.new ≡ D.printed deeds.old }
-{
-    registers.push(deeds.load(cell)).unwrap();
 }
