@@ -1,10 +1,12 @@
 -- How many bytes a program's PRINTs can write at most, and the loops without one.
-use Rattle.std.specs.Prelude.{ℕ, ◌-◌, ◌≡◌, Bool, true, false, List, slice_index_or, sum_by}
+use Rattle.std.specs.Prelude.{ℕ, ◌-◌, ◌≡◌, Bool, true, false, List, slice_get, slice_index_or, Some, sum_by, ◌⊎◌}
 use Rattle.nest_tree.specs.Tree.{Statement, Statements, do_loop, work, continue, done, next, Tree}
 use Rattle.nest_model.specs.Instances.{Instance, instances}
 use Rattle.nest_model.specs.Visits.{Visit}
+use Rattle.nest_walk.specs.declared.table.WorkCells.{WorkCells}
 use Rattle.seq_meaning.specs.Room.{longest_line}
 use Rattle.sync_plan.specs.Fit.{have_print}
+use Rattle.spmd_turns.specs.Loads.{widths}
 use Rattle.spmd_turns.specs.Turns.{Turn, posts, awaits, begins, works}
 
 -- of an instance, and of all
@@ -48,3 +50,7 @@ turn_room tree (posts number) = 0
 turn_room tree (awaits on wanted) = 0
 turn_room tree (begins e) = 0
 turn_room tree (works i) = longest_line tree i.what
+
+-- no value, or as many as some piece of work loads
+abbrev pub IsReached : List WorkCells → ℕ → Type 0
+IsReached entries n = (n ≡ 0) ⊎ ((k : ℕ) × (cells : WorkCells) × (slice_get entries k ≡ Some cells) × (widths cells.loads.items ≡ n))

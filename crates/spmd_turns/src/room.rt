@@ -12,7 +12,7 @@ ghost use Rattle.nest_walk.specs.Walks.{enters_but};
 ghost use Rattle.nest_walk.specs.declared.table.WorkCells.{WorkCells};
 ghost use Rattle.seq_meaning.specs.Room.{longest_item, longest_items};
 ghost use Rattle.sync_plan.specs.Fit.{has_print, have_print};
-ghost use Rattle.spmd_turns.specs.Rooms.{AreSilent, IsSilent, StayOpen, is_closed, visit_room};
+ghost use Rattle.spmd_turns.specs.Rooms.{AreSilent, IsReached, IsSilent, StayOpen, is_closed, visit_room};
 ghost use Rattle.spmd_turns.specs.Loads.{widths};
 ghost use Rattle.std.specs.Prelude.{false};
 
@@ -49,7 +49,8 @@ fn works_in(item: &Item) -> Option<u32>
 /// The greatest number of values that the loads of one piece of work give, if it can be counted.
 pub fn most_loads(program: &Program, table: &CellTable) -> Option<usize>
     requires { IsCellTable (tree_of program.now) table.now }
-    ensures { IfSome result (λ n. (k : ℕ) (cells : WorkCells) → slice_get (entries table.now) k ≡ Some cells → widths cells.loads.items ≤ n) }
+    ensures most { IfSome result (λ n. (k : ℕ) (cells : WorkCells) → slice_get (entries table.now) k ≡ Some cells → widths cells.loads.items ≤ n) }
+    ensures reached { IfSome result (λ n. IsReached (entries table.now) n) }
 {
     let mut most = 0;
     for number in 0..work_count(&program.items)? {
