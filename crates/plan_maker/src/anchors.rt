@@ -8,7 +8,6 @@ ghost use Rattle.nest_walk.specs.Texts.{placed};
 ghost use Rattle.owner_partition.specs.Marks.{enters_outer};
 ghost use Rattle.owner_partition.specs.Placement.{phase_ends};
 ghost use Rattle.owner_partition.specs.StaticPhases.{loops_round};
-ghost use Rattle.sync_plan.specs.Fit.{has_print, have_print};
 ghost use Rattle.nest_tree.specs.Form.{is_given};
 ghost use Rattle.plan_maker.specs.Anchors.{along, along_axis, if_good, if_one_good, less, maker_anchors, phase_anchor, placed_anchor, span_of, stored_among, stored_anchor, value_of};
 ghost use Rattle.plan_maker.specs.Seats.{constants_at, found_anchor, good_element_anchor, good_own_anchor, loops_at};
@@ -57,7 +56,7 @@ fn phase_anchor(
     requires phase { slice_get (placed (tree_of program.now) (enters_outer cut.now)) (number - 1) ≡ Some (record { what = statement_of phase.now.item.now; around = loops_round phase.now }) }
     ensures { IfOk result (λ a. a ≡ phase_anchor (tree_of program.now) cut.now workers number (record { what = statement_of phase.now.item.now; around = loops_round phase.now })) }
 {
-    if has_print(phase.item) {
+    if phase.item.has_print() {
         return Ok(first_processor(alloc));
     }
     let seat = Seat {
@@ -263,29 +262,5 @@ fn span_of(
     match extent(ends.low, ends.high) {
         Some(width) => Ok((ends.low, width)),
         None => Err(AllocError),
-    }
-}
-
-// Whether a PRINT stands in these statements.
-#[cycle(print)]
-fn have_print(items: &[Item]) -> bool
-    ensures { result ≡ have_print (statements_from items.now) }
-{
-    for item in items {
-        if has_print(item) {
-            return true;
-        }
-    }
-    false
-}
-
-#[cycle(print)]
-pub(crate) fn has_print(item: &Item) -> bool
-    ensures { result ≡ has_print (statement_of item.now) }
-{
-    match item {
-        Item::Loop(nest) => have_print(&nest.items),
-        Item::Print(..) => true,
-        Item::Assign(..) | Item::Continue(_) => false,
     }
 }

@@ -12,7 +12,7 @@ ghost use Rattle.plan_maker.specs.Candidates.{are_same_pairs, candidate as candi
 use crate::dealt::is_dealt;
 use crate::places::{copy_of_anchor, item_at};
 use comm_system::phase::Phase;
-use nest_rows::Around;
+use nest_rows::is_prefix;
 use owner_partition::{Anchor, Dist, Mark};
 use std::alloc::{AllocError, Global};
 use sync_plan::{Kind, Kinds};
@@ -65,19 +65,6 @@ fn is_among(anchor: &Anchor, anchors: &[Anchor]) -> bool
         }
     }
     false
-}
-
-// Whether these loops are the first of those.
-fn is_prefix(these: &[Around], those: &[Around]) -> bool
-    ensures { result ≡ are_first_of (heads_of these.now) (heads_of those.now) }
-{
-    match these {
-        [] => true,
-        [a, these @ ..] => match those {
-            [] => false,
-            [b, those @ ..] => a.nest.number == b.nest.number && is_prefix(these, those),
-        },
-    }
 }
 
 // Whether a phase isn't dealt out and its Outer loops are the first of those round another.

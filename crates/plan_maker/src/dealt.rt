@@ -10,7 +10,6 @@ ghost use Rattle.comm_system.specs.References.{StaticPhase};
 ghost use Rattle.plan_maker.specs.Asked.{trips_asked};
 ghost use Rattle.plan_maker.specs.Judged.{IsVerdict};
 
-use crate::anchors::has_print;
 use crate::findings::Findings;
 use crate::judge::{Verdict, judge_groups};
 use comm_system::groups::phase_groups;
@@ -36,7 +35,7 @@ pub(crate) fn does_dealt_print(marks: &[Mark], phases: &[Phase]) -> bool
     ensures { result ≡ list_any (λ (s : StaticPhase). dealt marks.now s.what && prints s.what) (map phase_seen phases.now) }
 {
     for phase in phases {
-        if is_dealt(marks, phase.item) && has_print(phase.item) {
+        if is_dealt(marks, phase.item) && phase.item.has_print() {
             return true;
         }
     }

@@ -1,9 +1,7 @@
 // What elimination finds of a system.
 
-ghost use Rattle.std.specs.Prelude.{◌≡◌, ◌↔◌, ◌-◌, ◌≤◌, ◌<◌, ◌^◌, IfOk, IfSome, IsTrue, length};
-ghost use Rattle.std.specs.List.{All};
-ghost use Rattle.farkas_cert.specs.Combination.{is_narrow as narrow};
-ghost use Rattle.farkas_cert.specs.Narrow.{AreNarrow, IsNarrowRow};
+ghost use Rattle.std.specs.Prelude.{◌≡◌, ◌-◌, ◌≤◌, ◌<◌, ◌^◌, IfOk, IfSome, IsTrue, length};
+ghost use Rattle.farkas_cert.specs.Narrow.{AreNarrow};
 ghost use Rattle.fm_elim.specs.Answers.{IsDecided, NamesEachOnce};
 ghost use Rattle.plan_maker.specs.Beginnings.{IsBeginning};
 ghost use Rattle.plan_maker.specs.Found.{IsFound};
@@ -12,7 +10,8 @@ ghost use Rattle.plan_maker.specs.Orders.{elimination_order as order_of, unknown
 use crate::beginnings::Beginning;
 use crate::cause::Word;
 use crate::orders::{elimination_order, unknown_count};
-use farkas_cert::{Certificate, Row, Step, StepList, System, Terms};
+use farkas_cert::narrow::are_narrow_rows;
+use farkas_cert::{Certificate, System};
 use fm_elim::{Answer, NoMemory, decide};
 use owner_partition::Dist;
 use std::alloc::{AllocError, Global};
@@ -24,57 +23,6 @@ pub(crate) enum Found {
     Refuted(Certificate),
     /// It is kept, by this answer.
     Kept(Word),
-}
-
-// A step like this one.
-fn copy_of_step(alloc: Global, step: &Step) -> Result<Step, AllocError>
-    ensures { IfOk result (λ copy. copy ≡ step.now) }
-{
-    let terms = Vec::from_slice(alloc, step.terms.as_slice())?;
-    Ok(Step {
-        divisor: step.divisor,
-        terms: Terms::from_vec(terms),
-    })
-}
-
-/// A certificate like this one.
-pub(crate) fn copy_of(alloc: Global, certificate: &Certificate) -> Result<Certificate, AllocError>
-    ensures { IfOk result (λ copy. copy ≡ certificate.now) }
-{
-    let given = certificate.steps.as_slice();
-    let mut steps = Vec::with_capacity(alloc, given.len())?;
-    for step in given {
-        steps.push(copy_of_step(alloc, step)?)?;
-    }
-    Ok(Certificate {
-        steps: StepList::from_vec(steps),
-    })
-}
-
-// Whether a number is at most 2 ^ 126 in size.
-fn is_narrow(number: i128) -> bool
-    ensures { result ≡ narrow number }
-{
-    number.unsigned_abs() <= 1 << 126
-}
-
-fn are_narrow(numbers: &[i128]) -> bool
-    ensures { IsTrue result ↔ All (λ a. IsTrue (narrow a)) numbers.now }
-{
-    numbers.iter().all(|number| is_narrow(*number))
-}
-
-fn is_narrow_row(row: &Row) -> bool
-    ensures { IsTrue result ↔ IsNarrowRow row.now }
-{
-    are_narrow(row.coefs.as_slice()) && is_narrow(row.bound)
-}
-
-// Whether the numbers of these rows are.
-fn are_narrow_rows(rows: &[Row]) -> bool
-    ensures { IsTrue result ↔ AreNarrow rows.now }
-{
-    rows.iter().all(|row| is_narrow_row(row))
 }
 
 /// Whether elimination can be asked of a system: its numbers are narrow, and the owners' unknowns are

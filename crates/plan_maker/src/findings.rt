@@ -7,7 +7,7 @@ ghost use Rattle.plan_maker.specs.Found.{IsFound};
 ghost use Rattle.plan_maker.specs.Orders.{elimination_order as order_of};
 
 use crate::beginnings::Beginning;
-use crate::decided::{Found, copy_of, find};
+use crate::decided::{Found, find};
 use crate::places::item_at;
 use farkas_cert::{CertRefusal, Certificate, Row, System, check_cert};
 use owner_partition::Dist;
@@ -111,7 +111,7 @@ fn good_copy(
         return Ok(None);
     }
     if is_good(alloc, system, &known.certificate)? {
-        return Ok(Some(copy_of(alloc, &known.certificate)?));
+        return Ok(Some(known.certificate.copy(alloc)?));
     }
     Ok(None)
 }
@@ -148,7 +148,7 @@ fn find_anew(
 {
     let found = find(alloc, system, dists, beginning)?;
     if let Found::Refuted(certificate) = &found {
-        let certificate = copy_of(alloc, certificate)?;
+        let certificate = certificate.copy(alloc)?;
         chain.push(Known { hash, certificate })?;
     }
     Ok(found)

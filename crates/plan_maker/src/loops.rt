@@ -5,7 +5,7 @@ ghost use Rattle.std.specs.List.{AllZip};
 ghost use Rattle.nest_tree.specs.Limits.{IsWithinLimits};
 ghost use Rattle.nest_tree.specs.Tree.{Tree};
 ghost use Rattle.nest_tree.specs.View.{statement_of, statements_from, tree_of};
-ghost use Rattle.nest_tree.specs.WellFormed.{IsWellFormed, loops_in, loops_of};
+ghost use Rattle.nest_tree.specs.WellFormed.{IsWellFormed, loops_of};
 ghost use Rattle.sync_plan.specs.declared.plan.Conditions.TheVariants.{Values};
 ghost use Rattle.sync_plan.specs.Fit.{IsFit};
 ghost use Rattle.plan_maker.specs.Cut.{alone as alone_marks, alone_among, alone_in, alone_loop};
@@ -44,7 +44,7 @@ pub(crate) fn judge_loops(
     ensures verdicts { IfOk result (λ verdicts. AreLoopVerdicts (tree_of program.now) verdicts.items) }
 {
     let mut verdicts = Vec::new(alloc);
-    for place in 0..loop_count(&program.items) {
+    for place in 0..program.loop_count() {
         verdicts.push(judge_loop(alloc, program, place + 1, findings)?)?;
     }
     Ok(verdicts)
@@ -225,28 +225,4 @@ pub(crate) fn loop_reasons(
         push_reason(&mut reasons, mark, verdict, place as u32 + 1)?;
     }
     Ok(reasons)
-}
-
-// How many loops there are in these statements.
-#[cycle(loops)]
-fn loop_count(items: &[Item]) -> u32
-    requires { loops_of (statements_from items.now) < 2 ^ 32 }
-    ensures { result ≡ loops_of (statements_from items.now) }
-{
-    let mut count = 0;
-    for item in items {
-        count += loops_in_item(item);
-    }
-    count
-}
-
-#[cycle(loops)]
-fn loops_in_item(item: &Item) -> u32
-    requires { loops_in (statement_of item.now) < 2 ^ 32 }
-    ensures { result ≡ loops_in (statement_of item.now) }
-{
-    match item {
-        Item::Loop(nest) => 1 + loop_count(&nest.items),
-        Item::Assign(..) | Item::Print(..) | Item::Continue(_) => 0,
-    }
 }

@@ -22,17 +22,6 @@ pub(crate) fn item_at<T>(items: &[T], place: usize) -> Option<&T>
     }
 }
 
-// These pairs.
-fn copy_of(alloc: Global, pairs: &[(u32, i64)]) -> Result<Pairs, AllocError>
-    ensures { IfOk result (λ copy. copy ≡ pairs.now) }
-{
-    let mut copy = Pairs::new(alloc);
-    for &(number, coefficient) in pairs {
-        copy.push(number, coefficient)?;
-    }
-    Ok(copy)
-}
-
 // The difference of two numbers, where it is within plus or minus 2147483647.
 fn small_difference(a: i64, b: i128) -> Option<i64>
     ensures { result ≡ (if is_small (a -ℤ b) then Some (a -ℤ b) else None) }
@@ -52,8 +41,8 @@ pub(crate) fn less(alloc: Global, form: &Affine, low: i128) -> Result<Option<Aff
     let Some(constant) = small_difference(form.constant(), low) else {
         return Ok(None);
     };
-    let loops = copy_of(alloc, form.loops())?;
-    let params = copy_of(alloc, form.params())?;
+    let loops = Pairs::from_slice(alloc, form.loops())?;
+    let params = Pairs::from_slice(alloc, form.params())?;
     Ok(Some(Affine::new(constant, loops, params)))
 }
 
@@ -61,11 +50,8 @@ pub(crate) fn less(alloc: Global, form: &Affine, low: i128) -> Result<Option<Aff
 pub(crate) fn copy_of_anchor(alloc: Global, anchor: &Anchor) -> Result<Anchor, AllocError>
     ensures { IfOk result (λ copy. copy ≡ anchor.now) }
 {
-    let form = &anchor.form;
-    let loops = copy_of(alloc, form.loops())?;
-    let params = copy_of(alloc, form.params())?;
     Ok(Anchor {
-        form: Affine::new(form.constant(), loops, params),
+        form: anchor.form.copy(alloc)?,
         dist: anchor.dist,
     })
 }

@@ -1,13 +1,12 @@
 use Rattle.std.proofs.Common.{◌≡◌, ◌+◌, length, length-append, ap, sym, ◌∙◌, subst, arith}
-use Rattle.nest_tree.specs.View.{statements_from, tree_of}
-use Rattle.nest_tree.specs.WellFormed.{loops_of}
+use Rattle.nest_tree.specs.View.{tree_of}
 use Rattle.nest_tree.proofs.Good.{loops-few}
 use Rattle.plan_maker.specs.Loops.{AreLoopVerdicts, IsLoopVerdict}
 use Rattle.plan_maker.proofs.Verdicts.{verdict_more}
 use Rattle.plan_maker.proofs.loops.judge_loops.Goals as goal
 
 pub loop_count-place-end-requires : goal.loop_count-place-end-requires
-loop_count-place-end-requires c = omega (arith, loops-few (tree_of c.args.program.now) c.requires.formed, ap (λ xs. loops_of (statements_from xs)) c.deref.ensures.value)
+loop_count-place-end-requires c = omega (arith, loops-few (tree_of c.args.program.now) c.requires.formed)
 
 pub loop-place-preserved : goal.loop-place-preserved
 loop-place-preserved c =

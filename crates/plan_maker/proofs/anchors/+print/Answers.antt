@@ -1,9 +1,0 @@
-use Rattle.std.proofs.Common.{ap, sym, ◌∙◌}
-use Rattle.nest_tree.specs.View.{statement_of, statements_from}
-use Rattle.nest_tree.proofs.Rows.{statement_of-Loop}
-use Rattle.sync_plan.specs.Fit.{has_print, have_print}
-use Rattle.plan_maker.proofs.anchors.+print.Goals as goal
-
-pub has_print-returns-in-Loop : goal.has_print-returns-in-Loop
-has_print-returns-in-Loop t c =
-    c.have_print.ensures ∙ ap (λ xs. have_print (statements_from xs)) c.deref.ensures.value ∙ sym (ap has_print (ap statement_of c.in-Loop.is ∙ statement_of-Loop c.in-Loop.nest))

@@ -1,7 +1,0 @@
-use Rattle.std.proofs.Common.{◌≡◌, drop}
-use Rattle.nest_tree.specs.View.{statements_from}
-use Rattle.sync_plan.specs.Fit.{have_print}
-use Rattle.plan_maker.proofs.anchors.+print.Given as goal
-
-abbrev pub invariant-have_print-loop-item : goal.invariant-have_print-loop-item
-invariant-have_print-loop-item l = have_print (statements_from (drop l.item-index l.items)) ≡ have_print (statements_from l.items)
