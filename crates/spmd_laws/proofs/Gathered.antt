@@ -1,7 +1,7 @@
 -- Barriers of a plan: what is gathered there, and how often.
-use Rattle.std.proofs.Common.{◌≡◌, ◌≢◌, ◌&&◌, ◌||◌, not, ℕ, zero, suc, ◌+◌, ◌-◌, ◌^◌, ◌<◌, ◌≤◌, ◌⊎◌, nat_lt, Bool, true, false, true≢false, cond, List, [], ◌∷◌, ◌++◌, length, map, take, drop, fold, Option, Some, None, refl, ap, sym, subst, ◌∙◌, inl, inr, ⊎_elim, arith, if◌then◌else◌, take_all, drop-cons, length-append, zero-add}
+use Rattle.std.proofs.Common.{◌≡◌, ◌≢◌, ◌&&◌, not, ℕ, zero, suc, ◌+◌, ◌-◌, ◌^◌, ◌<◌, ◌≤◌, ◌⊎◌, nat_lt, Bool, true, false, true≢false, cond, List, [], ◌∷◌, ◌++◌, length, map, take, drop, fold, Option, Some, None, refl, ap, sym, subst, ◌∙◌, inl, inr, ⊎_elim, arith, if◌then◌else◌, take_all, drop-cons, length-append, zero-add}
 use Rattle.std.specs.Prelude.{slice_get}
-use Rattle.std.specs.List.{All, filter, list_any, range_with_len}
+use Rattle.std.specs.List.{All, filter, range_with_len}
 use Rattle.std.proofs.lemmas.Bool.{and_parts, cases_Bool, cases_lt, ltb-true, ne_eqb}
 use Rattle.std.proofs.lemmas.List.Elements.{All-cons, All-nil}
 use Rattle.std.proofs.lemmas.List.Sums.{fold-append}
@@ -19,6 +19,7 @@ use Rattle.sync_plan.specs.declared.plan.Kind.{Kind}
 use Rattle.sync_plan.specs.declared.plan.Kind.TheVariants.{Nothing, Producer, Left, Right, Both, Barrier, Join}
 use Rattle.sync_plan.specs.declared.plan.Plan.{Plan}
 use Rattle.sync_plan.specs.Waits.{awaited_behind, does_wait_at, is_awaited_behind, posts_at, waits_for}
+use Rattle.sync_plan.proofs.ProcessorSets.{any_from}
 use Rattle.spmd_model.specs.Timelines.{Act, post, await, load, store, add, print, Job, Machine, Moment, Word, counter, signal, boundary, job, act_at, acts_of}
 use Rattle.spmd_model.specs.Ordered.{IsSound}
 use Rattle.spmd_model.specs.Lawful.{IsPosted, counted, counter_at}
@@ -48,15 +49,6 @@ passes test a (suc n) o low high h = elim (cases_Bool (test a)) [
       let apart : o ≢ a = λ e. true≢false (sym h ∙ ap test e ∙ not_here) in
       let later = passes test (a + 1) n o (omega (arith, low, apart)) (omega (arith, high)) h in
       (later.0, later.1, ap (λ b. cond b (a ∷ filter test (range_with_len (a + 1) n)) (filter test (range_with_len (a + 1) n))) not_here ∙ later.2)
-]
-
-any_passes : (test : ℕ → Bool) (a n o : ℕ) → a ≤ o → o < a + n → test o ≡ true → list_any test (range_with_len a n) ≡ true
-any_passes test a zero o low high h = absurd (omega (arith, low, high))
-any_passes test a (suc n) o low high h = elim (cases_Bool (test a)) [
-  | inl here ↦ ap (λ b. b || list_any test (range_with_len (a + 1) n)) here
-  | inr not_here ↦
-      let apart : o ≢ a = λ e. true≢false (sym h ∙ ap test e ∙ not_here) in
-      ap (λ b. b || list_any test (range_with_len (a + 1) n)) not_here ∙ any_passes test (a + 1) n o (omega (arith, low, apart)) (omega (arith, high)) h
 ]
 
 apart_waits : (p q : ℕ) → p ≢ q → does_wait_at Barrier 0 p q ≡ true
@@ -91,7 +83,7 @@ joins_at tree plan p inside t (boundary counter n posts awaits) at = λ g. at_ba
         barrier_is (slice_get plan.kinds (v.place - 1)) (sym (ap (λ o. is_barrier (kind_before plan o)) (ap (slice_get (phases tree plan.cut)) number ∙ b.at)) ∙ both.0) in
         let o = other_than p plan.workers (ltb-true 1 plan.workers both.1) inside in
         let waits = passes (does_wait_at Barrier 0 p) 0 plan.workers o.0 (omega arith) (omega (arith, o.1)) (apart_waits p o.0 (λ e. o.2 (sym e))) in
-        let posts_here = any_passes (λ q. does_wait_at Barrier 0 q p) 0 plan.workers o.0 (omega arith) (omega (arith, o.1)) (apart_waits o.0 p o.2) in (
+        let posts_here = any_from (λ q. does_wait_at Barrier 0 q p) 0 plan.workers o.0 (omega arith) (omega (arith, o.1)) (apart_waits o.0 p o.2) in (
           ap (λ f. f p) parts.1 ∙ ap (λ k. is_awaited_behind k plan.workers v.loops (param_values tree) p) kind ∙ posts_here,
           (waits.0, waits.1, ap (λ f. f p) parts.2 ∙ ap (λ k. awaited_behind k plan.workers v.loops (param_values tree) p) kind ∙ waits.2),
         )

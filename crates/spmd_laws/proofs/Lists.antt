@@ -1,23 +1,11 @@
 -- Lists from a place on, and places by processor.
-use Rattle.std.proofs.Common.{◌≡◌, ◌==◌, ℕ, zero, suc, ◌+◌, Bool, true, List, [], ◌∷◌, drop, Some, refl, ap, sym, ◌∙◌, arith, if◌then◌else◌, zero-add}
+use Rattle.std.proofs.Common.{◌≡◌, ◌==◌, ℕ, zero, suc, ◌+◌, Bool, true, List, [], ◌∷◌, drop, refl, ap, sym, ◌∙◌, arith, if◌then◌else◌, zero-add}
 use Rattle.std.specs.Prelude.{slice_get}
 use Rattle.std.specs.List.{All, list_all}
 use Rattle.std.proofs.Math.Seq.{drop-nil}
 use Rattle.std.proofs.lemmas.Bool.{and_parts, eq-eqb, ne_eqb}
 use Rattle.std.proofs.lemmas.List.Elements.{All-cons, All-head, All-nil, All-tail}
 use Rattle.spmd_model.specs.Lawful.{Moves}
-
--- what stands first from a place on stands at that place
-pub first_from : {X : Type 0} (xs : List X) (n : ℕ) (x : X) (rest : List X) → drop n xs ≡ x ∷ rest → (slice_get xs n ≡ Some x) × (drop (n + 1) xs ≡ rest)
-first_from [] n x rest e = let clash : [] ≡ x ∷ rest = sym (drop-nil n) ∙ e in absurd (cc)
-first_from (y ∷ ys) zero x rest e =
-    let is : y ≡ x = cc in
-    let behind : ys ≡ rest = cc in
-    (ap Some is, behind)
-first_from (y ∷ ys) (suc n) x rest e =
-    let later = first_from ys n x rest e in
-    let more : suc n + 1 ≡ suc (n + 1) = omega arith in
-    (later.0, ap (λ k. drop k (y ∷ ys)) more ∙ later.1)
 
 pub get_drop : {X : Type 0} (xs : List X) (n k : ℕ) → slice_get (drop n xs) k ≡ slice_get xs (n + k)
 get_drop [] n k = ap (λ l. slice_get l k) (drop-nil n)

@@ -9,7 +9,8 @@ use Rattle.spmd_model.specs.Lawful.{Moves}
 use Rattle.spmd_model.specs.Shared.{AreLawful}
 use Rattle.spmd_model.proofs.Shared as kept
 use Rattle.spmd_laws.specs.Protocols.{is_passed, passed_first, settled}
-use Rattle.spmd_laws.proofs.Lists.{first_from, get_drop, goes, gone_to}
+use Rattle.spmd_laws.proofs.Lists.{get_drop, goes, gone_to}
+use Rattle.spmd_model.proofs.Lists.{drop_more}
 
 module _ (m : Machine) (shared : ℕ) (sound : IsSound m) (ordered : IsOrdered m) where
   -- places that are the same are lawful together
@@ -32,7 +33,7 @@ module _ (m : Machine) (shared : ℕ) (sound : IsSound m) (ordered : IsOrdered m
   behind_passed cells p inside [] at after next law moves = stays cells at after p law moves
   behind_passed cells p inside (a ∷ rest) at after next law moves = elim (cases_Bool (is_passed shared a)) [
     | inl passed ↦
-        let first = first_from (acts_of m p) (at p) a rest next in
+        let first = drop_more (acts_of m p) (at p) a rest next in
         let mid = gone_to at p (at p + 1) in
         let step = goes at p (at p + 1) in
         let count : passed_first shared (a ∷ rest) ≡ passed_first shared rest + 1 = ap (λ b. if b then passed_first shared rest + 1 else 0) passed in

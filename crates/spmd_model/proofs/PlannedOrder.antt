@@ -20,27 +20,28 @@ use Rattle.spmd_model.proofs.PlannedMoments.{boundary_place_from, boundary_rises
 
 -- ---- an awaited processor is one of the workers
 
-filtered_below : (test : ℕ → Bool) (a n q : ℕ) → Contains (filter test (range_with_len a n)) q → q < a + n
-filtered_below test a zero q (k, lt, e) = absurd (omega (arith, lt))
-filtered_below test a (suc n) q among = by (filtered_below test (a + 1) n q) (test a) refl among
+-- what is among the filtered numbers of a range
+pub filtered : (test : ℕ → Bool) (a n q : ℕ) → Contains (filter test (range_with_len a n)) q → (test q ≡ true) × (q < a + n)
+filtered test a zero q (k, lt, e) = absurd (omega (arith, lt))
+filtered test a (suc n) q among = by (filtered test (a + 1) n q) (test a) refl among
   where
     later : List ℕ
     later = filter test (range_with_len (a + 1) n)
 
-    by : (Contains later q → q < a + 1 + n) → (b : Bool) → test a ≡ b → Contains (filter test (range_with_len a (suc n))) q → q < a + suc n
-    by below false h found = let rest = below (subst (λ xs. Contains xs q) (ap (λ b. cond b (a ∷ later) later) h) found) in omega (arith, rest)
-    by below true h found = in_first (subst (λ xs. Contains xs q) (ap (λ b. cond b (a ∷ later) later) h) found)
+    by : (Contains later q → (test q ≡ true) × (q < a + 1 + n)) → (b : Bool) → test a ≡ b → Contains (filter test (range_with_len a (suc n))) q → (test q ≡ true) × (q < a + suc n)
+    by rest false h found = let r = rest (subst (λ xs. Contains xs q) (ap (λ b. cond b (a ∷ later) later) h) found) in (r.0, omega (arith, r.1))
+    by rest true h found = in_first (subst (λ xs. Contains xs q) (ap (λ b. cond b (a ∷ later) later) h) found)
       where
-        in_first : Contains (a ∷ later) q → q < a + suc n
-        in_first (zero, lt, e) = omega (arith, e)
-        in_first (suc k, lt, e) = let rest = below (k, omega (arith, lt), e) in omega (arith, rest)
+        in_first : Contains (a ∷ later) q → (test q ≡ true) × (q < a + suc n)
+        in_first (zero, lt, e) = (ap test (sym e) ∙ h, omega (arith, e))
+        in_first (suc k, lt, e) = let r = rest (k, omega (arith, lt), e) in (r.0, omega (arith, r.1))
 
 awaited_below : (tree : Tree) (plan : Plan) (p e q : ℕ) → Contains (awaited_in_front tree plan p e) q → q < plan.workers
 awaited_below tree plan p e q among = by_phase (slice_get (phases tree plan.cut) (e - 1)) among
   where
     by_kind : (o : Option Kind) (v : Visit) → Contains (awaited_behind o plan.workers v.loops (param_values tree) p) q → q < plan.workers
     by_kind None v (k, lt, h) = absurd (omega (arith, lt))
-    by_kind (Some kind) v found = let below = filtered_below (does_wait_at kind (kind_owner kind plan.workers v.loops (param_values tree)) p) 0 plan.workers q found in omega (arith, below)
+    by_kind (Some kind) v found = let f = filtered (does_wait_at kind (kind_owner kind plan.workers v.loops (param_values tree)) p) 0 plan.workers q found in omega (arith, f.1)
 
     by_phase : (o : Option Visit) → Contains (awaited_in_plan tree plan p o) q → q < plan.workers
     by_phase None (k, lt, h) = absurd (omega (arith, lt))

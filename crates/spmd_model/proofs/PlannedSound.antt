@@ -1,8 +1,8 @@
 -- The boundaries of a plan's timeline: their numbers rise, and whoever is awaited there posts.
-use Rattle.std.proofs.Common.{◌≡◌, ℕ, zero, suc, ◌+◌, ◌-◌, ◌<◌, ◌≤◌, Bool, true, false, cond, ◌||◌, List, [], ◌∷◌, ◌++◌, length, map, take, Option, Some, None, refl, ap, sym, subst, ◌∙◌, inl, inr, ⊎_elim, arith, length-append}
+use Rattle.std.proofs.Common.{◌≡◌, ℕ, zero, suc, ◌+◌, ◌-◌, ◌<◌, Bool, true, List, [], ◌∷◌, ◌++◌, length, map, take, Option, Some, None, refl, ap, sym, subst, ◌∙◌, inl, inr, ⊎_elim, arith, length-append}
 use Rattle.std.specs.Prelude.{slice_get}
-use Rattle.std.specs.List.{Contains, filter, list_any, range_with_len}
-use Rattle.std.proofs.lemmas.Bool.{cases_eq, cases_lt}
+use Rattle.std.specs.List.{Contains}
+use Rattle.std.proofs.lemmas.Bool.{cases_lt}
 use Rattle.nest_tree.specs.Tree.{Tree, param_values}
 use Rattle.nest_model.specs.Instances.{Instance}
 use Rattle.nest_model.specs.Visits.{Visit}
@@ -20,11 +20,12 @@ use Rattle.nest_model.specs.Accesses.{access_cell, work_store}
 use Rattle.owner_partition.specs.Phases.{executions}
 use Rattle.sync_plan.specs.Fit.{IsFit}
 use Rattle.sync_plan.specs.Ordered.{IsOrdered as IsOrderedPlan, owner_under}
+use Rattle.sync_plan.proofs.ProcessorSets.{any_from}
 use Rattle.sync_plan.proofs.FitOwners.{owners_below, printers}
 use Rattle.spmd_model.specs.Ordered.{IsOrdered, IsSound}
 use Rattle.spmd_model.specs.Planned.{machine_of}
 use Rattle.sync_plan.proofs.Gets.{get-behind, get-front}
-use Rattle.spmd_model.proofs.PlannedOrder.{ordered_along}
+use Rattle.spmd_model.proofs.PlannedOrder.{filtered, ordered_along}
 use Rattle.spmd_model.proofs.PlannedMoments.{boundary_place_from, boundary_rises, executed}
 
 -- a boundary on the timeline is that of a phase
@@ -81,34 +82,6 @@ numbers_rise tree plan w s t n k f g a b lt at at' =
 
 -- ---- whoever is awaited posts
 
--- what is among the filtered numbers of a range
-filtered : (test : ℕ → Bool) (a n q : ℕ) → Contains (filter test (range_with_len a n)) q → (test q ≡ true) × (q < a + n)
-filtered test a zero q (k, lt, e) = absurd (omega (arith, lt))
-filtered test a (suc n) q among = by (filtered test (a + 1) n q) (test a) refl among
-  where
-    later : List ℕ
-    later = filter test (range_with_len (a + 1) n)
-
-    by : (Contains later q → (test q ≡ true) × (q < a + 1 + n)) → (b : Bool) → test a ≡ b → Contains (filter test (range_with_len a (suc n))) q → (test q ≡ true) × (q < a + suc n)
-    by rest false h found = let r = rest (subst (λ xs. Contains xs q) (ap (λ b. cond b (a ∷ later) later) h) found) in (r.0, omega (arith, r.1))
-    by rest true h found = in_first (subst (λ xs. Contains xs q) (ap (λ b. cond b (a ∷ later) later) h) found)
-      where
-        in_first : Contains (a ∷ later) q → (test q ≡ true) × (q < a + suc n)
-        in_first (zero, lt, e) = (ap test (sym e) ∙ h, omega (arith, e))
-        in_first (suc k, lt, e) = let r = rest (k, omega (arith, lt), e) in (r.0, omega (arith, r.1))
-
--- a test that holds of one of a range holds of some
-any_of : (test : ℕ → Bool) (a n p : ℕ) → a ≤ p → p < a + n → test p ≡ true → list_any test (range_with_len a n) ≡ true
-any_of test a zero p low high h = absurd (omega (arith, low, high))
-any_of test a (suc n) p low high h = elim (cases_eq p a) [
-  | inl same ↦ ap (λ b. b || list_any test (range_with_len (a + 1) n)) (ap test (sym same) ∙ h)
-  | inr other ↦ ap (λ b. test a || b) (any_of test (a + 1) n p (omega (arith, low, other)) (omega (arith, high)) h) ∙ or_true (test a)
-]
-  where
-    or_true : (b : Bool) → (b || true) ≡ true
-    or_true true = refl
-    or_true false = refl
-
 pub awaited_posts : (tree : Tree) (plan : Plan) (v : Visit) (p q : ℕ) → p < plan.workers → Contains (waits_for tree plan p v.place v.loops) q → (q < plan.workers) × (posts_at tree plan q v.place v.loops ≡ true)
 awaited_posts tree plan v p q inside among = by (slice_get plan.kinds (v.place - 1)) among
   where
@@ -117,7 +90,7 @@ awaited_posts tree plan v p q inside among = by (slice_get plan.kinds (v.place -
     by (Some kind) found =
         let owner = kind_owner kind plan.workers v.loops (param_values tree) in
         let f = filtered (does_wait_at kind owner p) 0 plan.workers q found in
-        (omega (arith, f.1), any_of (λ o. does_wait_at kind owner o q) 0 plan.workers p (omega arith) (omega (arith, inside)) f.0)
+        (omega (arith, f.1), any_from (λ o. does_wait_at kind owner o q) 0 plan.workers p (omega arith) (omega (arith, inside)) f.0)
 
 pub awaited_on : (tree : Tree) (plan : Plan) (w : Word) (t n p q : ℕ) (posts : ℕ → Bool) (awaits : ℕ → List ℕ) → slice_get (timeline_of tree plan) t ≡ Some (boundary w n posts awaits) → p < plan.workers → Contains (awaits p) q → (q < plan.workers) × (posts q ≡ true)
 awaited_on tree plan w t n p q posts awaits at inside among =

@@ -1,6 +1,6 @@
 -- Runs by turns are runs, and in front of each turn no quiet act stands next.
 use Rattle.std.proofs.Common.{◌≡◌, ◌≢◌, ℕ, zero, suc, ◌+◌, ◌<◌, ◌≤◌, Bool, true, false, true≢false, cond, List, [], ◌∷◌, ◌++◌, length, drop, fold, replicate, Option, Some, None, refl, ap, sym, subst, ◌∙◌, inl, inr, arith, if◌then◌else◌}
-use Rattle.std.specs.Prelude.{slice_get, slice_index}
+use Rattle.std.specs.Prelude.{slice_index}
 use Rattle.std.specs.List.{All, range_with_len}
 use Rattle.std.proofs.lemmas.Bool.{cases_eq}
 use Rattle.std.proofs.lemmas.List.{get_or-set_other, get_or-set_same}
@@ -10,6 +10,7 @@ use Rattle.spmd_model.specs.Timelines.{Act, post, await, load, store, add, print
 use Rattle.spmd_model.specs.States.{State, acted, first_state, is_possible, moved, next_act, stepped, stepped_by}
 use Rattle.spmd_model.specs.Quiet.{first_turn, is_quiet, quiet_first, quiet_next, past_quiet, turned, turns_of}
 use Rattle.spmd_model.specs.Reached.{HasCome}
+use Rattle.spmd_model.proofs.Lists.{drop_more}
 use Rattle.spmd_model.proofs.Runs.{come_first, come_stepped}
 
 -- ---- runs by turns are runs
@@ -104,15 +105,6 @@ quiet_moves m shared s p a lt next quiet =
     by (store t c) = get_or-set_same s.positions p (slice_index s.positions p + 1) 0 lt
     by (add t c) = get_or-set_same s.positions p (slice_index s.positions p + 1) 0 lt
     by (print t) = get_or-set_same s.positions p (slice_index s.positions p + 1) 0 lt
-
-drop_more : {X : Type 0} (xs : List X) (n : ℕ) (y : X) (ys : List X) → drop n xs ≡ y ∷ ys → (slice_get xs n ≡ Some y) × (drop (n + 1) xs ≡ ys)
-drop_more [] zero y ys e = let clash : [] ≡ y ∷ ys = e in absurd cc
-drop_more [] (suc n) y ys e = let clash : [] ≡ y ∷ ys = e in absurd cc
-drop_more (x ∷ xs) zero y ys e = let first : x ≡ y = cc in let rest : xs ≡ ys = cc in (ap Some first, rest)
-drop_more (x ∷ xs) (suc n) y ys e =
-    let more : suc n + 1 ≡ suc (n + 1) = omega arith in
-    let rest = drop_more xs n y ys e in
-    (rest.0, ap (λ k. drop k (x ∷ xs)) more ∙ rest.1)
 
 -- the quiet acts that stand next are done one after the other
 settles_all : (m : Machine) (shared p : ℕ) (acts : List Act) (s : State) → p < m.workers → HasCome m s → drop (slice_index s.positions p) (acts_of m p) ≡ acts →
