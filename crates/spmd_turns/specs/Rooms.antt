@@ -1,5 +1,5 @@
 -- How many bytes a program's PRINTs can write at most, and the loops without one.
-use Rattle.std.specs.Prelude.{ℕ, ◌-◌, ◌≡◌, Bool, true, false, List, slice_get, slice_index_or, Some, sum_by, ◌⊎◌}
+use Rattle.std.specs.Prelude.{ℕ, ◌-◌, ◌==◌, ◌&&◌, ◌||◌, ◌≡◌, Bool, true, false, List, slice_get, slice_index_or, Some, sum_by, ◌⊎◌}
 use Rattle.nest_tree.specs.Tree.{Statement, Statements, do_loop, work, continue, done, next, Tree}
 use Rattle.nest_model.specs.Instances.{Instance, instances}
 use Rattle.nest_model.specs.Visits.{Visit}
@@ -43,6 +43,17 @@ abbrev mutual
   pub AreSilent : List Bool → Statements → Type 0
   AreSilent marks done = Unit {0}
   AreSilent marks (next s rest) = IsSilent marks s × AreSilent marks rest
+
+-- a loop with a PRINT inside stands there whose number is one more
+abbrev mutual
+  pub is_printing_in : ℕ → Statement → Bool
+  is_printing_in k (do_loop head body) = (head.number - 1 == k && have_print body) || is_printing_among k body
+  is_printing_in k (work w) = false
+  is_printing_in k (continue line) = false
+
+  pub is_printing_among : ℕ → Statements → Bool
+  is_printing_among k done = false
+  is_printing_among k (next s rest) = is_printing_in k s || is_printing_among k rest
 
 -- how many bytes the turns that are left can print at most
 abbrev pub turn_room : Tree → Turn → ℕ

@@ -12,9 +12,9 @@ ghost use Rattle.nest_walk.specs.Walks.{enters_but};
 ghost use Rattle.nest_walk.specs.declared.table.WorkCells.{WorkCells};
 ghost use Rattle.seq_meaning.specs.Room.{longest_item, longest_items};
 ghost use Rattle.sync_plan.specs.Fit.{has_print, have_print};
-ghost use Rattle.spmd_turns.specs.Rooms.{AreSilent, IsReached, IsSilent, StayOpen, is_closed, visit_room};
+ghost use Rattle.spmd_turns.specs.Rooms.{AreSilent, IsReached, IsSilent, StayOpen, is_closed, is_printing_among, is_printing_in, visit_room};
 ghost use Rattle.spmd_turns.specs.Loads.{widths};
-ghost use Rattle.std.specs.Prelude.{false};
+ghost use Rattle.std.specs.Prelude.{IsTrue, ◌-◌, true, false};
 
 use crate::loads::width;
 use nest_tree::{Item, PrintItem, Program};
@@ -128,12 +128,13 @@ fn longest_array(program: &Program, variable: u32) -> Option<usize>
 }
 
 /// Whether a PRINT stands in these statements. Of the loops among them and inside, the marks of
-/// those with a PRINT inside are taken away.
+/// those with a PRINT inside are taken away, and no others.
 #[cycle(printing)]
 pub fn open_printing(items: &[Item], closed: &mut [bool]) -> bool
     ensures prints { result ≡ have_print (statements_from items.now) }
     ensures kept { StayOpen closed.old closed.new }
     ensures silent { AreSilent closed.new (statements_from items.now) }
+    ensures only { (n : ℕ) → is_closed closed.old n ≡ true → is_closed closed.new n ≡ false → IsTrue (is_printing_among (n - 1) (statements_from items.now)) }
 {
     let mut prints = false;
     for item in items {
@@ -149,6 +150,7 @@ fn opens(item: &Item, closed: &mut [bool]) -> bool
     ensures prints { result ≡ has_print (statement_of item.now) }
     ensures kept { StayOpen closed.old closed.new }
     ensures silent { IsSilent closed.new (statement_of item.now) }
+    ensures only { (n : ℕ) → is_closed closed.old n ≡ true → is_closed closed.new n ≡ false → IsTrue (is_printing_in (n - 1) (statement_of item.now)) }
 {
     match item {
         Item::Loop(nest) => {
@@ -167,6 +169,7 @@ fn opens(item: &Item, closed: &mut [bool]) -> bool
 fn unmark(closed: &mut [bool], number: u32)
     ensures kept { StayOpen closed.old closed.new }
     ensures gone { is_closed closed.new number ≡ false }
+    ensures only { (n : ℕ) → is_closed closed.old n ≡ true → is_closed closed.new n ≡ false → n - 1 ≡ number - 1 }
 {
     let place = (number as usize).saturating_sub(1);
     if place < closed.len() {
