@@ -71,30 +71,11 @@ fn count_with(rows: &[Row], unknowns: &[u32]) -> usize
     count
 }
 
-// Whether two lists of numbers are the same.
-fn are_same_numbers(these: &[u32], those: &[u32]) -> bool
-    ensures { IsTrue result → these.now ≡ those.now }
-{
-    match these {
-        [] => those.is_empty(),
-        [a, these @ ..] => match those {
-            [] => false,
-            [b, those @ ..] => *a == *b && are_same_numbers(these, those),
-        },
-    }
-}
-
 // Whether two lists of coefficients are the same.
 fn are_same_coefs(these: &[i128], those: &[i128]) -> bool
     ensures { IsTrue result → these.now ≡ those.now }
 {
-    match these {
-        [] => those.is_empty(),
-        [a, these @ ..] => match those {
-            [] => false,
-            [b, those @ ..] => *a == *b && are_same_coefs(these, those),
-        },
-    }
+    these == those
 }
 
 // Whether two rows are the same.
@@ -209,7 +190,7 @@ impl Beginning<'_> {
         if system.vars() != self.rows.vars() {
             return false;
         }
-        if !are_same_numbers(order, self.order) {
+        if order != self.order {
             return false;
         }
         if self.gone > order.len() {

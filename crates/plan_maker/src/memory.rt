@@ -3,7 +3,7 @@
 ghost use Rattle.std.specs.Prelude.{◌≡◌, [], IfOk, IfSome, IsTrue, None, OnOk, map};
 ghost use Rattle.nest_tree.specs.View.{tree_of};
 ghost use Rattle.sync_plan.specs.Shape.{wrong_field};
-ghost use Rattle.comm_system.specs.SideViews.{producer_seen, side_seen};
+ghost use Rattle.comm_system.specs.SideViews.{producer_seen};
 ghost use Rattle.comm_system.specs.SlotViews.{slot_seen};
 ghost use Rattle.std.specs.List.{All};
 ghost use Rattle.nest_tree.specs.Tree.{Tree};
@@ -50,22 +50,6 @@ pub(crate) struct Memory {
     entries: Vec<Entry>,
 }
 
-// Whether two sides are the same.
-fn is_same_side(a: Side, b: Side) -> bool
-    ensures { IsTrue result → side_seen a ≡ side_seen b }
-{
-    match a {
-        Side::First => match b {
-            Side::First => true,
-            Side::Second => false,
-        },
-        Side::Second => match b {
-            Side::First => false,
-            Side::Second => true,
-        },
-    }
-}
-
 // Whether two anchors are the same.
 fn is_anchor(a: &Anchor, b: &Anchor) -> bool
     ensures { IsTrue result → b.now ≡ a.now }
@@ -77,7 +61,7 @@ fn is_anchor(a: &Anchor, b: &Anchor) -> bool
 fn is_producer(one: &(Anchor, Side), producer: &Producer) -> bool
     ensures { IsTrue result → producer_seen producer.now ≡ pair_seen one.now }
 {
-    is_anchor(&one.0, producer.anchor) && is_same_side(producer.side, one.1)
+    is_anchor(&one.0, producer.anchor) && producer.side == one.1
 }
 
 // Whether these are the same producers.

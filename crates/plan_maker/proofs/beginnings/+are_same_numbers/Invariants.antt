@@ -1,5 +1,0 @@
-use Rattle.std.proofs.Common.{length}
-use Rattle.plan_maker.proofs.beginnings.+are_same_numbers.Given as goal
-
-abbrev pub decreases-are_same_numbers : goal.decreases-are_same_numbers
-decreases-are_same_numbers l = length l.these.now
