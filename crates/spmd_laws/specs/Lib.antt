@@ -1,3 +1,4 @@
 pub mod Protocols
 pub mod Laws
 pub mod Viewed
+pub mod Examples
