@@ -19,7 +19,7 @@ import os
 import re
 import sys
 
-FOLDERS = ("docs/", "examples/", "bin/", "crates/", ".ci/")
+FOLDERS = ("docs/", "examples/", "bench/", "bin/", "crates/", ".ci/")
 NAME = r"`([A-Za-z0-9_:]+)`"
 
 

@@ -1,5 +1,5 @@
 //! Reads a source on standard input and, behind its END line, the text of a plan, and writes each
-//! obligation of the plan, in the form that `elim_bench` reads: a line
+//! obligation of the plan, in the form that `bench_parts` reads: a line
 //! `system O{number}:{line}-{line}:V{variable}:L{level}:P{piece}:{below}:{above} VARS ROWS`, and then
 //! a line `c1 .. cVARS <= bound` for each row. With the word `--times` it also writes to standard
 //! error how many systems there are, and how many microseconds they took.

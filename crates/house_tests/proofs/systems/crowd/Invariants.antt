@@ -1,0 +1,10 @@
+use Rattle.std.proofs.Common.{◌≡◌}
+use Rattle.house_tests.proofs.systems.crowd.Given as goal
+
+-- the number of variables stays
+abbrev pub invariant-loop-coefs : goal.invariant-loop-coefs
+invariant-loop-coefs l = l.system.vars ≡ 3
+
+-- the number of variables stays
+abbrev pub invariant-loop-index : goal.invariant-loop-index
+invariant-loop-index l = l.system.vars ≡ 3

@@ -1,5 +1,0 @@
-use Rattle.plan_text.proofs.Counts.{counts_of_text}
-use Rattle.plan_bench.proofs.main.Goals as goal
-
-pub write_plan-requires : goal.write_plan-requires
-write_plan-requires c = counts_of_text c.in-Ok.plan c.in-Ok.ensures.shown

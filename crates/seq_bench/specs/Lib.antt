@@ -1,4 +1,0 @@
-pub mod Programs
-pub mod Kinds
-pub mod Nests
-pub mod Ranged
