@@ -8,7 +8,6 @@ use Rattle.std.proofs.lemmas.Grind.{flat_map-append}
 use Rattle.std.proofs.lemmas.List.{append-nil, at_drop_more, take-append-drop, take_more}
 use Rattle.std.proofs.lemmas.List.Concat.{flat_map_single}
 use Rattle.std.proofs.lemmas.List.Folds.{flat_map-map}
-use Rattle.fm_elim.specs.declared.answer.Answer.{Answer}
 use Rattle.nest_walk.proofs.Grown.{AllZip-append}
 use Rattle.plan_maker.specs.Asked.{AreRefuted, Asked, IsCause, IsSaid}
 use Rattle.plan_maker.specs.declared.cause.Cause.{Cause}
@@ -39,7 +38,6 @@ cause-behind qs rs cs cause h k = record {
   before = subst (λ zs. AreRefuted zs (cs ++ k.certificates)) (sym (take-behind qs rs k.place)) (refuted-append qs (take k.place rs) cs k.certificates h k.before);
   question = k.question;
   at = get-behind qs rs k.place ∙ k.at;
-  answer = k.answer;
   said = k.said;
 }
 
@@ -51,7 +49,6 @@ cause-front qs rs cause k = record {
   before = subst (λ zs. AreRefuted zs k.certificates) (sym (take-front qs rs k.place k.question k.at)) k.before;
   question = k.question;
   at = get-front qs rs k.place k.question k.at;
-  answer = k.answer;
   said = k.said;
 }
 
@@ -78,8 +75,8 @@ module _ {X : Type 0} (f : X → List Asked) (xs : List X) (i : ℕ) (x : X) (lt
       subst (λ qs. IsCause qs cause) (sym whole) (cause-behind (flat_map f (take i xs)) (f x ++ flat_map f (drop (i + 1) xs)) cs cause h (cause-front (f x) (flat_map f (drop (i + 1) xs)) cause k))
 
 -- of things that each ask one
-pub one_said : (q : Asked) (answer : Answer) (cause : Cause) → IsSaid q answer cause → IsCause (q ∷ []) cause
-one_said q answer cause said = record { place = 0; certificates = []; before = tt; question = q; at = refl; answer = answer; said = said }
+pub one_said : (q : Asked) (cause : Cause) → IsSaid q cause → IsCause (q ∷ []) cause
+one_said q cause said = record { place = 0; certificates = []; before = tt; question = q; at = refl; said = said }
 
 module _ {X : Type 0} (f : X → Asked) (xs : List X) (i : ℕ) (x : X) (lt : i < length xs) (is : x ≡ get_or xs i x) where
   each : (ys : List X) → map f ys ≡ flat_map (λ y. f y ∷ []) ys
@@ -89,9 +86,9 @@ module _ {X : Type 0} (f : X → Asked) (xs : List X) (i : ℕ) (x : X) (lt : i 
   map_more cs c h good =
       subst (λ qs. AreRefuted qs (cs ++ c ∷ [])) (sym (each (take (i + 1) xs))) (flat_more (λ y. f y ∷ []) xs i x lt is cs (c ∷ []) (subst (λ qs. AreRefuted qs cs) (each (take i xs)) h) (good, tt))
 
-  pub map_kept : (cs : List Certificate) (answer : Answer) (cause : Cause) → AreRefuted (map f (take i xs)) cs → IsSaid (f x) answer cause → IsCause (map f xs) cause
-  map_kept cs answer cause h said =
-      subst (λ qs. IsCause qs cause) (sym (each xs)) (flat_kept (λ y. f y ∷ []) xs i x lt is cs cause (subst (λ qs. AreRefuted qs cs) (each (take i xs)) h) (one_said (f x) answer cause said))
+  pub map_kept : (cs : List Certificate) (cause : Cause) → AreRefuted (map f (take i xs)) cs → IsSaid (f x) cause → IsCause (map f xs) cause
+  map_kept cs cause h said =
+      subst (λ qs. IsCause qs cause) (sym (each xs)) (flat_kept (λ y. f y ∷ []) xs i x lt is cs cause (subst (λ qs. AreRefuted qs cs) (each (take i xs)) h) (one_said (f x) cause said))
 
 -- of things by what is seen of them
 module _ {X Y : Type 0} (f : Y → List Asked) (v : X → Y) (xs : List X) (i : ℕ) (x : X) (lt : i < length xs) (is : x ≡ get_or xs i x) where

@@ -1,8 +1,9 @@
 -- What elimination is asked of a plan: its systems one behind another, each with the order in which its unknowns are removed; and what is known of the answers.
-use Rattle.std.specs.Prelude.{ℕ, ◌≡◌, List, [], ◌∷◌, ◌++◌, map, take, slice_get, Option, Some, None}
+use Rattle.std.specs.Prelude.{ℕ, ℤ, ◌≡◌, ◌⊎◌, List, [], ◌∷◌, ◌++◌, map, take, slice_get, Option, Some, None}
 use Rattle.std.specs.List.{AllZip, flat_map}
 use Rattle.farkas_cert.specs.declared.certificate.Certificate.{Certificate}
 use Rattle.farkas_cert.specs.Good.{IsGood}
+use Rattle.farkas_cert.specs.Inequalities.{Inequalities, IsWholeSolution}
 use Rattle.fm_elim.specs.declared.answer.Answer.{Answer}
 use Rattle.fm_elim.specs.declared.answer.Answer.TheVariants as answers
 use Rattle.fm_elim.specs.Answers.{IsKept}
@@ -64,10 +65,21 @@ word_for answers.Open = Some Open
 word_for (answers.Wide level upper lower) = Some Wide
 word_for (answers.Many level count) = Some Many
 
--- what is said of a system that is kept, with this answer
-pub record IsSaid (q : Asked) (answer : Answer) (cause : Cause) : Type 0 where
-  pub kept : IsKept q.task.system q.order answer
-  pub word : word_for answer ≡ Some cause.word
+-- elimination in this order keeps the system, by an answer with this word
+abbrev pub IsKeptBy : Inequalities → List ℕ → Word → Type 0
+IsKeptBy system order word = (answer : Answer) × IsKept system order answer × (word_for answer ≡ Some word)
+
+-- a whole solution of the system is known, and the word is Open
+abbrev pub IsWitnessed : Inequalities → Word → Type 0
+IsWitnessed system word = (x : List ℤ) × IsWholeSolution system x × (word ≡ Open)
+
+-- why a system is kept, with this word: elimination in this order answers so, or a whole solution is a witness
+abbrev pub IsKeptAs : Inequalities → List ℕ → Word → Type 0
+IsKeptAs system order word = IsKeptBy system order word ⊎ IsWitnessed system word
+
+-- what is said of a system that is kept
+pub record IsSaid (q : Asked) (cause : Cause) : Type 0 where
+  pub kept : IsKeptAs q.task.system q.order cause.word
   pub lines : cause.lines ≡ q.task.lines
   pub variable : cause.variable ≡ q.task.variable
   pub level : cause.level ≡ q.task.level
@@ -80,5 +92,4 @@ pub record IsCause (questions : List Asked) (cause : Cause) : Type 0 where
   pub before : AreRefuted (take place questions) certificates
   pub question : Asked
   pub at : slice_get questions place ≡ Some question
-  pub answer : Answer
-  pub said : IsSaid question answer cause
+  pub said : IsSaid question cause

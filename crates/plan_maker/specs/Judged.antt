@@ -7,7 +7,6 @@ use Rattle.comm_system.specs.Obligations.{Task}
 use Rattle.comm_system.specs.Subjects.{Group, obligations_in}
 use Rattle.comm_system.specs.declared.obligation.Obligation.{Obligation}
 use Rattle.farkas_cert.specs.Good.{IsGood}
-use Rattle.fm_elim.specs.declared.answer.Answer.{Answer}
 use Rattle.plan_maker.specs.Asked.{AreRefuted, Asked, IsCause, IsSaid, asked}
 use Rattle.plan_maker.specs.declared.judge.Judgement.{Judgement}
 use Rattle.plan_maker.specs.declared.judge.Judgement.TheVariants as one
@@ -40,7 +39,7 @@ IsVerdict questions (Kept cause) = IsCause questions cause
 -- of one system
 abbrev pub IsJudgement : Asked → Judgement → Type 0
 IsJudgement q (one.Refuted certificate) = IsGood q.task.system certificate
-IsJudgement q (one.Kept cause) = (answer : Answer) × IsSaid q answer cause
+IsJudgement q (one.Kept cause) = IsSaid q cause
 
 abbrev pub cause_in : Verdict → Option Cause
 cause_in (Refuted certificates) = None

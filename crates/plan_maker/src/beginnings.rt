@@ -3,17 +3,20 @@
 ghost use Rattle.std.specs.Prelude.{◌≡◌, ◌≤◌, ◌++◌, ◌↔◌, IfOk, IfSome, IsTrue, drop, length, take};
 ghost use Rattle.std.specs.List.{All};
 ghost use Rattle.farkas_cert.specs.Narrow.{AreNarrow};
-ghost use Rattle.fm_elim.specs.Advances.{IsExtension, gone_of, order_of as its_order, system_of as its_system, IsLevel};
-ghost use Rattle.fm_elim.specs.Answers.{IsDecided, NamesEachOnce};
+ghost use Rattle.fm_elim.specs.Advances.{IsExtension, gone_of};
+ghost use Rattle.fm_elim.specs.Answers.{NamesEachOnce};
 ghost use Rattle.fm_elim.specs.Pairs.{coef_of};
-ghost use Rattle.plan_maker.specs.Beginnings.{IsBeginning, IsFront, IsWithout};
+ghost use Rattle.plan_maker.specs.Beginnings.{IsBeginning, IsFront, IsLevelOf, IsWithout};
 
 use crate::decided::can_ask;
 use crate::orders::{elimination_order, unknown_count};
 use farkas_cert::{Coefs, Row, System};
-use fm_elim::{Advance, Answer, Level, NoMemory, decide};
+use fm_elim::{Advance, Level, NoMemory};
 use owner_partition::Dist;
 use std::alloc::{AllocError, Global};
+
+/// How many rows less than elimination's limit a short level has at most: it has 500.
+const REST: usize = 19_500;
 
 /// The first rows of a system, and the order in which its unknowns are removed.
 #[derive(Drop)]
@@ -24,7 +27,8 @@ pub(crate) struct Front {
     others: usize,
 }
 
-/// A level of the first rows of a system, without the unknowns that are removed before the owners.
+/// A level of the first rows of a system, without the unknowns that are removed before the owners or
+/// some of them.
 #[derive(Drop)]
 pub(crate) struct Beginning<'a> {
     rows: &'a System,
@@ -114,25 +118,34 @@ fn first_rows(alloc: Global, system: &System, count: usize) -> Result<System, Al
     Ok(first)
 }
 
-// The level of a system without the first so many unknowns of the order, if elimination comes so far.
+/// Whether no level so far has had more than 500 rows: elimination's limit less the rest.
+pub(crate) fn is_short(level: &Level) -> bool {
+    level.has_room_for(REST)
+}
+
+// A level of a system without the first so many unknowns of the order, if elimination comes so far, and
+// how many are gone: it stops at a long level.
 fn level_without<'a>(
     alloc: Global,
     system: &'a System,
     order: &'a [u32],
     count: usize,
-) -> Result<Option<Level<'a>>, NoMemory>
+) -> Result<Option<(Level<'a>, usize)>, NoMemory>
     requires order { NamesEachOnce system.now.vars order.now }
     requires narrow { AreNarrow system.now.rows }
-    ensures { IfOk result (λ found. IfSome found (λ level. IsLevel level × (its_system level ≡ system.now) × (its_order level ≡ order.now) × (gone_of level ≡ count))) }
+    ensures { IfOk result (λ found. IfSome found (λ p. IsLevelOf system.now order.now p.0 × (gone_of p.0 ≡ p.1))) }
 {
     let mut level = Level::start(alloc, system, order)?;
-    for _gone in 0..count {
+    for gone in 0..count {
+        if !is_short(&level) {
+            return Ok(Some((level, gone)));
+        }
         match level.advance(alloc)? {
             Advance::Level(next) => level = next,
             Advance::Answer(_) => return Ok(None),
         }
     }
-    Ok(Some(level))
+    Ok(Some((level, count)))
 }
 
 impl Front {
@@ -159,18 +172,18 @@ impl Front {
         }))
     }
 
-    /// The level without the unknowns that are removed before the owners, if elimination comes so
-    /// far.
+    /// The level without the unknowns that are removed before the owners, or a long one before it,
+    /// if elimination comes so far.
     pub(crate) fn begin(&self, alloc: Global) -> Result<Option<Beginning<'_>>, AllocError>
         requires { IsFront self.now }
         ensures { IfOk result (λ found. IfSome found IsBeginning) }
     {
         let order = self.order.as_slice();
         match level_without(alloc, &self.rows, order, self.others) {
-            Ok(Some(level)) => Ok(Some(Beginning {
+            Ok(Some((level, gone))) => Ok(Some(Beginning {
                 rows: &self.rows,
                 order,
-                gone: self.others,
+                gone,
                 level,
             })),
             Ok(None) => Ok(None),
@@ -206,22 +219,27 @@ impl Beginning<'_> {
         are_without(further, &order[..self.gone]) && self.level.has_room_for(further.len())
     }
 
-    /// What elimination in this order says of a system: from this level on where it goes on to it,
-    /// and else from level 0 on.
-    pub(crate) fn decide(
+    /// Whether its level is long, or one before it.
+    pub(crate) fn is_long(&self) -> bool {
+        !is_short(&self.level)
+    }
+
+    /// A level of a system in this order: this one where it goes on to it, and else level 0.
+    pub(crate) fn level_of<'b>(
         &self,
         alloc: Global,
-        system: &System,
-        order: &[u32],
-    ) -> Result<Answer, NoMemory>
+        system: &'b System,
+        order: &'b [u32],
+    ) -> Result<Level<'b>, NoMemory>
         requires beginning { IsBeginning self.now }
         requires order { NamesEachOnce system.now.vars order.now }
         requires narrow { AreNarrow system.now.rows }
-        ensures { IfOk result (IsDecided system.now order.now) }
+        ensures { IfOk result (IsLevelOf system.now order.now) }
     {
-        if !self.is_extended(system, order) {
-            return decide(alloc, system, order);
+        if self.is_extended(system, order) {
+            self.level.extend(alloc, system, order)
+        } else {
+            Level::start(alloc, system, order)
         }
-        self.level.extend(alloc, system, order)?.answer(alloc)
     }
 }

@@ -1,27 +1,30 @@
-// What elimination finds of a system.
+// What is found of a system: by elimination in its order, and by a quick look.
 
-ghost use Rattle.std.specs.Prelude.{◌≡◌, ◌-◌, ◌≤◌, ◌<◌, ◌^◌, IfOk, IfSome, IsTrue, length};
+ghost use Rattle.std.specs.Prelude.{◌≡◌, ℕ, List, ◌-◌, ◌≤◌, ◌<◌, ◌^◌, IfOk, IfSome, IsTrue, length};
 ghost use Rattle.farkas_cert.specs.Narrow.{AreNarrow};
+ghost use Rattle.farkas_cert.specs.Inequalities.{Inequalities};
+ghost use Rattle.fm_elim.specs.Advances.{IsLevel, order_of, system_of};
 ghost use Rattle.fm_elim.specs.Answers.{IsDecided, NamesEachOnce};
-ghost use Rattle.plan_maker.specs.Beginnings.{IsBeginning};
-ghost use Rattle.plan_maker.specs.Found.{IsFound};
-ghost use Rattle.plan_maker.specs.Orders.{elimination_order as order_of, unknowns_of};
+ghost use Rattle.plan_maker.specs.Beginnings.{IsBeginning, IsLevelOf};
+ghost use Rattle.plan_maker.specs.Found.{IsFound, IsUnderway};
+ghost use Rattle.plan_maker.specs.Orders.{elimination_order as order_of_owners, unknowns_of};
 
-use crate::beginnings::Beginning;
+use crate::beginnings::{Beginning, is_short};
 use crate::cause::Word;
 use crate::orders::{elimination_order, unknown_count};
 use farkas_cert::narrow::are_narrow_rows;
 use farkas_cert::{Certificate, System};
-use fm_elim::{Answer, NoMemory, decide};
+use fm_elim::{Advance, Answer, Level, NoMemory};
 use owner_partition::Dist;
+use quick_elim::{Budget, Settled, settle};
 use std::alloc::{AllocError, Global};
 
-/// What elimination finds of a system.
+/// What is found of a system.
 #[derive(Drop)]
 pub(crate) enum Found {
     /// It has no whole solution: this certificate is good for it.
     Refuted(Certificate),
-    /// It is kept, by this answer.
+    /// It is kept, with this word.
     Kept(Word),
 }
 
@@ -39,46 +42,128 @@ pub(crate) fn can_ask(system: &System, dists: &[Dist]) -> bool
         && are_narrow_rows(system.rows())
 }
 
-// What elimination in this order says of a system, from a beginning if there is one.
-fn decide_from(
+// A level of a system in this order, from a beginning if there is one.
+fn level_of<'a>(
+    alloc: Global,
+    system: &'a System,
+    order: &'a [u32],
+    beginning: Option<&Beginning>,
+) -> Result<Level<'a>, NoMemory>
+    requires order { NamesEachOnce system.now.vars order.now }
+    requires narrow { AreNarrow system.now.rows }
+    requires beginning { IfSome beginning (λ b. IsBeginning b.now) }
+    ensures { IfOk result (IsLevelOf system.now order.now) }
+{
+    match beginning {
+        Some(beginning) => beginning.level_of(alloc, system, order),
+        None => Level::start(alloc, system, order),
+    }
+}
+
+// Removes unknowns as long as levels are short.
+fn advance_short<'a>(alloc: Global, level: Level<'a>) -> Result<Advance<'a>, NoMemory>
+    requires { IsLevel level }
+    ensures { IfOk result (IsUnderway (system_of level.entry) (order_of level.entry)) }
+{
+    let mut level = level;
+    while is_short(&level) {
+        match level.advance(alloc)? {
+            Advance::Level(next) => level = next,
+            Advance::Answer(answer) => return Ok(Advance::Answer(answer)),
+        }
+    }
+    Ok(Advance::Level(level))
+}
+
+// What a quick look finds of a system, if anything.
+#[tactic(auto, using(crate::proofs::Judgements::found_witness))]
+fn quick_look(alloc: Global, system: &System) -> Result<Option<Found>, NoMemory>
+    ensures { (order : List ℕ) → IfOk result (λ found. IfSome found (IsFound system.now order)) }
+{
+    match settle(alloc, system, &Budget::default()) {
+        Ok(Settled::Refuted(certificate)) => Ok(Some(Found::Refuted(certificate))),
+        Ok(Settled::Solved(_)) => Ok(Some(Found::Kept(Word::Open))),
+        Ok(Settled::Unknown) => Ok(None),
+        Err(_) => Err(NoMemory),
+    }
+}
+
+// What an answer of elimination in this order finds.
+#[tactic(auto, using(crate::proofs::Judgements::found_open))]
+fn found_by(answer: Answer) -> Found
+    ensures { (system : Inequalities) (order : List ℕ) → IsDecided system order answer → IsFound system order result }
+{
+    match answer {
+        Answer::Infeasible(certificate) => Found::Refuted(certificate),
+        Answer::Open => Found::Kept(Word::Open),
+        Answer::Wide { .. } => Found::Kept(Word::Wide),
+        Answer::Many { .. } => Found::Kept(Word::Many),
+    }
+}
+
+// What is found of a system at a long level: by a quick look, or else by going on.
+fn find_long(alloc: Global, system: &System, level: Level) -> Result<Found, NoMemory>
+    requires level { IsLevel level }
+    requires system { system_of level ≡ system.now }
+    ensures { IfOk result (IsFound system.now (order_of level.entry)) }
+{
+    match quick_look(alloc, system)? {
+        Some(found) => Ok(found),
+        None => Ok(found_by(level.answer(alloc)?)),
+    }
+}
+
+// What is found of a system by an answer of elimination: a certificate stands, and else a quick look may
+// find one, or a witness.
+fn find_behind(alloc: Global, system: &System, answer: Answer) -> Result<Found, NoMemory>
+    ensures { (order : List ℕ) → IsDecided system.now order answer → IfOk result (IsFound system.now order) }
+{
+    match found_by(answer) {
+        Found::Refuted(certificate) => Ok(Found::Refuted(certificate)),
+        Found::Kept(word) => match quick_look(alloc, system)? {
+            Some(found) => Ok(found),
+            None => Ok(Found::Kept(word)),
+        },
+    }
+}
+
+// What is found of a system in this order, from a beginning if there is one. A quick look comes before
+// levels that are long, and behind elimination where that has no certificate.
+fn find_in(
     alloc: Global,
     system: &System,
     order: &[u32],
     beginning: Option<&Beginning>,
-) -> Result<Answer, NoMemory>
+) -> Result<Found, NoMemory>
     requires order { NamesEachOnce system.now.vars order.now }
     requires narrow { AreNarrow system.now.rows }
     requires beginning { IfSome beginning (λ b. IsBeginning b.now) }
-    ensures { IfOk result (IsDecided system.now order.now) }
+    ensures { IfOk result (IsFound system.now order.now) }
 {
+    if is_long(beginning) {
+        if let Some(found) = quick_look(alloc, system)? {
+            return Ok(found);
+        }
+        let level = level_of(alloc, system, order, beginning)?;
+        return Ok(found_by(level.answer(alloc)?));
+    }
+    let level = level_of(alloc, system, order, beginning)?;
+    match advance_short(alloc, level)? {
+        Advance::Level(level) => find_long(alloc, system, level),
+        Advance::Answer(answer) => find_behind(alloc, system, answer),
+    }
+}
+
+// Whether the level of a beginning is long.
+fn is_long(beginning: Option<&Beginning>) -> bool {
     match beginning {
-        Some(beginning) => beginning.decide(alloc, system, order),
-        None => decide(alloc, system, order),
+        Some(beginning) => beginning.is_long(),
+        None => false,
     }
 }
 
-// What elimination says of a system. Where it can't be asked it is as if memory had run out.
-fn answer(
-    alloc: Global,
-    system: &System,
-    dists: &[Dist],
-    beginning: Option<&Beginning>,
-) -> Result<Answer, AllocError>
-    requires { IfSome beginning (λ b. IsBeginning b.now) }
-    ensures { IfOk result (IsDecided system.now (order_of system.now.vars dists.now)) }
-{
-    if !can_ask(system, dists) {
-        return Err(AllocError);
-    }
-    let order = elimination_order(alloc, system.vars(), dists)?;
-    match decide_from(alloc, system, order.as_slice(), beginning) {
-        Ok(answer) => Ok(answer),
-        Err(_) => Err(AllocError),
-    }
-}
-
-/// What elimination finds of a system whose owners are dealt so, from a beginning if there is one.
-#[tactic(auto, using(crate::proofs::Judgements::found_open, crate::proofs::Judgements::found_wide, crate::proofs::Judgements::found_many))]
+/// What is found of a system whose owners are dealt so, from a beginning if there is one. Where
+/// elimination can't be asked of it, it is as if memory had run out.
 pub(crate) fn find(
     alloc: Global,
     system: &System,
@@ -86,12 +171,14 @@ pub(crate) fn find(
     beginning: Option<&Beginning>,
 ) -> Result<Found, AllocError>
     requires { IfSome beginning (λ b. IsBeginning b.now) }
-    ensures { IfOk result (IsFound system.now (order_of system.now.vars dists.now)) }
+    ensures { IfOk result (IsFound system.now (order_of_owners system.now.vars dists.now)) }
 {
-    match answer(alloc, system, dists, beginning)? {
-        Answer::Infeasible(certificate) => Ok(Found::Refuted(certificate)),
-        Answer::Open => Ok(Found::Kept(Word::Open)),
-        Answer::Wide { .. } => Ok(Found::Kept(Word::Wide)),
-        Answer::Many { .. } => Ok(Found::Kept(Word::Many)),
+    if !can_ask(system, dists) {
+        return Err(AllocError);
+    }
+    let order = elimination_order(alloc, system.vars(), dists)?;
+    match find_in(alloc, system, order.as_slice(), beginning) {
+        Ok(found) => Ok(found),
+        Err(_) => Err(AllocError),
     }
 }

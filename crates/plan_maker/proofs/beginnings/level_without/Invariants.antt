@@ -7,5 +7,5 @@ invariant-loop-gone l = record {
   level : IsLevel l.level;
   system : system_of l.level ≡ l.system;
   order : order_of l.level ≡ l.order;
-  gone : gone_of l.level ≡ l._gone;
+  gone : gone_of l.level ≡ l.gone;
 }

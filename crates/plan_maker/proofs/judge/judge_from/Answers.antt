@@ -29,7 +29,7 @@ returns-in-Kept c =
     let inside : i < length os = omega (arith, c.loop-index-test.true, c.count-index-end.ensures) in
     let judged = subst (λ (j : Judgement). IsJudgement (ask c.obligation.result.now) j) c.in-Kept.is c.in_ok-certificate.ensures in
     let said = subst (λ (x : Obligation). IsJudgement (ask x) (one.Kept c.in-Kept.cause)) c.obligation.ensures judged in
-    map_kept ask os i o inside here c.loop-index.certificates.items said.0 c.in-Kept.cause c.loop-index.invariant.refuted said.1
+    map_kept ask os i o inside here c.loop-index.certificates.items c.in-Kept.cause c.loop-index.invariant.refuted said
 
 pub loop-index-preserved : goal.loop-index-preserved
 loop-index-preserved c =

@@ -7,4 +7,4 @@ pub returns-in-Kept : goal.returns-in-Kept
 returns-in-Kept c =
     let asked = asked_about c.args.dists.now c.args.obligation.now in
     let said = subst (IsJudgement asked) c.in-Kept.is c.in_ok-certificate.ensures in
-    one_said asked said.0 c.in-Kept.cause said.1
+    one_said asked c.in-Kept.cause said
