@@ -5,6 +5,7 @@
 //! - `lines`, `sources`: what a source lists, which program it is, and which fault it has.
 //! - `systems`: certificates, and what elimination says.
 //! - `plans`: what the checker answers, and which text is no plan's.
+//! - `shared_words`: two processors of a straight line, step by step on the words that they share.
 #![tactic(auto)]
 
 #[cfg(test)]
@@ -14,7 +15,11 @@ mod plans;
 #[cfg(test)]
 mod programs;
 #[cfg(test)]
+mod shared_words;
+#[cfg(test)]
 mod sources;
+#[cfg(test)]
+mod straight_line;
 #[cfg(test)]
 mod streams;
 #[cfg(test)]

@@ -1,0 +1,99 @@
+-- The straight line's acts under two plans, and that it may be run.
+use Rattle.std.proofs.Common.{◌≡◌, ℕ, zero, suc, ◌<◌, List, [], ◌∷◌, Some, refl, sym, ◌∙◌, ap, subst, true, false, arith}
+use Rattle.std.specs.Prelude.{slice_get}
+use Rattle.std.specs.List.{AllByRecursion}
+use Rattle.nest_tree.specs.Limits.{IsWithinLimits}
+use Rattle.nest_tree.specs.WellFormed.{IsWellFormed}
+use Rattle.nest_model.specs.Ranges.{IsInRange}
+use Rattle.owner_partition.specs.Phases.{Execution, executions}
+use Rattle.sync_plan.specs.Fit.{IsFit}
+use Rattle.sync_plan.specs.Ordered.{IsOrdered, owner_under}
+use Rattle.sync_plan.specs.declared.plan.Kind.{Kind}
+use Rattle.sync_plan.specs.declared.plan.Kind.TheVariants.{Barrier, Join}
+use Rattle.spmd_model.specs.Timelines.{counter, post, await}
+use Rattle.spmd_laws.specs.Protocols.{Protocol, act_at}
+use Rattle.spmd_laws.specs.Viewed.{acts_under, protocol_of}
+use Rattle.nest_tree.specs.View.{tree_of}
+use Rattle.nest_tree.specs.declared.tree.Program.{Program}
+use Rattle.sync_plan.specs.declared.plan.Plan.{Plan}
+use Rattle.cell_table.specs.Homes.{Home, protocol_at, protocol_given}
+use Rattle.cell_table.specs.Places.{behind, settled_at}
+use Rattle.house_tests.specs.StraightLine.{line, plan_with}
+
+abbrev pub barriers : List Kind
+barriers = Barrier ∷ Barrier ∷ Barrier ∷ []
+
+abbrev pub joins : List Kind
+joins = Join ∷ Join ∷ Join ∷ []
+
+pub formed : IsWellFormed line
+formed = refl
+
+pub limits : IsWithinLimits line
+limits = refl
+
+pub ranges : IsInRange line
+ranges = refl
+
+pub barriers_fit : IsFit line (plan_with barriers)
+barriers_fit = refl
+
+pub joins_fit : IsFit line (plan_with joins)
+joins_fit = refl
+
+all_at : (P : Execution → Type 0) (xs : List Execution) (j : ℕ) (x : Execution) → AllByRecursion P xs → slice_get xs j ≡ Some x → P x
+all_at P [] j x all e = absurd (cc)
+all_at P (y ∷ ys) zero x all e = let same : y ≡ x = cc in subst P same all.0
+all_at P (y ∷ ys) (suc j) x all e = all_at P ys j x all.1 e
+
+one_owner : (kinds : List Kind) → AllByRecursion (λ x. owner_under line (plan_with kinds) x ≡ 0) (executions line [])
+one_owner kinds = (refl, (refl, (refl, tt)))
+
+pub ordered : (kinds : List Kind) → IsOrdered line (plan_with kinds)
+ordered kinds j k x y less first second clash apart =
+    absurd (apart (all_at (λ x. owner_under line (plan_with kinds) x ≡ 0) (executions line []) j x (one_owner kinds) first ∙ sym (all_at (λ x. owner_under line (plan_with kinds) x ≡ 0) (executions line []) k y (one_owner kinds) second)))
+
+-- ---- the acts of processor 1
+
+abbrev pub barrier_line : Protocol
+barrier_line = protocol_of line (plan_with barriers)
+
+abbrev pub join_line : Protocol
+join_line = protocol_of line (plan_with joins)
+
+-- its places behind its first acts
+abbrev pub place : Protocol → ℕ → ℕ → ℕ
+place m p zero = settled_at m p 0
+place m p (suc k) = behind m p (place m p k)
+
+pub posts_first : (act_at join_line 1 (place join_line 1 0) ≡ Some (post counter 0)) × (join_line.gathers 0 ≡ false)
+unfolding acts_under
+posts_first = (refl, refl)
+
+pub awaits_first : (act_at join_line 1 (place join_line 1 1) ≡ Some (await counter 0 0)) × (join_line.gathers 0 ≡ false)
+unfolding acts_under
+awaits_first = (refl, refl)
+
+pub posts_next : (act_at join_line 1 (place join_line 1 2) ≡ Some (post counter 1)) × (join_line.gathers 1 ≡ false)
+unfolding acts_under
+posts_next = (refl, refl)
+
+pub awaits_next : (act_at join_line 1 (place join_line 1 3) ≡ Some (await counter 0 1)) × (join_line.gathers 1 ≡ false)
+unfolding acts_under
+awaits_next = (refl, refl)
+
+-- ---- and of both at a barrier
+
+pub arrives : (p : ℕ) → p < 2 → (act_at barrier_line p (place barrier_line p 0) ≡ Some (post counter 0)) × (barrier_line.gathers 0 ≡ true)
+unfolding acts_under
+arrives zero lt = (refl, refl)
+arrives (suc zero) lt = (refl, refl)
+arrives (suc (suc p)) lt = absurd (omega (arith, lt))
+
+pub gathers : (act_at barrier_line 1 (place barrier_line 1 1) ≡ Some (await counter 0 0)) × (barrier_line.gathers 0 ≡ true)
+unfolding acts_under
+gathers = (refl, refl)
+
+-- what holds of the line's protocol holds of the table's
+pub of_table : (P : Protocol → Type 0) (kinds : List Kind) (h : Home) (program : Program) (plan : Plan) → h.given ≡ Some (program, plan) → tree_of program ≡ line → plan ≡ plan_with kinds → P (protocol_of line (plan_with kinds)) → P (protocol_at h)
+of_table P kinds h program plan given tree is held = subst P (sym (ap protocol_given given ∙ (λ i. protocol_of (tree i) (is i)))) held
