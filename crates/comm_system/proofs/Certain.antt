@@ -72,19 +72,19 @@ valid-length params loops (h ∷ hs) (n ∷ ns) v = ap suc (valid-length params 
 
 pub record AreTwo (tree : Tree) (plan : Plan) (ex ey : ℕ) (sx sy : Station) : Type 0 where
   pub formed : IsWellFormed tree
-  pub first : slice_get (stations_in (param_values tree) (enters_outer plan.cut) tree.items 1 1 (no_values tree)) ex ≡ Some sx
-  pub second : slice_get (stations_in (param_values tree) (enters_outer plan.cut) tree.items 1 1 (no_values tree)) ey ≡ Some sy
+  pub first : slice_get (stations_in (param_values tree) (enters_outer plan.cut.marks) tree.items 1 1 (no_values tree)) ex ≡ Some sx
+  pub second : slice_get (stations_in (param_values tree) (enters_outer plan.cut.marks) tree.items 1 1 (no_values tree)) ey ≡ Some sy
 
 module _ (tree : Tree) (plan : Plan) (ex ey : ℕ) (sx sy : Station) (two : AreTwo tree plan ex ey sx sy) where
   abbrev S : List Station
-  S = stations_in (param_values tree) (enters_outer plan.cut) tree.items 1 1 (no_values tree)
+  S = stations_in (param_values tree) (enters_outer plan.cut.marks) tree.items 1 1 (no_values tree)
 
   abbrev pub T : List StaticPhase
-  T = text_among (enters_outer plan.cut) tree.items
+  T = text_among (enters_outer plan.cut.marks) tree.items
 
   -- the loops round the phase of a boundary, and their trips on its side
   abbrev pub outer : Boundary → List Head
-  outer b = outer_in (slice_get (text_among (enters_outer plan.cut) tree.items) (b.phase - 1))
+  outer b = outer_in (slice_get (text_among (enters_outer plan.cut.marks) tree.items) (b.phase - 1))
 
   abbrev pub trips : Boundary → List ℕ
   trips b = taken (outer b) (side_trips sx.trips sy.trips b.side)
@@ -95,23 +95,23 @@ module _ (tree : Tree) (plan : Plan) (ex ey : ℕ) (sx sy : Station) (two : AreT
   -- a boundary between the two
   pub record IsSided (b : Boundary) : Type 0 where
     pub phase : StaticPhase
-    pub at : slice_get (text_among (enters_outer plan.cut) tree.items) (b.phase - 1) ≡ Some phase
+    pub at : slice_get (text_among (enters_outer plan.cut.marks) tree.items) (b.phase - 1) ≡ Some phase
     pub low : 1 ≤ b.phase
     pub front : IsFrontOf (outer b) (side_heads sx.heads sy.heads b.side)
     pub behind : comes sx.heads sx.trips sx.visit.place (outer b) (trips b) b.phase ≡ true
     pub until : (comes (outer b) (trips b) b.phase sy.heads sy.trips sy.visit.place ≡ true) ⊎ ((outer b ≡ sy.heads) × (trips b ≡ sy.trips) × (b.phase ≡ sy.visit.place))
 
-  known_x : IsStation (param_values tree) (scope_of tree) [] [] (no_values tree) 1 (1 + loops_of tree.items) 1 (text_among (enters_outer plan.cut) tree.items) sx
-  known_x = station_known tree plan.cut two.formed ex sx two.first
+  known_x : IsStation (param_values tree) (scope_of tree) [] [] (no_values tree) 1 (1 + loops_of tree.items) 1 (text_among (enters_outer plan.cut.marks) tree.items) sx
+  known_x = station_known tree plan.cut.marks two.formed ex sx two.first
 
-  known_y : IsStation (param_values tree) (scope_of tree) [] [] (no_values tree) 1 (1 + loops_of tree.items) 1 (text_among (enters_outer plan.cut) tree.items) sy
-  known_y = station_known tree plan.cut two.formed ey sy two.second
+  known_y : IsStation (param_values tree) (scope_of tree) [] [] (no_values tree) 1 (1 + loops_of tree.items) 1 (text_among (enters_outer plan.cut.marks) tree.items) sy
+  known_y = station_known tree plan.cut.marks two.formed ey sy two.second
 
-  pub all_known : AllByRecursion (AreKnown (heads_among tree.items) 1) (text_among (enters_outer plan.cut) tree.items)
-  all_known = known_among (scope_of tree) (enters_outer plan.cut) [] 1 tree.items (well_formed_parts tree two.formed).statements
+  pub all_known : AllByRecursion (AreKnown (heads_among tree.items) 1) (text_among (enters_outer plan.cut.marks) tree.items)
+  all_known = known_among (scope_of tree) (enters_outer plan.cut.marks) [] 1 tree.items (well_formed_parts tree two.formed).statements
 
-  pub known_at : (n : ℕ) (p : StaticPhase) → slice_get (text_among (enters_outer plan.cut) tree.items) n ≡ Some p → AllByRecursion (IsKnown (heads_among tree.items) 1) p.outer
-  known_at n p at = all-at (AreKnown (heads_among tree.items) 1) (text_among (enters_outer plan.cut) tree.items) n p all_known at
+  pub known_at : (n : ℕ) (p : StaticPhase) → slice_get (text_among (enters_outer plan.cut.marks) tree.items) n ≡ Some p → AllByRecursion (IsKnown (heads_among tree.items) 1) p.outer
+  known_at n p at = all-at (AreKnown (heads_among tree.items) 1) (text_among (enters_outer plan.cut.marks) tree.items) n p all_known at
 
   pub heads_x : AllByRecursion (IsKnown (heads_among tree.items) 1) sx.heads
   heads_x = known_at (sx.visit.place - 1) (record { what = sx.visit.what; outer = sx.heads }) known_x.at
@@ -130,11 +130,11 @@ module _ (tree : Tree) (plan : Plan) (ex ey : ℕ) (sx sy : Station) (two : AreT
   side_valid of_second = known_y.valid
 
   -- the walk stops there
-  pub stop_of : (b : Boundary) → IsSided b → IsStop (stations_in (param_values tree) (enters_outer plan.cut) tree.items 1 1 (no_values tree)) b.phase (outer b) (trips b)
+  pub stop_of : (b : Boundary) → IsSided b → IsStop (stations_in (param_values tree) (enters_outer plan.cut.marks) tree.items 1 1 (no_values tree)) b.phase (outer b) (trips b)
   stop_of b h =
       let same : outer b ≡ h.phase.outer = ap outer_in h.at in
       let valid = front_valid (param_values tree) (no_values tree) (outer b) (side_heads sx.heads sy.heads b.side) (side_trips sx.trips sy.trips b.side) h.front (side_valid b.side) in
-      let stop = there_in (param_values tree) (enters_outer plan.cut) tree.items 1 1 (no_values tree) (b.phase - 1) h.phase (trips b) h.at (subst (λ hs. AreValid (param_values tree) (no_values tree) hs (trips b)) same valid) in
+      let stop = there_in (param_values tree) (enters_outer plan.cut.marks) tree.items 1 1 (no_values tree) (b.phase - 1) h.phase (trips b) h.at (subst (λ hs. AreValid (param_values tree) (no_values tree) hs (trips b)) same valid) in
       let place : 1 + (b.phase - 1) ≡ b.phase = omega (arith, h.low) in
       subst (λ n. IsStop S n (outer b) (trips b)) place (subst (λ hs. IsStop S (1 + (b.phase - 1)) hs (trips b)) (sym same) stop)
 
@@ -145,12 +145,12 @@ module _ (tree : Tree) (plan : Plan) (ex ey : ℕ) (sx sy : Station) (two : AreT
       record {
         phase = suc stop.index;
         visit = stop.station.visit;
-        at = ap (slice_get (phases tree plan.cut)) back ∙ ap (λ vs. slice_get vs stop.index) (sym (visits_are tree plan.cut)) ∙ mapped_get visit_in S stop.index stop.station stop.at;
+        at = ap (slice_get (phases tree plan.cut.marks)) back ∙ ap (λ vs. slice_get vs stop.index) (sym (visits_are tree plan.cut.marks)) ∙ mapped_get visit_in S stop.index stop.station stop.at;
         place_is = stop.place_is;
       }
 
-  rises : Rises (stations_in (param_values tree) (enters_outer plan.cut) tree.items 1 1 (no_values tree))
-  rises = rises_in (param_values tree) (scope_of tree) (enters_outer plan.cut) [] [] (no_values tree) 1 1 1 tree.items (at_first tree two.formed)
+  rises : Rises (stations_in (param_values tree) (enters_outer plan.cut.marks) tree.items 1 1 (no_values tree))
+  rises = rises_in (param_values tree) (scope_of tree) (enters_outer plan.cut.marks) [] [] (no_values tree) 1 1 1 tree.items (at_first tree two.formed)
 
   -- the key of a stop
   key_comes : (b : Boundary) (h : IsSided b) (hs : List Head) (ns : List ℕ) (n : ℕ) → comes hs ns n (outer b) (trips b) b.phase ≡ true → comes hs ns n (stop_of b h).station.heads (stop_of b h).station.trips (stop_of b h).station.visit.place ≡ true
@@ -205,13 +205,13 @@ module _ (tree : Tree) (plan : Plan) (ex ey : ℕ) (sx sy : Station) (two : AreT
 
   -- ---- at level 0
 
-  outer_y : (n : ℕ) → n ≡ sy.visit.place → outer_in (slice_get (text_among (enters_outer plan.cut) tree.items) (n - 1)) ≡ sy.heads
-  outer_y n same = ap (λ m. outer_in (slice_get (text_among (enters_outer plan.cut) tree.items) (m - 1))) same ∙ ap outer_in known_y.at
+  outer_y : (n : ℕ) → n ≡ sy.visit.place → outer_in (slice_get (text_among (enters_outer plan.cut.marks) tree.items) (n - 1)) ≡ sy.heads
+  outer_y n same = ap (λ m. outer_in (slice_get (text_among (enters_outer plan.cut.marks) tree.items) (m - 1))) same ∙ ap outer_in known_y.at
 
   -- the facts of a boundary on a side, before they are put on the timeline
   pub record IsBeside (b : Boundary) : Type 0 where
     pub phase : StaticPhase
-    pub at : slice_get (text_among (enters_outer plan.cut) tree.items) (b.phase - 1) ≡ Some phase
+    pub at : slice_get (text_among (enters_outer plan.cut.marks) tree.items) (b.phase - 1) ≡ Some phase
     pub low : 1 ≤ b.phase
     pub front : IsFrontOf (outer b) (side_heads sx.heads sy.heads b.side)
 

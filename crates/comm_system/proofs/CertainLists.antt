@@ -29,10 +29,10 @@ pub record AreCertain (tree : Tree) (plan : Plan) (ex ey : ℕ) (sx sy : Station
 
 module _ (tree : Tree) (plan : Plan) (ex ey : ℕ) (sx sy : Station) (two : AreTwo tree plan ex ey sx sy) (le : ex ≤ ey) where
   abbrev T : List StaticPhase
-  T = text_among (enters_outer plan.cut) tree.items
+  T = text_among (enters_outer plan.cut.marks) tree.items
 
   -- a boundary in front of a phase whose loops are the first of those on its side
-  beside_of : (b : Boundary) (p : StaticPhase) (side : Side) → b.side ≡ side → 1 ≤ b.phase → slice_get (text_among (enters_outer plan.cut) tree.items) (b.phase - 1) ≡ Some p → is_prefix p.outer (side_heads sx.heads sy.heads side) ≡ true → IsBeside tree plan ex ey sx sy two b
+  beside_of : (b : Boundary) (p : StaticPhase) (side : Side) → b.side ≡ side → 1 ≤ b.phase → slice_get (text_among (enters_outer plan.cut.marks) tree.items) (b.phase - 1) ≡ Some p → is_prefix p.outer (side_heads sx.heads sy.heads side) ≡ true → IsBeside tree plan ex ey sx sy two b
   beside_of b p side is low at prefix =
       let known = known_at tree plan ex ey sx sy two (b.phase - 1) p at in
       let front : IsFrontOf p.outer (side_heads sx.heads sy.heads side) = prefix_front_of (heads_among tree.items) 1 p.outer (side_heads sx.heads sy.heads side) known (on side) prefix in
@@ -43,7 +43,7 @@ module _ (tree : Tree) (plan : Plan) (ex ey : ℕ) (sx sy : Station) (two : AreT
       on of_first = heads_x tree plan ex ey sx sy two
       on of_second = heads_y tree plan ex ey sx sy two
 
-  deep_of : (b : Boundary) (p : StaticPhase) (k : ℕ) → slice_get (text_among (enters_outer plan.cut) tree.items) (b.phase - 1) ≡ Some p → k < length p.outer → k < length (outer tree plan ex ey sx sy two b)
+  deep_of : (b : Boundary) (p : StaticPhase) (k : ℕ) → slice_get (text_among (enters_outer plan.cut.marks) tree.items) (b.phase - 1) ≡ Some p → k < length p.outer → k < length (outer tree plan ex ey sx sy two b)
   deep_of b p k at deep = subst (λ hs. k < length hs) (sym (ap outer_in at)) deep
 
   -- ---- at level 0
@@ -55,7 +55,7 @@ module _ (tree : Tree) (plan : Plan) (ex ey : ℕ) (sx sy : Station) (two : AreT
     abbrev G : ℕ → List Head → Bool
     G = is_before_second sx.heads sy.heads sx.visit.place sy.visit.place 0
 
-    plain_merged : (b : Boundary) → IsMerged (is_behind_first sx.heads sx.visit.place sy.visit.place 0) (is_before_second sx.heads sy.heads sx.visit.place sy.visit.place 0) 1 (text_among (enters_outer plan.cut) tree.items) b →
+    plain_merged : (b : Boundary) → IsMerged (is_behind_first sx.heads sx.visit.place sy.visit.place 0) (is_before_second sx.heads sy.heads sx.visit.place sy.visit.place 0) 1 (text_among (enters_outer plan.cut.marks) tree.items) b →
         IsPlainBeside tree plan ex ey sx sy two agree b
     plain_merged b h = by b.side refl h.passes
       where
@@ -67,47 +67,47 @@ module _ (tree : Tree) (plan : Plan) (ex ey : ℕ) (sx sy : Station) (two : AreT
             let g = plain_second sx.heads sy.heads sx.visit.place sy.visit.place b.phase h.phase.outer p in
             record { beside = beside_of b h.phase of_second e h.low h.at g.2; above = g.0; until = g.1 }
 
-    first_where : (b : Boundary) → IsWhere (is_behind_first sx.heads sx.visit.place sy.visit.place 0) of_first 1 (text_among (enters_outer plan.cut) tree.items) b → IsSided tree plan ex ey sx sy two b
+    first_where : (b : Boundary) → IsWhere (is_behind_first sx.heads sx.visit.place sy.visit.place 0) of_first 1 (text_among (enters_outer plan.cut.marks) tree.items) b → IsSided tree plan ex ey sx sy two b
     first_where b h =
         let f = plain_first sx.heads sx.visit.place sy.visit.place b.phase h.phase.outer h.passes in
         plain_sided tree plan ex ey sx sy two agree b (record { beside = beside_of b h.phase of_first h.side_is h.low h.at f.2; above = f.0; until = f.1 })
 
-    second_where : (b : Boundary) → IsWhere (is_before_second sx.heads sy.heads sx.visit.place sy.visit.place 0) of_second 1 (text_among (enters_outer plan.cut) tree.items) b → IsSided tree plan ex ey sx sy two b
+    second_where : (b : Boundary) → IsWhere (is_before_second sx.heads sy.heads sx.visit.place sy.visit.place 0) of_second 1 (text_among (enters_outer plan.cut.marks) tree.items) b → IsSided tree plan ex ey sx sy two b
     second_where b h =
         let g = plain_second sx.heads sy.heads sx.visit.place sy.visit.place b.phase h.phase.outer h.passes in
         plain_sided tree plan ex ey sx sy two agree b (record { beside = beside_of b h.phase of_second h.side_is h.low h.at g.2; above = g.0; until = g.1 })
 
-    pub plain_certain : AreCertain tree plan ex ey sx sy two (certain_boundaries (text_among (enters_outer plan.cut) tree.items) sx.heads sy.heads sx.visit.place sy.visit.place 0)
+    pub plain_certain : AreCertain tree plan ex ey sx sy two (certain_boundaries (text_among (enters_outer plan.cut.marks) tree.items) sx.heads sy.heads sx.visit.place sy.visit.place 0)
     plain_certain =
         let f = is_behind_first sx.heads sx.visit.place sy.visit.place 0 in
         let g = is_before_second sx.heads sy.heads sx.visit.place sy.visit.place 0 in
-        let A = boundaries_where f of_first 1 (text_among (enters_outer plan.cut) tree.items) in
-        let B = boundaries_where g of_second 1 (text_among (enters_outer plan.cut) tree.items) in
-        let M = merged_where f g 1 (text_among (enters_outer plan.cut) tree.items) in
+        let A = boundaries_where f of_first 1 (text_among (enters_outer plan.cut.marks) tree.items) in
+        let B = boundaries_where g of_second 1 (text_among (enters_outer plan.cut.marks) tree.items) in
+        let M = merged_where f g 1 (text_among (enters_outer plan.cut.marks) tree.items) in
         let P = IsPlainBeside tree plan ex ey sx sy two agree in
         let Q = IsSided tree plan ex ey sx sy two in
-        let a = where_known f of_first 1 (text_among (enters_outer plan.cut) tree.items) in
-        let b = where_known g of_second 1 (text_among (enters_outer plan.cut) tree.items) in
-        let m = merged_known f g 1 (text_among (enters_outer plan.cut) tree.items) in
-        let plain = all-weaker (IsMerged f g 1 (text_among (enters_outer plan.cut) tree.items)) P M plain_merged m.0 in
+        let a = where_known f of_first 1 (text_among (enters_outer plan.cut.marks) tree.items) in
+        let b = where_known g of_second 1 (text_among (enters_outer plan.cut.marks) tree.items) in
+        let m = merged_known f g 1 (text_among (enters_outer plan.cut.marks) tree.items) in
+        let plain = all-weaker (IsMerged f g 1 (text_among (enters_outer plan.cut.marks) tree.items)) P M plain_merged m.0 in
         let apart = λ (n : ℕ) (hs : List Head) (h : f n hs ≡ true). plain_apart sx.heads sy.heads sx.visit.place sy.visit.place n hs h in
         record {
-          sided = all-append Q A B (all-weaker (IsWhere f of_first 1 (text_among (enters_outer plan.cut) tree.items)) Q A first_where a.0) (all-weaker (IsWhere g of_second 1 (text_among (enters_outer plan.cut) tree.items)) Q B second_where b.0);
+          sided = all-append Q A B (all-weaker (IsWhere f of_first 1 (text_among (enters_outer plan.cut.marks) tree.items)) Q A first_where a.0) (all-weaker (IsWhere g of_second 1 (text_among (enters_outer plan.cut.marks) tree.items)) Q B second_where b.0);
           hops = M;
           are = hops_of tree plan ex ey sx sy two M le (all-weaker P Q M (plain_sided tree plan ex ey sx sy two agree) plain)
               (pairs_rising (λ b c. comes (outer tree plan ex ey sx sy two b) (trips tree plan ex ey sx sy two b) b.phase (outer tree plan ex ey sx sy two c) (trips tree plan ex ey sx sy two c) c.phase ≡ true) P 1 M (plain_before tree plan ex ey sx sy two agree) plain m.1);
-          left = merged-sum (λ n. left_waits (kind_of (slice_get plan.kinds (n - 1)))) f g 1 (text_among (enters_outer plan.cut) tree.items) apart;
-          right = merged-sum (λ n. right_waits (kind_of (slice_get plan.kinds (n - 1)))) f g 1 (text_among (enters_outer plan.cut) tree.items) apart;
+          left = merged-sum (λ n. left_waits (kind_of (slice_get plan.kinds (n - 1)))) f g 1 (text_among (enters_outer plan.cut.marks) tree.items) apart;
+          right = merged-sum (λ n. right_waits (kind_of (slice_get plan.kinds (n - 1)))) f g 1 (text_among (enters_outer plan.cut.marks) tree.items) apart;
         }
 
   -- ---- where a loop is at an earlier trip
 
   module _ (k : ℕ) (agree : Agree k sx.heads sx.trips sy.heads sy.trips) (earlier : IsEarlier k sx.trips sy.trips) (less : k < common sx.heads sy.heads) where
-    pub carried_certain : AreCertain tree plan ex ey sx sy two (certain_boundaries (text_among (enters_outer plan.cut) tree.items) sx.heads sy.heads sx.visit.place sy.visit.place (suc k))
+    pub carried_certain : AreCertain tree plan ex ey sx sy two (certain_boundaries (text_among (enters_outer plan.cut.marks) tree.items) sx.heads sy.heads sx.visit.place sy.visit.place (suc k))
     carried_certain =
         let f = is_behind_first sx.heads sx.visit.place sy.visit.place (suc k) in
         let g = is_before_second sx.heads sy.heads sx.visit.place sy.visit.place (suc k) in
-        let text = text_among (enters_outer plan.cut) tree.items in
+        let text = text_among (enters_outer plan.cut.marks) tree.items in
         let A = boundaries_where f of_first 1 text in
         let B = boundaries_where g of_second 1 text in
         let C = IsCarriedBeside tree plan ex ey sx sy two k agree earlier less of_first in
@@ -129,12 +129,12 @@ module _ (tree : Tree) (plan : Plan) (ex ey : ℕ) (sx sy : Station) (two : AreT
           right = refl;
         }
       where
-        first_beside : (b : Boundary) → IsWhere (is_behind_first sx.heads sx.visit.place sy.visit.place (suc k)) of_first 1 (text_among (enters_outer plan.cut) tree.items) b → IsCarriedBeside tree plan ex ey sx sy two k agree earlier less of_first b
+        first_beside : (b : Boundary) → IsWhere (is_behind_first sx.heads sx.visit.place sy.visit.place (suc k)) of_first 1 (text_among (enters_outer plan.cut.marks) tree.items) b → IsCarriedBeside tree plan ex ey sx sy two k agree earlier less of_first b
         first_beside b h =
             let f = carried_first sx.heads sx.visit.place sy.visit.place k b.phase h.phase.outer h.passes in
             record { beside = beside_of b h.phase of_first h.side_is h.low h.at f.2; side_is = h.side_is; deep = deep_of b h.phase k h.at f.1 }
 
-        second_beside : (b : Boundary) → IsWhere (is_before_second sx.heads sy.heads sx.visit.place sy.visit.place (suc k)) of_second 1 (text_among (enters_outer plan.cut) tree.items) b → IsCarriedBeside tree plan ex ey sx sy two k agree earlier less of_second b
+        second_beside : (b : Boundary) → IsWhere (is_before_second sx.heads sy.heads sx.visit.place sy.visit.place (suc k)) of_second 1 (text_among (enters_outer plan.cut.marks) tree.items) b → IsCarriedBeside tree plan ex ey sx sy two k agree earlier less of_second b
         second_beside b h =
             let f = carried_second sx.heads sy.heads sx.visit.place sy.visit.place k b.phase h.phase.outer h.passes in
             record { beside = beside_of b h.phase of_second h.side_is h.low h.at f.2; side_is = h.side_is; deep = deep_of b h.phase k h.at f.1 }

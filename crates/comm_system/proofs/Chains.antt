@@ -29,7 +29,7 @@ kind_of (Some k) = k
 pub record HopAt (tree : Tree) (plan : Plan) (b : Boundary) : Type 0 where
   pub phase : ℕ
   pub visit : Visit
-  pub at : slice_get (phases tree plan.cut) (phase - 1) ≡ Some visit
+  pub at : slice_get (phases tree plan.cut.marks) (phase - 1) ≡ Some visit
   pub place_is : visit.place ≡ b.phase
 
 -- boundaries whose phases rise from behind one phase up to another

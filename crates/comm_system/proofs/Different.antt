@@ -18,7 +18,7 @@ use Rattle.sync_plan.specs.declared.plan.Kind.{Kind}
 use Rattle.sync_plan.specs.declared.plan.Kind.TheVariants.{Nothing, Producer, Left, Right, Both, Barrier, Join}
 use Rattle.sync_plan.specs.declared.plan.Plan.{Plan}
 use Rattle.sync_plan.specs.declared.plan.Version.{Version}
-use Rattle.sync_plan.specs.declared.plan.Version.TheVariants.{One, Two, Three}
+use Rattle.sync_plan.specs.declared.plan.Version.TheVariants.{One, Two, Three, Four, Five}
 use Rattle.sync_plan.specs.Fit.{IsFit}
 use Rattle.sync_plan.specs.Ordered.{Hop, IsChain}
 use Rattle.comm_system.specs.Boundaries.{Boundary, Side, certain_boundaries, of_first, of_second}
@@ -72,6 +72,8 @@ counted_few : (v : Version) (n : ℕ) → counted v n ≤ n
 counted_few One n = omega arith
 counted_few Two n = omega arith
 counted_few Three n = omega arith
+counted_few Four n = omega arith
+counted_few Five n = omega arith
 
 -- the loops round an execution have their values in its instance
 pub keeps : (tree : Tree) (heads : List Head) (ns : List ℕ) (v : Visit) (i : Instance) (p : IsPlaced (param_values tree) (scope_of tree) heads ns v i) → AllByRecursion (λ h. numbered i.loops h.number ≡ numbered v.loops h.number) heads
@@ -87,15 +89,15 @@ keeps tree heads ns v i p =
 module _ (tree : Tree) (plan : Plan) (ex ey : ℕ) (sx sy : Station) (two : AreTwo tree plan ex ey sx sy) (fits : IsFit tree plan) (x y : Instance)
     (px : IsPlaced (param_values tree) (scope_of tree) sx.heads sx.trips sx.visit x) (py : IsPlaced (param_values tree) (scope_of tree) sy.heads sy.trips sy.visit y) where
   -- the values of the loops round the phase of a boundary are those of a station in whose loops they are the first
-  boundary_values : (b : Boundary) (h : IsSided tree plan ex ey sx sy two b) (e : ℕ) (s : Station) → slice_get (stations_in (param_values tree) (enters_outer plan.cut) tree.items 1 1 (no_values tree)) e ≡ Some s →
+  boundary_values : (b : Boundary) (h : IsSided tree plan ex ey sx sy two b) (e : ℕ) (s : Station) → slice_get (stations_in (param_values tree) (enters_outer plan.cut.marks) tree.items 1 1 (no_values tree)) e ≡ Some s →
       IsFrontOf (outer tree plan ex ey sx sy two b) s.heads → trips tree plan ex ey sx sy two b ≡ taken (outer tree plan ex ey sx sy two b) s.trips → (i : Instance) → AllByRecursion (λ h. numbered i.loops h.number ≡ numbered s.visit.loops h.number) s.heads →
       AllByRecursion (λ g. numbered (stop_of tree plan ex ey sx sy two b h).station.visit.loops g.number ≡ numbered i.loops g.number) (outer tree plan ex ey sx sy two b)
   boundary_values b h e s at front taken_so i keep =
       let params = param_values tree in
       let stop = stop_of tree plan ex ey sx sy two b h in
       let us = outer tree plan ex ey sx sy two b in
-      let here = station_known tree plan.cut two.formed stop.index stop.station stop.at in
-      let there = station_known tree plan.cut two.formed e s at in
+      let here = station_known tree plan.cut.marks two.formed stop.index stop.station stop.at in
+      let there = station_known tree plan.cut.marks two.formed e s at in
       let long = valid-length params (no_values tree) s.heads s.trips there.valid in
       let agree = front_agrees us s.heads s.trips front long in
       let deepens : Deepens 1 (1 + loops_of tree.items) us = subst (λ hs. Deepens 1 (1 + loops_of tree.items) hs) stop.heads_are here.deepens in
@@ -205,13 +207,13 @@ module _ (tree : Tree) (plan : Plan) (ex ey : ℕ) (sx sy : Station) (two : AreT
 
     -- ---- a chain, where no system has a whole solution
 
-    module _ (level : ℕ) (le : ex ≤ ey) (certain : AreCertain tree plan ex ey sx sy two (certain_boundaries (text_among (enters_outer plan.cut) tree.items) sx.heads sy.heads sx.visit.place sy.visit.place level))
-        (there : Contains (slots_of (phases_of tree plan.cut)) (slot_at sx.visit.place (record { what = sx.visit.what; outer = sx.heads }) sy.visit.place (record { what = sy.visit.what; outer = sy.heads }) level))
+    module _ (level : ℕ) (le : ex ≤ ey) (certain : AreCertain tree plan ex ey sx sy two (certain_boundaries (text_among (enters_outer plan.cut.marks) tree.items) sx.heads sy.heads sx.visit.place sy.visit.place level))
+        (there : Contains (slots_of (phases_of tree plan.cut.marks)) (slot_at sx.visit.place (record { what = sx.visit.what; outer = sx.heads }) sy.visit.place (record { what = sy.visit.what; outer = sy.heads }) level))
         (among : Contains (pairs_of (record { what = sx.visit.what; outer = sx.heads }) (record { what = sy.visit.what; outer = sy.heads })) pair) (meet : Meet tree (order_at (common sx.heads sy.heads) level) pair X Y)
         (first : Holder) (second : Holder) (is_first : IsHolder tree plan.workers pair X Y (anchor_at plan sx.visit.place, of_first) first) (is_second : IsHolder tree plan.workers pair X Y (anchor_at plan sy.visit.place, of_second) second)
         (less : first.owner < plan.workers) (less' : second.owner < plan.workers) (apart : second.owner ≡ first.owner → ⊥) (none : (task : Task) → Contains (tasks_of tree plan) task → HasNoWholeSolution task.system) where
       abbrev us : List Boundary
-      us = certain_boundaries (text_among (enters_outer plan.cut) tree.items) sx.heads sy.heads sx.visit.place sy.visit.place level
+      us = certain_boundaries (text_among (enters_outer plan.cut.marks) tree.items) sx.heads sy.heads sx.visit.place sy.visit.place level
 
       abbrev slot : Slot
       slot = slot_at sx.visit.place (record { what = sx.visit.what; outer = sx.heads }) sy.visit.place (record { what = sy.visit.what; outer = sy.heads }) level
@@ -228,9 +230,9 @@ module _ (tree : Tree) (plan : Plan) (ex ey : ℕ) (sx sy : Station) (two : AreT
       abbrev Waited : Type 0
       Waited = (hops : List Hop) × IsChain tree plan first.owner (suc ex) hops second.owner (suc ey)
 
-      open_signature : list_any (λ u. is_barrier (kind_at plan.kinds u)) us ≡ false → slot_signature plan.version plan.kinds (phases_of tree plan.cut) slot ≡ waits left right producers
+      open_signature : list_any (λ u. is_barrier (kind_at plan.kinds u)) us ≡ false → slot_signature plan.version plan.kinds (phases_of tree plan.cut.marks) slot ≡ waits left right producers
       open_signature e =
-          ap (λ ps. signature_of plan.version plan.kinds (certain_boundaries ps sx.heads sy.heads sx.visit.place sy.visit.place level)) (phases_are tree plan.cut)
+          ap (λ ps. signature_of plan.version plan.kinds (certain_boundaries ps sx.heads sy.heads sx.visit.place sy.visit.place level)) (phases_are tree plan.cut.marks)
           ∙ ap (λ b. if b then blocked else waits left right producers) e
 
       -- on each side of the neighbours a system would have a solution
@@ -240,8 +242,8 @@ module _ (tree : Tree) (plan : Plan) (ex ey : ℕ) (sx sy : Station) (two : AreT
           let P = λ (piece : Piece). (k : ℕ) × Contains (tasks_of tree plan) (piece_task tree plan slot left right producers pair k piece) in
           let tasks = pieces_tasks tree plan slot left right producers pair there (open_signature e) among in
           let found = all_pieces P d first.owner os (subst (λ n. AllByRecursion P (pieces n)) (sym items.many) tasks) in
-          let here = get_contains (phases_of tree plan.cut) (sx.visit.place - 1) (record { what = sx.visit.what; outer = sx.heads }) (phase_there tree plan.cut two.formed ex sx two.first) in
-          let here' = get_contains (phases_of tree plan.cut) (sy.visit.place - 1) (record { what = sy.visit.what; outer = sy.heads }) (phase_there tree plan.cut two.formed ey sy two.second) in
+          let here = get_contains (phases_of tree plan.cut.marks) (sx.visit.place - 1) (record { what = sx.visit.what; outer = sx.heads }) (phase_there tree plan.cut.marks two.formed ex sx two.first) in
+          let here' = get_contains (phases_of tree plan.cut.marks) (sy.visit.place - 1) (record { what = sy.visit.what; outer = sy.heads }) (phase_there tree plan.cut.marks two.formed ey sy two.second) in
           let solved = owners_meet tree plan slot pair X Y left right producers first second items.holders (record { range = d; producers = sides_of first.owner os }) found.0 two.formed fits here here' among meet (is_first, (is_second, items.are)) range (lies_on_sides first.owner os beside) in
           none (piece_task tree plan slot left right producers pair found.0 (record { range = d; producers = sides_of first.owner os })) found.1 _ solved
 
@@ -273,7 +275,7 @@ module _ (tree : Tree) (plan : Plan) (ex ey : ℕ) (sx sy : Station) (two : AreT
         | inr free ↦ by free (items_are first.owner second.owner producers (all_dropped (IsItem first.owner second.owner) (length (flat_map (λ (u : Boundary). producers_at u.side (kind_at plan.kinds u)) us) - 3) (flat_map (λ (u : Boundary). producers_at u.side (kind_at plan.kinds u)) us) (all_items first.owner second.owner less apart us certain.sided)))
       ]
         where
-          by : list_any (λ u. is_barrier (kind_at plan.kinds u)) (certain_boundaries (text_among (enters_outer plan.cut) tree.items) sx.heads sy.heads sx.visit.place sy.visit.place level) ≡ false → AreItems first.owner second.owner producers → (hops : List Hop) × IsChain tree plan first.owner (suc ex) hops second.owner (suc ey)
+          by : list_any (λ u. is_barrier (kind_at plan.kinds u)) (certain_boundaries (text_among (enters_outer plan.cut.marks) tree.items) sx.heads sy.heads sx.visit.place sy.visit.place level) ≡ false → AreItems first.owner second.owner producers → (hops : List Hop) × IsChain tree plan first.owner (suc ex) hops second.owner (suc ey)
           by free items = which items.which
             where
               which : ((hops : List Hop) × IsChain tree plan first.owner (suc ex) hops second.owner (suc ey)) ⊎ AllByRecursion (λ o. first.owner ≡ o → ⊥) (map (λ (o : Holder). o.owner) items.holders) → (hops : List Hop) × IsChain tree plan first.owner (suc ex) hops second.owner (suc ey)

@@ -47,7 +47,7 @@ trips_systems tree plan s [] = refl
 trips_systems tree plan s (p ∷ ps) = ap (λ ts. trips_task tree plan s p ∷ ts) (trips_systems tree plan s ps)
 
 phase_systems : (tree : Tree) (plan : Plan) (s : StaticPhase) → flat_map (tasks_about tree plan) (trips_subjects plan s) ≡ trips_tasks tree plan s
-phase_systems tree plan s = by (is_dealt plan.cut s.what)
+phase_systems tree plan s = by (is_dealt plan.cut.marks s.what)
   where
     by : (b : Bool) → flat_map (tasks_about tree plan) (if b then map (of_trips s) (pairs_of s s) else []) ≡ (if b then map (trips_task tree plan s) (pairs_of s s) else [])
     by true = trips_systems tree plan s (pairs_of s s)
@@ -70,7 +70,7 @@ flat_twice tree plan subjects tasks each (x ∷ xs) =
 
 pub all_systems : (tree : Tree) (plan : Plan) → flat_map (tasks_about tree plan) (subjects_of tree plan) ≡ tasks_of tree plan
 all_systems tree plan =
-    let phases = phases_of tree plan.cut in
+    let phases = phases_of tree plan.cut.marks in
     let signature = λ (slot : Slot). slot_signature plan.version plan.kinds phases slot in
     let first = flat_map (trips_subjects plan) phases in
     let second = flat_map (λ (slot : Slot). slot_subjects slot (slot_signature plan.version plan.kinds phases slot)) (slots_of phases) in

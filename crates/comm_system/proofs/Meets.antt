@@ -17,7 +17,7 @@ use Rattle.comm_system.specs.References.{StaticPhase, phases_of}
 use Rattle.comm_system.proofs.PairLists.{fit_conditions, pair_good}
 use Rattle.comm_system.proofs.Systems.{holders_named, owners_solved, trips_solved}
 
-pub trips_meet : (tree : Tree) (plan : Plan) (s : StaticPhase) (pair : Pair) (x y : Point) → IsWellFormed tree → IsFit tree plan → Contains (phases_of tree plan.cut) s → Contains (pairs_of s s) pair → Meet tree (two_trips (length s.outer)) pair x y →
+pub trips_meet : (tree : Tree) (plan : Plan) (s : StaticPhase) (pair : Pair) (x y : Point) → IsWellFormed tree → IsFit tree plan → Contains (phases_of tree plan.cut.marks) s → Contains (pairs_of s s) pair → Meet tree (two_trips (length s.outer)) pair x y →
     IsWholeSolution (trips_task tree plan s pair).system (values_of tree pair x y [])
 trips_meet tree plan s pair x y formed fits here among meet =
     let known = fit_conditions tree plan fits in
@@ -25,7 +25,7 @@ trips_meet tree plan s pair x y formed fits here among meet =
     trips_solved tree plan.conditions (two_trips (length s.outer)) pair x y (scope_of tree).ranks meet known.0 known.1 good.0 good.1
 
 pub owners_meet : (tree : Tree) (plan : Plan) (slot : Slot) (pair : Pair) (x y : Point) (left right : ℕ) (producers : List (Anchor × Side)) (q p : Holder) (os : List Holder) (piece : Piece) (n : ℕ) → IsWellFormed tree → IsFit tree plan →
-    Contains (phases_of tree plan.cut) slot.first → Contains (phases_of tree plan.cut) slot.second → Contains (pairs_of slot.first slot.second) pair → Meet tree (order_at (common slot.first.outer slot.second.outer) slot.level) pair x y →
+    Contains (phases_of tree plan.cut.marks) slot.first → Contains (phases_of tree plan.cut.marks) slot.second → Contains (pairs_of slot.first slot.second) pair → Meet tree (order_at (common slot.first.outer slot.second.outer) slot.level) pair x y →
     AreHolders tree plan.workers pair x y ((anchor_at plan slot.s, of_first) ∷ (anchor_at plan slot.t, of_second) ∷ producers) (q ∷ p ∷ os) → LiesBeside piece.range (distance piece.range left right) q.owner p.owner → LiesAmong q.owner (map (λ (o : Holder). o.owner) os) piece.producers →
     IsWholeSolution (piece_task tree plan slot left right producers pair n piece).system (values_of tree pair x y (holders_values (owners_of tree plan slot producers pair) (q ∷ p ∷ os)))
 owners_meet tree plan slot pair x y left right producers q p os piece n formed fits here there among meet holders range sides =

@@ -54,16 +54,16 @@ first_or (Some a) = a
 first_or None = record { form = record { constant = pos 0; loops = []; params = [] }; dist = Cyclic }
 
 module _ (tree : Tree) (plan : Plan) (formed : IsWellFormed tree) (fits : IsFit tree plan) where
-  pub anchor_there : (e : ℕ) (s : Station) → slice_get (stations_in (param_values tree) (enters_outer plan.cut) tree.items 1 1 (no_values tree)) e ≡ Some s → slice_get plan.anchors (s.visit.place - 1) ≡ Some (anchor_at plan s.visit.place)
+  pub anchor_there : (e : ℕ) (s : Station) → slice_get (stations_in (param_values tree) (enters_outer plan.cut.marks) tree.items 1 1 (no_values tree)) e ≡ Some s → slice_get plan.anchors (s.visit.place - 1) ≡ Some (anchor_at plan s.visit.place)
   anchor_there e s at =
       let parts = fit_parts tree plan fits in
       let f = there tree plan formed fits e s at in
-      let inside : s.visit.place - 1 < length plan.anchors = omega (arith, index_is tree plan formed fits e s at, parts.anchors, slice_get_within (static_phases tree plan.cut) f.k (record { what = s.visit.what; around = f.there.around }) f.there.at) in
+      let inside : s.visit.place - 1 < length plan.anchors = omega (arith, index_is tree plan formed fits e s at, parts.anchors, slice_get_within (static_phases tree plan.cut.marks) f.k (record { what = s.visit.what; around = f.there.around }) f.there.at) in
       let found = some_there plan.anchors (s.visit.place - 1) inside in
       found.1 ∙ ap Some (sym (ap first_or found.1))
 
   -- the owner of an execution
-  pub owner_is : (x : Execution) (e : ℕ) (s : Station) → slice_get (stations_in (param_values tree) (enters_outer plan.cut) tree.items 1 1 (no_values tree)) e ≡ Some s → x.place ≡ s.visit.place →
+  pub owner_is : (x : Execution) (e : ℕ) (s : Station) → slice_get (stations_in (param_values tree) (enters_outer plan.cut.marks) tree.items 1 1 (no_values tree)) e ≡ Some s → x.place ≡ s.visit.place →
       owner_under tree plan x ≡ anchor_owner (anchor_at plan s.visit.place) plan.workers x.instance.loops (param_values tree)
   owner_is x e s at place =
       ap (λ n. owner_by (slice_get plan.anchors (n - 1)) plan.workers x.instance.loops (param_values tree)) place ∙ ap (λ o. owner_by o plan.workers x.instance.loops (param_values tree)) (anchor_there e s at)

@@ -128,15 +128,15 @@ module _ (params : List ℤ) (scope : Scope) (constants workers : ℕ) (some : 1
 
 -- ---- a station of the walk of the phases
 
-module _ (tree : Tree) (plan : Plan) (formed : IsWellFormed tree) (fits : IsFit tree plan) (e : ℕ) (s : Station) (at : slice_get (stations_in (param_values tree) (enters_outer plan.cut) tree.items 1 1 (no_values tree)) e ≡ Some s) where
-  pub visit_at : slice_get (phases tree plan.cut) e ≡ Some s.visit
-  visit_at = ap (λ vs. slice_get vs e) (sym (visits_are tree plan.cut)) ∙ mapped_get visit_in (stations_in (param_values tree) (enters_outer plan.cut) tree.items 1 1 (no_values tree)) e s at
+module _ (tree : Tree) (plan : Plan) (formed : IsWellFormed tree) (fits : IsFit tree plan) (e : ℕ) (s : Station) (at : slice_get (stations_in (param_values tree) (enters_outer plan.cut.marks) tree.items 1 1 (no_values tree)) e ≡ Some s) where
+  pub visit_at : slice_get (phases tree plan.cut.marks) e ≡ Some s.visit
+  visit_at = ap (λ vs. slice_get vs e) (sym (visits_are tree plan.cut.marks)) ∙ mapped_get visit_in (stations_in (param_values tree) (enters_outer plan.cut.marks) tree.items 1 1 (no_values tree)) e s at
 
   abbrev There : Type 0
-  There = IsThereFrom (param_values tree) (scope_of tree) 1 (stops_of (enters_outer plan.cut) tree.items) (placed tree (enters_outer plan.cut)) (ends_among (param_values tree) (enters_outer plan.cut) no_ends tree.items) s.visit
+  There = IsThereFrom (param_values tree) (scope_of tree) 1 (stops_of (enters_outer plan.cut.marks) tree.items) (placed tree (enters_outer plan.cut.marks)) (ends_among (param_values tree) (enters_outer plan.cut.marks) no_ends tree.items) s.visit
 
-  pub there : IsThereFrom (param_values tree) (scope_of tree) 1 (stops_of (enters_outer plan.cut) tree.items) (placed tree (enters_outer plan.cut)) (ends_among (param_values tree) (enters_outer plan.cut) no_ends tree.items) s.visit
-  there = visit_there tree plan.cut e s.visit formed visit_at
+  pub there : IsThereFrom (param_values tree) (scope_of tree) 1 (stops_of (enters_outer plan.cut.marks) tree.items) (placed tree (enters_outer plan.cut.marks)) (ends_among (param_values tree) (enters_outer plan.cut.marks) no_ends tree.items) s.visit
+  there = visit_there tree plan.cut.marks e s.visit formed visit_at
 
   pub index_is : s.visit.place - 1 ≡ there.k
   index_is = omega (arith, there.place_is)
@@ -144,13 +144,13 @@ module _ (tree : Tree) (plan : Plan) (formed : IsWellFormed tree) (fits : IsFit 
   -- the loops round it, by number and with their heads
   around_among : AreAmong there.there.around (numbers s.heads)
   around_among =
-      let text = ap (slice_get (phases_of tree plan.cut)) (sym index_is) ∙ phase_there tree plan.cut formed e s at in
-      (same_at (placed tree (enters_outer plan.cut)) (phases_of tree plan.cut) there.k (record { what = s.visit.what; around = there.there.around }) (record { what = s.visit.what; outer = s.heads }) (same_among (enters_outer plan.cut) [] [] tree.items (λ n h. h)) there.there.at text).among
+      let text = ap (slice_get (phases_of tree plan.cut.marks)) (sym index_is) ∙ phase_there tree plan.cut.marks formed e s at in
+      (same_at (placed tree (enters_outer plan.cut.marks)) (phases_of tree plan.cut.marks) there.k (record { what = s.visit.what; around = there.there.around }) (record { what = s.visit.what; outer = s.heads }) (same_among (enters_outer plan.cut.marks) [] [] tree.items (λ n h. h)) there.there.at text).among
 
-  misplaced_here : (a : Anchor) → misplaced tree plan.cut plan.workers (1 + there.k) a ≡ None → misplaced_within (param_values tree) plan.workers (1 + there.k) a (own_ends (param_values tree) there.there.ends s.visit.what) ≡ None
+  misplaced_here : (a : Anchor) → misplaced tree plan.cut.marks plan.workers (1 + there.k) a ≡ None → misplaced_within (param_values tree) plan.workers (1 + there.k) a (own_ends (param_values tree) there.there.ends s.visit.what) ≡ None
   misplaced_here a none =
       let back : 1 + there.k - 1 ≡ there.k = omega arith in
-      ap (misplaced_at (param_values tree) plan.workers (1 + there.k) a) (sym (ap (phase_ends tree plan.cut) back ∙ there.there.ends_are)) ∙ none
+      ap (misplaced_at (param_values tree) plan.workers (1 + there.k) a) (sym (ap (phase_ends tree plan.cut.marks) back ∙ there.there.ends_are)) ∙ none
 
   as_many : length tree.params ≡ length (param_values tree)
   as_many = sym (length-map tree.params (λ (c : Constant). c.value))
@@ -160,19 +160,19 @@ module _ (tree : Tree) (plan : Plan) (formed : IsWellFormed tree) (fits : IsFit 
   anchor_named a anchor =
       let parts = fit_parts tree plan fits in
       let here : slice_get plan.anchors there.k ≡ Some a = ap (slice_get plan.anchors) (sym index_is) ∙ anchor in
-      let good = good_each (length tree.params) plan.cut (static_phases tree plan.cut) plan.anchors there.k (record { what = s.visit.what; around = there.there.around }) a parts.good_anchors there.there.at here in
-      let named = (and_parts (names_only (length tree.params) (own_loops plan.cut s.visit.what there.there.around) a.form) (has_places a.dist) good).0 in
+      let good = good_each (length tree.params) plan.cut.marks (static_phases tree plan.cut.marks) plan.anchors there.k (record { what = s.visit.what; around = there.there.around }) a parts.good_anchors there.there.at here in
+      let named = (and_parts (names_only (length tree.params) (own_loops plan.cut.marks s.visit.what there.there.around) a.form) (has_places a.dist) good).0 in
       subst (λ n. names_only n (numbers (own_heads s.heads s.visit.what)) a.form ≡ true) as_many
-      (form-among (length tree.params) (own_loops plan.cut s.visit.what there.there.around) (numbers (own_heads s.heads s.visit.what)) a.form (own_among plan.cut there.there.around s.heads s.visit.what around_among) named)
+      (form-among (length tree.params) (own_loops plan.cut.marks s.visit.what there.there.around) (numbers (own_heads s.heads s.visit.what)) a.form (own_among plan.cut.marks there.there.around s.heads s.visit.what around_among) named)
 
   -- where it deals out no loop, it names only the loops round the phase
-  pub outer_named : (a : Anchor) → slice_get plan.anchors (s.visit.place - 1) ≡ Some a → is_dealt plan.cut s.visit.what ≡ false → names_only (length (param_values tree)) (numbers s.heads) a.form ≡ true
+  pub outer_named : (a : Anchor) → slice_get plan.anchors (s.visit.place - 1) ≡ Some a → is_dealt plan.cut.marks s.visit.what ≡ false → names_only (length (param_values tree)) (numbers s.heads) a.form ≡ true
   outer_named a anchor still =
       let parts = fit_parts tree plan fits in
       let here : slice_get plan.anchors there.k ≡ Some a = ap (slice_get plan.anchors) (sym index_is) ∙ anchor in
-      let good = good_each (length tree.params) plan.cut (static_phases tree plan.cut) plan.anchors there.k (record { what = s.visit.what; around = there.there.around }) a parts.good_anchors there.there.at here in
-      let named = (and_parts (names_only (length tree.params) (own_loops plan.cut s.visit.what there.there.around) a.form) (has_places a.dist) good).0 in
-      let round = own_round plan.cut there.there.around s.visit.what still in
+      let good = good_each (length tree.params) plan.cut.marks (static_phases tree plan.cut.marks) plan.anchors there.k (record { what = s.visit.what; around = there.there.around }) a parts.good_anchors there.there.at here in
+      let named = (and_parts (names_only (length tree.params) (own_loops plan.cut.marks s.visit.what there.there.around) a.form) (has_places a.dist) good).0 in
+      let round = own_round plan.cut.marks there.there.around s.visit.what still in
       subst (λ n. names_only n (numbers s.heads) a.form ≡ true) as_many (form-among (length tree.params) there.there.around (numbers s.heads) a.form around_among (subst (λ ls. names_only (length tree.params) ls a.form ≡ true) round named))
 
   own_inner : (w : Statement) (L : List ℤ) (inner : List Head) (ms : List ℕ) → StartsIn (param_values tree) L w inner ms → AreAmong (numbers (own_heads s.heads w)) (numbers (s.heads ++ inner))
@@ -189,9 +189,9 @@ module _ (tree : Tree) (plan : Plan) (formed : IsWellFormed tree) (fits : IsFit 
       (names_only (length (param_values tree)) (numbers (s.heads ++ p.inner.heads)) a.form ≡ true) × HoldsAt a plan.workers x.loops (param_values tree)
   owner_holds x p a anchor =
       let parts = fit_parts tree plan fits in
-      let known = station_known tree plan.cut formed e s at in
+      let known = station_known tree plan.cut.marks formed e s at in
       let here : slice_get plan.anchors there.k ≡ Some a = ap (slice_get plan.anchors) (sym index_is) ∙ anchor in
-      let none = misplaced_here a (anchor_placed tree plan.cut plan.workers plan.anchors plan.kinds there.k a parts.placed here) in
+      let none = misplaced_here a (anchor_placed tree plan.cut.marks plan.workers plan.anchors plan.kinds there.k a parts.placed here) in
       let named = anchor_named a anchor in
       let holds = phase_holds_in (param_values tree) (scope_of tree) (length (param_values tree)) plan.workers parts.some there.there.ends s.visit.loops there.there.inside s.heads s.trips known.own_number s.visit.what known.context a (1 + there.k) none p.inner.heads p.inner.trips p.low p.high p.starts_in p.deepens named in (
         form-among (length (param_values tree)) (numbers (own_heads s.heads s.visit.what)) (numbers (s.heads ++ p.inner.heads)) a.form (own_inner s.visit.what s.visit.loops p.inner.heads p.inner.trips p.starts_in) named,
@@ -202,10 +202,10 @@ module _ (tree : Tree) (plan : Plan) (formed : IsWellFormed tree) (fits : IsFit 
   pub producer_holds : (a : Anchor) → slice_get plan.kinds (s.visit.place - 1) ≡ Some (Producer a) → (names_only (length (param_values tree)) (numbers s.heads) a.form ≡ true) × HoldsAt a plan.workers s.visit.loops (param_values tree)
   producer_holds a kind =
       let parts = fit_parts tree plan fits in
-      let known = station_known tree plan.cut formed e s at in
+      let known = station_known tree plan.cut.marks formed e s at in
       let here : slice_get plan.kinds there.k ≡ Some (Producer a) = ap (slice_get plan.kinds) (sym index_is) ∙ kind in
-      let none = misplaced_here a (kind_placed tree plan.cut plan.workers plan.anchors plan.kinds there.k a parts.placed here) in
-      let good = good_kind_each (length tree.params) (static_phases tree plan.cut) plan.kinds there.k (record { what = s.visit.what; around = there.there.around }) (Producer a) parts.good_kinds there.there.at here in
+      let none = misplaced_here a (kind_placed tree plan.cut.marks plan.workers plan.anchors plan.kinds there.k a parts.placed here) in
+      let good = good_kind_each (length tree.params) (static_phases tree plan.cut.marks) plan.kinds there.k (record { what = s.visit.what; around = there.there.around }) (Producer a) parts.good_kinds there.there.at here in
       let given = (and_parts (names_only (length tree.params) there.there.around a.form) (has_places a.dist) good).0 in
       let named = subst (λ n. names_only n (numbers s.heads) a.form ≡ true) as_many (form-among (length tree.params) there.there.around (numbers s.heads) a.form around_among given) in
       (named, producer_holds_in (param_values tree) (scope_of tree) (length (param_values tree)) plan.workers parts.some there.there.ends s.visit.loops there.there.inside s.heads s.trips known.own_number s.visit.what known.context a (1 + there.k) none named)

@@ -39,13 +39,13 @@ firsts G (a ∷ xs) bs h k =
     all-append (λ (pair : Pair). G pair.first × G pair.second) here later (seconds G a (conflict a) bs h.0 k) (firsts G xs bs h.1 k)
 
 -- both accesses of a pair are good
-pub pair_good : (tree : Tree) (plan : Plan) (s t : StaticPhase) (pair : Pair) → IsWellFormed tree → Contains (phases_of tree plan.cut) s → Contains (phases_of tree plan.cut) t → Contains (pairs_of s t) pair →
+pub pair_good : (tree : Tree) (plan : Plan) (s t : StaticPhase) (pair : Pair) → IsWellFormed tree → Contains (phases_of tree plan.cut.marks) s → Contains (phases_of tree plan.cut.marks) t → Contains (pairs_of s t) pair →
     IsGoodReference (length (param_values tree)) (scope_of tree).ranks pair.first × IsGoodReference (length (param_values tree)) (scope_of tree).ranks pair.second
 pair_good tree plan s t pair formed here there among =
     let G = IsGoodReference (length (param_values tree)) (scope_of tree).ranks in
-    let all = references_good tree (enters_outer plan.cut) formed in
-    let of_s = all-contained (λ phase. AllByRecursion G (references_of phase)) (phases_of tree plan.cut) s all here in
-    let of_t = all-contained (λ phase. AllByRecursion G (references_of phase)) (phases_of tree plan.cut) t all there in
+    let all = references_good tree (enters_outer plan.cut.marks) formed in
+    let of_s = all-contained (λ phase. AllByRecursion G (references_of phase)) (phases_of tree plan.cut.marks) s all here in
+    let of_t = all-contained (λ phase. AllByRecursion G (references_of phase)) (phases_of tree plan.cut.marks) t all there in
     all-contained (λ (pair : Pair). G pair.first × G pair.second) (pairs_of s t) pair (firsts G (references_of s) (references_of t) of_s of_t) among
 
 -- ---- the conditions
@@ -56,11 +56,11 @@ good_conditions constants version (Rows rows) h = (and_parts (has_rows version) 
 
 pub fit_conditions : (tree : Tree) (plan : Plan) → IsFit tree plan → AreGoodConditions (length (param_values tree)) plan.conditions × (unmet (param_values tree) plan.conditions ≡ None)
 fit_conditions tree plan fits =
-    let text = static_phases tree plan.cut in
+    let text = static_phases tree plan.cut.marks in
     let constants = length tree.params in
     let first = neither (as_misfit shape (wrong_field tree plan)) _ fits in
-    let second = neither (as_misfit placement (unplaced tree plan.cut plan.workers (placed_anchors plan))) _ first.1 in
-    let third = neither (as_misfit print_place (misplaced_print 1 plan.cut text plan.anchors)) _ second.1 in
+    let second = neither (as_misfit placement (unplaced tree plan.cut.marks plan.workers (placed_anchors plan))) _ first.1 in
+    let third = neither (as_misfit print_place (misplaced_print 1 plan.cut.marks text plan.anchors)) _ second.1 in
     let none = nothing_misfits shape (wrong_field tree plan) first.0 in
     let conditions = (shaped tree plan none).conditions in
     let as_many : constants ≡ length (param_values tree) = sym (length-map tree.params (λ (c : Constant). c.value)) in

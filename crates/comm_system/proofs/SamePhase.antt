@@ -19,6 +19,7 @@ use Rattle.owner_partition.specs.Owners.{anchor_owner, dealt}
 use Rattle.owner_partition.specs.Phases.{phase_instances, phases}
 use Rattle.sync_plan.specs.declared.plan.Plan.{Plan}
 use Rattle.sync_plan.specs.Fit.{IsFit, is_dealt}
+use Rattle.sync_plan.proofs.NoOwn.{seen_conflict}
 use Rattle.sync_plan.specs.Ordered.{IsChain, IsOrdered, owner_under}
 use Rattle.comm_system.specs.Levels.{two_trips}
 use Rattle.comm_system.specs.Meetings.{AreSame, IsEarlier, values_of}
@@ -77,7 +78,7 @@ values_both : (hs : List Head) (I J L : List ℤ) → AllByRecursion (λ h. numb
 values_both [] I J L a b = tt
 values_both (h ∷ hs) I J L a b = (a.0 ∙ sym b.0, values_both hs I J L a.1 b.1)
 
-module _ (tree : Tree) (plan : Plan) (formed : IsWellFormed tree) (fits : IsFit tree plan) (none : (task : Task) → Contains (tasks_of tree plan) task → HasNoWholeSolution task.system) (e : ℕ) (s : Station) (at : slice_get (stations_in (param_values tree) (enters_outer plan.cut) tree.items 1 1 (no_values tree)) e ≡ Some s)
+module _ (tree : Tree) (plan : Plan) (formed : IsWellFormed tree) (fits : IsFit tree plan) (none : (task : Task) → Contains (tasks_of tree plan) task → HasNoWholeSolution task.system) (e : ℕ) (s : Station) (at : slice_get (stations_in (param_values tree) (enters_outer plan.cut.marks) tree.items 1 1 (no_values tree)) e ≡ Some s)
     (i j : Instance) (p : IsPlaced (param_values tree) (scope_of tree) s.heads s.trips s.visit i) (q : IsPlaced (param_values tree) (scope_of tree) s.heads s.trips s.visit j) (rises : Comes p.inner q.inner) where
   abbrev phase : StaticPhase
   phase = record { what = s.visit.what; outer = s.heads }
@@ -98,10 +99,10 @@ module _ (tree : Tree) (plan : Plan) (formed : IsWellFormed tree) (fits : IsFit 
       ap (λ w. count_of (dealt a.dist plan.workers w)) (form_keeps (length (param_values tree)) hs i.loops j.loops (param_values tree) a.form named values)
 
   -- where two trips of the phase's loop meet
-  two_trips_meet : is_dealt plan.cut s.visit.what ≡ true → Conflicting tree phase phase (s.heads ++ p.inner.heads) (s.heads ++ q.inner.heads) i j → IsEarlier 0 p.inner.trips q.inner.trips → ⊥
+  two_trips_meet : is_dealt plan.cut.marks s.visit.what ≡ true → Conflicting tree phase phase (s.heads ++ p.inner.heads) (s.heads ++ q.inner.heads) i j → IsEarlier 0 p.inner.trips q.inner.trips → ⊥
   two_trips_meet is c earlier =
       let params = param_values tree in
-      let known = station_known tree plan.cut formed e s at in
+      let known = station_known tree plan.cut.marks formed e s at in
       let long = valid-length params (no_values tree) s.heads s.trips known.valid in
       let same = same_further (length s.heads) s.heads s.heads p.inner.heads q.inner.heads s.visit.loops s.visit.loops i.loops j.loops (same_itself s.heads s.visit.loops) (keeps tree s.heads s.trips s.visit i p) (keeps tree s.heads s.trips s.visit j q) in
       let early : IsEarlier (length s.heads) (s.trips ++ p.inner.trips) (s.trips ++ q.inner.trips) = subst (λ n. IsEarlier n (s.trips ++ p.inner.trips) (s.trips ++ q.inner.trips)) long (earlier_behind s.trips p.inner.trips q.inner.trips earlier) in
@@ -109,29 +110,29 @@ module _ (tree : Tree) (plan : Plan) (formed : IsWellFormed tree) (fits : IsFit 
       let X = point_at i (s.trips ++ p.inner.trips) c.first.touches.free in
       let Y = point_at j (s.trips ++ q.inner.trips) c.second.touches.free in
       let meet = meeting tree phase phase (s.heads ++ p.inner.heads) (s.heads ++ q.inner.heads) i j c (s.trips ++ p.inner.trips) (s.trips ++ q.inner.trips) (two_trips (length s.heads)) p.trips q.trips same (λ e. early) in
-      let here = get_contains (phases_of tree plan.cut) (s.visit.place - 1) phase (phase_there tree plan.cut formed e s at) in
+      let here = get_contains (phases_of tree plan.cut.marks) (s.visit.place - 1) phase (phase_there tree plan.cut.marks formed e s at) in
       let among = meeting_pair tree phase phase (s.heads ++ p.inner.heads) (s.heads ++ q.inner.heads) i j c in
       let solved = trips_meet tree plan phase pair X Y formed fits here among meet in
       let task = in_map (trips_task tree plan phase) (pairs_of phase phase) pair among in
       let task' : Contains (trips_tasks tree plan phase) (trips_task tree plan phase pair) = subst (λ b. Contains (if b then map (trips_task tree plan phase) (pairs_of phase phase) else []) (trips_task tree plan phase pair)) (sym is) task in
-      let all = phases_of tree plan.cut in
+      let all = phases_of tree plan.cut.marks in
       let there = Contains-append_left (flat_map (trips_tasks tree plan) all) (flat_map (λ slot. slot_tasks tree plan slot (slot_signature plan.version plan.kinds all slot)) (slots_of all)) (trips_task tree plan phase pair)
       (in_flat_map (trips_tasks tree plan) all phase (trips_task tree plan phase pair) here task') in
       none (trips_task tree plan phase pair) there (values_of tree pair X Y []) solved
 
   pub one_owner : Conflicting tree (record { what = s.visit.what; outer = s.heads }) (record { what = s.visit.what; outer = s.heads }) (s.heads ++ p.inner.heads) (s.heads ++ q.inner.heads) i j →
       anchor_owner (anchor_at plan s.visit.place) plan.workers i.loops (param_values tree) ≡ anchor_owner (anchor_at plan s.visit.place) plan.workers j.loops (param_values tree)
-  one_owner c = elim (cases_Bool (is_dealt plan.cut s.visit.what)) [
+  one_owner c = elim (cases_Bool (is_dealt plan.cut.marks s.visit.what)) [
     | inr still ↦ same_owner s.heads (outer_named tree plan formed fits e s at (anchor_at plan s.visit.place) (anchor_there tree plan formed fits e s at) still) outer_values
     | inl is ↦ by s.visit.what refl is
   ]
     where
-      by : (what : Statement) → s.visit.what ≡ what → is_dealt plan.cut s.visit.what ≡ true → anchor_owner (anchor_at plan s.visit.place) plan.workers i.loops (param_values tree) ≡ anchor_owner (anchor_at plan s.visit.place) plan.workers j.loops (param_values tree)
-      by (work w) same is = absurd (true≢false (sym is ∙ ap (is_dealt plan.cut) same))
-      by (continue line) same is = absurd (true≢false (sym is ∙ ap (is_dealt plan.cut) same))
+      by : (what : Statement) → s.visit.what ≡ what → is_dealt plan.cut.marks s.visit.what ≡ true → anchor_owner (anchor_at plan s.visit.place) plan.workers i.loops (param_values tree) ≡ anchor_owner (anchor_at plan s.visit.place) plan.workers j.loops (param_values tree)
+      by (work w) same is = absurd (true≢false (sym is ∙ ap (is_dealt plan.cut.marks) same))
+      by (continue line) same is = absurd (true≢false (sym is ∙ ap (is_dealt plan.cut.marks) same))
       by (do_loop head body) same is =
           let params = param_values tree in
-          let known = station_known tree plan.cut formed e s at in
+          let known = station_known tree plan.cut.marks formed e s at in
           let front : IsInFront params (scope_of tree) s.heads s.trips s.visit.loops known.own_number (do_loop head body) = subst (λ w. IsInFront params (scope_of tree) s.heads s.trips s.visit.loops known.own_number w) same known.context in
           let number = loop_number params (scope_of tree) s.heads s.trips s.visit.loops known.own_number head body front in
           let some : 1 ≤ head.number = omega (arith, number.0, number.1) in
@@ -144,7 +145,7 @@ module _ (tree : Tree) (plan : Plan) (formed : IsWellFormed tree) (fits : IsFit 
           choose head named value_i value_j (trips_rise params s.visit.loops head body p.inner.heads p.inner.trips p.inner.visit.place q.inner.heads q.inner.trips q.inner.visit.place a b rises) is
         where
           choose : (head : Head) → names_only (length (param_values tree)) (numbers (s.heads ++ head ∷ [])) (anchor_at plan s.visit.place).form ≡ true → numbered i.loops head.number ≡ numbered (at_trip (param_values tree) head s.visit.loops (first_trip p.inner.trips)) head.number →
-              numbered j.loops head.number ≡ numbered (at_trip (param_values tree) head s.visit.loops (first_trip q.inner.trips)) head.number → (first_trip p.inner.trips ≡ first_trip q.inner.trips) ⊎ IsEarlier 0 p.inner.trips q.inner.trips → is_dealt plan.cut s.visit.what ≡ true →
+              numbered j.loops head.number ≡ numbered (at_trip (param_values tree) head s.visit.loops (first_trip q.inner.trips)) head.number → (first_trip p.inner.trips ≡ first_trip q.inner.trips) ⊎ IsEarlier 0 p.inner.trips q.inner.trips → is_dealt plan.cut.marks s.visit.what ≡ true →
               anchor_owner (anchor_at plan s.visit.place) plan.workers i.loops (param_values tree) ≡ anchor_owner (anchor_at plan s.visit.place) plan.workers j.loops (param_values tree)
           choose head named vi vj (inl equal) is =
               same_owner (s.heads ++ head ∷ []) named (all-append (λ h. numbered i.loops h.number ≡ numbered j.loops h.number) s.heads (head ∷ []) outer_values
@@ -157,11 +158,12 @@ some_same : (v w : Visit) → Some v ≡ Some w → v ≡ w
 some_same v w e = cc
 
 pub obligations_order : (tree : Tree) (plan : Plan) → IsWellFormed tree → IsInRange tree → IsFit tree plan → ((task : Task) → Contains (tasks_of tree plan) task → HasNoWholeSolution task.system) → IsOrdered tree plan
-obligations_order tree plan formed ranged fits none j k x y lt at at' conflict apart =
+obligations_order tree plan formed ranged fits none j k x y lt at at' seen apart =
     let params = param_values tree in
-    let o = in_order params 1 (phases tree plan.cut) x y j k lt at at' in
-    let hx = executed_at_station tree plan.cut formed ranged x j at o.first in
-    let hy = executed_at_station tree plan.cut formed ranged y k at' o.second in
+    let conflict = seen_conflict tree plan x y fits seen in
+    let o = in_order params 1 (phases tree plan.cut.marks) x y j k lt at at' in
+    let hx = executed_at_station tree plan.cut.marks formed ranged x j at o.first in
+    let hy = executed_at_station tree plan.cut.marks formed ranged y k at' o.second in
     let phase_x : suc o.first.phase ≡ x.phase = omega (arith, o.first.phase_is) in
     let phase_y : suc o.second.phase ≡ y.phase = omega (arith, o.second.phase_is) in
     elim (cases_eq o.first.phase o.second.phase) [
@@ -171,22 +173,22 @@ obligations_order tree plan formed ranged fits none j k x y lt at at' conflict a
       | inl same ↦ absurd (apart (together o hx hy same))
     ]
   where
-    together : (o : InOrder (param_values tree) 1 (phases tree plan.cut) x y) → IsExecutedAt tree plan.cut x o.first.phase → IsExecutedAt tree plan.cut y o.second.phase → o.first.phase ≡ o.second.phase → owner_under tree plan x ≡ owner_under tree plan y
+    together : (o : InOrder (param_values tree) 1 (phases tree plan.cut.marks) x y) → IsExecutedAt tree plan.cut.marks x o.first.phase → IsExecutedAt tree plan.cut.marks y o.second.phase → o.first.phase ≡ o.second.phase → owner_under tree plan x ≡ owner_under tree plan y
     together o hx hy same =
         let params = param_values tree in
         let s = hx.station in
         let e = o.first.phase in
         let visit_x : s.visit ≡ o.first.visit = some_same s.visit o.first.visit (sym (visit_at tree plan formed fits e s hx.at) ∙ o.first.at) in
-        let visit_y : s.visit ≡ o.second.visit = some_same s.visit o.second.visit (sym (visit_at tree plan formed fits e s hx.at) ∙ ap (slice_get (phases tree plan.cut)) same ∙ o.second.at) in
-        let known = station_known tree plan.cut formed e s hx.at in
+        let visit_y : s.visit ≡ o.second.visit = some_same s.visit o.second.visit (sym (visit_at tree plan formed fits e s hx.at) ∙ ap (slice_get (phases tree plan.cut.marks)) same ∙ o.second.at) in
+        let known = station_known tree plan.cut.marks formed e s hx.at in
         let at_i : slice_get (phase_instances params s.visit) o.first.index ≡ Some x.instance = ap (λ v. slice_get (phase_instances params v) o.first.index) visit_x ∙ o.first.is in
         let at_j : slice_get (phase_instances params s.visit) o.second.index ≡ Some y.instance = ap (λ v. slice_get (phase_instances params v) o.second.index) visit_y ∙ o.second.is in
         let placed = instances_placed params (scope_of tree) s.heads s.trips s.visit known.own_number known.context x.instance y.instance o.first.index o.second.index (o.within_phase same) at_i at_j in
         let p = placed.0 in
         let q = placed.1.0 in
-        let ix : IsExecutedAt tree plan.cut x e = record { station = s; at = hx.at; place_is = hx.place_is; placed = p; inside = hx.inside } in
+        let ix : IsExecutedAt tree plan.cut.marks x e = record { station = s; at = hx.at; place_is = hx.place_is; placed = p; inside = hx.inside } in
         let place_y : y.place ≡ s.visit.place = o.second.place_is ∙ ap (λ (v : Visit). v.place) (sym visit_y) in
-        let iy : IsExecutedAt tree plan.cut y e = record { station = s; at = hx.at; place_is = place_y; placed = q; inside = hy.inside } in
+        let iy : IsExecutedAt tree plan.cut.marks y e = record { station = s; at = hx.at; place_is = place_y; placed = q; inside = hy.inside } in
         let phase : StaticPhase = record { what = s.visit.what; outer = s.heads } in
-        let c = conflicting tree x.instance y.instance phase phase (s.heads ++ p.inner.heads) (s.heads ++ q.inner.heads) p.nested q.nested (nested_good tree plan.cut formed x e ix) (nested_good tree plan.cut formed y e iy) p.executed q.executed hx.inside hy.inside conflict in
+        let c = conflicting tree x.instance y.instance phase phase (s.heads ++ p.inner.heads) (s.heads ++ q.inner.heads) p.nested q.nested (nested_good tree plan.cut.marks formed x e ix) (nested_good tree plan.cut.marks formed y e iy) p.executed q.executed hx.inside hy.inside (seen_conflict tree plan x y fits seen) in
         owner_is tree plan formed fits x e s hx.at hx.place_is ∙ one_owner tree plan formed fits none e s hx.at x.instance y.instance p q placed.1.1 c ∙ sym (owner_is tree plan formed fits y e s hx.at place_y)

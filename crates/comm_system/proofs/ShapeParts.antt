@@ -17,10 +17,10 @@ use Rattle.sync_plan.proofs.Fits.{field_right}
 pub record IsShaped (tree : Tree) (plan : Plan) : Type 0 where
   pub some : 1 ≤ plan.workers
   pub workers : plan.workers ≤ 64
-  pub many_anchors : length plan.anchors ≡ length (static_phases tree plan.cut)
-  pub many_kinds : length plan.kinds ≡ length (static_phases tree plan.cut)
-  pub good_anchors : are_good_anchors (length tree.params) plan.cut (static_phases tree plan.cut) plan.anchors ≡ true
-  pub good_kinds : are_good_kinds (length tree.params) (static_phases tree plan.cut) plan.kinds ≡ true
+  pub many_anchors : length plan.anchors ≡ length (static_phases tree plan.cut.marks)
+  pub many_kinds : length plan.kinds ≡ length (static_phases tree plan.cut.marks)
+  pub good_anchors : are_good_anchors (length tree.params) plan.cut.marks (static_phases tree plan.cut.marks) plan.anchors ≡ true
+  pub good_kinds : are_good_kinds (length tree.params) (static_phases tree plan.cut.marks) plan.kinds ≡ true
   pub anchors : list_all (λ (a : Anchor). has_places a.dist) plan.anchors ≡ true
   pub kinds : list_all has_places_in plan.kinds ≡ true
   pub conditions : are_good_conditions (length tree.params) plan.version plan.conditions ≡ true
@@ -51,15 +51,15 @@ all_kinds constants (s ∷ text) (k ∷ kinds) many good =
 
 pub shaped : (tree : Tree) (plan : Plan) → wrong_field tree plan ≡ None → IsShaped tree plan
 shaped tree plan none =
-    let text = static_phases tree plan.cut in
+    let text = static_phases tree plan.cut.marks in
     let constants = length tree.params in
     let workers = field_right (nat_le 1 plan.workers && nat_le plan.workers 64) 1 _ none in
-    let marks = field_right (length plan.cut == loops_of tree.items) 2 _ workers.1 in
-    let marked = field_right (are_marked_well plan.cut false tree.items) 3 _ marks.1 in
+    let marks = field_right (length plan.cut.marks == loops_of tree.items) 2 _ workers.1 in
+    let marked = field_right (are_marked_well plan.cut.marks false tree.items) 3 _ marks.1 in
     let counts = field_right (length plan.anchors == length text && length plan.kinds == length text) 4 _ marked.1 in
-    let anchors = field_right (are_good_anchors constants plan.cut text plan.anchors) 5 _ counts.1 in
+    let anchors = field_right (are_good_anchors constants plan.cut.marks text plan.anchors) 5 _ counts.1 in
     let kinds = field_right (are_good_kinds constants text plan.kinds) 6 _ anchors.1 in
-    let conditions = field_right (are_good_conditions constants plan.version plan.conditions) 8 None kinds.1 in
+    let conditions = field_right (are_good_conditions constants plan.version plan.conditions) 8 _ kinds.1 in
     let range = and_parts (nat_le 1 plan.workers) (nat_le plan.workers 64) workers.0 in
     let many = and_parts (length plan.anchors == length text) (length plan.kinds == length text) counts.0 in
     let many_anchors = eqb-true (length plan.anchors) (length text) many.0 in
@@ -71,7 +71,7 @@ shaped tree plan none =
       many_kinds = many_kinds;
       good_anchors = anchors.0;
       good_kinds = kinds.0;
-      anchors = all_anchors constants plan.cut text plan.anchors many_anchors anchors.0;
+      anchors = all_anchors constants plan.cut.marks text plan.anchors many_anchors anchors.0;
       kinds = all_kinds constants text plan.kinds many_kinds kinds.0;
       conditions = conditions.0;
     }

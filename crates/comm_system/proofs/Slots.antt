@@ -64,14 +64,14 @@ pieces_there f n (p ∷ ps) = (
 
 module _ (tree : Tree) (plan : Plan) where
   -- a task of a slot is one of the plan's
-  slot_task : (slot : Slot) (task : Task) → Contains (slots_of (phases_of tree plan.cut)) slot → Contains (slot_tasks tree plan slot (slot_signature plan.version plan.kinds (phases_of tree plan.cut) slot)) task → Contains (tasks_of tree plan) task
+  slot_task : (slot : Slot) (task : Task) → Contains (slots_of (phases_of tree plan.cut.marks)) slot → Contains (slot_tasks tree plan slot (slot_signature plan.version plan.kinds (phases_of tree plan.cut.marks) slot)) task → Contains (tasks_of tree plan) task
   slot_task slot task there among =
-      let phases = phases_of tree plan.cut in
+      let phases = phases_of tree plan.cut.marks in
       Contains-append_right (flat_map (trips_tasks tree plan) phases) (flat_map (λ slot. slot_tasks tree plan slot (slot_signature plan.version plan.kinds phases slot)) (slots_of phases)) task
       (in_flat_map (λ slot. slot_tasks tree plan slot (slot_signature plan.version plan.kinds phases slot)) (slots_of phases) slot task there among)
 
   -- each piece of a pair has its task
-  pub pieces_tasks : (slot : Slot) (left right : ℕ) (producers : List (Anchor × Side)) (pair : Pair) → Contains (slots_of (phases_of tree plan.cut)) slot → slot_signature plan.version plan.kinds (phases_of tree plan.cut) slot ≡ waits left right producers → Contains (pairs_of slot.first slot.second) pair →
+  pub pieces_tasks : (slot : Slot) (left right : ℕ) (producers : List (Anchor × Side)) (pair : Pair) → Contains (slots_of (phases_of tree plan.cut.marks)) slot → slot_signature plan.version plan.kinds (phases_of tree plan.cut.marks) slot ≡ waits left right producers → Contains (pairs_of slot.first slot.second) pair →
       AllByRecursion (λ p. (k : ℕ) × Contains (tasks_of tree plan) (piece_task tree plan slot left right producers pair k p)) (pieces (length producers))
   pieces_tasks slot left right producers pair there is among =
       all-weaker (λ p. (k : ℕ) × Contains (pair_tasks tree plan slot left right producers pair) (piece_task tree plan slot left right producers pair k p)) (λ p. (k : ℕ) × Contains (tasks_of tree plan) (piece_task tree plan slot left right producers pair k p)) (pieces (length producers))

@@ -59,7 +59,7 @@ module _ (tree : Tree) (i j : Instance) (s t : StaticPhase) (around around' : Li
 -- ---- in a later phase
 
 module _ (tree : Tree) (plan : Plan) (formed : IsWellFormed tree) (fits : IsFit tree plan) (none : (task : Task) → Contains (tasks_of tree plan) task → HasNoWholeSolution task.system) where
-  module _ (x y : Execution) (ex ey : ℕ) (hx : IsExecutedAt tree plan.cut x ex) (hy : IsExecutedAt tree plan.cut y ey) (less : ex < ey) (conflict : Conflict tree x.instance y.instance) (apart : owner_under tree plan x ≡ owner_under tree plan y → ⊥) where
+  module _ (x y : Execution) (ex ey : ℕ) (hx : IsExecutedAt tree plan.cut.marks x ex) (hy : IsExecutedAt tree plan.cut.marks y ey) (less : ex < ey) (conflict : Conflict tree x.instance y.instance) (apart : owner_under tree plan x ≡ owner_under tree plan y → ⊥) where
     two : AreTwo tree plan ex ey hx.station hy.station
     two = record { formed = formed; first = hx.at; second = hy.at }
 
@@ -76,10 +76,10 @@ module _ (tree : Tree) (plan : Plan) (formed : IsWellFormed tree) (fits : IsFit 
     around_y = hy.station.heads ++ hy.placed.inner.heads
 
     both : Conflicting tree first_phase second_phase around_x around_y x.instance y.instance
-    both = conflicting tree x.instance y.instance first_phase second_phase around_x around_y hx.placed.nested hy.placed.nested (nested_good tree plan.cut formed x ex hx) (nested_good tree plan.cut formed y ey hy) hx.placed.executed hy.placed.executed hx.inside hy.inside conflict
+    both = conflicting tree x.instance y.instance first_phase second_phase around_x around_y hx.placed.nested hy.placed.nested (nested_good tree plan.cut.marks formed x ex hx) (nested_good tree plan.cut.marks formed y ey hy) hx.placed.executed hy.placed.executed hx.inside hy.inside conflict
 
     -- at a level at which the certain boundaries are known
-    at_level : (level : ℕ) → AreCertain tree plan ex ey hx.station hy.station two (certain_boundaries (text_among (enters_outer plan.cut) tree.items) hx.station.heads hy.station.heads hx.station.visit.place hy.station.visit.place level) →
+    at_level : (level : ℕ) → AreCertain tree plan ex ey hx.station hy.station two (certain_boundaries (text_among (enters_outer plan.cut.marks) tree.items) hx.station.heads hy.station.heads hx.station.visit.place hy.station.visit.place level) →
         Contains (levels (common hx.station.heads hy.station.heads) hx.station.visit.place hy.station.visit.place) level → (order : Order) → order ≡ order_at (common hx.station.heads hy.station.heads) level →
         Agree order.equal hx.station.heads hx.station.trips hy.station.heads hy.station.trips → (order.earlier ≡ true → IsEarlier order.equal hx.station.trips hy.station.trips) →
         (hops : List Hop) × IsChain tree plan (owner_under tree plan x) (suc ex) hops (owner_under tree plan y) (suc ey)
@@ -89,8 +89,8 @@ module _ (tree : Tree) (plan : Plan) (formed : IsWellFormed tree) (fits : IsFit 
         let sy = hy.station in
         let px = hx.placed in
         let py = hy.placed in
-        let kx = station_known tree plan.cut formed ex sx hx.at in
-        let ky = station_known tree plan.cut formed ey sy hy.at in
+        let kx = station_known tree plan.cut.marks formed ex sx hx.at in
+        let ky = station_known tree plan.cut.marks formed ey sy hy.at in
         let c = both in
         let same0 = agree_values params (no_values tree) order.equal 1 (1 + loops_of tree.items) sx.heads sx.trips sy.heads sy.trips agree kx.deepens ky.deepens (omega arith) in
         let same1 : AreSame order.equal sx.heads sy.heads sx.visit.loops sy.visit.loops =
@@ -112,7 +112,7 @@ module _ (tree : Tree) (plan : Plan) (formed : IsWellFormed tree) (fits : IsFit 
         let is_second : IsHolder tree plan.workers pair X Y (ay, of_second) second = record { named = subst (λ hs. names_only (length params) (numbers hs) ay.form ≡ true) (sym c.second.around_is) oy.0; holds = oy.1 } in
         let own_x = owner_is tree plan formed fits x ex sx hx.at hx.place_is in
         let own_y = owner_is tree plan formed fits y ey sy hy.at hy.place_is in
-        let slot_in = slot_there (phases_of tree plan.cut) sx.visit.place first_phase sy.visit.place second_phase level kx.low ky.low (phase_there tree plan.cut formed ex sx hx.at) (phase_there tree plan.cut formed ey sy hy.at) among in
+        let slot_in = slot_there (phases_of tree plan.cut.marks) sx.visit.place first_phase sy.visit.place second_phase level kx.low ky.low (phase_there tree plan.cut.marks formed ex sx hx.at) (phase_there tree plan.cut.marks formed ey sy hy.at) among in
         let chain = waited tree plan ex ey sx sy two fits x.instance y.instance px py pair X Y c.first.around_is c.second.around_is refl refl level (omega (arith, less)) certain slot_in (meeting_pair tree first_phase second_phase around_x around_y x.instance y.instance c) meet1 first second is_first is_second
         (holds_below ax.dist plan.workers (form_value ax.form x.instance.loops params) first ox.1) (holds_below ay.dist plan.workers (form_value ay.form y.instance.loops params) second oy.1) (λ e. apart (own_x ∙ sym e ∙ sym own_y)) none in
         (chain.0, subst (λ q. IsChain tree plan q (suc ex) chain.0 (owner_under tree plan y) (suc ey)) (sym own_x) (subst (λ p. IsChain tree plan first.owner (suc ex) chain.0 p (suc ey)) (sym own_y) chain.1))
@@ -121,8 +121,8 @@ module _ (tree : Tree) (plan : Plan) (formed : IsWellFormed tree) (fits : IsFit 
     later_phase =
         let sx = hx.station in
         let sy = hy.station in
-        let rises = rises_in (param_values tree) (scope_of tree) (enters_outer plan.cut) [] [] (no_values tree) 1 1 1 tree.items (at_first tree formed) in
-        let comes_so = comes_at (stations_in (param_values tree) (enters_outer plan.cut) tree.items 1 1 (no_values tree)) ex ey sx sy rises less hx.at hy.at in
+        let rises = rises_in (param_values tree) (scope_of tree) (enters_outer plan.cut.marks) [] [] (no_values tree) 1 1 1 tree.items (at_first tree formed) in
+        let comes_so = comes_at (stations_in (param_values tree) (enters_outer plan.cut.marks) tree.items 1 1 (no_values tree)) ex ey sx sy rises less hx.at hy.at in
         by (split (heads_among tree.items) 1 sx.heads sx.trips sx.visit.place sy.heads sy.trips sy.visit.place (heads_x tree plan ex ey sx sy two) (heads_y tree plan ex ey sx sy two) (long_x tree plan ex ey sx sy two) (long_y tree plan ex ey sx sy two) comes_so)
       where
         by : IsCarried hx.station.heads hx.station.trips hy.station.heads hy.station.trips ⊎ IsPlain hx.station.heads hx.station.trips hx.station.visit.place hy.station.heads hy.station.trips hy.station.visit.place →

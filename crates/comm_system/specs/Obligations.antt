@@ -38,7 +38,7 @@ trips_task tree plan s pair =
     task (system_of (behind_pair tree pair - 1) (pair_rows tree plan.conditions (two_trips (length s.outer)) pair)) pair 0 0 (pos 0, pos 0)
 
 abbrev pub trips_tasks : Tree → Plan → StaticPhase → List Task
-trips_tasks tree plan s = if is_dealt plan.cut s.what then map (trips_task tree plan s) (pairs_of s s) else []
+trips_tasks tree plan s = if is_dealt plan.cut.marks s.what then map (trips_task tree plan s) (pairs_of s s) else []
 
 -- the anchor of the static phase with this number, from 1
 abbrev or_first : Option Anchor → Anchor
@@ -114,7 +114,7 @@ slot_signature version kinds phases slot = signature_of version kinds (certain_b
 
 abbrev pub tasks_of : Tree → Plan → List Task
 tasks_of tree plan =
-    let phases = phases_of tree plan.cut in
+    let phases = phases_of tree plan.cut.marks in
     flat_map (trips_tasks tree plan) phases ++ flat_map (λ slot. slot_tasks tree plan slot (slot_signature plan.version plan.kinds phases slot)) (slots_of phases)
 
 -- an obligation: a task with its number

@@ -57,7 +57,7 @@ barrier_inside = record {
   version = One;
   conditions = Values;
   workers = 2;
-  cut = Doall ∷ Outer ∷ [];
+  cut = record { marks = Doall ∷ Outer ∷ []; privates = [] };
   anchors = in_blocks 1 (times (pos 1) 1 (negsuc 0)) ∷ in_blocks 1 (fixed (pos 0)) ∷ in_blocks 1 (fixed (pos 0)) ∷ [];
   kinds = Nothing ∷ Barrier ∷ Nothing ∷ [];
   certificates = [];
@@ -102,7 +102,7 @@ neighbours = record {
   version = Two;
   conditions = Values;
   workers = 3;
-  cut = Doall ∷ Doall ∷ Doall ∷ [];
+  cut = record { marks = Doall ∷ Doall ∷ Doall ∷ []; privates = [] };
   anchors = in_blocks 2 (times (pos 1) 1 (negsuc 0)) ∷ in_blocks 2 (times (pos 1) 2 (negsuc 0)) ∷ in_blocks 2 (times (pos 1) 3 (negsuc 0)) ∷ in_blocks 1 (fixed (pos 0)) ∷ [];
   kinds = Nothing ∷ Both ∷ Both ∷ Nothing ∷ [];
   certificates = [];

@@ -6,7 +6,7 @@ use Rattle.owner_partition.specs.declared.anchor.Anchor.{Anchor}
 use Rattle.sync_plan.specs.declared.plan.Kind.{Kind}
 use Rattle.sync_plan.specs.declared.plan.Kind.TheVariants.{Nothing, Producer, Left, Right, Both, Barrier, Join}
 use Rattle.sync_plan.specs.declared.plan.Version.{Version}
-use Rattle.sync_plan.specs.declared.plan.Version.TheVariants.{One, Two, Three}
+use Rattle.sync_plan.specs.declared.plan.Version.TheVariants.{One, Two, Three, Four, Five}
 use Rattle.sync_plan.specs.Shape.{has_places}
 use Rattle.comm_system.specs.Boundaries.{Boundary, Side}
 
@@ -77,6 +77,8 @@ abbrev pub counted : Version → ℕ → ℕ
 counted One n = min n 1
 counted Two n = n
 counted Three n = n
+counted Four n = n
+counted Five n = n
 
 abbrev pub signature_of : Version → List Kind → List Boundary → Signature
 signature_of version kinds boundaries =

@@ -29,7 +29,7 @@ count_about (of_slot slot left right producers pair) = length (pieces (length pr
 
 -- the subjects of a Doall phase, and of a slot, of which the kinds show only its signature
 abbrev pub trips_subjects : Plan → StaticPhase → List Subject
-trips_subjects plan s = if is_dealt plan.cut s.what then map (of_trips s) (pairs_of s s) else []
+trips_subjects plan s = if is_dealt plan.cut.marks s.what then map (of_trips s) (pairs_of s s) else []
 
 abbrev pub slot_subjects : Slot → Signature → List Subject
 slot_subjects slot blocked = []
@@ -40,7 +40,7 @@ abbrev pub subjects_among : Plan → List StaticPhase → List Subject
 subjects_among plan phases = flat_map (trips_subjects plan) phases ++ flat_map (λ slot. slot_subjects slot (slot_signature plan.version plan.kinds phases slot)) (slots_of phases)
 
 abbrev pub subjects_of : Tree → Plan → List Subject
-subjects_of tree plan = subjects_among plan (phases_of tree plan.cut)
+subjects_of tree plan = subjects_among plan (phases_of tree plan.cut.marks)
 
 -- a subject with the number of its first system
 pub record Group : Type 0 where
@@ -68,4 +68,4 @@ abbrev pub groups_among : Plan → List StaticPhase → ℕ → Listed
 groups_among plan phases most = with_subjects most (record { groups = []; next = 1 }) (subjects_among plan phases)
 
 abbrev pub groups_of : Tree → Plan → ℕ → Listed
-groups_of tree plan most = groups_among plan (phases_of tree plan.cut) most
+groups_of tree plan most = groups_among plan (phases_of tree plan.cut.marks) most

@@ -116,7 +116,7 @@ impl<'b, 'a, 'p> Groups<'b, 'a, 'p> {
         Ok(())
     }
 
-    // Two trips of a phase, if it is a Doall loop.
+    // Two trips of a phase, if its trips are dealt.
     fn add_trips(
         &mut self,
         alloc: Global,
@@ -126,7 +126,7 @@ impl<'b, 'a, 'p> Groups<'b, 'a, 'p> {
     ) -> Result<(), AllocError>
         ensures { OnOk result (listed_seen self.new ≡ with_subjects most (listed_seen self.old) (trips_subjects plan.now (phase_seen phase.entry.now))) }
     {
-        if !is_dealt(plan.cut.as_slice(), phase.item) {
+        if !plan.cut.is_dealt(phase.item) {
             return Ok(());
         }
         self.add_phase(alloc, most, phase)
@@ -182,7 +182,7 @@ impl<'b, 'a, 'p> Groups<'b, 'a, 'p> {
         }
     }
 
-    // Two trips of each Doall phase.
+    // Two trips of each phase whose trips are dealt.
     fn add_all_trips(
         &mut self,
         alloc: Global,
@@ -218,19 +218,6 @@ impl<'b, 'a, 'p> Groups<'b, 'a, 'p> {
     }
 }
 
-// Whether a static phase is a Doall loop.
-fn is_dealt(marks: &[Mark], item: &Item) -> bool
-    ensures { result ≡ is_dealt_in marks.now (statement_of item.now) }
-{
-    match item {
-        Item::Loop(nest) => {
-            let place = (nest.number as usize).saturating_sub(1);
-            place < marks.len() && marks[place] == Mark::Doall
-        }
-        Item::Assign(..) | Item::Print(..) | Item::Continue(_) => false,
-    }
-}
-
 /// The groups of a plan with these static phases, in order, whose first systems have at most this
 /// number. Those behind them are not made.
 pub fn list_groups<'b, 'a, 'p>(
@@ -241,7 +228,7 @@ pub fn list_groups<'b, 'a, 'p>(
     most: u64,
 ) -> Result<Groups<'b, 'a, 'p>, AllocError>
     requires shape { wrong_field (tree_of program.now) plan.now ≡ None }
-    requires phases { map phase_seen phases.now ≡ phases_of (tree_of program.now) plan.now.cut }
+    requires phases { map phase_seen phases.now ≡ phases_of (tree_of program.now) plan.now.cut.marks }
     requires few { length phases.now < 2 ^ 20 }
     ensures { IfOk result (λ found. listed_seen found ≡ groups_of (tree_of program.now) plan.entry.now most) }
 {

@@ -23,7 +23,7 @@ pub fn phases<'a>(
     cut: &Cut,
 ) -> Result<Vec<Phase<'a>>, AllocError>
     requires { IsWellFormed (tree_of program.now) }
-    ensures phases { IfOk result (λ found. map phase_seen found.items ≡ phases_of (tree_of program.now) cut.now) }
+    ensures phases { IfOk result (λ found. map phase_seen found.items ≡ phases_of (tree_of program.now) cut.now.marks) }
     ensures few { IfOk result (λ found. length found.items < 400) }
 {
     let mut outer = Vec::new(alloc);

@@ -104,7 +104,7 @@ fn counted(version: Version, count: u32) -> u32
 {
     match version {
         Version::One => count.min(1),
-        Version::Two | Version::Three => count,
+        Version::Two | Version::Three | Version::Four | Version::Five => count,
     }
 }
 

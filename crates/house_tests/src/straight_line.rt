@@ -76,7 +76,7 @@ pub(crate) fn plan_with(alloc: Global, kinds: Vec<Kind>) -> Result<Plan, AllocEr
         version: Version::Two,
         conditions: Conditions::Values,
         workers: 2,
-        cut: Cut::new(alloc, Vec::new(alloc))?,
+        cut: Cut::plain(alloc, Vec::new(alloc))?,
         anchors: Anchors::from_vec(anchors),
         kinds: Kinds::from_vec(kinds),
         certificates: Certificates::from_vec(Vec::new(alloc)),

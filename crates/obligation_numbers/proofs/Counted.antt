@@ -83,7 +83,7 @@ pairs_counted s t =
 -- ---- the systems of a phase, and of a slot
 
 trips_counted : (tree : Tree) (plan : Plan) (n : ℕ) (s : StaticPhase) → length (trips_tasks tree plan s) ≡ trips_count plan n s
-trips_counted tree plan n s = by (is_dealt plan.cut s.what)
+trips_counted tree plan n s = by (is_dealt plan.cut.marks s.what)
   where
     by : (b : Bool) → length (if b then map (trips_task tree plan s) (pairs_of s s) else []) ≡ (if b then pair_count s.what s.what else 0)
     by true = length-map (pairs_of s s) (trips_task tree plan s) ∙ pairs_counted s s
@@ -140,7 +140,7 @@ module _ (tree : Tree) (plan : Plan) (phases : List StaticPhase) where
 
 pub all_counted : (tree : Tree) (plan : Plan) → length (obligations_of tree plan) ≡ count_of tree plan
 all_counted tree plan =
-    let phases = phases_of tree plan.cut in
+    let phases = phases_of tree plan.cut.marks in
     let trips = flat_map (trips_tasks tree plan) phases in
     let slots = flat_map (tasks_at tree plan phases) (slots_of phases) in
     numbered_length 1 (tasks_of tree plan) ∙ length-append trips slots

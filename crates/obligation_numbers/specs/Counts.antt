@@ -66,10 +66,10 @@ count_before plan phases t second = sum_from (count_between plan phases t second
 
 -- those of two trips of a phase
 abbrev pub trips_count : Plan → ℕ → StaticPhase → ℕ
-trips_count plan n s = if is_dealt plan.cut s.what then pair_count s.what s.what else 0
+trips_count plan n s = if is_dealt plan.cut.marks s.what then pair_count s.what s.what else 0
 
 -- those of a plan
 abbrev pub count_of : Tree → Plan → ℕ
 count_of tree plan =
-    let phases = phases_of tree plan.cut in
+    let phases = phases_of tree plan.cut.marks in
     sum_from (trips_count plan) 1 phases + sum_from (count_before plan phases) 1 phases

@@ -15,7 +15,7 @@ first_of x = record { what = statement_of x.item.now; outer = heads_of x.outer.n
 
 -- all of the program
 abbrev pub phases_at : Both → List StaticPhase
-phases_at x = phases_of (tree_of x.second.scene.program.now) x.second.scene.plan.now.cut
+phases_at x = phases_of (tree_of x.second.scene.program.now) x.second.scene.plan.now.cut.marks
 
 -- the two at a level
 abbrev pub slot_at : Both → ℕ → Slot

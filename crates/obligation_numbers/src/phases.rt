@@ -35,7 +35,7 @@ struct Sum {
 // What the static phases of a program weigh; past 64 bits the greatest number.
 pub(crate) fn phases_weight<W: PhaseWeight>(weight: &W, program: &Program, cut: &Cut) -> u64
     requires { IsWellFormed (tree_of program.now) }
-    ensures { result ≡ u64_saturate (sum_from (W.weight weight.now) 1 (phases_of (tree_of program.now) cut.now)) }
+    ensures { result ≡ u64_saturate (sum_from (W.weight weight.now) 1 (phases_of (tree_of program.now) cut.now.marks)) }
 {
     let mut sum = Sum { next: 1, total: 0 };
     add_all(weight, cut.closed(), Loops::new(), &program.items, &mut sum);

@@ -101,7 +101,7 @@ impl Both<'_, '_> {
 }
 
 impl PhaseWeight for Second<'_, '_> {
-    ghost weight = { λ x s first. count_between x.scene.plan.now (phases_of (tree_of x.scene.program.now) x.scene.plan.now.cut) x.t (second_of x) s first };
+    ghost weight = { λ x s first. count_between x.scene.plan.now (phases_of (tree_of x.scene.program.now) x.scene.plan.now.cut.marks) x.t (second_of x) s first };
 
     fn weigh(&self, number: u32, outer: &[Around], item: &Item) -> u64 {
         let both = Both {
@@ -115,7 +115,7 @@ impl PhaseWeight for Second<'_, '_> {
 }
 
 impl PhaseWeight for Scene<'_> {
-    ghost weight = { λ x t second. count_before x.plan.now (phases_of (tree_of x.program.now) x.plan.now.cut) t second };
+    ghost weight = { λ x t second. count_before x.plan.now (phases_of (tree_of x.program.now) x.plan.now.cut.marks) t second };
 
     fn weigh(&self, number: u32, outer: &[Around], item: &Item) -> u64 {
         let second = Second {
@@ -128,7 +128,7 @@ impl PhaseWeight for Scene<'_> {
     }
 }
 
-// Two trips of each Doall phase.
+// Two trips of each phase whose trips are dealt.
 #[derive(Clone, Copy)]
 pub(crate) struct Trips<'x> {
     pub(crate) plan: &'x Plan,
@@ -138,23 +138,10 @@ impl PhaseWeight for Trips<'_> {
     ghost weight = { λ x. trips_count x.plan.now };
 
     fn weigh(&self, _number: u32, _outer: &[Around], item: &Item) -> u64 {
-        if is_dealt(self.plan.cut.as_slice(), item) {
+        if self.plan.cut.is_dealt(item) {
             pair_count(item, item)
         } else {
             0
         }
-    }
-}
-
-// Whether a static phase is a Doall loop.
-fn is_dealt(marks: &[Mark], item: &Item) -> bool
-    ensures { result ≡ is_dealt_in marks.now (statement_of item.now) }
-{
-    match item {
-        Item::Loop(nest) => {
-            let place = (nest.number as usize).saturating_sub(1);
-            place < marks.len() && marks[place] == Mark::Doall
-        }
-        Item::Assign(..) | Item::Print(..) | Item::Continue(_) => false,
     }
 }

@@ -1,3 +1,4 @@
+pub mod Cuts
 pub mod Marks
 pub mod Owners
 pub mod Phases

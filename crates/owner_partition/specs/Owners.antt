@@ -1,5 +1,5 @@
 -- Who owns an instance, and whom an anchor names.
-use Rattle.std.specs.Prelude.{ℕ, ◌*◌, ◌-◌, ℤ, pos, negsuc, int_le, int_lt, Bool, true, ◌&&◌, ◌==◌, List, Option, Some, None, slice_get, ◌≡◌, refl}
+use Rattle.std.specs.Prelude.{ℕ, ◌*◌, ◌-◌, ℤ, pos, negsuc, int_le, int_lt, nat_le, Bool, true, ◌&&◌, ◌==◌, List, Option, Some, None, slice_get, ◌≡◌, refl}
 use Rattle.std.specs.Int.{int_div_euclid, int_rem_euclid}
 use Rattle.std.specs.List.{filter}
 use Rattle.nest_tree.specs.Form.{form_value}
@@ -16,6 +16,11 @@ use Rattle.owner_partition.specs.Phases.{Execution, phase_instances}
 abbrev pub dealt : Dist → ℕ → ℤ → ℤ
 dealt (Block b) workers w = int_div_euclid w (pos b)
 dealt Cyclic workers w = int_rem_euclid w (pos workers)
+
+-- a block has 1 to 2147483647 places
+abbrev pub has_places : Dist → Bool
+has_places (Block b) = nat_le 1 b && nat_le b 2147483647
+has_places Cyclic = true
 
 -- the processor that an anchor names where the loops and the named constants have these values
 abbrev pub anchor_owner : Anchor → ℕ → List ℤ → List ℤ → ℕ

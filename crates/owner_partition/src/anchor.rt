@@ -2,7 +2,7 @@
 
 ghost use Rattle.std.specs.Prelude.{◌≡◌, ◌<◌, ◌≤◌, IsTrue, length};
 ghost use Rattle.nest_tree.specs.Form.{form_value, is_given};
-ghost use Rattle.owner_partition.specs.Owners.{anchor_owner, reaches};
+ghost use Rattle.owner_partition.specs.Owners.{anchor_owner, has_places, reaches};
 
 use nest_tree::Affine;
 
@@ -12,6 +12,18 @@ pub enum Dist {
     /// The length of a block, from 1.
     Block(u32),
     Cyclic,
+}
+
+impl Dist {
+    /// Whether a block has 1 to 2147483647 places.
+    pub fn has_places(self) -> bool
+        ensures { result ≡ has_places self }
+    {
+        match self {
+            Dist::Block(length) => (1..=2147483647).contains(&length),
+            Dist::Cyclic => true,
+        }
+    }
 }
 
 /// A form with its distribution: it says which processor owns what stands at the form's value.

@@ -24,7 +24,7 @@ mod site;
 pub mod static_phase;
 
 pub use anchor::{Anchor, Dist, owner};
-pub use cut::{Cut, Mark};
+pub use cut::{Cut, Mark, Privates};
 pub use own::{OwnStops, own_stops};
 pub use own_cursor::{Instance, OwnCursor, own_iterations};
 pub use phases::{Phase, PhaseCursor};

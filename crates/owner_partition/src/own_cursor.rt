@@ -67,12 +67,12 @@ pub fn own_iterations<'a>(
 ) -> OwnCursor<'a>
     requires formed { IsWellFormed (tree_of program.now) }
     requires limits { IsWithinLimits (tree_of program.now) }
-    requires phase { (v : Visit) × IsPhaseOf (tree_of program.now) (enters_outer cut.now) v phase.now }
-    requires outside { (v : Visit) → IsPhaseOf (tree_of program.now) (enters_outer cut.now) v phase.now → IsTrue (names_no_inner v.what anchor.now.form) }
+    requires phase { (v : Visit) × IsPhaseOf (tree_of program.now) (enters_outer cut.now.marks) v phase.now }
+    requires outside { (v : Visit) → IsPhaseOf (tree_of program.now) (enters_outer cut.now.marks) v phase.now → IsTrue (names_no_inner v.what anchor.now.form) }
     requires given { IsTrue (reach_within (length (tree_of program.now).params) anchor.now.form.params) }
     requires worker { p < workers }
     requires block { (length : ℕ) → anchor.now.dist ≡ Block length → 1 ≤ length }
-    ensures own { (v : Visit) → IsPhaseOf (tree_of program.now) (enters_outer cut.now) v phase.now → own_left result ≡ own_instances (param_values (tree_of program.now)) anchor.now workers p v }
+    ensures own { (v : Visit) → IsPhaseOf (tree_of program.now) (enters_outer cut.now.marks) v phase.now → own_left result ≡ own_instances (param_values (tree_of program.now)) anchor.now workers p v }
     ensures program { own_tree result ≡ tree_of program.now }
 {
     let mut path = Path::new();

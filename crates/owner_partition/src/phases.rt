@@ -57,11 +57,11 @@ impl<'a> PhaseCursor<'a> {
     pub fn new(program: &'a Program, cut: &'a Cut) -> Self
         requires formed { IsWellFormed (tree_of program.now) }
         requires limits { IsWithinLimits (tree_of program.now) }
-        ensures phases { phases_left result ≡ phases (tree_of program.now) cut.now }
+        ensures phases { phases_left result ≡ phases (tree_of program.now) cut.now.marks }
         ensures passed { phases_passed result ≡ 0 }
         ensures last { phase_last result ≡ None }
         ensures program { phases_tree result ≡ tree_of program.now }
-        ensures enters { phases_enters result ≡ enters_outer cut.now }
+        ensures enters { phases_enters result ≡ enters_outer cut.now.marks }
     {
         PhaseCursor {
             cursor: Cursor::new(program, cut.closed()),

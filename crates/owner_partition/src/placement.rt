@@ -43,7 +43,7 @@ pub fn check_placement(
     requires formed { IsWellFormed (tree_of program.now) }
     requires limits { IsWithinLimits (tree_of program.now) }
     requires given { IsTrue (list_all (is_anchor_given (tree_of program.now)) anchors.now) }
-    ensures { result_err result ≡ unplaced (tree_of program.now) cut.now workers anchors.now }
+    ensures { result_err result ≡ unplaced (tree_of program.now) cut.now.marks workers anchors.now }
 {
     for (phase, anchor) in anchors {
         check_anchor(program, cut, *phase, anchor, workers)?;
@@ -63,7 +63,7 @@ pub fn check_anchor(
     requires formed { IsWellFormed (tree_of program.now) }
     requires limits { IsWithinLimits (tree_of program.now) }
     requires given { IsTrue (is_given anchor.now.form (loops_of (tree_of program.now).items) (length (tree_of program.now).params)) }
-    ensures { result_err result ≡ misplaced (tree_of program.now) cut.now workers phase anchor.now }
+    ensures { result_err result ≡ misplaced (tree_of program.now) cut.now.marks workers phase anchor.now }
 {
     let mut ends = [(0, 0); MOST_STATEMENTS];
     check_from(program, cut, &mut ends, phase, anchor, workers)
@@ -82,7 +82,7 @@ fn check_from(
     requires limits { IsWithinLimits (tree_of program.now) }
     requires given { IsTrue (is_given anchor.now.form (loops_of (tree_of program.now).items) (length (tree_of program.now).params)) }
     requires ends { ends.old ≡ no_ends }
-    ensures { result_err result ≡ misplaced (tree_of program.now) cut.now workers phase anchor.now }
+    ensures { result_err result ≡ misplaced (tree_of program.now) cut.now.marks workers phase anchor.now }
 {
     let place = phase.saturating_sub(1);
     if seek(&program.items, cut.closed(), ends, &program.params, place) {

@@ -33,7 +33,7 @@ pub(crate) fn site_of<'a>(
 ) -> Option<Site<'a>>
     requires formed { IsWellFormed (tree_of program.now) }
     requires bare { rounds_of path.old ≡ [] }
-    ensures { MatchOption result (site_among (enters_outer cut.now) outer.now [] (tree_of program.now).items (number - 1) 1 ≡ None) (λ s. site_among (enters_outer cut.now) outer.now [] (tree_of program.now).items (number - 1) 1 ≡ Some (record { what = statement_of s.item.now; first = s.first; rounds = rounds_of path.new })) }
+    ensures { MatchOption result (site_among (enters_outer cut.now.marks) outer.now [] (tree_of program.now).items (number - 1) 1 ≡ None) (λ s. site_among (enters_outer cut.now.marks) outer.now [] (tree_of program.now).items (number - 1) 1 ≡ Some (record { what = statement_of s.item.now; first = s.first; rounds = rounds_of path.new })) }
 {
     let before = number.saturating_sub(1);
     site_among(&program.items, cut.closed(), outer, before, 1, path)

@@ -32,7 +32,7 @@ impl<'a> StaticPhase<'a> {
     /// no memory, and goes down the text once.
     pub fn at(program: &'a Program, cut: &Cut, number: u32) -> Option<Self>
         requires { IsWellFormed (tree_of program.now) }
-        ensures { MatchOption result (slice_get (placed (tree_of program.now) (enters_outer cut.now)) (number - 1) ≡ None) (λ s. slice_get (placed (tree_of program.now) (enters_outer cut.now)) (number - 1) ≡ Some (record { what = statement_of s.item.now; around = loops_round s })) }
+        ensures { MatchOption result (slice_get (placed (tree_of program.now) (enters_outer cut.now.marks)) (number - 1) ≡ None) (λ s. slice_get (placed (tree_of program.now) (enters_outer cut.now.marks)) (number - 1) ≡ Some (record { what = statement_of s.item.now; around = loops_round s })) }
     {
         let mut path = Path::new();
         let ones = [1; MOST_LOOPS];
@@ -43,7 +43,7 @@ impl<'a> StaticPhase<'a> {
     /// How many there are.
     pub fn count(program: &Program, cut: &Cut) -> u32
         requires { IsWellFormed (tree_of program.now) }
-        ensures { result ≡ length (placed (tree_of program.now) (enters_outer cut.now)) }
+        ensures { result ≡ length (placed (tree_of program.now) (enters_outer cut.now.marks)) }
     {
         phase_count(cut.closed(), &program.items)
     }

@@ -11,7 +11,7 @@ use Rattle.farkas_cert.specs.declared.certificate.Certificate.{Certificate}
 use Rattle.nest_tree.specs.Tree.{Head, Tree}
 use Rattle.nest_rows.proofs.Nesting.{all-append, all-weaker}
 use Rattle.owner_partition.specs.declared.anchor.Anchor.{Anchor}
-use Rattle.owner_partition.specs.declared.cut.Mark.{Mark}
+use Rattle.owner_partition.specs.Cuts.{Cutting}
 use Rattle.owner_partition.specs.Marks.{enters_outer}
 use Rattle.sync_plan.specs.Barriers.{barrier_plan}
 use Rattle.sync_plan.specs.declared.plan.Kind.TheVariants.{Barrier}
@@ -177,10 +177,10 @@ module _ (tree : Tree) (plan : Plan) (phases : List StaticPhase) (barriers : (k 
 
 -- ---- plans with a barrier in front of each phase
 
-barriers_there : (tree : Tree) (plan : Plan) → plan.kinds ≡ replicate (length plan.anchors) Barrier → wrong_field tree plan ≡ None → (k : ℕ) (x : StaticPhase) → slice_get (phases_of tree plan.cut) k ≡ Some x → slice_get plan.kinds k ≡ Some Barrier
+barriers_there : (tree : Tree) (plan : Plan) → plan.kinds ≡ replicate (length plan.anchors) Barrier → wrong_field tree plan ≡ None → (k : ℕ) (x : StaticPhase) → slice_get (phases_of tree plan.cut.marks) k ≡ Some x → slice_get plan.kinds k ≡ Some Barrier
 barriers_there tree plan kinds fits k x at =
-    let stop = stop_at (static_phases tree plan.cut) (phases_of tree plan.cut) k x (same_among (enters_outer plan.cut) [] [] tree.items (λ n h. h)) at in
-    let within = slice_get_within (static_phases tree plan.cut) k stop.0 stop.1 in
+    let stop = stop_at (static_phases tree plan.cut.marks) (phases_of tree plan.cut.marks) k x (same_among (enters_outer plan.cut.marks) [] [] tree.items (λ n h. h)) at in
+    let within = slice_get_within (static_phases tree plan.cut.marks) k stop.0 stop.1 in
     let many = (shaped tree plan fits).many_anchors in
     let long = length-replicate (length plan.anchors) Barrier in
     ap (λ ks. slice_get ks k) kinds
@@ -189,12 +189,12 @@ barriers_there tree plan kinds fits k x at =
 
 pub only_doall : (tree : Tree) (plan : Plan) → plan.kinds ≡ replicate (length plan.anchors) Barrier → wrong_field tree plan ≡ None → obligations_of tree plan ≡ doall_obligations tree plan
 only_doall tree plan kinds fits =
-    let phases = phases_of tree plan.cut in
+    let phases = phases_of tree plan.cut.marks in
     ap (λ ts. numbered_from 1 (flat_map (trips_tasks tree plan) phases ++ ts)) (none_of_slots tree plan phases (barriers_there tree plan kinds fits))
     ∙ ap (numbered_from 1) (append-nil (flat_map (trips_tasks tree plan) phases))
 
-pub barriers_accepted : (tree : Tree) (marks : List Mark) (anchors : List Anchor) (workers : ℕ) (certificates : List Certificate) → IsFit tree (barrier_plan marks anchors workers certificates) →
-    AreCertified (doall_obligations tree (barrier_plan marks anchors workers certificates)) certificates → IsAccepted tree (barrier_plan marks anchors workers certificates)
-barriers_accepted tree marks anchors workers certificates fits certified =
-    let plan = barrier_plan marks anchors workers certificates in
+pub barriers_accepted : (tree : Tree) (cut : Cutting) (anchors : List Anchor) (workers : ℕ) (certificates : List Certificate) → IsFit tree (barrier_plan cut anchors workers certificates) →
+    AreCertified (doall_obligations tree (barrier_plan cut anchors workers certificates)) certificates → IsAccepted tree (barrier_plan cut anchors workers certificates)
+barriers_accepted tree cut anchors workers certificates fits certified =
+    let plan = barrier_plan cut anchors workers certificates in
     record { fits = fits; certified = subst (λ os. AreCertified os certificates) (sym (only_doall tree plan refl (fit_shape tree plan fits))) certified }

@@ -114,23 +114,23 @@ conditions_three constants version (Rows rows) good = (and_parts (has_rows versi
 
 -- what a plan of a fitting shape has
 pub record ShapeParts (tree : Tree) (plan : Plan) : Type 0 where
-  pub anchors : length plan.anchors ≡ length (static_phases tree plan.cut)
-  pub kinds : length plan.kinds ≡ length (static_phases tree plan.cut)
+  pub anchors : length plan.anchors ≡ length (static_phases tree plan.cut.marks)
+  pub kinds : length plan.kinds ≡ length (static_phases tree plan.cut.marks)
   pub given_anchors : are_given_anchors (loops_of tree.items) (length tree.params) plan.anchors ≡ true
   pub given_kinds : are_given_kinds (loops_of tree.items) (length tree.params) plan.kinds ≡ true
   pub conditions : are_good_conditions (length tree.params) Three plan.conditions ≡ true
 
 pub shape_parts : (tree : Tree) (plan : Plan) → IsWellFormed tree → wrong_field tree plan ≡ None → ShapeParts tree plan
 shape_parts tree plan formed none =
-    let text = static_phases tree plan.cut in
+    let text = static_phases tree plan.cut.marks in
     let n = loops_of tree.items in
     let constants = length tree.params in
     let fits = shaped tree plan none in
-    let within = text_within tree plan.cut formed in
+    let within = text_within tree plan.cut.marks formed in
     record {
       anchors = fits.many_anchors;
       kinds = fits.many_kinds;
-      given_anchors = anchors_given n constants plan.cut text plan.anchors within fits.good_anchors fits.many_anchors;
+      given_anchors = anchors_given n constants plan.cut.marks text plan.anchors within fits.good_anchors fits.many_anchors;
       given_kinds = kinds_given n constants text plan.kinds within fits.good_kinds fits.many_kinds;
       conditions = conditions_three constants plan.version plan.conditions fits.conditions;
     }

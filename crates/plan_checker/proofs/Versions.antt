@@ -19,6 +19,7 @@ use Rattle.sync_plan.specs.declared.plan.Conditions.TheVariants.{Values, Rows}
 use Rattle.sync_plan.specs.declared.plan.Plan.{Plan}
 use Rattle.sync_plan.specs.declared.plan.Version.{Version}
 use Rattle.sync_plan.specs.declared.plan.Version.TheVariants.{One, Two}
+use Rattle.sync_plan.proofs.OwnVersions.{early_privates, early_sums, have_privates-alike, have_sums-alike}
 use Rattle.sync_plan.specs.Fit.{IsFit}
 use Rattle.sync_plan.specs.Shape.{are_good_conditions}
 use Rattle.comm_system.specs.Boundaries.{Boundary, Side, certain_boundaries}
@@ -120,7 +121,7 @@ seen_stricter tree plan slot us =
 
 plan_stricter : (tree : Tree) (plan : Plan) → AreStricter (tasks_of tree (in_version One plan)) (tasks_of tree (in_version Two plan))
 plan_stricter tree plan =
-    let phases = phases_of tree plan.cut in
+    let phases = phases_of tree plan.cut.marks in
     let trips = flat_map (trips_tasks tree plan) phases in
     let made = λ (version : Version) (slot : Slot). slot_tasks tree plan slot (slot_signature version plan.kinds phases slot) in
     stricter_append trips trips (flat_map (made One) (slots_of phases)) (flat_map (made Two) (slots_of phases)) (stricter_self trips)
@@ -157,11 +158,8 @@ same_conditions constants Values = refl
 same_conditions constants (Rows rows) = refl
 
 fits_alike : (tree : Tree) (plan : Plan) → IsFit tree (in_version One plan) → IsFit tree (in_version Two plan)
-fits_alike tree plan fits = by plan.conditions refl
-  where
-    by : (conditions : Conditions) → plan.conditions ≡ conditions → IsFit tree (in_version Two plan)
-    by Values is = subst (λ c. IsFit tree (record plan { version = Two; conditions = c })) (sym is) (subst (λ c. IsFit tree (record plan { version = One; conditions = c })) is fits)
-    by (Rows rows) is = subst (λ c. IsFit tree (record plan { version = Two; conditions = c })) (sym is) (subst (λ c. IsFit tree (record plan { version = One; conditions = c })) is fits)
+fits_alike tree plan fits =
+    rw (same_conditions (length tree.params) plan.conditions, have_sums-alike Two One early_sums plan.cut.marks tree.items, have_privates-alike Two One early_privates plan.cut.marks tree.items) fits
 
 -- where it fits, and has as many certificates as obligations, its failure is the first bad certificate
 failure_in : (tree : Tree) (plan : Plan) (bad : Option PlanRefusal) → IsFit tree plan → length plan.certificates ≤ length (obligations_of tree plan) → first_uncertified (obligations_of tree plan) plan.certificates ≡ bad → first_failure tree plan ≡ bad

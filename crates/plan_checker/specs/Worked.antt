@@ -1,5 +1,5 @@
 -- Worked refusals. The program is PARAMETER (N = ..), DO 10 I = 1, N with A(I) = I, DO 20 I = 1, N with B(I) = I, and PRINT *, B(1); the plan deals both loops in blocks of 2 to 3 workers, and has a barrier in front of each of the three phases.
-use Rattle.std.specs.Prelude.{ℕ, ℤ, pos, negsuc, [], ◌∷◌, Some, None, ◌≡◌, refl}
+use Rattle.std.specs.Prelude.{ℕ, ℤ, pos, negsuc, List, [], ◌∷◌, map, Some, None, ◌≡◌, refl}
 use Rattle.nest_tree.specs.declared.tree.Access.{Access}
 use Rattle.nest_tree.specs.declared.tree.Spread.TheVariants.{Block as BlockSpread}
 use Rattle.nest_tree.specs.Form.{Form}
@@ -8,7 +8,9 @@ use Rattle.nest_tree.specs.Tree.{loop_value, load, value, assign, print, Stateme
 use Rattle.owner_partition.specs.declared.anchor.Anchor.{Anchor}
 use Rattle.owner_partition.specs.declared.anchor.Dist.{Dist}
 use Rattle.owner_partition.specs.declared.anchor.Dist.TheVariants.{Block, Cyclic}
-use Rattle.owner_partition.specs.declared.cut.Mark.TheVariants.{Doall, Inner, Outer, Single}
+use Rattle.owner_partition.specs.Cuts.{Cutting}
+use Rattle.owner_partition.specs.declared.cut.Mark.{Mark}
+use Rattle.owner_partition.specs.declared.cut.Mark.TheVariants.{Doall, Sum, Inner, Outer, Single}
 use Rattle.sync_plan.specs.declared.plan.Conditions.TheVariants.{Values, Rows}
 use Rattle.sync_plan.specs.declared.plan.Kind.TheVariants.{Nothing, Producer, Barrier}
 use Rattle.sync_plan.specs.declared.plan.Plan.{Plan}
@@ -48,12 +50,16 @@ along n dist = record { form = in_loop n (negsuc 0); dist = dist }
 abbrev at_constant : ℤ → Anchor
 at_constant c = record { form = fixed c; dist = Cyclic }
 
+-- marks without private scalars
+abbrev marked_by : List Mark → Cutting
+marked_by marks = record { marks = marks; privates = map (λ m. []) marks }
+
 abbrev barriers : Plan
 barriers = record {
   version = One;
   conditions = Values;
   workers = 3;
-  cut = Doall ∷ Doall ∷ [];
+  cut = marked_by (Doall ∷ Doall ∷ []);
   anchors = along 1 (Block 2) ∷ along 2 (Block 2) ∷ at_constant (pos 0) ∷ [];
   kinds = Barrier ∷ Barrier ∷ Barrier ∷ [];
   certificates = [];
@@ -70,10 +76,10 @@ refused-no_worker = refl
 pub refused-workers : first_refusal (two_arrays 6) (record barriers { workers = 65 }) ≡ Some (Shape 1)
 refused-workers = refl
 
-pub refused-marks : first_refusal (two_arrays 6) (record barriers { cut = Doall ∷ [] }) ≡ Some (Shape 2)
+pub refused-marks : first_refusal (two_arrays 6) (record barriers { cut = marked_by (Doall ∷ []) }) ≡ Some (Shape 2)
 refused-marks = refl
 
-pub refused-inner_outside : first_refusal (two_arrays 6) (record barriers { cut = Inner ∷ Doall ∷ [] }) ≡ Some (Shape 3)
+pub refused-inner_outside : first_refusal (two_arrays 6) (record barriers { cut = marked_by (Inner ∷ Doall ∷ []) }) ≡ Some (Shape 3)
 refused-inner_outside = refl
 
 pub refused-anchors : first_refusal (two_arrays 6) (record barriers { anchors = along 1 (Block 2) ∷ [] }) ≡ Some (Shape 4)
@@ -82,7 +88,7 @@ refused-anchors = refl
 pub refused-kinds : first_refusal (two_arrays 6) (record barriers { kinds = [] }) ≡ Some (Shape 4)
 refused-kinds = refl
 
-pub refused-single_names_its_loop : first_refusal (two_arrays 6) (record barriers { cut = Single ∷ Doall ∷ [] }) ≡ Some (Shape 5)
+pub refused-single_names_its_loop : first_refusal (two_arrays 6) (record barriers { cut = marked_by (Single ∷ Doall ∷ []) }) ≡ Some (Shape 5)
 refused-single_names_its_loop = refl
 
 pub refused-no_block : first_refusal (two_arrays 6) (record barriers { anchors = along 1 (Block 0) ∷ along 2 (Block 2) ∷ at_constant (pos 0) ∷ [] }) ≡ Some (Shape 5)
@@ -95,11 +101,11 @@ pub refused-kind_names_a_loop : first_refusal (two_arrays 6) (record barriers { 
 refused-kind_names_a_loop = refl
 
 -- of two wrong fields the least is named
-pub refused-first_field : first_refusal (two_arrays 6) (record barriers { workers = 65; cut = [] }) ≡ Some (Shape 1)
+pub refused-first_field : first_refusal (two_arrays 6) (record barriers { workers = 65; cut = marked_by [] }) ≡ Some (Shape 1)
 refused-first_field = refl
 
 -- an Outer loop has a phase inside it, which may name it
-pub fits-outer : first_refusal (two_arrays 6) (record barriers { cut = Outer ∷ Doall ∷ [] }) ≡ None
+pub fits-outer : first_refusal (two_arrays 6) (record barriers { cut = marked_by (Outer ∷ Doall ∷ []) }) ≡ None
 unfolding no_ends
 fits-outer = refl
 

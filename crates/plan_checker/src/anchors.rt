@@ -5,26 +5,25 @@ ghost use Rattle.std.specs.List.{list_all, list_any};
 ghost use Rattle.nest_tree.specs.View.{statement_of, tree_of};
 ghost use Rattle.nest_tree.specs.WellFormed.{IsWellFormed, is_number_of, names_only};
 ghost use Rattle.owner_partition.specs.StaticPhases.{loops_round};
-ghost use Rattle.sync_plan.specs.Shape.{are_good_anchors, are_good_kinds, has_places, is_good_anchor, is_good_kind, own_loops, static_phases};
+ghost use Rattle.sync_plan.specs.Shape.{are_good_anchors, are_good_kinds, is_good_anchor, is_good_kind, own_loops, static_phases};
 ghost use Rattle.plan_checker.specs.Named.{with_own};
 
-use crate::marks::{is_doall, mark_of};
 use nest_tree::{Affine, Item, Program};
-use owner_partition::{Anchor, Cut, Dist, Mark, StaticPhase};
+use owner_partition::{Anchor, Cut, StaticPhase};
 use sync_plan::Kind;
 
 /// Whether the anchors of the static phases name only what they may, and have blocks of a length.
 pub(crate) fn are_good_anchors(program: &Program, cut: &Cut, anchors: &[Anchor]) -> bool
     requires formed { IsWellFormed (tree_of program.now) }
     requires few { length anchors.now < 2 ^ 32 }
-    ensures { result ≡ are_good_anchors (length (tree_of program.now).params) cut.now (static_phases (tree_of program.now) cut.now) anchors.now }
+    ensures { result ≡ are_good_anchors (length (tree_of program.now).params) cut.now.marks (static_phases (tree_of program.now) cut.now.marks) anchors.now }
 {
     let constants = constant_count(program);
     for (place, anchor) in anchors.iter().enumerate() {
         let Some(phase) = StaticPhase::at(program, cut, place as u32 + 1) else {
             return true;
         };
-        let own = own_loop(cut.as_slice(), phase.item);
+        let own = own_loop(cut, phase.item);
         if !is_good_anchor(constants, &phase, own, anchor) {
             return false;
         }
@@ -36,7 +35,7 @@ pub(crate) fn are_good_anchors(program: &Program, cut: &Cut, anchors: &[Anchor])
 pub(crate) fn are_good_kinds(program: &Program, cut: &Cut, kinds: &[Kind]) -> bool
     requires formed { IsWellFormed (tree_of program.now) }
     requires few { length kinds.now < 2 ^ 32 }
-    ensures { result ≡ are_good_kinds (length (tree_of program.now).params) (static_phases (tree_of program.now) cut.now) kinds.now }
+    ensures { result ≡ are_good_kinds (length (tree_of program.now).params) (static_phases (tree_of program.now) cut.now.marks) kinds.now }
 {
     let constants = constant_count(program);
     for (place, kind) in kinds.iter().enumerate() {
@@ -58,11 +57,11 @@ pub(crate) fn constant_count(program: &Program) -> usize
 }
 
 // The phase's own loop, where its anchor may name it.
-fn own_loop(marks: &[Mark], item: &Item) -> Option<u32>
-    ensures { (around : List ℕ) → own_loops marks.now (statement_of item.now) around ≡ with_own result around }
+fn own_loop(cut: &Cut, item: &Item) -> Option<u32>
+    ensures { (around : List ℕ) → own_loops cut.now.marks (statement_of item.now) around ≡ with_own result around }
 {
     match item {
-        Item::Loop(nest) if is_doall(mark_of(marks, nest.number)) => Some(nest.number),
+        Item::Loop(nest) if cut.is_doall(nest.number) => Some(nest.number),
         Item::Loop(_) | Item::Assign(..) | Item::Print(..) | Item::Continue(_) => None,
     }
 }
@@ -81,7 +80,7 @@ fn is_good_kind(constants: usize, phase: &StaticPhase, kind: &Kind) -> bool
 fn is_good_anchor(constants: usize, phase: &StaticPhase, own: Option<u32>, anchor: &Anchor) -> bool
     ensures { result ≡ is_good_anchor constants (with_own own (loops_round phase.now)) anchor.now }
 {
-    names_only(constants, phase, own, &anchor.form) && has_places(anchor.dist)
+    names_only(constants, phase, own, &anchor.form) && anchor.dist.has_places()
 }
 
 fn names_only(constants: usize, phase: &StaticPhase, own: Option<u32>, form: &Affine) -> bool
@@ -121,14 +120,4 @@ pub(crate) fn are_numbers_of(count: usize, pairs: &[(u32, i64)]) -> bool
         }
     }
     true
-}
-
-// A block has 1 to 2147483647 places.
-fn has_places(dist: Dist) -> bool
-    ensures { result ≡ has_places dist }
-{
-    match dist {
-        Dist::Block(length) => 1 <= length && length <= 2147483647,
-        Dist::Cyclic => true,
-    }
 }

@@ -6,7 +6,7 @@ ghost use Rattle.nest_tree.specs.Form.{dot, is_small, reach_within, rises_above}
 ghost use Rattle.nest_tree.specs.declared.tree.Parameter.{Parameter};
 ghost use Rattle.sync_plan.specs.Fit.{meets, unmet, unmet_among};
 ghost use Rattle.sync_plan.specs.declared.plan.Version.TheVariants.{Three};
-ghost use Rattle.sync_plan.specs.Shape.{are_good_conditions, has_rows, is_good_row};
+ghost use Rattle.sync_plan.specs.Shape.{are_good_conditions, is_good_row};
 
 use crate::anchors::are_numbers_of;
 use nest_tree::Parameter;
@@ -23,16 +23,7 @@ pub(crate) fn are_good_conditions(
 {
     match conditions {
         Conditions::Values => true,
-        Conditions::Rows(rows) => has_rows(version) && are_good_rows(constants, rows.as_slice()),
-    }
-}
-
-fn has_rows(version: Version) -> bool
-    ensures { result ≡ has_rows version }
-{
-    match version {
-        Version::One | Version::Two => false,
-        Version::Three => true,
+        Conditions::Rows(rows) => version.has_rows() && are_good_rows(constants, rows.as_slice()),
     }
 }
 

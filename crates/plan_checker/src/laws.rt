@@ -7,7 +7,7 @@ ghost use Rattle.nest_tree.specs.Tree.{Tree};
 ghost use Rattle.nest_tree.specs.WellFormed.{IsWellFormed};
 ghost use Rattle.nest_model.specs.Ranges.{IsInRange};
 ghost use Rattle.owner_partition.specs.declared.anchor.Anchor.{Anchor};
-ghost use Rattle.owner_partition.specs.declared.cut.Mark.{Mark};
+ghost use Rattle.owner_partition.specs.Cuts.{Cutting};
 ghost use Rattle.sync_plan.specs.declared.plan.Plan.{Plan};
 ghost use Rattle.sync_plan.specs.declared.plan.Version.TheVariants.{One, Two};
 ghost use Rattle.sync_plan.specs.Barriers.{barrier_plan};
@@ -35,7 +35,7 @@ pub fn accepted_plans_are_ordered()
 /// A plan with a barrier in front of each phase is accepted where it fits, each obligation of its
 /// Doall loops has a good certificate, and no certificate is left over.
 pub fn barrier_plans_are_accepted()
-    ensures { (tree : Tree) (marks : List Mark) (anchors : List Anchor) (workers : ℕ) (certificates : List Certificate) → let plan = barrier_plan marks anchors workers certificates in
+    ensures { (tree : Tree) (cut : Cutting) (anchors : List Anchor) (workers : ℕ) (certificates : List Certificate) → let plan = barrier_plan cut anchors workers certificates in
         IsFit tree plan → AreCertified (doall_obligations tree plan) certificates → IsAccepted tree plan }
 {}
 

@@ -5,8 +5,7 @@
 //! - [`accept`]: whether a plan is accepted for a program.
 //! - [`laws`]: a plan is accepted exactly where it has no failure, and accepted plans are ordered.
 //! - `certificates`: certificates, each against its obligation, side by side.
-//! - [`marks`]: the marks of loops.
-//! - `shape`, `anchors`, `conditions`: the fields of its shape.
+//! - `shape`, `marks`, `anchors`, `conditions`, `own`: the fields of its shape.
 //! - `places`: where its anchors lie, and who prints.
 #![tactic(auto)]
 
@@ -16,7 +15,8 @@ mod certificates;
 mod conditions;
 pub mod fit;
 pub mod laws;
-pub mod marks;
+mod marks;
+mod own;
 mod places;
 pub mod refusal;
 mod shape;

@@ -1,41 +1,19 @@
-// The marks of loops, and which marks a program's loops may have.
+// Which marks a program's loops may have.
 
 ghost use Rattle.std.specs.Prelude.{◌≡◌, ◌||◌};
 ghost use Rattle.nest_tree.specs.View.{statement_of, statements_from};
 ghost use Rattle.owner_partition.specs.Marks.{is_closed};
-ghost use Rattle.sync_plan.specs.Shape.{are_marked_well, fits_mark, is_doall, is_marked_well, mark_of};
+ghost use Rattle.sync_plan.specs.Shape.{are_marked_well, fits_mark, is_marked_well};
 
 use nest_tree::Item;
-use owner_partition::Mark;
-
-/// The mark of the loop with this number, from 1; a loop without one counts as Inner.
-pub fn mark_of(marks: &[Mark], number: u32) -> Mark
-    ensures { result ≡ mark_of marks.now number }
-{
-    let place = (number as usize).saturating_sub(1);
-    if place < marks.len() {
-        marks[place]
-    } else {
-        Mark::Inner
-    }
-}
-
-/// Whether a loop with this mark is a Doall loop.
-pub fn is_doall(mark: Mark) -> bool
-    ensures { result ≡ is_doall mark }
-{
-    match mark {
-        Mark::Doall => true,
-        Mark::Outer | Mark::Single | Mark::Inner => false,
-    }
-}
+use owner_partition::{Cut, Mark};
 
 // Whether a loop may have this mark, inside a phase or not.
 fn fits_mark(inside: bool, mark: Mark) -> bool
     ensures { result ≡ fits_mark inside mark }
 {
     match mark {
-        Mark::Outer | Mark::Doall | Mark::Single => !inside,
+        Mark::Outer | Mark::Doall | Mark::Sum | Mark::Single => !inside,
         Mark::Inner => inside,
     }
 }
@@ -50,11 +28,11 @@ fn is_in_phase(inside: bool, mark: Mark) -> bool
 /// Whether each loop in these statements has a mark that it may have, where they stand inside a
 /// phase or not.
 #[cycle(marked)]
-pub(crate) fn are_marked_well(marks: &[Mark], inside: bool, items: &[Item]) -> bool
-    ensures { result ≡ are_marked_well marks.now inside (statements_from items.now) }
+pub(crate) fn are_marked_well(cut: &Cut, inside: bool, items: &[Item]) -> bool
+    ensures { result ≡ are_marked_well cut.now.marks inside (statements_from items.now) }
 {
     for item in items {
-        if !is_marked_well(marks, inside, item) {
+        if !is_marked_well(cut, inside, item) {
             return false;
         }
     }
@@ -62,14 +40,14 @@ pub(crate) fn are_marked_well(marks: &[Mark], inside: bool, items: &[Item]) -> b
 }
 
 #[cycle(marked)]
-fn is_marked_well(marks: &[Mark], inside: bool, item: &Item) -> bool
-    ensures { result ≡ is_marked_well marks.now inside (statement_of item.now) }
+fn is_marked_well(cut: &Cut, inside: bool, item: &Item) -> bool
+    ensures { result ≡ is_marked_well cut.now.marks inside (statement_of item.now) }
 {
     match item {
         Item::Loop(nest) => {
-            let mark = mark_of(marks, nest.number);
+            let mark = cut.mark(nest.number);
             fits_mark(inside, mark)
-                && are_marked_well(marks, is_in_phase(inside, mark), &nest.items)
+                && are_marked_well(cut, is_in_phase(inside, mark), &nest.items)
         }
         Item::Assign(..) | Item::Print(..) | Item::Continue(_) => true,
     }

@@ -12,7 +12,6 @@ ghost use Rattle.sync_plan.specs.Shape.{static_phases, wrong_field};
 ghost use Rattle.sync_plan.specs.declared.plan.Kind.{Kind};
 ghost use Rattle.plan_checker.specs.Named.{are_given_anchors, are_given_kinds, is_given_kind};
 
-use crate::marks::{is_doall, mark_of};
 use nest_tree::{Affine, Item, Program};
 use owner_partition::{Anchor, Cut, Mark, Placement, StaticPhase, check_anchor};
 use sync_plan::{Kind, Plan};
@@ -25,7 +24,7 @@ pub(crate) fn check_places(program: &Program, plan: &Plan) -> Result<(), Placeme
     requires shape { wrong_field (tree_of program.now) plan.now ≡ None }
     requires anchors { length plan.now.anchors < 2 ^ 32 }
     requires kinds { length plan.now.kinds < 2 ^ 32 }
-    ensures { result_err result ≡ unplaced (tree_of program.now) plan.now.cut plan.now.workers (placed_anchors plan.now) }
+    ensures { result_err result ≡ unplaced (tree_of program.now) plan.now.cut.marks plan.now.workers (placed_anchors plan.now) }
 {
     check_phases(program, &plan.cut, plan.anchors.as_slice(), plan.workers)?;
     check_kinds(program, &plan.cut, plan.kinds.as_slice(), plan.workers)
@@ -41,7 +40,7 @@ fn check_phases(
     requires limits { IsWithinLimits (tree_of program.now) }
     requires few { length anchors.now < 2 ^ 32 }
     requires given { IsTrue (are_given_anchors (loops_of (tree_of program.now).items) (length (tree_of program.now).params) anchors.now) }
-    ensures { result_err result ≡ unplaced (tree_of program.now) cut.now workers (numbered_anchors 1 anchors.now) }
+    ensures { result_err result ≡ unplaced (tree_of program.now) cut.now.marks workers (numbered_anchors 1 anchors.now) }
 {
     for (place, anchor) in anchors.iter().enumerate() {
         check_anchor(program, cut, place as u32 + 1, anchor, workers)?;
@@ -54,7 +53,7 @@ fn check_kinds(program: &Program, cut: &Cut, kinds: &[Kind], workers: u32) -> Re
     requires limits { IsWithinLimits (tree_of program.now) }
     requires few { length kinds.now < 2 ^ 32 }
     requires given { IsTrue (are_given_kinds (loops_of (tree_of program.now).items) (length (tree_of program.now).params) kinds.now) }
-    ensures { result_err result ≡ unplaced (tree_of program.now) cut.now workers (kind_anchors 1 kinds.now) }
+    ensures { result_err result ≡ unplaced (tree_of program.now) cut.now.marks workers (kind_anchors 1 kinds.now) }
 {
     for (place, kind) in kinds.iter().enumerate() {
         check_kind(program, cut, place as u32 + 1, kind, workers)?;
@@ -73,7 +72,7 @@ fn check_kind(
     requires formed { IsWellFormed (tree_of program.now) }
     requires limits { IsWithinLimits (tree_of program.now) }
     requires given { IsTrue (is_given_kind (loops_of (tree_of program.now).items) (length (tree_of program.now).params) kind.now) }
-    ensures { (rest : List Kind) → option_or (result_err result) (unplaced (tree_of program.now) cut.now workers (kind_anchors (suc number) rest)) ≡ unplaced (tree_of program.now) cut.now workers (kind_anchors number (kind.now ∷ rest)) }
+    ensures { (rest : List Kind) → option_or (result_err result) (unplaced (tree_of program.now) cut.now.marks workers (kind_anchors (suc number) rest)) ≡ unplaced (tree_of program.now) cut.now.marks workers (kind_anchors number (kind.now ∷ rest)) }
 {
     match kind {
         Kind::Producer(anchor) => check_anchor(program, cut, number, anchor, workers),
@@ -88,35 +87,25 @@ fn check_kind(
 pub(crate) fn misplaced_print(program: &Program, cut: &Cut, anchors: &[Anchor]) -> Option<u32>
     requires formed { IsWellFormed (tree_of program.now) }
     requires few { length anchors.now < 2 ^ 32 }
-    ensures { result ≡ misplaced_print 1 cut.now (static_phases (tree_of program.now) cut.now) anchors.now }
+    ensures { result ≡ misplaced_print 1 cut.now.marks (static_phases (tree_of program.now) cut.now.marks) anchors.now }
 {
     for (place, anchor) in anchors.iter().enumerate() {
         let number = place as u32 + 1;
         let Some(phase) = StaticPhase::at(program, cut, number) else {
             return None;
         };
-        if is_misplaced(cut.as_slice(), phase.item, &anchor.form) {
+        if is_misplaced(cut, phase.item, &anchor.form) {
             return Some(number);
         }
     }
     None
 }
 
-// Whether a PRINT stands in a static phase that is a Doall loop or has another form than 0.
-fn is_misplaced(marks: &[Mark], item: &Item, form: &Affine) -> bool
-    ensures { result ≡ (has_print (statement_of item.now) && (is_dealt marks.now (statement_of item.now) || not (is_zero_form form.now))) }
+// Whether a PRINT stands in a static phase that is dealt or has another form than 0.
+fn is_misplaced(cut: &Cut, item: &Item, form: &Affine) -> bool
+    ensures { result ≡ (has_print (statement_of item.now) && (is_dealt cut.now.marks (statement_of item.now) || not (is_zero_form form.now))) }
 {
-    item.has_print() && (is_dealt(marks, item) || !is_zero_form(form))
-}
-
-// Whether a static phase is a Doall loop.
-fn is_dealt(marks: &[Mark], item: &Item) -> bool
-    ensures { result ≡ is_dealt marks.now (statement_of item.now) }
-{
-    match item {
-        Item::Loop(nest) => is_doall(mark_of(marks, nest.number)),
-        Item::Assign(..) | Item::Print(..) | Item::Continue(_) => false,
-    }
+    item.has_print() && (cut.is_dealt(item) || !is_zero_form(form))
 }
 
 // Whether a form is the constant 0.

@@ -1,13 +1,14 @@
 // The shape of a plan.
 
-ghost use Rattle.std.specs.Prelude.{◌≡◌, ◌<◌, ◌^◌, None, length};
+ghost use Rattle.std.specs.Prelude.{◌≡◌, ◌<◌, ◌^◌, None, Some, if◌then◌else◌, length, not};
 ghost use Rattle.nest_tree.specs.View.{tree_of};
 ghost use Rattle.nest_tree.specs.WellFormed.{IsWellFormed};
-ghost use Rattle.sync_plan.specs.Shape.{wrong_field};
+ghost use Rattle.sync_plan.specs.Shape.{have_good_sums, is_privately_good, wrong_field};
 
 use crate::anchors::{are_good_anchors, are_good_kinds, constant_count};
 use crate::conditions::are_good_conditions;
 use crate::marks::are_marked_well;
+use crate::own::{have_good_privates, have_good_sums};
 use nest_tree::Program;
 use owner_partition::StaticPhase;
 use sync_plan::Plan;
@@ -27,7 +28,7 @@ pub(crate) fn wrong_field(program: &Program, plan: &Plan) -> Option<u32>
         Some(1)
     } else if marks.len() != program.loop_count() as usize {
         Some(2)
-    } else if !are_marked_well(marks, false, &program.items) {
+    } else if !are_marked_well(&plan.cut, false, &program.items) {
         Some(3)
     } else if anchors.len() != phases || kinds.len() != phases {
         Some(4)
@@ -37,6 +38,23 @@ pub(crate) fn wrong_field(program: &Program, plan: &Plan) -> Option<u32>
         Some(6)
     } else if !are_good_conditions(constant_count(program), plan.version, &plan.conditions) {
         Some(8)
+    } else {
+        wrong_scalars(program, plan)
+    }
+}
+
+// The field of the own scalars of loops that is wrong, if one is.
+fn wrong_scalars(program: &Program, plan: &Plan) -> Option<u32>
+    requires { IsWellFormed (tree_of program.now) }
+    ensures { result ≡ (if not (have_good_sums plan.now.version plan.now.cut.marks (tree_of program.now).items) then Some 9 else if not (is_privately_good plan.now.version plan.now.cut.marks (tree_of program.now).items) then Some 10 else None) }
+{
+    let lists = plan.cut.privates();
+    if !have_good_sums(plan.version, &plan.cut, &program.items) {
+        Some(9)
+    } else if lists.len() != loop_count(&program.items)
+        || !have_good_privates(plan.version, &plan.cut, &program.items)
+    {
+        Some(10)
     } else {
         None
     }

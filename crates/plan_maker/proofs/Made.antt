@@ -68,7 +68,7 @@ module _ (tree : Tree) (base : Plan) (kinds : List Kind) (certificates : List Ce
 
   all-tasks : map (λ (q : Asked). q.task) (asked_under tree base kinds) ≡ tasks_of tree found
   all-tasks =
-      let phases = phases_of tree base.cut in
+      let phases = phases_of tree base.cut.marks in
       let trips = map-flat (λ (q : Asked). q.task) (trips_asked tree base) (trips_tasks tree found) trips-tasks phases in
       let slots = map-flat (λ (q : Asked). q.task) (λ slot. slot_asked tree base slot (slot_signature Two kinds phases slot)) (λ slot. slot_tasks tree found slot (slot_signature base.version kinds phases slot))
       (λ slot. slot-tasks slot (slot_signature Two kinds phases slot) ∙ ap (λ v. slot_tasks tree found slot (slot_signature v kinds phases slot)) (sym two)) (slots_of phases) in
@@ -81,7 +81,7 @@ module _ (tree : Tree) (base : Plan) (kinds : List Kind) (certificates : List Ce
   -- what is asked of the plan with other kinds
   all-asked : (ks : List Kind) → asked_under tree base ks ≡ all_asked tree (record found { kinds = ks })
   all-asked ks =
-      let phases = phases_of tree base.cut in
+      let phases = phases_of tree base.cut.marks in
       ap₂ (λ a b. a ++ b) (trips_same tree base (record found { kinds = ks }) refl refl phases)
       (flat-same (λ slot. slot_asked tree base slot (slot_signature Two ks phases slot)) (λ slot. slot_asked tree (record found { kinds = ks }) slot (slot_signature base.version ks phases slot))
       (λ slot. slot-same ks slot (slot_signature Two ks phases slot) ∙ ap (λ v. slot_asked tree (record found { kinds = ks }) slot (slot_signature v ks phases slot)) (sym two)) (slots_of phases))
@@ -142,7 +142,7 @@ reasoned tree vs marks long all is = record {
 }
 
 -- the same with a barrier in front of each phase
-pub barriers_are : (tree : Tree) (workers : ℕ) (marks : List Mark) (base plan : Plan) (certificates : List Certificate) → base ≡ barrier_plan marks (maker_anchors tree marks workers) workers [] → plan ≡ barrier_plan base.cut base.anchors workers certificates →
+pub barriers_are : (tree : Tree) (workers : ℕ) (marks : List Mark) (base plan : Plan) (certificates : List Certificate) → base ≡ barrier_plan marks (maker_anchors tree marks workers) workers [] → plan ≡ barrier_plan base.cut.marks base.anchors workers certificates →
     IsFit tree base → AreRefuted (all_trips_asked tree base) certificates → IsReasonedCut tree marks → IsBarrierPlan tree workers plan
 barriers_are tree workers marks base plan certificates base-is plan-is fit refuted cut =
     let anchors = maker_anchors tree marks workers in

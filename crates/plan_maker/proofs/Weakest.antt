@@ -44,20 +44,20 @@ memories_more tree plan slots memories k m lt none inv =
     zip_more (IsMemory tree plan) slot_seen slots memories k there.0 m there.1 inv new
 
 module _ (g : Ground) (trips : List Certificate) (candidates : List (List Kind)) (taken : List ℕ) where
-  pub weakest_is : (w : Weakest) → AreRefuted (all_trips_asked (tree_of g.program.now) g.plan.now) trips → map phase_seen g.phases.now ≡ phases_of (tree_of g.program.now) g.plan.now.cut →
-      ((ks : List Kind) → slots_asked (tree_of g.program.now) g.plan.now ks (phases_of (tree_of g.program.now) g.plan.now.cut) (map slot_seen g.slots.now) ≡ slots_asked (tree_of g.program.now) g.plan.now ks (phases_of (tree_of g.program.now) g.plan.now.cut) (slots_of (phases_of (tree_of g.program.now) g.plan.now.cut))) → candidates ≡ candidates_in (tree_of g.program.now) g.plan.now → w.kinds.items ≡ kinds_taken candidates taken →
+  pub weakest_is : (w : Weakest) → AreRefuted (all_trips_asked (tree_of g.program.now) g.plan.now) trips → map phase_seen g.phases.now ≡ phases_of (tree_of g.program.now) g.plan.now.cut.marks →
+      ((ks : List Kind) → slots_asked (tree_of g.program.now) g.plan.now ks (phases_of (tree_of g.program.now) g.plan.now.cut.marks) (map slot_seen g.slots.now) ≡ slots_asked (tree_of g.program.now) g.plan.now ks (phases_of (tree_of g.program.now) g.plan.now.cut.marks) (slots_of (phases_of (tree_of g.program.now) g.plan.now.cut.marks))) → candidates ≡ candidates_in (tree_of g.program.now) g.plan.now → w.kinds.items ≡ kinds_taken candidates taken →
       HasMoreCertificates (slots_asked (tree_of g.program.now) g.plan.now w.kinds.items (map phase_seen g.phases.now) (map slot_seen g.slots.now)) trips w.certificates.items →
       AllZip (IsTrialReason g candidates taken) (weaker_from 0 taken) w.reasons.items → IsWeakest (tree_of g.program.now) g.plan.now w
   weakest_is w refuted phases slots cands kinds more reasons =
       let tree = tree_of g.program.now in
       let plan = g.plan.now in
-      let under : (ks : List Kind) → slots_asked tree plan ks (map phase_seen g.phases.now) (map slot_seen g.slots.now) ≡ slots_asked tree plan ks (phases_of tree plan.cut) (slots_of (phases_of tree plan.cut)) =
+      let under : (ks : List Kind) → slots_asked tree plan ks (map phase_seen g.phases.now) (map slot_seen g.slots.now) ≡ slots_asked tree plan ks (phases_of tree plan.cut.marks) (slots_of (phases_of tree plan.cut.marks)) =
       λ ks. ap (λ ps. slots_asked tree plan ks ps (map slot_seen g.slots.now)) phases ∙ slots ks in
-      let all = refuted-append (all_trips_asked tree plan) (slots_asked tree plan w.kinds.items (phases_of tree plan.cut) (slots_of (phases_of tree plan.cut))) trips more.more refuted (subst (λ qs. AreRefuted qs more.more) (under w.kinds.items) more.refuted) in
+      let all = refuted-append (all_trips_asked tree plan) (slots_asked tree plan w.kinds.items (phases_of tree plan.cut.marks) (slots_of (phases_of tree plan.cut.marks))) trips more.more refuted (subst (λ qs. AreRefuted qs more.more) (under w.kinds.items) more.refuted) in
       let weak : (c : Choice) (r : PhaseReason) → IsTrialReason g candidates taken c r → IsWeakReason tree plan taken c r =
       λ c r h.
       let ks = kinds_taken candidates (slice_set taken c.phase c.place) in
-      let behind = cause-behind (all_trips_asked tree plan) (slots_asked tree plan ks (phases_of tree plan.cut) (slots_of (phases_of tree plan.cut))) trips r.cause refuted (subst (λ qs. IsCause qs r.cause) (under ks) h.cause) in
+      let behind = cause-behind (all_trips_asked tree plan) (slots_asked tree plan ks (phases_of tree plan.cut.marks) (slots_of (phases_of tree plan.cut.marks))) trips r.cause refuted (subst (λ qs. IsCause qs r.cause) (under ks) h.cause) in
       record {
         phase = h.phase;
         kind = h.kind ∙ ap (λ cs. candidate cs c) cands;

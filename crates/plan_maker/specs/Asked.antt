@@ -44,11 +44,11 @@ slot_asked tree plan slot (waits left right producers) = map (asked (owners_deal
 
 -- of a plan
 abbrev pub all_trips_asked : Tree → Plan → List Asked
-all_trips_asked tree plan = flat_map (trips_asked tree plan) (phases_of tree plan.cut)
+all_trips_asked tree plan = flat_map (trips_asked tree plan) (phases_of tree plan.cut.marks)
 
 abbrev pub all_slots_asked : Tree → Plan → List Asked
 all_slots_asked tree plan =
-    let phases = phases_of tree plan.cut in
+    let phases = phases_of tree plan.cut.marks in
     flat_map (λ slot. slot_asked tree plan slot (slot_signature plan.version plan.kinds phases slot)) (slots_of phases)
 
 abbrev pub all_asked : Tree → Plan → List Asked

@@ -33,12 +33,12 @@ pub record IsMade (tree : Tree) (workers : ℕ) (plan : Plan) (reasons : Reasons
   pub conditions : plan.conditions ≡ Values
   pub workers_are : plan.workers ≡ workers
   pub accepted : IsAccepted tree plan
-  pub cut : IsReasonedCut tree plan.cut
-  pub loops : AllZip (IsLoopReason tree) (open_loops 1 plan.cut) reasons.loops.items
-  pub anchors : plan.anchors ≡ maker_anchors tree plan.cut workers
+  pub cut : IsReasonedCut tree plan.cut.marks
+  pub loops : AllZip (IsLoopReason tree) (open_loops 1 plan.cut.marks) reasons.loops.items
+  pub anchors : plan.anchors ≡ maker_anchors tree plan.cut.marks workers
   pub taken : List ℕ
-  pub kinds : plan.kinds ≡ kinds_taken (candidates_of tree plan.cut plan.anchors) taken
-  pub phases : AllZip (IsPhaseReason tree plan (candidates_of tree plan.cut plan.anchors) taken) (weaker_from 0 taken) reasons.phases.items
+  pub kinds : plan.kinds ≡ kinds_taken (candidates_of tree plan.cut.marks plan.anchors) taken
+  pub phases : AllZip (IsPhaseReason tree plan (candidates_of tree plan.cut.marks plan.anchors) taken) (weaker_from 0 taken) reasons.phases.items
 
 -- the plan with the same cut and anchors and a barrier in front of each phase
 pub record IsBarrierPlan (tree : Tree) (workers : ℕ) (plan : Plan) : Type 0 where
@@ -46,8 +46,8 @@ pub record IsBarrierPlan (tree : Tree) (workers : ℕ) (plan : Plan) : Type 0 wh
   pub conditions : plan.conditions ≡ Values
   pub workers_are : plan.workers ≡ workers
   pub accepted : IsAccepted tree plan
-  pub cut : IsReasonedCut tree plan.cut
-  pub anchors : plan.anchors ≡ maker_anchors tree plan.cut workers
+  pub cut : IsReasonedCut tree plan.cut.marks
+  pub anchors : plan.anchors ≡ maker_anchors tree plan.cut.marks workers
   pub kinds : plan.kinds ≡ replicate (length plan.anchors) Barrier
 
 -- a plan with these kinds and certificates

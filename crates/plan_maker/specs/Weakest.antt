@@ -14,10 +14,10 @@ use Rattle.plan_maker.specs.Trials.{slots_asked}
 
 -- what is asked of a plan with other kinds
 abbrev pub asked_under : Tree → Plan → List Kind → List Asked
-asked_under tree plan kinds = all_trips_asked tree plan ++ slots_asked tree plan kinds (phases_of tree plan.cut) (slots_of (phases_of tree plan.cut))
+asked_under tree plan kinds = all_trips_asked tree plan ++ slots_asked tree plan kinds (phases_of tree plan.cut.marks) (slots_of (phases_of tree plan.cut.marks))
 
 abbrev pub candidates_in : Tree → Plan → List (List Kind)
-candidates_in tree plan = candidates_of tree plan.cut plan.anchors
+candidates_in tree plan = candidates_of tree plan.cut.marks plan.anchors
 
 -- with another choice a system is kept: this is the first
 pub record IsWeakReason (tree : Tree) (plan : Plan) (taken : List ℕ) (c : Choice) (reason : PhaseReason) : Type 0 where

@@ -28,7 +28,7 @@ pub fn anchors_of(
     requires formed { IsWellFormed (tree_of program.now) }
     requires limits { IsWithinLimits (tree_of program.now) }
     requires some { 1 ≤ workers }
-    ensures { IfOk result (λ anchors. anchors.items ≡ maker_anchors (tree_of program.now) cut.now workers) }
+    ensures { IfOk result (λ anchors. anchors.items ≡ maker_anchors (tree_of program.now) cut.now.marks workers) }
 {
     let mut anchors = Vec::new(alloc);
     for place in 0..StaticPhase::count(program, cut) {
@@ -53,8 +53,8 @@ fn phase_anchor(
     requires formed { IsWellFormed (tree_of program.now) }
     requires limits { IsWithinLimits (tree_of program.now) }
     requires some { 1 ≤ workers }
-    requires phase { slice_get (placed (tree_of program.now) (enters_outer cut.now)) (number - 1) ≡ Some (record { what = statement_of phase.now.item.now; around = loops_round phase.now }) }
-    ensures { IfOk result (λ a. a ≡ phase_anchor (tree_of program.now) cut.now workers number (record { what = statement_of phase.now.item.now; around = loops_round phase.now })) }
+    requires phase { slice_get (placed (tree_of program.now) (enters_outer cut.now.marks)) (number - 1) ≡ Some (record { what = statement_of phase.now.item.now; around = loops_round phase.now }) }
+    ensures { IfOk result (λ a. a ≡ phase_anchor (tree_of program.now) cut.now.marks workers number (record { what = statement_of phase.now.item.now; around = loops_round phase.now })) }
 {
     if phase.item.has_print() {
         return Ok(first_processor(alloc));
@@ -82,7 +82,7 @@ fn found_anchor(
     requires limits { IsWithinLimits (tree_of seat.program.now) }
     requires some { 1 ≤ seat.workers }
     requires own { IfSome seat.own (λ n. (1 ≤ n) × (n ≤ loops_of (tree_of seat.program.now).items)) }
-    ensures { IfOk result (λ o. o ≡ found_anchor seat.entry cut.now number (statement_of seat.entry.phase.now.item.now)) }
+    ensures { IfOk result (λ o. o ≡ found_anchor seat.entry cut.now.marks number (statement_of seat.entry.phase.now.item.now)) }
 {
     if let Some(anchor) = stored_anchor(alloc, seat, seat.phase.item)? {
         return Ok(Some(anchor));
@@ -95,7 +95,7 @@ fn placed(program: &Program, cut: &Cut, workers: u32, number: u32, anchor: Ancho
     requires formed { IsWellFormed (tree_of program.now) }
     requires limits { IsWithinLimits (tree_of program.now) }
     requires given { IsTrue (is_given anchor.form (loops_of (tree_of program.now).items) (length (tree_of program.now).params)) }
-    ensures { result ≡ placed_anchor (tree_of program.now) cut.now workers number (Some anchor) }
+    ensures { result ≡ placed_anchor (tree_of program.now) cut.now.marks workers number (Some anchor) }
 {
     match check_anchor(program, cut, number, &anchor, workers) {
         Ok(()) => anchor,
@@ -216,7 +216,7 @@ fn own_anchor(
     requires limits { IsWithinLimits (tree_of seat.program.now) }
     requires some { 1 ≤ seat.workers }
     requires own { IfSome seat.own (λ n. (1 ≤ n) × (n ≤ loops_of (tree_of seat.program.now).items)) }
-    ensures { IfOk result (λ o. o ≡ good_own_anchor seat.entry cut.now number) }
+    ensures { IfOk result (λ o. o ≡ good_own_anchor seat.entry cut.now.marks number) }
 {
     let Some(own) = seat.own else {
         return Ok(None);
@@ -250,7 +250,7 @@ fn span_of(
     requires limits { IsWithinLimits (tree_of program.now) }
     requires one { 1 ≤ number }
     requires there { number ≤ loops_of (tree_of program.now).items }
-    ensures { IfOk result (λ span. span ≡ span_of number (phase_ends (tree_of program.now) cut.now (phase - 1))) }
+    ensures { IfOk result (λ span. span ≡ span_of number (phase_ends (tree_of program.now) cut.now.marks (phase - 1))) }
 {
     let anchor = Anchor {
         form: loop_value(alloc, number)?,

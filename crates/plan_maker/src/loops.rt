@@ -75,11 +75,11 @@ fn judge_loop(
 
 // A cut in which this loop alone is dealt out.
 fn alone(alloc: Global, program: &Program, number: u32) -> Result<Cut, AllocError>
-    ensures { IfOk result (λ cut. cut ≡ alone_marks (tree_of program.now) number) }
+    ensures { IfOk result (λ cut. cut ≡ plain_cut (alone_marks (tree_of program.now) number)) }
 {
     let mut marks = Vec::new(alloc);
     push_alone_among(&mut marks, number, &program.items)?;
-    Cut::new(alloc, marks)
+    Cut::plain(alloc, marks)
 }
 
 // A plan with this cut in which processor 0 does all. Where it doesn't fit it is as if memory had
@@ -87,7 +87,7 @@ fn alone(alloc: Global, program: &Program, number: u32) -> Result<Cut, AllocErro
 fn serial(alloc: Global, program: &Program, cut: Cut) -> Result<Plan, AllocError>
     requires formed { IsWellFormed (tree_of program.now) }
     requires limits { IsWithinLimits (tree_of program.now) }
-    ensures cut { IfOk result (λ plan. plan.cut ≡ cut) }
+    ensures cut { IfOk result (λ plan. plan.cut.marks ≡ cut) }
     ensures conditions { IfOk result (λ plan. plan.conditions ≡ Values) }
     ensures fits { IfOk result (λ plan. IsFit (tree_of program.now) plan) }
 {
@@ -168,7 +168,7 @@ fn is_open(mark: Mark) -> bool
 {
     match mark {
         Mark::Outer | Mark::Single => true,
-        Mark::Doall | Mark::Inner => false,
+        Mark::Doall | Mark::Sum | Mark::Inner => false,
     }
 }
 

@@ -143,7 +143,7 @@ fn make_cut(
     let mut marks = Vec::new(alloc);
     push_marks(&mut marks, barred.as_slice(), &program.items)?;
     let loops = loop_reasons(alloc, marks.as_slice(), verdicts.as_slice())?;
-    let cut = Cut::new(alloc, marks)?;
+    let cut = Cut::plain(alloc, marks)?;
     Ok((cut, loops))
 }
 

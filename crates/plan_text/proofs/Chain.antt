@@ -11,12 +11,12 @@ use Rattle.sync_plan.specs.declared.plan.Conditions.TheVariants.{Values, Rows}
 use Rattle.sync_plan.specs.declared.plan.Kind.{Kind}
 use Rattle.sync_plan.specs.declared.plan.Plan.{Plan}
 use Rattle.sync_plan.specs.declared.plan.Version.{Version}
-use Rattle.sync_plan.specs.declared.plan.Version.TheVariants.{One, Two, Three}
+use Rattle.sync_plan.specs.declared.plan.Version.TheVariants.{One, Two, Three, Four, Five}
 use Rattle.plan_text.specs.declared.syntax.PlanSyntax.{PlanSyntax}
 use Rattle.plan_text.specs.declared.syntax.PlanSyntax.TheVariants.{Line, NoMemory}
 use Rattle.plan_text.specs.Loose.{end_line}
 use Rattle.plan_text.specs.Parts.{plan_of}
-use Rattle.plan_text.specs.PlanText.{HasText, alone, are_certificates_shown, are_conditions_shown, are_phases_shown, cert_lines, condition_lines, counted, is_32, plan_lines, text_of, zipped}
+use Rattle.plan_text.specs.PlanText.{is_mark_shown, HasText, alone, are_certificates_shown, are_conditions_shown, are_phases_shown, cert_lines, condition_lines, counted, is_32, plan_lines, text_of, zipped}
 use Rattle.plan_text.specs.Stops.{IsAlienLine, RefusesLine, RefusesPart, Stops}
 use Rattle.plan_text.specs.Words.{count_line, loop_line, phase_line, version_line}
 use Rattle.plan_text.proofs.Items.{line_refused, one_line}
@@ -32,6 +32,8 @@ values-shown : (v : Version) → are_conditions_shown v Values ≡ true
 values-shown One = refl
 values-shown Two = refl
 values-shown Three = refl
+values-shown Four = refl
+values-shown Five = refl
 
 pub conditions-free : (v : Version) → IsFree (condition_lines v) (λ c. are_conditions_shown v c ≡ true)
 conditions-free One Values Values r s h h' e = refl
@@ -41,6 +43,8 @@ conditions-free Two Values Values r s h h' e = refl
 conditions-free Two Values (Rows rows) r s h h' e = absurd (cc)
 conditions-free Two (Rows rows) c r s h h' e = absurd (cc)
 conditions-free Three x y r s h h' e = where-free x y r s h h' e
+conditions-free Four x y r s h h' e = where-free x y r s h h' e
+conditions-free Five x y r s h h' e = where-free x y r s h h' e
 
 -- plans that have the parts that were read
 abbrev V1 : Version → Plan → Type 0
@@ -53,7 +57,7 @@ abbrev V3 : Version → ℕ → Conditions → Plan → Type 0
 V3 v w c x = V2 v w x × (x.conditions ≡ c)
 
 abbrev V4 : Version → ℕ → Conditions → List Mark → Plan → Type 0
-V4 v w c ms x = V3 v w c x × (x.cut ≡ ms)
+V4 v w c ms x = V3 v w c x × (x.cut.marks ≡ ms)
 
 abbrev V5 : Version → ℕ → Conditions → List Mark → List (Kind × Anchor) → Plan → Type 0
 V5 v w c ms ps x = V4 v w c ms x × (zipped x.kinds x.anchors ≡ ps)
@@ -65,7 +69,7 @@ module _ (b0 : List ℕ) (t0 : ℕ) where
   pub stop0 : (e : PlanSyntax) → RefusesLine version_line (λ v. true) b0 t0 e → RefusesPart plan_lines HasText b0 t0 e
   stop0 e h = refusal_map (λ v. version_line v ∷ []) (λ v. true ≡ true) b0 t0 plan_lines HasText b0 t0
       (stops_first plan_lines HasText (λ p. p.version) (λ v. version_line v ∷ []) (λ v. true ≡ true) from_workers (λ x good. refl) (λ x good. refl) version-free
-      (λ v. plan_of v 0 Values [] [] []) (λ v good. plan_of-shown v 0 Values [] [] [] refl (values-shown v) refl refl refl) (λ v. refl) b0 t0)
+      (λ v. plan_of v 0 Values [] [] []) (λ v good. plan_of-shown v 0 Values [] [] [] refl (values-shown v) refl refl refl refl) (λ v. refl) b0 t0)
       e (line_refused version_line (λ v. true) One refl b0 t0 e h)
 
   module _ (v : Version) (b1 : List ℕ) (t1 : ℕ) (is0 : b0 ≡ version_line v ++ (10 ∷ b1)) (next0 : t1 ≡ t0 + 1) where
@@ -75,7 +79,7 @@ module _ (b0 : List ℕ) (t0 : ℕ) where
     pub stop1 : (e : PlanSyntax) → RefusesLine (count_line (codes "WORKERS")) is_32 b1 t1 e → RefusesPart plan_lines HasText b0 t0 e
     stop1 e h = refusal_map (λ n. count_line (codes "WORKERS") n ∷ []) (λ n. is_32 n ≡ true) b1 t1 plan_lines HasText b0 t0
         (λ n s. up1 n (stops_first from_workers (V1 v) (λ p. p.workers) (λ n. count_line (codes "WORKERS") n ∷ []) (λ n. is_32 n ≡ true) from_conditions (λ x good. refl) (λ x good. good.0.workers) workers-free
-        (λ w. plan_of v w Values [] [] []) (λ w good. (plan_of-shown v w Values [] [] [] good (values-shown v) refl refl refl, refl)) (λ w. refl) b1 t1 n s))
+        (λ w. plan_of v w Values [] [] []) (λ w good. (plan_of-shown v w Values [] [] [] good (values-shown v) refl refl refl refl, refl)) (λ w. refl) b1 t1 n s))
         e (line_refused (count_line (codes "WORKERS")) is_32 0 refl b1 t1 e h)
 
     module _ (w : ℕ) (hw : is_32 w ≡ true) (b2 : List ℕ) (t2 : ℕ) (is1 : b1 ≡ count_line (codes "WORKERS") w ++ (10 ∷ b2)) (next1 : t2 ≡ t1 + 1) where
@@ -91,7 +95,7 @@ module _ (b0 : List ℕ) (t0 : ℕ) where
       pub stop2 : (e : PlanSyntax) → RefusesPart (condition_lines v) (λ c. are_conditions_shown v c ≡ true) b2 t2 e → RefusesPart plan_lines HasText b0 t0 e
       stop2 = refusal_map (condition_lines v) (λ c. are_conditions_shown v c ≡ true) b2 t2 plan_lines HasText b0 t0
           (λ n s. up2 n (stops_first from_conditions (V2 v w) (λ p. p.conditions) (condition_lines v) (λ c. are_conditions_shown v c ≡ true) from_loops split2 parts2 (conditions-free v)
-          (λ c. plan_of v w c [] [] []) (λ c good. ((plan_of-shown v w c [] [] [] hw good refl refl refl, refl), refl)) (λ c. refl) b2 t2 n s))
+          (λ c. plan_of v w c [] [] []) (λ c good. ((plan_of-shown v w c [] [] [] hw good refl refl refl refl, refl), refl)) (λ c. refl) b2 t2 n s))
 
       module _ (c : Conditions) (hc : are_conditions_shown v c ≡ true) (b3 : List ℕ) (t3 : ℕ) (is2 : b2 ≡ text_of (condition_lines v c) ++ b3) (next2 : t3 ≡ t2 + length (condition_lines v c)) where
         up3 : (n : ℕ) → Stops from_loops (V3 v w c) b3 t3 n → Stops plan_lines HasText b0 t0 n
@@ -99,20 +103,23 @@ module _ (b0 : List ℕ) (t0 : ℕ) where
 
         pub stop3 : (e : PlanSyntax) → RefusesPart (counted (codes "LOOPS") (alone loop_line)) AreMarks b3 t3 e → RefusesPart plan_lines HasText b0 t0 e
         stop3 = refusal_map (counted (codes "LOOPS") (alone loop_line)) AreMarks b3 t3 plan_lines HasText b0 t0
-            (λ n s. up3 n (stops_first from_loops (V3 v w c) (λ p. p.cut) (counted (codes "LOOPS") (alone loop_line)) AreMarks from_phases (λ x good. refl) (λ x good. marks-shown x.cut good.0.0.0.loops) marks-free
-            (λ ms. plan_of v w c ms [] []) (λ ms good. (((plan_of-shown v w c ms [] [] hw hc (and_parts (is_32 (length ms)) (list_all (λ m. true) ms) good).0 refl refl, refl), refl), refl)) (λ ms. refl) b3 t3 n s))
+            (λ n s. up3 n (stops_first from_loops (V3 v w c) (λ p. p.cut.marks) (counted (codes "LOOPS") (alone loop_line)) AreMarks from_phases (λ x good. refl) (λ x good. marks-shown x.cut.marks good.0.0.0.loops good.0.0.0.marks) marks-free
+            (λ ms. plan_of v w c ms [] []) (λ ms good. (((plan_of-shown v w c ms [] [] hw hc (and_parts (is_32 (length ms)) (list_all is_mark_shown ms) good).0 (and_parts (is_32 (length ms)) (list_all is_mark_shown ms) good).1 refl refl, refl), refl), refl)) (λ ms. refl) b3 t3 n s))
 
         module _ (ms : List Mark) (hm : AreMarks ms) (b4 : List ℕ) (t4 : ℕ) (is3 : b3 ≡ text_of (counted (codes "LOOPS") (alone loop_line) ms) ++ b4) (next3 : t4 ≡ t3 + length (counted (codes "LOOPS") (alone loop_line) ms)) where
           few : is_32 (length ms) ≡ true
-          few = (and_parts (is_32 (length ms)) (list_all (λ m. true) ms) hm).0
+          few = (and_parts (is_32 (length ms)) (list_all is_mark_shown ms) hm).0
+
+          kept : list_all is_mark_shown ms ≡ true
+          kept = (and_parts (is_32 (length ms)) (list_all is_mark_shown ms) hm).1
 
           up4 : (n : ℕ) → Stops from_phases (V4 v w c ms) b4 t4 n → Stops plan_lines HasText b0 t0 n
-          up4 n s = up3 n (stops_second from_loops (V3 v w c) (λ p. p.cut) (counted (codes "LOOPS") (alone loop_line)) AreMarks from_phases (λ x good. refl) (λ x good. marks-shown x.cut good.0.0.0.loops) marks-free ms hm b3 b4 t3 t4 n is3 next3 s)
+          up4 n s = up3 n (stops_second from_loops (V3 v w c) (λ p. p.cut.marks) (counted (codes "LOOPS") (alone loop_line)) AreMarks from_phases (λ x good. refl) (λ x good. marks-shown x.cut.marks good.0.0.0.loops good.0.0.0.marks) marks-free ms hm b3 b4 t3 t4 n is3 next3 s)
 
           pub stop4 : (e : PlanSyntax) → RefusesPart (counted (codes "PHASES") (alone phase_line)) (λ ps. are_phases_shown ps ≡ true) b4 t4 e → RefusesPart plan_lines HasText b0 t0 e
           stop4 = refusal_map (counted (codes "PHASES") (alone phase_line)) (λ ps. are_phases_shown ps ≡ true) b4 t4 plan_lines HasText b0 t0
               (λ n s. up4 n (stops_first from_phases (V4 v w c ms) (λ p. zipped p.kinds p.anchors) (counted (codes "PHASES") (alone phase_line)) (λ ps. are_phases_shown ps ≡ true) from_certificates (λ x good. refl) (λ x good. good.0.0.0.0.phases) kinds-free
-              (λ ps. plan_of v w c ms ps []) (λ ps good. ((((plan_of-shown v w c ms ps [] hw hc few good refl, refl), refl), refl), refl)) zip-unzip b4 t4 n s))
+              (λ ps. plan_of v w c ms ps []) (λ ps good. ((((plan_of-shown v w c ms ps [] hw hc few kept good refl, refl), refl), refl), refl)) zip-unzip b4 t4 n s))
 
           module _ (ps : List (Kind × Anchor)) (hp : are_phases_shown ps ≡ true) (b5 : List ℕ) (t5 : ℕ) (is4 : b4 ≡ text_of (counted (codes "PHASES") (alone phase_line) ps) ++ b5) (next4 : t5 ≡ t4 + length (counted (codes "PHASES") (alone phase_line) ps)) where
             up5 : (n : ℕ) → Stops from_certificates (V5 v w c ms ps) b5 t5 n → Stops plan_lines HasText b0 t0 n
@@ -121,7 +128,7 @@ module _ (b0 : List ℕ) (t0 : ℕ) where
             pub stop5 : (e : PlanSyntax) → RefusesPart (counted (codes "CERTIFICATES") cert_lines) (λ cs. are_certificates_shown cs ≡ true) b5 t5 e → RefusesPart plan_lines HasText b0 t0 e
             stop5 = refusal_map (counted (codes "CERTIFICATES") cert_lines) (λ cs. are_certificates_shown cs ≡ true) b5 t5 plan_lines HasText b0 t0
                 (λ n s. up5 n (stops_first from_certificates (V5 v w c ms ps) (λ p. p.certificates) (counted (codes "CERTIFICATES") cert_lines) (λ cs. are_certificates_shown cs ≡ true) end_lines (λ x good. refl) (λ x good. good.0.0.0.0.0.certificates) proofs-free
-                (λ cs. plan_of v w c ms ps cs) (λ cs good. (((((plan_of-shown v w c ms ps cs hw hc few hp good, refl), refl), refl), refl), zip-unzip ps)) (λ cs. refl) b5 t5 n s))
+                (λ cs. plan_of v w c ms ps cs) (λ cs good. (((((plan_of-shown v w c ms ps cs hw hc few kept hp good, refl), refl), refl), refl), zip-unzip ps)) (λ cs. refl) b5 t5 n s))
 
             module _ (cs : List Certificate) (hs : are_certificates_shown cs ≡ true) (b6 : List ℕ) (t6 : ℕ) (is5 : b5 ≡ text_of (counted (codes "CERTIFICATES") cert_lines cs) ++ b6) (next5 : t6 ≡ t5 + length (counted (codes "CERTIFICATES") cert_lines cs)) where
               up6 : (n : ℕ) → Stops end_lines (V6 v w c ms ps cs) b6 t6 n → Stops plan_lines HasText b0 t0 n
@@ -134,7 +141,7 @@ module _ (b0 : List ℕ) (t0 : ℕ) where
                 cut = refl;
                 count = omega (arith, is);
                 whole = plan_of v w c ms ps cs;
-                shown = ((((((plan_of-shown v w c ms ps cs hw hc few hp hs, refl), refl), refl), refl), zip-unzip ps), refl);
+                shown = ((((((plan_of-shown v w c ms ps cs hw hc few kept hp hs, refl), refl), refl), refl), zip-unzip ps), refl);
                 next = codes "END PLAN";
                 more = [];
                 opened = refl;

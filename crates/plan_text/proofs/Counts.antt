@@ -53,7 +53,7 @@ counts_of_fit tree plan formed two values fits =
     let parts = fit_parts tree plan fits in
     record {
       conditions = rw (two, values) refl;
-      loops = below (length plan.cut) (omega (arith, parts.marks, loops-few tree formed));
+      loops = below (length plan.cut.marks) (omega (arith, parts.marks, loops-few tree formed));
       pairs = parts.kinds ∙ sym parts.anchors;
-      phases = below (length plan.kinds) (omega (arith, parts.kinds, phases_few tree plan.cut formed));
+      phases = below (length plan.kinds) (omega (arith, parts.kinds, phases_few tree plan.cut.marks formed));
     }

@@ -8,11 +8,11 @@ use Rattle.farkas_cert.specs.declared.certificate.Step.{Step}
 use Rattle.nest_tree.specs.Form.{is_small, rises_above}
 use Rattle.owner_partition.specs.declared.anchor.Anchor.{Anchor}
 use Rattle.owner_partition.specs.declared.cut.Mark.{Mark}
-use Rattle.owner_partition.specs.declared.cut.Mark.TheVariants.{Outer, Doall, Single, Inner}
+use Rattle.owner_partition.specs.declared.cut.Mark.TheVariants.{Outer, Doall, Single, Inner, Sum}
 use Rattle.sync_plan.specs.declared.plan.ConditionRow.{ConditionRow}
 use Rattle.sync_plan.specs.declared.plan.Kind.{Kind}
 use Rattle.plan_text.specs.Loose.{count_32_said, count_64_said, last_word, loop_said, mark_of, narrow_of, number_32, number_64, phase_of, phase_said, row_of, row_said, step_of, step_said, steps_said, term_of, word_at}
-use Rattle.plan_text.specs.PlanText.{is_32, is_64, is_phase_shown, is_row_shown, is_step_shown, is_kind_shown, is_anchor_shown}
+use Rattle.plan_text.specs.PlanText.{is_mark_shown, is_32, is_64, is_phase_shown, is_row_shown, is_step_shown, is_kind_shown, is_anchor_shown}
 use Rattle.std.proofs.Common.{subst}
 use Rattle.plan_text.specs.declared.syntax.PlanSyntax.{PlanSyntax}
 use Rattle.plan_text.specs.declared.syntax.PlanSyntax.TheVariants.{Line}
@@ -81,12 +81,12 @@ stops_line line shown d good rest taken alien = record {
 }
 
 -- the laws of each line
-pub loop-law : (k : ℕ) → k < 10 ^ 64 → LineLaw (loop_line k) (λ m. true) loop_said
+pub loop-law : (k : ℕ) → k < 10 ^ 64 → LineLaw (loop_line k) is_mark_shown loop_said
 loop-law k h =
     let words = λ (m : Mark). and_from (is_word (decimal k)) (is_word (mark_word m) && true) (word-decimal k h) (and_from (is_word (mark_word m)) true (word m) refl) in
     record {
       unbroken = λ m good. line-unbroken (decimal k) (mark_word m ∷ []) (words m);
-      read = λ m good. ap (λ ws. Some (mark_of (word_at 1 ws))) (words_of-line (decimal k) (mark_word m ∷ []) (words m)) ∙ ap Some (mark m);
+      read = λ m good. ap (λ ws. Some (mark_of (word_at 1 ws))) (words_of-line (decimal k) (mark_word m ∷ []) (words m)) ∙ ap Some (mark m good);
     }
   where
     word : (m : Mark) → is_word (mark_word m) ≡ true
@@ -94,12 +94,14 @@ loop-law k h =
     word Doall = refl
     word Single = refl
     word Inner = refl
+    word Sum = refl
 
-    mark : (m : Mark) → mark_of (mark_word m) ≡ m
-    mark Outer = refl
-    mark Doall = refl
-    mark Single = refl
-    mark Inner = refl
+    mark : (m : Mark) → is_mark_shown m ≡ true → mark_of (mark_word m) ≡ m
+    mark Outer h = refl
+    mark Doall h = refl
+    mark Single h = refl
+    mark Inner h = refl
+    mark Sum h = absurd (cc)
 
 pub count_32-law : (word : List ℕ) → is_word word ≡ true → LineLaw (count_line word) is_32 count_32_said
 count_32-law word w =

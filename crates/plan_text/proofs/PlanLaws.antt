@@ -8,15 +8,16 @@ use Rattle.std.proofs.lemmas.List.{append_cancel_left}
 use Rattle.std.proofs.lemmas.List.Folds.{list_all-append}
 use Rattle.farkas_cert.specs.declared.certificate.Certificate.{Certificate}
 use Rattle.owner_partition.specs.declared.anchor.Anchor.{Anchor}
+use Rattle.owner_partition.specs.Cuts.{Cutting, plain_cut}
 use Rattle.owner_partition.specs.declared.cut.Mark.{Mark}
 use Rattle.sync_plan.specs.declared.plan.Conditions.{Conditions}
 use Rattle.sync_plan.specs.declared.plan.Conditions.TheVariants.{Values, Rows}
 use Rattle.sync_plan.specs.declared.plan.Kind.{Kind}
 use Rattle.sync_plan.specs.declared.plan.Plan.{Plan}
 use Rattle.sync_plan.specs.declared.plan.Version.{Version}
-use Rattle.sync_plan.specs.declared.plan.Version.TheVariants.{One, Two, Three}
+use Rattle.sync_plan.specs.declared.plan.Version.TheVariants.{One, Two, Three, Four, Five}
 use Rattle.plan_text.specs.Parts.{firsts, seconds}
-use Rattle.plan_text.specs.PlanText.{HasText, alone, are_conditions_shown, cert_lines, condition_lines, counted, is_32, is_64, is_certificate_shown, is_phase_shown, is_row_shown, is_step_shown, numbered, plan_lines, plan_text, text_of, zipped}
+use Rattle.plan_text.specs.PlanText.{where_lines, are_where_shown, is_mark_shown, HasText, alone, are_conditions_shown, cert_lines, condition_lines, counted, is_32, is_64, is_certificate_shown, is_phase_shown, is_row_shown, is_step_shown, numbered, plan_lines, plan_text, text_of, zipped}
 use Rattle.plan_text.specs.Refused.{IsFirstAlien, Opens, RefusesText}
 use Rattle.plan_text.specs.Stops.{RefusesPart, Stops}
 use Rattle.plan_text.specs.declared.syntax.PlanSyntax.{PlanSyntax}
@@ -45,7 +46,7 @@ same_plan x y v c w m a k s =
     let P1 : Version → Plan = λ z. record { version = z; conditions = x.conditions; workers = x.workers; cut = x.cut; anchors = x.anchors; kinds = x.kinds; certificates = x.certificates } in
     let P2 : Conditions → Plan = λ z. record { version = y.version; conditions = z; workers = x.workers; cut = x.cut; anchors = x.anchors; kinds = x.kinds; certificates = x.certificates } in
     let P3 : ℕ → Plan = λ z. record { version = y.version; conditions = y.conditions; workers = z; cut = x.cut; anchors = x.anchors; kinds = x.kinds; certificates = x.certificates } in
-    let P4 : List Mark → Plan = λ z. record { version = y.version; conditions = y.conditions; workers = y.workers; cut = z; anchors = x.anchors; kinds = x.kinds; certificates = x.certificates } in
+    let P4 : Cutting → Plan = λ z. record { version = y.version; conditions = y.conditions; workers = y.workers; cut = z; anchors = x.anchors; kinds = x.kinds; certificates = x.certificates } in
     let P5 : List Anchor → Plan = λ z. record { version = y.version; conditions = y.conditions; workers = y.workers; cut = y.cut; anchors = z; kinds = x.kinds; certificates = x.certificates } in
     let P6 : List Kind → Plan = λ z. record { version = y.version; conditions = y.conditions; workers = y.workers; cut = y.cut; anchors = y.anchors; kinds = z; certificates = x.certificates } in
     let P7 : List Certificate → Plan = λ z. record { version = y.version; conditions = y.conditions; workers = y.workers; cut = y.cut; anchors = y.anchors; kinds = y.kinds; certificates = z } in
@@ -61,9 +62,9 @@ plan-free x y r s hx hy e =
     let e2' = sym (append_assoc (condition_lines x.version x.conditions) (from_loops x) r) ∙ e2 ∙ append_assoc (condition_lines y.version y.conditions) (from_loops y) s ∙ ap (λ u. condition_lines u y.conditions ++ (from_loops y ++ s)) (sym v) in
     let c = conditions-free x.version x.conditions y.conditions (from_loops x ++ r) (from_loops y ++ s) hx.conditions (ap (λ u. are_conditions_shown u y.conditions) v ∙ hy.conditions) e2' in
     let e3 = append_cancel_left (condition_lines x.version x.conditions) (from_loops x ++ r) (from_loops y ++ s) (e2' ∙ ap (λ z. condition_lines x.version z ++ (from_loops y ++ s)) (sym c)) in
-    let e3' = sym (append_assoc (counted (codes "LOOPS") (alone loop_line) x.cut) (from_phases x) r) ∙ e3 ∙ append_assoc (counted (codes "LOOPS") (alone loop_line) y.cut) (from_phases y) s in
-    let m = marks-free x.cut y.cut (from_phases x ++ r) (from_phases y ++ s) (marks-shown x.cut hx.loops) (marks-shown y.cut hy.loops) e3' in
-    let e4 = append_cancel_left (counted (codes "LOOPS") (alone loop_line) x.cut) (from_phases x ++ r) (from_phases y ++ s) (e3' ∙ ap (λ z. counted (codes "LOOPS") (alone loop_line) z ++ (from_phases y ++ s)) (sym m)) in
+    let e3' = sym (append_assoc (counted (codes "LOOPS") (alone loop_line) x.cut.marks) (from_phases x) r) ∙ e3 ∙ append_assoc (counted (codes "LOOPS") (alone loop_line) y.cut.marks) (from_phases y) s in
+    let m = marks-free x.cut.marks y.cut.marks (from_phases x ++ r) (from_phases y ++ s) (marks-shown x.cut.marks hx.loops hx.marks) (marks-shown y.cut.marks hy.loops hy.marks) e3' in
+    let e4 = append_cancel_left (counted (codes "LOOPS") (alone loop_line) x.cut.marks) (from_phases x ++ r) (from_phases y ++ s) (e3' ∙ ap (λ z. counted (codes "LOOPS") (alone loop_line) z ++ (from_phases y ++ s)) (sym m)) in
     let px = zipped x.kinds x.anchors in
     let py = zipped y.kinds y.anchors in
     let e4' = sym (append_assoc (counted (codes "PHASES") (alone phase_line) px) (from_certificates x) r) ∙ e4 ∙ append_assoc (counted (codes "PHASES") (alone phase_line) py) (from_certificates y) s in
@@ -71,7 +72,7 @@ plan-free x y r s hx hy e =
     let e5 = append_cancel_left (counted (codes "PHASES") (alone phase_line) px) (from_certificates x ++ r) (from_certificates y ++ s) (e4' ∙ ap (λ z. counted (codes "PHASES") (alone phase_line) z ++ (from_certificates y ++ s)) (sym p)) in
     let e5' = sym (append_assoc (counted (codes "CERTIFICATES") cert_lines x.certificates) (end_lines x) r) ∙ e5 ∙ append_assoc (counted (codes "CERTIFICATES") cert_lines y.certificates) (end_lines y) s in
     let k = proofs-free x.certificates y.certificates (end_lines x ++ r) (end_lines y ++ s) hx.certificates hy.certificates e5' in
-    same_plan x y v c w m
+    same_plan x y v c w (hx.privates ∙ ap plain_cut m ∙ sym hy.privates)
     (sym (seconds-zipped x.kinds x.anchors hx.pairs) ∙ ap seconds p ∙ seconds-zipped y.kinds y.anchors hy.pairs)
     (sym (firsts-zipped x.kinds x.anchors hx.pairs) ∙ ap firsts p ∙ firsts-zipped y.kinds y.anchors hy.pairs) k
 
@@ -100,18 +101,19 @@ certificate-whole k c low h =
     and_from (is_unbroken (cert_line k (length c.steps))) (are_whole (numbered (alone (λ n. step_line)) 1 c.steps)) ((steps-law k low).unbroken (length c.steps) parts.0)
     (numbered-whole (alone (λ n. step_line)) is_step_shown (λ j x low good. one (step_line x) (step-law.unbroken x good)) 1 c.steps (low-64 (length c.steps) parts.0) parts.1)
 
-conditions-whole : (v : Version) (c : Conditions) → are_conditions_shown v c ≡ true → are_whole (condition_lines v c) ≡ true
-conditions-whole One c h = refl
-conditions-whole Two c h = refl
-conditions-whole Three Values h = refl
-conditions-whole Three (Rows rows) h =
+where-whole : (c : Conditions) → are_where_shown c ≡ true → are_whole (where_lines c) ≡ true
+where-whole Values h = refl
+where-whole (Rows rows) h =
     let parts = and_parts (is_32 (length rows)) (list_all is_row_shown rows) h in
     and_from (is_unbroken (count_line (codes "WHERE") (length rows))) (are_whole (numbered (alone row_line) 1 rows)) ((count_32-law (codes "WHERE") refl).unbroken (length rows) parts.0)
     (numbered-whole (alone row_line) is_row_shown (λ k x low good. one (row_line k x) ((row-law k low).unbroken x good)) 1 rows (low-32 (length rows) parts.0) parts.1)
 
-all-marks : (ms : List Mark) → list_all (λ m. true) ms ≡ true
-all-marks [] = refl
-all-marks (m ∷ ms) = all-marks ms
+conditions-whole : (v : Version) (c : Conditions) → are_conditions_shown v c ≡ true → are_whole (condition_lines v c) ≡ true
+conditions-whole One c h = refl
+conditions-whole Two c h = refl
+conditions-whole Three c h = where-whole c h
+conditions-whole Four c h = where-whole c h
+conditions-whole Five c h = where-whole c h
 
 both-whole : (a b : List (List ℕ)) → are_whole a ≡ true → are_whole b ≡ true → are_whole (a ++ b) ≡ true
 both-whole a b h k = list_all-append is_unbroken a b ∙ and_from (are_whole a) (are_whole b) h k
@@ -121,9 +123,9 @@ plan-whole x h =
     let ps = zipped x.kinds x.anchors in
     let phases = and_parts (is_32 (length ps)) (list_all is_phase_shown ps) h.phases in
     let certs = and_parts (is_64 (length x.certificates)) (list_all is_certificate_shown x.certificates) h.certificates in
-    let loops : are_whole (counted (codes "LOOPS") (alone loop_line) x.cut) ≡ true =
-    and_from (is_unbroken (count_line (codes "LOOPS") (length x.cut))) (are_whole (numbered (alone loop_line) 1 x.cut)) ((count_32-law (codes "LOOPS") refl).unbroken (length x.cut) h.loops)
-    (numbered-whole (alone loop_line) (λ m. true) (λ k m low good. one (loop_line k m) ((loop-law k low).unbroken m good)) 1 x.cut (low-32 (length x.cut) h.loops) (all-marks x.cut)) in
+    let loops : are_whole (counted (codes "LOOPS") (alone loop_line) x.cut.marks) ≡ true =
+    and_from (is_unbroken (count_line (codes "LOOPS") (length x.cut.marks))) (are_whole (numbered (alone loop_line) 1 x.cut.marks)) ((count_32-law (codes "LOOPS") refl).unbroken (length x.cut.marks) h.loops)
+    (numbered-whole (alone loop_line) is_mark_shown (λ k m low good. one (loop_line k m) ((loop-law k low).unbroken m good)) 1 x.cut.marks (low-32 (length x.cut.marks) h.loops) h.marks) in
     let kinds : are_whole (counted (codes "PHASES") (alone phase_line) ps) ≡ true =
     and_from (is_unbroken (count_line (codes "PHASES") (length ps))) (are_whole (numbered (alone phase_line) 1 ps)) ((count_32-law (codes "PHASES") refl).unbroken (length ps) phases.0)
     (numbered-whole (alone phase_line) is_phase_shown (λ k p low good. one (phase_line k p) ((phase-law k low).unbroken p good)) 1 ps (low-32 (length ps) phases.0) phases.1) in
@@ -133,7 +135,7 @@ plan-whole x h =
     and_from (is_unbroken (version_line x.version)) (are_whole (from_workers x)) (version-law.unbroken x.version refl)
     (and_from (is_unbroken (count_line (codes "WORKERS") x.workers)) (are_whole (from_conditions x)) ((count_32-law (codes "WORKERS") refl).unbroken x.workers h.workers)
     (both-whole (condition_lines x.version x.conditions) (from_loops x) (conditions-whole x.version x.conditions h.conditions)
-    (both-whole (counted (codes "LOOPS") (alone loop_line) x.cut) (from_phases x) loops
+    (both-whole (counted (codes "LOOPS") (alone loop_line) x.cut.marks) (from_phases x) loops
     (both-whole (counted (codes "PHASES") (alone phase_line) ps) (from_certificates x) kinds
     (both-whole (counted (codes "CERTIFICATES") cert_lines x.certificates) (end_lines x) proofs refl)))))
 

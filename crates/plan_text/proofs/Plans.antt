@@ -17,10 +17,10 @@ use Rattle.sync_plan.specs.declared.plan.Conditions.TheVariants.{Values, Rows}
 use Rattle.sync_plan.specs.declared.plan.Kind.{Kind}
 use Rattle.sync_plan.specs.declared.plan.Plan.{Plan}
 use Rattle.sync_plan.specs.declared.plan.Version.{Version}
-use Rattle.sync_plan.specs.declared.plan.Version.TheVariants.{One, Two, Three}
+use Rattle.sync_plan.specs.declared.plan.Version.TheVariants.{One, Two, Three, Four, Five}
 use Rattle.plan_text.specs.Loose.{count_32_said, count_64_said, end_line, is_where_shown, version_said, where_line, where_said, number_32, word_at, words_of}
 use Rattle.plan_text.specs.Parts.{firsts, plan_of, seconds}
-use Rattle.plan_text.specs.PlanText.{HasText, alone, are_certificates_shown, are_conditions_shown, are_phases_shown, cert_lines, condition_lines, counted, is_32, is_64, is_certificate_shown, is_phase_shown, is_row_shown, numbered, where_lines, zipped}
+use Rattle.plan_text.specs.PlanText.{are_where_shown, is_mark_shown, HasText, alone, are_certificates_shown, are_conditions_shown, are_phases_shown, cert_lines, condition_lines, counted, is_32, is_64, is_certificate_shown, is_phase_shown, is_row_shown, numbered, where_lines, zipped}
 use Rattle.plan_text.specs.Stops.{AreItems, RefusesLine, RefusesPart, Stops}
 use Rattle.plan_text.specs.Unbroken.{is_unbroken}
 use Rattle.plan_text.specs.Words.{count_line, loop_line, phase_line, row_line, version_line}
@@ -36,11 +36,15 @@ version-law = record { unbroken = unbroken; read = read }
     unbroken One h = refl
     unbroken Two h = refl
     unbroken Three h = refl
+    unbroken Four h = refl
+    unbroken Five h = refl
 
     read : (v : Version) → true ≡ true → version_said (version_line v) ≡ Some v
     read One h = refl
     read Two h = refl
     read Three h = refl
+    read Four h = refl
+    read Five h = refl
 
 pub zip-unzip : (ps : List (Kind × Anchor)) → zipped (firsts ps) (seconds ps) ≡ ps
 zip-unzip [] = refl
@@ -51,8 +55,8 @@ same-lengths [] = refl
 same-lengths (p ∷ ps) = (let rest = same-lengths ps in omega (arith, rest))
 
 pub plan_of-shown : (v : Version) (w : ℕ) (c : Conditions) (ms : List Mark) (ps : List (Kind × Anchor)) (cs : List Certificate) →
-    is_32 w ≡ true → are_conditions_shown v c ≡ true → is_32 (length ms) ≡ true → are_phases_shown ps ≡ true → are_certificates_shown cs ≡ true → HasText (plan_of v w c ms ps cs)
-plan_of-shown v w c ms ps cs hw hc hm hp hs = record { workers = hw; conditions = hc; loops = hm; pairs = same-lengths ps; phases = ap are_phases_shown (zip-unzip ps) ∙ hp; certificates = hs }
+    is_32 w ≡ true → are_conditions_shown v c ≡ true → is_32 (length ms) ≡ true → list_all is_mark_shown ms ≡ true → are_phases_shown ps ≡ true → are_certificates_shown cs ≡ true → HasText (plan_of v w c ms ps cs)
+plan_of-shown v w c ms ps cs hw hc hm hk hp hs = record { workers = hw; conditions = hc; loops = hm; marks = hk; privates = refl; pairs = same-lengths ps; phases = ap are_phases_shown (zip-unzip ps) ∙ hp; certificates = hs }
 
 -- what stands behind each part
 abbrev pub end_lines : Plan → List (List ℕ)
@@ -65,7 +69,7 @@ abbrev pub from_phases : Plan → List (List ℕ)
 from_phases p = counted (codes "PHASES") (alone phase_line) (zipped p.kinds p.anchors) ++ from_certificates p
 
 abbrev pub from_loops : Plan → List (List ℕ)
-from_loops p = counted (codes "LOOPS") (alone loop_line) p.cut ++ from_phases p
+from_loops p = counted (codes "LOOPS") (alone loop_line) p.cut.marks ++ from_phases p
 
 abbrev pub from_conditions : Plan → List (List ℕ)
 from_conditions p = condition_lines p.version p.conditions ++ from_loops p
@@ -75,14 +79,10 @@ from_workers p = count_line (codes "WORKERS") p.workers ∷ from_conditions p
 
 -- the parts, and what is asked of each
 abbrev pub AreMarks : List Mark → Type 0
-AreMarks ms = (is_32 (length ms) && list_all (λ m. true) ms) ≡ true
+AreMarks ms = (is_32 (length ms) && list_all is_mark_shown ms) ≡ true
 
-all-marks : (ms : List Mark) → list_all (λ m. true) ms ≡ true
-all-marks [] = refl
-all-marks (m ∷ ms) = all-marks ms
-
-pub marks-shown : (ms : List Mark) → is_32 (length ms) ≡ true → AreMarks ms
-marks-shown ms h = and_from (is_32 (length ms)) (list_all (λ m. true) ms) h (all-marks ms)
+pub marks-shown : (ms : List Mark) → is_32 (length ms) ≡ true → list_all is_mark_shown ms ≡ true → AreMarks ms
+marks-shown ms h k = and_from (is_32 (length ms)) (list_all is_mark_shown ms) h k
 
 -- each part's lines tell it apart
 pub version-free : IsFree (λ (v : Version). version_line v ∷ []) (λ v. true ≡ true)
@@ -98,7 +98,7 @@ pub apart_64 : (word : List ℕ) → list_all (λ b. nat_lt 32 b) word ≡ true 
 apart_64 word w m n h h' e = line_free (count_line word) is_64 count_64_said (count_64-law word w) m n h h' e
 
 pub marks-free : IsFree (counted (codes "LOOPS") (alone loop_line)) AreMarks
-marks-free = headed-free (count_line (codes "LOOPS")) is_32 (apart_32 (codes "LOOPS") refl) refl (alone loop_line) (λ m. true) loops-free
+marks-free = headed-free (count_line (codes "LOOPS")) is_32 (apart_32 (codes "LOOPS") refl) refl (alone loop_line) is_mark_shown loops-free
 
 pub kinds-free : IsFree (counted (codes "PHASES") (alone phase_line)) (λ ps. are_phases_shown ps ≡ true)
 kinds-free = headed-free (count_line (codes "PHASES")) is_32 (apart_32 (codes "PHASES") refl) refl (alone phase_line) is_phase_shown phases-free
@@ -117,7 +117,7 @@ no_count n h e =
     false≢true clash
 
 -- the lines in front of conditions
-pub where-free : IsFree where_lines (λ c. are_conditions_shown Three c ≡ true)
+pub where-free : IsFree where_lines (λ c. are_where_shown c ≡ true)
 where-free Values Values r s h h' e = refl
 where-free Values (Rows rows) r s h h' e = absurd (let first : codes "WHERE VALUES" ≡ count_line (codes "WHERE") (length rows) = cc in no_count (length rows) (and_parts (is_32 (length rows)) (list_all is_row_shown rows) h').0 first)
 where-free (Rows rows) Values r s h h' e = absurd (let first : codes "WHERE VALUES" ≡ count_line (codes "WHERE") (length rows) = cc in no_count (length rows) (and_parts (is_32 (length rows)) (list_all is_row_shown rows) h).0 first)
@@ -137,7 +137,7 @@ where-law = record { unbroken = unbroken; read = read }
         ∙ ap (option_map Some) ((count_32-law (codes "WHERE") refl).read n h)
 
 -- a stop in front of rows, and among them, is one of the conditions
-pub where_refused : (rest : List ℕ) (taken : ℕ) (e : PlanSyntax) → RefusesLine where_line is_where_shown rest taken e → RefusesPart where_lines (λ c. are_conditions_shown Three c ≡ true) rest taken e
+pub where_refused : (rest : List ℕ) (taken : ℕ) (e : PlanSyntax) → RefusesLine where_line is_where_shown rest taken e → RefusesPart where_lines (λ c. are_where_shown c ≡ true) rest taken e
 where_refused rest taken NoMemory h = tt
 where_refused rest taken (Line n) h = record {
   front = [];
@@ -152,14 +152,14 @@ where_refused rest taken (Line n) h = record {
   alien = alien;
 }
   where
-    alien : (c : Conditions) (line : List ℕ) (later : List (List ℕ)) (after : List ℕ) → are_conditions_shown Three c ≡ true → where_lines c ≡ line ∷ later → rest ≡ line ++ (10 ∷ after) → ⊥
+    alien : (c : Conditions) (line : List ℕ) (later : List (List ℕ)) (after : List ℕ) → are_where_shown c ≡ true → where_lines c ≡ line ∷ later → rest ≡ line ++ (10 ∷ after) → ⊥
     alien Values line later after good e cut = (let first : codes "WHERE VALUES" ≡ line = cc in h.1 None after refl (cut ∙ ap (λ l. l ++ (10 ∷ after)) (sym first)))
     alien (Rows rows) line later after good e cut =
         (let first : count_line (codes "WHERE") (length rows) ≡ line = cc in
         h.1 (Some (length rows)) after (and_parts (is_32 (length rows)) (list_all is_row_shown rows) good).0 (cut ∙ ap (λ l. l ++ (10 ∷ after)) (sym first)))
 
 rows_alien : (n : ℕ) → is_32 n ≡ true → (rest : List ℕ) (taken m : ℕ) (s : Stops (counted (codes "WHERE") (alone row_line)) (λ rows. (is_32 (length rows) && list_all is_row_shown rows) ≡ true) rest taken m) (front : List (List ℕ)) → s.front ≡ count_line (codes "WHERE") n ∷ front →
-    (c : Conditions) (line : List ℕ) (later : List (List ℕ)) (after : List ℕ) → are_conditions_shown Three c ≡ true → where_lines c ≡ s.front ++ line ∷ later → s.behind ≡ line ++ (10 ∷ after) → ⊥
+    (c : Conditions) (line : List ℕ) (later : List (List ℕ)) (after : List ℕ) → are_where_shown c ≡ true → where_lines c ≡ s.front ++ line ∷ later → s.behind ≡ line ++ (10 ∷ after) → ⊥
 rows_alien n fits rest taken m s front is (Rows rows) line later after good e cut = s.alien rows line later after good e cut
 rows_alien n fits rest taken m s front is Values line later after good e cut =
     (let both : codes "WHERE VALUES" ∷ [] ≡ count_line (codes "WHERE") n ∷ (front ++ line ∷ later) = e ∙ ap (λ f. f ++ line ∷ later) is in
@@ -167,7 +167,7 @@ rows_alien n fits rest taken m s front is Values line later after good e cut =
     no_count n fits first)
 
 pub rows_refused : (n : ℕ) → is_32 n ≡ true → (rest later : List ℕ) (taken now : ℕ) (e : PlanSyntax) → rest ≡ count_line (codes "WHERE") n ++ (10 ∷ later) → now ≡ taken + 1 →
-    RefusesPart (numbered (alone row_line) 1) (AreItems is_row_shown n) later now e → RefusesPart where_lines (λ c. are_conditions_shown Three c ≡ true) rest taken e
+    RefusesPart (numbered (alone row_line) 1) (AreItems is_row_shown n) later now e → RefusesPart where_lines (λ c. are_where_shown c ≡ true) rest taken e
 unfolding items_refused
 rows_refused n fits rest later taken now NoMemory is next h = tt
 rows_refused n fits rest later taken now (Line m) is next h =
@@ -196,8 +196,8 @@ not_same a b ne = by_case (bytes_eq a b) refl
 
 -- a line of none of the versions, and one that isn't the last
 pub version_refused : (text rest behind : List ℕ) (e : PlanSyntax) (taken n : ℕ) → e ≡ Line n → n ≡ taken + 1 → is_unbroken text ≡ true → rest ≡ text ++ (10 ∷ behind) →
-    (codes "SPMD PLAN 1" ≡ text → ⊥) → (codes "SPMD PLAN 2" ≡ text → ⊥) → (codes "SPMD PLAN 3" ≡ text → ⊥) → RefusesLine version_line (λ v. true) rest taken e
-version_refused text rest behind e taken n is next whole cut one two three =
+    (codes "SPMD PLAN 1" ≡ text → ⊥) → (codes "SPMD PLAN 2" ≡ text → ⊥) → (codes "SPMD PLAN 3" ≡ text → ⊥) → (codes "SPMD PLAN 4" ≡ text → ⊥) → (codes "SPMD PLAN 5" ≡ text → ⊥) → RefusesLine version_line (λ v. true) rest taken e
+version_refused text rest behind e taken n is next whole cut one two three four five =
     let P : PlanSyntax → Type 0 = λ f. RefusesLine version_line (λ v. true) rest taken f in
     subst P (sym is) (next, alien_line version_line (λ v. true) version_said version-law text rest behind whole cut (λ v good told same. none v same))
   where
@@ -205,6 +205,8 @@ version_refused text rest behind e taken n is next whole cut one two three =
     none One h = one h
     none Two h = two h
     none Three h = three h
+    none Four h = four h
+    none Five h = five h
 
 end-law : LineLaw end_line (λ u. true) (λ line. Some tt)
 end-law = record { unbroken = λ u h. refl; read = λ u h. refl }

@@ -14,7 +14,7 @@ use Rattle.owner_partition.specs.declared.cut.Mark.TheVariants.{Outer, Doall, Si
 use Rattle.sync_plan.specs.declared.plan.ConditionRow.{ConditionRow}
 use Rattle.sync_plan.specs.declared.plan.Kind.{Kind}
 use Rattle.sync_plan.specs.declared.plan.Version.{Version}
-use Rattle.sync_plan.specs.declared.plan.Version.TheVariants.{One, Two, Three}
+use Rattle.sync_plan.specs.declared.plan.Version.TheVariants.{One, Two, Three, Four, Five}
 use Rattle.plan_text.specs.PlanText.{is_32}
 use Rattle.plan_text.specs.Words.{count_line, version_line}
 use Rattle.sync_plan.specs.declared.plan.Kind.TheVariants.{Nothing, Producer, Left, Right, Both, Barrier, Join}
@@ -164,7 +164,7 @@ abbrev pub step_said : List ℕ → Option Step
 step_said line = Some (step_of (words_of line))
 
 abbrev pub version_said : List ℕ → Option Version
-version_said line = if bytes_eq line (version_line One) then Some One else if bytes_eq line (version_line Two) then Some Two else Some Three
+version_said line = if bytes_eq line (version_line One) then Some One else if bytes_eq line (version_line Two) then Some Two else if bytes_eq line (version_line Three) then Some Three else if bytes_eq line (version_line Four) then Some Four else Some Five
 
 -- the line in front of conditions: none for the program's values, or the number of rows
 abbrev pub where_said : List ℕ → Option (Option ℕ)

@@ -7,6 +7,9 @@ use Rattle.nest_tree.specs.Form.{Form, is_form, is_small, rises_above}
 use Rattle.owner_partition.specs.declared.anchor.Anchor.{Anchor}
 use Rattle.owner_partition.specs.declared.anchor.Dist.{Dist}
 use Rattle.owner_partition.specs.declared.anchor.Dist.TheVariants.{Block, Cyclic}
+use Rattle.owner_partition.specs.Cuts.{plain_cut}
+use Rattle.owner_partition.specs.declared.cut.Mark.{Mark}
+use Rattle.owner_partition.specs.declared.cut.Mark.TheVariants.{Outer, Doall, Sum, Single, Inner}
 use Rattle.sync_plan.specs.declared.plan.ConditionRow.{ConditionRow}
 use Rattle.sync_plan.specs.declared.plan.Conditions.{Conditions}
 use Rattle.sync_plan.specs.declared.plan.Conditions.TheVariants.{Values, Rows}
@@ -14,7 +17,7 @@ use Rattle.sync_plan.specs.declared.plan.Kind.{Kind}
 use Rattle.sync_plan.specs.declared.plan.Kind.TheVariants.{Nothing, Producer, Left, Right, Both, Barrier, Join}
 use Rattle.sync_plan.specs.declared.plan.Plan.{Plan}
 use Rattle.sync_plan.specs.declared.plan.Version.{Version}
-use Rattle.sync_plan.specs.declared.plan.Version.TheVariants.{One, Two, Three}
+use Rattle.sync_plan.specs.declared.plan.Version.TheVariants.{One, Two, Three, Four, Five}
 use Rattle.plan_text.specs.Words.{version_line, count_line, loop_line, phase_line, row_line, cert_line, step_line}
 
 -- items with their lines, numbered from this number on
@@ -42,6 +45,8 @@ abbrev pub condition_lines : Version → Conditions → List (List ℕ)
 condition_lines One c = []
 condition_lines Two c = []
 condition_lines Three c = where_lines c
+condition_lines Four c = where_lines c
+condition_lines Five c = where_lines c
 
 -- the kinds and the anchors of the phases, as far as both go
 abbrev pub zipped : {X Y : Type 0} → List X → List Y → List (X × Y)
@@ -61,7 +66,7 @@ head_lines plan = version_line plan.version ∷ (count_line (codes "WORKERS") pl
 abbrev pub plan_lines : Plan → List (List ℕ)
 plan_lines plan =
     head_lines plan
-    ++ (counted (codes "LOOPS") (alone loop_line) plan.cut
+    ++ (counted (codes "LOOPS") (alone loop_line) plan.cut.marks
     ++ (counted (codes "PHASES") (alone phase_line) (zipped plan.kinds plan.anchors)
     ++ (counted (codes "CERTIFICATES") cert_lines plan.certificates
     ++ codes "END PLAN" ∷ [])))
@@ -106,13 +111,18 @@ is_phase_shown p = is_kind_shown p.0 && is_anchor_shown p.1
 abbrev pub is_row_shown : ConditionRow → Bool
 is_row_shown row = nat_lt 0 (length row.coefs) && rises_above 0 row.coefs && list_all (λ p. is_32 p.0) row.coefs && is_small row.bound
 
+abbrev pub are_where_shown : Conditions → Bool
+are_where_shown Values = true
+are_where_shown (Rows rows) = is_32 (length rows) && list_all is_row_shown rows
+
 abbrev pub are_conditions_shown : Version → Conditions → Bool
 are_conditions_shown One Values = true
 are_conditions_shown One (Rows rows) = false
 are_conditions_shown Two Values = true
 are_conditions_shown Two (Rows rows) = false
-are_conditions_shown Three Values = true
-are_conditions_shown Three (Rows rows) = is_32 (length rows) && list_all is_row_shown rows
+are_conditions_shown Three c = are_where_shown c
+are_conditions_shown Four c = are_where_shown c
+are_conditions_shown Five c = are_where_shown c
 
 abbrev pub is_128 : ℤ → Bool
 is_128 (pos n) = nat_lt n (2 ^ 127)
@@ -130,11 +140,21 @@ are_phases_shown phases = is_32 (length phases) && list_all is_phase_shown phase
 abbrev pub are_certificates_shown : List Certificate → Bool
 are_certificates_shown cs = is_64 (length cs) && list_all is_certificate_shown cs
 
+-- a mark that a text shows: no text has Sum loops, until all that runs a plan knows them
+abbrev pub is_mark_shown : Mark → Bool
+is_mark_shown Outer = true
+is_mark_shown Doall = true
+is_mark_shown Sum = false
+is_mark_shown Single = true
+is_mark_shown Inner = true
+
 -- the plan's version shows it in full, with numbers in their ranges
 pub record HasText (plan : Plan) : Type 0 where
   pub workers : is_32 plan.workers ≡ true
   pub conditions : are_conditions_shown plan.version plan.conditions ≡ true
-  pub loops : is_32 (length plan.cut) ≡ true
+  pub loops : is_32 (length plan.cut.marks) ≡ true
+  pub marks : list_all is_mark_shown plan.cut.marks ≡ true
+  pub privates : plan.cut.marks ≡ plain_cut plan.cut.marks
   pub pairs : length plan.kinds ≡ length plan.anchors
   pub phases : are_phases_shown (zipped plan.kinds plan.anchors) ≡ true
   pub certificates : are_certificates_shown plan.certificates ≡ true
@@ -142,7 +162,7 @@ pub record HasText (plan : Plan) : Type 0 where
 -- a kind for each anchor; and the conditions, the loops and the phases are as many as its version shows
 pub record HasCounts (plan : Plan) : Type 0 where
   pub conditions : are_conditions_shown plan.version plan.conditions ≡ true
-  pub loops : is_32 (length plan.cut) ≡ true
+  pub loops : is_32 (length plan.cut.marks) ≡ true
   pub pairs : length plan.kinds ≡ length plan.anchors
   pub phases : is_32 (length plan.kinds) ≡ true
 

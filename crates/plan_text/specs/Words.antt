@@ -8,12 +8,12 @@ use Rattle.owner_partition.specs.declared.anchor.Anchor.{Anchor}
 use Rattle.owner_partition.specs.declared.anchor.Dist.{Dist}
 use Rattle.owner_partition.specs.declared.anchor.Dist.TheVariants.{Block, Cyclic}
 use Rattle.owner_partition.specs.declared.cut.Mark.{Mark}
-use Rattle.owner_partition.specs.declared.cut.Mark.TheVariants.{Outer, Doall, Single, Inner}
+use Rattle.owner_partition.specs.declared.cut.Mark.TheVariants.{Outer, Doall, Single, Inner, Sum}
 use Rattle.sync_plan.specs.declared.plan.ConditionRow.{ConditionRow}
 use Rattle.sync_plan.specs.declared.plan.Kind.{Kind}
 use Rattle.sync_plan.specs.declared.plan.Kind.TheVariants.{Nothing, Producer, Left, Right, Both, Barrier, Join}
 use Rattle.sync_plan.specs.declared.plan.Version.{Version}
-use Rattle.sync_plan.specs.declared.plan.Version.TheVariants.{One, Two, Three}
+use Rattle.sync_plan.specs.declared.plan.Version.TheVariants.{One, Two, Three, Four, Five}
 
 -- words, each with a blank in front; and a line of words, with one between each two
 abbrev pub spaced : List (List ℕ) → List ℕ
@@ -49,6 +49,7 @@ mark_word Outer = codes "OUTER"
 mark_word Doall = codes "DOALL"
 mark_word Single = codes "SINGLE"
 mark_word Inner = codes "INNER"
+mark_word Sum = codes "SUM"
 
 abbrev pub kind_words : Kind → List (List ℕ)
 kind_words Nothing = codes "NOTHING" ∷ []
@@ -64,6 +65,8 @@ abbrev pub version_digit : Version → List ℕ
 version_digit One = codes "1"
 version_digit Two = codes "2"
 version_digit Three = codes "3"
+version_digit Four = codes "4"
+version_digit Five = codes "5"
 
 abbrev pub version_line : Version → List ℕ
 version_line v = codes "SPMD PLAN " ++ version_digit v

@@ -4,7 +4,7 @@ ghost use Rattle.std.specs.Prelude.{◌≡◌, ◌+◌, ◌∷◌, ◌++◌, ◌
 ghost use Rattle.nest_tree.specs.Form.{is_small, rises_above};
 ghost use Rattle.std.specs.List.{list_all};
 ghost use Rattle.plan_text.specs.Unbroken.{is_glyph};
-ghost use Rattle.plan_text.specs.PlanText.{is_32, is_64, is_phase_shown, is_row_shown, is_step_shown};
+ghost use Rattle.plan_text.specs.PlanText.{is_32, is_64, is_mark_shown, is_phase_shown, is_row_shown, is_step_shown};
 ghost use Rattle.plan_text.specs.Stops.{RefusesLine};
 ghost use Rattle.plan_text.specs.Words as spec;
 
@@ -72,7 +72,8 @@ pub(crate) fn read_count_64(
 pub(crate) fn read_loop(alloc: Global, lines: &mut Lines, number: u32) -> Result<Mark, PlanSyntax>
     ensures ok { IfOk result (λ mark. lines.old.rest.now ≡ spec.loop_line number mark ++ (10 ∷ lines.new.rest.now)) }
     ensures taken { IfOk result (λ mark. lines.new.taken ≡ lines.old.taken + 1) }
-    ensures refused { IfErr result (RefusesLine (spec.loop_line number) (λ mark. true) lines.old.rest.now lines.old.taken) }
+    ensures fits { IfOk result (λ mark. is_mark_shown mark ≡ true) }
+    ensures refused { IfErr result (RefusesLine (spec.loop_line number) is_mark_shown lines.old.rest.now lines.old.taken) }
 {
     let line = lines.next()?;
     let words = words_of(alloc, line)?;

@@ -50,6 +50,8 @@ pub(crate) fn put_version(out: &mut Vec<u8>, version: Version) -> Result<(), All
         Version::One => b"1",
         Version::Two => b"2",
         Version::Three => b"3",
+        Version::Four => b"4",
+        Version::Five => b"5",
     })
 }
 
@@ -78,6 +80,7 @@ fn mark_word(mark: Mark) -> &'static [u8]
         Mark::Doall => b"DOALL",
         Mark::Single => b"SINGLE",
         Mark::Inner => b"INNER",
+        Mark::Sum => b"SUM",
     }
 }
 

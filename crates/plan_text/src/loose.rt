@@ -1,11 +1,12 @@
 // What a line would say if it were a line of a plan's text. It is one where it is the line of what
 // it says: who reads it compares the two, so nothing else of its form is looked at here.
 
-ghost use Rattle.std.specs.Prelude.{◌≡◌, ◌==◌, ◌+◌, ◌-◌, ◌%◌, ◌^◌, [], map, drop, IfOk, position, length, ◌<◌};
+ghost use Rattle.std.specs.Prelude.{◌≡◌, ◌==◌, ◌+◌, ◌-◌, ◌%◌, ◌^◌, [], map, drop, IfOk, position, length, true, ◌<◌};
 ghost use Rattle.std.specs.List.{after_first, before_first};
 ghost use Rattle.std.specs.Str.{bytes_eq};
 ghost use Rattle.nest_tree.specs.Form.{is_small, rises_above};
 ghost use Rattle.plan_text.specs.Loose as spec;
+ghost use Rattle.plan_text.specs.PlanText.{is_mark_shown};
 
 use farkas_cert::{Step, Terms};
 use nest_tree::{Affine, Pairs};
@@ -213,7 +214,8 @@ fn is_same(word: &[u8], other: &[u8]) -> bool
 
 /// The mark that a word names.
 pub(crate) fn mark_of(word: &[u8]) -> Mark
-    ensures { result ≡ spec.mark_of word.now }
+    ensures mark { result ≡ spec.mark_of word.now }
+    ensures shown { is_mark_shown result ≡ true }
 {
     if is_same(word, b"OUTER") {
         Mark::Outer

@@ -19,8 +19,8 @@ pub(crate) fn read_loops(
     lines: &mut Lines,
     count: u32,
 ) -> Result<Vec<Mark>, PlanSyntax>
-    ensures ok { IfOk result (λ items. ItemsRead (spec.alone loop_line) (λ m. true) lines.old.rest.now lines.old.taken lines.new.rest.now lines.new.taken items.items count) }
-    ensures refused { IfErr result (RefusesPart (spec.numbered (spec.alone loop_line) 1) (AreItems (λ m. true) count) lines.old.rest.now lines.old.taken) }
+    ensures ok { IfOk result (λ items. ItemsRead (spec.alone loop_line) spec.is_mark_shown lines.old.rest.now lines.old.taken lines.new.rest.now lines.new.taken items.items count) }
+    ensures refused { IfErr result (RefusesPart (spec.numbered (spec.alone loop_line) 1) (AreItems spec.is_mark_shown count) lines.old.rest.now lines.old.taken) }
 {
     let mut items = Vec::new(alloc);
     for index in 0..count {

@@ -8,7 +8,6 @@ ghost use Rattle.plan_text.specs.PlanText as spec;
 ghost use Rattle.plan_text.specs.Refused.{RefusesText};
 ghost use Rattle.plan_text.specs.Stops.{RefusesLine, RefusesPart};
 ghost use Rattle.plan_text.specs.Words.{loop_line, phase_line, version_line};
-ghost use Rattle.sync_plan.specs.declared.plan.Version.TheVariants.{Three};
 
 use crate::item::{read_count_32, read_count_64};
 use crate::line::put_count;
@@ -36,6 +35,12 @@ fn read_version(lines: &mut Lines) -> Result<Version, PlanSyntax>
     }
     if is_same(line, b"SPMD PLAN 3") {
         return Ok(Version::Three);
+    }
+    if is_same(line, b"SPMD PLAN 4") {
+        return Ok(Version::Four);
+    }
+    if is_same(line, b"SPMD PLAN 5") {
+        return Ok(Version::Five);
     }
     Err(lines.refusal())
 }
@@ -80,8 +85,8 @@ fn read_where(alloc: Global, lines: &mut Lines) -> Result<Option<u32>, PlanSynta
 fn read_rows_where(alloc: Global, lines: &mut Lines) -> Result<Conditions, PlanSyntax>
     ensures ok { IfOk result (λ c. lines.old.rest.now ≡ spec.text_of (spec.where_lines c) ++ lines.new.rest.now) }
     ensures taken { IfOk result (λ c. lines.new.taken ≡ lines.old.taken + length (spec.where_lines c)) }
-    ensures shown { IfOk result (λ c. spec.are_conditions_shown Three c ≡ true) }
-    ensures refused { IfErr result (RefusesPart spec.where_lines (λ c. spec.are_conditions_shown Three c ≡ true) lines.old.rest.now lines.old.taken) }
+    ensures shown { IfOk result (λ c. spec.are_where_shown c ≡ true) }
+    ensures refused { IfErr result (RefusesPart spec.where_lines (λ c. spec.are_where_shown c ≡ true) lines.old.rest.now lines.old.taken) }
 {
     let count = match read_where(alloc, lines) {
         Ok(Some(count)) => count,
@@ -98,8 +103,8 @@ fn read_rows_where(alloc: Global, lines: &mut Lines) -> Result<Conditions, PlanS
 fn read_marks(alloc: Global, lines: &mut Lines) -> Result<Vec<Mark>, PlanSyntax>
     ensures ok { IfOk result (λ marks. lines.old.rest.now ≡ spec.text_of (spec.counted (codes "LOOPS") (spec.alone loop_line) marks.items) ++ lines.new.rest.now) }
     ensures taken { IfOk result (λ marks. lines.new.taken ≡ lines.old.taken + length (spec.counted (codes "LOOPS") (spec.alone loop_line) marks.items)) }
-    ensures shown { IfOk result (λ marks. (spec.is_32 (length marks.items) && list_all (λ m. true) marks.items) ≡ true) }
-    ensures refused { IfErr result (RefusesPart (spec.counted (codes "LOOPS") (spec.alone loop_line)) (λ marks. (spec.is_32 (length marks) && list_all (λ m. true) marks) ≡ true) lines.old.rest.now lines.old.taken) }
+    ensures shown { IfOk result (λ marks. (spec.is_32 (length marks.items) && list_all spec.is_mark_shown marks.items) ≡ true) }
+    ensures refused { IfErr result (RefusesPart (spec.counted (codes "LOOPS") (spec.alone loop_line)) (λ marks. (spec.is_32 (length marks) && list_all spec.is_mark_shown marks) ≡ true) lines.old.rest.now lines.old.taken) }
 {
     let count = match read_count_32(alloc, lines, b"LOOPS") {
         Ok(count) => count,
@@ -149,7 +154,7 @@ fn read_conditions(
 {
     match version {
         Version::One | Version::Two => Ok(Conditions::Values),
-        Version::Three => read_rows_where(alloc, lines),
+        Version::Three | Version::Four | Version::Five => read_rows_where(alloc, lines),
     }
 }
 
@@ -242,7 +247,7 @@ fn made(alloc: Global, parts: Parts) -> Result<Plan, AllocError>
         version,
         conditions,
         workers,
-        cut: Cut::new(alloc, marks)?,
+        cut: Cut::plain(alloc, marks)?,
         anchors: Anchors::from_vec(anchors),
         kinds: Kinds::from_vec(kinds),
         certificates: Certificates::from_vec(certificates),

@@ -3,7 +3,6 @@
 ghost use Rattle.std.specs.Prelude.{◌≡◌, ◌<◌, ◌^◌, ◌++◌, ◌∷◌, [], IfOk, OnOk, length, true, codes};
 ghost use Rattle.plan_text.specs.PlanText as spec;
 ghost use Rattle.plan_text.specs.Words.{loop_line, phase_line, row_line, step_line};
-ghost use Rattle.sync_plan.specs.declared.plan.Version.TheVariants.{Three};
 
 use crate::line::{put_cert, put_count, put_loop, put_phase, put_row, put_step, put_version};
 use farkas_cert::{Certificate, Step};
@@ -36,12 +35,14 @@ fn put_head(out: &mut Vec<u8>, plan: &Plan) -> Result<(), AllocError>
     out.push(b'\n')?;
     match plan.version {
         Version::One | Version::Two => Ok(()),
-        Version::Three => put_conditions(out, &plan.conditions),
+        Version::Three | Version::Four | Version::Five => {
+            put_conditions(out, &plan.conditions)
+        }
     }
 }
 
 fn put_conditions(out: &mut Vec<u8>, conditions: &Conditions) -> Result<(), AllocError>
-    requires { spec.are_conditions_shown Three conditions.now ≡ true }
+    requires { spec.are_where_shown conditions.now ≡ true }
     ensures { OnOk result (out.new.items ≡ out.old.items ++ spec.text_of (spec.where_lines conditions.now)) }
 {
     match conditions {

@@ -74,13 +74,13 @@ joins_at tree plan p inside t (boundary counter n posts awaits) at = λ g. at_ba
 
     at_barrier : gathers tree plan n ≡ true → (posts p ≡ true) × ((o : ℕ) × (rest : List ℕ) × (awaits p ≡ o ∷ rest))
     at_barrier g =
-        let b = boundary_is tree plan 1 (phases tree plan.cut) t counter n posts awaits at in
+        let b = boundary_is tree plan 1 (phases tree plan.cut.marks) t counter n posts awaits at in
         let v = b.visit in
         let parts = parts_of (1 + b.phase) v b.is in
         let number : n ≡ b.phase = omega (arith, parts.0) in
-        let both = and_parts (is_barrier (kind_before plan (slice_get (phases tree plan.cut) n))) (nat_lt 1 plan.workers) g in
+        let both = and_parts (is_barrier (kind_before plan (slice_get (phases tree plan.cut.marks) n))) (nat_lt 1 plan.workers) g in
         let kind : slice_get plan.kinds (v.place - 1) ≡ Some Barrier =
-        barrier_is (slice_get plan.kinds (v.place - 1)) (sym (ap (λ o. is_barrier (kind_before plan o)) (ap (slice_get (phases tree plan.cut)) number ∙ b.at)) ∙ both.0) in
+        barrier_is (slice_get plan.kinds (v.place - 1)) (sym (ap (λ o. is_barrier (kind_before plan o)) (ap (slice_get (phases tree plan.cut.marks)) number ∙ b.at)) ∙ both.0) in
         let o = other_than p plan.workers (ltb-true 1 plan.workers both.1) inside in
         let waits = passes (does_wait_at Barrier 0 p) 0 plan.workers o.0 (omega arith) (omega (arith, o.1)) (apart_waits p o.0 (λ e. o.2 (sym e))) in
         let posts_here = any_from (λ q. does_wait_at Barrier 0 q p) 0 plan.workers o.0 (omega arith) (omega (arith, o.1)) (apart_waits o.0 p o.2) in (
@@ -127,8 +127,8 @@ pub arrivals_few : (tree : Tree) (plan : Plan) (p k : ℕ) → IsWellFormed tree
 arrivals_few tree plan p k formed limits =
     let some = front (gathers tree plan) (acts_of (machine_of tree plan) p) k in
     let all = few_arrivals (gathers tree plan) p 0 (timeline_of tree plan) in
-    let each = boundary_each tree plan 1 (phases tree plan.cut) in
-    let stops : length (phases tree plan.cut) ≤ 2 ^ 40 = most (stops-few tree (enters_outer plan.cut) formed) (kept tree limits).most_worked in
+    let each = boundary_each tree plan 1 (phases tree plan.cut.marks) in
+    let stops : length (phases tree plan.cut.marks) ≤ 2 ^ 40 = most (stops-few tree (enters_outer plan.cut.marks) formed) (kept tree limits).most_worked in
     omega (arith, some, all, each, stops)
   where
     most : {a b c : ℕ} → a ≤ b → b ≤ c → a ≤ c
@@ -165,7 +165,7 @@ weights_there tree plan e (v ∷ vs) (suc k) some le =
 
 boundary_counts : (tree : Tree) (plan : Plan) (t n : ℕ) (posts : ℕ → Bool) (awaits : ℕ → List ℕ) → slice_get (timeline_of tree plan) t ≡ Some (boundary counter n posts awaits) → weights (gathers tree plan) (take t (timeline_of tree plan)) ≡ barriers_in_front tree plan n
 boundary_counts tree plan t n posts awaits at =
-    let vs = phases tree plan.cut in
+    let vs = phases tree plan.cut.marks in
     let b = boundary_is tree plan 1 vs t counter n posts awaits at in
     let number : n ≡ b.phase = number_of (1 + b.phase) b.visit b.is ∙ omega arith in
     let within = slice_get_within vs b.phase b.visit b.at in

@@ -126,7 +126,7 @@ stored_by_deed m given (Some (store t c)) cell value e =
 stored_by_deed m given (Some (add t c)) cell value e = absurd (cc)
 stored_by_deed m given (Some (print t)) cell value e = absurd (cc)
 
-pub stored_values : (tree : Tree) (plan : Plan) (p n cell : ℕ) (value : List ℤ → ℤ) → IsWellFormed tree → IsFit tree plan → slice_get (deeds_from tree plan p 1 (phases tree plan.cut)) n ≡ Some (storing cell value) →
+pub stored_values : (tree : Tree) (plan : Plan) (p n cell : ℕ) (value : List ℤ → ℤ) → IsWellFormed tree → IsFit tree plan → slice_get (deeds_from tree plan p 1 (phases tree plan.cut.marks)) n ≡ Some (storing cell value) →
     (protocol_of tree plan).stored_at p n ≡ value ((protocol_of tree plan).registers_at p n)
 unfolding stored_under registers_under
 stored_values tree plan p n cell value formed fits e =
@@ -136,12 +136,12 @@ stored_values tree plan p n cell value formed fits e =
 -- ---- acts and lines by their deeds
 
 module _ (tree : Tree) (plan : Plan) (p n : ℕ) (formed : IsWellFormed tree) (fits : IsFit tree plan) where
-  deed_at : (d : Deed) → slice_get (deeds_from tree plan p 1 (phases tree plan.cut)) n ≡ Some d → option_map (deed_of (Planned.machine_of tree plan)) (act_at (Planned.machine_of tree plan) p n) ≡ Some d
+  deed_at : (d : Deed) → slice_get (deeds_from tree plan p 1 (phases tree plan.cut.marks)) n ≡ Some d → option_map (deed_of (Planned.machine_of tree plan)) (act_at (Planned.machine_of tree plan) p n) ≡ Some d
   deed_at d e =
       let m = Planned.machine_of tree plan in
       sym (slice_get-map (deed_of m) (acts_of m p) n) ∙ ap (λ deeds. slice_get deeds n) (plan_deeds tree plan p formed fits) ∙ e
 
-  pub act_of_deed : (d : Deed) → slice_get (deeds_from tree plan p 1 (phases tree plan.cut)) n ≡ Some d → (a : Act) × (Protocols.act_at (protocol_of tree plan) p n ≡ Some a) × (deed_of (Planned.machine_of tree plan) a ≡ d)
+  pub act_of_deed : (d : Deed) → slice_get (deeds_from tree plan p 1 (phases tree plan.cut.marks)) n ≡ Some d → (a : Act) × (Protocols.act_at (protocol_of tree plan) p n ≡ Some a) × (deed_of (Planned.machine_of tree plan) a ≡ d)
   unfolding acts_under
   act_of_deed d e = by (act_at (Planned.machine_of tree plan) p n) refl (deed_at d e)
     where
@@ -149,7 +149,7 @@ module _ (tree : Tree) (plan : Plan) (p n : ℕ) (formed : IsWellFormed tree) (f
       by None at h = absurd (cc)
       by (Some a) at h = let same : Some (deed_of (Planned.machine_of tree plan) a) ≡ Some d = h in (a, at, cc)
 
-  pub printed_line : (line : List ℤ → List ℕ) → slice_get (deeds_from tree plan p 1 (phases tree plan.cut)) n ≡ Some (printing line) → (protocol_of tree plan).printed_at p (n + 1) ≡ (protocol_of tree plan).printed_at p n ++ line ((protocol_of tree plan).registers_at p n)
+  pub printed_line : (line : List ℤ → List ℕ) → slice_get (deeds_from tree plan p 1 (phases tree plan.cut.marks)) n ≡ Some (printing line) → (protocol_of tree plan).printed_at p (n + 1) ≡ (protocol_of tree plan).printed_at p n ++ line ((protocol_of tree plan).registers_at p n)
   unfolding printed_under registers_under acts_under
   printed_line line e = let a = act_of_deed (printing line) e in by a.0 a.1 a.2
     where

@@ -110,7 +110,7 @@ moments_there tree plan e (v ∷ vs) all =
 timeline_there : (tree : Tree) (plan : Plan) → IsWellFormed tree → IsInRange tree → All (IsThereAt (cell_count tree)) (timeline_of tree plan)
 timeline_there tree plan formed ranges =
     let P : Instance → Type 0 = λ i. AreThere tree (cells_of tree i) in
-    moments_there tree plan 1 (phases tree plan.cut) (unmapped P (λ (x : Execution). x.instance) (executions tree plan.cut) (subst (All P) (sym (all_executed tree plan.cut)) (instances_there tree formed ranges)))
+    moments_there tree plan 1 (phases tree plan.cut.marks) (unmapped P (λ (x : Execution). x.instance) (executions tree plan.cut.marks) (subst (All P) (sym (all_executed tree plan.cut.marks)) (instances_there tree formed ranges)))
 
 -- ---- acts
 

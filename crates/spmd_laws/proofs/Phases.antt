@@ -13,7 +13,7 @@ goes_on : (tree : Tree) (plan : Plan) (q e : ℕ) (hops : List Hop) (p f : ℕ) 
 goes_on tree plan q e [] p f (same, le) = le
 goes_on tree plan q e (h ∷ hops) p f (lt, among, rest) = let later = goes_on tree plan h.processor h.phase hops p f rest in omega (arith, lt, later)
 
-pub one_owner : (tree : Tree) (plan : Plan) (j k : ℕ) (x y : Execution) → IsOrdered tree plan → j < k → slice_get (executions tree plan.cut) j ≡ Some x → slice_get (executions tree plan.cut) k ≡ Some y → x.phase ≡ y.phase → ConflictUnder tree plan x y → owner_under tree plan x ≡ owner_under tree plan y
+pub one_owner : (tree : Tree) (plan : Plan) (j k : ℕ) (x y : Execution) → IsOrdered tree plan → j < k → slice_get (executions tree plan.cut.marks) j ≡ Some x → slice_get (executions tree plan.cut.marks) k ≡ Some y → x.phase ≡ y.phase → ConflictUnder tree plan x y → owner_under tree plan x ≡ owner_under tree plan y
 one_owner tree plan j k x y ordered lt at at' phase conflict = ⊎_elim
     (λ same. same)
     (λ apart. let chain = ordered j k x y lt at at' conflict apart in by chain.0 chain.1) (cases_eq (owner_under tree plan x) (owner_under tree plan y))

@@ -38,14 +38,14 @@ pub fn laws_of()
 pub fn values_of_deeds()
     ensures stored { (tree : Tree) → (plan : Plan) → (p n cell : ℕ) → (value : List ℤ → ℤ)
         → IsWellFormed tree → IsFit tree plan → slice_get (deeds_from tree plan p 1 (phases tree
-        plan.cut)) n ≡ Some (storing cell value) → (protocol_of tree plan).stored_at p n
+        plan.cut.marks)) n ≡ Some (storing cell value) → (protocol_of tree plan).stored_at p n
         ≡ value ((protocol_of tree plan).registers_at p n) }
     ensures printed { (tree : Tree) → (plan : Plan) → (p n : ℕ) → (line : List ℤ → List ℕ)
         → IsWellFormed tree → IsFit tree plan → slice_get (deeds_from tree plan p 1 (phases tree
-        plan.cut)) n ≡ Some (printing line) → (protocol_of tree plan).printed_at p (n + 1)
+        plan.cut.marks)) n ≡ Some (printing line) → (protocol_of tree plan).printed_at p (n + 1)
         ≡ (protocol_of tree plan).printed_at p n ++ line ((protocol_of tree plan).registers_at p n) }
     ensures acts { (tree : Tree) → (plan : Plan) → (p n : ℕ) → (d : Deed) → IsWellFormed tree
-        → IsFit tree plan → slice_get (deeds_from tree plan p 1 (phases tree plan.cut)) n ≡ Some d
+        → IsFit tree plan → slice_get (deeds_from tree plan p 1 (phases tree plan.cut.marks)) n ≡ Some d
         → (a : Act) × (act_at (protocol_of tree plan) p n ≡ Some a)
         × (deed_of (machine_of tree plan) a ≡ d) }
 {}
@@ -106,8 +106,8 @@ pub fn plans_share_all_cells()
 /// processors' work between two joins touches no cell of another's.
 pub fn conflicts_in_a_phase()
     ensures { (tree : Tree) → (plan : Plan) → (j k : ℕ) → (x y : Execution) → IsOrdered tree plan
-        → j < k → slice_get (executions tree plan.cut) j ≡ Some x
-        → slice_get (executions tree plan.cut) k ≡ Some y → x.phase ≡ y.phase
+        → j < k → slice_get (executions tree plan.cut.marks) j ≡ Some x
+        → slice_get (executions tree plan.cut.marks) k ≡ Some y → x.phase ≡ y.phase
         → ConflictUnder tree plan x y → owner_under tree plan x ≡ owner_under tree plan y }
 {}
 

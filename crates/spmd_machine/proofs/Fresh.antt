@@ -55,13 +55,13 @@ module _ (tree : Tree) (plan : Plan) (size : ℕ) where
   fresh_left : (p : ℕ) (x : Processor) → IsFresh tree plan size p x → left_of x ≡ all_of tree plan p
   unfolding all_of
   fresh_left p x f =
-      left_idle x (ap length f.registers) ∙ ap (λ (w : Tree). flat_map (turn_deeds w) (turns_left x.turns)) f.program ∙ ap (flat_map (turn_deeds tree)) f.turns ∙ turns_do tree plan p 1 (phases tree plan.cut)
+      left_idle x (ap length f.registers) ∙ ap (λ (w : Tree). flat_map (turn_deeds w) (turns_left x.turns)) f.program ∙ ap (flat_map (turn_deeds tree)) f.turns ∙ turns_do tree plan p 1 (phases tree plan.cut.marks)
 
   fresh_position : (p : ℕ) (x : Processor) → IsFresh tree plan size p x → position_of tree plan x ≡ 0
   unfolding position_of
   fresh_position p x f = let left = fresh_left p x f in omega (arith, ap length left, ap (λ n. length (all_of tree plan n)) f.processor)
 
-  fresh_room : (p : ℕ) (x : Processor) → IsFresh tree plan size p x → room_of tree x ≡ sum_by (turn_room tree) (turns_from tree plan p 1 (phases tree plan.cut))
+  fresh_room : (p : ℕ) (x : Processor) → IsFresh tree plan size p x → room_of tree x ≡ sum_by (turn_room tree) (turns_from tree plan p 1 (phases tree plan.cut.marks))
   unfolding room_of
   fresh_room p x f = ap (sum_by (turn_room tree)) f.turns
 
@@ -83,9 +83,9 @@ module _ (tree : Tree) (plan : Plan) (size : ℕ) where
   module _ (ps : List Processor) (count : length ps ≡ plan.workers) (fresh : (p : ℕ) (d : Processor) → p < length ps → IsFresh tree plan size p (get_or ps p d)) where
     pub fresh_rooms : sum_by (room_of tree) ps ≤ longest_output tree
     fresh_rooms =
-        let each = same_sums (room_of tree) (λ p. sum_by (turn_room tree) (turns_from tree plan p 1 (phases tree plan.cut))) ps 0
-        (λ p d lt. fresh_room p (get_or ps p d) (fresh p d lt) ∙ ap (λ n. sum_by (turn_room tree) (turns_from tree plan n 1 (phases tree plan.cut))) (omega arith)) in
-        omega (arith, each, ap (λ n. sum_by (λ p. sum_by (turn_room tree) (turns_from tree plan p 1 (phases tree plan.cut))) (range_with_len 0 n)) count, rooms_below tree plan)
+        let each = same_sums (room_of tree) (λ p. sum_by (turn_room tree) (turns_from tree plan p 1 (phases tree plan.cut.marks))) ps 0
+        (λ p d lt. fresh_room p (get_or ps p d) (fresh p d lt) ∙ ap (λ n. sum_by (turn_room tree) (turns_from tree plan n 1 (phases tree plan.cut.marks))) (omega arith)) in
+        omega (arith, each, ap (λ n. sum_by (λ p. sum_by (turn_room tree) (turns_from tree plan p 1 (phases tree plan.cut.marks))) (range_with_len 0 n)) count, rooms_below tree plan)
 
     pub first_is : (memory : List ℤ) (output : List ℕ) → memory ≡ replicate (cell_count tree) (pos 0) → output ≡ [] → state_of tree plan ps memory output ≡ first_state (machine_of tree plan)
     first_is memory output zeros none =

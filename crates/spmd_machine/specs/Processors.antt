@@ -15,7 +15,7 @@ use Rattle.spmd_machine.specs.declared.processor.Processor.{Processor}
 
 -- all that a processor does, and what it has left
 unfoldable pub all_of : Tree → Plan → ℕ → List Deed
-all_of tree plan p = deeds_from tree plan p 1 (phases tree plan.cut)
+all_of tree plan p = deeds_from tree plan p 1 (phases tree plan.cut.marks)
 
 unfoldable pub left_of : Processor → List Deed
 left_of x = drop (length x.registers.items) (flat_map (turn_deeds (turns_tree x.turns)) (turns_left x.turns))
@@ -84,7 +84,7 @@ pub record IsFresh (tree : Tree) (plan : Plan) (size p : ℕ) (x : Processor) : 
   pub program : turns_tree x.turns ≡ tree
   pub plan_is : turns_plan x.turns ≡ plan
   pub processor : turns_processor x.turns ≡ p
-  pub turns : turns_left x.turns ≡ turns_from tree plan p 1 (phases tree plan.cut)
+  pub turns : turns_left x.turns ≡ turns_from tree plan p 1 (phases tree plan.cut.marks)
   pub registers : x.registers.items ≡ []
   pub first_load : x.load ≡ 0
   pub first_element : x.element ≡ 0

@@ -102,10 +102,10 @@ deeds_by_phase tree plan p e (v ∷ vs) anchors =
     ∙ ap (λ l. front ++ (flat_map (instance_deeds tree) (owned_by tree (slice_get plan.anchors (v.place - 1)) plan.workers p v) ++ l)) (deeds_by_phase tree plan p (suc e) vs (λ k w at. anchors (suc k) w at))
     ∙ sym (append_assoc front (flat_map (instance_deeds tree) (owned_by tree (slice_get plan.anchors (v.place - 1)) plan.workers p v)) (deeds_from tree plan p (suc e) vs))
 
-pub deeds_are : (tree : Tree) (plan : Plan) (p : ℕ) → ((k : ℕ) (v : Visit) → slice_get (phases tree plan.cut) k ≡ Some v → (a : Anchor) × (slice_get plan.anchors (v.place - 1) ≡ Some a)) →
-    map (deed_of (machine_of tree plan)) (acts_of (machine_of tree plan) p) ≡ deeds_from tree plan p 1 (phases tree plan.cut)
+pub deeds_are : (tree : Tree) (plan : Plan) (p : ℕ) → ((k : ℕ) (v : Visit) → slice_get (phases tree plan.cut.marks) k ≡ Some v → (a : Anchor) × (slice_get plan.anchors (v.place - 1) ≡ Some a)) →
+    map (deed_of (machine_of tree plan)) (acts_of (machine_of tree plan) p) ≡ deeds_from tree plan p 1 (phases tree plan.cut.marks)
 deeds_are tree plan p anchors =
-    deeds_along (machine_of tree plan) p 0 (timeline_of tree plan) (λ k x at. ap (slice_get (timeline_of tree plan)) (zero-add k) ∙ at) ∙ deeds_by_phase tree plan p 1 (phases tree plan.cut) anchors
+    deeds_along (machine_of tree plan) p 0 (timeline_of tree plan) (λ k x at. ap (slice_get (timeline_of tree plan)) (zero-add k) ∙ at) ∙ deeds_by_phase tree plan p 1 (phases tree plan.cut.marks) anchors
 
 -- ---- a step by its deed
 
@@ -126,15 +126,15 @@ possible_is m s (add t c) = refl
 possible_is m s (print t) = refl
 
 -- each phase of a plan that fits has an anchor
-pub anchored : (tree : Tree) (plan : Plan) → IsWellFormed tree → IsFit tree plan → (k : ℕ) (v : Visit) → slice_get (phases tree plan.cut) k ≡ Some v → (a : Anchor) × (slice_get plan.anchors (v.place - 1) ≡ Some a)
+pub anchored : (tree : Tree) (plan : Plan) → IsWellFormed tree → IsFit tree plan → (k : ℕ) (v : Visit) → slice_get (phases tree plan.cut.marks) k ≡ Some v → (a : Anchor) × (slice_get plan.anchors (v.place - 1) ≡ Some a)
 anchored tree plan formed fits k v at =
     let parts = fit_parts tree plan fits in
-    let f = all_at (IsThereFrom (param_values tree) (scope_of tree) 1 (stops_of (enters_outer plan.cut) tree.items) (placed tree (enters_outer plan.cut)) (ends_among (param_values tree) (enters_outer plan.cut) no_ends tree.items)) (phases tree plan.cut) k v (all_there tree (enters_outer plan.cut) formed) at in
-    let within = slice_get_within (placed tree (enters_outer plan.cut)) f.k (record { what = v.what; around = f.there.around }) f.there.at in
+    let f = all_at (IsThereFrom (param_values tree) (scope_of tree) 1 (stops_of (enters_outer plan.cut.marks) tree.items) (placed tree (enters_outer plan.cut.marks)) (ends_among (param_values tree) (enters_outer plan.cut.marks) no_ends tree.items)) (phases tree plan.cut.marks) k v (all_there tree (enters_outer plan.cut.marks) formed) at in
+    let within = slice_get_within (placed tree (enters_outer plan.cut.marks)) f.k (record { what = v.what; around = f.there.around }) f.there.at in
     elim ((slice_get_cases plan.anchors (v.place - 1)).1) [
       | inl h ↦ (h.0, h.2)
       | inr h ↦ absurd (omega (arith, h.0, f.place_is, within, parts.anchors))
     ]
 
-pub plan_deeds : (tree : Tree) (plan : Plan) (p : ℕ) → IsWellFormed tree → IsFit tree plan → map (deed_of (machine_of tree plan)) (acts_of (machine_of tree plan) p) ≡ deeds_from tree plan p 1 (phases tree plan.cut)
+pub plan_deeds : (tree : Tree) (plan : Plan) (p : ℕ) → IsWellFormed tree → IsFit tree plan → map (deed_of (machine_of tree plan)) (acts_of (machine_of tree plan) p) ≡ deeds_from tree plan p 1 (phases tree plan.cut.marks)
 plan_deeds tree plan p formed fits = deeds_are tree plan p (anchored tree plan formed fits)

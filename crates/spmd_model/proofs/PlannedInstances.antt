@@ -30,14 +30,14 @@ pub record IsInstance (tree : Tree) (plan : Plan) (place : ℕ) (j : Job) : Type
 
 pub instance_there : (tree : Tree) (plan : Plan) (place : ℕ) (j : Job) → slice_get (timeline_of tree plan) place ≡ Some (job j) → IsInstance tree plan place j
 instance_there tree plan place j at =
-    let x = executed tree plan 1 (phases tree plan.cut) place j at in
+    let x = executed tree plan 1 (phases tree plan.cut.marks) place j at in
     record {
       execution = x.execution;
       is = x.is;
       at =
           ap (slice_get (instances tree)) (sym x.counted)
-          ∙ ap (λ is. slice_get is x.number) (sym (all_executed tree plan.cut))
-          ∙ slice_get-map (λ (y : Execution). y.instance) (executions tree plan.cut) x.number
+          ∙ ap (λ is. slice_get is x.number) (sym (all_executed tree plan.cut.marks))
+          ∙ slice_get-map (λ (y : Execution). y.instance) (executions tree plan.cut.marks) x.number
           ∙ ap (option_map (λ (y : Execution). y.instance)) x.at;
     }
 

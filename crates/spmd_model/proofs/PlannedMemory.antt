@@ -77,19 +77,19 @@ pub memory_is : (tree : Tree) (plan : Plan) (t : ℕ) → memory_at (machine_of 
 memory_is tree plan t =
     let first = first_memory tree in
     let n = jobs_in_front tree plan t in
-    let xs = executions tree plan.cut in
+    let xs = executions tree plan.cut.marks in
     fold_jobs first (take t (timeline_of tree plan))
-    ∙ ap (fold job_behind first) (jobs_in-take (timeline_of tree plan) t ∙ ap (take n) (jobs_along tree plan 1 (phases tree plan.cut)) ∙ take-map (job_of tree plan) n xs)
+    ∙ ap (fold job_behind first) (jobs_in-take (timeline_of tree plan) t ∙ ap (take n) (jobs_along tree plan 1 (phases tree plan.cut.marks)) ∙ take-map (job_of tree plan) n xs)
     ∙ fold_instances tree plan first (take n xs)
-    ∙ ap (fold (memory_after tree) first) (sym (take-map (λ (x : Execution). x.instance) n xs) ∙ ap (take n) (all_executed tree plan.cut))
+    ∙ ap (fold (memory_after tree) first) (sym (take-map (λ (x : Execution). x.instance) n xs) ∙ ap (take n) (all_executed tree plan.cut.marks))
 
 pub last_memory_is : (tree : Tree) (plan : Plan) → last_memory (machine_of tree plan) ≡ Model.last_memory tree
 last_memory_is tree plan =
     let first = first_memory tree in
     fold_jobs first (timeline_of tree plan)
-    ∙ ap (fold job_behind first) (jobs_along tree plan 1 (phases tree plan.cut))
-    ∙ fold_instances tree plan first (executions tree plan.cut)
-    ∙ ap (fold (memory_after tree) first) (all_executed tree plan.cut)
+    ∙ ap (fold job_behind first) (jobs_along tree plan 1 (phases tree plan.cut.marks))
+    ∙ fold_instances tree plan first (executions tree plan.cut.marks)
+    ∙ ap (fold (memory_after tree) first) (all_executed tree plan.cut.marks)
 
 -- the last memory has a cell for each of the program's
 after_size : (tree : Tree) (memory : List ℤ) (is : List Instance) → length (fold (memory_after tree) memory is) ≡ length memory
@@ -132,6 +132,6 @@ pub output_is : (tree : Tree) (plan : Plan) → whole_output (machine_of tree pl
 output_is tree plan =
     let first = first_memory tree in
     output_moments first (timeline_of tree plan)
-    ∙ ap (output_jobs first) (jobs_along tree plan 1 (phases tree plan.cut))
-    ∙ output_instances tree plan first (executions tree plan.cut)
-    ∙ ap (output_from tree first) (all_executed tree plan.cut)
+    ∙ ap (output_jobs first) (jobs_along tree plan 1 (phases tree plan.cut.marks))
+    ∙ output_instances tree plan first (executions tree plan.cut.marks)
+    ∙ ap (output_from tree first) (all_executed tree plan.cut.marks)

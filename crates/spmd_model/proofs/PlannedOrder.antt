@@ -10,7 +10,9 @@ use Rattle.sync_plan.specs.declared.plan.Plan.{Plan}
 use Rattle.std.specs.Option.{option_to_list}
 use Rattle.std.proofs.lemmas.List.Elements.{Contains-append_left, Contains-append_right}
 use Rattle.nest_model.specs.Accesses.{cells_of, loads_of, store_of}
-use Rattle.sync_plan.specs.Conflicts.{ConflictUnder}
+use Rattle.nest_model.specs.Accesses.{Conflict as InstancesConflict}
+use Rattle.sync_plan.specs.Fit.{IsFit}
+use Rattle.sync_plan.proofs.NoOwn.{conflict_seen}
 use Rattle.sync_plan.specs.Ordered.{IsOrdered as IsOrderedPlan, IsChain as IsPlanChain, Hop as PlanHop, awaited_in as awaited_in_plan, awaited_in_front, owner_under}
 use Rattle.sync_plan.specs.Waits.{awaited_behind, does_wait_at, kind_owner}
 use Rattle.spmd_model.specs.Timelines.{Job, job}
@@ -37,7 +39,7 @@ filtered test a (suc n) q among = by (filtered test (a + 1) n q) (test a) refl a
         in_first (suc k, lt, e) = let r = rest (k, omega (arith, lt), e) in (r.0, omega (arith, r.1))
 
 awaited_below : (tree : Tree) (plan : Plan) (p e q : ℕ) → Contains (awaited_in_front tree plan p e) q → q < plan.workers
-awaited_below tree plan p e q among = by_phase (slice_get (phases tree plan.cut) (e - 1)) among
+awaited_below tree plan p e q among = by_phase (slice_get (phases tree plan.cut.marks) (e - 1)) among
   where
     by_kind : (o : Option Kind) (v : Visit) → Contains (awaited_behind o plan.workers v.loops (param_values tree) p) q → q < plan.workers
     by_kind None v (k, lt, h) = absurd (omega (arith, lt))
@@ -51,13 +53,13 @@ awaited_below tree plan p e q among = by_phase (slice_get (phases tree plan.cut)
 
 -- where the boundary of the phase with this number, from 1, stands
 abbrev boundary_place : Tree → Plan → ℕ → ℕ
-boundary_place tree plan e = boundary_place_from tree plan 1 (phases tree plan.cut) (e - 1)
+boundary_place tree plan e = boundary_place_from tree plan 1 (phases tree plan.cut.marks) (e - 1)
 
 -- a phase at which somebody is awaited is there
-phase_there : (tree : Tree) (plan : Plan) (p e q : ℕ) → Contains (awaited_in_front tree plan p e) q → (v : Visit) × (slice_get (phases tree plan.cut) (e - 1) ≡ Some v)
-phase_there tree plan p e q among = by (slice_get (phases tree plan.cut) (e - 1)) refl among
+phase_there : (tree : Tree) (plan : Plan) (p e q : ℕ) → Contains (awaited_in_front tree plan p e) q → (v : Visit) × (slice_get (phases tree plan.cut.marks) (e - 1) ≡ Some v)
+phase_there tree plan p e q among = by (slice_get (phases tree plan.cut.marks) (e - 1)) refl among
   where
-    by : (o : Option Visit) → slice_get (phases tree plan.cut) (e - 1) ≡ o → Contains (awaited_in_plan tree plan p o) q → (v : Visit) × (slice_get (phases tree plan.cut) (e - 1) ≡ Some v)
+    by : (o : Option Visit) → slice_get (phases tree plan.cut.marks) (e - 1) ≡ o → Contains (awaited_in_plan tree plan p o) q → (v : Visit) × (slice_get (phases tree plan.cut.marks) (e - 1) ≡ Some v)
     by None h (k, lt, x) = absurd (omega (arith, lt))
     by (Some v) h found = (v, h)
 
@@ -78,7 +80,7 @@ chain_along tree plan q e t (h ∷ hops) p f u some inside (lt, among, rest) fro
     let b = boundary_place tree plan h.phase in
     let there = phase_there tree plan h.processor h.phase q among in
     let number : 1 + (h.phase - 1) ≡ h.phase = omega (arith, lt) in
-    let at : slice_get m.timeline b ≡ Some (boundary_of tree plan h.phase there.0) = boundary_there tree plan 1 (phases tree plan.cut) (h.phase - 1) there.0 h.phase there.1 number in
+    let at : slice_get m.timeline b ≡ Some (boundary_of tree plan h.phase there.0) = boundary_there tree plan 1 (phases tree plan.cut.marks) (h.phase - 1) there.0 h.phase there.1 number in
     let known : Contains (awaited_in (slice_get m.timeline b) h.processor) q = subst (λ o. Contains (awaited_in o h.processor) q) (sym at) (subst (λ o. Contains (awaited_in_plan tree plan h.processor o) q) there.1 among) in
     let positive : 0 < number_in (slice_get m.timeline b) = subst (λ o. 0 < number_in o) (sym at) (omega (arith, lt, some)) in
     let before_end = last_phase h.processor h.phase hops rest in
@@ -90,10 +92,10 @@ chain_along tree plan q e t (h ∷ hops) p f u some inside (lt, among, rest) fro
     last_phase r g (x ∷ gs) (lt, among, rest) = let later = last_phase x.processor x.phase gs rest in omega (arith, lt, later)
 
     -- a later boundary stands behind this one
-    next_boundary : (k : ℕ) → h.phase < k → (v : Visit) × (slice_get (phases tree plan.cut) (h.phase - 1) ≡ Some v) → boundary_place tree plan h.phase < boundary_place tree plan k
+    next_boundary : (k : ℕ) → h.phase < k → (v : Visit) × (slice_get (phases tree plan.cut.marks) (h.phase - 1) ≡ Some v) → boundary_place tree plan h.phase < boundary_place tree plan k
     next_boundary k next (v, there) =
-        let one = boundary_step tree plan 1 (phases tree plan.cut) (h.phase - 1) v there in
-        let rise = boundary_rises tree plan 1 (phases tree plan.cut) (suc (h.phase - 1)) (k - 1) (omega (arith, next, lt)) in
+        let one = boundary_step tree plan 1 (phases tree plan.cut.marks) (h.phase - 1) v there in
+        let rise = boundary_rises tree plan 1 (phases tree plan.cut.marks) (suc (h.phase - 1)) (k - 1) (omega (arith, next, lt)) in
         omega (arith, one, rise)
 
 -- ---- conflicts
@@ -107,23 +109,23 @@ needed_cell tree plan x cell (inl among) = Contains-append_left (loads_of tree x
 needed_cell tree plan x cell (inr stores) = changed_cell tree plan x cell stores.0
 
 -- jobs that conflict are those of instances that do
-conflict_under : (tree : Tree) (plan : Plan) (x y : Execution) → Conflict (job_of tree plan x) (job_of tree plan y) → ConflictUnder tree plan x y
+conflict_under : (tree : Tree) (plan : Plan) (x y : Execution) → Conflict (job_of tree plan x) (job_of tree plan y) → InstancesConflict tree x.instance y.instance
 conflict_under tree plan x y conflict = by conflict.clash
   where
-    by : (Needs (job_of tree plan x) conflict.cell × ((job_of tree plan y).store ≡ Some conflict.cell)) ⊎ (((job_of tree plan x).store ≡ Some conflict.cell) × Needs (job_of tree plan y) conflict.cell) → ConflictUnder tree plan x y
+    by : (Needs (job_of tree plan x) conflict.cell × ((job_of tree plan y).store ≡ Some conflict.cell)) ⊎ (((job_of tree plan x).store ≡ Some conflict.cell) × Needs (job_of tree plan y) conflict.cell) → InstancesConflict tree x.instance y.instance
     by (inl (needs, stores)) = record { cell = conflict.cell; first = needed_cell tree plan x conflict.cell needs; second = changed_cell tree plan y conflict.cell stores; stored = inr stores }
     by (inr (stores, needs)) = record { cell = conflict.cell; first = changed_cell tree plan x conflict.cell stores; second = needed_cell tree plan y conflict.cell needs; stored = inl stores }
 
-pub ordered_along : (tree : Tree) (plan : Plan) → ((x : Execution) (k : ℕ) → slice_get (executions tree plan.cut) k ≡ Some x → owner_under tree plan x < plan.workers) → IsOrderedPlan tree plan → IsOrdered (machine_of tree plan)
-ordered_along tree plan owned ordered t u i j lt at at' conflict apart =
-    let vs = phases tree plan.cut in
+pub ordered_along : (tree : Tree) (plan : Plan) → ((x : Execution) (k : ℕ) → slice_get (executions tree plan.cut.marks) k ≡ Some x → owner_under tree plan x < plan.workers) → IsFit tree plan → IsOrderedPlan tree plan → IsOrdered (machine_of tree plan)
+ordered_along tree plan owned fits ordered t u i j lt at at' conflict apart =
+    let vs = phases tree plan.cut.marks in
     let x = executed tree plan 1 vs t i at in
     let y = executed tree plan 1 vs u j at' in
     let less : x.number < y.number = count_less t u i lt at x.number y.number x.counted y.counted in
     let conflict_xy : Conflict (job_of tree plan x.execution) (job_of tree plan y.execution) = subst (λ a. Conflict a (job_of tree plan y.execution)) x.is (subst (λ a. Conflict i a) y.is conflict) in
     let owner_x : i.owner ≡ owner_under tree plan x.execution = ap (λ (a : Job). a.owner) x.is in
     let owner_y : j.owner ≡ owner_under tree plan y.execution = ap (λ (a : Job). a.owner) y.is in
-    let chain = ordered x.number y.number x.execution y.execution less x.at y.at (conflict_under tree plan x.execution y.execution conflict_xy) (λ e. apart (owner_x ∙ e ∙ sym owner_y)) in
+    let chain = ordered x.number y.number x.execution y.execution less x.at y.at (conflict_seen tree plan x.execution y.execution fits (conflict_under tree plan x.execution y.execution conflict_xy)) (λ e. apart (owner_x ∙ e ∙ sym owner_y)) in
     let along = chain_along tree plan (owner_under tree plan x.execution) x.execution.phase t chain.0 (owner_under tree plan y.execution) y.execution.phase u (omega (arith, x.phase_is)) (owned y.execution y.number y.at) chain.1
     (λ k next. let rise = boundary_rises tree plan 1 vs (suc x.phase) (k - 1) (omega (arith, next, x.phase_is)) in omega (arith, rise, x.in_front))
     (λ k first le. let rise = boundary_rises tree plan 1 vs (k - 1) y.phase (omega (arith, le, y.phase_is)) in omega (arith, rise, y.behind)) lt in

@@ -72,7 +72,7 @@ number_is tree plan e w n v posts awaits same = cc
 
 pub numbers_rise : (tree : Tree) (plan : Plan) (w : Word) (s t n k : ℕ) (f g : ℕ → Bool) (a b : ℕ → List ℕ) → s < t → slice_get (timeline_of tree plan) s ≡ Some (boundary w n f a) → slice_get (timeline_of tree plan) t ≡ Some (boundary w k g b) → n < k
 numbers_rise tree plan w s t n k f g a b lt at at' =
-    let vs = phases tree plan.cut in
+    let vs = phases tree plan.cut.marks in
     let x = boundary_is tree plan 1 vs s w n f a at in
     let y = boundary_is tree plan 1 vs t w k g b at' in
     let nx = number_is tree plan (1 + x.phase) w n x.visit f a x.is in
@@ -94,7 +94,7 @@ awaited_posts tree plan v p q inside among = by (slice_get plan.kinds (v.place -
 
 pub awaited_on : (tree : Tree) (plan : Plan) (w : Word) (t n p q : ℕ) (posts : ℕ → Bool) (awaits : ℕ → List ℕ) → slice_get (timeline_of tree plan) t ≡ Some (boundary w n posts awaits) → p < plan.workers → Contains (awaits p) q → (q < plan.workers) × (posts q ≡ true)
 awaited_on tree plan w t n p q posts awaits at inside among =
-    let x = boundary_is tree plan 1 (phases tree plan.cut) t w n posts awaits at in
+    let x = boundary_is tree plan 1 (phases tree plan.cut.marks) t w n posts awaits at in
     let v = x.visit in
     let same_posts : posts ≡ (λ o. posts_at tree plan o v.place v.loops) = posts_are (1 + x.phase) v x.is in
     let same_awaits : awaits ≡ (λ o. waits_for tree plan o v.place v.loops) = awaits_are (1 + x.phase) v x.is in
@@ -109,17 +109,17 @@ awaited_on tree plan w t n p q posts awaits at inside among =
 
 -- ---- a plan that fits has a sound timeline
 
-owned_along : (tree : Tree) (plan : Plan) → All (λ (x : Execution). owner_under tree plan x < plan.workers) (executions tree plan.cut) → (t : ℕ) (j : Job) → slice_get (timeline_of tree plan) t ≡ Some (job j) → j.owner < plan.workers
+owned_along : (tree : Tree) (plan : Plan) → All (λ (x : Execution). owner_under tree plan x < plan.workers) (executions tree plan.cut.marks) → (t : ℕ) (j : Job) → slice_get (timeline_of tree plan) t ≡ Some (job j) → j.owner < plan.workers
 owned_along tree plan below t j at =
-    let x = executed tree plan 1 (phases tree plan.cut) t j at in
+    let x = executed tree plan 1 (phases tree plan.cut.marks) t j at in
     let owner : j.owner ≡ owner_under tree plan x.execution = ap (λ (a : Job). a.owner) x.is in
-    omega (arith, owner, all_at (λ (y : Execution). owner_under tree plan y < plan.workers) (executions tree plan.cut) x.number x.execution below x.at)
+    omega (arith, owner, all_at (λ (y : Execution). owner_under tree plan y < plan.workers) (executions tree plan.cut.marks) x.number x.execution below x.at)
 
-printed_along : (tree : Tree) (plan : Plan) → All (λ (x : Execution). (p : Printing) → x.instance.what ≡ print p → owner_under tree plan x ≡ 0) (executions tree plan.cut) → (t : ℕ) (j : Job) → slice_get (timeline_of tree plan) t ≡ Some (job j) → j.store ≡ None → j.owner ≡ 0
+printed_along : (tree : Tree) (plan : Plan) → All (λ (x : Execution). (p : Printing) → x.instance.what ≡ print p → owner_under tree plan x ≡ 0) (executions tree plan.cut.marks) → (t : ℕ) (j : Job) → slice_get (timeline_of tree plan) t ≡ Some (job j) → j.store ≡ None → j.owner ≡ 0
 printed_along tree plan zero_owns t j at none =
-    let x = executed tree plan 1 (phases tree plan.cut) t j at in
+    let x = executed tree plan 1 (phases tree plan.cut.marks) t j at in
     let store : work_store tree x.execution.instance.loops x.execution.instance.what ≡ None = sym (ap (λ (a : Job). a.store) x.is) ∙ none in
-    ap (λ (a : Job). a.owner) x.is ∙ by x.execution (all_at (λ (y : Execution). (p : Printing) → y.instance.what ≡ print p → owner_under tree plan y ≡ 0) (executions tree plan.cut) x.number x.execution zero_owns x.at) x.execution.instance.what refl store
+    ap (λ (a : Job). a.owner) x.is ∙ by x.execution (all_at (λ (y : Execution). (p : Printing) → y.instance.what ≡ print p → owner_under tree plan y ≡ 0) (executions tree plan.cut.marks) x.number x.execution zero_owns x.at) x.execution.instance.what refl store
   where
     by : (x : Execution) → ((p : Printing) → x.instance.what ≡ print p → owner_under tree plan x ≡ 0) → (w : Work) → x.instance.what ≡ w → work_store tree x.instance.loops w ≡ None → owner_under tree plan x ≡ 0
     by x h (assign a) is store = let clash : Some (access_cell tree x.instance.loops a.target) ≡ None = store in absurd (cc)
@@ -135,4 +135,4 @@ sound_of tree plan formed fits = record {
 
 pub ordered_of : (tree : Tree) (plan : Plan) → IsWellFormed tree → IsFit tree plan → IsOrderedPlan tree plan → IsOrdered (machine_of tree plan)
 ordered_of tree plan formed fits ordered =
-    ordered_along tree plan (λ x k at. all_at (λ (y : Execution). owner_under tree plan y < plan.workers) (executions tree plan.cut) k x (owners_below tree plan formed fits) at) ordered
+    ordered_along tree plan (λ x k at. all_at (λ (y : Execution). owner_under tree plan y < plan.workers) (executions tree plan.cut.marks) k x (owners_below tree plan formed fits) at) fits ordered

@@ -7,7 +7,7 @@ use Rattle.nest_model.specs.Memory.{assigned_value, line_of}
 use Rattle.nest_model.specs.Visits.{Visit}
 use Rattle.owner_partition.specs.Phases.{Execution, phase_instances, phases}
 use Rattle.sync_plan.specs.declared.plan.Plan.{Plan}
-use Rattle.sync_plan.specs.Conflicts.{loads_under, store_under}
+use Rattle.nest_model.specs.Accesses.{loads_of, store_of}
 use Rattle.sync_plan.specs.Ordered.{owner_under}
 use Rattle.sync_plan.specs.Waits.{posts_at, waits_for}
 use Rattle.spmd_model.specs.Timelines.{Job, Machine, Moment, boundary, counter, job}
@@ -16,8 +16,8 @@ use Rattle.spmd_model.specs.Timelines.{Job, Machine, Moment, boundary, counter, 
 abbrev pub job_of : Tree → Plan → Execution → Job
 job_of tree plan x = record {
   owner = owner_under tree plan x;
-  loads = loads_under tree plan x;
-  store = store_under tree plan x;
+  loads = loads_of tree x.instance;
+  store = store_of tree x.instance;
   adds = false;
   assigned = assigned_value tree x.instance;
   line = line_of tree x.instance;
@@ -36,7 +36,7 @@ timeline_from tree plan e [] = []
 timeline_from tree plan e (v ∷ rest) = boundary_of tree plan e v ∷ (jobs_of tree plan e v ++ timeline_from tree plan (suc e) rest)
 
 abbrev pub timeline_of : Tree → Plan → List Moment
-timeline_of tree plan = timeline_from tree plan 1 (phases tree plan.cut)
+timeline_of tree plan = timeline_from tree plan 1 (phases tree plan.cut.marks)
 
 -- the machine of a program under a plan
 abbrev pub machine_of : Tree → Plan → Machine

@@ -190,7 +190,7 @@ pub fn timelines_are_sequential()
 pub fn acts_by_their_deeds()
     ensures phases { (tree : Tree) → (plan : Plan) → (p : ℕ) → IsWellFormed tree → IsFit tree plan
         → map (deed_of (machine_of tree plan)) (acts_of (machine_of tree plan) p)
-        ≡ deeds_from tree plan p 1 (phases tree plan.cut) }
+        ≡ deeds_from tree plan p 1 (phases tree plan.cut.marks) }
     ensures acted { (m : Machine) → (s : State) → (p : ℕ) → (a : Act)
         → acted m s p a ≡ did s p (deed_of m a) }
     ensures possible { (m : Machine) → (s : State) → (a : Act)

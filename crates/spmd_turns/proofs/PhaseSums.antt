@@ -133,8 +133,8 @@ module _ (tree : Tree) (plan : Plan) where
         sum_by-append (instance_room tree) (phase_instances (param_values tree) v) (flat_map (phase_instances (param_values tree)) vs),
       )
 
-  pub rooms_below : sum_by (λ p. sum_by (turn_room tree) (turns_from tree plan p 1 (phases tree plan.cut))) (range_with_len 0 plan.workers) ≤ longest_output tree
-  rooms_below = omega (arith, all_rooms 1 (phases tree plan.cut), ap (sum_by (instance_room tree)) (phases_whole tree plan.cut))
+  pub rooms_below : sum_by (λ p. sum_by (turn_room tree) (turns_from tree plan p 1 (phases tree plan.cut.marks))) (range_with_len 0 plan.workers) ≤ longest_output tree
+  rooms_below = omega (arith, all_rooms 1 (phases tree plan.cut.marks), ap (sum_by (instance_room tree)) (phases_whole tree plan.cut.marks))
 
   -- ---- what turns load and store
 
@@ -177,5 +177,5 @@ module _ (tree : Tree) (plan : Plan) where
       ∙ and_from (list_all (is_turn_inside tree) (boundary_turns (e - 1) does qs)) (list_all (is_turn_inside tree) (map works (own p v))) (boundary_inside (e - 1) does qs) (list_all-map (is_turn_inside tree) works (own p v) ∙ own_inside p v parts.0))
       (turns_inside p (suc e) vs parts.1)
 
-  pub all_inside : (p : ℕ) → list_all (is_instance_inside tree) (instances tree) ≡ true → list_all (is_turn_inside tree) (turns_from tree plan p 1 (phases tree plan.cut)) ≡ true
-  all_inside p h = turns_inside p 1 (phases tree plan.cut) (ap (list_all (is_instance_inside tree)) (phases_whole tree plan.cut) ∙ h)
+  pub all_inside : (p : ℕ) → list_all (is_instance_inside tree) (instances tree) ≡ true → list_all (is_turn_inside tree) (turns_from tree plan p 1 (phases tree plan.cut.marks)) ≡ true
+  all_inside p h = turns_inside p 1 (phases tree plan.cut.marks) (ap (list_all (is_instance_inside tree)) (phases_whole tree plan.cut.marks) ∙ h)

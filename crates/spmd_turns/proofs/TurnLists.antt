@@ -100,22 +100,22 @@ outside_of tree marks k constants (do_loop head body) around f formed at named =
 outside_of tree marks k constants (work w) around f formed at named = refl
 outside_of tree marks k constants (continue line) around f formed at named = refl
 
-pub phase_anchor : (tree : Tree) (plan : Plan) (k : ℕ) (v : Visit) → IsWellFormed tree → IsFit tree plan → slice_get (phases tree plan.cut) k ≡ Some v → PhaseAnchor tree plan v
+pub phase_anchor : (tree : Tree) (plan : Plan) (k : ℕ) (v : Visit) → IsWellFormed tree → IsFit tree plan → slice_get (phases tree plan.cut.marks) k ≡ Some v → PhaseAnchor tree plan v
 phase_anchor tree plan k v formed fits at =
     let parts = fit_parts tree plan fits in
-    let f = visit_there tree plan.cut k v formed at in
+    let f = visit_there tree plan.cut.marks k v formed at in
     let (a, anchor_at) = anchored tree plan formed fits k v at in
     let index : v.place - 1 ≡ f.k = omega (arith, f.place_is) in
     let there : slice_get plan.anchors f.k ≡ Some a = ap (slice_get plan.anchors) (sym index) ∙ anchor_at in
-    let good = good_each (length tree.params) plan.cut (static_phases tree plan.cut) plan.anchors f.k (record { what = v.what; around = f.there.around }) a parts.good_anchors f.there.at there in
-    let named = and_parts (names_only (length tree.params) (own_loops plan.cut v.what f.there.around) a.form) (has_places a.dist) good in
+    let good = good_each (length tree.params) plan.cut.marks (static_phases tree plan.cut.marks) plan.anchors f.k (record { what = v.what; around = f.there.around }) a parts.good_anchors f.there.at there in
+    let named = and_parts (names_only (length tree.params) (own_loops plan.cut.marks v.what f.there.around) a.form) (has_places a.dist) good in
     let numbers = (and_parts (is_form a.form && _) (list_all (λ p. is_number_of (length tree.params) p.0) a.form.params) named.0).1 in
     record {
       anchor = a;
       at = anchor_at;
       low = omega (arith, f.place_is);
       within = slice_get_within plan.anchors (v.place - 1) a anchor_at;
-      outside = outside_of tree plan.cut f.k (length tree.params) v.what f.there.around a.form formed f.there.at named.0;
+      outside = outside_of tree plan.cut.marks f.k (length tree.params) v.what f.there.around a.form formed f.there.at named.0;
       given = constants_within (length tree.params) a.form.params numbers;
       block = block_some a.dist named.1;
     }
@@ -163,9 +163,9 @@ some_word false word some = elim (cases_Bool (word == 0)) [
 -- ---- into a phase
 
 -- the phase that comes next
-pub next_phase : (tree : Tree) (plan : Plan) (passed : ℕ) (left rest : List Visit) (v : Visit) → left ≡ drop passed (phases tree plan.cut) → left ≡ v ∷ rest →
-    (slice_get (phases tree plan.cut) passed ≡ Some v) × (drop (suc passed) (phases tree plan.cut) ≡ rest)
-next_phase tree plan passed left rest v behind is = drop_at (phases tree plan.cut) passed v rest (sym behind ∙ is)
+pub next_phase : (tree : Tree) (plan : Plan) (passed : ℕ) (left rest : List Visit) (v : Visit) → left ≡ drop passed (phases tree plan.cut.marks) → left ≡ v ∷ rest →
+    (slice_get (phases tree plan.cut.marks) passed ≡ Some v) × (drop (suc passed) (phases tree plan.cut.marks) ≡ rest)
+next_phase tree plan passed left rest v behind is = drop_at (phases tree plan.cut.marks) passed v rest (sym behind ∙ is)
 
 -- the phase's turns are those that stood behind
 pub entered_turns : (tree : Tree) (plan : Plan) (p e number number' word word' : ℕ) (post post' : Bool) (begin begin' : Option ℕ) (v : Visit) (rest : List Visit) (rounds rounds' : List Round) (come : Option Stop) (own own' : List Instance) →

@@ -59,4 +59,4 @@ abbrev pub boundary_of : Option Kind → ℕ → Boundary
 boundary_of kind workers = if is_join kind then Join else if is_barrier kind && nat_lt 1 workers then Barrier else Counters
 
 abbrev pub boundary_at : Tree → Plan → ℕ → Boundary
-boundary_at tree plan number = boundary_of (kind_before plan (slice_get (phases tree plan.cut) number)) plan.workers
+boundary_at tree plan number = boundary_of (kind_before plan (slice_get (phases tree plan.cut.marks) number)) plan.workers

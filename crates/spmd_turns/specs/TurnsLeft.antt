@@ -115,7 +115,7 @@ pub record AreSound (c : Turns) : Type 0 where
   pub worker : c.processor < (turns_plan c).workers
   pub walked : phases_tree c.phases ≡ turns_tree c
   pub owned : instances_tree c.own ≡ turns_tree c
-  pub entered : phases_enters c.phases ≡ enters_outer (turns_plan c).cut
-  pub behind : phases_left c.phases ≡ drop (phases_passed c.phases) (phases (turns_tree c) (turns_plan c).cut)
+  pub entered : phases_enters c.phases ≡ enters_outer (turns_plan c).cut.marks
+  pub behind : phases_left c.phases ≡ drop (phases_passed c.phases) (phases (turns_tree c) (turns_plan c).cut.marks)
   pub boundary : (c.posts || not (c.awaits == 0)) ≡ true → IsInFront c
   pub one : IsOne (turns_tree c) (turns_rounds c) c.come

@@ -15,5 +15,5 @@ ghost use Rattle.spmd_turns.specs.Turns.{turn_deeds, turns_from};
 /// A processor's turns under a plan that fits do, one behind the other, exactly what its acts of
 /// the plan's timeline do, of which every interleaving is sequential where the plan is ordered.
 pub fn turns_are_acts()
-    ensures { (tree : Tree) → (plan : Plan) → (p : ℕ) → IsWellFormed tree → IsFit tree plan → flat_map (turn_deeds tree) (turns_from tree plan p 1 (phases tree plan.cut)) ≡ map (deed_of (machine_of tree plan)) (acts_of (machine_of tree plan) p) }
+    ensures { (tree : Tree) → (plan : Plan) → (p : ℕ) → IsWellFormed tree → IsFit tree plan → flat_map (turn_deeds tree) (turns_from tree plan p 1 (phases tree plan.cut.marks)) ≡ map (deed_of (machine_of tree plan)) (acts_of (machine_of tree plan) p) }
 {}

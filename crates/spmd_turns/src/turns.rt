@@ -76,7 +76,7 @@ impl<'a> Turns<'a> {
         requires fits { IsFit (tree_of program.now) plan.now }
         requires worker { processor < plan.now.workers }
         ensures sound { AreSound result }
-        ensures turns { turns_left result ≡ turns_from (tree_of program.now) plan.now processor 1 (phases_of (tree_of program.now) plan.now.cut) }
+        ensures turns { turns_left result ≡ turns_from (tree_of program.now) plan.now processor 1 (phases_of (tree_of program.now) plan.now.cut.marks) }
         ensures program { turns_tree result ≡ tree_of program.now }
         ensures plan { turns_plan result ≡ plan.now }
         ensures processor { turns_processor result ≡ processor }

@@ -144,15 +144,15 @@ no_doall marks (continue line) around none = refl
 phase_owner : Tree → Plan → Visit → Option Anchor → ℕ
 phase_owner tree plan v o = owner_by o plan.workers v.loops (param_values tree)
 
-one_owner : (tree : Tree) (plan : Plan) (v : Visit) → FitParts tree plan → All (λ m. is_doall m ≡ false) plan.cut → IsThereFrom (param_values tree) (scope_of tree) 1 (stops_of (enters_outer plan.cut) tree.items) (placed tree (enters_outer plan.cut)) (ends_among (param_values tree) (enters_outer plan.cut) no_ends tree.items) v →
+one_owner : (tree : Tree) (plan : Plan) (v : Visit) → FitParts tree plan → All (λ m. is_doall m ≡ false) plan.cut.marks → IsThereFrom (param_values tree) (scope_of tree) 1 (stops_of (enters_outer plan.cut.marks) tree.items) (placed tree (enters_outer plan.cut.marks)) (ends_among (param_values tree) (enters_outer plan.cut.marks) no_ends tree.items) v →
     (o : Option Anchor) → slice_get plan.anchors (v.place - 1) ≡ o → All (λ (i : Instance). owner_by o plan.workers i.loops (param_values tree) ≡ owner_by o plan.workers v.loops (param_values tree)) (phase_instances (param_values tree) v)
 one_owner tree plan v parts none f None at = All-weaker (λ (i : Instance). (k : ℕ) → k < f.there.number - 1 → get_or i.loops k (pos 0) ≡ get_or v.loops k (pos 0)) (λ (i : Instance). owner_by None plan.workers i.loops (param_values tree) ≡ owner_by None plan.workers v.loops (param_values tree)) (λ i agree. refl) (phase_instances (param_values tree) v) (agree_in (param_values tree) (scope_of tree) f.there.around f.there.number v.what v.first v.loops f.there.good f.there.low)
 one_owner tree plan v parts none f (Some a) at =
     let t = f.there in
     let index : v.place - 1 ≡ f.k = omega (arith, f.place_is) in
     let anchor_at : slice_get plan.anchors f.k ≡ Some a = ap (slice_get plan.anchors) (sym index) ∙ at in
-    let good = good_each (length tree.params) plan.cut (static_phases tree plan.cut) plan.anchors f.k (record { what = v.what; around = t.around }) a parts.good_anchors t.at anchor_at in
-    let good' : is_good_anchor (length tree.params) t.around a ≡ true = sym (ap (λ l. is_good_anchor (length tree.params) l a) (no_doall plan.cut v.what t.around none)) ∙ good in
+    let good = good_each (length tree.params) plan.cut.marks (static_phases tree plan.cut.marks) plan.anchors f.k (record { what = v.what; around = t.around }) a parts.good_anchors t.at anchor_at in
+    let good' : is_good_anchor (length tree.params) t.around a ≡ true = sym (ap (λ l. is_good_anchor (length tree.params) l a) (no_doall plan.cut.marks v.what t.around none)) ∙ good in
     let names = (and_parts (names_only (length tree.params) t.around a.form) (has_places a.dist) good').0 in
     All-weaker (λ (i : Instance). (k : ℕ) → k < t.number - 1 → get_or i.loops k (pos 0) ≡ get_or v.loops k (pos 0)) (λ (i : Instance). anchor_owner a plan.workers i.loops (param_values tree) ≡ anchor_owner a plan.workers v.loops (param_values tree))
     (λ i agree. ap (λ z. count_of (dealt a.dist plan.workers z)) (form_same (length tree.params) t.number t.around a.form (param_values tree) i.loops v.loops t.below names agree)) (phase_instances (param_values tree) v)
@@ -180,19 +180,19 @@ not_equal a b ne = elim (cases_Bool (a == b)) [
   | inr other ↦ other
 ]
 
-pub barriers_order : (tree : Tree) (plan : Plan) → IsWellFormed tree → IsFit tree plan → All (λ k. k ≡ Barrier) plan.kinds → All (λ m. is_doall m ≡ false) plan.cut → IsOrdered tree plan
+pub barriers_order : (tree : Tree) (plan : Plan) → IsWellFormed tree → IsFit tree plan → All (λ k. k ≡ Barrier) plan.kinds → All (λ m. is_doall m ≡ false) plan.cut.marks → IsOrdered tree plan
 barriers_order tree plan formed fits barriers none j k x y lt at at' conflict apart =
     let params = param_values tree in
-    let vs = phases tree plan.cut in
+    let vs = phases tree plan.cut.marks in
     let parts = fit_parts tree plan fits in
     let xo = execution_of params 1 vs x j at in
     let yo = execution_of params 1 vs y k at' in
-    let there = all_there tree (enters_outer plan.cut) formed in
-    let T = IsThereFrom params (scope_of tree) 1 (stops_of (enters_outer plan.cut) tree.items) (placed tree (enters_outer plan.cut)) (ends_among params (enters_outer plan.cut) no_ends tree.items) in
+    let there = all_there tree (enters_outer plan.cut.marks) formed in
+    let T = IsThereFrom params (scope_of tree) 1 (stops_of (enters_outer plan.cut.marks) tree.items) (placed tree (enters_outer plan.cut.marks)) (ends_among params (enters_outer plan.cut.marks) no_ends tree.items) in
     let fy = all_at T vs yo.phase yo.visit there yo.at in
     let rise = phases_rise params 1 vs x y j k lt at at' in
     let owners = owners_below tree plan formed fits in
-    let below_x = all_at (λ (z : Execution). owner_under tree plan z < plan.workers) (executions tree plan.cut) j x owners at in
+    let below_x = all_at (λ (z : Execution). owner_under tree plan z < plan.workers) (executions tree plan.cut.marks) j x owners at in
     elim (cases_eq x.phase y.phase) [
       | inl same ↦
           let phase_same : xo.phase ≡ yo.phase = omega (arith, same, xo.phase_is, yo.phase_is) in
@@ -215,16 +215,16 @@ barriers_order tree plan formed fits barriers none j k x y lt at at' conflict ap
           (hop ∷ [], (omega (arith, rise, other), awaited yo fy parts below_x, (refl, omega arith)))
     ]
   where
-    awaited : (yo : IsOf (param_values tree) 1 (phases tree plan.cut) y k) → IsThereFrom (param_values tree) (scope_of tree) 1 (stops_of (enters_outer plan.cut) tree.items) (placed tree (enters_outer plan.cut)) (ends_among (param_values tree) (enters_outer plan.cut) no_ends tree.items) yo.visit →
+    awaited : (yo : IsOf (param_values tree) 1 (phases tree plan.cut.marks) y k) → IsThereFrom (param_values tree) (scope_of tree) 1 (stops_of (enters_outer plan.cut.marks) tree.items) (placed tree (enters_outer plan.cut.marks)) (ends_among (param_values tree) (enters_outer plan.cut.marks) no_ends tree.items) yo.visit →
         FitParts tree plan → owner_under tree plan x < plan.workers → Contains (awaited_in_front tree plan (owner_under tree plan y) y.phase) (owner_under tree plan x)
     awaited yo fy parts below =
         let v = yo.visit in
         let p = owner_under tree plan y in
         let q = owner_under tree plan x in
         let number : y.phase - 1 ≡ yo.phase = omega (arith, yo.phase_is) in
-        let at_phase : slice_get (phases tree plan.cut) (y.phase - 1) ≡ Some v = ap (slice_get (phases tree plan.cut)) number ∙ yo.at in
+        let at_phase : slice_get (phases tree plan.cut.marks) (y.phase - 1) ≡ Some v = ap (slice_get (phases tree plan.cut.marks)) number ∙ yo.at in
         let index : v.place - 1 ≡ fy.k = omega (arith, fy.place_is) in
-        let inside : v.place - 1 < length plan.kinds = omega (arith, index, parts.kinds, slice_get_within (static_phases tree plan.cut) fy.k (record { what = v.what; around = fy.there.around }) fy.there.at) in
+        let inside : v.place - 1 < length plan.kinds = omega (arith, index, parts.kinds, slice_get_within (static_phases tree plan.cut.marks) fy.k (record { what = v.what; around = fy.there.around }) fy.there.at) in
         let kind_at : slice_get plan.kinds (v.place - 1) ≡ Some Barrier = slice_get-get_or plan.kinds (v.place - 1) Barrier inside ∙ ap Some (All-get_or (λ (z : Kind). z ≡ Barrier) plan.kinds (v.place - 1) Barrier inside barriers) in
         let differ : does_wait_at Barrier 0 p q ≡ true = ap (λ b. not b && true) (not_equal p q (λ e. apart (sym e))) in
         subst (λ o. Contains (awaited_in tree plan p o) q) (sym at_phase) (subst (λ o. Contains (awaited_behind o plan.workers v.loops (param_values tree) p) q) (sym kind_at) (in_filter (does_wait_at Barrier 0 p) 0 plan.workers q (omega arith) (omega (arith, below)) differ))

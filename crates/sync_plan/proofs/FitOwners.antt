@@ -220,28 +220,28 @@ owned_in params constants scope marks workers phase first number (work w) loops 
     elim (is_executed w loops params) as (λ b. All P (if b then here ∷ [] else [])) [ true ↦ All-cons P here [] (placed_owner params workers phase a ends loops some h placed_is) (All-nil P) | false ↦ All-nil P ]
 owned_in params constants scope marks workers phase first number (continue line) loops around ends a some h good below low count placed_is named = All-nil (λ (i : Instance). anchor_owner a workers i.loops params < workers)
 
-pub owners_below : (tree : Tree) (plan : Plan) → IsWellFormed tree → IsFit tree plan → All (λ x. owner_under tree plan x < plan.workers) (executions tree plan.cut)
+pub owners_below : (tree : Tree) (plan : Plan) → IsWellFormed tree → IsFit tree plan → All (λ x. owner_under tree plan x < plan.workers) (executions tree plan.cut.marks)
 owners_below tree plan formed fits =
     let params = param_values tree in
     let parts = fit_parts tree plan fits in
-    executions_all (λ x. owner_under tree plan x < plan.workers) params 1 (phases tree plan.cut)
-    (All-weaker (IsThereFrom params (scope_of tree) 1 (stops_of (enters_outer plan.cut) tree.items) (placed tree (enters_outer plan.cut)) (ends_among params (enters_outer plan.cut) no_ends tree.items))
+    executions_all (λ x. owner_under tree plan x < plan.workers) params 1 (phases tree plan.cut.marks)
+    (All-weaker (IsThereFrom params (scope_of tree) 1 (stops_of (enters_outer plan.cut.marks) tree.items) (placed tree (enters_outer plan.cut.marks)) (ends_among params (enters_outer plan.cut.marks) no_ends tree.items))
     (λ (v : Visit). (n : ℕ) → All (λ i. owner_under tree plan (record { phase = n; place = v.place; instance = i }) < plan.workers) (phase_instances params v))
-    (λ v f n. by_anchor parts v f (slice_get plan.anchors (v.place - 1)) refl) (phases tree plan.cut) (all_there tree (enters_outer plan.cut) formed))
+    (λ v f n. by_anchor parts v f (slice_get plan.anchors (v.place - 1)) refl) (phases tree plan.cut.marks) (all_there tree (enters_outer plan.cut.marks) formed))
   where
-    by_anchor : FitParts tree plan → (v : Visit) → IsThereFrom (param_values tree) (scope_of tree) 1 (stops_of (enters_outer plan.cut) tree.items) (placed tree (enters_outer plan.cut)) (ends_among (param_values tree) (enters_outer plan.cut) no_ends tree.items) v →
+    by_anchor : FitParts tree plan → (v : Visit) → IsThereFrom (param_values tree) (scope_of tree) 1 (stops_of (enters_outer plan.cut.marks) tree.items) (placed tree (enters_outer plan.cut.marks)) (ends_among (param_values tree) (enters_outer plan.cut.marks) no_ends tree.items) v →
         (o : Option Anchor) → slice_get plan.anchors (v.place - 1) ≡ o → All (λ i. owner_by o plan.workers i.loops (param_values tree) < plan.workers) (phase_instances (param_values tree) v)
     by_anchor parts v f None at = All-from_get_or (λ (i : Instance). 0 < plan.workers) (phase_instances (param_values tree) v) (record { statement = 0; what = print (record { items = []; line = 0 }); loops = [] }) (λ i lt. omega (arith, parts.some))
     by_anchor parts v f (Some a) at =
         let t = f.there in
         let index : v.place - 1 ≡ f.k = omega (arith, f.place_is) in
         let anchor_at : slice_get plan.anchors f.k ≡ Some a = ap (slice_get plan.anchors) (sym index) ∙ at in
-        let placed_is = placed_each tree plan.cut plan.workers 1 plan.anchors (kind_anchors 1 plan.kinds) f.k a parts.placed anchor_at in
+        let placed_is = placed_each tree plan.cut.marks plan.workers 1 plan.anchors (kind_anchors 1 plan.kinds) f.k a parts.placed anchor_at in
         let back : 1 + f.k - 1 ≡ f.k = omega arith in
         let within : misplaced_within (param_values tree) plan.workers (1 + f.k) a (own_ends (param_values tree) t.ends v.what) ≡ None =
-        ap (misplaced_at (param_values tree) plan.workers (1 + f.k) a) (sym (ap (phase_ends tree plan.cut) back ∙ t.ends_are)) ∙ placed_is in
-        owned_in (param_values tree) (length tree.params) (scope_of tree) plan.cut plan.workers (1 + f.k) v.first t.number v.what v.loops t.around t.ends a parts.some t.inside t.good t.below t.low t.count within
-        (good_each (length tree.params) plan.cut (static_phases tree plan.cut) plan.anchors f.k (record { what = v.what; around = t.around }) a parts.good_anchors t.at anchor_at)
+        ap (misplaced_at (param_values tree) plan.workers (1 + f.k) a) (sym (ap (phase_ends tree plan.cut.marks) back ∙ t.ends_are)) ∙ placed_is in
+        owned_in (param_values tree) (length tree.params) (scope_of tree) plan.cut.marks plan.workers (1 + f.k) v.first t.number v.what v.loops t.around t.ends a parts.some t.inside t.good t.below t.low t.count within
+        (good_each (length tree.params) plan.cut.marks (static_phases tree plan.cut.marks) plan.anchors f.k (record { what = v.what; around = t.around }) a parts.good_anchors t.at anchor_at)
 
 -- ---- PRINTs
 
@@ -312,16 +312,16 @@ zero_owner a workers loops params h =
 abbrev PrintsAtZero : Tree → Plan → Option Anchor → Instance → Type 0
 PrintsAtZero tree plan o i = (p : Printing) → i.what ≡ print p → owner_by o plan.workers i.loops (param_values tree) ≡ 0
 
-pub printers : (tree : Tree) (plan : Plan) → IsWellFormed tree → IsFit tree plan → All (λ (x : Execution). (p : Printing) → x.instance.what ≡ print p → owner_under tree plan x ≡ 0) (executions tree plan.cut)
+pub printers : (tree : Tree) (plan : Plan) → IsWellFormed tree → IsFit tree plan → All (λ (x : Execution). (p : Printing) → x.instance.what ≡ print p → owner_under tree plan x ≡ 0) (executions tree plan.cut.marks)
 printers tree plan formed fits =
     let params = param_values tree in
     let parts = fit_parts tree plan fits in
-    executions_all (λ (x : Execution). (p : Printing) → x.instance.what ≡ print p → owner_under tree plan x ≡ 0) params 1 (phases tree plan.cut)
-    (All-weaker (IsThereFrom params (scope_of tree) 1 (stops_of (enters_outer plan.cut) tree.items) (placed tree (enters_outer plan.cut)) (ends_among params (enters_outer plan.cut) no_ends tree.items))
+    executions_all (λ (x : Execution). (p : Printing) → x.instance.what ≡ print p → owner_under tree plan x ≡ 0) params 1 (phases tree plan.cut.marks)
+    (All-weaker (IsThereFrom params (scope_of tree) 1 (stops_of (enters_outer plan.cut.marks) tree.items) (placed tree (enters_outer plan.cut.marks)) (ends_among params (enters_outer plan.cut.marks) no_ends tree.items))
     (λ (v : Visit). (n : ℕ) → All (λ (i : Instance). (p : Printing) → i.what ≡ print p → owner_under tree plan (record { phase = n; place = v.place; instance = i }) ≡ 0) (phase_instances params v))
-    (λ v f n. by_print parts v f (slice_get plan.anchors (v.place - 1)) refl) (phases tree plan.cut) (all_there tree (enters_outer plan.cut) formed))
+    (λ v f n. by_print parts v f (slice_get plan.anchors (v.place - 1)) refl) (phases tree plan.cut.marks) (all_there tree (enters_outer plan.cut.marks) formed))
   where
-    by_print : FitParts tree plan → (v : Visit) → IsThereFrom (param_values tree) (scope_of tree) 1 (stops_of (enters_outer plan.cut) tree.items) (placed tree (enters_outer plan.cut)) (ends_among (param_values tree) (enters_outer plan.cut) no_ends tree.items) v →
+    by_print : FitParts tree plan → (v : Visit) → IsThereFrom (param_values tree) (scope_of tree) 1 (stops_of (enters_outer plan.cut.marks) tree.items) (placed tree (enters_outer plan.cut.marks)) (ends_among (param_values tree) (enters_outer plan.cut.marks) no_ends tree.items) v →
         (o : Option Anchor) → slice_get plan.anchors (v.place - 1) ≡ o → All (PrintsAtZero tree plan o) (phase_instances (param_values tree) v)
     by_print parts v f None at = All-from_get_or (PrintsAtZero tree plan None) (phase_instances (param_values tree) v) (record { statement = 0; what = print (record { items = []; line = 0 }); loops = [] }) (λ i lt p e. refl)
     by_print parts v f (Some a) at =
@@ -330,7 +330,7 @@ printers tree plan formed fits =
         let anchor_at : slice_get plan.anchors f.k ≡ Some a = ap (slice_get plan.anchors) (sym index) ∙ at in
         elim (cases_Bool (has_print v.what)) [
           | inl prints ↦
-              let zero_form = print_anchor 1 plan.cut (static_phases tree plan.cut) plan.anchors f.k (record { what = v.what; around = t.around }) a parts.prints t.at anchor_at prints in
+              let zero_form = print_anchor 1 plan.cut.marks (static_phases tree plan.cut.marks) plan.anchors f.k (record { what = v.what; around = t.around }) a parts.prints t.at anchor_at prints in
               All-from_get_or (PrintsAtZero tree plan (Some a)) (phase_instances (param_values tree) v) (record { statement = 0; what = print (record { items = []; line = 0 }); loops = [] }) (λ i lt p e. zero_owner a plan.workers _ (param_values tree) zero_form)
           | inr silent ↦ All-weaker (λ (i : Instance). (p : Printing) → i.what ≡ print p → ⊥) (PrintsAtZero tree plan (Some a)) (λ i never p e. absurd (never p e)) (phase_instances (param_values tree) v) (prints_in (param_values tree) v.what v.first v.loops silent)
         ]

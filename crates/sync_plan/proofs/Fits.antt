@@ -19,7 +19,7 @@ use Rattle.sync_plan.specs.declared.plan.Kind.TheVariants.{Producer}
 use Rattle.sync_plan.specs.declared.plan.Plan.{Plan}
 use Rattle.owner_partition.specs.Placement.{unplaced}
 use Rattle.sync_plan.specs.Fit.{IsFit, Misfit, shape, placement, print_place, as_misfit, misplaced_print, placed_anchors}
-use Rattle.sync_plan.specs.Shape.{are_good_anchors, are_good_kinds, are_marked_well, has_places, is_good_anchor, is_good_kind, static_phases, wrong_field}
+use Rattle.sync_plan.specs.Shape.{are_good_anchors, are_good_conditions, are_good_kinds, are_marked_well, has_places, have_good_privates, have_good_sums, is_good_anchor, is_good_kind, is_privately_good, static_phases, wrong_field}
 
 -- the loops round a place have numbers up to this one
 abbrev all_within : ℕ → List ℕ → Bool
@@ -59,13 +59,16 @@ field_right false n rest e = absurd (cc)
 pub record FitParts (tree : Tree) (plan : Plan) : Type 0 where
   pub some : 1 ≤ plan.workers
   pub few : plan.workers ≤ 64
-  pub marks : length plan.cut ≡ loops_of tree.items
-  pub anchors : length plan.anchors ≡ length (static_phases tree plan.cut)
-  pub kinds : length plan.kinds ≡ length (static_phases tree plan.cut)
-  pub good_kinds : are_good_kinds (length tree.params) (static_phases tree plan.cut) plan.kinds ≡ true
-  pub good_anchors : are_good_anchors (length tree.params) plan.cut (static_phases tree plan.cut) plan.anchors ≡ true
-  pub placed : unplaced tree plan.cut plan.workers (placed_anchors plan) ≡ None
-  pub prints : misplaced_print 1 plan.cut (static_phases tree plan.cut) plan.anchors ≡ None
+  pub marks : length plan.cut.marks ≡ loops_of tree.items
+  pub anchors : length plan.anchors ≡ length (static_phases tree plan.cut.marks)
+  pub kinds : length plan.kinds ≡ length (static_phases tree plan.cut.marks)
+  pub good_kinds : are_good_kinds (length tree.params) (static_phases tree plan.cut.marks) plan.kinds ≡ true
+  pub good_anchors : are_good_anchors (length tree.params) plan.cut.marks (static_phases tree plan.cut.marks) plan.anchors ≡ true
+  pub placed : unplaced tree plan.cut.marks plan.workers (placed_anchors plan) ≡ None
+  pub good_sums : have_good_sums plan.version plan.cut.marks tree.items ≡ true
+  pub privates : length plan.cut.privates ≡ loops_of tree.items
+  pub good_privates : have_good_privates plan.version plan.cut tree.items ≡ true
+  pub prints : misplaced_print 1 plan.cut.marks (static_phases tree plan.cut.marks) plan.anchors ≡ None
 
 pub nothing_misfits : {A : Type 0} (why : A → Misfit) (found : Option A) → as_misfit why found ≡ None → found ≡ None
 nothing_misfits why None e = refl
@@ -73,29 +76,36 @@ nothing_misfits why (Some a) e = absurd (cc)
 
 pub fit_parts : (tree : Tree) (plan : Plan) → IsFit tree plan → FitParts tree plan
 fit_parts tree plan fits =
-    let text = static_phases tree plan.cut in
+    let text = static_phases tree plan.cut.marks in
     let constants = length tree.params in
     let first = neither (as_misfit shape (wrong_field tree plan)) _ fits in
-    let second = neither (as_misfit placement (unplaced tree plan.cut plan.workers (placed_anchors plan))) _ first.1 in
-    let third = neither (as_misfit print_place (misplaced_print 1 plan.cut text plan.anchors)) _ second.1 in
+    let second = neither (as_misfit placement (unplaced tree plan.cut.marks plan.workers (placed_anchors plan))) _ first.1 in
+    let third = neither (as_misfit print_place (misplaced_print 1 plan.cut.marks text plan.anchors)) _ second.1 in
     let none = nothing_misfits shape (wrong_field tree plan) first.0 in
     let workers = field_right (nat_le 1 plan.workers && nat_le plan.workers 64) 1 _ none in
-    let marks = field_right (length plan.cut == loops_of tree.items) 2 _ workers.1 in
-    let marked = field_right (are_marked_well plan.cut false tree.items) 3 _ marks.1 in
+    let marks = field_right (length plan.cut.marks == loops_of tree.items) 2 _ workers.1 in
+    let marked = field_right (are_marked_well plan.cut.marks false tree.items) 3 _ marks.1 in
     let counts = field_right (length plan.anchors == length text && length plan.kinds == length text) 4 _ marked.1 in
-    let anchors = field_right (are_good_anchors constants plan.cut text plan.anchors) 5 _ counts.1 in
+    let anchors = field_right (are_good_anchors constants plan.cut.marks text plan.anchors) 5 _ counts.1 in
     let kinds = field_right (are_good_kinds constants text plan.kinds) 6 _ anchors.1 in
+    let conditions = field_right (are_good_conditions constants plan.version plan.conditions) 8 _ kinds.1 in
+    let sums = field_right (have_good_sums plan.version plan.cut.marks tree.items) 9 _ conditions.1 in
+    let privates = field_right (is_privately_good plan.version plan.cut tree.items) 10 _ sums.1 in
+    let lists = and_parts (length plan.cut.privates == loops_of tree.items) (have_good_privates plan.version plan.cut tree.items) privates.0 in
     let range = and_parts (nat_le 1 plan.workers) (nat_le plan.workers 64) workers.0 in
     record {
       some = leb-true 1 plan.workers range.0;
       few = leb-true plan.workers 64 range.1;
-      marks = eqb-true (length plan.cut) (loops_of tree.items) marks.0;
+      marks = eqb-true (length plan.cut.marks) (loops_of tree.items) marks.0;
       anchors = eqb-true (length plan.anchors) (length text) (and_parts (length plan.anchors == length text) (length plan.kinds == length text) counts.0).0;
       kinds = eqb-true (length plan.kinds) (length text) (and_parts (length plan.anchors == length text) (length plan.kinds == length text) counts.0).1;
       good_kinds = kinds.0;
       good_anchors = anchors.0;
-      placed = nothing_misfits placement (unplaced tree plan.cut plan.workers (placed_anchors plan)) second.0;
-      prints = nothing_misfits print_place (misplaced_print 1 plan.cut text plan.anchors) third.0;
+      placed = nothing_misfits placement (unplaced tree plan.cut.marks plan.workers (placed_anchors plan)) second.0;
+      good_sums = sums.0;
+      privates = eqb-true (length plan.cut.privates) (loops_of tree.items) lists.0;
+      good_privates = lists.1;
+      prints = nothing_misfits print_place (misplaced_print 1 plan.cut.marks text plan.anchors) third.0;
     }
 
 -- a kind of the list names only loops and named constants that are there
@@ -126,8 +136,8 @@ producer_given tree plan i d a formed fits lt is =
     let n = loops_of tree.items in
     let constants = length tree.params in
     let parts = fit_parts tree plan fits in
-    let within = placed_of-within (enters_outer plan.cut) (scope_of tree) n [] 1 tree.items (well_formed_parts tree formed).statements (omega arith) refl in
-    let kind = kind_given n constants (static_phases tree plan.cut) plan.kinds i d within parts.good_kinds parts.kinds lt in
+    let within = placed_of-within (enters_outer plan.cut.marks) (scope_of tree) n [] 1 tree.items (well_formed_parts tree formed).statements (omega arith) refl in
+    let kind = kind_given n constants (static_phases tree plan.cut.marks) plan.kinds i d within parts.good_kinds parts.kinds lt in
     let good : is_good_anchor constants kind.around a ≡ true = sym (ap (is_good_kind constants kind.around) is) ∙ kind.good in
     let named = and_parts (names_only constants kind.around a.form) (has_places a.dist) good in
     record { given = form-given n constants kind.around a.form kind.within named.0; places = named.1 }

@@ -8,3 +8,5 @@ pub mod PhasePlaces
 pub mod FitOwners
 pub mod BarrierOrder
 pub mod OuterLoops
+pub mod NoOwn
+pub mod OwnVersions

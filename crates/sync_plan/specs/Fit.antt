@@ -9,6 +9,7 @@ use Rattle.nest_walk.specs.Texts.{Placed}
 use Rattle.owner_partition.specs.declared.anchor.Anchor.{Anchor}
 use Rattle.owner_partition.specs.declared.cut.Mark.{Mark}
 use Rattle.owner_partition.specs.declared.placement.Placement.{Placement}
+pub use Rattle.owner_partition.specs.Marks.{is_dealt}
 use Rattle.owner_partition.specs.Placement.{unplaced}
 use Rattle.sync_plan.specs.declared.plan.ConditionRow.{ConditionRow}
 use Rattle.sync_plan.specs.declared.plan.Conditions.{Conditions}
@@ -16,7 +17,7 @@ use Rattle.sync_plan.specs.declared.plan.Conditions.TheVariants.{Values, Rows}
 use Rattle.sync_plan.specs.declared.plan.Kind.{Kind}
 use Rattle.sync_plan.specs.declared.plan.Kind.TheVariants.{Nothing, Producer, Left, Right, Both, Barrier, Join}
 use Rattle.sync_plan.specs.declared.plan.Plan.{Plan}
-use Rattle.sync_plan.specs.Shape.{is_doall, mark_of, static_phases, wrong_field}
+use Rattle.sync_plan.specs.Shape.{static_phases, wrong_field}
 
 -- why a plan doesn't fit: a field of its shape, a block anchor that leaves its blocks, a phase with a PRINT that processor 0 doesn't run alone, or a row of conditions that isn't met
 pub data Misfit : Type 0 where
@@ -44,17 +45,11 @@ kind_anchors n (Join ∷ rest) = kind_anchors (suc n) rest
 abbrev pub placed_anchors : Plan → List (ℕ × Anchor)
 placed_anchors plan = numbered_anchors 1 plan.anchors ++ kind_anchors 1 plan.kinds
 
--- a static phase is a Doall loop
-abbrev pub is_dealt : List Mark → Statement → Bool
-is_dealt marks (do_loop head body) = is_doall (mark_of marks head.number)
-is_dealt marks (work w) = false
-is_dealt marks (continue line) = false
-
 -- the constant form 0
 abbrev pub is_zero_form : Form → Bool
 is_zero_form f = int_eq f.constant (pos 0) && length f.loops == 0 && length f.params == 0
 
--- the first static phase, from the one with this number on, with a PRINT that is Doall or has another form than the constant 0
+-- the first static phase, from the one with this number on, with a PRINT that is dealt or has another form than the constant 0
 abbrev pub misplaced_print : ℕ → List Mark → List Placed → List Anchor → Option ℕ
 misplaced_print n marks [] anchors = None
 misplaced_print n marks (s ∷ rest) [] = None
@@ -83,8 +78,8 @@ as_misfit why (Some a) = Some (why a)
 abbrev pub first_misfit : Tree → Plan → Option Misfit
 first_misfit tree plan =
     option_or (as_misfit shape (wrong_field tree plan))
-    (option_or (as_misfit placement (unplaced tree plan.cut plan.workers (placed_anchors plan)))
-    (option_or (as_misfit print_place (misplaced_print 1 plan.cut (static_phases tree plan.cut) plan.anchors))
+    (option_or (as_misfit placement (unplaced tree plan.cut.marks plan.workers (placed_anchors plan)))
+    (option_or (as_misfit print_place (misplaced_print 1 plan.cut.marks (static_phases tree plan.cut.marks) plan.anchors))
     (as_misfit condition (unmet (param_values tree) plan.conditions))))
 
 -- there is none

@@ -1,6 +1,7 @@
 pub mod ProcessorSets
 pub mod PhaseLoops
 pub mod Waits
+pub mod Own
 pub mod Conflicts
 pub mod Ordered
 pub mod Shape

@@ -2,10 +2,10 @@
 use Rattle.std.specs.Prelude.{ℕ, ◌-◌, ◌<◌, ◌≤◌, ◌≡◌, ◌≢◌, Contains, List, [], ◌∷◌, Option, Some, None, slice_get}
 use Rattle.nest_tree.specs.Tree.{Tree}
 use Rattle.nest_model.specs.Visits.{Visit}
-use Rattle.owner_partition.specs.Owners.{owner_of}
 use Rattle.owner_partition.specs.Phases.{Execution, executions, phases}
 use Rattle.sync_plan.specs.declared.plan.Plan.{Plan}
 use Rattle.sync_plan.specs.Conflicts.{ConflictUnder}
+pub use Rattle.sync_plan.specs.Conflicts.{owner_under}
 use Rattle.sync_plan.specs.Waits.{waits_for}
 
 -- whom p waits for in front of the phase with this number, from 1; nobody where there is none
@@ -14,7 +14,7 @@ awaited_in tree plan p None = []
 awaited_in tree plan p (Some v) = waits_for tree plan p v.place v.loops
 
 abbrev pub awaited_in_front : Tree → Plan → ℕ → ℕ → List ℕ
-awaited_in_front tree plan p e = awaited_in tree plan p (slice_get (phases tree plan.cut) (e - 1))
+awaited_in_front tree plan p e = awaited_in tree plan p (slice_get (phases tree plan.cut.marks) (e - 1))
 
 -- a hop of a chain: in front of this phase this processor waits for the one before
 pub record Hop : Type 0 where
@@ -26,12 +26,9 @@ abbrev pub IsChain : Tree → Plan → ℕ → ℕ → List Hop → ℕ → ℕ 
 IsChain tree plan q e [] p t = (q ≡ p) × (e ≤ t)
 IsChain tree plan q e (h ∷ hops) p t = (e < h.phase) × Contains (awaited_in_front tree plan h.processor h.phase) q × IsChain tree plan h.processor h.phase hops p t
 
-abbrev pub owner_under : Tree → Plan → Execution → ℕ
-owner_under tree plan x = owner_of tree plan.anchors plan.workers x
-
 -- instances j < k that conflict and have different owners: a chain leads from the owner of j, behind j's phase, to the owner of k, at or before k's
 abbrev pub IsOrdered : Tree → Plan → Type 0
 IsOrdered tree plan =
-    (j k : ℕ) (x y : Execution) → j < k → slice_get (executions tree plan.cut) j ≡ Some x → slice_get (executions tree plan.cut) k ≡ Some y →
+    (j k : ℕ) (x y : Execution) → j < k → slice_get (executions tree plan.cut.marks) j ≡ Some x → slice_get (executions tree plan.cut.marks) k ≡ Some y →
     ConflictUnder tree plan x y → owner_under tree plan x ≢ owner_under tree plan y →
     (hops : List Hop) × IsChain tree plan (owner_under tree plan x) x.phase hops (owner_under tree plan y) y.phase

@@ -1,17 +1,19 @@
 // The plan with a barrier in front of each phase.
 
-ghost use Rattle.std.specs.Prelude.{◌≡◌, IfOk, replicate};
-ghost use Rattle.sync_plan.specs.Barriers.{barrier_plan};
+ghost use Rattle.std.specs.Prelude.{◌≡◌, IfOk, length, nat_lt, replicate};
+ghost use Rattle.std.specs.List.{list_any};
+ghost use Rattle.owner_partition.specs.Marks.{is_sum_mark};
+ghost use Rattle.sync_plan.specs.Barriers.{barrier_plan, least_version as least_for};
 ghost use Rattle.sync_plan.specs.declared.plan.Kind.TheVariants.{Barrier};
 
 use crate::plan::{Anchors, Certificates, Conditions, Kind, Kinds, Plan, Version};
 use farkas_cert::Certificate;
-use owner_partition::{Anchor, Cut};
+use owner_partition::{Anchor, Cut, Mark, Privates};
 use std::alloc::{AllocError, Global};
 
 /// The plan of this cut, these anchors, workers and certificates, with as many kinds as anchors,
-/// each a barrier, in the least version from two on that holds it, which is two. The error is that
-/// memory ran out; what the call took is dropped then.
+/// each a barrier, in the least version from two on that holds it. The error is that memory ran out;
+/// what the call took is dropped then.
 pub fn all_barrier(
     alloc: Global,
     cut: Cut,
@@ -23,7 +25,7 @@ pub fn all_barrier(
 {
     let kinds = barriers(alloc, anchors.len())?;
     Ok(Plan {
-        version: Version::Two,
+        version: least_version(&cut),
         conditions: Conditions::Values,
         workers,
         cut,
@@ -31,6 +33,33 @@ pub fn all_barrier(
         kinds: Kinds::from_vec(kinds),
         certificates: Certificates::from_vec(certificates),
     })
+}
+
+// The least version from two on that holds a cut.
+fn least_version(cut: &Cut) -> Version
+    ensures { result ≡ least_for cut.now }
+{
+    if has_private(cut.privates()) {
+        Version::Five
+    } else if has_sum(cut.as_slice()) {
+        Version::Four
+    } else {
+        Version::Two
+    }
+}
+
+// Whether a loop has a private scalar.
+fn has_private(privates: &[Privates]) -> bool
+    ensures { result ≡ list_any (λ vs. nat_lt 0 (length vs)) privates.now }
+{
+    privates.iter().any(|scalars| scalars.as_slice().len() > 0)
+}
+
+// Whether a loop is a Sum loop.
+fn has_sum(marks: &[Mark]) -> bool
+    ensures { result ≡ list_any is_sum_mark marks.now }
+{
+    marks.iter().any(|mark| mark.is_sum())
 }
 
 // So many barriers.

@@ -30,7 +30,7 @@ pub(crate) fn producer(program: &Program, plan: &Plan, kind: &Kind, phase: &Phas
     requires fits { IsFit (tree_of program.now) plan.now }
     requires place { phase.now.place - 1 < length plan.now.kinds }
     requires kind { slice_index_or plan.now.kinds (phase.now.place - 1) kind.now ≡ kind.now }
-    ensures { result ≡ min (kind_owner kind.now plan.now.workers (phase_loops (tree_of program.now) plan.now.cut phase.now.place phase.now.outer) (param_values (tree_of program.now))) plan.now.workers }
+    ensures { result ≡ min (kind_owner kind.now plan.now.workers (phase_loops (tree_of program.now) plan.now.cut.marks phase.now.place phase.now.outer) (param_values (tree_of program.now))) plan.now.workers }
 {
     let Kind::Producer(anchor) = kind else {
         return 0;
@@ -46,9 +46,9 @@ fn owner_in(program: &Program, plan: &Plan, anchor: &Anchor, phase: &Phase, room
     requires given { IsTrue (is_given anchor.now.form (loops_of (tree_of program.now).items) (length (tree_of program.now).params)) }
     requires places { IsTrue (has_places anchor.now.dist) }
     requires some { 1 ≤ plan.now.workers }
-    requires marks { length plan.now.cut ≡ loops_of (tree_of program.now).items }
+    requires marks { length plan.now.cut.marks ≡ loops_of (tree_of program.now).items }
     requires room { room.old ≡ zeros }
-    ensures { result ≡ min (anchor_owner anchor.now plan.now.workers (phase_loops (tree_of program.now) plan.now.cut phase.now.place phase.now.outer) (param_values (tree_of program.now))) plan.now.workers }
+    ensures { result ≡ min (anchor_owner anchor.now plan.now.workers (phase_loops (tree_of program.now) plan.now.cut.marks phase.now.place phase.now.outer) (param_values (tree_of program.now))) plan.now.workers }
 {
     let loops = &mut room[..plan.cut.as_slice().len()];
     let mut left = phase.place.saturating_sub(1);

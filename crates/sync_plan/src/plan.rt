@@ -16,6 +16,38 @@ pub enum Version {
     Two,
     /// The plan has conditions on the named constants.
     Three,
+    /// The plan may have Sum loops.
+    Four,
+    /// The plan may have private scalars.
+    Five,
+}
+
+impl Version {
+    ghost use Rattle.sync_plan.specs.Shape.{has_privates, has_rows, has_sums};
+
+    /// Whether plans of this version may have rows of conditions.
+    pub fn has_rows(self) -> bool
+        ensures { result ≡ has_rows self }
+    {
+        match self {
+            Version::One | Version::Two => false,
+            Version::Three | Version::Four | Version::Five => true,
+        }
+    }
+
+    /// Whether plans of this version may have Sum loops. No version's may yet.
+    pub fn has_sums(self) -> bool
+        ensures { result ≡ has_sums self }
+    {
+        false
+    }
+
+    /// Whether plans of this version may have private scalars. No version's may yet.
+    pub fn has_privates(self) -> bool
+        ensures { result ≡ has_privates self }
+    {
+        false
+    }
 }
 
 /// What stands in front of a phase: whom a processor waits for before it begins its part. The

@@ -47,7 +47,7 @@ pub fn waits(program: &Program, plan: &Plan, p: u32, phase: &Phase) -> u64
     requires formed { IsWellFormed (tree_of program.now) }
     requires fits { IsFit (tree_of program.now) plan.now }
     requires worker { p < plan.now.workers }
-    ensures { members result ≡ waits_for (tree_of program.now) plan.now p phase.now.place (phase_loops (tree_of program.now) plan.now.cut phase.now.place phase.now.outer) }
+    ensures { members result ≡ waits_for (tree_of program.now) plan.now p phase.now.place (phase_loops (tree_of program.now) plan.now.cut.marks phase.now.place phase.now.outer) }
 {
     let place = (phase.place as usize).saturating_sub(1);
     match plan.kinds.as_slice().get(place) {
@@ -61,7 +61,7 @@ pub fn posts(program: &Program, plan: &Plan, q: u32, phase: &Phase) -> bool
     requires formed { IsWellFormed (tree_of program.now) }
     requires fits { IsFit (tree_of program.now) plan.now }
     requires worker { q < plan.now.workers }
-    ensures { result ≡ posts_at (tree_of program.now) plan.now q phase.now.place (phase_loops (tree_of program.now) plan.now.cut phase.now.place phase.now.outer) }
+    ensures { result ≡ posts_at (tree_of program.now) plan.now q phase.now.place (phase_loops (tree_of program.now) plan.now.cut.marks phase.now.place phase.now.outer) }
 {
     let place = (phase.place as usize).saturating_sub(1);
     match plan.kinds.as_slice().get(place) {

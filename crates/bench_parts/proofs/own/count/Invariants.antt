@@ -9,8 +9,8 @@ use Rattle.bench_parts.proofs.own.count.Given as goal
 abbrev pub invariant-phases : goal.invariant-phases
 invariant-phases l = record {
   tree : phases_tree l.phases ≡ tree_of l.program;
-  enters : phases_enters l.phases ≡ enters_outer l.cut;
-  taken : (before : List Visit) × (visits (tree_of l.program) (enters_outer l.cut) ≡ before ++ phases_left l.phases) × (phases_passed l.phases ≡ length before);
+  enters : phases_enters l.phases ≡ enters_outer l.cut.marks;
+  taken : (before : List Visit) × (visits (tree_of l.program) (enters_outer l.cut.marks) ≡ before ++ phases_left l.phases) × (phases_passed l.phases ≡ length before);
 }
 
 abbrev pub decreases-phases : goal.decreases-phases

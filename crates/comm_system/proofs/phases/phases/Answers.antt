@@ -16,7 +16,7 @@ pub returns-clause-few : goal.returns-clause-few
 returns-clause-few c =
     let body = statements_from c.deref.result.now in
     let enters = enters_but c.closed.result.now in
-    few_phases (tree_of c.args.program.now) c.args.cut.now c.push_all_phases.new.found.items c.requires
+    few_phases (tree_of c.args.program.now) c.args.cut.now.marks c.push_all_phases.new.found.items c.requires
     (c.in_ok-push_all_phases.ensures.found
     ∙ ap (λ xs. map phase_seen xs ++ phases_among enters (heads_of c.new-outer.result.items) body) c.new-found.ensures.items
     ∙ ap (λ hs. phases_among enters (heads_of hs) body) c.new-outer.ensures.items

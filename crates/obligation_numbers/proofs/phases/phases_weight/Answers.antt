@@ -25,4 +25,4 @@ returns g c =
     ∙ ap (λ xs. u64_saturate (0 + sum_from f 1 (phases_among (enters_but c.closed.result.now) (heads_of xs) (statements_from c.deref.result.now)))) c.new.ensures
     ∙ (let same : u64_saturate (0 + sum_from f 1 (phases_among (enters_but c.closed.result.now) [] (statements_from c.deref.result.now))) ≡ u64_saturate (sum_from f 1 (phases_among (enters_but c.closed.result.now) [] (statements_from c.deref.result.now))) = omega arith in same)
     ∙ ap (λ cs. u64_saturate (sum_from f 1 (phases_among (enters_but cs) [] (statements_from c.deref.result.now)))) c.closed.ensures
-    ∙ ap (λ xs. u64_saturate (sum_from f 1 (phases_among (enters_outer c.args.cut.now) [] (statements_from xs)))) c.deref.ensures.value
+    ∙ ap (λ xs. u64_saturate (sum_from f 1 (phases_among (enters_outer c.args.cut.now.marks) [] (statements_from xs)))) c.deref.ensures.value

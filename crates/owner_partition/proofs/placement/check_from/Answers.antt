@@ -30,7 +30,7 @@ returns-then-seek c =
     let p = c.args.program.now in
     let a = c.args.anchor.now in
     let found = ap (λ b. if b then Some c.seek.new.ends else None) (sym c.if-seek.true) ∙ sym c.seek.ensures.ends
-    ∙ read_ends p c.args.cut.now c.closed.result.now c.args.ends.now c.deref-2.result.now c.deref.result.now c.saturating_sub-place.result c.args.phase c.closed.ensures c.requires.ends c.deref-2.ensures.value c.deref.ensures.value c.saturating_sub-place.ensures in
+    ∙ read_ends p c.args.cut.now.marks c.closed.result.now c.args.ends.now c.deref-2.result.now c.deref.result.now c.saturating_sub-place.result c.args.phase c.closed.ensures c.requires.ends c.deref-2.ensures.value c.deref.ensures.value c.saturating_sub-place.ensures in
     c.check_interval.ensures
     ∙ ap (λ vs. misplaced_within vs c.args.workers c.args.phase a c.seek.new.ends) (values p c.deref-then-seek.result.now c.deref-then-seek.ensures.value)
     ∙ ap (misplaced_at (param_values (tree_of p)) c.args.workers c.args.phase a) found
@@ -40,5 +40,5 @@ returns-else-seek c =
     let p = c.args.program.now in
     let a = c.args.anchor.now in
     let found = ap (λ b. if b then Some c.seek.new.ends else None) (sym c.if-seek.false) ∙ sym c.seek.ensures.ends
-    ∙ read_ends p c.args.cut.now c.closed.result.now c.args.ends.now c.deref-2.result.now c.deref.result.now c.saturating_sub-place.result c.args.phase c.closed.ensures c.requires.ends c.deref-2.ensures.value c.deref.ensures.value c.saturating_sub-place.ensures in
+    ∙ read_ends p c.args.cut.now.marks c.closed.result.now c.args.ends.now c.deref-2.result.now c.deref.result.now c.saturating_sub-place.result c.args.phase c.closed.ensures c.requires.ends c.deref-2.ensures.value c.deref.ensures.value c.saturating_sub-place.ensures in
     ap (misplaced_at (param_values (tree_of p)) c.args.workers c.args.phase a) found

@@ -9,5 +9,5 @@ invariant-loop-phase l =
     let tree = tree_of l.program in
     record {
       given : IsTrue (list_all (is_anchor_given tree) (drop l.phase-index l.anchors));
-      first : unplaced tree l.cut l.workers (drop l.phase-index l.anchors) ≡ unplaced tree l.cut l.workers l.anchors;
+      first : unplaced tree l.cut.marks l.workers (drop l.phase-index l.anchors) ≡ unplaced tree l.cut.marks l.workers l.anchors;
     }

@@ -33,5 +33,5 @@ site_among-requires-clause-works c =
 
 pub returns : goal.returns
 returns c =
-    let same = site_same c.args.program.now c.args.cut.now c.closed.result.now c.deref.result.now (rounds_of c.args.path.now) c.saturating_sub-before.result c.args.number c.args.outer.now c.closed.ensures c.deref.ensures.value c.requires.bare c.saturating_sub-before.ensures in
+    let same = site_same c.args.program.now c.args.cut.now.marks c.closed.result.now c.deref.result.now (rounds_of c.args.path.now) c.saturating_sub-before.result c.args.number c.args.outer.now c.closed.ensures c.deref.ensures.value c.requires.bare c.saturating_sub-before.ensures in
     subst (λ o. MatchOption c.site_among.result (o ≡ None) (λ s. o ≡ Some (record { what = statement_of s.item.now; first = s.first; rounds = rounds_of c.site_among.new.path }))) same c.site_among.ensures

@@ -6,5 +6,5 @@ use Rattle.plan_checker.proofs.anchors.are_good_anchors.Given as goal
 abbrev pub invariant-loop-place : goal.invariant-loop-place
 invariant-loop-place l =
     let tree = tree_of l.program in
-    let text = static_phases tree l.cut in
-    are_good_anchors (length tree.params) l.cut (drop l.place text) (drop l.place l.anchors) ≡ are_good_anchors (length tree.params) l.cut text l.anchors
+    let text = static_phases tree l.cut.marks in
+    are_good_anchors (length tree.params) l.cut.marks (drop l.place text) (drop l.place l.anchors) ≡ are_good_anchors (length tree.params) l.cut.marks text l.anchors

@@ -10,19 +10,19 @@ use Rattle.plan_checker.proofs.anchors.are_good_kinds.Goals.{After-is_good_kind}
 pub returns-in_default : goal.returns-in_default
 returns-in_default c =
     let tree = tree_of c.args.program.now in
-    let text = static_phases tree c.args.cut.now in
+    let text = static_phases tree c.args.cut.now.marks in
     let here : c.loop-place.place + 1 - 1 ≡ c.loop-place.place = omega arith in
     sym (kinds-past (length tree.params) text c.args.kinds.now c.loop-place.place (sym (ap (slice_get text) here) ∙ c.in_default.ensures)) ∙ c.loop-place.invariant
 
 -- this kind, and those behind it
 step : (c : After-is_good_kind) →
     let tree = tree_of c.args.program.now in
-    let text = static_phases tree c.args.cut.now in
+    let text = static_phases tree c.args.cut.now.marks in
     let i = c.loop-place.place in
     are_good_kinds (length tree.params) (drop i text) (drop i c.args.kinds.now) ≡ (c.is_good_kind.result && are_good_kinds (length tree.params) (drop (i + 1) text) (drop (i + 1) c.args.kinds.now))
 step c =
     let tree = tree_of c.args.program.now in
-    let text = static_phases tree c.args.cut.now in
+    let text = static_phases tree c.args.cut.now.marks in
     let i = c.loop-place.place in
     let phase = c.in-Some.phase in
     let k = c.index-kinds-place.result in
@@ -34,7 +34,7 @@ step c =
 pub returns-then-not-is_good_kind : goal.returns-then-not-is_good_kind
 returns-then-not-is_good_kind c =
     let tree = tree_of c.args.program.now in
-    let text = static_phases tree c.args.cut.now in
+    let text = static_phases tree c.args.cut.now.marks in
     let i = c.loop-place.place in
     let rest = are_good_kinds (length tree.params) (drop (i + 1) text) (drop (i + 1) c.args.kinds.now) in
     sym (step (goal.at.returns-then-not-is_good_kind c).After-is_good_kind ∙ ap (λ b. b && rest) c.if-not-is_good_kind.true) ∙ c.loop-place.invariant
@@ -42,7 +42,7 @@ returns-then-not-is_good_kind c =
 pub loop-place-preserved : goal.loop-place-preserved
 loop-place-preserved c =
     let tree = tree_of c.args.program.now in
-    let text = static_phases tree c.args.cut.now in
+    let text = static_phases tree c.args.cut.now.marks in
     let i = c.loop-place.place in
     let rest = are_good_kinds (length tree.params) (drop (i + 1) text) (drop (i + 1) c.args.kinds.now) in
     sym (step (goal.at.loop-place-preserved c).After-is_good_kind ∙ ap (λ b. b && rest) c.if-not-is_good_kind.false) ∙ c.loop-place.invariant
@@ -50,4 +50,4 @@ loop-place-preserved c =
 pub returns : goal.returns
 returns c =
     let tree = tree_of c.args.program.now in
-    sym (kinds-end (length tree.params) (static_phases tree c.args.cut.now) c.args.kinds.now c.loop-place.place c.loop-place-test.false) ∙ c.loop-place.invariant
+    sym (kinds-end (length tree.params) (static_phases tree c.args.cut.now.marks) c.args.kinds.now c.loop-place.place c.loop-place-test.false) ∙ c.loop-place.invariant

@@ -6,5 +6,5 @@ use Rattle.plan_checker.proofs.anchors.are_good_kinds.Given as goal
 abbrev pub invariant-loop-place : goal.invariant-loop-place
 invariant-loop-place l =
     let tree = tree_of l.program in
-    let text = static_phases tree l.cut in
+    let text = static_phases tree l.cut.marks in
     are_good_kinds (length tree.params) (drop l.place text) (drop l.place l.kinds) ≡ are_good_kinds (length tree.params) text l.kinds

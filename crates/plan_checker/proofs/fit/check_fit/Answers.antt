@@ -13,19 +13,19 @@ use Rattle.plan_checker.proofs.fit.check_fit.Goals as goal
 use Rattle.plan_checker.proofs.fit.check_fit.Goals.{After-unmet}
 
 -- where shape, placement and PRINTs are right, only the conditions are left
-last : (tree : Tree) (plan : Plan) → None ≡ wrong_field tree plan → None ≡ unplaced tree plan.cut plan.workers (placed_anchors plan) → None ≡ misplaced_print 1 plan.cut (static_phases tree plan.cut) plan.anchors →
+last : (tree : Tree) (plan : Plan) → None ≡ wrong_field tree plan → None ≡ unplaced tree plan.cut.marks plan.workers (placed_anchors plan) → None ≡ misplaced_print 1 plan.cut.marks (static_phases tree plan.cut.marks) plan.anchors →
     option_map refusal_of (as_misfit condition (unmet (param_values tree) plan.conditions)) ≡ first_refusal tree plan
 last tree plan fields places prints =
     let behind = as_misfit condition (unmet (param_values tree) plan.conditions) in
     ap (λ o. option_map refusal_of (option_or (as_misfit print_place o) behind)) prints
-    ∙ ap (λ o. option_map refusal_of (option_or (as_misfit placement o) (option_or (as_misfit print_place (misplaced_print 1 plan.cut (static_phases tree plan.cut) plan.anchors)) behind))) places
-    ∙ ap (λ o. option_map refusal_of (option_or (as_misfit shape o) (option_or (as_misfit placement (unplaced tree plan.cut plan.workers (placed_anchors plan))) (option_or (as_misfit print_place (misplaced_print 1 plan.cut (static_phases tree plan.cut) plan.anchors)) behind)))) fields
+    ∙ ap (λ o. option_map refusal_of (option_or (as_misfit placement o) (option_or (as_misfit print_place (misplaced_print 1 plan.cut.marks (static_phases tree plan.cut.marks) plan.anchors)) behind))) places
+    ∙ ap (λ o. option_map refusal_of (option_or (as_misfit shape o) (option_or (as_misfit placement (unplaced tree plan.cut.marks plan.workers (placed_anchors plan))) (option_or (as_misfit print_place (misplaced_print 1 plan.cut.marks (static_phases tree plan.cut.marks) plan.anchors)) behind)))) fields
 
 known : (c : After-unmet) → option_map refusal_of (as_misfit condition c.unmet.result) ≡ first_refusal (tree_of c.args.program.now) c.args.plan.now
 known c =
     let tree = tree_of c.args.program.now in
     let plan = c.args.plan.now in
-    let prints = c.in_default-misplaced_print.ensures ∙ ap (misplaced_print 1 plan.cut (static_phases tree plan.cut)) c.as_slice.ensures in
+    let prints = c.in_default-misplaced_print.ensures ∙ ap (misplaced_print 1 plan.cut.marks (static_phases tree plan.cut.marks)) c.as_slice.ensures in
     ap (λ o. option_map refusal_of (as_misfit condition o)) (c.unmet.ensures ∙ ap (λ (ps : List Parameter). unmet (map (λ (p : Parameter). p.value) ps) plan.conditions) c.deref.ensures.value)
     ∙ ap (λ vs. option_map refusal_of (as_misfit condition (unmet vs plan.conditions))) (sym (values_of_constants c.args.program.now.params.items)) ∙ last tree plan c.in_default.ensures.field c.in_default-check_places.ensures prints
 

@@ -4,4 +4,4 @@ use Rattle.sync_plan.specs.Shape.{are_marked_well}
 use Rattle.plan_checker.proofs.marks.+marked.Given as goal
 
 abbrev pub invariant-are_marked_well-loop-item : goal.invariant-are_marked_well-loop-item
-invariant-are_marked_well-loop-item l = are_marked_well l.marks l.inside (statements_from (drop l.item-index l.items)) ≡ are_marked_well l.marks l.inside (statements_from l.items)
+invariant-are_marked_well-loop-item l = are_marked_well l.cut.marks l.inside (statements_from (drop l.item-index l.items)) ≡ are_marked_well l.cut.marks l.inside (statements_from l.items)

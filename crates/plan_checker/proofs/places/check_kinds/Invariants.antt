@@ -11,5 +11,5 @@ invariant-loop-place l =
     let tree = tree_of l.program in
     record {
       given : IsTrue (are_given_kinds (loops_of tree.items) (length tree.params) (drop l.place l.kinds));
-      first : unplaced tree l.cut l.workers (kind_anchors (l.place + 1) (drop l.place l.kinds)) ≡ unplaced tree l.cut l.workers (kind_anchors 1 l.kinds);
+      first : unplaced tree l.cut.marks l.workers (kind_anchors (l.place + 1) (drop l.place l.kinds)) ≡ unplaced tree l.cut.marks l.workers (kind_anchors 1 l.kinds);
     }

@@ -11,5 +11,5 @@ invariant-loop-place l =
     let tree = tree_of l.program in
     record {
       given : IsTrue (are_given_anchors (loops_of tree.items) (length tree.params) (drop l.place l.anchors));
-      first : unplaced tree l.cut l.workers (numbered_anchors (l.place + 1) (drop l.place l.anchors)) ≡ unplaced tree l.cut l.workers (numbered_anchors 1 l.anchors);
+      first : unplaced tree l.cut.marks l.workers (numbered_anchors (l.place + 1) (drop l.place l.anchors)) ≡ unplaced tree l.cut.marks l.workers (numbered_anchors 1 l.anchors);
     }

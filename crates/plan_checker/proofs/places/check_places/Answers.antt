@@ -30,16 +30,16 @@ pub returns-in_err-check_phases : goal.returns-in_err-check_phases
 returns-in_err-check_phases c =
     let tree = tree_of c.args.program.now in
     let plan = c.args.plan.now in
-    let all = unplaced tree plan.cut plan.workers in
+    let all = unplaced tree plan.cut.marks plan.workers in
     let here = c.in_err-check_phases.ensures ∙ ap (λ xs. all (numbered_anchors 1 xs)) c.as_slice.ensures in
-    let first : Some c.in_err-check_phases.field-0.0 ≡ all (placed_anchors plan) = ap (λ o. option_or o (all (kind_anchors 1 plan.kinds))) here ∙ sym (unplaced-append tree plan.cut plan.workers (numbered_anchors 1 plan.anchors) (kind_anchors 1 plan.kinds)) in
+    let first : Some c.in_err-check_phases.field-0.0 ≡ all (placed_anchors plan) = ap (λ o. option_or o (all (kind_anchors 1 plan.kinds))) here ∙ sym (unplaced-append tree plan.cut.marks plan.workers (numbered_anchors 1 plan.anchors) (kind_anchors 1 plan.kinds)) in
     search (rules, first)
 
 pub returns : goal.returns
 returns c =
     let tree = tree_of c.args.program.now in
     let plan = c.args.plan.now in
-    let all = unplaced tree plan.cut plan.workers in
+    let all = unplaced tree plan.cut.marks plan.workers in
     let none = c.in_ok-check_phases.ensures ∙ ap (λ xs. all (numbered_anchors 1 xs)) c.as_slice.ensures in
     c.check_kinds.ensures ∙ ap (λ xs. all (kind_anchors 1 xs)) c.as_slice-2.ensures ∙ ap (λ o. option_or o (all (kind_anchors 1 plan.kinds))) none
-    ∙ sym (unplaced-append tree plan.cut plan.workers (numbered_anchors 1 plan.anchors) (kind_anchors 1 plan.kinds))
+    ∙ sym (unplaced-append tree plan.cut.marks plan.workers (numbered_anchors 1 plan.anchors) (kind_anchors 1 plan.kinds))

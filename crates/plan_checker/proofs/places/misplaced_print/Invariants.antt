@@ -6,5 +6,5 @@ use Rattle.plan_checker.proofs.places.misplaced_print.Given as goal
 
 abbrev pub invariant-loop-place : goal.invariant-loop-place
 invariant-loop-place l =
-    let text = static_phases (tree_of l.program) l.cut in
-    misplaced_print (l.place + 1) l.cut (drop l.place text) (drop l.place l.anchors) ≡ misplaced_print 1 l.cut text l.anchors
+    let text = static_phases (tree_of l.program) l.cut.marks in
+    misplaced_print (l.place + 1) l.cut.marks (drop l.place text) (drop l.place l.anchors) ≡ misplaced_print 1 l.cut.marks text l.anchors

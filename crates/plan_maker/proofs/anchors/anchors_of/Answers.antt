@@ -11,7 +11,7 @@ use Rattle.plan_maker.proofs.anchors.anchors_of.Goals as goal
 pub loop-place-preserved : goal.loop-place-preserved
 loop-place-preserved c =
     let tree = tree_of c.args.program.now in
-    let cut = c.args.cut.now in
+    let cut = c.args.cut.now.marks in
     let text = static_phases tree cut in
     let k = c.loop-place.place in
     let old = c.loop-place.anchors.items in

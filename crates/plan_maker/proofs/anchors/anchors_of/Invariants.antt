@@ -7,4 +7,4 @@ use Rattle.plan_maker.proofs.anchors.anchors_of.Given as goal
 abbrev pub invariant-loop-place : goal.invariant-loop-place
 invariant-loop-place l =
     let tree = tree_of l.program in
-    l.anchors.items ++ anchors_from tree l.cut l.workers (l.place + 1) (drop l.place (static_phases tree l.cut)) ≡ maker_anchors tree l.cut l.workers
+    l.anchors.items ++ anchors_from tree l.cut.marks l.workers (l.place + 1) (drop l.place (static_phases tree l.cut.marks)) ≡ maker_anchors tree l.cut.marks l.workers

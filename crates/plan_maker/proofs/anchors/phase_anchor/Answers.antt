@@ -14,14 +14,14 @@ use Rattle.plan_maker.proofs.anchors.phase_anchor.Goals as goal
 use Rattle.plan_maker.proofs.anchors.phase_anchor.Goals.{After-own_loop}
 
 -- the loops that the phase's anchor may name
-loops : (c : After-own_loop) (around : List ℕ) → own_loops c.args.cut.now (statement_of c.args.phase.now.item.now) around ≡ with_own c.own_loop.result around
+loops : (c : After-own_loop) (around : List ℕ) → own_loops c.args.cut.now.marks (statement_of c.args.phase.now.item.now) around ≡ with_own c.own_loop.result around
 loops c around = ap (λ ms. own_loops ms (statement_of c.args.phase.now.item.now) around) (sym c.as_slice.ensures) ∙ c.own_loop.ensures around
 
 within : (c : After-own_loop) → are_numbers (loops_of (tree_of c.args.program.now).items) (with_own c.own_loop.result (loops_round c.args.phase.now)) ≡ true
 within c =
     let n = loops_of (tree_of c.args.program.now).items in
     ap (are_numbers n) (sym (loops c (loops_round c.args.phase.now)))
-    ∙ allowed_within (tree_of c.args.program.now) c.args.cut.now (c.args.number - 1) (record { what = statement_of c.args.phase.now.item.now; around = loops_round c.args.phase.now }) c.requires.formed c.requires.phase
+    ∙ allowed_within (tree_of c.args.program.now) c.args.cut.now.marks (c.args.number - 1) (record { what = statement_of c.args.phase.now.item.now; around = loops_round c.args.phase.now }) c.requires.formed c.requires.phase
 
 seat : After-own_loop → Seat
 seat c = record { program = c.args.program; phase = c.args.phase; own = c.own_loop.result; workers = c.args.workers }
@@ -36,7 +36,7 @@ unfolding seat
 placed-requires-clause-given c =
     let a = (goal.at.placed-requires-clause-given c).After-own_loop in
     let what = statement_of c.args.phase.now.item.now in
-    let good = found_good (seat a) c.args.cut.now c.args.number what c.in-Some.anchor (sym c.in_ok-anchor.ensures ∙ c.in-Some.is) in
+    let good = found_good (seat a) c.args.cut.now.marks c.args.number what c.in-Some.anchor (sym c.in_ok-anchor.ensures ∙ c.in-Some.is) in
     good_given (loops_of (tree_of c.args.program.now).items) (constants_at (seat a)) (loops_at (seat a)) c.in-Some.anchor (within a) good
 
 pub returns-in-Some : goal.returns-in-Some
@@ -45,8 +45,8 @@ returns-in-Some c =
     let a = (goal.at.returns-in-Some c).After-own_loop in
     let tree = tree_of c.args.program.now in
     let what = statement_of c.args.phase.now.item.now in
-    let is = phase_is (seat a) c.args.cut.now c.args.number what (loops_round c.args.phase.now) (loops a (loops_round c.args.phase.now)) (loops a []) (sym c.has_print.ensures ∙ c.if-has_print.false) in
-    c.placed.ensures ∙ ap (placed_anchor tree c.args.cut.now c.args.workers c.args.number) (sym c.in-Some.is ∙ c.in_ok-anchor.ensures) ∙ sym is
+    let is = phase_is (seat a) c.args.cut.now.marks c.args.number what (loops_round c.args.phase.now) (loops a (loops_round c.args.phase.now)) (loops a []) (sym c.has_print.ensures ∙ c.if-has_print.false) in
+    c.placed.ensures ∙ ap (placed_anchor tree c.args.cut.now.marks c.args.workers c.args.number) (sym c.in-Some.is ∙ c.in_ok-anchor.ensures) ∙ sym is
 
 pub returns-in-None : goal.returns-in-None
 unfolding seat
@@ -54,5 +54,5 @@ returns-in-None c =
     let a = (goal.at.returns-in-None c).After-own_loop in
     let tree = tree_of c.args.program.now in
     let what = statement_of c.args.phase.now.item.now in
-    let is = phase_is (seat a) c.args.cut.now c.args.number what (loops_round c.args.phase.now) (loops a (loops_round c.args.phase.now)) (loops a []) (sym c.has_print.ensures ∙ c.if-has_print.false) in
-    c.first_processor-in-None.ensures ∙ ap (placed_anchor tree c.args.cut.now c.args.workers c.args.number) (sym c.in-None.is ∙ c.in_ok-anchor.ensures) ∙ sym is
+    let is = phase_is (seat a) c.args.cut.now.marks c.args.number what (loops_round c.args.phase.now) (loops a (loops_round c.args.phase.now)) (loops a []) (sym c.has_print.ensures ∙ c.if-has_print.false) in
+    c.first_processor-in-None.ensures ∙ ap (placed_anchor tree c.args.cut.now.marks c.args.workers c.args.number) (sym c.in-None.is ∙ c.in_ok-anchor.ensures) ∙ sym is

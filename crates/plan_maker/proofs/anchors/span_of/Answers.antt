@@ -14,15 +14,15 @@ use Rattle.plan_maker.proofs.anchors.span_of.Goals as goal
 pub returns-in_default : goal.returns-in_default
 returns-in_default c =
     let tree = tree_of c.args.program.now in
-    let at : misplaced tree c.args.cut.now 1 c.args.phase (probe c.args.number) ≡ None = ap (λ (f : Form). misplaced tree c.args.cut.now 1 c.args.phase (record { form = f; dist = Block 0 })) (sym c.in_ok-loop_value.ensures) ∙ sym c.in_default.ensures in
-    sym (span_none (param_values tree) 1 c.args.phase c.args.number (phase_ends tree c.args.cut.now (c.args.phase - 1)) at)
+    let at : misplaced tree c.args.cut.now.marks 1 c.args.phase (probe c.args.number) ≡ None = ap (λ (f : Form). misplaced tree c.args.cut.now.marks 1 c.args.phase (record { form = f; dist = Block 0 })) (sym c.in_ok-loop_value.ensures) ∙ sym c.in_default.ensures in
+    sym (span_none (param_values tree) 1 c.args.phase c.args.number (phase_ends tree c.args.cut.now.marks (c.args.phase - 1)) at)
 
 pub returns-in-Some : goal.returns-in-Some
 returns-in-Some c =
     let tree = tree_of c.args.program.now in
     let p = c.in-Err.ends in
-    let at : misplaced tree c.args.cut.now 1 c.args.phase (probe c.args.number) ≡ Some p = ap (λ (f : Form). misplaced tree c.args.cut.now 1 c.args.phase (record { form = f; dist = Block 0 })) (sym c.in_ok-loop_value.ensures) ∙ sym c.in-Err.ensures in
-    let span = span_some (param_values tree) 1 c.args.phase c.args.number (phase_ends tree c.args.cut.now (c.args.phase - 1)) p at in
+    let at : misplaced tree c.args.cut.now.marks 1 c.args.phase (probe c.args.number) ≡ Some p = ap (λ (f : Form). misplaced tree c.args.cut.now.marks 1 c.args.phase (record { form = f; dist = Block 0 })) (sym c.in_ok-loop_value.ensures) ∙ sym c.in-Err.ensures in
+    let span = span_some (param_values tree) 1 c.args.phase c.args.number (phase_ends tree c.args.cut.now.marks (c.args.phase - 1)) p at in
     let low : to_z w128 (of_z w128 p.low) ≡ p.low = omega (arith, ints) in
     let high : to_z w128 (of_z w128 p.high) ≡ p.high = omega (arith, ints) in
     let places = c.in-Some.ensures.places ∙ ap (λ z. extent (z, to_z w128 (of_z w128 p.high))) low ∙ ap (λ z. extent (p.low, z)) high in

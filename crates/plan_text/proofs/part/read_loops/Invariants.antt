@@ -1,8 +1,8 @@
 use Rattle.std.proofs.Common.{true}
-use Rattle.plan_text.specs.PlanText.{alone}
+use Rattle.plan_text.specs.PlanText.{is_mark_shown, alone}
 use Rattle.plan_text.specs.Stops.{ItemsRead}
 use Rattle.plan_text.specs.Words.{loop_line}
 use Rattle.plan_text.proofs.part.read_loops.Given as goal
 
 abbrev pub invariant-loop-index : goal.invariant-loop-index
-invariant-loop-index l = ItemsRead (alone loop_line) (λ m. true) l.initial.lines.rest.now l.initial.lines.taken l.lines.rest.now l.lines.taken l.items.items l.index
+invariant-loop-index l = ItemsRead (alone loop_line) is_mark_shown l.initial.lines.rest.now l.initial.lines.taken l.lines.rest.now l.lines.taken l.items.items l.index

@@ -1,7 +1,7 @@
 use Rattle.std.proofs.Common.{length, true}
 use Rattle.std.proofs.lemmas.Bool.{and_parts}
 use Rattle.std.specs.List.{list_all}
-use Rattle.plan_text.specs.PlanText.{is_32}
+use Rattle.plan_text.specs.PlanText.{is_mark_shown, is_32}
 use Rattle.plan_text.proofs.Chain.{all_counted, all_read, stop0, stop1, stop2, stop3, stop4, stop5, stop6}
 use Rattle.plan_text.proofs.Plans.{plan_of-shown}
 use Rattle.plan_text.proofs.read.read_parts.Goals as goal
@@ -67,4 +67,4 @@ returns-in-Ok-read_end-clause-taken c = all_counted c.in-Ok.version c.in-Ok-read
 
 pub returns-in-Ok-read_end-clause-shown : goal.returns-in-Ok-read_end-clause-shown
 returns-in-Ok-read_end-clause-shown c = plan_of-shown c.in-Ok.version c.in-Ok-read_count_32.workers c.in-Ok-read_conditions.conditions c.in-Ok-read_marks.marks.items c.in-Ok-read_kinds.phases.items c.in-Ok-read_proofs.certificates.items
-    c.in-Ok-read_count_32.ensures.fits c.in-Ok-read_conditions.ensures.shown (and_parts (is_32 (length c.in-Ok-read_marks.marks.items)) (list_all (λ m. true) c.in-Ok-read_marks.marks.items) c.in-Ok-read_marks.ensures.shown).0 c.in-Ok-read_kinds.ensures.shown c.in-Ok-read_proofs.ensures.shown
+    c.in-Ok-read_count_32.ensures.fits c.in-Ok-read_conditions.ensures.shown (and_parts (is_32 (length c.in-Ok-read_marks.marks.items)) (list_all is_mark_shown c.in-Ok-read_marks.marks.items) c.in-Ok-read_marks.ensures.shown).0 (and_parts (is_32 (length c.in-Ok-read_marks.marks.items)) (list_all is_mark_shown c.in-Ok-read_marks.marks.items) c.in-Ok-read_marks.ensures.shown).1 c.in-Ok-read_kinds.ensures.shown c.in-Ok-read_proofs.ensures.shown

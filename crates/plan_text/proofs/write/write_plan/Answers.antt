@@ -14,7 +14,7 @@ put_phases-requires-clause-few c =
 pub returns : goal.returns
 returns c =
     let plan = c.args.plan.now in
-    five_written (head_lines plan) (counted (codes "LOOPS") (alone loop_line) plan.cut) (counted (codes "PHASES") (alone phase_line) (zipped plan.kinds plan.anchors)) (counted (codes "CERTIFICATES") cert_lines plan.certificates) (codes "END PLAN" ∷ [])
+    five_written (head_lines plan) (counted (codes "LOOPS") (alone loop_line) plan.cut.marks) (counted (codes "PHASES") (alone phase_line) (zipped plan.kinds plan.anchors)) (counted (codes "CERTIFICATES") cert_lines plan.certificates) (codes "END PLAN" ∷ [])
     c.new-out.result.items c.put_head.new.out.items c.put_loops.new.out.items c.put_phases.new.out.items c.put_certificates.new.out.items c.extend_from_slice.new.self.items
     c.new-out.ensures.items c.in_ok-put_head.ensures
     (c.in_ok-put_loops.ensures ∙ ap (λ xs. c.put_head.new.out.items ++ text_of (counted (codes "LOOPS") (alone loop_line) xs)) c.as_slice.ensures)

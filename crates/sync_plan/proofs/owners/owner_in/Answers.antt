@@ -51,9 +51,9 @@ returns c =
     let read = found
     ∙ ap (λ loops. unwrap_or (loops_among (enters_but c.closed.result.now) loops outer (statements_from c.deref.result.now) c.saturating_sub-left.result) loops) start
     ∙ ap (λ closed. unwrap_or (loops_among (enters_but closed) (no_values tree) outer (statements_from c.deref.result.now) c.saturating_sub-left.result) (no_values tree)) c.closed.ensures
-    ∙ ap (λ items. unwrap_or (loops_among (enters_but (map is_closed plan.cut)) (no_values tree) outer (statements_from items) c.saturating_sub-left.result) (no_values tree)) c.deref.ensures.value
-    ∙ ap (λ n. unwrap_or (loops_among (enters_but (map is_closed plan.cut)) (no_values tree) outer tree.items n) (no_values tree)) c.saturating_sub-left.ensures in
+    ∙ ap (λ items. unwrap_or (loops_among (enters_but (map is_closed plan.cut.marks)) (no_values tree) outer (statements_from items) c.saturating_sub-left.result) (no_values tree)) c.deref.ensures.value
+    ∙ ap (λ n. unwrap_or (loops_among (enters_but (map is_closed plan.cut.marks)) (no_values tree) outer tree.items n) (no_values tree)) c.saturating_sub-left.ensures in
     let values = ap (map (λ (p : Parameter). p.value)) c.deref-2.ensures.value ∙ sym (values_of_constants program.params.items) in
     c.owner_at.ensures
     ∙ ap (λ loops. min (anchor_owner c.args.anchor.now plan.workers loops (map (λ (p : Parameter). p.value) c.deref-2.result.now)) plan.workers) read
-    ∙ ap (λ params. min (anchor_owner c.args.anchor.now plan.workers (phase_loops tree plan.cut place outer) params) plan.workers) values
+    ∙ ap (λ params. min (anchor_owner c.args.anchor.now plan.workers (phase_loops tree plan.cut.marks place outer) params) plan.workers) values

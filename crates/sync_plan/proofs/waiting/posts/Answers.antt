@@ -10,7 +10,7 @@ pub returns-in-Some : goal.returns-in-Some
 returns-in-Some c =
     let tree = tree_of c.args.program.now in
     let plan = c.args.plan.now in
-    let loops = phase_loops tree plan.cut c.args.phase.now.place c.args.phase.now.outer in
+    let loops = phase_loops tree plan.cut.marks c.args.phase.now.place c.args.phase.now.outer in
     let kind = c.in-Some.kind.now in
     let there = looked_up plan.kinds c.as_slice.result.now c.args.phase.now.place c.saturating_sub-place.result kind c.as_slice.ensures c.saturating_sub-place.ensures c.in-Some.ensures.lookup.3.0 c.in-Some.ensures.lookup.1 in
     c.is_awaited.ensures
@@ -22,6 +22,6 @@ pub returns-in-None : goal.returns-in-None
 returns-in-None c =
     let tree = tree_of c.args.program.now in
     let plan = c.args.plan.now in
-    let loops = phase_loops tree plan.cut c.args.phase.now.place c.args.phase.now.outer in
+    let loops = phase_loops tree plan.cut.marks c.args.phase.now.place c.args.phase.now.outer in
     let there = none_there plan.kinds c.as_slice.result.now c.args.phase.now.place c.saturating_sub-place.result c.as_slice.ensures c.saturating_sub-place.ensures c.in-None.ensures.lookup.3 in
     sym (ap (λ o. is_awaited_behind o plan.workers loops (param_values tree) c.args.q) there)

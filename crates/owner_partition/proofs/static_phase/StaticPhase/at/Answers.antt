@@ -10,8 +10,8 @@ use Rattle.owner_partition.proofs.StaticPhases.{IsSite, finds_among, site_found,
 use Rattle.owner_partition.proofs.static_phase.StaticPhase.at.Goals as goal
 use Rattle.owner_partition.proofs.static_phase.StaticPhase.at.Goals.{In_ok-item}
 
-found_at : (c : In_ok-item) → IsSite [] (placed (tree_of c.args.program.now) (enters_outer c.args.cut.now)) (c.args.number - 1) (record { what = statement_of c.in_ok-item.field-0.item.now; first = c.in_ok-item.field-0.first; rounds = rounds_of c.site_of.new.path })
-found_at c = site_found _ _ _ _ c.in_ok-item.ensures (finds_among (enters_outer c.args.cut.now) [] (tree_of c.args.program.now).items (c.args.number - 1) 1)
+found_at : (c : In_ok-item) → IsSite [] (placed (tree_of c.args.program.now) (enters_outer c.args.cut.now.marks)) (c.args.number - 1) (record { what = statement_of c.in_ok-item.field-0.item.now; first = c.in_ok-item.field-0.first; rounds = rounds_of c.site_of.new.path })
+found_at c = site_found _ _ _ _ c.in_ok-item.ensures (finds_among (enters_outer c.args.cut.now.marks) [] (tree_of c.args.program.now).items (c.args.number - 1) 1)
 
 pub invariant_of-result : goal.invariant_of-result
 invariant_of-result c =
@@ -20,8 +20,8 @@ invariant_of-result c =
 
 pub returns-in_err-item : goal.returns-in_err-item
 returns-in_err-item c =
-    let text = placed (tree_of c.args.program.now) (enters_outer c.args.cut.now) in
-    let missing = site_missing text (c.args.number - 1) _ c.in_err-item.ensures (finds_among (enters_outer c.args.cut.now) [] (tree_of c.args.program.now).items (c.args.number - 1) 1) in
+    let text = placed (tree_of c.args.program.now) (enters_outer c.args.cut.now.marks) in
+    let missing = site_missing text (c.args.number - 1) _ c.in_err-item.ensures (finds_among (enters_outer c.args.cut.now.marks) [] (tree_of c.args.program.now).items (c.args.number - 1) 1) in
     let P : Option StaticPhase → Type 0 = λ r. MatchOption r (slice_get text (c.args.number - 1) ≡ None) (λ s. slice_get text (c.args.number - 1) ≡ Some (record { what = statement_of s.item.now; around = loops_round s })) in
     subst P (sym c.from_residual.ensures) missing
 

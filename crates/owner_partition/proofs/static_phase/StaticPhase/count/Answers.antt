@@ -16,4 +16,4 @@ pub returns : goal.returns
 returns c =
     let tree = tree_of c.args.program.now in
     c.phase_count.ensures ∙ ap (λ xs. stops_of (enters_but c.closed.result.now) (statements_from xs)) c.deref.ensures.value ∙ ap (λ bs. stops_of (enters_but bs) tree.items) c.closed.ensures
-    ∙ sym (placed_counts (enters_outer c.args.cut.now) [] tree.items)
+    ∙ sym (placed_counts (enters_outer c.args.cut.now.marks) [] tree.items)

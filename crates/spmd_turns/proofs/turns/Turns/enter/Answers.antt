@@ -102,11 +102,11 @@ own_is tree walked p workers v found x a own at same last read there h =
     ∙ ap (λ o. owned_by tree o workers p v) (sym there)
 
 -- the phase's loops by number
-loops_are : (tree : Tree) (plan : Plan) (k : ℕ) (v : Visit) (phase : Phase) (walked : Tree) (enters : ℕ → Bool) (rounds : List Round) (number : ℕ) → IsWellFormed tree → slice_get (phases tree plan.cut) k ≡ Some v → walked ≡ tree → enters ≡ enters_outer plan.cut →
-    IsPhase walked enters rounds number v phase → phase_loops tree plan.cut v.place phase.outer ≡ v.loops
+loops_are : (tree : Tree) (plan : Plan) (k : ℕ) (v : Visit) (phase : Phase) (walked : Tree) (enters : ℕ → Bool) (rounds : List Round) (number : ℕ) → IsWellFormed tree → slice_get (phases tree plan.cut.marks) k ≡ Some v → walked ≡ tree → enters ≡ enters_outer plan.cut.marks →
+    IsPhase walked enters rounds number v phase → phase_loops tree plan.cut.marks v.place phase.outer ≡ v.loops
 loops_are tree plan k v phase walked enters rounds number formed at same entered is =
-    let text = subst (λ w. IsInText w (enters_outer plan.cut) (numbers_of rounds) v.what v.place v.first) same (subst (λ e. IsInText walked e (numbers_of rounds) v.what v.place v.first) entered is.text) in
-    ap (phase_loops tree plan.cut v.place) is.outer_is ∙ phase_has_loops tree plan.cut k v rounds formed at text (is.loops_are ∙ ap (λ w. loops_in w rounds) same)
+    let text = subst (λ w. IsInText w (enters_outer plan.cut.marks) (numbers_of rounds) v.what v.place v.first) same (subst (λ e. IsInText walked e (numbers_of rounds) v.what v.place v.first) entered is.text) in
+    ap (phase_loops tree plan.cut.marks v.place) is.outer_is ∙ phase_has_loops tree plan.cut.marks k v rounds formed at text (is.loops_are ∙ ap (λ w. loops_in w rounds) same)
 
 pub returns-clause-sound : goal.returns-clause-sound
 returns-clause-sound c =
@@ -124,7 +124,7 @@ returns-clause-sound c =
       walked = c.next.ensures.program ∙ sound.walked;
       owned = c.own_iterations-self.ensures.program ∙ c.next.ensures.program ∙ sound.walked;
       entered = c.next.ensures.enters ∙ sound.entered;
-      behind = sym n.1 ∙ ap (λ k. drop k (phases (turns_tree t) (turns_plan t).cut)) passed;
+      behind = sym n.1 ∙ ap (λ k. drop k (phases (turns_tree t) (turns_plan t).cut.marks)) passed;
       boundary = λ _. record {
         passed = c.boundary_before-self.ensures ∙ ap (λ k. boundary_of (slice_get (turns_plan t).kinds (k - 1)) (turns_plan t).workers) is.place_is ∙ ap (λ o. boundary_of (kind_before (turns_plan t) o) (turns_plan t).workers) (sym n.0)
             ∙ ap (boundary_at (turns_tree t) (turns_plan t)) (omega (arith, is.number_is));
@@ -150,8 +150,8 @@ returns-clause-left c =
     let walked = c.next.ensures.program ∙ sound.walked in
     let loops = loops_are tree plan passed v c.in-Some.phase (phases_tree new) (phases_enters new) (phases_rounds new) (passed + 1) sound.formed n.0 walked (c.next.ensures.enters ∙ sound.entered) is in
     let own = own_is tree (phases_tree new) t.processor plan.workers v (phase_last new) c.index-as_slice-phase.result a.anchor (instances_left c.own_iterations-self.result) (slice_get plan.anchors (v.place - 1)) walked last read a.at c.own_iterations-self.ensures.own in
-    let posted = c.posts-self.ensures ∙ ap (λ k. posts_at tree plan t.processor k (phase_loops tree plan.cut k c.in-Some.phase.outer)) is.place_is ∙ ap (posts_at tree plan t.processor v.place) loops in
-    let awaited = c.waits-self.ensures ∙ ap (λ k. waits_for tree plan t.processor k (phase_loops tree plan.cut k c.in-Some.phase.outer)) is.place_is ∙ ap (waits_for tree plan t.processor v.place) loops in
+    let posted = c.posts-self.ensures ∙ ap (λ k. posts_at tree plan t.processor k (phase_loops tree plan.cut.marks k c.in-Some.phase.outer)) is.place_is ∙ ap (posts_at tree plan t.processor v.place) loops in
+    let awaited = c.waits-self.ensures ∙ ap (λ k. waits_for tree plan t.processor k (phase_loops tree plan.cut.marks k c.in-Some.phase.outer)) is.place_is ∙ ap (waits_for tree plan t.processor v.place) loops in
     let number : c.in-Some.phase.number - 1 ≡ suc passed - 1 = omega (arith, is.number_is) in
     let begin : Some c.in-Some.phase.number ≡ Some (suc passed) = ap (λ n. Some n) (omega (arith, is.number_is)) in
     let next : phases_passed new ≡ suc passed = omega (arith, c.in-Some.ensures.passed) in
