@@ -61,7 +61,7 @@ fn has_sums(nest: &Nest) -> bool
 /// private.
 #[cycle(privates)]
 pub(crate) fn have_good_privates(version: Version, cut: &Cut, items: &[Item]) -> bool
-    ensures { result ≡ have_good_privates version cut.now.marks (statements_from items.now) }
+    ensures { result ≡ have_good_privates version cut.now (statements_from items.now) }
 {
     for item in items {
         if !has_good_privates(version, cut, item) {
@@ -73,7 +73,7 @@ pub(crate) fn have_good_privates(version: Version, cut: &Cut, items: &[Item]) ->
 
 #[cycle(privates)]
 fn has_good_privates(version: Version, cut: &Cut, item: &Item) -> bool
-    ensures { result ≡ has_good_privates version cut.now.marks (statement_of item.now) }
+    ensures { result ≡ has_good_privates version cut.now (statement_of item.now) }
 {
     match item {
         Item::Loop(nest) => {

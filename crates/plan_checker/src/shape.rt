@@ -46,12 +46,12 @@ pub(crate) fn wrong_field(program: &Program, plan: &Plan) -> Option<u32>
 // The field of the own scalars of loops that is wrong, if one is.
 fn wrong_scalars(program: &Program, plan: &Plan) -> Option<u32>
     requires { IsWellFormed (tree_of program.now) }
-    ensures { result ≡ (if not (have_good_sums plan.now.version plan.now.cut.marks (tree_of program.now).items) then Some 9 else if not (is_privately_good plan.now.version plan.now.cut.marks (tree_of program.now).items) then Some 10 else None) }
+    ensures { result ≡ (if not (have_good_sums plan.now.version plan.now.cut.marks (tree_of program.now).items) then Some 9 else if not (is_privately_good plan.now.version plan.now.cut (tree_of program.now).items) then Some 10 else None) }
 {
     let lists = plan.cut.privates();
     if !have_good_sums(plan.version, &plan.cut, &program.items) {
         Some(9)
-    } else if lists.len() != loop_count(&program.items)
+    } else if lists.len() != program.loop_count() as usize
         || !have_good_privates(plan.version, &plan.cut, &program.items)
     {
         Some(10)

@@ -154,7 +154,7 @@ pub record HasText (plan : Plan) : Type 0 where
   pub conditions : are_conditions_shown plan.version plan.conditions ≡ true
   pub loops : is_32 (length plan.cut.marks) ≡ true
   pub marks : list_all is_mark_shown plan.cut.marks ≡ true
-  pub privates : plan.cut.marks ≡ plain_cut plan.cut.marks
+  pub privates : plan.cut ≡ plain_cut plan.cut.marks
   pub pairs : length plan.kinds ≡ length plan.anchors
   pub phases : are_phases_shown (zipped plan.kinds plan.anchors) ≡ true
   pub certificates : are_certificates_shown plan.certificates ≡ true

@@ -3,6 +3,7 @@ pub mod PhaseLoops
 pub mod Waits
 pub mod Own
 pub mod Conflicts
+pub mod WorkedStores
 pub mod Ordered
 pub mod Shape
 pub mod Fit
