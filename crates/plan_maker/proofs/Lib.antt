@@ -16,5 +16,6 @@ pub mod SlotSteps
 pub mod Choices
 pub mod Meeting
 pub mod Weakest
+pub mod Plain
 pub mod Made
 pub mod Singles

@@ -7,7 +7,7 @@ use Rattle.farkas_cert.specs.declared.certificate.Certificate.{Certificate}
 use Rattle.nest_tree.specs.Tree.{Tree}
 use Rattle.nest_tree.specs.WellFormed.{loops_of}
 use Rattle.owner_partition.specs.declared.anchor.Dist.{Dist}
-use Rattle.owner_partition.specs.declared.cut.Mark.{Mark}
+use Rattle.owner_partition.specs.Cuts.{Cutting, plain_cut}
 use Rattle.sync_plan.specs.Barriers.{barrier_plan}
 use Rattle.sync_plan.specs.Fit.{IsFit}
 use Rattle.sync_plan.specs.declared.plan.Kind.{Kind}
@@ -34,6 +34,7 @@ use Rattle.plan_maker.specs.Loops.{AreLoopVerdicts, IsLoopVerdict, is_barred}
 use Rattle.plan_maker.specs.Made.{IsBarrierPlan, IsMade, IsPhaseReason, with_found}
 use Rattle.plan_maker.specs.Marks.{flagged, marks_of}
 use Rattle.plan_maker.specs.Weakest.{IsWeakReason, IsWeakest, asked_under, candidates_in}
+use Rattle.plan_maker.proofs.Plain.{version_two}
 use Rattle.plan_maker.proofs.Verdicts.{trips_same}
 use Rattle.plan_maker.proofs.Weakest.{zip_weaker}
 
@@ -95,26 +96,27 @@ module _ (tree : Tree) (base : Plan) (kinds : List Kind) (certificates : List Ce
       (λ c r w. record { phase = w.phase; kind = w.kind; cause = subst (λ qs. IsCause qs r.cause) (all-asked (kinds_taken (candidates_in tree base) (slice_set taken c.phase c.place))) w.cause }) h
 
 -- the whole
-pub made_is : (tree : Tree) (workers : ℕ) (marks : List Mark) (base : Plan) (w : Weakest) (plan : Plan) (reasons : Reasons) → base ≡ barrier_plan marks (maker_anchors tree marks workers) workers [] → plan ≡ with_found base w.kinds.items w.certificates.items →
-    IsFit tree plan → IsWeakest tree base w → IsReasonedCut tree marks → AllZip (IsLoopReason tree) (open_loops 1 marks) reasons.loops.items → reasons.phases.items ≡ w.reasons.items → IsMade tree workers plan reasons
-made_is tree workers marks base w plan reasons base-is plan-is fit weak cut loops phases =
-    let anchors = maker_anchors tree marks workers in
+pub made_is : (tree : Tree) (workers : ℕ) (cut : Cutting) (base : Plan) (w : Weakest) (plan : Plan) (reasons : Reasons) → base ≡ barrier_plan cut (maker_anchors tree cut.marks workers) workers [] → plan ≡ with_found base w.kinds.items w.certificates.items →
+    IsFit tree plan → IsWeakest tree base w → IsReasonedCut tree cut → AllZip (IsLoopReason tree) (open_loops 1 cut.marks) reasons.loops.items → reasons.phases.items ≡ w.reasons.items → IsMade tree workers plan reasons
+made_is tree workers cut base w plan reasons base-is plan-is fit weak reasoned loops phases =
+    let anchors = maker_anchors tree cut.marks workers in
+    let two = version_two tree cut reasoned in
     let kinds = w.kinds.items in
     let certificates = w.certificates.items in
-    let start = barrier_plan marks anchors workers [] in
+    let start = barrier_plan cut anchors workers [] in
     let whole : plan ≡ with_found start kinds certificates = plan-is ∙ ap (λ b. with_found b kinds certificates) base-is in
     let here = subst (λ b. IsWeakest tree b w) base-is weak in
     let made : IsMade tree workers (with_found start kinds certificates) reasons = record {
-      version = refl;
+      version = two;
       conditions = refl;
       workers_are = refl;
-      accepted = record { fits = subst (IsFit tree) whole fit; certified = certified tree start kinds certificates refl here.certified };
-      cut = cut;
+      accepted = record { fits = subst (IsFit tree) whole fit; certified = certified tree start kinds certificates two here.certified };
+      cut = reasoned;
       loops = loops;
       anchors = refl;
       taken = here.taken;
       kinds = here.kinds;
-      phases = subst (λ rs. AllZip (IsPhaseReason tree (with_found start kinds certificates) (candidates_in tree start) here.taken) (weaker_from 0 here.taken) rs) (sym phases) (phase_reasons tree start kinds certificates refl here.taken w.reasons.items here.reasons);
+      phases = subst (λ rs. AllZip (IsPhaseReason tree (with_found start kinds certificates) (candidates_in tree start) here.taken) (weaker_from 0 here.taken) rs) (sym phases) (phase_reasons tree start kinds certificates two here.taken w.reasons.items here.reasons);
     } in
     subst (λ p. IsMade tree workers p reasons) (sym whole) made
 
@@ -132,30 +134,30 @@ barred_by : (tree : Tree) (n : ℕ) (v : LoopVerdict) → IsLoopVerdict tree n v
 barred_by tree n Free h e = absurd (let no : false ≡ true = e in cc)
 barred_by tree n (Barred bar) h e = bar_of tree n bar h
 
-pub reasoned : (tree : Tree) (vs : List LoopVerdict) (marks : List Mark) → length vs ≡ loops_of tree.items → AreLoopVerdicts tree vs → marks ≡ marks_of (flagged (map is_barred vs)) tree.items → IsReasonedCut tree marks
-reasoned tree vs marks long all is = record {
+pub reasoned : (tree : Tree) (vs : List LoopVerdict) (cut : Cutting) → length vs ≡ loops_of tree.items → AreLoopVerdicts tree vs → cut ≡ plain_cut (marks_of (flagged (map is_barred vs)) tree.items) → IsReasonedCut tree cut
+reasoned tree vs cut long all is = record {
   barred = flagged (map is_barred vs);
-  marks = is;
+  plain = is;
   why = λ n from to flag.
       let there = flag_at vs (n - 1) (omega (arith, long, from, to)) in
       barred_by tree n there.0 (all n there.0 from there.1) (sym there.2 ∙ flag);
 }
 
 -- the same with a barrier in front of each phase
-pub barriers_are : (tree : Tree) (workers : ℕ) (marks : List Mark) (base plan : Plan) (certificates : List Certificate) → base ≡ barrier_plan marks (maker_anchors tree marks workers) workers [] → plan ≡ barrier_plan base.cut.marks base.anchors workers certificates →
-    IsFit tree base → AreRefuted (all_trips_asked tree base) certificates → IsReasonedCut tree marks → IsBarrierPlan tree workers plan
-barriers_are tree workers marks base plan certificates base-is plan-is fit refuted cut =
-    let anchors = maker_anchors tree marks workers in
-    let start = barrier_plan marks anchors workers [] in
+pub barriers_are : (tree : Tree) (workers : ℕ) (cut : Cutting) (base plan : Plan) (certificates : List Certificate) → base ≡ barrier_plan cut (maker_anchors tree cut.marks workers) workers [] → plan ≡ barrier_plan base.cut base.anchors workers certificates →
+    IsFit tree base → AreRefuted (all_trips_asked tree base) certificates → IsReasonedCut tree cut → IsBarrierPlan tree workers plan
+barriers_are tree workers cut base plan certificates base-is plan-is fit refuted reasoned =
+    let anchors = maker_anchors tree cut.marks workers in
+    let start = barrier_plan cut anchors workers [] in
     let here = subst (λ b. AreRefuted (all_trips_asked tree b) certificates) base-is refuted in
-    let tasks = map-flat (λ (q : Asked). q.task) (trips_asked tree start) (trips_tasks tree start) (λ s. tasks_asked [] (trips_tasks tree start s)) (phases_of tree marks) in
+    let tasks = map-flat (λ (q : Asked). q.task) (trips_asked tree start) (trips_tasks tree start) (λ s. tasks_asked [] (trips_tasks tree start s)) (phases_of tree cut.marks) in
     let good = subst (λ ks. AreCertified (numbered_from 1 ks) certificates) tasks (certified-numbered 1 (all_trips_asked tree start) certificates here) in
-    let made : IsBarrierPlan tree workers (barrier_plan marks anchors workers certificates) = record {
-      version = refl;
+    let made : IsBarrierPlan tree workers (barrier_plan cut anchors workers certificates) = record {
+      version = version_two tree cut reasoned;
       conditions = refl;
       workers_are = refl;
-      accepted = barriers_accepted tree marks anchors workers certificates (subst (IsFit tree) base-is fit) good;
-      cut = cut;
+      accepted = barriers_accepted tree cut anchors workers certificates (subst (IsFit tree) base-is fit) good;
+      cut = reasoned;
       anchors = refl;
       kinds = refl;
     } in

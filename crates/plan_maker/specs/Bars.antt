@@ -3,7 +3,7 @@ use Rattle.std.specs.Prelude.{ℕ, suc, ◌≡◌, Bool, true, false, List, [], 
 use Rattle.std.specs.List.{AllZip}
 use Rattle.nest_tree.specs.Tree.{Tree}
 use Rattle.owner_partition.specs.declared.cut.Mark.{Mark}
-use Rattle.owner_partition.specs.declared.cut.Mark.TheVariants.{Outer, Doall, Single, Inner}
+use Rattle.owner_partition.specs.declared.cut.Mark.TheVariants.{Outer, Doall, Sum, Single, Inner}
 use Rattle.plan_maker.specs.declared.reasons.Bar.{Bar}
 use Rattle.plan_maker.specs.declared.reasons.Bar.TheVariants.{Print, Meeting}
 use Rattle.plan_maker.specs.declared.reasons.LoopReason.{LoopReason}
@@ -23,6 +23,7 @@ pub record IsLoopReason (tree : Tree) (n : ℕ) (reason : LoopReason) : Type 0 w
 abbrev pub is_open : Mark → Bool
 is_open Outer = true
 is_open Doall = false
+is_open Sum = false
 is_open Single = true
 is_open Inner = false
 

@@ -3,6 +3,7 @@ use Rattle.std.specs.Prelude.{ℕ, ◌≤◌, ◌≡◌, ◌==◌, Bool, ◌&&�
 use Rattle.std.specs.List.{flat_map, list_any}
 use Rattle.nest_tree.specs.Tree.{Statement, Statements, do_loop, work, continue, done, next, Tree}
 use Rattle.nest_tree.specs.WellFormed.{loops_of}
+use Rattle.owner_partition.specs.Cuts.{Cutting, plain_cut}
 use Rattle.owner_partition.specs.declared.cut.Mark.{Mark}
 use Rattle.owner_partition.specs.declared.cut.Mark.TheVariants.{Outer, Doall}
 use Rattle.sync_plan.specs.Barriers.{barrier_plan}
@@ -32,7 +33,7 @@ alone tree n = alone_among n tree.items
 
 -- what is asked of two trips of the loop with this number, all loops round it taken as Outer
 abbrev pub loop_asked : Tree → ℕ → List Asked
-loop_asked tree n = flat_map (trips_asked tree (barrier_plan (alone tree n) [] 1 [])) (phases_of tree (alone tree n))
+loop_asked tree n = flat_map (trips_asked tree (barrier_plan (plain_cut (alone tree n)) [] 1 [])) (phases_of tree (alone tree n))
 
 -- a PRINT stands in it
 abbrev pub loop_prints : Tree → ℕ → Bool
@@ -42,8 +43,8 @@ loop_prints tree n = list_any (λ (s : StaticPhase). is_dealt (alone tree n) s.w
 abbrev pub IsBarred : Tree → ℕ → Type 0
 IsBarred tree n = IsTrue (loop_prints tree n) ⊎ ((cause : Cause) × IsCause (loop_asked tree n) cause)
 
--- a cut with a reason for each loop that isn't dealt out: its marks are those of some loops as barred, each of which is
-pub record IsReasonedCut (tree : Tree) (cut : List Mark) : Type 0 where
+-- a cut with a reason for each loop that isn't dealt out: it has no private scalars, and its marks are those of some loops as barred, each of which is
+pub record IsReasonedCut (tree : Tree) (cut : Cutting) : Type 0 where
   pub barred : ℕ → Bool
-  pub marks : cut ≡ marks_of barred tree.items
+  pub plain : cut ≡ plain_cut (marks_of barred tree.items)
   pub why : (n : ℕ) → 1 ≤ n → n ≤ loops_of tree.items → IsTrue (barred n) → IsBarred tree n

@@ -33,7 +33,7 @@ pub record IsMade (tree : Tree) (workers : ℕ) (plan : Plan) (reasons : Reasons
   pub conditions : plan.conditions ≡ Values
   pub workers_are : plan.workers ≡ workers
   pub accepted : IsAccepted tree plan
-  pub cut : IsReasonedCut tree plan.cut.marks
+  pub cut : IsReasonedCut tree plan.cut
   pub loops : AllZip (IsLoopReason tree) (open_loops 1 plan.cut.marks) reasons.loops.items
   pub anchors : plan.anchors ≡ maker_anchors tree plan.cut.marks workers
   pub taken : List ℕ
@@ -46,7 +46,7 @@ pub record IsBarrierPlan (tree : Tree) (workers : ℕ) (plan : Plan) : Type 0 wh
   pub conditions : plan.conditions ≡ Values
   pub workers_are : plan.workers ≡ workers
   pub accepted : IsAccepted tree plan
-  pub cut : IsReasonedCut tree plan.cut.marks
+  pub cut : IsReasonedCut tree plan.cut
   pub anchors : plan.anchors ≡ maker_anchors tree plan.cut.marks workers
   pub kinds : plan.kinds ≡ replicate (length plan.anchors) Barrier
 

@@ -62,7 +62,7 @@ fn phase_anchor(
     let seat = Seat {
         program,
         phase,
-        own: own_loop(cut.as_slice(), phase.item),
+        own: own_loop(cut, phase.item),
         workers,
     };
     match found_anchor(alloc, seat, cut, number)? {

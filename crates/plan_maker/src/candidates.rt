@@ -4,16 +4,15 @@ ghost use Rattle.std.specs.Prelude.{◌≡◌, ◌&&◌, ◌++◌, [], IfOk, OnO
 ghost use Rattle.std.specs.List.{list_any};
 ghost use Rattle.nest_rows.specs.Views.{heads_of};
 ghost use Rattle.sync_plan.specs.declared.plan.Kind.TheVariants.{Producer};
-ghost use Rattle.sync_plan.specs.Fit.{is_dealt as dealt};
+ghost use Rattle.sync_plan.specs.Fit.{is_dealt};
 ghost use Rattle.comm_system.specs.Boundaries.{is_prefix as are_first_of};
 ghost use Rattle.comm_system.specs.PhaseViews.{phase_seen};
 ghost use Rattle.plan_maker.specs.Candidates.{are_same_pairs, candidate as candidate_of, candidates_at, each_once, is_same_anchor, is_same_dist, kinds_taken, or_barrier, single_anchors, single_more};
 
-use crate::dealt::is_dealt;
 use crate::places::{copy_of_anchor, item_at};
 use comm_system::phase::Phase;
 use nest_rows::is_prefix;
-use owner_partition::{Anchor, Dist, Mark};
+use owner_partition::{Anchor, Cut, Dist};
 use std::alloc::{AllocError, Global};
 use sync_plan::{Kind, Kinds};
 
@@ -68,24 +67,24 @@ fn is_among(anchor: &Anchor, anchors: &[Anchor]) -> bool
 }
 
 // Whether a phase isn't dealt out and its Outer loops are the first of those round another.
-fn can_produce(marks: &[Mark], one: &Phase, phase: &Phase) -> bool
-    ensures { result ≡ (not (dealt marks.now (phase_seen one.now).what) && are_first_of (phase_seen one.now).outer (phase_seen phase.now).outer) }
+fn can_produce(cut: &Cut, one: &Phase, phase: &Phase) -> bool
+    ensures { result ≡ (not (is_dealt cut.now.marks (phase_seen one.now).what) && are_first_of (phase_seen one.now).outer (phase_seen phase.now).outer) }
 {
-    !is_dealt(marks, one.item) && is_prefix(one.outer.as_slice(), phase.outer.as_slice())
+    !cut.is_dealt(one.item) && is_prefix(one.outer.as_slice(), phase.outer.as_slice())
 }
 
 // The anchor of a phase behind these, where it can produce for another one and isn't among them.
 fn push_single(
     alloc: Global,
-    marks: &[Mark],
+    cut: &Cut,
     one: &Phase,
     phase: &Phase,
     found: &mut Vec<Anchor>,
     anchor: &Anchor,
 ) -> Result<(), AllocError>
-    ensures { OnOk result (found.new.items ≡ single_more marks.now (phase_seen phase.now) found.old.items (phase_seen one.now) anchor.now) }
+    ensures { OnOk result (found.new.items ≡ single_more cut.now.marks (phase_seen phase.now) found.old.items (phase_seen one.now) anchor.now) }
 {
-    if !can_produce(marks, one, phase) || is_among(anchor, found.as_slice()) {
+    if !can_produce(cut, one, phase) || is_among(anchor, found.as_slice()) {
         return Ok(());
     }
     found.push(copy_of_anchor(alloc, anchor)?)?;
@@ -96,19 +95,19 @@ fn push_single(
 // round this phase, each once.
 fn single_anchors(
     alloc: Global,
-    marks: &[Mark],
+    cut: &Cut,
     phases: &[Phase],
     anchors: &[Anchor],
     phase: &Phase,
 ) -> Result<Vec<Anchor>, AllocError>
-    ensures { IfOk result (λ found. found.items ≡ each_once [] (single_anchors marks.now (phase_seen phase.now) (map phase_seen phases.now) anchors.now)) }
+    ensures { IfOk result (λ found. found.items ≡ each_once [] (single_anchors cut.now.marks (phase_seen phase.now) (map phase_seen phases.now) anchors.now)) }
 {
     let mut found = Vec::new(alloc);
     for (place, one) in phases.iter().enumerate() {
         let Some(anchor) = item_at(anchors, place) else {
             return Ok(found);
         };
-        push_single(alloc, marks, one, phase, &mut found, anchor)?;
+        push_single(alloc, cut, one, phase, &mut found, anchor)?;
     }
     Ok(found)
 }
@@ -126,14 +125,14 @@ fn push_producers(kinds: &mut Vec<Kind>, anchors: Vec<Anchor>) -> Result<(), All
 // The candidates in front of a phase, from the weakest on.
 fn candidates_at(
     alloc: Global,
-    marks: &[Mark],
+    cut: &Cut,
     phases: &[Phase],
     anchors: &[Anchor],
     phase: &Phase,
 ) -> Result<Vec<Kind>, AllocError>
-    ensures { IfOk result (λ kinds. kinds.items ≡ candidates_at marks.now (map phase_seen phases.now) anchors.now (phase_seen phase.now)) }
+    ensures { IfOk result (λ kinds. kinds.items ≡ candidates_at cut.now.marks (map phase_seen phases.now) anchors.now (phase_seen phase.now)) }
 {
-    let singles = single_anchors(alloc, marks, phases, anchors, phase)?;
+    let singles = single_anchors(alloc, cut, phases, anchors, phase)?;
     let mut kinds = Vec::new(alloc);
     kinds.push(Kind::Nothing)?;
     push_producers(&mut kinds, singles)?;
@@ -147,15 +146,15 @@ fn candidates_at(
 /// The candidates in front of each phase.
 pub(crate) fn all_candidates(
     alloc: Global,
-    marks: &[Mark],
+    cut: &Cut,
     phases: &[Phase],
     anchors: &[Anchor],
 ) -> Result<Vec<Kinds>, AllocError>
-    ensures { IfOk result (λ all. all.items ≡ map (candidates_at marks.now (map phase_seen phases.now) anchors.now) (map phase_seen phases.now)) }
+    ensures { IfOk result (λ all. all.items ≡ map (candidates_at cut.now.marks (map phase_seen phases.now) anchors.now) (map phase_seen phases.now)) }
 {
     let mut all = Vec::new(alloc);
     for phase in phases {
-        let kinds = candidates_at(alloc, marks, phases, anchors, phase)?;
+        let kinds = candidates_at(alloc, cut, phases, anchors, phase)?;
         all.push(Kinds::from_vec(kinds))?;
     }
     Ok(all)

@@ -2,8 +2,8 @@
 
 ghost use Rattle.std.specs.Prelude.{◌≡◌, ◌&&◌, IfOk, None, map};
 ghost use Rattle.std.specs.List.{flat_map, list_any};
-ghost use Rattle.nest_tree.specs.View.{statement_of, tree_of};
-ghost use Rattle.sync_plan.specs.Fit.{has_print as prints, is_dealt as dealt};
+ghost use Rattle.nest_tree.specs.View.{tree_of};
+ghost use Rattle.sync_plan.specs.Fit.{has_print as prints, is_dealt};
 ghost use Rattle.sync_plan.specs.Shape.{wrong_field};
 ghost use Rattle.comm_system.specs.PhaseViews.{phase_seen};
 ghost use Rattle.comm_system.specs.References.{StaticPhase};
@@ -14,28 +14,17 @@ use crate::findings::Findings;
 use crate::judge::{Verdict, judge_groups};
 use comm_system::groups::phase_groups;
 use comm_system::phase::Phase;
-use nest_tree::{Item, Program};
-use owner_partition::Mark;
-use plan_checker::marks::{is_doall, mark_of};
+use nest_tree::Program;
+use owner_partition::Cut;
 use std::alloc::{AllocError, Global};
 use sync_plan::Plan;
 
-/// Whether a static phase is a Doall loop.
-pub(crate) fn is_dealt(marks: &[Mark], item: &Item) -> bool
-    ensures { result ≡ dealt marks.now (statement_of item.now) }
-{
-    match item {
-        Item::Loop(nest) => is_doall(mark_of(marks, nest.number)),
-        Item::Assign(..) | Item::Print(..) | Item::Continue(_) => false,
-    }
-}
-
 /// Whether a PRINT stands in a Doall loop.
-pub(crate) fn does_dealt_print(marks: &[Mark], phases: &[Phase]) -> bool
-    ensures { result ≡ list_any (λ (s : StaticPhase). dealt marks.now s.what && prints s.what) (map phase_seen phases.now) }
+pub(crate) fn does_dealt_print(cut: &Cut, phases: &[Phase]) -> bool
+    ensures { result ≡ list_any (λ (s : StaticPhase). is_dealt cut.now.marks s.what && prints s.what) (map phase_seen phases.now) }
 {
     for phase in phases {
-        if is_dealt(marks, phase.item) && phase.item.has_print() {
+        if cut.is_dealt(phase.item) && phase.item.has_print() {
             return true;
         }
     }
@@ -73,7 +62,7 @@ fn judge_phase(
     requires shape { wrong_field (tree_of program.now) plan.now ≡ None }
     ensures { IfOk result (IsVerdict (trips_asked (tree_of program.now) plan.now (phase_seen phase.now))) }
 {
-    if !is_dealt(plan.cut.as_slice(), phase.item) {
+    if !plan.cut.is_dealt(phase.item) {
         return Ok(Verdict::Refuted(Vec::new(alloc)));
     }
     let groups = phase_groups(alloc, u64::MAX, phase, 1)?;

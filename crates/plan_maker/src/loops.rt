@@ -2,6 +2,7 @@
 
 ghost use Rattle.std.specs.Prelude.{◌≡◌, ◌-◌, ◌≤◌, ◌++◌, ◌<◌, ◌^◌, IfOk, OnOk, Some, length, map, slice_get, true};
 ghost use Rattle.std.specs.List.{AllZip};
+ghost use Rattle.owner_partition.specs.Cuts.{plain_cut};
 ghost use Rattle.nest_tree.specs.Limits.{IsWithinLimits};
 ghost use Rattle.nest_tree.specs.Tree.{Tree};
 ghost use Rattle.nest_tree.specs.View.{statement_of, statements_from, tree_of};
@@ -63,7 +64,7 @@ fn judge_loop(
 {
     let cut = alone(alloc, program, number)?;
     let phases = phases(alloc, program, &cut)?;
-    if does_dealt_print(cut.as_slice(), phases.as_slice()) {
+    if does_dealt_print(&cut, phases.as_slice()) {
         return Ok(LoopVerdict::Barred(Bar::Print));
     }
     let plan = serial(alloc, program, cut)?;
@@ -87,7 +88,7 @@ fn alone(alloc: Global, program: &Program, number: u32) -> Result<Cut, AllocErro
 fn serial(alloc: Global, program: &Program, cut: Cut) -> Result<Plan, AllocError>
     requires formed { IsWellFormed (tree_of program.now) }
     requires limits { IsWithinLimits (tree_of program.now) }
-    ensures cut { IfOk result (λ plan. plan.cut.marks ≡ cut) }
+    ensures cut { IfOk result (λ plan. plan.cut ≡ cut) }
     ensures conditions { IfOk result (λ plan. plan.conditions ≡ Values) }
     ensures fits { IfOk result (λ plan. IsFit (tree_of program.now) plan) }
 {

@@ -101,7 +101,7 @@ fn base_plan(alloc: Global, program: &Program, cut: Cut, workers: u32) -> Result
     requires formed { IsWellFormed (tree_of program.now) }
     requires limits { IsWithinLimits (tree_of program.now) }
     requires some { 1 ≤ workers }
-    ensures same { IfOk result (λ plan. plan ≡ barrier_plan cut (maker_anchors (tree_of program.now) cut workers) workers []) }
+    ensures same { IfOk result (λ plan. plan ≡ barrier_plan cut (maker_anchors (tree_of program.now) cut.marks workers) workers []) }
     ensures fits { IfOk result (λ plan. IsFit (tree_of program.now) plan) }
 {
     let anchors = anchors_of(alloc, program, &cut, workers)?;
@@ -136,7 +136,7 @@ fn make_cut(
     requires formed { IsWellFormed (tree_of program.now) }
     requires limits { IsWithinLimits (tree_of program.now) }
     ensures reasoned { IfOk result (λ made. IsReasonedCut (tree_of program.now) made.0) }
-    ensures loops { IfOk result (λ made. AllZip (IsLoopReason (tree_of program.now)) (open_loops 1 made.0) made.1.items) }
+    ensures loops { IfOk result (λ made. AllZip (IsLoopReason (tree_of program.now)) (open_loops 1 made.0.marks) made.1.items) }
 {
     let verdicts = judge_loops(alloc, program, findings)?;
     let barred = barred_loops(alloc, verdicts.as_slice())?;
@@ -224,8 +224,8 @@ fn find_weakest(
         slots: slots.as_slice(),
         boundaries: boundaries.as_slice(),
     };
-    let (marks, anchors) = (plan.cut.as_slice(), plan.anchors.as_slice());
-    let candidates = all_candidates(alloc, marks, phases.as_slice(), anchors)?;
+    let anchors = plan.anchors.as_slice();
+    let candidates = all_candidates(alloc, &plan.cut, phases.as_slice(), anchors)?;
     let mut memories = memories(alloc, slots.as_slice())?;
     let mut taken = last_places(alloc, candidates.as_slice())?;
     let found = settled(

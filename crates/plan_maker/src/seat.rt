@@ -5,12 +5,11 @@ ghost use Rattle.std.specs.List.{list_all, list_any};
 ghost use Rattle.nest_tree.specs.View.{statement_of, tree_of};
 ghost use Rattle.nest_tree.specs.WellFormed.{is_number_of, names_only};
 ghost use Rattle.owner_partition.specs.StaticPhases.{loops_round};
-ghost use Rattle.sync_plan.specs.Shape.{has_places, is_good_anchor, own_loops};
+ghost use Rattle.sync_plan.specs.Shape.{is_good_anchor, own_loops};
 ghost use Rattle.plan_maker.specs.Allowed.{with_own};
 
 use nest_tree::{Affine, Item, Program};
-use owner_partition::{Anchor, Dist, Mark, StaticPhase};
-use plan_checker::marks::{is_doall, mark_of};
+use owner_partition::{Anchor, Cut, StaticPhase};
 
 // A static phase of a program: the Outer loops round it, and the loop that is dealt where it is a
 // Doall loop.
@@ -23,11 +22,11 @@ pub(crate) struct Seat<'b, 'a> {
 }
 
 /// The phase's own loop, where it is a Doall loop.
-pub(crate) fn own_loop(marks: &[Mark], item: &Item) -> Option<u32>
-    ensures { (around : List ℕ) → own_loops marks.now (statement_of item.now) around ≡ with_own result around }
+pub(crate) fn own_loop(cut: &Cut, item: &Item) -> Option<u32>
+    ensures { (around : List ℕ) → own_loops cut.now.marks (statement_of item.now) around ≡ with_own result around }
 {
     match item {
-        Item::Loop(nest) if is_doall(mark_of(marks, nest.number)) => Some(nest.number),
+        Item::Loop(nest) if cut.is_doall(nest.number) => Some(nest.number),
         Item::Loop(_) | Item::Assign(..) | Item::Print(..) | Item::Continue(_) => None,
     }
 }
@@ -39,7 +38,7 @@ impl Seat<'_, '_> {
     pub(crate) fn is_good_anchor(&self, anchor: &Anchor) -> bool
         ensures { result ≡ is_good_anchor (constants_at self.now) (loops_at self.now) anchor.now }
     {
-        self.names_only(&anchor.form) && has_places(anchor.dist)
+        self.names_only(&anchor.form) && anchor.dist.has_places()
     }
 
     fn names_only(&self, form: &Affine) -> bool
@@ -80,14 +79,4 @@ fn are_numbers_of(count: usize, pairs: &[(u32, i64)]) -> bool
         }
     }
     true
-}
-
-/// Whether a block has 1 to 2147483647 places.
-pub(crate) fn has_places(dist: Dist) -> bool
-    ensures { result ≡ has_places dist }
-{
-    match dist {
-        Dist::Block(length) => 1 <= length && length <= 2147483647,
-        Dist::Cyclic => true,
-    }
 }

@@ -18,7 +18,6 @@ ghost use Rattle.plan_maker.specs.Trials.{AreAllCertain, AreAllCertain-prop, Are
 use crate::cause::Cause;
 use crate::findings::Findings;
 use crate::memory::Memory;
-use crate::seat::has_places;
 use comm_system::boundary::Boundary;
 use comm_system::phase::Phase;
 use comm_system::signature::{Signature, signature_at};
@@ -56,7 +55,7 @@ fn has_places_in(kind: &Kind) -> bool
     ensures { result ≡ has_places_in kind.now }
 {
     match kind {
-        Kind::Producer(anchor) => has_places(anchor.dist),
+        Kind::Producer(anchor) => anchor.dist.has_places(),
         Kind::Nothing | Kind::Left | Kind::Right | Kind::Both | Kind::Barrier | Kind::Join => true,
     }
 }

@@ -15,7 +15,7 @@ use Rattle.plan_maker.proofs.anchors.phase_anchor.Goals.{After-own_loop}
 
 -- the loops that the phase's anchor may name
 loops : (c : After-own_loop) (around : List ℕ) → own_loops c.args.cut.now.marks (statement_of c.args.phase.now.item.now) around ≡ with_own c.own_loop.result around
-loops c around = ap (λ ms. own_loops ms (statement_of c.args.phase.now.item.now) around) (sym c.as_slice.ensures) ∙ c.own_loop.ensures around
+loops c around = c.own_loop.ensures around
 
 within : (c : After-own_loop) → are_numbers (loops_of (tree_of c.args.program.now).items) (with_own c.own_loop.result (loops_round c.args.phase.now)) ≡ true
 within c =

@@ -5,4 +5,4 @@ use Rattle.plan_maker.proofs.candidates.single_anchors.Given as goal
 
 abbrev pub invariant-loop-place : goal.invariant-loop-place
 invariant-loop-place l =
-    l.found.items ++ each_once l.found.items (single_anchors l.marks (phase_seen l.phase) (map phase_seen (drop l.place l.phases)) (drop l.place l.anchors)) ≡ each_once [] (single_anchors l.marks (phase_seen l.phase) (map phase_seen l.phases) l.anchors)
+    l.found.items ++ each_once l.found.items (single_anchors l.cut.marks (phase_seen l.phase) (map phase_seen (drop l.place l.phases)) (drop l.place l.anchors)) ≡ each_once [] (single_anchors l.cut.marks (phase_seen l.phase) (map phase_seen l.phases) l.anchors)

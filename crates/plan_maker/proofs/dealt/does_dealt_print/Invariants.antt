@@ -7,5 +7,5 @@ use Rattle.plan_maker.proofs.dealt.does_dealt_print.Given as goal
 
 abbrev pub invariant-loop-phase : goal.invariant-loop-phase
 invariant-loop-phase l =
-    let test = λ (s : StaticPhase). is_dealt l.marks s.what && has_print s.what in
+    let test = λ (s : StaticPhase). is_dealt l.cut.marks s.what && has_print s.what in
     list_any test (map phase_seen (drop l.phase-index l.phases)) ≡ list_any test (map phase_seen l.phases)

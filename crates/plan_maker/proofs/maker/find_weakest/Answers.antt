@@ -30,7 +30,7 @@ returns c =
     let seen = λ (ss : List Slot). slots_asked tree plan ks ps (map slot_seen ss) in
     ap seen c.as_slice-7.ensures.value ∙ (c.in_ok-slots.ensures tree plan ks ps ∙ (ap seen c.as_slice-3.ensures.value ∙ ap (slots_asked tree plan ks ps) (c.in_ok-all.ensures ∙ ap slots_of (ap (map phase_seen) c.as_slice-2.ensures.value ∙ phases)))) in
     let candidates : c.as_slice-12.result.now ≡ candidates_in tree plan =
-    c.as_slice-12.ensures.value ∙ c.in_ok-candidates.ensures ∙ ap (λ ms. offered ms c.as_slice-anchors.result.now (map phase_seen c.as_slice-9.result.now)) c.as_slice-marks.ensures
+    c.as_slice-12.ensures.value ∙ c.in_ok-candidates.ensures
     ∙ ap (λ anchors. offered plan.cut.marks anchors (map phase_seen c.as_slice-9.result.now)) c.as_slice-anchors.ensures ∙ ap (offered plan.cut.marks plan.anchors) (ap (map phase_seen) c.as_slice-9.ensures.value ∙ phases) in
     let trips = subst (λ ps. AreRefuted (flat_map (trips_asked tree plan) ps) c.in_ok-certificates.certificates.items) (ap (map phase_seen) c.as_slice.ensures.value ∙ phases) c.in_ok-certificates.ensures in
     let w = c.in_ok-found.ensures in

@@ -12,6 +12,6 @@ returns c =
     let tree = tree_of c.args.program.now in
     let base = c.in_ok-base.base in
     let certificates = c.in_ok-certificates.certificates.items in
-    let plan-is : c.in_ok-plan.plan ≡ barrier_plan base.cut.marks base.anchors c.args.workers certificates = c.in_ok-plan.ensures ∙ ap (λ anchors. barrier_plan base.cut.marks anchors c.args.workers certificates) c.into_vec.ensures in
+    let plan-is : c.in_ok-plan.plan ≡ barrier_plan base.cut base.anchors c.args.workers certificates = c.in_ok-plan.ensures ∙ ap (λ anchors. barrier_plan base.cut anchors c.args.workers certificates) c.into_vec.ensures in
     let refuted = subst (λ ps. AreRefuted (flat_map (trips_asked tree base) ps) certificates) (ap (map phase_seen) c.as_slice.ensures.value ∙ c.in_ok-phases.ensures.phases) c.in_ok-certificates.ensures in
     barriers_are tree c.args.workers c.in_ok-cut.cut base c.in_ok-plan.plan certificates c.in_ok-base.ensures.same plan-is c.in_ok-base.ensures.fits refuted c.in_ok-cut.ensures.reasoned

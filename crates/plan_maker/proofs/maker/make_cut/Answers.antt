@@ -1,6 +1,7 @@
 use Rattle.std.proofs.Common.{◌≡◌, ◌++◌, length, map, ap, ap₂, sym, ◌∙◌, subst, arith}
 use Rattle.nest_tree.specs.View.{statements_from, tree_of}
 use Rattle.nest_tree.proofs.Good.{loops-few}
+use Rattle.owner_partition.specs.Cuts.{plain_cut}
 use Rattle.plan_maker.specs.Loops.{AreOpenBarred, is_barred}
 use Rattle.plan_maker.specs.Marks.{flagged, marks_of}
 use Rattle.plan_maker.proofs.Made.{reasoned}
@@ -42,6 +43,5 @@ returns-clause-reasoned c =
     let tree = tree_of c.args.program.now in
     let vs = c.in_ok-verdicts.verdicts.items in
     let flags = c.as_slice-2.ensures.value ∙ c.in_ok-barred.ensures ∙ ap (map is_barred) c.as_slice.ensures.value in
-    let marks : c.in_ok-cut.cut ≡ marks_of (flagged (map is_barred vs)) tree.items =
-    c.in_ok-cut.ensures ∙ c.in_ok-push_marks.ensures ∙ ap₂ (λ old fs. old ++ marks_of (flagged fs) (statements_from c.deref.result.now)) c.new-marks.ensures.items flags ∙ ap (λ items. marks_of (flagged (map is_barred vs)) (statements_from items)) c.deref.ensures.value in
-    reasoned tree vs c.in_ok-cut.cut c.in_ok-verdicts.ensures.long c.in_ok-verdicts.ensures.verdicts marks
+    let marks = c.in_ok-push_marks.ensures ∙ ap₂ (λ old fs. old ++ marks_of (flagged fs) (statements_from c.deref.result.now)) c.new-marks.ensures.items flags ∙ ap (λ items. marks_of (flagged (map is_barred vs)) (statements_from items)) c.deref.ensures.value in
+    reasoned tree vs c.in_ok-cut.cut c.in_ok-verdicts.ensures.long c.in_ok-verdicts.ensures.verdicts (c.in_ok-cut.ensures ∙ ap plain_cut marks)
