@@ -16,14 +16,16 @@ pub enum PlanRefusal {
     /// marks aren't as many as the loops; 3 a mark stands where it may not; 4 the anchors or the
     /// kinds aren't as many as the static phases; 5 an anchor of a phase, 6 of a kind, names a loop
     /// that it may not or a named constant that isn't there, or its block isn't 1 to 2147483647;
-    /// 8 a row of conditions is malformed, or the version has none. The least such field; behind
-    /// them 7: there are more certificates than obligations.
+    /// 8 a row of conditions is malformed, or the version has none; 9 a Sum loop hasn't 1 to 16 sum
+    /// scalars, or the version has no such loops; 10 the lists of private scalars aren't as many as
+    /// the loops, a list isn't good for its loop, or the version has none. The least such field;
+    /// behind them 7: there are more certificates than obligations.
     Shape(u32),
     /// The first block anchor, the phases' first and then the kinds', whose interval leaves its
     /// blocks.
     Placement { phase: u32, low: i128, high: i128 },
-    /// The first static phase, from 1, with a PRINT that is a Doall loop or has another form than
-    /// the constant 0.
+    /// The first static phase, from 1, with a PRINT whose trips are dealt or that has another form
+    /// than the constant 0.
     PrintPlace(u32),
     /// The first row of conditions, from 1, that the values of the named constants don't meet.
     Condition(u64),

@@ -8,6 +8,7 @@ use Rattle.nest_model.specs.Memory.{output_of}
 use Rattle.f77_lines.specs.Listing.{entries_of}
 use Rattle.f77_scene.specs.Reading.{program_in}
 use Rattle.f77_scene.specs.Scene.{Name}
+use Rattle.owner_partition.specs.Cuts.{plain_cut}
 use Rattle.sync_plan.specs.declared.plan.Conditions.TheVariants.{Values}
 use Rattle.sync_plan.specs.declared.plan.Plan.{Plan}
 use Rattle.sync_plan.specs.declared.plan.Version.TheVariants.{One}
@@ -59,11 +60,11 @@ module _ (bytes : List ℕ) (unread : IsPlanText bytes → ⊥) (unrefused : (n 
   })
 
 empty_plan : Plan
-empty_plan = record { version = One; conditions = Values; workers = 1; cut = []; anchors = []; kinds = []; certificates = [] }
+empty_plan = record { version = One; conditions = Values; workers = 1; cut = plain_cut []; anchors = []; kinds = []; certificates = [] }
 
 empty_text : HasText empty_plan
 unfolding empty_plan
-empty_text = record { workers = refl; conditions = refl; loops = refl; pairs = refl; phases = refl; certificates = refl }
+empty_text = record { workers = refl; conditions = refl; loops = refl; marks = refl; privates = refl; pairs = refl; phases = refl; certificates = refl }
 
 pub read_or_alien : (bytes : List ℕ) → (IsPlanText bytes → ⊥) → ((n : ℕ) → IsFirstAlien bytes n → ⊥) → ⊥
 read_or_alien bytes unread unrefused = never_open bytes unread unrefused (length bytes) [] bytes (omega arith) refl (empty_plan, empty_text, (plan_lines empty_plan, refl))
