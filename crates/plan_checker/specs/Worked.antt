@@ -14,7 +14,7 @@ use Rattle.owner_partition.specs.declared.cut.Mark.TheVariants.{Doall, Sum, Inne
 use Rattle.sync_plan.specs.declared.plan.Conditions.TheVariants.{Values, Rows}
 use Rattle.sync_plan.specs.declared.plan.Kind.TheVariants.{Nothing, Producer, Barrier}
 use Rattle.sync_plan.specs.declared.plan.Plan.{Plan}
-use Rattle.sync_plan.specs.declared.plan.Version.TheVariants.{One, Two, Three}
+use Rattle.sync_plan.specs.declared.plan.Version.TheVariants.{One, Two, Three, Four, Five}
 use Rattle.plan_checker.specs.declared.refusal.PlanRefusal.TheVariants.{Condition, Placement, PrintPlace, Shape}
 use Rattle.plan_checker.specs.Refusals.{first_refusal}
 
@@ -157,3 +157,16 @@ refused-no_such_constant = refl
 
 pub refused-rows_in_two : first_refusal (two_arrays 6) (record (rows 1) { version = Two }) ≡ Some (Shape 8)
 refused-rows_in_two = refl
+
+-- a Sum loop has a sum scalar, and each loop a list of its private scalars, which may be private
+pub refused-no_sum : first_refusal (two_arrays 6) (record barriers { version = Four; cut = marked_by (Sum ∷ Doall ∷ []) }) ≡ Some (Shape 9)
+refused-no_sum = refl
+
+pub refused-no_list : first_refusal (two_arrays 6) (record barriers { cut = record { marks = Doall ∷ Doall ∷ []; privates = [] ∷ [] } }) ≡ Some (Shape 10)
+refused-no_list = refl
+
+pub refused-not_private : first_refusal (two_arrays 6) (record barriers { version = Five; cut = record { marks = Doall ∷ Doall ∷ []; privates = (1 ∷ []) ∷ [] ∷ [] } }) ≡ Some (Shape 10)
+refused-not_private = refl
+
+pub refused-no_sum_first : first_refusal (two_arrays 6) (record barriers { version = Two; cut = record { marks = Sum ∷ Doall ∷ []; privates = (1 ∷ []) ∷ [] ∷ [] } }) ≡ Some (Shape 9)
+refused-no_sum_first = refl

@@ -18,8 +18,9 @@ pub enum PlanRefusal {
     /// that it may not or a named constant that isn't there, or its block isn't 1 to 2147483647;
     /// 8 a row of conditions is malformed, or the version has none; 9 a Sum loop hasn't 1 to 16 sum
     /// scalars, or the version has no such loops; 10 the lists of private scalars aren't as many as
-    /// the loops, a list isn't good for its loop, or the version has none. The least such field;
-    /// behind them 7: there are more certificates than obligations.
+    /// the loops, or one has scalars though the loop's trips aren't dealt or the version has none,
+    /// or has more than 16, doesn't rise, or names a scalar that may not be private there. The
+    /// least such field, and behind these 7: there are more certificates than obligations.
     Shape(u32),
     /// The first block anchor, the phases' first and then the kinds', whose interval leaves its
     /// blocks.
