@@ -1,9 +1,7 @@
 use Rattle.std.proofs.Common.{◌&&◌, ap, sym, ◌∙◌}
 use Rattle.nest_tree.specs.View.{statement_of, statements_from}
 use Rattle.nest_tree.proofs.Rows.{statement_of-Loop}
-use Rattle.owner_partition.specs.Cuts.{privates_of}
-use Rattle.owner_partition.specs.Marks.{mark_of}
-use Rattle.sync_plan.specs.Shape.{are_good_privates, has_good_privates, have_good_privates}
+use Rattle.sync_plan.specs.Shape.{has_good_privates, have_good_privates}
 use Rattle.plan_checker.proofs.own.+privates.Goals as goal
 
 pub has_good_privates-returns-then-are_good_privates : goal.has_good_privates-returns-then-are_good_privates

@@ -1,7 +1,6 @@
 use Rattle.std.proofs.Common.{◌&&◌, ap, sym, ◌∙◌}
 use Rattle.nest_tree.specs.View.{statement_of, statements_from}
 use Rattle.nest_tree.proofs.Rows.{statement_of-Loop}
-use Rattle.owner_partition.specs.Marks.{mark_of}
 use Rattle.sync_plan.specs.Shape.{has_good_sums, have_good_sums, is_good_sum}
 use Rattle.plan_checker.proofs.own.+sums.Goals as goal
 
