@@ -133,7 +133,7 @@ fn obligation_on(
 #[test]
 fn plans_are_checked(rt: HostRuntime) -> Result<(), Fail> {
     let alloc = rt.alloc();
-    let rows: [(&[u8], &[u8], &[u8], &str); 25] = [
+    let rows: [(&[u8], &[u8], &[u8], &str); 26] = [
         (MIRROR, b"", b"", "ACCEPTED"),
         (MIRROR, b"2 BARRIER", b"2 BOTH", "PLAN P4 3"),
         (MIRROR, b"11*1", b"11*-1", "PLAN P5 1 C1 1"),
@@ -186,6 +186,7 @@ fn plans_are_checked(rt: HostRuntime) -> Result<(), Fail> {
         (CHAIN, b"SPMD PLAN 2", b"SPMD PLAN 1", "PLAN P5 4 C5 20"),
         (CONDITIONS, b"", b"", "ACCEPTED"),
         (CONDITIONS, b"N=6", b"N=7", "ACCEPTED"),
+        (CONDITIONS, b"SPMD PLAN 3", b"SPMD PLAN 5", "ACCEPTED"),
         (CONDITIONS, b"N=6", b"N=8", "PLAN P6 1"),
         (CONDITIONS, b"N=6", b"N=9", "PLAN P2 1 0 8"),
         (CONDITIONS, b"-1*P1", b"-1*P2", "PLAN P1 8"),
@@ -251,16 +252,19 @@ fn wrong_line(alloc: Global, text: &[u8]) -> Result<u32, AllocError> {
 #[test]
 fn texts_are_read_or_refused(rt: HostRuntime) -> Result<(), Fail> {
     let alloc = rt.alloc();
-    let rows: [(&[u8], &[u8], u32); 16] = [
+    let rows: [(&[u8], &[u8], u32); 19] = [
         (b"", b"", 0),
         (b"WORKERS 5", b"WORKERS 05", 2),
         (b"WORKERS 5", b"WORKERS 4294967296", 2),
-        (b"SPMD PLAN 3", b"SPMD PLAN 4", 1),
+        (b"SPMD PLAN 3", b"SPMD PLAN 5", 0),
+        (b"SPMD PLAN 3", b"SPMD PLAN 6", 1),
         (b"SPMD PLAN 3", b"SPMD PLAN 2", 3),
         (b"WHERE 1\n1 -1*P1 <= -3", b"WHERE VALUES", 0),
         (b"1 -1*P1 <= -3", b"1 <= -3", 4),
         (b"1 -1*P1 <= -3", b"1 -1*L1 <= -3", 4),
         (b"1 OUTER", b"2 OUTER", 6),
+        (b"2 DOALL", b"2 SUM", 7),
+        (b"2 DOALL", b"2 DOALL PRIVATE V1", 7),
         (b"-2 3*L1 -1*P2", b"-2 -1*P2 3*L1", 11),
         (b"-2 3*L1", b"-2 0*L1", 11),
         (b"AT 0 BLOCK", b"AT  0 BLOCK", 12),
