@@ -1,6 +1,7 @@
 use Rattle.std.proofs.Common.{Some, ◌++◌, ◌<◌, ◌^◌, true, sym, ap, ◌∙◌, map, List, ℕ, arith}
 use denote.Ref.{Bor}
 use Rattle.plan_text.specs.Loose.{loop_said, mark_of, word_at}
+use Rattle.plan_text.specs.PlanText.{is_mark_shown}
 use Rattle.plan_text.specs.Words.{loop_line}
 use Rattle.plan_text.proofs.LineLaws.{loop-law, refuse}
 use Rattle.plan_text.proofs.item.read_loop.Goals as goal
