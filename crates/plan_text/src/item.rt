@@ -72,7 +72,7 @@ pub(crate) fn read_count_64(
 pub(crate) fn read_loop(alloc: Global, lines: &mut Lines, number: u32) -> Result<Mark, PlanSyntax>
     ensures ok { IfOk result (λ mark. lines.old.rest.now ≡ spec.loop_line number mark ++ (10 ∷ lines.new.rest.now)) }
     ensures taken { IfOk result (λ mark. lines.new.taken ≡ lines.old.taken + 1) }
-    ensures fits { IfOk result (λ mark. is_mark_shown mark ≡ true) }
+    ensures shown { IfOk result (λ mark. is_mark_shown mark ≡ true) }
     ensures refused { IfErr result (RefusesLine (spec.loop_line number) is_mark_shown lines.old.rest.now lines.old.taken) }
 {
     let line = lines.next()?;

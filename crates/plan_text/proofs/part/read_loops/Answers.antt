@@ -15,4 +15,4 @@ returns-in-Err-clause-refused c =
 pub loop-index-preserved : goal.loop-index-preserved
 loop-index-preserved c =
     one_more (alone loop_line) is_mark_shown c.args.lines.now.rest.now c.loop-index.lines.rest.now c.read_loop.new.lines.rest.now c.args.lines.now.taken c.loop-index.lines.taken c.read_loop.new.lines.taken c.loop-index.index c.loop-index.items.items c.push.new.self.items c.in-Ok.item
-    c.in_ok-push-in-Ok.ensures.items c.loop-index.invariant (c.in-Ok.ensures.ok ∙ one_line (loop_line (c.loop-index.index + 1) c.in-Ok.item) c.read_loop.new.lines.rest.now) c.in-Ok.ensures.taken refl
+    c.in_ok-push-in-Ok.ensures.items c.loop-index.invariant (c.in-Ok.ensures.ok ∙ one_line (loop_line (c.loop-index.index + 1) c.in-Ok.item) c.read_loop.new.lines.rest.now) c.in-Ok.ensures.taken c.in-Ok.ensures.shown
