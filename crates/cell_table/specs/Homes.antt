@@ -4,6 +4,7 @@ use Rattle.atomic_table.specs.Seated.{TableId}
 use Rattle.nest_tree.specs.declared.tree.Program.{Program}
 use Rattle.nest_tree.specs.Tree.{Tree, done}
 use Rattle.nest_tree.specs.View.{tree_of}
+use Rattle.owner_partition.specs.Cuts.{plain_cut}
 use Rattle.sync_plan.specs.declared.plan.Conditions.TheVariants.{Values}
 use Rattle.sync_plan.specs.declared.plan.Plan.{Plan}
 use Rattle.sync_plan.specs.declared.plan.Version.TheVariants.{One}
@@ -26,7 +27,7 @@ pub record Home : Type 0 where
 
 -- no table is made for none
 abbrev no_plan : Plan
-no_plan = record { version = One; conditions = Values; workers = 0; cut = []; anchors = []; kinds = []; certificates = [] }
+no_plan = record { version = One; conditions = Values; workers = 0; cut = plain_cut []; anchors = []; kinds = []; certificates = [] }
 
 abbrev pub tree_given : Option (Program × Plan) → Tree
 tree_given (Some (program, plan)) = tree_of program
