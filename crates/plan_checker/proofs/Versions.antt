@@ -159,7 +159,7 @@ same_conditions constants (Rows rows) = refl
 
 fits_alike : (tree : Tree) (plan : Plan) → IsFit tree (in_version One plan) → IsFit tree (in_version Two plan)
 fits_alike tree plan fits =
-    rw (same_conditions (length tree.params) plan.conditions, have_sums-alike Two One early_sums plan.cut.marks tree.items, have_privates-alike Two One early_privates plan.cut.marks tree.items) fits
+    rw (same_conditions (length tree.params) plan.conditions, have_sums-alike Two One early_sums plan.cut.marks tree.items, have_privates-alike Two One early_privates plan.cut tree.items) fits
 
 -- where it fits, and has as many certificates as obligations, its failure is the first bad certificate
 failure_in : (tree : Tree) (plan : Plan) (bad : Option PlanRefusal) → IsFit tree plan → length plan.certificates ≤ length (obligations_of tree plan) → first_uncertified (obligations_of tree plan) plan.certificates ≡ bad → first_failure tree plan ≡ bad
