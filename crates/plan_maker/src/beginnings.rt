@@ -15,8 +15,8 @@ use fm_elim::{Advance, Level, NoMemory};
 use owner_partition::Dist;
 use std::alloc::{AllocError, Global};
 
-/// How many rows less than elimination's limit a short level has at most: it has 500.
-const REST: usize = 19_500;
+/// How many rows less than elimination's limit a short level has at most: it has 100.
+const REST: usize = 19_900;
 
 /// The first rows of a system, and the order in which its unknowns are removed.
 #[derive(Drop)]
@@ -118,7 +118,7 @@ fn first_rows(alloc: Global, system: &System, count: usize) -> Result<System, Al
     Ok(first)
 }
 
-/// Whether no level so far has had more than 500 rows: elimination's limit less the rest.
+/// Whether no level so far has had more than 100 rows: elimination's limit less the rest.
 pub(crate) fn is_short(level: &Level) -> bool {
     level.has_room_for(REST)
 }
