@@ -85,7 +85,7 @@ impl<'a> Executor<'a> {
 
     /// The output, where nothing more is executed.
     pub fn into_output(self) -> Output
-        ensures { result.bytes ≡ executor_output self }
+        ensures { result.bytes ≡ executor_output self.entry }
     {
         self.output
     }
