@@ -5,7 +5,6 @@ ghost use Rattle.std.specs.Borrow.{ftrue};
 
 use std::marker::{Model, PhantomData};
 
-
 /// How many deeds of a processor are done: a number that only proofs read, for a [`Deeds`] that
 /// needs it. It takes no bytes, and its calls do nothing when they run.
 ///
