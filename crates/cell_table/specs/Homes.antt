@@ -17,6 +17,7 @@ use Rattle.cell_table.specs.declared.view.Stage.{Stage}
 use Rattle.cell_table.specs.declared.view.View.{View}
 use Rattle.cell_table.specs.declared.view.View.TheVariants.{Seated, Away}
 use Rattle.cell_table.specs.Places.{behind, behind_row, settled_at}
+use Rattle.cell_table.specs.Runs.{IsRunnable}
 use Rattle.cell_table.specs.Words.{arrival_word, word_count}
 use Rattle.spmd_laws.specs.Laws.{Laws}
 
@@ -134,10 +135,11 @@ pub record IsSeatOf (v : View) (p all : ℕ) : Type 0 where
   pub arrived : all ≡ (protocol_in v).workers * arrivals_at (protocol_in v) p (position_of (role_in v))
   pub settled : settled_at (protocol_in v) p (position_of (role_in v)) ≡ position_of (role_in v)
 
--- a table has the words of a protocol of which the laws hold, with so many cells, and its arrivals at this word
-pub record IsTableOf (m : Protocol) (table : TableId) (count arrivals : ℕ) : Type 0 where
-  pub words : table.words ≡ word_count m
+-- a table has the words of a program under a plan that can run it, with so many cells, and its arrivals at this word
+pub record IsTableOf (tree : Tree) (plan : Plan) (table : TableId) (count arrivals : ℕ) : Type 0 where
+  pub runnable : IsRunnable tree plan
+  pub words : table.words ≡ word_count (protocol_of tree plan)
   pub slots : table.slots ≡ 0
-  pub cells : count ≡ m.cells
-  pub arrived : arrivals ≡ arrival_word m
-  pub laws : Laws m
+  pub cells : count ≡ (protocol_of tree plan).cells
+  pub arrived : arrivals ≡ arrival_word (protocol_of tree plan)
+  pub laws : Laws (protocol_of tree plan)

@@ -11,7 +11,8 @@ ghost use Rattle.spmd_laws.specs.Laws.{Laws};
 ghost use Rattle.cell_table.specs.Calls.{AreAllEnded, ArrivesNext, AwaitsNext, GathersNext, IsInMemory, LoadsNext, PollTells, PostsNext, IsEndedSeat, StoresNext, all_arrivals, arrivals_up_to, first_seat, main_seat, with_stage};
 ghost use Rattle.cell_table.specs.Ends.{IsLast};
 ghost use Rattle.spmd_model.specs.Timelines.{counter};
-ghost use Rattle.cell_table.specs.Homes.{gone, loaded_next, protocol_at, stored_next, through};
+ghost use Rattle.cell_table.specs.Homes.{gone, loaded_next, plan_given, protocol_at, stored_next, through, tree_given};
+ghost use Rattle.cell_table.specs.Runs.{IsRunnable};
 ghost use Rattle.cell_table.specs.Words.{word_of};
 ghost use Rattle.cell_table.specs.declared.view.Stage.{Stage};
 ghost use Rattle.cell_table.specs.declared.view.Stage.TheVariants.{Ended, NotOut, Out};
@@ -43,7 +44,6 @@ pub struct Cells<'a> {
 impl<'a> Model for Cells<'a> {
     ghost use Rattle.std.specs.Prelude.{◌≡◌, Some};
     ghost use Rattle.nest_tree.specs.View.{tree_of};
-    ghost use Rattle.spmd_laws.specs.Viewed.{protocol_of};
     ghost use Rattle.cell_table.specs.Homes.{Home, IsTableOf};
     ghost use Rattle.cell_table.specs.Codes.{home_code};
 
@@ -53,7 +53,7 @@ impl<'a> Model for Cells<'a> {
 
     ghost view = { λ c. record { table = c.table.shared.table_id; given = Some (c.program.now, c.plan.now) } };
 
-    ghost invariant = { λ c. IsTableOf (protocol_of (tree_of c.program.now) c.plan.now) c.table.shared.table_id c.cells c.arrivals };
+    ghost invariant = { λ c. IsTableOf (tree_of c.program.now) c.plan.now c.table.shared.table_id c.cells c.arrivals };
 }
 
 /// The seat of one processor. Contracts see the processor, how many of its acts are done, and its
@@ -78,6 +78,28 @@ impl Model for CellSeat {
     ghost view = { λ s. cell_view s.seat.table_id s.seat.me.0 };
 
     ghost invariant = { λ s. IsSeatOf s.seat.me.0 s.processor s.all × (s.seat.me.1 ≡ []) };
+}
+
+impl CellSeat {
+    ghost use Rattle.std.specs.Prelude.{◌≡◌, ◌<◌};
+    ghost use Rattle.cell_table.specs.Calls.{all_arrivals as awaited};
+    ghost use Rattle.cell_table.specs.Homes.{protocol_at};
+
+    /// Whose seat it is, from 0.
+    pub fn processor(&self) -> u32
+        ensures processor { result ≡ self.now.processor }
+        ensures worker { result < (protocol_at self.now.home).workers }
+    {
+        self.processor
+    }
+
+    /// How many arrivals at barriers there are once all processors have arrived as often as this
+    /// seat's has.
+    pub fn all_arrivals(&self) -> u64
+        ensures { result ≡ awaited self.now }
+    {
+        self.all
+    }
 }
 
 /// There was no memory to close the table. Cells and main seat come back.
@@ -140,9 +162,11 @@ impl<'a> Cells<'a> {
         ))
     }
 
-    /// What holds of the machine that the words show; nothing is done.
+    /// What holds of the machine that the words show, and of its program and plan; nothing is
+    /// done.
     pub fn laws(&self)
-        ensures { Laws (protocol_at self.now) }
+        ensures laws { Laws (protocol_at self.now) }
+        ensures runnable { IsRunnable (tree_given self.now.given) (plan_given self.now.given) }
     {
         let _cells = self.cells;
     }

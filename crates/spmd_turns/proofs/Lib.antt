@@ -7,3 +7,4 @@ pub mod PhaseSums
 pub mod LoadLists
 pub mod Wholes
 pub mod StripDeeds
+pub mod EmptyStructs

@@ -1,5 +1,5 @@
 -- What a cursor of turns shows.
-use Rattle.std.specs.Prelude.{ℕ, suc, ◌+◌, ◌-◌, ◌<◌, ◌==◌, ◌||◌, ◌≡◌, Bool, true, not, is_some, List, [], ◌∷◌, ◌++◌, drop, length, map, Option, Some, None, IsTrue, slice_get}
+use Rattle.std.specs.Prelude.{ℕ, suc, ◌+◌, ◌-◌, ◌<◌, ◌==◌, ◌||◌, ◌≡◌, ◌⊎◌, Bool, true, not, is_some, List, [], ◌∷◌, ◌++◌, drop, length, map, Option, Some, None, IsTrue, slice_get}
 use Rattle.nest_tree.specs.Tree.{Tree, param_values}
 use Rattle.nest_tree.specs.View.{statement_of, tree_of}
 use Rattle.nest_model.specs.Instances.{Instance}
@@ -77,6 +77,10 @@ IsNext c (Await on wanted) = (rest : List Turn) × (turns_left c ≡ awaits on w
 IsNext c (Phase e) = (rest : List Turn) × (turns_left c ≡ begins e ∷ rest)
 IsNext c (Work stop) = (at : IsInstance (turns_tree c) (turns_rounds c) stop) × (rest : List Turn) × (turns_left c ≡ works at.instance ∷ rest)
 IsNext c End = turns_left c ≡ []
+
+-- a post of this number comes next, or an await
+abbrev pub StandsAt : Turns → ℕ → Type 0
+StandsAt c number = IsNext c (Post number) ⊎ ((on : ℕ) × IsNext c (Await on number))
 
 -- it isn't that a phase begins
 abbrev pub IsAct : Next → Type 0

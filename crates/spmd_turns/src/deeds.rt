@@ -15,23 +15,31 @@ pub trait Deeds {
     // What the PRINTs so far have printed.
     ghost printed: { Self → List ℕ };
 
+    // What stays as it is.
+    ghost Kept: { Type 0 };
+
+    ghost kept: { Self → Self.Kept };
+
     /// Loads the cell whose load comes next.
     fn load(&mut self, cell: u32) -> i64
         requires { (rest : List Deed) × (left self.old ≡ loading cell ∷ rest) }
         ensures left { left self.old ≡ loading cell ∷ left self.new }
         ensures registers { registers self.new ≡ registers self.old ++ result ∷ [] }
-        ensures printed { printed self.new ≡ printed self.old };
+        ensures printed { printed self.new ≡ printed self.old }
+        ensures kept { kept self.new ≡ kept self.old };
 
     /// Stores the value into the cell whose store comes next.
     fn store(&mut self, cell: u32, value: i64)
         requires { (f : List ℤ → ℤ) × (rest : List Deed) × (left self.old ≡ storing cell f ∷ rest) × (value ≡ f (registers self.old)) }
         ensures left { (f : List ℤ → ℤ) × (left self.old ≡ storing cell f ∷ left self.new) }
         ensures registers { registers self.new ≡ [] }
-        ensures printed { printed self.new ≡ printed self.old };
+        ensures printed { printed self.new ≡ printed self.old }
+        ensures kept { kept self.new ≡ kept self.old };
 
     /// Past the PRINT that comes next, whose line is printed.
     fn print(&mut self)
         requires { (line : List ℤ → List ℕ) × (rest : List Deed) × (left self.old ≡ printing line ∷ rest) }
         ensures left { (line : List ℤ → List ℕ) × (left self.old ≡ printing line ∷ left self.new) × (printed self.new ≡ printed self.old ++ line (registers self.old)) }
-        ensures registers { registers self.new ≡ [] };
+        ensures registers { registers self.new ≡ [] }
+        ensures kept { kept self.new ≡ kept self.old };
 }

@@ -83,6 +83,13 @@ impl<'a> Executor<'a> {
         self.output.as_slice()
     }
 
+    /// The output, where nothing more is executed.
+    pub fn into_output(self) -> Output
+        ensures { result.bytes ≡ executor_output self.entry }
+    {
+        self.output
+    }
+
     /// The instance at a stop with these loops round it, whole: its loads, one behind another, and
     /// its store or its line. It takes no memory.
     pub fn execute<D: Deeds>(&mut self, stop: Stop, path: &Path, deeds: &mut D)
@@ -98,6 +105,7 @@ impl<'a> Executor<'a> {
         ensures output { executor_output self.new ≡ D.printed deeds.new }
         ensures room { executor_room self.old ≤ executor_room self.new }
         ensures grown { length (executor_output self.new) ≤ length (executor_output self.old) + visit_room (executor_tree self.old) (visit_at (executor_tree self.old) (rounds_of path.now) stop.entry) }
+        ensures kept { D.kept deeds.new ≡ D.kept deeds.old }
     {
         path.write_to(&mut self.loops);
         match stop.item {
@@ -121,6 +129,7 @@ impl<'a> Executor<'a> {
         ensures printed { D.printed deeds.new ≡ D.printed deeds.old }
         ensures output { executor_output self.new ≡ executor_output self.old }
         ensures room { executor_room self.new ≡ executor_room self.old }
+        ensures kept { D.kept deeds.new ≡ D.kept deeds.old }
     {
         let mut trips = strip;
         let stop = trips.stop();
@@ -148,6 +157,7 @@ impl<'a> Executor<'a> {
         ensures idle { D.registers deeds.new ≡ [] }
         ensures printed { D.printed deeds.new ≡ D.printed deeds.old }
         ensures output { self.new.output ≡ self.old.output }
+        ensures kept { D.kept deeds.new ≡ D.kept deeds.old }
     {
         let cells = self.table.work(stop.first);
         let count = load_all(&cells.loads, path.values(), &mut self.registers, deeds);
@@ -174,6 +184,7 @@ impl<'a> Executor<'a> {
         ensures output { executor_output self.new ≡ D.printed deeds.new }
         ensures room { executor_room self.old ≤ executor_room self.new }
         ensures grown { length (executor_output self.new) ≤ length (executor_output self.old) + visit_room (executor_tree self.old) (visit_at (executor_tree self.old) (rounds_of path.now) stop.entry) }
+        ensures kept { D.kept deeds.new ≡ D.kept deeds.old }
     {
         let cells = self.table.work(stop.first);
         let count = load_all(&cells.loads, path.values(), &mut self.registers, deeds);
@@ -203,6 +214,7 @@ fn load_all<D: Deeds>(
     ensures registers { D.registers deeds.new ≡ take result registers.new }
     ensures count { result ≡ widths loads.now }
     ensures printed { D.printed deeds.new ≡ D.printed deeds.old }
+    ensures kept { D.kept deeds.new ≡ D.kept deeds.old }
 {
     let mut count = 0;
     for load in loads {
@@ -226,6 +238,7 @@ fn load_one<D: Deeds>(
     ensures registers { D.registers deeds.new ≡ D.registers deeds.old ++ take result registers.new }
     ensures count { result ≡ width load.now }
     ensures printed { D.printed deeds.new ≡ D.printed deeds.old }
+    ensures kept { D.kept deeds.new ≡ D.kept deeds.old }
 {
     match load {
         LoadCells::Element(form) => {

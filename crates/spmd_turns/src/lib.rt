@@ -3,6 +3,7 @@
 //!
 //! - [`turns`]: the turns that a processor has left.
 //! - [`deeds`], [`execute`]: an instance run whole, over whatever keeps the cells.
+//! - [`progress`]: how many deeds are done, for proofs.
 //! - [`loads`]: the values that a piece of work loads.
 //! - [`room`]: how much room a run needs.
 //! - [`laws`]: what turns have to do with acts.
@@ -12,11 +13,13 @@ pub mod deeds;
 pub mod execute;
 pub mod laws;
 pub mod loads;
+pub mod progress;
 pub mod room;
 pub mod turns;
 
 pub use deeds::Deeds;
 pub use execute::Executor;
 pub use loads::width;
+pub use progress::Progress;
 pub use room::{longest_output, most_loads, open_printing};
 pub use turns::{Boundary, Next, Turns};

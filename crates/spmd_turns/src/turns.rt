@@ -67,7 +67,7 @@ impl<'a> Turns<'a> {
     ghost use Rattle.nest_walk.specs.RoundsOf.{rounds_of};
     ghost use Rattle.nest_walk.specs.Strips.{strip_left, strip_tree};
     ghost use Rattle.spmd_turns.specs.Turns.{Turn, awaits, begins, works, turns_from, without_beginnings};
-    ghost use Rattle.spmd_turns.specs.TurnsLeft.{AreSound, IsAct, IsNext, at_turn, to_go, turns_boundary, turns_left, turns_plan, turns_processor, turns_rounds, turns_tree};
+    ghost use Rattle.spmd_turns.specs.TurnsLeft.{AreSound, IsAct, IsNext, StandsAt, at_turn, to_go, turns_boundary, turns_left, turns_plan, turns_processor, turns_rounds, turns_tree};
 
     /// All turns of a processor.
     pub fn new(program: &'a Program, plan: &'a Plan, processor: u32) -> Self
@@ -103,11 +103,31 @@ impl<'a> Turns<'a> {
         self.own.path()
     }
 
+    /// How many processors there are.
+    pub fn workers(&self) -> u32
+        ensures { result ≡ (turns_plan self.now).workers }
+    {
+        self.plan.workers
+    }
+
     /// How the boundary is passed whose post or await comes next.
     pub fn boundary(&self) -> Boundary
         ensures { result ≡ turns_boundary self.now }
     {
         self.boundary
+    }
+
+    /// The phase, from 1, in front of which the boundary stands whose post or await comes next.
+    pub fn phase(&self) -> u64
+        requires sound { AreSound self.now }
+        requires some { at_turn self.now ≡ true }
+        requires next { (number : ℕ) × StandsAt self.now number }
+        ensures { (number : ℕ) → StandsAt self.now number → result ≡ suc number }
+    {
+        let Some(phase) = self.begins else {
+            unreachable!()
+        };
+        phase
     }
 
     /// What comes next. Nothing of what is left changes.

@@ -44,4 +44,5 @@ loop-load-preserved g c =
       same = same_len_mid c.loop-load.count (length old - c.loop-load.count) old part c.load_one-count.auto.registers ∙ inv.same;
       count = omega (arith, inv.count, went.count, wide);
       printed = went.printed ∙ inv.printed;
+      kept = went.kept ∙ inv.kept;
     }

@@ -12,4 +12,5 @@ invariant-loop-load g l = record {
   same : length l.registers ≡ length l.fn.registers;
   count : l.count ≡ widths (take l.load-index l.loads);
   printed : g.D.Deeds.printed l.deeds ≡ g.D.Deeds.printed l.fn.deeds;
+  kept : g.D.Deeds.kept l.deeds ≡ g.D.Deeds.kept l.fn.deeds;
 }

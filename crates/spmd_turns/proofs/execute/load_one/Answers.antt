@@ -37,6 +37,7 @@ loop-element-preserved g c =
           ∙ ap (λ l. g.D.Deeds.registers c.args.deeds.now ++ l) (ap (λ x. take k old ++ x ∷ []) (sym (to_z-of_z w64 v fits)) ∙ sym (take-suc-set old k (to_z w64 (of_z w64 v)) below) ∙ ap (λ n. take n (set old k (to_z w64 (of_z w64 v)))) one);
       same = length-set old k (to_z w64 (of_z w64 v)) ∙ inv.same;
       printed = went.printed ∙ inv.printed;
+      kept = went.kept ∙ inv.kept;
     }
 
 pub returns-in-Element-clause-registers : goal.returns-in-Element-clause-registers

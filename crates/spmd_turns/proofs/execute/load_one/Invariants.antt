@@ -9,4 +9,5 @@ invariant-loop-element g l = record {
   registers : g.D.Deeds.registers l.deeds ≡ g.D.Deeds.registers l.fn.deeds ++ take l.element l.registers;
   same : length l.registers ≡ length l.fn.registers;
   printed : g.D.Deeds.printed l.deeds ≡ g.D.Deeds.printed l.fn.deeds;
+  kept : g.D.Deeds.kept l.deeds ≡ g.D.Deeds.kept l.fn.deeds;
 }

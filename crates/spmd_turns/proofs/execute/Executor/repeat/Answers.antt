@@ -91,6 +91,7 @@ loop-value-preserved g c =
       left = (inv.left.0, went.left b.0 ∙ b.1, inv.left.2);
       idle = went.idle;
       printed = went.printed ∙ inv.printed;
+      kept = went.kept ∙ inv.kept;
       output = ap (λ (o : Written). o.bytes) went.output ∙ inv.output;
       room = ap (λ (o : Written). o.room) went.output ∙ inv.room;
     }

@@ -21,6 +21,7 @@ invariant-loop-value g l =
       left : (rest : List Deed) × (g.D.Deeds.left l.deeds ≡ flat_map (instance_deeds tree) (strip_left l.trips) ++ rest) × (g.D.Deeds.left l.fn.deeds ≡ flat_map (instance_deeds tree) (strip_left l.fn.strip) ++ rest);
       idle : g.D.Deeds.registers l.deeds ≡ [];
       printed : g.D.Deeds.printed l.deeds ≡ g.D.Deeds.printed l.fn.deeds;
+      kept : g.D.Deeds.kept l.deeds ≡ g.D.Deeds.kept l.fn.deeds;
       output : executor_output l.self ≡ executor_output l.fn.self;
       room : executor_room l.self ≡ executor_room l.fn.self;
     }
