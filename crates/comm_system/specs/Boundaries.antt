@@ -1,5 +1,5 @@
 -- The boundaries that stand certainly between two instances.
-use Rattle.std.specs.Prelude.{ℕ, suc, ◌==◌, Bool, true, false, ◌&&◌, not, nat_le, nat_lt, List, [], ◌∷◌, ◌++◌, length, if◌then◌else◌}
+use Rattle.std.specs.Prelude.{ℕ, suc, ◌==◌, Bool, ◌&&◌, not, nat_le, nat_lt, List, [], ◌∷◌, ◌++◌, length, if◌then◌else◌}
 pub use Rattle.nest_rows.specs.InCommon.{is_prefix}
 use Rattle.nest_tree.specs.Tree.{Head}
 use Rattle.comm_system.specs.References.{StaticPhase}

@@ -1,8 +1,7 @@
 -- How the loops that are common to two phases stand to each other in two instances.
-use Rattle.std.specs.Prelude.{ℕ, suc, ◌-◌, ◌==◌, Bool, true, false, nat_lt, List, [], ◌∷◌, ◌++◌, if◌then◌else◌}
+use Rattle.std.specs.Prelude.{ℕ, ◌-◌, ◌==◌, Bool, true, false, nat_lt, List, [], ◌∷◌, ◌++◌, if◌then◌else◌}
 use Rattle.std.specs.List.{range_with_len}
 pub use Rattle.nest_rows.specs.InCommon.{common}
-use Rattle.nest_tree.specs.Tree.{Head}
 
 -- the levels of phases s and t with so many common loops: each loop that may be at an earlier trip in s, from the outermost, then 0, all equal, where s stands before t
 abbrev pub levels : ℕ → ℕ → ℕ → List ℕ

@@ -113,11 +113,7 @@ impl Model for Cut {
 
 impl Cut {
     /// The cut with these marks and these private scalars.
-    pub fn new(
-        alloc: Global,
-        marks: Vec<Mark>,
-        privates: Vec<Privates>,
-    ) -> Result<Self, AllocError>
+    pub fn new(alloc: Global, marks: Vec<Mark>, privates: Vec<Privates>) -> Result<Self, AllocError>
         ensures { IfOk result (λ c. c ≡ record { marks = marks.items; privates = privates.items }) }
     {
         let mut closed = Vec::new(alloc);

@@ -1,19 +1,18 @@
 -- The values of the loops in a phase, from its place in the text and the values of its Outer loops by depth.
-use Rattle.std.proofs.Common.{◌≡◌, ℕ, zero, suc, ◌+◌, ◌-◌, ◌<◌, ◌≤◌, ℤ, pos, nat_lt, Bool, true, false, true≢false, not, ◌&&◌, List, [], ◌∷◌, ◌++◌, length, map, reverse, replicate, drop, get_or, Option, Some, None, if◌then◌else◌, refl, ap, sym, subst, ◌∙◌, inl, inr, arith, length-append}
+use Rattle.std.proofs.Common.{◌≡◌, ℕ, zero, suc, ◌+◌, ◌-◌, ℤ, pos, Bool, true, false, true≢false, not, ◌&&◌, List, [], ◌∷◌, ◌++◌, length, map, reverse, replicate, drop, Option, Some, None, if◌then◌else◌, refl, ap, sym, subst, ◌∙◌, inl, inr, arith}
 use Rattle.std.specs.Prelude.{slice_get, slice_index_or, unwrap_or}
 use Rattle.std.specs.List.{list_all}
 use Rattle.std.proofs.lemmas.Bool.{and_from, and_parts, cases_lt, le-ltb, lt-ltb}
 use Rattle.std.proofs.lemmas.List.{append-nil, append_assoc, length-map, length-reverse, reverse-append}
 use Rattle.std.proofs.lemmas.List.Folds.{list_all-append}
-use Rattle.std.proofs.lemmas.Option.{slice_get_within}
-use Rattle.nest_tree.specs.Tree.{Statement, Statements, do_loop, work, continue, done, next, Tree, param_values}
-use Rattle.nest_tree.specs.WellFormed.{IsWellFormed, loops_of, scope_of}
+use Rattle.nest_tree.specs.Tree.{Statement, Statements, do_loop, work, continue, done, next, Tree}
+use Rattle.nest_tree.specs.WellFormed.{IsWellFormed, loops_of}
 use Rattle.nest_model.specs.Instances.{no_values, with_loop}
-use Rattle.nest_model.specs.Visits.{Visit, stops_in, stops_of}
+use Rattle.nest_model.specs.Visits.{Visit, stops_in}
 use Rattle.nest_walk.specs.Cursors.{loops_in}
 use Rattle.nest_walk.specs.Paths.{Round, by_depth, by_number}
 use Rattle.nest_walk.specs.Places.{numbers_of}
-use Rattle.nest_walk.specs.Texts.{IsInText, Placed, StandFrom, Standing, placed, placed_in, placed_of}
+use Rattle.nest_walk.specs.Texts.{IsInText, Placed, Standing, placed, placed_in, placed_of}
 use Rattle.owner_partition.specs.declared.cut.Mark.{Mark}
 use Rattle.owner_partition.specs.Marks.{enters_outer}
 use Rattle.owner_partition.specs.Phases.{phases}
@@ -22,7 +21,7 @@ use Rattle.std.proofs.Props.{props}
 use Rattle.sync_plan.specs.PhaseLoops.{loops_among, phase_loops}
 use Rattle.sync_plan.specs.PhaseLoops as Text
 use Rattle.sync_plan.proofs.Gets.{get-behind, get-front}
-use Rattle.sync_plan.proofs.PhasePlaces.{IsThereFrom, placed_count, visit_there}
+use Rattle.sync_plan.proofs.PhasePlaces.{placed_count, visit_there}
 
 -- values for loops with these numbers, the outermost first
 abbrev with_outer : List ℤ → List ℕ → List ℤ → List ℤ

@@ -1,5 +1,5 @@
 -- Two versions that have sums alike have good sums alike, and so with private scalars.
-use Rattle.std.proofs.Common.{◌≡◌, ℕ, Bool, ◌&&◌, ◌||◌, ◌==◌, not, nat_le, length, refl, ap, ◌∙◌}
+use Rattle.std.proofs.Common.{◌≡◌, ◌&&◌, ◌||◌, ◌==◌, not, nat_le, length, refl, ap, ◌∙◌}
 use Rattle.std.specs.List.{list_all}
 use Rattle.nest_tree.specs.Tree.{Statement, Statements, do_loop, work, continue, done, next}
 use Rattle.own_scalars.specs.OwnScalars.{is_private, sum_scalars}

@@ -1,5 +1,5 @@
 -- Worked rows of what others see of a private scalar. The loop is DO 10 I = 7, 2, -2 or DO 10 I = 1, 6, 2, round K = I, A(I) = K and K = 0; it is dealt, and K is private in it.
-use Rattle.std.specs.Prelude.{ℕ, ℤ, pos, negsuc, ◌-ℤ◌, int_le, Bool, true, false, List, [], ◌∷◌, map, Option, Some, None, ◌≡◌, refl}
+use Rattle.std.specs.Prelude.{ℤ, pos, negsuc, ◌-ℤ◌, int_le, [], ◌∷◌, map, Some, None, ◌≡◌, refl}
 use Rattle.nest_tree.specs.declared.tree.Access.{Access}
 use Rattle.nest_tree.specs.declared.tree.Spread.TheVariants.{Block}
 use Rattle.nest_tree.specs.Form.{Form}
