@@ -35,9 +35,7 @@ fn put_head(out: &mut Vec<u8>, plan: &Plan) -> Result<(), AllocError>
     out.push(b'\n')?;
     match plan.version {
         Version::One | Version::Two => Ok(()),
-        Version::Three | Version::Four | Version::Five => {
-            put_conditions(out, &plan.conditions)
-        }
+        Version::Three | Version::Four | Version::Five => { put_conditions(out, &plan.conditions) }
     }
 }
 

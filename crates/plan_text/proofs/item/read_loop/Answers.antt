@@ -1,4 +1,4 @@
-use Rattle.std.proofs.Common.{Some, ◌++◌, ◌<◌, ◌^◌, true, sym, ap, ◌∙◌, map, List, ℕ, arith}
+use Rattle.std.proofs.Common.{Some, ◌++◌, ◌<◌, ◌^◌, sym, ap, ◌∙◌, map, List, ℕ, arith}
 use denote.Ref.{Bor}
 use Rattle.plan_text.specs.Loose.{loop_said, mark_of, word_at}
 use Rattle.plan_text.specs.PlanText.{is_mark_shown}

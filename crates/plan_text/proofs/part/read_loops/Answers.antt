@@ -1,5 +1,4 @@
-use Rattle.std.proofs.Common.{true, refl, ◌∙◌, ◌+◌}
-use Rattle.owner_partition.specs.declared.cut.Mark.{Mark}
+use Rattle.std.proofs.Common.{refl, ◌∙◌, ◌+◌}
 use Rattle.owner_partition.specs.declared.cut.Mark.TheVariants.{Inner}
 use Rattle.plan_text.specs.PlanText.{is_mark_shown, alone}
 use Rattle.plan_text.specs.Words.{loop_line}

@@ -1,4 +1,3 @@
-use Rattle.std.proofs.Common.{true}
 use Rattle.plan_text.specs.PlanText.{is_mark_shown, alone}
 use Rattle.plan_text.specs.Stops.{ItemsRead}
 use Rattle.plan_text.specs.Words.{loop_line}

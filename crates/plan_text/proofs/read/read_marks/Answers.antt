@@ -5,7 +5,6 @@ use Rattle.plan_text.specs.Stops.{AreItems, RefusesPart}
 use Rattle.plan_text.specs.Words.{count_line, loop_line}
 use Rattle.plan_text.proofs.Frees.{AreCounted, err_map, header_refused, items_refused}
 use Rattle.plan_text.proofs.LineLaws.{count_32-law, line_free}
-use Rattle.owner_partition.specs.declared.cut.Mark.{Mark}
 use Rattle.plan_text.proofs.read.read_marks.Goals as goal
 
 abbrev word : List ℕ

@@ -1,4 +1,4 @@
-use Rattle.std.proofs.Common.{length, true}
+use Rattle.std.proofs.Common.{length}
 use Rattle.std.proofs.lemmas.Bool.{and_parts}
 use Rattle.std.specs.List.{list_all}
 use Rattle.plan_text.specs.PlanText.{is_mark_shown, is_32}
