@@ -45,8 +45,8 @@ pub fn values_of_deeds()
         plan.cut.marks)) n ≡ Some (printing line) → (protocol_of tree plan).printed_at p (n + 1)
         ≡ (protocol_of tree plan).printed_at p n ++ line ((protocol_of tree plan).registers_at p n) }
     ensures acts { (tree : Tree) → (plan : Plan) → (p n : ℕ) → (d : Deed) → IsWellFormed tree
-        → IsFit tree plan → slice_get (deeds_from tree plan p 1 (phases tree plan.cut.marks)) n ≡ Some d
-        → (a : Act) × (act_at (protocol_of tree plan) p n ≡ Some a)
+        → IsFit tree plan → slice_get (deeds_from tree plan p 1 (phases tree plan.cut.marks)) n
+        ≡ Some d → (a : Act) × (act_at (protocol_of tree plan) p n ≡ Some a)
         × (deed_of (machine_of tree plan) a ≡ d) }
 {}
 
