@@ -46,8 +46,7 @@ fn is_marked_well(cut: &Cut, inside: bool, item: &Item) -> bool
     match item {
         Item::Loop(nest) => {
             let mark = cut.mark(nest.number);
-            fits_mark(inside, mark)
-                && are_marked_well(cut, is_in_phase(inside, mark), &nest.items)
+            fits_mark(inside, mark) && are_marked_well(cut, is_in_phase(inside, mark), &nest.items)
         }
         Item::Assign(..) | Item::Print(..) | Item::Continue(_) => true,
     }

@@ -77,8 +77,7 @@ fn has_good_privates(version: Version, cut: &Cut, item: &Item) -> bool
 {
     match item {
         Item::Loop(nest) => {
-            are_good_privates(version, cut, nest)
-                && have_good_privates(version, cut, &nest.items)
+            are_good_privates(version, cut, nest) && have_good_privates(version, cut, &nest.items)
         }
         Item::Assign(..) | Item::Print(..) | Item::Continue(_) => true,
     }
