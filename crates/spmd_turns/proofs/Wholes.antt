@@ -1,5 +1,5 @@
 -- The instance at a stop, whole: what it loads, and what stands behind its loads.
-use Rattle.std.proofs.Common.{◌≡◌, ℕ, suc, ◌+◌, ◌-◌, ◌<◌, ◌≤◌, ℤ, nat_le, nat_lt, true, false, List, [], ◌∷◌, ◌++◌, length, map, Option, Some, None, refl, sym, ◌∙◌, ap, append_assoc, arith}
+use Rattle.std.proofs.Common.{◌≡◌, ℕ, ◌+◌, ◌-◌, ◌<◌, ◌≤◌, ℤ, true, false, List, [], ◌∷◌, ◌++◌, length, map, Option, Some, None, refl, sym, ◌∙◌, ap, append_assoc, arith}
 use Rattle.std.specs.Prelude.{slice_get}
 use Rattle.std.specs.List.{flat_map, list_all}
 use Rattle.std.specs.Option.{option_to_list}
@@ -40,7 +40,6 @@ use Rattle.nest_walk.proofs.PlacedWorks.{instance_at}
 use Rattle.seq_meaning.specs.Executions.{IsPlacedWork}
 use Rattle.seq_meaning.specs.Lines.{has_text, items_load_count}
 use Rattle.seq_meaning.specs.Loads.{cells_of_load, is_load_within, is_store_within}
-use Rattle.seq_meaning.specs.Room.{longest_items, longest_line}
 use Rattle.seq_meaning.proofs.Found.{Found}
 use Rattle.seq_meaning.proofs.RunInstances.{placed_work}
 use Rattle.seq_meaning.proofs.RunSteps.{assign_same, assign_valued, items_loads-length, placed-found, placed-good, same_work, texts_same, texts_there}
