@@ -1,8 +1,8 @@
 -- What a processor keeps behind a turn.
-use Rattle.std.proofs.Common.{◌≡◌, ℕ, zero, suc, ◌+◌, ◌-◌, ◌<◌, true, false, List, [], ◌∷◌, ◌++◌, length, drop, take, get_or, set, Some, None, refl, sym, ◌∙◌, ap, subst, inl, inr, arith, sum_by}
+use Rattle.std.proofs.Common.{◌≡◌, ℕ, zero, suc, ◌+◌, ◌-◌, ◌<◌, List, [], ◌∷◌, ◌++◌, length, drop, take, get_or, set, Some, None, refl, sym, ◌∙◌, ap, subst, inl, inr, arith, sum_by}
 use Rattle.std.specs.Prelude.{slice_get}
 use Rattle.std.specs.List.{flat_map, list_all}
-use Rattle.std.proofs.lemmas.Bool.{and_parts, cases_Bool, cases_eq}
+use Rattle.std.proofs.lemmas.Bool.{and_parts, cases_eq}
 use Rattle.std.proofs.lemmas.List.{get_or-set_other, get_or-set_same, length-set}
 use Rattle.std.proofs.lemmas.List.Sums.{sum_by-cons}
 use Rattle.nest_tree.specs.Tree.{Tree}
@@ -14,7 +14,7 @@ use Rattle.spmd_model.specs.Deeds.{Deed, awaiting}
 use Rattle.spmd_machine.specs.Processors.{IsBegun, IsIdle, IsKept, PassesTurn, all_of, left_of, room_of}
 use Rattle.spmd_turns.proofs.TurnDeeds.{unseen_deeds, unseen_inside, unseen_room}
 use Rattle.spmd_turns.specs.Turns.{begins, without_beginnings, Turn, awaits, is_turn_inside, posts, turn_deeds, works}
-use Rattle.spmd_turns.specs.TurnsLeft.{AreSound, at_turn, turns_left, turns_plan, turns_processor, turns_tree}
+use Rattle.spmd_turns.specs.TurnsLeft.{AreSound, turns_left, turns_plan, turns_processor, turns_tree}
 use Rattle.spmd_machine.specs.declared.processor.Processor.{Processor}
 use Rattle.spmd_turns.specs.declared.turns.Turns.{Turns}
 use Rattle.spmd_machine.proofs.Suffixes.{suffix_at, suffix_rest}
