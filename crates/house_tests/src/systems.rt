@@ -1,4 +1,5 @@
-// Systems over three variables: what a certificate shows of them, and what elimination says.
+// Systems over three variables: what a certificate shows of them, what elimination says, and what a
+// quick look finds.
 
 ghost use Rattle.std.specs.Prelude.{◌≡◌, IfOk};
 
@@ -7,6 +8,7 @@ use farkas_cert::{
     CertRefusal, Certificate, Coefs, Row, Step, StepList, System, Terms, check_cert,
 };
 use fm_elim::{Answer, NoMemory, decide};
+use quick_elim::{Budget, Settled, settle};
 use std::alloc::{AllocError, Global};
 use std::test::Fail;
 
@@ -151,5 +153,68 @@ fn too_many_rows_are_given_up(rt: HostRuntime) -> Result<(), Fail> {
     let alloc = rt.alloc();
     let system = crowd(alloc)?;
     assert_eq!(rt; decided(alloc, &system)?.as_str(), "many 1 20001");
+    Ok(())
+}
+
+// What a quick look finds of a system within a budget.
+fn found(alloc: Global, system: &System, budget: &Budget) -> Result<&'static str, AllocError> {
+    match settle(alloc, system, budget) {
+        Ok(Settled::Refuted(_)) => Ok("refuted"),
+        Ok(Settled::Solved(_)) => Ok("solved"),
+        Ok(Settled::Unknown) => Ok("unknown"),
+        Err(_) => Err(AllocError),
+    }
+}
+
+// 2i is 1; 1/3 <= i <= 2/3; i is 1; i is even, j odd and i = j; 2i + 3j + 5k is 1, by a whole change of
+// variables; the triangle of above; a square with the corner (1/2, 1/2) at the point 0; i - j is within
+// 1/3 and 2/3; numbers of more than 64 bits.
+#[test]
+fn systems_are_settled(rt: HostRuntime) -> Result<(), Fail> {
+    let alloc = rt.alloc();
+    let large = 1i128 << 64;
+    let table: [(Given, &str); 9] = [
+        (&[([2, 0, 0], 1), ([-2, 0, 0], -1)], "refuted"),
+        (&[([3, 0, 0], 2), ([-3, 0, 0], -1)], "refuted"),
+        (&[([1, 0, 0], 1), ([-1, 0, 0], -1)], "solved"),
+        (
+            &[
+                ([1, 0, -2], 0),
+                ([-1, 0, 2], 0),
+                ([1, -2, 0], 1),
+                ([-1, 2, 0], -1),
+            ],
+            "refuted",
+        ),
+        (&[([2, 3, 5], 1), ([-2, -3, -5], -1)], "solved"),
+        (
+            &[([-3, -2, 0], -1), ([-1, 2, 0], 1), ([3, -1, 0], 1)],
+            "unknown",
+        ),
+        (&[([2, 2, 0], 1), ([-2, -2, 0], 1)], "solved"),
+        (&[([3, -3, 0], 2), ([-3, 3, 0], -1)], "refuted"),
+        (&[([large, 0, 0], 0)], "unknown"),
+    ];
+    for (rows, told) in table {
+        let system = system_of(alloc, rows)?;
+        assert_eq!(rt; found(alloc, &system, &Budget::default())?, told);
+    }
+    Ok(())
+}
+
+// Where elimination in the order of the variables gives up, a whole solution is found; but not where
+// nothing may be done.
+#[test]
+fn many_rows_are_settled(rt: HostRuntime) -> Result<(), Fail> {
+    let alloc = rt.alloc();
+    let system = crowd(alloc)?;
+    let more = Budget {
+        rows: 300,
+        made: 1000,
+        ..Budget::default()
+    };
+    assert_eq!(rt; found(alloc, &system, &more)?, "solved");
+    let nothing = Budget { orders: 0, ..more };
+    assert_eq!(rt; found(alloc, &system, &nothing)?, "unknown");
     Ok(())
 }

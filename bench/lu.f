@@ -1,0 +1,17 @@
+C The triangular factors of a matrix, columns dealt out in turn. Halves stand for the quotients.
+      PROGRAM LU
+      PARAMETER (N = 16)
+      INTEGER A(N,N)
+C$DIST A(*,CYCLIC)
+      DO 10 J = 1, N
+      DO 10 I = 1, N
+   10 A(I,J) = 5*I + 3*J
+      DO 40 K = 1, N-1
+      DO 20 I = K+1, N
+   20 A(I,K) = A(I,K)/2
+      DO 30 J = K+1, N
+      DO 30 I = K+1, N
+   30 A(I,J) = A(I,J) - A(I,K)*A(K,J)
+   40 CONTINUE
+      PRINT *, A(N,N)
+      END
