@@ -23,6 +23,6 @@ returns c =
     let dealt : is_dealt plan.cut.marks s.what ≡ true = sym c.is_dealt.ensures ∙ c.if-not-is_dealt.false in
     let most : ℕ = 18446744073709551615 in
     let within : c.in_ok-groups.groups.next ≤ most = search rules in
-    let obligations = ap (λ gs. flat_map (obligations_in tree plan) (map group_seen gs)) c.as_slice-2.ensures.value ∙ of_phase tree plan most 1 s (listed_seen c.in_ok-groups.groups) c.in_ok-groups.ensures within in
-    let same = asked_flat tree plan [] (map group_seen c.as_slice-2.result.now) ∙ ap (map (asked_about [])) obligations ∙ asked_numbered [] 1 tasks ∙ ap (λ (b : Bool). map (asked []) (if b then tasks else [])) (sym dealt) in
+    let obligations = ap (λ gs. flat_map (obligations_in tree plan) (map group_seen gs)) c.as_slice.ensures.value ∙ of_phase tree plan most 1 s (listed_seen c.in_ok-groups.groups) c.in_ok-groups.ensures within in
+    let same = asked_flat tree plan [] (map group_seen c.as_slice.result.now) ∙ ap (map (asked_about [])) obligations ∙ asked_numbered [] 1 tasks ∙ ap (λ (b : Bool). map (asked []) (if b then tasks else [])) (sym dealt) in
     subst (λ qs. IfOk c.judge_groups.result (IsVerdict qs)) same c.judge_groups.ensures
