@@ -1,5 +1,5 @@
 -- The instance at a stop, whole: what it loads, and what stands behind its loads.
-use Rattle.std.proofs.Common.{◌≡◌, ℕ, suc, ◌+◌, ◌-◌, ◌<◌, ◌≤◌, ℤ, nat_le, nat_lt, true, false, List, [], ◌∷◌, ◌++◌, length, map, Option, Some, None, refl, sym, ◌∙◌, ap, append_assoc, arith}
+use Rattle.std.proofs.Common.{◌≡◌, ℕ, ◌+◌, ◌-◌, ◌<◌, ◌≤◌, ℤ, true, false, List, [], ◌∷◌, ◌++◌, length, map, Option, Some, None, refl, sym, ◌∙◌, ap, append_assoc, arith}
 use Rattle.std.specs.Prelude.{slice_get}
 use Rattle.std.specs.List.{flat_map, list_all}
 use Rattle.std.specs.Option.{option_to_list}
@@ -40,7 +40,6 @@ use Rattle.nest_walk.proofs.PlacedWorks.{instance_at}
 use Rattle.seq_meaning.specs.Executions.{IsPlacedWork}
 use Rattle.seq_meaning.specs.Lines.{has_text, items_load_count}
 use Rattle.seq_meaning.specs.Loads.{cells_of_load, is_load_within, is_store_within}
-use Rattle.seq_meaning.specs.Room.{longest_items, longest_line}
 use Rattle.seq_meaning.proofs.Found.{Found}
 use Rattle.seq_meaning.proofs.RunInstances.{placed_work}
 use Rattle.seq_meaning.proofs.RunSteps.{assign_same, assign_valued, items_loads-length, placed-found, placed-good, same_work, texts_same, texts_there}
@@ -88,7 +87,7 @@ module _ (tree : Tree) (path : Path) (stop : Stop) (left : List Deed) (b : Begin
     pub found : Found tree path placed.numbered placed.what cells
     found = placed-found tree path stop.first (statement_of stop.item.now) placed table cells are at
 
-    loads_are : flat_map (cells_of_load (by_depth (rounds_of path))) cells.loads.items ≡ loads_of tree i
+    pub loads_are : flat_map (cells_of_load (by_depth (rounds_of path))) cells.loads.items ≡ loads_of tree i
     loads_are = found.loads ∙ ap (loads_of tree) (sym instance_is)
 
     -- the loads come first, and one deed behind them

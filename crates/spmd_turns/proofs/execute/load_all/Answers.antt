@@ -1,4 +1,4 @@
-use Rattle.std.proofs.Common.{◌≡◌, ◌≤◌, suc, ◌+◌, ◌-◌, pos, [], ◌∷◌, ◌++◌, append-nil, drop, get_or, length, take, sym, ap, ◌∙◌, arith, sum_by}
+use Rattle.std.proofs.Common.{◌≡◌, ◌≤◌, suc, ◌+◌, ◌-◌, pos, [], ◌∷◌, ◌++◌, append-nil, drop, get_or, length, take, sym, ap, ◌∙◌, arith}
 use Rattle.std.specs.List.{flat_map}
 use borrow.Rule.Slice.PartMut.{same_len_mid}
 use Rattle.std.proofs.Math.Seq.{split_at, take-suc}

@@ -1,4 +1,4 @@
-use Rattle.std.proofs.Common.{◌≡◌, ◌<◌, ◌≤◌, ℤ, suc, ◌+◌, ◌-◌, List, [], ◌∷◌, ◌++◌, append_assoc, map, take, length, length-set, set, w64, FitsSigned, to_z, of_z, sym, ap, ◌∙◌, arith, rules}
+use Rattle.std.proofs.Common.{◌≡◌, ◌<◌, suc, ◌+◌, ◌-◌, [], ◌∷◌, ◌++◌, append_assoc, map, take, length, length-set, set, w64, FitsSigned, to_z, of_z, sym, ap, ◌∙◌, arith, rules}
 use Rattle.std.specs.List.{range_with_len}
 use Rattle.std.proofs.Math.Seq.{take-suc-set}
 use Rattle.std.proofs.lemmas.Int.{to_z-of_z}

@@ -1,4 +1,4 @@
-use Rattle.std.proofs.Common.{ℤ, IsTrue, List, length, ap, sym, subst, arith}
+use Rattle.std.proofs.Common.{ℤ, IsTrue, List, length, sym, subst}
 use Rattle.std.specs.List.{list_all}
 use Rattle.nest_tree.specs.WellFormed.{is_number_of, loops_of}
 use Rattle.nest_walk.specs.Paths.{Round}

@@ -1,7 +1,6 @@
-use Rattle.std.proofs.Common.{◌≡◌, ◌≤◌, ◌+◌, ◌-◌, ◌++◌, [], ◌∷◌, ℤ, List, take, length, map, OnOk, subst, sym, ap, ◌∙◌, arith}
+use Rattle.std.proofs.Common.{◌≡◌, ◌-◌, ◌++◌, [], ◌∷◌, ℤ, List, take, length, map, OnOk, subst, sym, ap, ◌∙◌, arith}
 use Rattle.std.proofs.lemmas.List.{length-take-le}
 use Rattle.nest_tree.specs.View.{printed_of, statement_of}
-use Rattle.nest_tree.specs.declared.tree.PrintItem.{PrintItem}
 use Rattle.nest_model.specs.Memory.{items_text, line_of}
 use Rattle.nest_walk.specs.declared.table.LoadCells.{LoadCells}
 use Rattle.seq_meaning.proofs.RunSteps.{placed-high, written_back}

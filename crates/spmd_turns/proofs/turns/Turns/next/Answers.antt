@@ -1,6 +1,6 @@
 use Rattle.std.proofs.Common.{◌||◌, ◌==◌, not, suc, ◌^◌, ◌<◌, List, ◌++◌, map, ap, subst, ◌∙◌, arith}
 use Rattle.sync_plan.specs.ProcessorSets.{members}
-use Rattle.sync_plan.proofs.ProcessorSets.{members-zero, members_first}
+use Rattle.sync_plan.proofs.ProcessorSets.{members_first}
 use Rattle.nest_walk.specs.InstancesLeft.{instances_left}
 use Rattle.owner_partition.specs.PhasesLeft.{phases_left, phases_passed}
 use Rattle.spmd_turns.specs.Turns.{Turn, awaits, works, boundary_turns, turns_from}

@@ -1,4 +1,4 @@
-use Rattle.std.proofs.Common.{◌≡◌, suc, List, ◌∷◌, ◌++◌, map, refl, sym, ap, ◌∙◌}
+use Rattle.std.proofs.Common.{suc, List, ◌∷◌, ◌++◌, map, refl, sym, ap, ◌∙◌}
 use Rattle.nest_walk.specs.InstancesLeft.{instances_left}
 use Rattle.owner_partition.specs.PhasesLeft.{phases_left, phases_passed}
 use Rattle.sync_plan.specs.ProcessorSets.{members}

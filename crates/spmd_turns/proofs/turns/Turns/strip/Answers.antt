@@ -1,4 +1,4 @@
-use Rattle.std.proofs.Common.{◌≡◌, suc, is_some, List, [], ◌++◌, map, Option, Some, None, refl, sym, ap, ◌∙◌}
+use Rattle.std.proofs.Common.{◌≡◌, suc, is_some, List, [], ◌++◌, map, Option, Some, None, sym, ◌∙◌}
 use Rattle.std.specs.Option.{MatchOption}
 use Rattle.nest_model.specs.Instances.{Instance}
 use Rattle.nest_walk.specs.InstancesLeft.{instances_left, instances_rounds}
@@ -7,7 +7,7 @@ use Rattle.nest_walk.specs.declared.strip.Strip.{Strip}
 use Rattle.owner_partition.specs.PhasesLeft.{phases_left, phases_passed}
 use Rattle.spmd_turns.specs.Turns.{Turn, turns_from, works}
 use Rattle.spmd_turns.specs.TurnsLeft.{turns_plan, turns_rounds, turns_tree}
-use Rattle.spmd_turns.proofs.TurnLists.{bare_parts, none_is, strip_turns}
+use Rattle.spmd_turns.proofs.TurnLists.{bare_parts, strip_turns}
 use Rattle.spmd_turns.proofs.turns.Turns.strip.Goals as goal
 
 of_strip : (o : Option Strip) (old own : List Instance) (before : List Turn) (after : List Turn) → ((front : List Instance) → old ≡ front ++ own → before ≡ map works front ++ after) → MatchOption o (own ≡ old) (λ s. old ≡ strip_left s ++ own) →
