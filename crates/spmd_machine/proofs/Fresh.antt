@@ -68,14 +68,14 @@ module _ (tree : Tree) (plan : Plan) (size : ℕ) where
   pub kept_fresh : (entries : List WorkCells) (p : ℕ) (x : Processor) → AreWide entries → list_all (is_instance_inside tree) (instances tree) ≡ true → ((n : ℕ) (cells : WorkCells) → slice_get entries n ≡ Some cells → widths cells.loads.items ≤ size) → IsFresh tree plan size p x →
       IsKept tree plan entries p x
   kept_fresh entries p x wide inside most f =
-      let idle : IsIdle (length x.registers.items) x.load x.element = record { none_done = ap length f.registers; first_load = f.first_load; first_element = f.first_element } in
+      let idle : IsIdle (length x.registers.items) x.place.load x.place.element = record { none_done = ap length f.registers; first_load = f.first_load; first_element = f.first_element } in
       record {
         sound = f.sound;
         program = f.program;
         plan_is = f.plan_is;
         processor = f.processor;
         behind = record { front = []; is = sym (fresh_left p x f) };
-        begun = idle_begun entries wide (turns_left x.turns) (length x.registers.items) x.load x.element idle;
+        begun = idle_begun entries wide (turns_left x.turns) (length x.registers.items) x.place.load x.place.element idle;
         inside = ap (list_all (is_turn_inside tree)) f.turns ∙ all_inside tree plan p inside;
         room = λ n cells at. omega (arith, most n cells at, f.room);
       }

@@ -69,7 +69,7 @@ module _ (tree : Tree) (plan : Plan) (entries : List WorkCells) (p : ℕ) (x : P
     plan_is = passes.plan_is ∙ kept.plan_is;
     processor = passes.processor ∙ kept.processor;
     behind = suffix_rest (all_of tree plan p) (left_of x) (left_of y) d kept.behind left;
-    begun = idle_begun entries wide (turns_left y.turns) (length y.registers.items) y.load y.element passes.idle;
+    begun = idle_begun entries wide (turns_left y.turns) (length y.registers.items) y.place.load y.place.element passes.idle;
     inside = (and_parts (is_turn_inside tree t) (list_all (is_turn_inside tree) (turns_left y.turns)) (sym (ap (list_all (is_turn_inside tree)) passes.turns) ∙ kept.inside)).1;
     room = λ n cells at. omega (arith, kept.room n cells at, passes.room);
   }
@@ -88,7 +88,7 @@ module _ (tree : Tree) (plan : Plan) (entries : List WorkCells) (p : ℕ) (x : P
     plan_is = plan_is ∙ kept.plan_is;
     processor = processor ∙ kept.processor;
     behind = suffix_at (all_of tree plan p) (left_of x) (left_of (record x { turns = t })) (looked_left t program turns) kept.behind;
-    begun = subst (λ ts. IsBegun entries ts (length x.registers.items) x.load x.element) (sym turns) (begun_unseen entries wide (turns_left x.turns) (length x.registers.items) x.load x.element kept.begun);
+    begun = subst (λ ts. IsBegun entries ts (length x.registers.items) x.place.load x.place.element) (sym turns) (begun_unseen entries wide (turns_left x.turns) (length x.registers.items) x.place.load x.place.element kept.begun);
     inside = ap (list_all (is_turn_inside tree)) turns ∙ unseen_inside tree (turns_left x.turns) ∙ kept.inside;
     room = kept.room;
   }
@@ -106,18 +106,18 @@ module _ (tree : Tree) (plan : Plan) (entries : List WorkCells) (p : ℕ) (x : P
   room_passed y t turns = ap (sum_by (turn_room tree)) turns ∙ sum_by-cons (turn_room tree) t (turns_left y.turns)
 
   -- in front of a boundary's turn nothing is loaded
-  pub post_idle : (number : ℕ) (rest : List Turn) → turns_left x.turns ≡ posts number ∷ rest → IsIdle (length x.registers.items) x.load x.element
-  post_idle number rest is = subst (λ ts. IsBegun entries ts (length x.registers.items) x.load x.element) is kept.begun
+  pub post_idle : (number : ℕ) (rest : List Turn) → turns_left x.turns ≡ posts number ∷ rest → IsIdle (length x.registers.items) x.place.load x.place.element
+  post_idle number rest is = subst (λ ts. IsBegun entries ts (length x.registers.items) x.place.load x.place.element) is kept.begun
 
-  pub await_idle : (on wanted : ℕ) (rest : List Turn) → turns_left x.turns ≡ awaits on wanted ∷ rest → IsIdle (length x.registers.items) x.load x.element
-  await_idle on wanted rest is = subst (λ ts. IsBegun entries ts (length x.registers.items) x.load x.element) is kept.begun
+  pub await_idle : (on wanted : ℕ) (rest : List Turn) → turns_left x.turns ≡ awaits on wanted ∷ rest → IsIdle (length x.registers.items) x.place.load x.place.element
+  await_idle on wanted rest is = subst (λ ts. IsBegun entries ts (length x.registers.items) x.place.load x.place.element) is kept.begun
 
   pub await_left : (on wanted : ℕ) (rest : List Turn) → turns_left x.turns ≡ awaits on wanted ∷ rest → left_of x ≡ awaiting counter on wanted ∷ flat_map (turn_deeds (turns_tree x.turns)) rest
   await_left on wanted rest is = left_idle x (await_idle on wanted rest is).none_done ∙ ap (flat_map (turn_deeds (turns_tree x.turns))) is
 
   pub end_idle : turns_left x.turns ≡ [] → left_of x ≡ []
   end_idle is =
-      let idle : IsIdle (length x.registers.items) x.load x.element = subst (λ ts. IsBegun entries ts (length x.registers.items) x.load x.element) is kept.begun in
+      let idle : IsIdle (length x.registers.items) x.place.load x.place.element = subst (λ ts. IsBegun entries ts (length x.registers.items) x.place.load x.place.element) is kept.begun in
       left_idle x idle.none_done ∙ ap (flat_map (turn_deeds (turns_tree x.turns))) is
 
 -- the first of a list is one element

@@ -1,5 +1,5 @@
 -- The store or the PRINT of an instance whose loads are done.
-use Rattle.std.proofs.Common.{false, ◌≡◌, ℕ, suc, ◌+◌, ◌-◌, ◌<◌, ◌≤◌, ℤ, true, List, [], ◌∷◌, ◌++◌, length, map, set, get_or, Vec, Global, Option, Some, None, refl, sym, ◌∙◌, ap, subst, arith, length-set, sum_by}
+use Rattle.std.proofs.Common.{false, ◌≡◌, ℕ, suc, ◌+◌, ◌-◌, ◌<◌, ◌≤◌, ℤ, true, List, [], ◌∷◌, ◌++◌, length, map, set, get_or, Vec, Global, Option, Some, None, refl, sym, ◌∙◌, ap, arith, length-set, sum_by}
 use Rattle.std.specs.Prelude.{slice_get}
 use Rattle.std.specs.List.{list_all}
 use Rattle.std.specs.Option.{option_to_list}
@@ -36,7 +36,7 @@ use Rattle.seq_meaning.specs.Room.{Written, longest_items, longest_line}
 use Rattle.seq_meaning.proofs.Found.{Found}
 use Rattle.seq_meaning.proofs.RunSteps.{assign_same, assign_valued, items_loads-length, numbered_more, placed-good, same_work, store_within, texts_same, texts_there}
 use Rattle.spmd_model.specs.Deeds.{last_deed, printing, storing}
-use Rattle.spmd_machine.specs.Machines.{AreLoadsDone, ComesNext, IsReady, StepsTo, plan_in, tree_in}
+use Rattle.spmd_machine.specs.Machines.{ComesNext, IsReady, LoadsNext, StepsTo, plan_in, tree_in}
 use Rattle.spmd_machine.specs.Processors.{IsKept, PassesTurn, left_of, room_of}
 use Rattle.spmd_turns.specs.Turns.{Turn, works}
 use Rattle.spmd_turns.specs.TurnsLeft.{turns_left, turns_path}
@@ -45,7 +45,7 @@ use Rattle.spmd_machine.specs.declared.machine.Machine.{Machine}
 use Rattle.spmd_machine.specs.declared.processor.Processor.{Processor}
 use Rattle.spmd_turns.specs.declared.turns.Next.TheVariants.{Work as Working}
 use Rattle.spmd_machine.proofs.Kept.{first_is, passed_kept, picked, room_passed}
-use Rattle.spmd_machine.proofs.LoadSteps.{high, inst, kept, low, rest, turns_are}
+use Rattle.spmd_machine.proofs.LoadSteps.{high, inst, kept, loads_here, low, rest, turns_are}
 use Rattle.spmd_machine.proofs.Ready.{kept_here, steps}
 use Rattle.spmd_machine.proofs.Steps.{registers_read, same_counters}
 use Rattle.spmd_turns.specs.Rooms.{turn_room}
@@ -96,9 +96,9 @@ module _ (m : Machine) (ready : IsReady m) (p : ℕ) (x : Processor) (lt : p < l
       let (cells, is) = picked (entries m.table) (stop.first - 1) below in
       (cells, slice_get-get_or (entries m.table) (stop.first - 1) cells below ∙ ap (λ c. Some c) (sym is))
 
-  module _ (cells : WorkCells) (at : slice_get (entries m.table) (stop.first - 1) ≡ Some cells) (loaded : AreLoadsDone m p stop) where
-    over : length cells.loads.items ≤ x.load
-    over = subst (λ (z : Processor). length cells.loads.items ≤ z.load) (sym read) (loaded x cells at)
+  module _ (cells : WorkCells) (at : slice_get (entries m.table) (stop.first - 1) ≡ Some cells) (loaded : LoadsNext m p stop None) where
+    over : slice_get (loads_of tree (inst m ready p x lt read stop next).instance) (length x.registers.items) ≡ None
+    over = loads_here m ready p x lt read stop next None loaded
 
     count : length (loads_of tree i) ≡ length x.registers.items
     count = here.loads_done m ready p x own stop (inst m ready p x lt read stop next) (rest m ready p x lt read stop next) turns_is cells at over

@@ -1,10 +1,10 @@
 -- The instance that comes next of a processor: its statement stands in the text, and its cells are those of the table.
-use Rattle.std.proofs.Common.{false, ◌≡◌, ℕ, suc, ◌-◌, ◌<◌, ◌≤◌, ℤ, true, List, [], ◌∷◌, ◌++◌, length, drop, map, Some, refl, sym, ◌∙◌, ap, subst, arith, append_assoc}
+use Rattle.std.proofs.Common.{false, ◌≡◌, ℕ, suc, ◌-◌, ◌<◌, ◌≤◌, ℤ, true, List, [], ◌∷◌, ◌++◌, length, drop, map, None, Some, refl, sym, ◌∙◌, ap, subst, arith, append_assoc}
 use Rattle.std.specs.Prelude.{slice_get}
 use Rattle.std.specs.List.{flat_map, list_all}
 use Rattle.std.specs.Option.{option_map}
 use Rattle.std.proofs.lemmas.Bool.{and_parts}
-use Rattle.std.proofs.lemmas.Option.{slice_get-map, slice_get_past, slice_get_within}
+use Rattle.std.proofs.lemmas.Option.{slice_get-map, slice_get_within}
 use Rattle.nest_tree.specs.Layout.{cell_count}
 use Rattle.nest_tree.specs.Tree.{Tree, param_values}
 use Rattle.nest_tree.specs.View.{statement_of}
@@ -37,7 +37,8 @@ use Rattle.spmd_turns.specs.Turns.{Turn, is_turn_inside, turn_deeds, works}
 use Rattle.spmd_turns.specs.TurnsLeft.{IsInstance, turns_left, turns_path, turns_rounds, turns_tree}
 use Rattle.spmd_machine.specs.declared.machine.Machine.{Machine}
 use Rattle.spmd_machine.specs.declared.processor.Processor.{Processor}
-use Rattle.spmd_turns.proofs.LoadPlaces.{cells-widths, drop_there, loading_below, loading_cell, loading_within}
+use Rattle.spmd_turns.proofs.LoadPlaces.{cells-widths, drop_there, loading_below, loading_within}
+use Rattle.spmd_turns.proofs.NextLoads.{loading_found, loading_over}
 use Rattle.sync_plan.proofs.Gets.{get-front}
 use Rattle.spmd_turns.specs.Loads.{IsLoading, cell_of_load, widths}
 
@@ -75,7 +76,7 @@ module _ (m : Machine) (ready : IsReady m) (p : ℕ) (x : Processor) (kept : IsK
   text : StandFrom (Texts.works tree) stop.first (placed_in every (numbers_of (rounds_of path)) (statement_of stop.item.now))
   text = subst (λ (w : Tree). StandFrom (Texts.works w) stop.first (placed_in every (numbers_of (rounds_of path)) (statement_of stop.item.now))) kept.program inst.text
 
-  inside : is_instance_inside tree inst.instance ≡ true
+  pub inside : is_instance_inside tree inst.instance ≡ true
   inside = (and_parts (is_instance_inside tree inst.instance) (list_all (is_turn_inside tree) rest) (sym (ap (list_all (is_turn_inside tree)) next) ∙ kept.inside)).0
 
   pub placed : IsPlacedWork tree (rounds_of path) stop.first (statement_of stop.item.now)
@@ -99,9 +100,9 @@ module _ (m : Machine) (ready : IsReady m) (p : ℕ) (x : Processor) (kept : IsK
     pub loads_are : flat_map (cells_of_load values) cells.loads.items ≡ loads_of tree inst.instance
     loads_are = found.loads ∙ ap (loads_of tree) (sym instance_is)
 
-    pub begun_here : IsLoading cells.loads.items (length x.registers.items) x.load x.element
+    pub begun_here : IsLoading cells.loads.items (length x.registers.items) x.place.load x.place.element
     begun_here =
-        let begun : IsBegun (entries m.table) (works inst.instance ∷ rest) (length x.registers.items) x.load x.element = subst (λ ts. IsBegun (entries m.table) ts (length x.registers.items) x.load x.element) next kept.begun in
+        let begun : IsBegun (entries m.table) (works inst.instance ∷ rest) (length x.registers.items) x.place.load x.place.element = subst (λ ts. IsBegun (entries m.table) ts (length x.registers.items) x.place.load x.place.element) next kept.begun in
         begun cells (ap (λ (i : Instance). slice_get (entries m.table) (i.statement - 1)) instance_is ∙ at)
 
     -- what is left
@@ -116,33 +117,35 @@ module _ (m : Machine) (ready : IsReady m) (p : ℕ) (x : Processor) (kept : IsK
         ∙ ap (drop (length x.registers.items)) (append_assoc (map loading (loads_of tree inst.instance)) (last_deed (store_of tree inst.instance) false (assigned_value tree inst.instance) (line_of tree inst.instance) ∷ []) (flat_map (turn_deeds tree) rest))
 
     -- a load
-    pub load_there : (l : LoadCells) → slice_get cells.loads.items x.load ≡ Some l → slice_get (loads_of tree inst.instance) (length x.registers.items) ≡ Some (cell_of_load values l x.element)
-    load_there l there = ap (λ cs. slice_get cs (length x.registers.items)) (sym loads_are) ∙ loading_cell values cells.loads.items (length x.registers.items) x.load x.element l begun_here there
+    load_found : (cell : ℕ) → slice_get (loads_of tree inst.instance) (length x.registers.items) ≡ Some cell → (l : LoadCells) × (slice_get cells.loads.items x.place.load ≡ Some l) × (cell ≡ cell_of_load values l x.place.element)
+    load_found cell there = loading_found values cells.loads.items (length x.registers.items) x.place.load x.place.element begun_here cell (ap (λ cs. slice_get cs (length x.registers.items)) loads_are ∙ there)
 
-    pub load_inside : (l : LoadCells) → slice_get cells.loads.items x.load ≡ Some l → cell_of_load values l x.element < length m.memory.items
-    load_inside l there = omega (arith, loading_within values (cell_count tree) cells.loads.items (length x.registers.items) x.load x.element l begun_here there found.within, ready.cells)
+    pub load_inside : (cell : ℕ) → slice_get (loads_of tree inst.instance) (length x.registers.items) ≡ Some cell → cell < length m.memory.items
+    load_inside cell there =
+        let (l, here, is) = load_found cell there in
+        omega (arith, is, loading_within values (cell_count tree) cells.loads.items (length x.registers.items) x.place.load x.place.element l begun_here here found.within, ready.cells)
 
-    pub load_below : (l : LoadCells) → slice_get cells.loads.items x.load ≡ Some l → length x.registers.items < widths cells.loads.items
-    load_below l there = loading_below values cells.loads.items (length x.registers.items) x.load x.element l begun_here there
+    pub load_below : (cell : ℕ) → slice_get (loads_of tree inst.instance) (length x.registers.items) ≡ Some cell → length x.registers.items < widths cells.loads.items
+    load_below cell there = let (l, here, is) = load_found cell there in loading_below values cells.loads.items (length x.registers.items) x.place.load x.place.element l begun_here here
 
-    pub left_load : (l : LoadCells) (y : Processor) → slice_get cells.loads.items x.load ≡ Some l → turns_tree y.turns ≡ turns_tree x.turns → turns_left y.turns ≡ turns_left x.turns → length y.registers.items ≡ suc (length x.registers.items) →
-        left_of x ≡ loading (cell_of_load values l x.element) ∷ left_of y
+    pub left_load : (cell : ℕ) (y : Processor) → slice_get (loads_of tree inst.instance) (length x.registers.items) ≡ Some cell → turns_tree y.turns ≡ turns_tree x.turns → turns_left y.turns ≡ turns_left x.turns → length y.registers.items ≡ suc (length x.registers.items) →
+        left_of x ≡ loading cell ∷ left_of y
     unfolding left_of behind_it
-    left_load l y there program turns more =
+    left_load cell y there program turns more =
         let cs = loads_of tree inst.instance in
         let d = last_deed (store_of tree inst.instance) false (assigned_value tree inst.instance) (line_of tree inst.instance) in
-        left_is ∙ load_first loading cs (d ∷ behind_it) (length x.registers.items) (cell_of_load values l x.element) (load_there l there)
-        ∙ ap (λ ds. loading (cell_of_load values l x.element) ∷ ds)
+        left_is ∙ load_first loading cs (d ∷ behind_it) (length x.registers.items) cell there
+        ∙ ap (λ ds. loading cell ∷ ds)
         (ap (drop (suc (length x.registers.items))) (sym (append_assoc (map loading cs) (d ∷ []) (flat_map (turn_deeds tree) rest)))
         ∙ ap (λ n. drop n (flat_map (turn_deeds tree) (works inst.instance ∷ rest))) (sym more)
         ∙ ap (λ ts. drop (length y.registers.items) (flat_map (turn_deeds tree) ts)) (sym (turns ∙ next))
         ∙ ap (λ (w : Tree). drop (length y.registers.items) (flat_map (turn_deeds w) (turns_left y.turns))) (sym (program ∙ kept.program)))
 
     -- the loads are done
-    module _ (over : length cells.loads.items ≤ x.load) where
+    module _ (over : slice_get (loads_of tree inst.instance) (length x.registers.items) ≡ None) where
       pub loads_done : length (loads_of tree inst.instance) ≡ length x.registers.items
       loads_done =
-          let all = begun_here.over (slice_get_past cells.loads.items x.load over) in
+          let all = begun_here.over (loading_over values cells.loads.items (length x.registers.items) x.place.load x.place.element begun_here (ap (λ cs. slice_get cs (length x.registers.items)) loads_are ∙ over)) in
           ap (λ (cs : List ℕ). length cs) (sym loads_are) ∙ cells-widths values cells.loads.items ∙ all
 
       pub left_last : (y : Processor) (t : Turn) → turns_tree y.turns ≡ turns_tree x.turns → turns_left x.turns ≡ t ∷ turns_left y.turns → length y.registers.items ≡ 0 →

@@ -1,9 +1,10 @@
 -- What a machine shows, what it keeps, and what a step of it is.
-use Rattle.std.specs.Prelude.{ℕ, ◌+◌, ◌-◌, ◌≡◌, ◌≤◌, ◌<◌, All, List, [], length, Option, Some, None, false, nat_le, slice_get, slice_index, slice_index_or, sum_by, if◌then◌else◌}
+use Rattle.std.specs.Prelude.{ℕ, ◌+◌, ◌≡◌, ◌≤◌, ◌<◌, All, List, [], length, Option, Some, None, false, nat_le, slice_get, slice_index, slice_index_or, sum_by, if◌then◌else◌}
 use Rattle.nest_tree.specs.Layout.{cell_count}
 use Rattle.nest_tree.specs.Tree.{Tree, param_values}
 use Rattle.nest_tree.specs.View.{tree_of}
 use Rattle.nest_tree.specs.WellFormed.{IsWellFormed, loops_of}
+use Rattle.nest_model.specs.Accesses.{loads_of}
 use Rattle.nest_walk.specs.Tables.{IsCellTable, entries}
 use Rattle.nest_walk.specs.declared.cursor.Stop.{Stop}
 use Rattle.nest_walk.specs.declared.table.LoadCells.{LoadCells}
@@ -15,7 +16,7 @@ use Rattle.spmd_model.specs.States.{State, next_act, run_of, stepped, words_of}
 use Rattle.spmd_model.specs.Timelines as Timelines
 use Rattle.spmd_model.specs.Timelines.{Act, post, await, load, store, add, print}
 use Rattle.spmd_machine.specs.Processors.{IsKept, room_of, state_of}
-use Rattle.spmd_turns.specs.TurnsLeft.{IsNext, at_turn, turns_left}
+use Rattle.spmd_turns.specs.TurnsLeft.{IsInstance, IsNext, at_turn, turns_left, turns_rounds, turns_tree}
 use Rattle.spmd_machine.specs.declared.answer.StepAnswer.{StepAnswer}
 use Rattle.spmd_machine.specs.declared.answer.StepAnswer.TheVariants.{Stepped, Blocked, Ended}
 use Rattle.spmd_machine.specs.declared.machine.Machine.{Machine}
@@ -80,12 +81,12 @@ pub record IsAtNext (c : Turns) (found : Next) : Type 0 where
 abbrev pub ComesNext : Machine → ℕ → Next → Type 0
 ComesNext m p next = (d : Processor) → IsAtNext (slice_index_or m.processors.items p d).turns next
 
--- of the instance at a stop that comes next of processor p a load is left, or none
-abbrev pub AreLoadsLeft : Machine → ℕ → Stop → Type 0
-AreLoadsLeft m p stop = (d : Processor) (cells : WorkCells) → slice_get (entries m.table) (stop.first - 1) ≡ Some cells → (slice_index_or m.processors.items p d).load < length cells.loads.items
+-- the instance at a stop that comes next of a processor loads this cell next, or nothing more
+abbrev pub LoadsIn : Processor → Stop → Option ℕ → Type 0
+LoadsIn x stop cell = (comes : IsInstance (turns_tree x.turns) (turns_rounds x.turns) stop) → slice_get (loads_of (turns_tree x.turns) comes.instance) (length x.registers.items) ≡ cell
 
-abbrev pub AreLoadsDone : Machine → ℕ → Stop → Type 0
-AreLoadsDone m p stop = (d : Processor) (cells : WorkCells) → slice_get (entries m.table) (stop.first - 1) ≡ Some cells → length cells.loads.items ≤ (slice_index_or m.processors.items p d).load
+abbrev pub LoadsNext : Machine → ℕ → Stop → Option ℕ → Type 0
+LoadsNext m p stop cell = (d : Processor) → LoadsIn (slice_index_or m.processors.items p d) stop cell
 
 -- a machine behind a step of processor p, with what it answers
 pub record StepsTo (old new : Machine) (p : ℕ) (said : StepAnswer) : Type 0 where

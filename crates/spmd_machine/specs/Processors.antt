@@ -64,7 +64,7 @@ pub record IsKept (tree : Tree) (plan : Plan) (entries : List WorkCells) (p : �
   pub plan_is : turns_plan x.turns ≡ plan
   pub processor : turns_processor x.turns ≡ p
   pub behind : Suffix (all_of tree plan p) (left_of x)
-  pub begun : IsBegun entries (turns_left x.turns) (length x.registers.items) x.load x.element
+  pub begun : IsBegun entries (turns_left x.turns) (length x.registers.items) x.place.load x.place.element
   pub inside : list_all (is_turn_inside tree) (turns_left x.turns) ≡ true
   pub room : (n : ℕ) (cells : WorkCells) → slice_get entries n ≡ Some cells → widths cells.loads.items ≤ vec_capacity x.registers
 
@@ -75,7 +75,7 @@ pub record PassesTurn (x y : Processor) (t : Turn) : Type 0 where
   pub plan_is : turns_plan y.turns ≡ turns_plan x.turns
   pub processor : turns_processor y.turns ≡ turns_processor x.turns
   pub turns : turns_left x.turns ≡ t ∷ turns_left y.turns
-  pub idle : IsIdle (length y.registers.items) y.load y.element
+  pub idle : IsIdle (length y.registers.items) y.place.load y.place.element
   pub room : vec_capacity x.registers ≤ vec_capacity y.registers
 
 -- a processor at its first turn, with room for so many registers
@@ -86,8 +86,8 @@ pub record IsFresh (tree : Tree) (plan : Plan) (size p : ℕ) (x : Processor) : 
   pub processor : turns_processor x.turns ≡ p
   pub turns : turns_left x.turns ≡ turns_from tree plan p 1 (phases tree plan.cut.marks)
   pub registers : x.registers.items ≡ []
-  pub first_load : x.load ≡ 0
-  pub first_element : x.element ≡ 0
+  pub first_load : x.place.load ≡ 0
+  pub first_element : x.place.element ≡ 0
   pub counter : x.counter ≡ 0
   pub room : size ≤ vec_capacity x.registers
 

@@ -13,7 +13,7 @@ use crate::processor::Processor;
 use nest_tree::{Expr, Item, PrintItem, Program};
 use nest_walk::{CellTable, Stop};
 use seq_meaning::{Given, Output, eval};
-use spmd_turns::{Next, Turns, longest_output, most_loads, open_printing, width};
+use spmd_turns::{LoadPlace, Next, Turns, longest_output, most_loads, open_printing};
 use std::alloc::{AllocError, Global};
 use sync_plan::Plan;
 
@@ -41,7 +41,7 @@ impl<'a> Machine<'a> {
     ghost use Rattle.nest_tree.specs.declared.tree.Access.{Access};
     ghost use Rattle.nest_tree.specs.declared.tree.Guard.{Guard};
     ghost use Rattle.nest_tree.specs.declared.tree.PrintItem.{PrintItem};
-    ghost use Rattle.std.specs.Prelude.{All, List, Some, true, false, ◌++◌};
+    ghost use Rattle.std.specs.Prelude.{All, List, None, Some, true, false, ◌++◌};
     ghost use Rattle.nest_model.specs.Memory.{cell_value, last_memory, memory_before, output_of};
     ghost use Rattle.sync_plan.specs.Ordered.{IsOrdered};
     ghost use Rattle.spmd_model.specs.Planned.{jobs_in_front};
@@ -49,7 +49,7 @@ impl<'a> Machine<'a> {
     ghost use Rattle.spmd_model.specs.Timelines.{load};
     ghost use Rattle.spmd_machine.specs.Promises.{acts_to_go, can_step, one_round, rounds};
     ghost use Rattle.spmd_turns.specs.TurnsLeft.{IsAct};
-    ghost use Rattle.spmd_machine.specs.Machines.{AreLoadsDone, AreLoadsLeft, ComesNext, IsReady, StepsTo, model_of, plan_in, shown, step_answer, tree_in};
+    ghost use Rattle.spmd_machine.specs.Machines.{ComesNext, IsReady, LoadsNext, StepsTo, model_of, plan_in, shown, step_answer, tree_in};
 
     /// The first state: nothing is done, and all is 0 or empty. What a run can need is reserved.
     pub fn new(alloc: Global, program: &'a Program, plan: &'a Plan) -> Result<Self, AllocError>
@@ -168,8 +168,10 @@ impl<'a> Machine<'a> {
         requires next { ComesNext self.old p (Next.Work stop) }
         ensures { StepsTo self.old self.new p result }
     {
-        if self.processors[p].load < self.table.work(stop.first).loads.len() {
-            return self.load(p, stop);
+        let processor = &self.processors[p];
+        let path = processor.turns.path();
+        if let Some(cell) = processor.place.cell(&self.table, stop, path) {
+            return self.load(p, stop, cell);
         }
         match stop.item {
             Item::Assign(_, e, _, _) => self.store(p, stop, e),
@@ -178,24 +180,18 @@ impl<'a> Machine<'a> {
         }
     }
 
-    // A load.
-    fn load(&mut self, p: usize, stop: Stop<'a>) -> StepAnswer
+    // A load of this cell.
+    fn load(&mut self, p: usize, stop: Stop<'a>, cell: usize) -> StepAnswer
         requires ready { IsReady self.old }
         requires worker { p < length self.old.processors.items }
         requires next { ComesNext self.old p (Next.Work stop) }
-        requires left { AreLoadsLeft self.old p stop }
+        requires left { LoadsNext self.old p stop (Some cell) }
         ensures { StepsTo self.old self.new p result }
     {
+        let value = self.memory[cell];
         let processor = &mut self.processors[p];
-        let load = &self.table.work(stop.first).loads[processor.load];
-        let value = self.memory[processor.cell_of(load)];
-        let values = width(load);
         processor.registers.push(value).unwrap();
-        processor.element += 1;
-        if processor.element == values {
-            processor.load += 1;
-            processor.element = 0;
-        }
+        processor.place.advance(&self.table, stop);
         StepAnswer::Stepped
     }
 
@@ -204,7 +200,7 @@ impl<'a> Machine<'a> {
         requires ready { IsReady self.old }
         requires worker { p < length self.old.processors.items }
         requires next { ComesNext self.old p (Next.Work stop) }
-        requires loaded { AreLoadsDone self.old p stop }
+        requires loaded { LoadsNext self.old p stop None }
         requires statement { (target : Access) × (guard : Option Guard) × (line : ℕ) × (stop.item.now ≡ Item.Assign target e.now guard line) }
         ensures { StepsTo self.old self.new p result }
     {
@@ -226,7 +222,7 @@ impl<'a> Machine<'a> {
         requires ready { IsReady self.old }
         requires worker { p < length self.old.processors.items }
         requires next { ComesNext self.old p (Next.Work stop) }
-        requires loaded { AreLoadsDone self.old p stop }
+        requires loaded { LoadsNext self.old p stop None }
         requires statement { (listed : Vec PrintItem Global) × (line : ℕ) × (stop.item.now ≡ Item.Print listed line) × (items.now ≡ listed.items) }
         ensures { StepsTo self.old self.new p result }
     {
@@ -327,8 +323,7 @@ fn processors_of<'a>(
         processors.push(Processor {
             turns: Turns::new(program, plan, p),
             registers: Vec::with_capacity(alloc, room)?,
-            load: 0,
-            element: 0,
+            place: LoadPlace::first(),
             counter: 0,
         })?;
     }

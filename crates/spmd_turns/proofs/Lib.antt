@@ -8,3 +8,4 @@ pub mod LoadLists
 pub mod Wholes
 pub mod StripDeeds
 pub mod EmptyStructs
+pub mod NextLoads

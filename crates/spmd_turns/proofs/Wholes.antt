@@ -87,7 +87,7 @@ module _ (tree : Tree) (path : Path) (stop : Stop) (left : List Deed) (b : Begin
     pub found : Found tree path placed.numbered placed.what cells
     found = placed-found tree path stop.first (statement_of stop.item.now) placed table cells are at
 
-    loads_are : flat_map (cells_of_load (by_depth (rounds_of path))) cells.loads.items ≡ loads_of tree i
+    pub loads_are : flat_map (cells_of_load (by_depth (rounds_of path))) cells.loads.items ≡ loads_of tree i
     loads_are = found.loads ∙ ap (loads_of tree) (sym instance_is)
 
     -- the loads come first, and one deed behind them

@@ -4,7 +4,7 @@
 //! - [`turns`]: the turns that a processor has left.
 //! - [`deeds`], [`execute`]: an instance run whole, over whatever keeps the cells.
 //! - [`progress`]: how many deeds are done, for proofs.
-//! - [`loads`]: the values that a piece of work loads.
+//! - [`loads`], [`load_place`]: the values that a piece of work loads, one by one.
 //! - [`room`]: how much room a run needs.
 //! - [`laws`]: what turns have to do with acts.
 #![tactic(auto)]
@@ -12,6 +12,7 @@
 pub mod deeds;
 pub mod execute;
 pub mod laws;
+pub mod load_place;
 pub mod loads;
 pub mod progress;
 pub mod room;
@@ -19,6 +20,7 @@ pub mod turns;
 
 pub use deeds::Deeds;
 pub use execute::Executor;
+pub use load_place::LoadPlace;
 pub use loads::width;
 pub use progress::Progress;
 pub use room::{longest_output, most_loads, open_printing};

@@ -7,7 +7,7 @@ use Rattle.spmd_machine.proofs.machine.processors_of.Goals as goal
 
 pub loop-p-preserved : goal.loop-p-preserved
 loop-p-preserved c =
-    let x : Processor = record { turns = c.new.result; registers = c.in_ok-with_capacity.field-0; load = 0; element = 0; counter = 0 } in
+    let x : Processor = record { turns = c.new.result; registers = c.in_ok-with_capacity.field-0; place = c.first.result; counter = 0 } in
     let fresh : IsFresh (tree_of c.args.program.now) c.args.plan.now c.args.room c.loop-p.p x = record {
       sound = c.new.ensures.sound;
       program = c.new.ensures.program;
@@ -15,8 +15,8 @@ loop-p-preserved c =
       processor = c.new.ensures.processor;
       turns = c.new.ensures.turns;
       registers = c.in_ok-with_capacity.ensures.items;
-      first_load = refl;
-      first_element = refl;
+      first_load = c.first.ensures.load;
+      first_element = c.first.ensures.element;
       counter = refl;
       room = c.in_ok-with_capacity.ensures.capacity;
     } in

@@ -64,7 +64,7 @@ returns c =
     let lt = c.requires.worker in
     let x = c.index_mut.result.now in
     let read = c.index_mut.ensures.value in
-    let y : Processor = record { turns = c.pass.new.self; registers = x.registers; load = x.load; element = x.element; counter = x.counter } in
+    let y : Processor = record { turns = c.pass.new.self; registers = x.registers; place = x.place; counter = x.counter } in
     let turn = awaits c.args.on c.args.wanted in
     let deed = awaiting counter c.args.on c.args.wanted in
     let kept = kept_here m ready p x y lt read in

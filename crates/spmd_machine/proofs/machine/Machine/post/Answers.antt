@@ -24,7 +24,7 @@ returns c =
     let lt = c.requires.worker in
     let x = c.index_mut-processor.result.now in
     let read = c.index_mut-processor.ensures.value in
-    let y : Processor = record { turns = c.pass.new.self; registers = x.registers; load = x.load; element = x.element; counter = c.args.number } in
+    let y : Processor = record { turns = c.pass.new.self; registers = x.registers; place = x.place; counter = c.args.number } in
     let kept = kept_here m ready p x y lt read in
     let (rest, next, passed_by) = (next_here m ready p x y lt read (Post c.args.number) c.requires.next).next in
     let idle = post_idle tree plan table p x kept c.args.number rest next in

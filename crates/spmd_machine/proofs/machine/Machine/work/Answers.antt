@@ -1,8 +1,30 @@
-use Rattle.spmd_machine.proofs.LoadSteps.{high, low}
+use Rattle.std.proofs.Common.{length, subst}
+use Rattle.spmd_turns.specs.TurnsLeft.{turns_tree}
+use Rattle.spmd_machine.specs.Machines.{LoadsNext}
+use Rattle.spmd_machine.proofs.LoadSteps.{at_load, inst, loads_next}
 use Rattle.spmd_machine.proofs.machine.Machine.work.Goals as goal
 
-pub work-requires-clause-low : goal.work-requires-clause-low
-work-requires-clause-low c = low c.args.self.now c.requires.ready c.args.p c.index.result.now c.requires.worker c.index.ensures c.args.stop c.requires.next
+pub cell-requires : goal.cell-requires
+cell-requires c =
+    let m = c.args.self.now in
+    let x = c.index-processor.result.now in
+    let read = c.index-processor.ensures in
+    (turns_tree x.turns, length x.registers.items, at_load m c.requires.ready c.args.p x c.requires.worker read c.args.stop c.requires.next c.path-path.result.now c.path-path.ensures (inst m c.requires.ready c.args.p x c.requires.worker read c.args.stop c.requires.next))
 
-pub work-requires-clause-high : goal.work-requires-clause-high
-work-requires-clause-high c = high c.args.self.now c.requires.ready c.args.p c.index.result.now c.requires.worker c.index.ensures c.args.stop c.requires.next
+pub load-requires-clause-left : goal.load-requires-clause-left
+load-requires-clause-left c =
+    let m = c.args.self.now in
+    let next = loads_next m c.requires.ready c.args.p c.index-processor.result.now c.requires.worker c.index-processor.ensures c.args.stop c.requires.next c.path-path.result.now c.path-path.ensures c.cell.result c.cell.ensures in
+    subst (LoadsNext m c.args.p c.args.stop) c.in-Some.is next
+
+pub store-requires-clause-loaded : goal.store-requires-clause-loaded
+store-requires-clause-loaded c =
+    let m = c.args.self.now in
+    let next = loads_next m c.requires.ready c.args.p c.index-processor.result.now c.requires.worker c.index-processor.ensures c.args.stop c.requires.next c.path-path.result.now c.path-path.ensures c.cell.result c.cell.ensures in
+    subst (LoadsNext m c.args.p c.args.stop) c.in_default.is next
+
+pub print-requires-clause-loaded : goal.print-requires-clause-loaded
+print-requires-clause-loaded c =
+    let m = c.args.self.now in
+    let next = loads_next m c.requires.ready c.args.p c.index-processor.result.now c.requires.worker c.index-processor.ensures c.args.stop c.requires.next c.path-path.result.now c.path-path.ensures c.cell.result c.cell.ensures in
+    subst (LoadsNext m c.args.p c.args.stop) c.in_default.is next
