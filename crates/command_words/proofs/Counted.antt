@@ -1,11 +1,10 @@
 -- A run that words ask for has 1 to 64 workers.
-use Rattle.std.proofs.Common.{arith, ◌≡◌, ◌≤◌, ◌∙◌, ◌&&◌, ◌+◌, ◌-◌, ◌*◌, ℕ, Bool, true, false, refl, sym, ap, subst, List, [], ◌∷◌, Option, Some, None, true≢false, codes}
+use Rattle.std.proofs.Common.{arith, ◌≡◌, ◌≤◌, ◌&&◌, ◌+◌, ◌-◌, ◌*◌, ℕ, Bool, true, false, refl, sym, ap, subst, List, [], ◌∷◌, Option, Some, None, true≢false, codes}
 use Rattle.std.specs.Prelude.{is_some, nat_le, option_and_then, option_map, unwrap_or, if◌then◌else◌}
 use Rattle.std.specs.Str.{bytes_eq}
 use Rattle.std.proofs.lemmas.Bool.{and_parts}
 use Rattle.std.proofs.lemmas.Bool.Decides.{nat_tests}
 use Rattle.clap.specs.Words.{Row, Text, first_of}
-use Rattle.command_words.specs.declared.request.PlanChoice.{PlanChoice}
 use Rattle.command_words.specs.Wanted.{IsCounted, Wanted, is_by, choice_of, is_digit, make_of, planned, run, run_of, sequential, settings_of, verify, wanted_in, within, workers_of}
 
 -- where a choice gives a value, the value is of the kind that its parts are

@@ -23,7 +23,7 @@ use Rattle.clap.specs.Values.{reading_of}
 use Rattle.clap.specs.declared.builder.value_parser.ValueParser.TheVariants as vp
 use Rattle.clap.proofs.OnLiterals.{clap_on_literals}
 use Rattle.command_words.specs.Rule.{tool_app}
-use Rattle.command_words.specs.Wanted.{planned, run, sequential, verify, run_of, make_of, wanted_by, workers_of, choice_of, settings_of}
+use Rattle.command_words.specs.Wanted.{planned, run, sequential, verify, run_of, make_of, wanted_by, workers_of, settings_of}
 use Rattle.clap.specs.Walk.{walk}
 use Rattle.clap.specs.Takes.{is_given}
 use Rattle.clap.specs.Faults.{check_fault}
