@@ -1,4 +1,4 @@
-use Rattle.std.proofs.Common.{◌≡◌, ◌&&◌, Bool, false, List, [], map, ap, ap₂, sym, ◌∙◌, subst}
+use Rattle.std.proofs.Common.{◌≡◌, ◌&&◌, Bool, false, List, [], map, ap, sym, ◌∙◌, subst}
 use Rattle.std.specs.List.{flat_map, list_any}
 use Rattle.nest_tree.specs.View.{tree_of}
 use Rattle.owner_partition.specs.Cuts.{Cutting, plain_cut}
