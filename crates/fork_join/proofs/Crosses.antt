@@ -1,0 +1,135 @@
+-- What workers keep may go to other threads.
+use denote.Ref.{NamedLft}
+use denote.Param.Send.{AllSend, IsSend, IsSync, array_send, recorded_send, struct_send, sendable}
+use Rattle.std.proofs.Common.{[], ◌∷◌}
+use denote.Struct.Declared.{shape}
+use Rattle.std.proofs.Crossing.{crosses}
+use Rattle.nest_tree.specs.contracts.tree.Expr as Expr
+use Rattle.nest_tree.specs.contracts.tree.Item as Item
+use Rattle.nest_tree.specs.contracts.tree.Nest as Nest
+use Rattle.nest_tree.specs.contracts.tree.PrintItem as PrintItem
+use Rattle.nest_tree.specs.contracts.tree.Program as Program
+use Rattle.nest_tree.proofs.form.Affine.TheSendSync as affine
+use Rattle.nest_tree.proofs.tree.Access.TheSendSync as access
+use Rattle.nest_tree.proofs.tree.Guard.TheSendSync as guard
+use Rattle.nest_tree.proofs.tree.Expr.TheLaws.TheKnot as expr
+use Rattle.nest_tree.proofs.tree.Item.TheLaws.TheKnot as item
+use Rattle.nest_tree.proofs.tree.Parameter.TheSendSync as parameter
+use Rattle.nest_tree.proofs.tree.Variable.TheSendSync as variable
+use Rattle.nest_walk.proofs.trips.Trips.TheSendSync as trips
+use Rattle.nest_walk.proofs.path.Path.TheSendSync as path
+use Rattle.sync_plan.proofs.plan.Plan.TheSendSync as plan
+use Rattle.nest_walk.specs.contracts.cursor.Stop as Stop
+use Rattle.nest_walk.specs.contracts.cursor.Cursor as Cursor
+use Rattle.nest_walk.specs.contracts.frame.Part as Part
+use Rattle.nest_walk.specs.contracts.frame.Frame as Frame
+use Rattle.nest_walk.specs.contracts.frame.Frames as Frames
+use Rattle.nest_walk.specs.contracts.instances.Instances as Instances
+use Rattle.nest_walk.specs.contracts.table.CellTable as CellTable
+use Rattle.owner_partition.specs.contracts.phases.PhaseCursor as PhaseCursor
+use Rattle.sync_plan.specs.contracts.plan.Plan as Plan
+use Rattle.spmd_turns.specs.contracts.turns.Turns as Turns
+use Rattle.spmd_turns.specs.contracts.execute.Executor as Executor
+use Rattle.spmd_turns.proofs.progress.Progress.TheSendSync as progress
+use Rattle.fork_join.specs.contracts.stores.Stores as Stores
+use Rattle.fork_join.specs.contracts.worker.Worker as Worker
+use denote.Struct.Struct.{Struct}
+
+Expr-sync : IsSync (Expr.the_field).row
+Expr-sync = search (sendable, crosses, expr.sync-Expr, access.the_field_sync) depth 20
+
+PrintItem-sync : IsSync (PrintItem.the_row)
+PrintItem-sync = let e = Expr-sync in search (sendable, crosses) depth 20
+
+Nest-sync : IsSync (Nest.the_field).row
+Nest-sync = let e = Expr-sync in let p = PrintItem-sync in search (sendable, crosses, item.sync-Nest, access.the_field_sync, guard.the_field_sync, guard.the_sync, affine.the_sync) depth 20
+
+Item-sync : IsSync (Item.the_field).row
+Item-sync = let e = Expr-sync in let p = PrintItem-sync in search (sendable, crosses, item.sync-Item, access.the_field_sync, guard.the_field_sync, guard.the_sync, affine.the_sync) depth 20
+
+pub Program-sync : IsSync Program.the_row
+Program-sync = let i = Item-sync in search (sendable, crosses, parameter.the_sync, parameter.the_field_sync, variable.the_sync, variable.the_field_sync) depth 20
+
+pub Plan-sync : IsSync Plan.the_row
+Plan-sync = plan.the_sync
+
+pub CellTable-sync : IsSync CellTable.the_row
+CellTable-sync = search (sendable, crosses) depth 20
+
+Stop-send : (a : NamedLft) → IsSend (Stop.the_row a)
+Stop-send a = let i = Item-sync in search (sendable, crosses) depth 20
+
+Part-send : (a : NamedLft) → IsSend (Part.the_row a)
+Part-send a = let i = Item-sync in search (sendable, crosses) depth 20
+
+Frame-send : (a : NamedLft) → IsSend (Frame.the_row a)
+Frame-send a = let i = Item-sync in search (sendable, crosses, Part-send, trips.the_send) depth 20
+
+Frame-field-send : (a : NamedLft) → IsSend (Frame.the_field a).row
+Frame-field-send a = let i = Item-sync in search (sendable, crosses, Part-send, trips.the_send) depth 20
+
+Frames-field-send : (a : NamedLft) → IsSend (Frames.the_field a).row
+Frames-field-send a = struct_send (shape (Frames.the_type a)) (array_send (Frame.the_field a).row 6 (Frame-field-send a), tt)
+
+Part-field-send : (a : NamedLft) → IsSend (Part.the_field a).row
+Part-field-send a = let i = Item-sync in search (sendable, crosses) depth 20
+
+Cursor-field-send : (a : NamedLft) → IsSend (Cursor.the_field a).row
+Cursor-field-send a =
+    struct_send (shape (Cursor.the_type a)) (search (sendable, crosses, Program-sync) depth 20, (search (sendable, crosses) depth 20, (path.the_field_send, (Frames-field-send a, (Part-field-send a, tt)))))
+
+Instances-field-send : (a : NamedLft) → IsSend (Instances.the_field a).row
+Instances-field-send a = struct_send (shape (Instances.the_type a)) (Cursor-field-send a, tt)
+
+PhaseCursor-field-send : (a : NamedLft) → IsSend (PhaseCursor.the_field a).row
+PhaseCursor-field-send a = struct_send (shape (PhaseCursor.the_type a)) (Cursor-field-send a, (search (sendable, crosses) depth 20, (search (sendable, crosses, Stop-send) depth 20, tt)))
+
+pub Turns-field-send : (a : NamedLft) → IsSend (Turns.the_field a).row
+Turns-field-send a =
+    struct_send (shape (Turns.the_type a)) (
+      search (sendable, crosses, Program-sync) depth 20,
+      (
+        search (sendable, crosses, Plan-sync) depth 20,
+        (
+          search (sendable, crosses) depth 20,
+          (
+            PhaseCursor-field-send a,
+            (
+              Instances-field-send a,
+              (search (sendable, crosses) depth 20, (search (sendable, crosses) depth 20, (search (sendable, crosses) depth 20, (search (sendable, crosses) depth 20, (search (sendable, crosses) depth 20, (search (sendable, crosses, Stop-send) depth 20, tt)))))),
+            ),
+          ),
+        ),
+      ),
+    )
+
+pub Executor-field-send : (a : NamedLft) → IsSend (Executor.the_field a).row
+Executor-field-send a = let p = Program-sync in let t = CellTable-sync in search (sendable, crosses) depth 20
+
+Stores-field-send : IsSend (Stores.the_field).row
+Stores-field-send = search (sendable, crosses) depth 20
+
+pub Worker-field-send : (a : NamedLft) → IsSend (Worker.the_field a).row
+Worker-field-send a =
+    struct_send (shape (Worker.the_type a)) (
+      search (sendable, crosses) depth 20,
+      (
+        search (sendable, crosses, Program-sync) depth 20,
+        (
+          search (sendable, crosses, Plan-sync) depth 20,
+          (
+            search (sendable, crosses) depth 20,
+            (
+              Turns-field-send a,
+              (
+                Executor-field-send a,
+                (Stores-field-send, (search (sendable, crosses, progress.the_send) depth 20, tt)),
+              ),
+            ),
+          ),
+        ),
+      ),
+    )
+
+pub Worker-send : (a : NamedLft) → IsSend (Worker.the_row a)
+Worker-send a = recorded_send (Struct (shape (Worker.the_type a))) (Worker.the_type a).D (Worker.the_type a).to (Worker.the_type a).to_one (Worker-field-send a)

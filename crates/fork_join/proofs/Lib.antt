@@ -1,0 +1,10 @@
+pub mod Laying
+pub mod Acts
+pub mod Crossing
+pub mod Alone
+pub mod Seeing
+pub mod Turning
+pub mod Walking
+pub mod Working
+pub mod Crosses
+pub mod Running

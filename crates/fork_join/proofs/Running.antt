@@ -1,0 +1,137 @@
+-- The phases of a run, one behind another.
+use mathlib.Core.Logic.{∥∥₁_elim, ∥∥₁_map}
+use Rattle.std.proofs.Common.{◌≡◌, ℕ, zero, suc, ◌+◌, ◌-◌, ◌<◌, ◌≤◌, ℤ, pos, List, [], ◌∷◌, ◌++◌, append-nil, drop, get_or, length, length-append, length-drop, length-set, map, replicate, set, Some, false, take, refl, sym, ◌∙◌, ap, subst, inl, inr, arith}
+use Rattle.std.specs.Prelude.{slice_get}
+use Rattle.std.proofs.Props.{props}
+use Rattle.std.proofs.lemmas.Bool.{cases_eq, cases_lt}
+use Rattle.std.proofs.lemmas.List.{drop_all, get_or-set_other, get_or-set_same, get_or_append_left, get_or_at, length-map, take_all}
+use Rattle.nest_tree.specs.Layout.{cell_count}
+use Rattle.nest_tree.specs.Tree.{Tree}
+use Rattle.nest_model.specs.Memory.{last_memory, output_of}
+use Rattle.owner_partition.specs.Phases.{phases}
+use Rattle.sync_plan.specs.declared.plan.Plan.{Plan}
+use Rattle.nest_tree.specs.WellFormed.{IsWellFormed}
+use Rattle.nest_model.specs.Ranges.{IsInRange}
+use Rattle.sync_plan.specs.Fit.{IsFit}
+use Rattle.spmd_laws.specs.Laws.{Laws}
+use Rattle.spmd_laws.specs.Protocols.{act_at}
+use Rattle.spmd_laws.specs.Viewed.{acts_under, printed_under, protocol_of}
+use Rattle.spmd_model.specs.Deeds.{Deed, deed_of, deeds_from, printing, storing}
+use Rattle.spmd_model.specs.Planned.{machine_of}
+use Rattle.spmd_model.specs.Quiet.{is_quiet}
+use Rattle.spmd_model.specs.Timelines.{Act, acts_of}
+use Rattle.fork_join.specs.Joins.{Goes, IsSafe, all_deeds, begun, deeds_behind, in_front}
+use Rattle.fork_join.specs.Overlays.{laid_in}
+use Rattle.fork_join.proofs.Crossing.{begun_none, cross, in_front_is, in_front_none, mixed, mixed_below, mixed_moves, mixed_past, same_at}
+use Rattle.fork_join.proofs.Turning.{phase_there}
+
+-- what is written through a slice of a whole list is that list then
+pub written_whole : {X : Type 0} (count : ℕ) (new items : List X) → count ≡ length items → length new ≡ length items → take count (new ++ drop (length new) items) ≡ new
+written_whole count new items all same =
+    ap (λ xs. take count (new ++ xs)) (drop_all (length new) items (omega (arith, same))) ∙ ap (take count) (append-nil new) ∙ take_all count new (omega (arith, all, same))
+
+-- what holds of each of these and of one more holds of each of all
+pub pushed_all : {X : Type 0} (P : ℕ → X → Type 0) (xs ys : List X) (x : X) (n : ℕ) → length xs ≡ n → ys ≡ xs ++ x ∷ [] → ((p : ℕ) (d : X) → p < length xs → P p (get_or xs p d)) → P n x →
+    (p : ℕ) (d : X) → p < length ys → P p (get_or ys p d)
+pushed_all P xs ys x n len is all here p d lt =
+    let longer : p < length xs + 1 = omega (arith, ap length is, length-append xs (x ∷ [])) in
+    elim (cases_lt p (length xs)) [
+      | inl inside ↦ subst (P p) (sym (ap (λ l. get_or l p d) is ∙ get_or_append_left xs (x ∷ []) d p inside)) (all p d inside)
+      | inr past ↦ let last : length xs ≡ p = omega arith in let number : n ≡ p = omega arith in
+          subst (P p) (sym (ap (λ l. get_or l p d) is ∙ get_or_at xs x [] d p last)) (subst (λ (k : ℕ). P k x) number here)
+    ]
+
+same_size : (a b : ℕ) → IsProp (a ≡ b)
+same_size a b = Prim.hlevel props
+
+ints : (xs ys : List ℤ) → IsProp (xs ≡ ys)
+ints xs ys = Prim.hlevel props
+
+module _ (tree : Tree) (plan : Plan) (safe : IsSafe tree plan) where
+  pub sized : (cells : List ℤ) (at : ℕ → ℕ) → ∥ (protocol_of tree plan).lawful cells at ∥₁ → length cells ≡ cell_count tree
+  sized cells at t = ∥∥₁_elim t (same_size (length cells) (cell_count tree)) (λ lawful. safe.laws.size cells at lawful)
+
+  -- at first
+  first_place : (q : ℕ) → q < plan.workers → in_front tree plan 0 q ≡ 0
+  unfolding all_deeds
+  first_place q lt = omega (arith, in_front_is tree plan q 0 lt)
+
+  pub lawful_first : (memory : List ℤ) → memory ≡ replicate (cell_count tree) (pos 0) → ∥ (protocol_of tree plan).lawful memory (in_front tree plan 0) ∥₁
+  lawful_first memory is = ∣ subst (λ (cells : List ℤ). (protocol_of tree plan).lawful cells (in_front tree plan 0)) (sym is) (safe.laws.first (in_front tree plan 0) first_place) ∣₁
+
+  -- past the boundary of a phase
+  pub lawful_begun : (n : ℕ) (memory : List ℤ) → n < length (phases tree plan.cut.marks) → ∥ (protocol_of tree plan).lawful memory (in_front tree plan n) ∥₁ → ∥ (protocol_of tree plan).lawful memory (begun tree plan n) ∥₁
+  lawful_begun n memory lt t = let v = phase_there n (phases tree plan.cut.marks) lt in ∥∥₁_map t (cross tree plan safe n v.0 v.1 v.2 memory)
+
+  -- the stores of the first j workers are laid in
+  abbrev pub Laid : ℕ → ℕ → List ℤ → Type 0
+  Laid n j memory = ∥ (protocol_of tree plan).lawful memory (mixed (begun tree plan n) (in_front tree plan (suc n)) j) ∥₁
+
+  pub laid_first : (n : ℕ) (memory : List ℤ) → ∥ (protocol_of tree plan).lawful memory (begun tree plan n) ∥₁ → Laid n 0 memory
+  laid_first n memory t = ∥∥₁_map t (same_at (protocol_of tree plan) memory (begun tree plan n) (mixed (begun tree plan n) (in_front tree plan (suc n)) 0) (λ q. sym (mixed_past (begun tree plan n) (in_front tree plan (suc n)) 0 q (omega arith))))
+
+  pub laid_more : (n j : ℕ) (memory new : List ℤ) (stores : List (ℕ × ℤ)) → Laid n j memory → ∥ Goes (protocol_of tree plan) j (begun tree plan n j) stores (in_front tree plan (suc n) j) ∥₁ → new ≡ laid_in stores memory → Laid n (suc j) new
+  laid_more n j memory new stores t goes is = ∥∥₁_elim goes squash₁ (λ g. ∥∥₁_map t (λ lawful.
+      subst (λ (cells : List ℤ). (protocol_of tree plan).lawful cells (mixed (begun tree plan n) (in_front tree plan (suc n)) (suc j))) (sym is)
+      (g memory (mixed (begun tree plan n) (in_front tree plan (suc n)) j) (mixed (begun tree plan n) (in_front tree plan (suc n)) (suc j)) lawful (mixed_past (begun tree plan n) (in_front tree plan (suc n)) j j (omega arith)) (mixed_moves (begun tree plan n) (in_front tree plan (suc n)) j))))
+
+  pub laid_all : (n j : ℕ) (memory : List ℤ) → plan.workers ≤ j → Laid n j memory → ∥ (protocol_of tree plan).lawful memory (in_front tree plan (suc n)) ∥₁
+  laid_all n j memory all t = ∥∥₁_map t (same_at (protocol_of tree plan) memory (mixed (begun tree plan n) (in_front tree plan (suc n)) j) (in_front tree plan (suc n)) (λ q. elim (cases_lt q j) [
+    | inl lt ↦ mixed_below (begun tree plan n) (in_front tree plan (suc n)) j q lt
+    | inr le ↦ mixed_past (begun tree plan n) (in_front tree plan (suc n)) j q le ∙ begun_none tree plan q n (omega (arith, all, le)) ∙ sym (in_front_none tree plan q (suc n) (omega (arith, all, le)))
+  ]))
+
+  -- behind all phases
+  last_place : (n q : ℕ) → q < plan.workers → drop n (phases tree plan.cut.marks) ≡ [] → in_front tree plan n q ≡ length (all_deeds tree plan q)
+  last_place n q lt none =
+      let nothing : deeds_behind tree plan n q ≡ [] = ap (deeds_from tree plan q (suc n)) none in
+      omega (arith, in_front_is tree plan q n lt, ap length nothing)
+
+  pub last_is : (n : ℕ) (memory : List ℤ) → drop n (phases tree plan.cut.marks) ≡ [] → ∥ (protocol_of tree plan).lawful memory (in_front tree plan n) ∥₁ → memory ≡ last_memory tree
+  unfolding all_deeds
+  last_is n memory none t = ∥∥₁_elim t (ints memory (last_memory tree)) (λ lawful.
+      safe.laws.ended memory (in_front tree plan n) lawful (λ q lt. last_place n q lt none ∙ sym (safe.counted q)))
+
+  pub output_is : (n : ℕ) → 0 < plan.workers → drop n (phases tree plan.cut.marks) ≡ [] → printed_under tree plan 0 (in_front tree plan n 0) ≡ output_of tree
+  unfolding all_deeds
+  output_is n some none = ap (printed_under tree plan 0) (last_place n 0 some none ∙ sym (safe.counted 0)) ∙ safe.laws.printed_whole
+
+pub nothing_left : {X : Type 0} (n : ℕ) (xs : List X) → drop n xs ≡ [] → n ≤ length xs → n ≡ length xs
+nothing_left n xs none within = omega (arith, ap length none, length-drop n xs, within)
+
+pub some_left : {X : Type 0} (n : ℕ) (xs rest : List X) (x : X) → drop n xs ≡ x ∷ rest → n < length xs
+some_left n xs rest x is = omega (arith, ap length is, length-drop n xs)
+
+-- ---- one worker's stores more
+
+module _ {W : Type 0} (P Q : ℕ → W → Type 0) (ws : List W) (j : ℕ) (new : W) (inside : j < length ws) where
+  pub laid_up : ((q : ℕ) (d : W) → q < j → P q (get_or ws q d)) → P j new → (q : ℕ) (d : W) → q < j + 1 → P q (get_or (set ws j new) q d)
+  laid_up all here q d lt = elim (cases_eq q j) [
+    | inl e ↦ subst (P q) (sym (ap (λ k. get_or (set ws j new) k d) e ∙ get_or-set_same ws j new d inside)) (subst (λ k. P k new) (sym e) here)
+    | inr ne ↦ subst (P q) (sym (get_or-set_other ws j q new d ne)) (all q d (omega (arith, lt, ne)))
+  ]
+
+  pub still_up : ((q : ℕ) (d : W) → j ≤ q → q < length ws → Q q (get_or ws q d)) → (q : ℕ) (d : W) → j + 1 ≤ q → q < length (set ws j new) → Q q (get_or (set ws j new) q d)
+  still_up all q d le lt =
+      let ne : q ≡ j → ⊥ = λ e. absurd (omega (arith, e, le)) in
+      let long = length-set ws j new in
+      subst (Q q) (sym (get_or-set_other ws j q new d ne)) (all q d (omega (arith, le)) (omega (arith, lt, long)))
+
+pub safe_of : (tree : Tree) (plan : Plan) → Laws (protocol_of tree plan) → IsWellFormed tree → IsInRange tree → IsFit tree plan
+    → ((p n : ℕ) (d : Deed) → slice_get (deeds_from tree plan p 1 (phases tree plan.cut.marks)) n ≡ Some d → (a : Act) × (act_at (protocol_of tree plan) p n ≡ Some a) × (deed_of (machine_of tree plan) a ≡ d))
+    → ((p n : ℕ) (a : Act) → act_at (protocol_of tree plan) p n ≡ Some a → is_quiet (cell_count tree) a ≡ false)
+    → ((p n cell : ℕ) (value : List ℤ → ℤ) → slice_get (deeds_from tree plan p 1 (phases tree plan.cut.marks)) n ≡ Some (storing cell value) → (protocol_of tree plan).stored_at p n ≡ value ((protocol_of tree plan).registers_at p n))
+    → ((p n : ℕ) (line : List ℤ → List ℕ) → slice_get (deeds_from tree plan p 1 (phases tree plan.cut.marks)) n ≡ Some (printing line) → (protocol_of tree plan).printed_at p (n + 1) ≡ (protocol_of tree plan).printed_at p n ++ line ((protocol_of tree plan).registers_at p n))
+    → ((p : ℕ) → map (deed_of (machine_of tree plan)) (acts_of (machine_of tree plan) p) ≡ deeds_from tree plan p 1 (phases tree plan.cut.marks)) → IsSafe tree plan
+unfolding acts_under
+safe_of tree plan laws formed ranges fits acts shared stored printed does = record {
+  laws = laws;
+  formed = formed;
+  ranges = ranges;
+  fits = fits;
+  acts = acts;
+  shared = shared;
+  stored = stored;
+  counted = λ p. sym (length-map (acts_of (machine_of tree plan) p) (deed_of (machine_of tree plan))) ∙ ap length (does p);
+  printed = printed;
+}

@@ -1,0 +1,55 @@
+use Rattle.std.proofs.Common.{◌≡◌, ◌<◌, ◌≤◌, ◌+◌, List, length, sym, ◌∙◌, ap, subst, arith}
+use Rattle.std.specs.Prelude.{slice_index_or}
+use Rattle.std.proofs.lemmas.List.{drop_all}
+use Rattle.nest_tree.specs.View.{tree_of}
+use Rattle.owner_partition.specs.Phases.{phases}
+use Rattle.crossbeam_utils.specs.declared.cache_padded.CachePadded.{CachePadded}
+use Rattle.crossbeam_utils.specs.Padded.{padded_value}
+use Rattle.spmd_laws.specs.Viewed.{printed_under}
+use Rattle.fork_join.specs.Workers.{IsAt}
+use Rattle.fork_join.specs.declared.worker.Worker.{Worker}
+use Rattle.fork_join.proofs.Running.{output_is, safe_of, written_whole}
+use Rattle.fork_join.proofs.Walking.{front_place}
+use Rattle.fork_join.proofs.run.run_join.Goals as goal
+
+pub workers_of-requires-clause-safe : goal.workers_of-requires-clause-safe
+workers_of-requires-clause-safe g c =
+    let tree = tree_of c.args.program.now in
+    let plan = c.args.plan.now in
+    let r = c.requires in
+    let values = c.values_of_deeds.ensures in
+    safe_of tree plan (c.laws_of.ensures tree plan r.formed r.limits r.ranges r.fits r.ordered) r.formed r.ranges r.fits (λ p n d at. values.acts tree plan p n d r.formed r.fits at) (λ p n a at. c.plans_share_all_cells.ensures tree plan p n a r.formed r.ranges at)
+    (λ p n cell value at. values.stored tree plan p n cell value r.formed r.fits at) (λ p n line at. values.printed tree plan p n line r.formed r.fits at) (λ p. c.acts_by_their_deeds.ensures.phases tree plan p r.formed r.fits)
+
+pub execute-requires-clause-safe : goal.execute-requires-clause-safe
+execute-requires-clause-safe g c κs within =
+    let tree = tree_of c.args.program.now in
+    let plan = c.args.plan.now in
+    let r = c.requires in
+    let values = c.values_of_deeds.ensures in
+    safe_of tree plan (c.laws_of.ensures tree plan r.formed r.limits r.ranges r.fits r.ordered) r.formed r.ranges r.fits (λ p n d at. values.acts tree plan p n d r.formed r.fits at) (λ p n a at. c.plans_share_all_cells.ensures tree plan p n a r.formed r.ranges at)
+    (λ p n cell value at. values.stored tree plan p n cell value r.formed r.fits at) (λ p n line at. values.printed tree plan p n line r.formed r.fits at) (λ p. c.acts_by_their_deeds.ensures.phases tree plan p r.formed r.fits)
+
+pub returns-clause-output : goal.returns-clause-output
+returns-clause-output g c =
+    let tree = tree_of c.args.program.now in
+    let plan = c.args.plan.now in
+    let r = c.requires in
+    let values = c.values_of_deeds.ensures in
+    let safe =
+    safe_of tree plan (c.laws_of.ensures tree plan r.formed r.limits r.ranges r.fits r.ordered) r.formed r.ranges r.fits (λ p n d at. values.acts tree plan p n d r.formed r.fits at) (λ p n a at. c.plans_share_all_cells.ensures tree plan p n a r.formed r.ranges at)
+    (λ p n cell value at. values.stored tree plan p n cell value r.formed r.fits at) (λ p n line at. values.printed tree plan p n line r.formed r.fits at) (λ p. c.acts_by_their_deeds.ensures.phases tree plan p r.formed r.fits) in
+    let ps = phases tree plan.cut.marks in
+    let made = c.in_ok-workers.workers in
+    let ws = c.execute.new.workers in
+    let count = c.in_ok-workers.ensures.count in
+    let long : length ws ≡ length made.items = c.execute.ensures.count ∙ ap (λ (l : List (CachePadded Worker)). length l) c.deref_mut.ensures.value in
+    let some : 0 < plan.workers = omega (arith, c.swap_remove.ensures.len, made.ok.0, count) in
+    let whole = written_whole made.len ws made.items made.ok.0 long in
+    let first = c.swap_remove.result in
+    let taken = c.swap_remove.ensures.value ∙ ap (λ (l : List (CachePadded Worker)). slice_index_or l 0 first) whole in
+    let w = c.into_inner.result in
+    let at = c.execute.ensures.at 0 first (omega (arith, long, count, some)) in
+    let here = subst (IsAt tree plan (length ps) 0) (sym (c.into_inner.ensures ∙ ap (λ (x : CachePadded Worker). padded_value x) taken)) at in
+    let runs = here.stands.runs in
+    c.into_output-output.ensures ∙ runs.output ∙ ap (printed_under tree plan 0) (front_place tree plan (length ps) 0 w.done.done w.turns w.executor some runs) ∙ output_is tree plan safe (length ps) some (drop_all (length ps) ps (omega arith))

@@ -1,0 +1,54 @@
+use mathlib.Core.Logic.{∥∥₁_map}
+use Rattle.std.proofs.Common.{◌≡◌, ◌≤◌, ◌<◌, ◌^◌, ℕ, ℤ, suc, List, length, vec_capacity, refl, sym, ◌∙◌, ap, subst, arith}
+use Rattle.nest_tree.specs.View.{tree_of}
+use Rattle.spmd_turns.specs.declared.progress.Progress.{Progress}
+use Rattle.fork_join.specs.Joins.{IsAlone}
+use Rattle.fork_join.specs.Overlays.{AreIndexed}
+use Rattle.fork_join.specs.declared.stores.Stores.{Stores}
+use Rattle.fork_join.proofs.Walking.{begun_place, front_place}
+use Rattle.fork_join.proofs.Working.{alone_first, its_cells, worked}
+use Rattle.fork_join.proofs.worker.Worker.work.Goals as goal
+
+pub invariant_of-overlay : goal.invariant_of-overlay
+invariant_of-overlay c =
+    let w = c.args.self.now in
+    let tree = tree_of w.program.now in
+    let plan = w.plan.now in
+    let p = w.processor in
+    let n = c.args.behind in
+    let memory = c.args.memory.now in
+    let stands = c.requires.begun.stands in
+    let stores = sym c.replace.ensures.value in
+    let done = sym c.replace-2.ensures.value in
+    let place = begun_place tree plan n p w.done.done w.turns w.executor c.requires.below stands.runs in
+    let first = ∥∥₁_map c.requires.lawful (λ lawful. alone_first tree plan p n memory w.stores.entries.items (length w.stores.places.items) w.done.done c.requires.safe c.requires.below lawful c.requires.begun.none stands.cells place) in
+    record {
+      goes = subst (λ (s : Stores). ∥ IsAlone tree plan p n memory s.entries.items (length s.places.items) c.replace-2.result.done ∥₁) stores
+          (subst (λ (d : Progress). ∥ IsAlone tree plan p n memory w.stores.entries.items (length w.stores.places.items) d.done ∥₁) done first);
+      indexed = subst (λ (s : Stores). AreIndexed s.entries.items s.places.items) stores stands.kept.indexed;
+      room = subst (λ (s : Stores). length s.places.items ≤ vec_capacity s.entries) stores stands.kept.room;
+      few = subst (λ (s : Stores). length s.places.items < 2 ^ 32) stores stands.kept.few;
+    }
+
+pub returns : goal.returns
+returns c =
+    let w = c.args.self.now in
+    let tree = tree_of w.program.now in
+    let plan = w.plan.now in
+    let p = w.processor in
+    let n = c.args.behind in
+    let memory = c.args.memory.now in
+    let o = c.execute.new.overlay in
+    let kept = c.execute.ensures.kept in
+    let runs = c.execute.ensures.runs in
+    record {
+      stands = record {
+        program = refl;
+        plan_is = refl;
+        processor = refl;
+        runs = runs;
+        kept = record { indexed = o.indexed; room = o.room; few = o.few };
+        cells = its_cells tree plan n p memory o kept;
+      };
+      goes = worked tree plan n p memory o kept (front_place tree plan (suc n) p o.done.done c.execute.new.turns c.execute.new.executor c.requires.below runs);
+    }

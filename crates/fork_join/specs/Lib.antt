@@ -1,0 +1,4 @@
+pub mod Overlays
+pub mod StoreLists
+pub mod Joins
+pub mod Workers

@@ -1,0 +1,108 @@
+-- Where a worker stands.
+use Rattle.std.specs.Prelude.{ℕ, suc, ◌+◌, ◌-◌, ◌≡◌, ◌≤◌, ◌<◌, true, ℤ, List, [], ◌∷◌, ◌++◌, drop, length, map, slice_get, slice_index_or, sum_by}
+use Rattle.std.specs.List.{flat_map, list_all}
+use Rattle.nest_tree.specs.Layout.{cell_count}
+use Rattle.nest_tree.specs.Tree.{Tree}
+use Rattle.nest_tree.specs.View.{tree_of}
+use Rattle.nest_model.specs.Instances.{Instance}
+use Rattle.nest_model.specs.Visits.{Visit}
+use Rattle.owner_partition.specs.Phases.{phases}
+use Rattle.sync_plan.specs.declared.plan.Plan.{Plan}
+use Rattle.spmd_model.specs.Deeds.{owned_by}
+use Rattle.spmd_laws.specs.Viewed.{printed_under, protocol_of, registers_under}
+use Rattle.spmd_turns.specs.Executors.{CanExecute, executor_output, executor_room, executor_tree}
+use Rattle.spmd_turns.specs.Rooms.{turn_room}
+use Rattle.spmd_turns.specs.Turns.{Turn, is_turn_inside, turn_deeds, turns_from, works}
+use Rattle.spmd_turns.specs.TurnsLeft.{AreSound, turns_left, turns_plan, turns_processor, turns_tree}
+use Rattle.spmd_turns.specs.declared.execute.Executor.{Executor}
+use Rattle.spmd_turns.specs.declared.turns.Turns.{Turns}
+use Rattle.crossbeam_utils.specs.declared.cache_padded.CachePadded.{CachePadded}
+use Rattle.crossbeam_utils.specs.Padded.{padded_value}
+use Rattle.fork_join.specs.Joins.{Goes, all_deeds, begun, in_front}
+use Rattle.fork_join.specs.StoreLists.{AreKept, cells_of, entries_of}
+use Rattle.fork_join.specs.declared.overlay.Overlay.{Overlay}
+use Rattle.fork_join.specs.declared.worker.Worker.{Worker}
+
+-- the turns in phases behind so many
+abbrev pub turns_behind : Tree → Plan → ℕ → ℕ → List Turn
+turns_behind tree plan n p = turns_from tree plan p (suc n) (drop n (phases tree plan.cut.marks))
+
+-- the same from the first phase's first instance on
+abbrev pub turns_begun_from : Tree → Plan → ℕ → ℕ → List Visit → List Turn
+turns_begun_from tree plan p e [] = []
+turns_begun_from tree plan p e (v ∷ rest) = map works (owned_by tree (slice_get plan.anchors (v.place - 1)) plan.workers p v) ++ turns_from tree plan p (suc e) rest
+
+abbrev pub turns_begun : Tree → Plan → ℕ → ℕ → List Turn
+turns_begun tree plan n p = turns_begun_from tree plan p (suc n) (drop n (phases tree plan.cut.marks))
+
+-- a cursor of processor p of a program under a plan has these turns left, behind so many deeds, and an executor has printed what they print; the one that prints has room for the rest
+pub record Runs (tree : Tree) (plan : Plan) (p : ℕ) (left : List Turn) (done : ℕ) (c : Turns) (x : Executor) : Type 0 where
+  pub sound : AreSound c
+  pub program : turns_tree c ≡ tree
+  pub plan_is : turns_plan c ≡ plan
+  pub processor : turns_processor c ≡ p
+  pub turns : turns_left c ≡ left
+  pub inside : list_all (is_turn_inside tree) left ≡ true
+  pub deeds : drop done (all_deeds tree plan p) ≡ flat_map (turn_deeds tree) left
+  pub within : done ≤ length (all_deeds tree plan p)
+  pub idle : registers_under tree plan p done ≡ []
+  pub can : CanExecute x
+  pub executor : executor_tree x ≡ tree
+  pub output : executor_output x ≡ printed_under tree plan p done
+  pub fits : length (executor_output x) ≤ executor_room x
+  pub room : p ≡ 0 → length (executor_output x) + sum_by (turn_room tree) left ≤ executor_room x
+
+-- a worker is that processor, and keeps its stores to the program's cells
+pub record Stands (tree : Tree) (plan : Plan) (p : ℕ) (left : List Turn) (w : Worker) : Type 0 where
+  pub program : tree_of w.program.now ≡ tree
+  pub plan_is : w.plan.now ≡ plan
+  pub processor : w.processor ≡ p
+  pub runs : Runs tree plan p left w.done.done w.turns w.executor
+  pub kept : AreKept w.stores
+  pub cells : cells_of w.stores ≡ cell_count tree
+
+-- the program and the plan of a worker's record
+abbrev pub tree_in : CachePadded Worker → Tree
+tree_in w = tree_of (padded_value w).program.now
+
+abbrev pub plan_in : CachePadded Worker → Plan
+plan_in w = (padded_value w).plan.now
+
+-- so many phases are behind it, and its stores are laid in
+pub record IsAt (tree : Tree) (plan : Plan) (n p : ℕ) (w : Worker) : Type 0 where
+  pub stands : Stands tree plan p (turns_behind tree plan n p) w
+  pub none : entries_of w.stores ≡ []
+
+-- it is past the boundary behind so many phases
+pub record HasBegun (tree : Tree) (plan : Plan) (n p : ℕ) (w : Worker) : Type 0 where
+  pub stands : Stands tree plan p (turns_begun tree plan n p) w
+  pub none : entries_of w.stores ≡ []
+
+-- it is through the phase behind so many, with the stores that it did there
+pub record HasWorked (tree : Tree) (plan : Plan) (n p : ℕ) (w : Worker) : Type 0 where
+  pub stands : Stands tree plan p (turns_behind tree plan (suc n) p) w
+  pub goes : ∥ Goes (protocol_of tree plan) p (begun tree plan n p) (entries_of w.stores) (in_front tree plan (suc n) p) ∥₁
+
+-- an overlay is that processor's, behind so many phases, over this memory
+pub record IsOverlay (tree : Tree) (plan : Plan) (n p : ℕ) (memory : List ℤ) (o : Overlay) : Type 0 where
+  pub program : tree_of o.program.now ≡ tree
+  pub plan_is : o.plan.now ≡ plan
+  pub processor : o.processor ≡ p
+  pub behind : o.behind ≡ n
+  pub memory_is : o.memory.now ≡ memory
+
+-- of the phase behind so many these instances are left, and then the phases behind it
+pub record IsWalking (tree : Tree) (plan : Plan) (n p done : ℕ) (c : Turns) (x : Executor) : Type 0 where
+  pub left : List Instance
+  pub runs : Runs tree plan p (map works left ++ turns_behind tree plan (suc n) p) done c x
+
+-- of all workers
+abbrev pub AreAt : Tree → Plan → ℕ → List (CachePadded Worker) → Type 0
+AreAt tree plan n workers = (p : ℕ) (d : CachePadded Worker) → p < length workers → IsAt tree plan n p (padded_value (slice_index_or workers p d))
+
+abbrev pub HaveWorked : Tree → Plan → ℕ → List (CachePadded Worker) → Type 0
+HaveWorked tree plan n workers = (p : ℕ) (d : CachePadded Worker) → p < length workers → HasWorked tree plan n p (padded_value (slice_index_or workers p d))
+
+-- the first ones' stores are laid in
+abbrev pub AreLaid : Tree → Plan → ℕ → ℕ → List (CachePadded Worker) → Type 0
+AreLaid tree plan n j workers = (p : ℕ) (d : CachePadded Worker) → p < j → IsAt tree plan (suc n) p (padded_value (slice_index_or workers p d))

@@ -1,0 +1,18 @@
+//! A program run by fork and join: for each phase of a plan the workers are forked, each executes
+//! its own instances over memory as it was and its own stores, and after the join their stores are
+//! laid in, worker by worker.
+//!
+//! - [`run_join`]: the run.
+//! - `worker`: one worker, phase by phase.
+//! - `walk`: the instances of a phase, one behind another.
+//! - `overlay`: the cells as a worker sees them in a phase.
+//! - `stores`: a worker's stores since the phase began.
+#![tactic(auto)]
+
+mod overlay;
+mod run;
+mod stores;
+mod walk;
+mod worker;
+
+pub use run::run_join;
