@@ -1,8 +1,8 @@
 """Looks at what the pages of the crates that serve alone say under "As a library".
 
 The crates that come with one are those that crates.txt has below it; each signature stands in the
-crate's sources; each example is a function of 20 lines at most of some crate of the repository, so
-that it is proved and run.
+crate's sources; each example is a function of 20 lines at most of the program library_use, so that
+it is proved and run.
 """
 
 import os
@@ -52,8 +52,8 @@ def faults_in(crate, section):
     if not examples:
         yield "there is no example"
     for it in examples:
-        if not any(it in sources_of(crate) for crate in os.listdir(f"{ROOT}/crates")):
-            yield f"this is in no crate's sources: {it}"
+        if it not in sources_of("library_use"):
+            yield f"this is no function of library_use: {it}"
         if it.count("\n") > 20:
             yield f"this example has {it.count(chr(10))} lines"
 

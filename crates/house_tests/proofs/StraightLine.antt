@@ -9,19 +9,17 @@ use Rattle.owner_partition.specs.Phases.{Execution, executions}
 use Rattle.sync_plan.specs.Fit.{IsFit}
 use Rattle.sync_plan.specs.Ordered.{IsOrdered, owner_under}
 use Rattle.sync_plan.specs.declared.plan.Kind.{Kind}
-use Rattle.sync_plan.specs.declared.plan.Kind.TheVariants.{Barrier, Join}
+use Rattle.sync_plan.specs.declared.plan.Kind.TheVariants.{Join}
 use Rattle.spmd_model.specs.Timelines.{counter, post, await}
 use Rattle.spmd_laws.specs.Protocols.{Protocol, act_at}
 use Rattle.spmd_laws.specs.Viewed.{acts_under, protocol_of}
 use Rattle.nest_tree.specs.View.{tree_of}
 use Rattle.nest_tree.specs.declared.tree.Program.{Program}
 use Rattle.sync_plan.specs.declared.plan.Plan.{Plan}
-use Rattle.cell_table.specs.Homes.{Home, protocol_at, protocol_given}
+use Rattle.cell_table.specs.Calls.{ArrivesNext, GathersNext, first_seat}
+use Rattle.cell_table.specs.Homes.{Home, gone, protocol_at, protocol_given}
 use Rattle.cell_table.specs.Places.{behind, settled_at}
-use Rattle.house_tests.specs.StraightLine.{line, plan_with}
-
-abbrev pub barriers : List Kind
-barriers = Barrier ∷ Barrier ∷ Barrier ∷ []
+use Rattle.house_tests.specs.StraightLine.{barriers, line, plan_with}
 
 abbrev pub joins : List Kind
 joins = Join ∷ Join ∷ Join ∷ []
@@ -94,6 +92,22 @@ pub gathers : (act_at barrier_line 1 (place barrier_line 1 1) ≡ Some (await co
 unfolding acts_under
 gathers = (refl, refl)
 
+pub gathers_of_first : (act_at barrier_line 0 (place barrier_line 0 1) ≡ Some (await counter 1 0)) × (barrier_line.gathers 0 ≡ true)
+unfolding acts_under
+gathers_of_first = (refl, refl)
+
 -- what holds of the line's protocol holds of the table's
 pub of_table : (P : Protocol → Type 0) (kinds : List Kind) (h : Home) (program : Program) (plan : Plan) → h.given ≡ Some (program, plan) → tree_of program ≡ line → plan ≡ plan_with kinds → P (protocol_of line (plan_with kinds)) → P (protocol_at h)
 of_table P kinds h program plan given tree is held = subst P (sym (ap protocol_given given ∙ (λ i. protocol_of (tree i) (is i)))) held
+
+-- both processors' seats at their first acts, at a barrier
+pub meets : (h : Home) (program : Program) (plan : Plan) → h.given ≡ Some (program, plan) → tree_of program ≡ line → plan ≡ plan_with barriers → (p : ℕ) → p < 2 → ArrivesNext (first_seat h p) 0 × GathersNext (gone (first_seat h p)) 0
+meets h program plan given tree is zero lt =
+    let comes = of_table (λ m. (act_at m 0 (place m 0 0) ≡ Some (post counter 0)) × (m.gathers 0 ≡ true)) barriers h program plan given tree is (arrives 0 lt) in
+    let awaits = of_table (λ m. (act_at m 0 (place m 0 1) ≡ Some (await counter 1 0)) × (m.gathers 0 ≡ true)) barriers h program plan given tree is gathers_of_first in
+    (comes, (1, awaits.0, awaits.1))
+meets h program plan given tree is (suc zero) lt =
+    let comes = of_table (λ m. (act_at m 1 (place m 1 0) ≡ Some (post counter 0)) × (m.gathers 0 ≡ true)) barriers h program plan given tree is (arrives 1 lt) in
+    let awaits = of_table (λ m. (act_at m 1 (place m 1 1) ≡ Some (await counter 0 0)) × (m.gathers 0 ≡ true)) barriers h program plan given tree is gathers in
+    (comes, (0, awaits.0, awaits.1))
+meets h program plan given tree is (suc (suc p)) lt = absurd (omega (arith, lt))

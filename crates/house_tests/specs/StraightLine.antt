@@ -6,6 +6,7 @@ use Rattle.owner_partition.specs.declared.anchor.Anchor.{Anchor}
 use Rattle.owner_partition.specs.declared.anchor.Dist.TheVariants.{Cyclic}
 use Rattle.owner_partition.specs.Cuts.{plain_cut}
 use Rattle.sync_plan.specs.declared.plan.Kind.{Kind}
+use Rattle.sync_plan.specs.declared.plan.Kind.TheVariants.{Barrier}
 use Rattle.sync_plan.specs.declared.plan.Plan.{Plan}
 use Rattle.sync_plan.specs.declared.plan.Conditions.TheVariants.{Values}
 use Rattle.sync_plan.specs.declared.plan.Version.TheVariants.{Two}
@@ -29,3 +30,6 @@ first_owns = record { form = record { constant = pos 0; loops = []; params = [] 
 -- processor 0 of two does everything, with these kinds in front of the phases
 abbrev pub plan_with : List Kind → Plan
 plan_with kinds = record { version = Two; conditions = Values; workers = 2; cut = plain_cut []; anchors = replicate 3 first_owns; kinds = kinds; certificates = [] }
+
+abbrev pub barriers : List Kind
+barriers = Barrier ∷ Barrier ∷ Barrier ∷ []

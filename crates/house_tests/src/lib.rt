@@ -18,8 +18,7 @@ mod programs;
 mod shared_words;
 #[cfg(test)]
 mod sources;
-#[cfg(test)]
-mod straight_line;
+pub mod straight_line;
 #[cfg(test)]
 mod streams;
 #[cfg(test)]

@@ -33,7 +33,8 @@ fn more(alloc: Global) -> Result<Expr, AllocError>
     Ok(Expr::Add(Box::new(alloc, twice)?, Box::new(alloc, Expr::Number(2))?))
 }
 
-pub(crate) fn line(alloc: Global) -> Result<Program, AllocError>
+/// The program.
+pub fn line(alloc: Global) -> Result<Program, AllocError>
     ensures { IfOk result (λ p. tree_of p ≡ line) }
 {
     let shown = vec![in alloc;
@@ -67,8 +68,8 @@ fn first_owns(alloc: Global) -> Anchor
     }
 }
 
-// The plan with these kinds in front of its phases.
-pub(crate) fn plan_with(alloc: Global, kinds: Vec<Kind>) -> Result<Plan, AllocError>
+/// The plan with these kinds in front of its phases.
+pub fn plan_with(alloc: Global, kinds: Vec<Kind>) -> Result<Plan, AllocError>
     ensures { IfOk result (λ p. p ≡ plan_with kinds.items) }
 {
     let anchors = vec![in alloc; first_owns(alloc), first_owns(alloc), first_owns(alloc)]?;

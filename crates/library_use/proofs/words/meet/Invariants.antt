@@ -1,0 +1,11 @@
+use Rattle.std.proofs.Common.{◌≡◌}
+use Rattle.cell_table.specs.Calls.{GathersNext}
+use Rattle.cell_table.specs.Homes.{gone, through}
+use Rattle.library_use.proofs.words.meet.Given as goal
+
+abbrev pub invariant-loop : goal.invariant-loop
+invariant-loop l = record {
+  own : l.seat.home ≡ l.cells;
+  next : GathersNext l.seat 0;
+  behind : through l.seat ≡ through (gone l.fn.seat);
+}
