@@ -1,0 +1,13 @@
+pub mod Acts
+pub mod SharedSteps
+pub mod Walks
+pub mod Steps
+pub mod Waits
+pub mod Rows
+pub mod Instances
+pub mod RowWaits
+pub mod Legs
+pub mod Joins
+pub mod Starts
+pub mod Teams
+pub mod Crosses

@@ -1,0 +1,73 @@
+// What all workers of a program look up.
+
+ghost use Rattle.std.specs.Prelude.{◌≡◌, IfOk, Some};
+ghost use Rattle.nest_tree.specs.Limits.{IsWithinLimits};
+ghost use Rattle.nest_tree.specs.View.{tree_of};
+ghost use Rattle.nest_tree.specs.WellFormed.{IsWellFormed};
+ghost use Rattle.nest_model.specs.Ranges.{IsInRange};
+ghost use Rattle.sync_plan.specs.Fit.{IsFit};
+
+use nest_tree::Program;
+use nest_walk::CellTable;
+use spmd_turns::{longest_output, open_printing};
+use std::alloc::{AllocError, Global};
+use std::marker::Model;
+use sync_plan::Plan;
+
+// The most statements that a program has, and so the most loops.
+const MOST_STATEMENTS: usize = 400;
+
+/// What all workers of a program under a plan look up: the cells of its accesses, the values of its
+/// named constants, and how long its output can be.
+#[derive(Drop)]
+pub struct Tables<'a> {
+    pub(crate) program: &'a Program,
+    pub(crate) plan: &'a Plan,
+    pub(crate) cells: CellTable,
+    pub(crate) params: Vec<i64>,
+    pub(crate) room: usize,
+}
+
+impl<'a> Model for Tables<'a> {
+    ghost use Rattle.std.specs.Prelude.{Option, Some};
+    ghost use Rattle.nest_tree.specs.View.{tree_of};
+    ghost use Rattle.nest_tree.specs.declared.tree.Program.{Program};
+    ghost use Rattle.sync_plan.specs.declared.plan.Plan.{Plan};
+    ghost use Rattle.cell_table.specs.Codes.{given_code};
+    ghost use Rattle.spmd_run.specs.Tables.{AreTables};
+
+    ghost Value = { Option (Program × Plan) };
+
+    ghost coded = { given_code };
+
+    ghost view = { λ t. Some (t.program.now, t.plan.now) };
+
+    ghost invariant = { λ t. AreTables (tree_of t.program.now) t.plan.now t.cells t.params.items t.room };
+}
+
+impl<'a> Tables<'a> {
+    /// The tables of a program under a plan.
+    pub fn new(alloc: Global, program: &'a Program, plan: &'a Plan) -> Result<Self, AllocError>
+        requires formed { IsWellFormed (tree_of program.now) }
+        requires limits { IsWithinLimits (tree_of program.now) }
+        requires ranges { IsInRange (tree_of program.now) }
+        requires fits { IsFit (tree_of program.now) plan.now }
+        ensures given { IfOk result (λ t. t ≡ Some (program.now, plan.now)) }
+    {
+        let cells = CellTable::new(alloc, program)?;
+        let mut params = Vec::with_capacity(alloc, program.params.len())?;
+        for parameter in &program.params {
+            params.push(parameter.value)?;
+        }
+        let mut closed = vec![in alloc; true; MOST_STATEMENTS]?;
+        open_printing(&program.items, &mut closed);
+        let room = longest_output(program, &closed).ok_or(AllocError)?;
+        Ok(Tables {
+            program,
+            plan,
+            cells,
+            params,
+            room,
+        })
+    }
+}
