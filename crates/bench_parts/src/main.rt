@@ -11,7 +11,8 @@
 //! | `ranges` | a source, whose subscripts are checked | nothing |
 //! | `run` | a source | the output of the sequential run |
 //! | `machine` | a source and behind it a plan's text | the output of the round robin by the plan |
-//! | `own` | the same | how many instances the phases have, each given to the one processor that owns it |
+//! | `join`, `spmd` | the same, with a plan that is accepted | the output of the run by fork and join, or over shared words, on threads |
+//! | `own` | what `machine` reads | how many instances the phases have, each given to the one processor that owns it |
 //!
 //! The input of `systems` is lines. A system is a line `system NAME VARS ROWS`, and then ROWS lines
 //! `c1 .. cVARS <= bound`. Words stand between blanks: spaces, tabs and carriage returns. Lines
@@ -54,6 +55,7 @@ mod number;
 mod own;
 mod parts;
 mod system;
+mod threads;
 mod verdict;
 
 use crate::decisions::decisions;
@@ -61,11 +63,13 @@ use crate::ending::Ending;
 use f77_lines::MOST_BYTES;
 use std::io::{ErrorKind, Read};
 use std::process::ExitCode;
+use std::sync::Wait;
+use std::thread::Threads;
 use std::{env, io};
 
 fn main(rt: HostRuntime) -> ExitCode {
     let ending = match asked(&rt) {
-        Ok(Some((part, times))) => timed(&rt, part, times),
+        Ok(Some((part, times))) => timed(&rt, &rt, part, times),
         Ok(None) => Ending::BadWords,
         Err(error) if error.kind() == ErrorKind::OutOfMemory => Ending::NoMemory,
         // words that aren't text are none that are taken
@@ -87,6 +91,8 @@ enum Part {
     Ranges,
     Run,
     Machine,
+    Join,
+    Spmd,
     Own,
 }
 
@@ -116,20 +122,32 @@ fn part_of(word: &str) -> Option<Part> {
         "ranges" => Some(Part::Ranges),
         "run" => Some(Part::Run),
         "machine" => Some(Part::Machine),
+        "join" => Some(Part::Join),
+        "spmd" => Some(Part::Spmd),
         "own" => Some(Part::Own),
         _ => None,
     }
 }
 
-fn timed(rt: &HostRuntime, part: Part, times: bool) -> Ending {
-    match over_input(rt, part, times) {
+fn timed<R: Threads + Wait + Sync>(
+    rt: &HostRuntime,
+    threads: &R,
+    part: Part,
+    times: bool,
+) -> Ending {
+    match over_input(rt, threads, part, times) {
         Ok(ending) => ending,
         Err(error) if error.kind() == ErrorKind::OutOfMemory => Ending::NoMemory,
         Err(_) => Ending::Fault,
     }
 }
 
-fn over_input(rt: &HostRuntime, part: Part, times: bool) -> io::Result<Ending> {
+fn over_input<R: Threads + Wait + Sync>(
+    rt: &HostRuntime,
+    threads: &R,
+    part: Part,
+    times: bool,
+) -> io::Result<Ending> {
     if let Part::Systems = part {
         return Ok(decisions(rt, times));
     }
@@ -145,6 +163,8 @@ fn over_input(rt: &HostRuntime, part: Part, times: bool) -> io::Result<Ending> {
         Part::Ranges => parts::ranges(rt, &bytes, times),
         Part::Run => parts::run(rt, &bytes, times),
         Part::Machine => parts::machine(rt, &bytes, times),
+        Part::Join => threads::join(rt, threads, &bytes, times),
+        Part::Spmd => threads::spmd(rt, threads, &bytes, times),
         Part::Own => parts::own(rt, &bytes, times),
     }
 }

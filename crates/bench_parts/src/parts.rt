@@ -22,14 +22,17 @@ use std::io::{self, Write};
 use std::time::Instant;
 
 // Writes why a text is refused.
-fn refused<T: Display + Drop>(rt: &HostRuntime, line: T) -> io::Result<Ending> {
+pub(crate) fn refused<T: Display + Drop>(rt: &HostRuntime, line: T) -> io::Result<Ending> {
     rt.println(line)?;
     Ok(Ending::Refused)
 }
 
 // The program that bytes begin with, and where the rest begins; or the line that tells why there is
 // none.
-fn source_of(alloc: Global, bytes: &[u8]) -> Result<Result<(Program, usize), String>, AllocError>
+pub(crate) fn source_of(
+    alloc: Global,
+    bytes: &[u8],
+) -> Result<Result<(Program, usize), String>, AllocError>
     requires { length bytes.now ≤ MOST_BYTES }
     ensures formed { IfOk result (λ read. IfOk read (λ p. IsWellFormed (tree_of p.0))) }
     ensures limits { IfOk result (λ read. IfOk read (λ p. IsWithinLimits (tree_of p.0))) }

@@ -5,6 +5,7 @@
 //! - `lines`, `sources`: what a source lists, which program it is, and which fault it has.
 //! - `systems`: certificates, and what elimination says.
 //! - `plans`: what the checker answers, and which text is no plan's.
+//! - `runs`: accepted plans run on threads, by fork and join and over shared words.
 //! - `shared_words`: two processors of a straight line, step by step on the words that they share.
 #![tactic(auto)]
 
@@ -14,6 +15,8 @@ mod lines;
 mod plans;
 #[cfg(test)]
 mod programs;
+#[cfg(test)]
+mod runs;
 #[cfg(test)]
 mod shared_words;
 #[cfg(test)]

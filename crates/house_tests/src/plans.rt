@@ -19,11 +19,11 @@ use std::test::Fail;
 use std::thread::Threads;
 
 // All kinds barriers: one array is copied from the other back to front.
-const MIRROR: &[u8] =
+pub(crate) const MIRROR: &[u8] =
     b"      INTEGER A(6), B(6)\n      DO 10 I = 1, 6\n   10 A(I) = I\n      DO 20 I = 1, 6\n   20 B(I) = A(7-I)\n      PRINT *, B(1)\n      END\nSPMD PLAN 1\nWORKERS 3\nLOOPS 2\n1 DOALL\n2 DOALL\nPHASES 3\n1 BARRIER AT -1 1*L1 BLOCK 2\n2 BARRIER AT -1 1*L2 BLOCK 2\n3 BARRIER AT 0 CYCLIC\nCERTIFICATES 2\n1 STEPS 1\n1 1*1 6*1 10*1 11*1\n2 STEPS 1\n1 1*1 6*1 10*1 11*1\nEND PLAN\n";
 
 // Certificates whose steps round.
-const ROUNDING: &[u8] =
+pub(crate) const ROUNDING: &[u8] =
     b"      INTEGER A(8)\n      A(1) = 5\n      DO 10 I = 1, 4\n   10 A(2*I) = A(2*I-1)\n      PRINT *, A\n      END\nSPMD PLAN 1\nWORKERS 2\nLOOPS 1\n1 DOALL\nPHASES 3\n1 BARRIER AT 0 BLOCK 4\n2 BARRIER AT -1 2*L1 BLOCK 4\n3 BARRIER AT 0 CYCLIC\nCERTIFICATES 3\n1 STEPS 3\n2 9*1\n2 10*1\n1 12*1 13*1\n2 STEPS 3\n2 9*1\n2 10*1\n1 12*1 13*1\n3 STEPS 1\n1 1*2 6*2 10*1 11*2\nEND PLAN\n";
 
 // The only barrier stands in a loop of no trips.
@@ -35,7 +35,7 @@ const CHAIN: &[u8] =
     b"      INTEGER A(6), B(6), C(6)\n      DO 10 I = 1, 6\n   10 A(I) = I\n      DO 20 I = 1, 6\n   20 B(I) = I\n      DO 30 I = 1, 6\n   30 C(I) = A(7-I)\n      PRINT *, C(1)\n      END\nSPMD PLAN 2\nWORKERS 3\nLOOPS 3\n1 DOALL\n2 DOALL\n3 DOALL\nPHASES 4\n1 NOTHING AT -1 1*L1 BLOCK 2\n2 BOTH AT -1 1*L2 BLOCK 2\n3 BOTH AT -1 1*L3 BLOCK 2\n4 NOTHING AT 0 BLOCK 1\nCERTIFICATES 7\n1 STEPS 1\n1 1*1 6*1 10*1 11*1\n2 STEPS 1\n1 1*1 6*1 10*1 11*1\n3 STEPS 1\n1 1*1 6*1 10*1 11*1\n4 STEPS 1\n1 13*1 18*1 19*1\n5 STEPS 1\n1 14*1 17*1 19*1\n6 STEPS 1\n1 9*1 11*1 15*1\n7 STEPS 1\n1 5*1 7*1 12*2 15*2\nEND PLAN\n";
 
 // Conditions on a named constant.
-const CONDITIONS: &[u8] =
+pub(crate) const CONDITIONS: &[u8] =
     b"      PARAMETER (N=6)\n      INTEGER A(N), B(N)\n      DO 10 I = 1, N\n   10 A(I) = I\n      DO 20 I = 1, N\n   20 B(I) = A(I) + 1\n      PRINT *, B(1)\n      END\nSPMD PLAN 3\nWORKERS 2\nWHERE 2\n1 1*P1 <= 7\n2 -1*P1 <= -1\nLOOPS 2\n1 DOALL\n2 DOALL\nPHASES 3\n1 NOTHING AT -1 1*L1 BLOCK 4\n2 NOTHING AT -1 1*L2 BLOCK 4\n3 NOTHING AT 0 BLOCK 1\nCERTIFICATES 6\n1 STEPS 1\n1 3*1 8*1 12*1 13*1\n2 STEPS 1\n1 3*1 8*1 12*1 13*1\n3 STEPS 1\n1 12*1 14*1 17*1 21*4\n4 STEPS 1\n1 11*1 13*1 18*1 21*4\n5 STEPS 1\n1 11*1 13*1 17*1\n6 STEPS 1\n1 7*1 9*1 14*4 17*4\nEND PLAN\n";
 
 // The first lines of a text, so many.

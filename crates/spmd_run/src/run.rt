@@ -63,8 +63,8 @@ pub fn run_spmd<R: Threads + Wait + Sync, G: Gate + Sync>(
     }
 }
 
-// A worker for each processor.
-fn workers_of<'a>(
+/// A worker for each processor, in order, none of which has done anything.
+pub fn workers_of<'a>(
     alloc: Global,
     tables: &'a Tables<'a>,
     cells: &Cells<'_>,
@@ -117,8 +117,8 @@ fn round<R: Threads + Sync, G: Gate + Sync>(
     );
 }
 
-// Whether all workers have ended.
-fn have_ended(workers: &[CachePadded<Worker<'_>>]) -> bool
+/// Whether all workers have ended.
+pub fn have_ended(workers: &[CachePadded<Worker<'_>>]) -> bool
     ensures { result ≡ true → AreOver workers.now }
 {
     for worker in workers {
@@ -129,8 +129,8 @@ fn have_ended(workers: &[CachePadded<Worker<'_>>]) -> bool
     true
 }
 
-// The seats of workers that have ended are taken in; what processor 0 has printed.
-fn gathered(
+/// The seats of all workers, which have ended, are taken in; what processor 0 has printed.
+pub fn gathered(
     cells: &Cells<'_>,
     main: &mut MainSeat,
     mut workers: Vec<CachePadded<Worker<'_>>>,
