@@ -1,26 +1,14 @@
 -- Whose obligations are written, and why there are none.
-use Rattle.std.specs.Prelude.{ℕ, ◌≡◌, ◌<◌, Bool, true, List, [], drop, length}
-use Rattle.f77_lines.specs.Columns.{lines_of}
-use Rattle.f77_lines.specs.Listing.{size_to_end}
-use Rattle.f77_scene.specs.Reading.{Reads}
-use Rattle.nest_tree.specs.Limits.{IsWithinLimits}
+use Rattle.std.specs.Prelude.{ℕ, ◌≡◌, ◌<◌, Bool, true, List, length}
 use Rattle.nest_tree.specs.Tree.{Tree}
 use Rattle.sync_plan.specs.Fit.{IsFit}
 use Rattle.sync_plan.specs.declared.plan.Plan.{Plan}
 use Rattle.comm_system.specs.Obligations.{obligations_of}
 use Rattle.comm_system.specs.declared.obligation.Obligation.{Obligation}
-use Rattle.plan_systems.specs.Stops.{IsPlanStop, IsSourceStop, IsTextOf}
-use Rattle.plan_systems.specs.declared.stop.Stop.{Stop}
-use Rattle.plan_systems.specs.declared.stop.Stop.TheVariants.{TooLong, WriteFault}
-
--- the bytes behind the line end of END
-abbrev pub behind_end : List ℕ → List ℕ
-behind_end bytes = drop (size_to_end (lines_of bytes)) bytes
-
--- The bytes begin with a source whose program is this one, and which is within its limits.
-pub record HasProgram (bytes : List ℕ) (tree : Tree) : Type 0 where
-  pub reads : Reads bytes [] tree
-  pub limits : IsWithinLimits tree
+use Rattle.plan_input.specs.Sources.{HasProgram, behind_end}
+use Rattle.plan_input.specs.Stops.{IsPlanStop, IsSourceStop, IsTextOf}
+use Rattle.plan_input.specs.declared.stop.Stop.{Stop}
+use Rattle.plan_input.specs.declared.stop.Stop.TheVariants.{TooLong, WriteFault}
 
 -- The bytes are a source and behind it the text of a plan that fits its program, and these are the plan's obligations.
 pub record AreObligations (bytes : List ℕ) (found : List Obligation) : Type 0 where

@@ -19,20 +19,17 @@
 #![tactic(auto)]
 
 mod lines;
-mod reading;
-mod stop;
 
 ghost use Rattle.std.specs.Prelude.{◌≡◌, ◌⊎◌, IfErr, IfOk};
+ghost use Rattle.plan_input.specs.declared.stop.Stop.TheVariants as stops;
 ghost use Rattle.plan_systems.specs.Systems.{AreObligations, IsStop};
-ghost use Rattle.plan_systems.specs.declared.stop.Stop.TheVariants as stops;
 
 use crate::lines::text_of;
-use crate::reading::{read_fitting, read_source};
-use crate::stop::Stop;
 use comm_system::Obligation;
 use comm_system::obligations::obligations;
 use f77_lines::MOST_BYTES;
-use std::io::{ErrorKind, Read, Write};
+use plan_input::{Stop, code_of_write, read_fitting, read_source};
+use std::io::{Read, Write};
 use std::process::ExitCode;
 use std::time::Instant;
 use std::{env, io};
@@ -46,31 +43,12 @@ fn main(rt: HostRuntime) -> ExitCode {
     ExitCode::from(code)
 }
 
-// The status where a write went so, and the status is this one where it went well.
-fn code_of_write(written: io::Result<()>, code: u8) -> u8 {
-    match written {
-        Ok(()) => code,
-        Err(error) => fault(error, Stop::WriteFault).code(),
-    }
-}
-
-// What a fault of the outside is: want of memory, or this one.
-fn fault(error: io::Error, other: Stop) -> Stop
-    ensures { (result ≡ stops.NoMemory) ⊎ (result ≡ other) }
-{
-    if error.kind() == ErrorKind::OutOfMemory {
-        Stop::NoMemory
-    } else {
-        other
-    }
-}
-
 // The systems' text.
 fn systems(rt: &HostRuntime) -> Result<Vec<u8>, Stop> {
     let times = asks_for_times(rt)?;
     let mut bytes = Vec::new(rt.alloc());
     if let Err(error) = rt.stdin().read_to_end(&mut bytes) {
-        return Err(fault(error, Stop::ReadFault));
+        return Err(Stop::from_fault(error, Stop::ReadFault));
     }
     let found = obligations_in(rt, &bytes, times)?;
     Ok(text_of(rt.alloc(), found.as_slice())?)
@@ -80,7 +58,7 @@ fn systems(rt: &HostRuntime) -> Result<Vec<u8>, Stop> {
 fn asks_for_times(rt: &HostRuntime) -> Result<bool, Stop> {
     let words = match env::args(rt) {
         Ok(words) => words,
-        Err(error) => return Err(fault(error, Stop::BadWords)),
+        Err(error) => return Err(Stop::from_fault(error, Stop::BadWords)),
     };
     let mut times = false;
     for word in words.skip(1) {
@@ -116,7 +94,7 @@ fn tell(rt: &HostRuntime, begun: io::Result<Instant>, count: usize) -> Result<()
 {
     match told(rt, begun, count) {
         Ok(()) => Ok(()),
-        Err(error) => Err(fault(error, Stop::WriteFault)),
+        Err(error) => Err(Stop::from_fault(error, Stop::WriteFault)),
     }
 }
 

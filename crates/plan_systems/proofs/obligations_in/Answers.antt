@@ -2,7 +2,7 @@ use Rattle.std.proofs.Common.{ap, subst, ◌∙◌, drop}
 use Rattle.std.proofs.lemmas.List.{take_rest}
 use Rattle.std.proofs.lemmas.Result.{err_from_is_err_and}
 use Rattle.nest_tree.specs.View.{tree_of}
-use Rattle.plan_systems.specs.Stops.{IsPlanStop}
+use Rattle.plan_input.specs.Stops.{IsPlanStop}
 use Rattle.plan_systems.specs.Systems.{behind}
 use Rattle.plan_systems.proofs.obligations_in.Goals as goal
 

@@ -4,7 +4,7 @@ use Rattle.std.specs.Result.{result_err}
 use Rattle.nest_tree.specs.View.{tree_of}
 use Rattle.sync_plan.specs.Fit.{first_misfit}
 use Rattle.plan_checker.specs.Refusals.{refusal_of}
-use Rattle.plan_systems.proofs.reading.read_fitting.Goals as goal
+use Rattle.plan_input.proofs.reading.read_fitting.Goals as goal
 
 unmapped : {A B : Type 0} (f : A → B) (a : Option A) → option_map f a ≡ None → a ≡ None
 unmapped f None h = refl

@@ -1,13 +1,14 @@
 -- The statuses of the process, and what is told.
 use Rattle.std.specs.Prelude.{ℕ, Bool, true, false}
-use Rattle.plan_systems.specs.declared.stop.Stop.{Stop}
-use Rattle.plan_systems.specs.declared.stop.Stop.TheVariants.{BadWords, Limit, Line, Misfit, NoMemory, ReadFault, Statement, Syntax, TooLong, WriteFault}
+use Rattle.plan_input.specs.declared.stop.Stop.{Stop}
+use Rattle.plan_input.specs.declared.stop.Stop.TheVariants.{BadWords, Limit, Line, Misfit, NoMemory, Range, ReadFault, Statement, Syntax, TooLong, WriteFault}
 
 -- the number with which the process ends where it stops so
 abbrev pub code_of : Stop → ℕ
 code_of (Line refusal) = 1
 code_of (Statement refusal) = 1
 code_of (Limit limit) = 1
+code_of (Range outside) = 1
 code_of BadWords = 2
 code_of ReadFault = 3
 code_of WriteFault = 4
@@ -21,6 +22,7 @@ abbrev pub is_told : Stop → Bool
 is_told (Line refusal) = true
 is_told (Statement refusal) = true
 is_told (Limit limit) = true
+is_told (Range outside) = true
 is_told BadWords = true
 is_told ReadFault = false
 is_told WriteFault = false

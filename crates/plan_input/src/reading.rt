@@ -9,7 +9,7 @@ ghost use Rattle.nest_tree.specs.View.{tree_of};
 ghost use Rattle.nest_tree.specs.WellFormed.{IsWellFormed};
 ghost use Rattle.sync_plan.specs.Fit.{IsFit};
 ghost use Rattle.sync_plan.specs.Shape.{wrong_field};
-ghost use Rattle.plan_systems.specs.Stops.{IsPlanStop, IsSourceStop, IsTextOf};
+ghost use Rattle.plan_input.specs.Stops.{IsPlanStop, IsSourceStop, IsTextOf};
 
 use crate::stop::Stop;
 use f77_lines::{MOST_BYTES, statements};
@@ -22,7 +22,7 @@ use sync_plan::Plan;
 
 /// The program of the source that the bytes begin with, and where the rest begins, behind the line
 /// end of END. The error is the first reason why there is none, or that memory ran out.
-pub(crate) fn read_source(alloc: Global, bytes: &[u8]) -> Result<(Program, usize), Stop>
+pub fn read_source(alloc: Global, bytes: &[u8]) -> Result<(Program, usize), Stop>
     requires { length bytes.now ≤ MOST_BYTES }
     ensures program { IfOk result (λ read. Reads bytes.now [] (tree_of read.0)) }
     ensures rest { IfOk result (λ read. read.1 ≡ size_to_end (columns.lines_of bytes.now)) }
@@ -41,7 +41,7 @@ pub(crate) fn read_source(alloc: Global, bytes: &[u8]) -> Result<(Program, usize
 
 /// The plan whose text the bytes are, where it fits the program. The error is the first reason why
 /// there is none, or that memory ran out.
-pub(crate) fn read_fitting(alloc: Global, program: &Program, bytes: &[u8]) -> Result<Plan, Stop>
+pub fn read_fitting(alloc: Global, program: &Program, bytes: &[u8]) -> Result<Plan, Stop>
     requires short { length bytes.now ≤ MOST_BYTES }
     requires formed { IsWellFormed (tree_of program.now) }
     requires limits { IsWithinLimits (tree_of program.now) }

@@ -12,8 +12,8 @@ use Rattle.plan_text.specs.PlanText.{HasText, plan_text}
 use Rattle.plan_text.specs.Refused.{RefusesText}
 use Rattle.plan_text.specs.declared.syntax.PlanSyntax.TheVariants as syntaxes
 use Rattle.plan_checker.specs.Refusals.{first_refusal}
-use Rattle.plan_systems.specs.declared.stop.Stop.{Stop}
-use Rattle.plan_systems.specs.declared.stop.Stop.TheVariants.{Limit, Line, Misfit, NoMemory, Statement, Syntax}
+use Rattle.plan_input.specs.declared.stop.Stop.{Stop}
+use Rattle.plan_input.specs.declared.stop.Stop.TheVariants.{Limit, Line, Misfit, NoMemory, Statement, Syntax}
 
 -- A refusal is told as this stop: want of memory as such, and each other one as its own.
 abbrev pub IsToldAs : {Refusal : Type 0} → Refusal → (Refusal → Stop) → Refusal → Stop → Type 0

@@ -1,25 +1,27 @@
-// Why there are no systems.
+// Why there is no program or no plan, and how the process ends then.
 
-ghost use Rattle.std.specs.Prelude.{◌≡◌};
+ghost use Rattle.std.specs.Prelude.{◌≡◌, ◌⊎◌};
 ghost use Rattle.f77_lines.specs.declared.refusal.LineRefusal.TheVariants as line_refusals;
 ghost use Rattle.f77_program.specs.declared.refusal.Refusal.TheVariants as refusals;
 ghost use Rattle.plan_checker.specs.declared.refusal.PlanRefusal.TheVariants as misfits;
 ghost use Rattle.plan_text.specs.declared.syntax.PlanSyntax.TheVariants as syntaxes;
-ghost use Rattle.plan_systems.specs.Statuses.{code_of, is_told};
-ghost use Rattle.plan_systems.specs.Stops.{IsToldAs};
-ghost use Rattle.plan_systems.specs.declared.stop.Stop.TheVariants as stops;
+ghost use Rattle.plan_input.specs.Statuses.{code_of, is_told};
+ghost use Rattle.plan_input.specs.Stops.{IsToldAs};
+ghost use Rattle.plan_input.specs.declared.stop.Stop.TheVariants as stops;
 
 use f77_lines::LineRefusal;
 use f77_program::Refusal;
 use plan_checker::PlanRefusal;
 use plan_text::PlanSyntax;
+use range_check::OutOfRange;
 use std::alloc::AllocError;
-use std::fmt;
+use std::io::ErrorKind;
+use std::{fmt, io};
 
-/// Why there are no systems.
+/// Why there is no program, or no plan that fits it.
 #[derive(Clone, Copy, Debug)]
 pub enum Stop {
-    /// There are other words than `--times`.
+    /// There are other words than the process takes.
     BadWords,
     /// The input is too long.
     TooLong,
@@ -29,6 +31,8 @@ pub enum Stop {
     Statement(Refusal),
     /// The program passes a limit.
     Limit(nest_tree::Limit),
+    /// A subscript of the program is out of range.
+    Range(OutOfRange),
     /// What stands behind the source is no plan's text.
     Syntax(PlanSyntax),
     /// The plan does not fit the program.
@@ -41,13 +45,32 @@ pub enum Stop {
     NoMemory,
 }
 
+/// The status of the process where a write went so: this one where it went well.
+pub fn code_of_write(written: io::Result<()>, code: u8) -> u8 {
+    match written {
+        Ok(()) => code,
+        Err(error) => Stop::from_fault(error, Stop::WriteFault).code(),
+    }
+}
+
 impl Stop {
+    /// What a fault of the outside is: want of memory, or else this stop.
+    pub fn from_fault(error: io::Error, other: Stop) -> Stop
+        ensures { (result ≡ stops.NoMemory) ⊎ (result ≡ other) }
+    {
+        if error.kind() == ErrorKind::OutOfMemory {
+            Stop::NoMemory
+        } else {
+            other
+        }
+    }
+
     /// The status of the process.
     pub fn code(self) -> u8
         ensures { result ≡ code_of self }
     {
         match self {
-            Stop::Line(_) | Stop::Statement(_) | Stop::Limit(_) => 1,
+            Stop::Line(_) | Stop::Statement(_) | Stop::Limit(_) | Stop::Range(_) => 1,
             Stop::BadWords => 2,
             Stop::ReadFault => 3,
             Stop::WriteFault => 4,
@@ -62,7 +85,7 @@ impl Stop {
         ensures { result ≡ is_told self }
     {
         match self {
-            Stop::Line(_) | Stop::Statement(_) | Stop::Limit(_) => true,
+            Stop::Line(_) | Stop::Statement(_) | Stop::Limit(_) | Stop::Range(_) => true,
             Stop::Syntax(_) | Stop::Misfit(_) => true,
             Stop::BadWords | Stop::TooLong => true,
             Stop::ReadFault | Stop::WriteFault | Stop::NoMemory => false,
@@ -79,6 +102,7 @@ impl fmt::Display for Stop {
             Stop::Line(refusal) => write!(f, "{refusal}"),
             Stop::Statement(refusal) => write!(f, "{refusal}"),
             Stop::Limit(limit) => write!(f, "{limit}"),
+            Stop::Range(outside) => write!(f, "{outside}"),
             Stop::Syntax(refusal) => write!(f, "{refusal}"),
             Stop::Misfit(refusal) => write!(f, "{refusal}"),
             Stop::ReadFault => write!(f, "a read failed"),

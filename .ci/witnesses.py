@@ -1,0 +1,208 @@
+"""Holds what explain_plan tells against a walk of the program.
+
+witnesses.py PROGRAM TOOL WORKERS SOURCE..
+
+For each source PROGRAM (explain_plan) tells of the plan for so many workers as JSON, and TOOL (the
+command seagrynt) writes that plan. The instances of the source are walked in sequential order, and of
+each two iterations that are told to meet it is looked up that both are instances with these values of
+the loops, that both access this element in these lines, one of them storing, that the first comes
+before the second, and that the plan gives them these owners; where a loop isn't dealt out, that the
+two stand in two of its trips. And behind the plan there is a line for each reason, in the same order,
+that names the same obligation. The status is 0 where all is so, else 1 with a line for each fault.
+"""
+import json
+import os
+import re
+import subprocess
+import sys
+
+sys.dont_write_bytecode = True
+sys.path.insert(0, os.path.join(os.path.dirname(os.path.realpath(__file__)), "..", "bin", "front"))
+
+import source as sources  # noqa: E402
+
+COMPARE = {".LT.": "<", ".LE.": "<=", ".EQ.": "==", ".GE.": ">=", ".GT.": ">"}
+FORM = r"(-?\d+)((?: -?\d+\*[LP]\d+)*) (?:BLOCK (\d+)|CYCLIC)"
+
+
+REASON = r"(?:LOOP (\d+) NOT DOALL|PHASE (\d+) NOT (.*?))(?: PRINT| LINES (\d+) (\d+) NAME (\w+)(?: LEVEL (\d+) PIECE (\d+))? \w+)"
+
+
+class Fault(Exception):
+    """What isn't so."""
+
+
+class Walk:
+    """The instances of a program, in order: the statement, and the values of the loops round it."""
+
+    def __init__(self, path):
+        with open(path, "rb") as file:
+            self.program = sources.Program(sources.Source(file.read()))
+        self.instances, self.places = [], {}
+        self.walk(self.children(None), {})
+
+    def children(self, loop):
+        """The loops and the statements right inside a loop, or outside all, in text order."""
+        above = [loop] if loop else []
+        program = self.program
+        inner = [it for it in program.loops if it.above[-1:] == above]
+        actions = [it for it in program.actions if it.loops[-1:] == above]
+        return sorted(inner + actions, key=lambda it: it.line)
+
+    def value(self, text, loops, values):
+        form = self.program.form_of(text, loops)
+        if form is None:
+            raise Fault(f"{text} is no form")
+        names = sum(times * self.program.values[it - 1] for it, times in form.names.items())
+        return form.constant + names + sum(times * values[it] for it, times in form.loops.items())
+
+    def walk(self, items, values):
+        for it in items:
+            if isinstance(it, sources.Loop):
+                bounds = [self.value(text, it.above, values) for text in it.bounds]
+                step = bounds[2] if len(bounds) > 2 else 1
+                for value in range(bounds[0], bounds[1] + (1 if step > 0 else -1), step):
+                    self.walk(self.children(it), {**values, it.number: value})
+            elif self.is_done(it, values):
+                self.places[it.line, tuple(values.values())] = len(self.instances)
+                self.instances.append((it, values))
+
+    def is_done(self, action, values):
+        if not action.guard:
+            return True
+        found = re.fullmatch(r"(.*)(\.L[TE]\.|\.EQ\.|\.G[TE]\.)(.*)", action.guard)
+        left, right = (self.value(found[k], action.loops, values) for k in (1, 3))
+        return {"<": left < right, "<=": left <= right, "==": left == right, ">=": left >= right, ">": left > right}[COMPARE[found[2]]]
+
+    def loads(self, action, values):
+        """The elements that a statement's expressions name; None in place of the subscripts of an array printed whole."""
+        text, found = action.value, []
+        for name in re.finditer(sources.NAME, text):
+            if name.start() and text[name.start() - 1].isalnum():
+                continue
+            if text[name.end() : name.end() + 1] == "(":
+                inside = text[name.end() + 1 : sources.closing(text, name.end())]
+                if name[0] in self.program.arrays:
+                    found.append((name[0], self.subscripts(sources.split_outside(inside), action, values)))
+            else:
+                found.append((name[0], None if name[0] in self.program.arrays else ()))
+        return found
+
+    def subscripts(self, texts, action, values):
+        return tuple(self.value(text, action.loops, values) for text in texts)
+
+    def accesses(self, stores, name, subscripts, instance):
+        """Whether an instance stores or loads an element."""
+        action, values = instance
+        if stores:
+            return (name, subscripts) == (action.target, self.subscripts(action.subscripts, action, values))
+        whole = all(low <= it <= high for it, (low, high) in zip(subscripts, self.program.arrays.get(name, [])))
+        loads = self.loads(action, values)
+        return (name, subscripts) in loads or (name, None) in loads and whole
+
+
+class Owners:
+    """Who owns an instance under a plan."""
+
+    def __init__(self, text, program):
+        lines = text.split("\n")
+        self.workers = int(lines[1].split()[1])
+        marks = [re.match(r"\d+ (\w+)$", it)[1] for it in lines[3 : 3 + int(lines[2].split()[1])]]
+        at = 3 + len(marks)
+        anchors = [it.split(" AT ")[1] for it in lines[at + 1 : at + 1 + int(lines[at].split()[1])]]
+        self.of_action = {}
+        for anchor, (_, _, actions) in zip(anchors, program.phases(marks)):
+            self.of_action.update({id(it): anchor for it in actions})
+        self.values = program.values
+
+    def owner(self, instance):
+        action, values = instance
+        constant, terms, block = re.fullmatch(FORM, self.of_action[id(action)]).groups()
+        at = int(constant)
+        for times, which, number in re.findall(r"(-?\d+)\*([LP])(\d+)", terms):
+            at += int(times) * (values[int(number)] if which == "L" else self.values[int(number) - 1])
+        return at // int(block) if block else at % self.workers
+
+
+def looked_up(walk, owners, touch):
+    """The place of the instance that a touch names, once all that is told of it is so."""
+    values = tuple(it["value"] for it in touch["loops"])
+    place = walk.places.get((touch["line"], values))
+    if place is None:
+        raise Fault(f"line {touch['line']} has no instance with {values}")
+    instance = walk.instances[place]
+    if list(instance[1]) != [it["loop"] for it in touch["loops"]]:
+        raise Fault(f"line {touch['line']} stands in other loops")
+    if not walk.accesses(touch["stores"], touch["name"], tuple(touch["subscripts"]), instance):
+        raise Fault(f"line {touch['line']} with {values} does not touch {touch['name']}{touch['subscripts']}")
+    if "processor" in touch and owners.owner(instance) != touch["processor"]:
+        raise Fault(f"line {touch['line']} with {values} belongs to {owners.owner(instance)}")
+    return place
+
+
+def hold(walk, owners, reason):
+    """Holds a reason against the walk."""
+    first, second = reason["first"], reason["second"]
+    places = looked_up(walk, owners, first), looked_up(walk, owners, second)
+    if places[0] >= places[1]:
+        raise Fault("the first does not come before the second")
+    if (first["name"], first["subscripts"]) != (second["name"], second["subscripts"]):
+        raise Fault("the two touch two elements")
+    if not first["stores"] and not second["stores"]:
+        raise Fault("none of the two stores")
+    if "loop" in reason:
+        trips = [walk.instances[place][1] for place in places]
+        above = [it.number for it in walk.program.loops[reason["loop"] - 1].above]
+        if any(trips[0][it] != trips[1][it] for it in above) or trips[0][reason["loop"]] == trips[1][reason["loop"]]:
+            raise Fault("the two do not stand in two trips of the loop")
+    elif first["processor"] == second["processor"]:
+        raise Fault("one processor runs both")
+
+
+def hold_lines(text, reasons):
+    """Holds the reasons against the lines behind a plan, one by one."""
+    lines = [it for it in text.split("END PLAN\n")[1].split("\n") if it not in ("END REASONS", "")]
+    if len(lines) != len(reasons):
+        raise Fault(f"{len(lines)} lines of reasons stand behind the plan, and {len(reasons)} are told")
+    for line, reason in zip(lines, reasons):
+        loop, phase, kind, first, second, name, level, piece = re.fullmatch(REASON, line).groups()
+        about = (reason.get("loop"), reason.get("phase"), reason.get("not"))
+        if about != (int(loop) if loop else None, int(phase) if phase else None, kind):
+            raise Fault(f"the reason for {line} is told of {about}")
+        told = reason.get("obligation")
+        wanted = {"lines": [int(first), int(second)], "name": name, "level": int(level or 0), "piece": int(piece or 0)} if first else None
+        if told != wanted and reason["why"] != "certified":
+            raise Fault(f"the reason for {line} is told by {told}")
+
+
+def run(words, path):
+    with open(path, "rb") as file:
+        return subprocess.run(words, stdin=file, capture_output=True, check=True, text=True).stdout
+
+
+def main(program, tool, workers, *paths):
+    held, status = 0, 0
+    for path in paths:
+        walk = Walk(path)
+        plan = run([tool, "plan", "--workers", workers], path)
+        owners = Owners(plan, walk.program)
+        told = json.loads(run([program, "--workers", workers, "--json"], path))
+        try:
+            hold_lines(plan, told["reasons"])
+        except Fault as fault:
+            print(f"{path}: {fault}")
+            status = 1
+        for reason in told["reasons"]:
+            try:
+                if reason["why"] == "meeting":
+                    hold(walk, owners, reason)
+                    held += 1
+            except Fault as fault:
+                print(f"{path}: {fault}: {json.dumps(reason)}")
+                status = 1
+    print(f"{held} meetings of two iterations are as a walk has them")
+    return status
+
+
+if __name__ == "__main__":
+    sys.exit(main(*sys.argv[1:]))

@@ -1,0 +1,252 @@
+// What is told of a plan, as JSON.
+
+use crate::page::Page;
+use comm_system::Obligation;
+use plan_text::put_kind;
+use reason_witness::account::{About, Reason, Why};
+use reason_witness::found::{Finding, Found};
+use reason_witness::meeting::{Meeting, Touch};
+use serde_json::{Map, Value, json, put};
+use std::alloc::{AllocError, Global};
+use sync_plan::Kind;
+
+// A number; a text where it passes 64 bits.
+fn number_value(alloc: Global, number: i128) -> Result<Value, AllocError> {
+    match i64::try_from(number) {
+        Ok(number) => Ok(Value::from(number)),
+        Err(_) => {
+            let mut buffer = itoa::Buffer::new();
+            json!(in alloc; buffer.format(number))
+        }
+    }
+}
+
+// A list of numbers.
+fn numbers_value(alloc: Global, numbers: &[i128]) -> Result<Value, AllocError> {
+    let mut list = Vec::new(alloc);
+    for number in numbers {
+        list.push(number_value(alloc, *number)?)?;
+    }
+    Ok(Value::Array(list))
+}
+
+// A name; null where its bytes are no text.
+fn name_value(alloc: Global, name: &[u8]) -> Result<Value, AllocError> {
+    match str::from_utf8(name) {
+        Ok(name) => json!(in alloc; name),
+        Err(_) => Ok(Value::Null),
+    }
+}
+
+// The words of a kind, as in a plan's text.
+fn kind_value(alloc: Global, kind: &Kind) -> Result<Value, AllocError> {
+    let mut words = Vec::new(alloc);
+    put_kind(&mut words, kind)?;
+    name_value(alloc, words.as_slice().trim_ascii())
+}
+
+impl Page<'_> {
+    /// The text, with a line's end. An error says that memory ran out.
+    pub(crate) fn json(&self, alloc: Global) -> Result<Vec<u8>, AllocError> {
+        let phases = self.phases_value(alloc)?;
+        let reasons = self.reasons_value(alloc)?;
+        let mut map = Map::new(alloc);
+        put(
+            &mut map,
+            alloc,
+            "workers",
+            Value::from(self.account.plan.workers),
+        )?;
+        put(&mut map, alloc, "phases", phases)?;
+        put(&mut map, alloc, "reasons", reasons)?;
+        let mut text = Value::Object(map).to_vec(alloc)?;
+        text.push(b'\n')?;
+        Ok(text)
+    }
+
+    // The static phases, with what stands in front of each.
+    fn phases_value(&self, alloc: Global) -> Result<Value, AllocError> {
+        let mut list = Vec::new(alloc);
+        for (kind, line) in self.account.plan.kinds.as_slice().iter().zip(self.lines) {
+            let mut map = Map::new(alloc);
+            put(&mut map, alloc, "line", Value::from(*line))?;
+            put(&mut map, alloc, "waits_for", kind_value(alloc, kind)?)?;
+            list.push(Value::Object(map))?;
+        }
+        Ok(Value::Array(list))
+    }
+
+    fn reasons_value(&self, alloc: Global) -> Result<Value, AllocError> {
+        let mut list = Vec::new(alloc);
+        for reason in &self.account.reasons {
+            let mut map = Map::new(alloc);
+            self.put_about(alloc, &mut map, &reason.about)?;
+            self.put_why(alloc, &mut map, reason)?;
+            list.push(Value::Object(map))?;
+        }
+        Ok(Value::Array(list))
+    }
+
+    // What a reason is for.
+    fn put_about(
+        &self,
+        alloc: Global,
+        map: &mut Map<String, Value>,
+        about: &About,
+    ) -> Result<(), AllocError> {
+        match about {
+            About::Loop(number) => {
+                put(map, alloc, "loop", Value::from(*number))?;
+                if let Some(it) = self.loop_at(*number) {
+                    put(map, alloc, "line", Value::from(it.line))?;
+                    put(
+                        map,
+                        alloc,
+                        "variable",
+                        name_value(alloc, it.variable.as_slice())?,
+                    )?;
+                }
+                Ok(())
+            }
+            About::Weaker(phase, kind) => {
+                put(map, alloc, "phase", Value::from(*phase))?;
+                put(map, alloc, "line", Value::from(self.line_of(*phase)))?;
+                put(map, alloc, "not", kind_value(alloc, kind)?)
+            }
+            About::Refused(number) => put(map, alloc, "refused", Value::from(*number)),
+        }
+    }
+
+    // What the reason is.
+    fn put_why(
+        &self,
+        alloc: Global,
+        map: &mut Map<String, Value>,
+        reason: &Reason,
+    ) -> Result<(), AllocError> {
+        let why = match &reason.why {
+            Why::Print => "print",
+            Why::Found(found) => {
+                put(
+                    map,
+                    alloc,
+                    "obligation",
+                    self.obligation_value(alloc, &found.obligation)?,
+                )?;
+                self.put_found(alloc, map, found)?;
+                word_of(&found.finding)
+            }
+            Why::Certified => "certified",
+            Why::Unfit => "unfit",
+        };
+        put(map, alloc, "why", json!(in alloc; why)?)
+    }
+
+    // Two iterations that meet, where some are found.
+    fn put_found(
+        &self,
+        alloc: Global,
+        map: &mut Map<String, Value>,
+        found: &Found,
+    ) -> Result<(), AllocError> {
+        match &found.finding {
+            Finding::Solved(_, meeting) => self.put_meeting(alloc, map, meeting),
+            Finding::Refuted | Finding::Unknown => Ok(()),
+        }
+    }
+
+    fn put_meeting(
+        &self,
+        alloc: Global,
+        map: &mut Map<String, Value>,
+        meeting: &Meeting,
+    ) -> Result<(), AllocError> {
+        put(
+            map,
+            alloc,
+            "first",
+            self.touch_value(alloc, &meeting.first)?,
+        )?;
+        put(
+            map,
+            alloc,
+            "second",
+            self.touch_value(alloc, &meeting.second)?,
+        )?;
+        put(
+            map,
+            alloc,
+            "producers",
+            numbers_value(alloc, meeting.producers.as_slice())?,
+        )
+    }
+
+    // An access in an iteration.
+    fn touch_value(&self, alloc: Global, touch: &Touch) -> Result<Value, AllocError> {
+        let mut map = Map::new(alloc);
+        if let Some(processor) = touch.processor {
+            put(
+                &mut map,
+                alloc,
+                "processor",
+                number_value(alloc, processor)?,
+            )?;
+        }
+        put(&mut map, alloc, "stores", Value::Bool(touch.stores))?;
+        put(
+            &mut map,
+            alloc,
+            "name",
+            name_value(alloc, self.name_of(touch.variable))?,
+        )?;
+        put(
+            &mut map,
+            alloc,
+            "subscripts",
+            numbers_value(alloc, touch.subscripts.as_slice())?,
+        )?;
+        put(&mut map, alloc, "line", Value::from(touch.line))?;
+        put(&mut map, alloc, "loops", self.loops_value(alloc, touch)?)?;
+        Ok(Value::Object(map))
+    }
+
+    // The loops round an access, from the outermost, with their values.
+    fn loops_value(&self, alloc: Global, touch: &Touch) -> Result<Value, AllocError> {
+        let mut list = Vec::new(alloc);
+        for (number, value) in &touch.loops {
+            let mut map = Map::new(alloc);
+            self.put_about(alloc, &mut map, &About::Loop(*number))?;
+            put(&mut map, alloc, "value", number_value(alloc, *value)?)?;
+            list.push(Value::Object(map))?;
+        }
+        Ok(Value::Array(list))
+    }
+
+    // What an obligation speaks of.
+    fn obligation_value(&self, alloc: Global, o: &Obligation) -> Result<Value, AllocError> {
+        let mut map = Map::new(alloc);
+        put(
+            &mut map,
+            alloc,
+            "lines",
+            json!(in alloc; [o.lines.0, o.lines.1])?,
+        )?;
+        put(
+            &mut map,
+            alloc,
+            "name",
+            name_value(alloc, self.name_of(o.variable))?,
+        )?;
+        put(&mut map, alloc, "level", Value::from(o.level))?;
+        put(&mut map, alloc, "piece", Value::from(o.piece))?;
+        Ok(Value::Object(map))
+    }
+}
+
+fn word_of(finding: &Finding) -> &'static str {
+    match finding {
+        Finding::Solved(..) => "meeting",
+        Finding::Refuted => "certified",
+        Finding::Unknown => "unknown",
+    }
+}

@@ -1,0 +1,271 @@
+// What is told of a plan, in words.
+
+use crate::page::Page;
+use comm_system::Obligation;
+use plan_maker::cause::Word;
+use plan_text::put_kind;
+use reason_witness::account::{About, Reason, Why};
+use reason_witness::found::{Finding, Found, Wanted};
+use reason_witness::meeting::{Meeting, Touch};
+use std::alloc::{AllocError, Global};
+use sync_plan::Kind;
+
+// A number, in decimals.
+fn push_number(text: &mut Vec<u8>, number: i128) -> Result<(), AllocError> {
+    let mut buffer = itoa::Buffer::new();
+    text.extend_from_slice(buffer.format(number).as_bytes())
+}
+
+// A word, and a number in decimals.
+fn push_part(text: &mut Vec<u8>, word: &[u8], number: i128) -> Result<(), AllocError> {
+    text.extend_from_slice(word)?;
+    push_number(text, number)
+}
+
+// How elimination answered, as far as that is known.
+fn word_of(reason: &Reason) -> Word {
+    match &reason.wanted {
+        Wanted::Named(cause) => cause.word,
+        Wanted::First | Wanted::Number(_) => Word::Open,
+    }
+}
+
+// How many phases wait for neighbours, and how many for one processor.
+fn push_waits(text: &mut Vec<u8>, kinds: &[Kind]) -> Result<(), AllocError> {
+    let mut neighbours = 0u32;
+    let mut producers = 0u32;
+    for kind in kinds {
+        match kind {
+            Kind::Left | Kind::Right | Kind::Both => neighbours = neighbours.saturating_add(1),
+            Kind::Producer(_) => producers = producers.saturating_add(1),
+            Kind::Nothing | Kind::Barrier | Kind::Join => {}
+        }
+    }
+    push_part(text, b"; waits for neighbours: ", i128::from(neighbours))?;
+    push_part(text, b", for one processor: ", i128::from(producers))
+}
+
+impl Page<'_> {
+    /// The text. An error says that memory ran out.
+    pub(crate) fn text(&self, alloc: Global) -> Result<Vec<u8>, AllocError> {
+        let mut text = Vec::new(alloc);
+        self.push_summary(&mut text)?;
+        let mut phase = 0;
+        for reason in &self.account.reasons {
+            if let About::Weaker(number, _) = &reason.about {
+                if *number != phase {
+                    phase = *number;
+                    self.push_phase(&mut text, phase)?;
+                }
+            }
+            self.push_reason(&mut text, reason)?;
+        }
+        Ok(text)
+    }
+
+    // One line: how many phases there are, who waits in front of them, and which loops are serial.
+    fn push_summary(&self, text: &mut Vec<u8>) -> Result<(), AllocError> {
+        push_number(text, self.lines.len() as i128)?;
+        text.extend_from_slice(b" phases")?;
+        let mut word = b"; barriers in front of lines ".as_slice();
+        let kinds = self.account.plan.kinds.as_slice();
+        for (kind, line) in kinds.iter().zip(self.lines) {
+            if matches!(kind, Kind::Barrier | Kind::Join) {
+                push_part(text, word, i128::from(*line))?;
+                word = b", ";
+            }
+        }
+        if kinds
+            .iter()
+            .all(|kind| !matches!(kind, Kind::Barrier | Kind::Join))
+        {
+            text.extend_from_slice(b"; no barrier")?;
+        }
+        push_waits(text, kinds)?;
+        self.push_serial_loops(text)?;
+        text.push(b'\n')?;
+        Ok(())
+    }
+
+    // The loops that aren't dealt out, each with what is in the way.
+    fn push_serial_loops(&self, text: &mut Vec<u8>) -> Result<(), AllocError> {
+        let mut word = b"; loops not dealt out: ".as_slice();
+        for reason in &self.account.reasons {
+            if let About::Loop(number) = &reason.about {
+                text.extend_from_slice(word)?;
+                self.push_loop(text, *number)?;
+                match &reason.why {
+                    Why::Print => text.extend_from_slice(b" (PRINT)")?,
+                    Why::Found(found) => {
+                        text.extend_from_slice(b" (")?;
+                        text.extend_from_slice(self.name_of(found.obligation.variable))?;
+                        text.push(b')')?;
+                    }
+                    Why::Certified | Why::Unfit => {}
+                }
+                word = b", ";
+            }
+        }
+        Ok(())
+    }
+
+    // A loop by its number, from 1: its variable and its line.
+    fn push_loop(&self, text: &mut Vec<u8>, number: u32) -> Result<(), AllocError> {
+        match self.loop_at(number) {
+            Some(it) => {
+                text.extend_from_slice(it.variable.as_slice())?;
+                push_part(text, b" in line ", i128::from(it.line))
+            }
+            None => push_part(text, b"loop ", i128::from(number)),
+        }
+    }
+
+    // What waits in front of a static phase, by its number from 1.
+    fn push_phase(&self, text: &mut Vec<u8>, phase: u32) -> Result<(), AllocError> {
+        push_part(text, b"PHASE ", i128::from(phase))?;
+        push_part(text, b", line ", i128::from(self.line_of(phase)))?;
+        text.extend_from_slice(b", waits for")?;
+        let place = (phase as usize).saturating_sub(1);
+        if let Some(kind) = self.account.plan.kinds.as_slice().get(place) {
+            put_kind(text, kind)?;
+        }
+        text.push(b'\n')?;
+        Ok(())
+    }
+
+    // A reason, on a line of its own behind its head.
+    fn push_reason(&self, text: &mut Vec<u8>, reason: &Reason) -> Result<(), AllocError> {
+        match &reason.about {
+            About::Loop(number) => {
+                push_part(text, b"LOOP ", i128::from(*number))?;
+                text.extend_from_slice(b", ")?;
+                self.push_loop(text, *number)?;
+                text.extend_from_slice(b", is not dealt out:\n    ")?;
+            }
+            About::Weaker(_, kind) => {
+                text.extend_from_slice(b"    not")?;
+                put_kind(text, kind)?;
+                text.extend_from_slice(b": ")?;
+            }
+            About::Refused(number) => {
+                push_part(text, b"REFUSED FOR OBLIGATION ", i128::from(*number))?;
+                if let Why::Found(found) = &reason.why {
+                    text.extend_from_slice(b": ")?;
+                    self.push_obligation(text, &found.obligation)?;
+                }
+                text.extend_from_slice(b"\n    ")?;
+            }
+        }
+        self.push_why(text, reason)?;
+        text.push(b'\n')?;
+        Ok(())
+    }
+
+    // The lines, the variable, the level and the piece of an obligation.
+    fn push_obligation(&self, text: &mut Vec<u8>, o: &Obligation) -> Result<(), AllocError> {
+        push_part(text, b"lines ", i128::from(o.lines.0))?;
+        push_part(text, b" and ", i128::from(o.lines.1))?;
+        text.extend_from_slice(b", ")?;
+        text.extend_from_slice(self.name_of(o.variable))?;
+        push_part(text, b", level ", i128::from(o.level))?;
+        push_part(text, b", piece ", i128::from(o.piece))
+    }
+
+    // What a reason is, without a line's end.
+    fn push_why(&self, text: &mut Vec<u8>, reason: &Reason) -> Result<(), AllocError> {
+        match &reason.why {
+            Why::Print => text.extend_from_slice(b"a PRINT stands in it"),
+            Why::Found(found) => self.push_found(text, found, word_of(reason)),
+            Why::Certified => text.extend_from_slice(match &reason.wanted {
+                Wanted::Named(_) => {
+                    b"no two iterations meet; elimination's order doesn't see it".as_slice()
+                }
+                Wanted::First | Wanted::Number(_) => {
+                    b"nothing is in its way: each obligation has a certificate"
+                }
+            }),
+            Why::Unfit => text.extend_from_slice(b"nothing is known of it"),
+        }
+    }
+
+    // What is found of an obligation; elimination's answer is the word.
+    fn push_found(&self, text: &mut Vec<u8>, found: &Found, word: Word) -> Result<(), AllocError> {
+        match &found.finding {
+            Finding::Solved(_, meeting) => self.push_meeting(text, meeting),
+            Finding::Refuted => text.extend_from_slice(
+                b"no two iterations meet: a certificate exists, and the plan has no good one",
+            ),
+            Finding::Unknown => {
+                self.push_obligation(text, &found.obligation)?;
+                text.extend_from_slice(match word {
+                    Word::Open => b": elimination leaves it open".as_slice(),
+                    Word::Wide => b": numbers of elimination grow too large",
+                    Word::Many => b": rows of elimination grow too many",
+                })?;
+                text.extend_from_slice(
+                    b", and neither a certificate nor two iterations are found within the budget",
+                )
+            }
+        }
+    }
+
+    // Two iterations that meet.
+    fn push_meeting(&self, text: &mut Vec<u8>, meeting: &Meeting) -> Result<(), AllocError> {
+        match (meeting.first.processor, meeting.second.processor) {
+            (Some(q), Some(p)) => {
+                push_part(text, b"processor ", q)?;
+                self.push_touch(text, &meeting.first)?;
+                push_part(text, b"; processor ", p)?;
+                text.extend_from_slice(b" then")?;
+            }
+            _ => {
+                text.extend_from_slice(b"an iteration")?;
+                self.push_touch(text, &meeting.first)?;
+                text.extend_from_slice(b"; a later one")?;
+            }
+        }
+        self.push_touch(text, &meeting.second)?;
+        let mut word = b"; the producers waited for are ".as_slice();
+        for producer in &meeting.producers {
+            push_part(text, word, *producer)?;
+            word = b" and ";
+        }
+        Ok(())
+    }
+
+    // What is done, to what, in which line and trips.
+    fn push_touch(&self, text: &mut Vec<u8>, touch: &Touch) -> Result<(), AllocError> {
+        text.extend_from_slice(if touch.stores {
+            b" stores ".as_slice()
+        } else {
+            b" loads "
+        })?;
+        self.push_element(text, touch)?;
+        push_part(text, b" in line ", i128::from(touch.line))?;
+        let mut word = b" at ".as_slice();
+        for (number, value) in &touch.loops {
+            text.extend_from_slice(word)?;
+            match self.loop_at(*number) {
+                Some(it) => text.extend_from_slice(it.variable.as_slice())?,
+                None => push_part(text, b"loop ", i128::from(*number))?,
+            }
+            push_part(text, b" = ", *value)?;
+            word = b", ";
+        }
+        Ok(())
+    }
+
+    // The element that is accessed, as in a source.
+    fn push_element(&self, text: &mut Vec<u8>, touch: &Touch) -> Result<(), AllocError> {
+        text.extend_from_slice(self.name_of(touch.variable))?;
+        let mut word = b"(".as_slice();
+        for subscript in &touch.subscripts {
+            push_part(text, word, *subscript)?;
+            word = b", ";
+        }
+        if !touch.subscripts.is_empty() {
+            text.push(b')')?;
+        }
+        Ok(())
+    }
+}

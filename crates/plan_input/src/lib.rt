@@ -1,0 +1,9 @@
+//! A source with the text of a plan behind its END line, as programs read it: the program and the
+//! plan, or why there are none, with the line that tells it and the status of the process.
+#![tactic(auto)]
+
+mod reading;
+mod stop;
+
+pub use reading::{read_fitting, read_source};
+pub use stop::{Stop, code_of_write};

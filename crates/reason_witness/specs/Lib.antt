@@ -1,0 +1,3 @@
+pub mod Findings
+pub mod Plans
+pub mod Reasons

@@ -1,0 +1,103 @@
+// What may stand in front of a phase in place of a stronger wait.
+
+ghost use Rattle.std.specs.Prelude.{◌≡◌, IfOk};
+
+use comm_system::phase::Phase;
+use nest_rows::is_prefix;
+use owner_partition::{Anchor, Cut};
+use std::alloc::{AllocError, Global};
+use sync_plan::{Kind, Plan};
+
+// How strong a wait is: a weaker one is in front of a stronger one.
+fn strength(kind: &Kind) -> u32 {
+    match kind {
+        Kind::Nothing => 0,
+        Kind::Producer(_) => 1,
+        Kind::Left | Kind::Right => 2,
+        Kind::Both => 3,
+        Kind::Barrier => 4,
+        Kind::Join => 5,
+    }
+}
+
+fn copy_of_anchor(alloc: Global, anchor: &Anchor) -> Result<Anchor, AllocError>
+    ensures { IfOk result (λ copy. copy ≡ anchor.now) }
+{
+    Ok(Anchor {
+        form: anchor.form.copy(alloc)?,
+        dist: anchor.dist,
+    })
+}
+
+/// The same kind.
+pub(crate) fn copy_of_kind(alloc: Global, kind: &Kind) -> Result<Kind, AllocError>
+    ensures { IfOk result (λ copy. copy ≡ kind.now) }
+{
+    Ok(match kind {
+        Kind::Nothing => Kind::Nothing,
+        Kind::Producer(anchor) => Kind::Producer(copy_of_anchor(alloc, anchor)?),
+        Kind::Left => Kind::Left,
+        Kind::Right => Kind::Right,
+        Kind::Both => Kind::Both,
+        Kind::Barrier => Kind::Barrier,
+        Kind::Join => Kind::Join,
+    })
+}
+
+fn is_same_anchor(a: &Anchor, b: &Anchor) -> bool {
+    a.form.constant() == b.form.constant()
+        && a.form.loops() == b.form.loops()
+        && a.form.params() == b.form.params()
+        && a.dist == b.dist
+}
+
+// Whether a wait for the owner that this anchor names is among these.
+fn is_among(anchor: &Anchor, kinds: &[Kind]) -> bool {
+    kinds.iter().any(|kind| match kind {
+        Kind::Producer(other) => is_same_anchor(anchor, other),
+        Kind::Nothing | Kind::Left | Kind::Right | Kind::Both | Kind::Barrier | Kind::Join => false,
+    })
+}
+
+// Whether a phase isn't dealt out and its Outer loops are the first of those round another.
+fn can_produce(cut: &Cut, one: &Phase, phase: &Phase) -> bool {
+    !cut.is_dealt(one.item) && is_prefix(one.outer.as_slice(), phase.outer.as_slice())
+}
+
+// A kind behind the others, where it is weaker than this one.
+fn push_weaker(found: &mut Vec<Kind>, kind: &Kind, weaker: Kind) -> Result<(), AllocError> {
+    if strength(&weaker) < strength(kind) {
+        found.push(weaker)?;
+    }
+    Ok(())
+}
+
+/// What is weaker than the wait in front of the static phase at a place, from 0, from the weakest on:
+/// nothing; a wait for the owner of each phase that isn't dealt out and whose Outer loops are the
+/// first of those round this phase, each owner once; and those for neighbours. An error says that
+/// memory ran out.
+pub(crate) fn weaker_kinds(
+    alloc: Global,
+    plan: &Plan,
+    phases: &[Phase],
+    place: usize,
+) -> Result<Vec<Kind>, AllocError> {
+    let mut found = Vec::new(alloc);
+    let Some(kind) = plan.kinds.as_slice().get(place) else {
+        return Ok(found);
+    };
+    let Some(phase) = phases.get(place) else {
+        return Ok(found);
+    };
+    push_weaker(&mut found, kind, Kind::Nothing)?;
+    for (anchor, one) in plan.anchors.as_slice().iter().zip(phases) {
+        if can_produce(&plan.cut, one, phase) && !is_among(anchor, found.as_slice()) {
+            let producer = Kind::Producer(copy_of_anchor(alloc, anchor)?);
+            push_weaker(&mut found, kind, producer)?;
+        }
+    }
+    for weaker in [Kind::Left, Kind::Right, Kind::Both] {
+        push_weaker(&mut found, kind, weaker)?;
+    }
+    Ok(found)
+}
