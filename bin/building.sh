@@ -8,6 +8,10 @@
 
 # shellcheck disable=SC2154  # root is the sourcing script's
 
+# The programs make and give back thousands of rows of one size: glibc keeps 120 of each size at hand
+# for them, where it keeps 7 by itself. A setting that is there already stands.
+export GLIBC_TUNABLES=${GLIBC_TUNABLES-glibc.malloc.tcache_count=120}
+
 # The crates of the repository that this one stands on, lowest first, and then itself.
 crates_of() {
     local -A needs=() seen=()

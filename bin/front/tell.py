@@ -13,20 +13,22 @@ import sys
 import source as sources
 
 ROOT = os.path.dirname(os.path.dirname(os.path.dirname(os.path.abspath(__file__))))
-COMMANDS = ("seq", "plan", "run", "verify")
-CHOICES = {"--plan": ("made", "barrier", "given"), "--by": ("core",)}
+COMMANDS = ("seq", "plan", "run", "verify", "bench")
+CHOICES = {"--plan": ("made", "barrier", "given"), "--by": ("spmd", "join", "core")}
 OPTIONS = {
     "seq": (),
     "plan": ("--workers",),
     "run": ("--workers", "--plan", "--by"),
     "verify": (),
+    "bench": ("--workers",),
 }
 WAITS = {"LEFT": "neighbours", "RIGHT": "neighbours", "BOTH": "neighbours", "PRODUCER": "one processor"}
 USAGE = (
     "seagrynt seq [NAME=VALUE..] < SOURCE",
     "seagrynt plan --workers P [--plan-only] [NAME=VALUE..] < SOURCE",
-    "seagrynt run --workers P [--plan made|barrier|given] [--by core] [--plan-only|--output-only] [NAME=VALUE..] < SOURCE",
+    "seagrynt run --workers P [--plan made|barrier|given] [--by spmd|join|core] [--plan-only|--output-only] [NAME=VALUE..] < SOURCE",
     "seagrynt verify [NAME=VALUE..] < SOURCE_AND_PLAN",
+    "seagrynt bench --workers P N M",
     "seagrynt --help, seagrynt run --help, seagrynt --version",
 )
 

@@ -1,7 +1,9 @@
 -- Each plain list of words is taken.
-use Rattle.std.proofs.Common.{◌≡◌, ◌∙◌, ◌==◌, ◌||◌, ℕ, Bool, cond, true, false, refl, sym, ap, ap₂, subst, List, [], ◌∷◌, ◌++◌, map, Option, Some, None, true≢false, append-nil, append_assoc, codes, fold}
-use Rattle.std.specs.Prelude.{⊤, not, find, is_some, option_and_then, option_map, unwrap_or}
+use Rattle.std.proofs.Common.{◌≡◌, ◌∙◌, ◌==◌, ◌||◌, ◌&&◌, ℕ, Bool, cond, true, false, refl, sym, ap, ap₂, subst, List, [], ◌∷◌, ◌++◌, map, Option, Some, None, true≢false, append-nil, append_assoc, codes, fold}
+use Rattle.std.specs.Prelude.{⊤, not, find, is_some, nat_le, option_and_then, option_map, unwrap_or, if◌then◌else◌}
+use Rattle.std.specs.Char.{is_ascii_digit}
 use Rattle.std.specs.List.{list_any, list_all}
+use Rattle.std.specs.Str.Parse.{digits_value}
 use Rattle.std.proofs.lemmas.Bool.{and_parts, not-true}
 use Rattle.std.proofs.lemmas.Bool.Decides.{eqb_tells, nat_tests}
 use Rattle.std.proofs.lemmas.Bool.{eqb-true}
@@ -23,12 +25,12 @@ use Rattle.clap.specs.Values.{reading_of}
 use Rattle.clap.specs.declared.builder.value_parser.ValueParser.TheVariants as vp
 use Rattle.clap.proofs.OnLiterals.{clap_on_literals}
 use Rattle.command_words.specs.Rule.{tool_app}
-use Rattle.command_words.specs.Wanted.{planned, run, sequential, verify, run_of, make_of, wanted_by, workers_of, settings_of}
+use Rattle.command_words.specs.Wanted.{planned, run, bench, sequential, verify, run_of, make_of, bench_of, wanted_by, workers_of, settings_of, size_of, is_numeral}
 use Rattle.clap.specs.Walk.{walk}
 use Rattle.clap.specs.Takes.{is_given}
 use Rattle.clap.specs.Faults.{check_fault}
 use Rattle.clap.specs.Simple.{entered}
-use Rattle.command_words.specs.Plain.{Name, workers, which, how, name_text, Given, value_ok, written, names, each_once, value_of, is_setting, EveryPlainPlanIsTaken, EveryPlainRunIsTaken, EveryPlainSequentialIsTaken, EveryPlainVerifyIsTaken}
+use Rattle.command_words.specs.Plain.{Name, workers, which, how, name_text, Given, value_ok, written, names, each_once, value_of, is_setting, EveryPlainBenchIsTaken, EveryPlainPlanIsTaken, EveryPlainRunIsTaken, EveryPlainSequentialIsTaken, EveryPlainVerifyIsTaken}
 
 -- a command
 data Sub : Type 0 where
@@ -36,25 +38,30 @@ data Sub : Type 0 where
   of_verify : Sub
   of_plan : Sub
   of_run : Sub
+  of_bench : Sub
 
 abbrev sub_text : Sub → Text
 sub_text of_seq = codes "seq"
 sub_text of_verify = codes "verify"
 sub_text of_plan = codes "plan"
 sub_text of_run = codes "run"
+sub_text of_bench = codes "bench"
 
--- an option of a command: `plan` has the number of workers alone
+-- an option of a command: `plan` and `bench` have the number of workers alone
 data Offered : Type 0 where
   in_run : (a : Name) → Offered
   in_plan : Offered
+  in_bench : Offered
 
 abbrev sub_of : Offered → Sub
 sub_of (in_run a) = of_run
 sub_of in_plan = of_plan
+sub_of in_bench = of_bench
 
 abbrev name_of : Offered → Name
 name_of (in_run a) = a
 name_of in_plan = workers
+name_of in_bench = workers
 
 abbrev shape : Sub → Shape
 shape c = unwrap_or (find (λ s. answers_to (sub_text c) (label_of s)) (built tool_app).subs) tool_app.top
@@ -64,6 +71,17 @@ rules c = (shape c).rules
 
 abbrev settings_id : Text
 settings_id = codes "settings"
+
+abbrev sizes_id : Text
+sizes_id = codes "sizes"
+
+-- the id of the words behind the options
+abbrev rest_id : Sub → Text
+rest_id of_seq = settings_id
+rest_id of_verify = settings_id
+rest_id of_plan = settings_id
+rest_id of_run = settings_id
+rest_id of_bench = sizes_id
 
 -- ---- states of the walk
 
@@ -89,6 +107,7 @@ step_name (in_run workers) R P = refl
 step_name (in_run which) R P = refl
 step_name (in_run how) R P = refl
 step_name in_plan R P = refl
+step_name in_bench R P = refl
 
 step_value : (o : Offered) (R : List Row) (x : ℕ) (xs : Text) → (x == 45) ≡ false → walked (rules (sub_of o)) [] (at R (Some (name_text (name_of o), [])) (option (name_text (name_of o)))) (x ∷ xs) ≡ at R (Some (name_text (name_of o), (x ∷ xs) ∷ [])) idle
 unfolding clap_on_literals
@@ -96,8 +115,9 @@ step_value (in_run workers) R x xs h = rw h (rw h refl)
 step_value (in_run which) R x xs h = rw h (rw h refl)
 step_value (in_run how) R x xs h = rw h (rw h refl)
 step_value in_plan R x xs h = rw h (rw h refl)
+step_value in_bench R x xs h = rw h (rw h refl)
 
-step_first : (c : Sub) (P : Option Given) (R : List Row) (x : ℕ) (xs : Text) → (x == 45) ≡ false → walked (rules c) [] (at R (pend P) idle) (x ∷ xs) ≡ at (settled_rows (rules c) (pend P) R) (Some (settings_id, (x ∷ xs) ∷ [])) positional
+step_first : (c : Sub) (P : Option Given) (R : List Row) (x : ℕ) (xs : Text) → (x == 45) ≡ false → walked (rules c) [] (at R (pend P) idle) (x ∷ xs) ≡ at (settled_rows (rules c) (pend P) R) (Some (rest_id c, (x ∷ xs) ∷ [])) positional
 unfolding clap_on_literals
 step_first of_run None R x xs h = rw h (rw h refl)
 step_first of_run (Some (workers, v)) R x xs h = rw h (rw h refl)
@@ -115,13 +135,18 @@ step_first of_plan None R x xs h = rw h (rw h refl)
 step_first of_plan (Some (workers, v)) R x xs h = rw h (rw h refl)
 step_first of_plan (Some (which, v)) R x xs h = rw h (rw h refl)
 step_first of_plan (Some (how, v)) R x xs h = rw h (rw h refl)
+step_first of_bench None R x xs h = rw h (rw h refl)
+step_first of_bench (Some (workers, v)) R x xs h = rw h (rw h refl)
+step_first of_bench (Some (which, v)) R x xs h = rw h (rw h refl)
+step_first of_bench (Some (how, v)) R x xs h = rw h (rw h refl)
 
-step_more : (c : Sub) (R : List Row) (acc : List Text) (x : ℕ) (xs : Text) → (x == 45) ≡ false → walked (rules c) [] (at R (Some (settings_id, acc)) positional) (x ∷ xs) ≡ at R (Some (settings_id, acc ++ (x ∷ xs) ∷ [])) positional
+step_more : (c : Sub) (R : List Row) (acc : List Text) (x : ℕ) (xs : Text) → (x == 45) ≡ false → walked (rules c) [] (at R (Some (rest_id c, acc)) positional) (x ∷ xs) ≡ at R (Some (rest_id c, acc ++ (x ∷ xs) ∷ [])) positional
 unfolding clap_on_literals
 step_more of_run R acc x xs h = rw h (rw h refl)
 step_more of_seq R acc x xs h = rw h (rw h refl)
 step_more of_verify R acc x xs h = rw h (rw h refl)
 step_more of_plan R acc x xs h = rw h (rw h refl)
+step_more of_bench R acc x xs h = rw h (rw h refl)
 
 -- ---- what an option leaves
 
@@ -182,6 +207,10 @@ fault_settle of_plan None R h = refl
 fault_settle of_plan (Some (workers, v)) R h = rw h refl
 fault_settle of_plan (Some (which, v)) R h = refl
 fault_settle of_plan (Some (how, v)) R h = refl
+fault_settle of_bench None R h = refl
+fault_settle of_bench (Some (workers, v)) R h = rw h refl
+fault_settle of_bench (Some (which, v)) R h = refl
+fault_settle of_bench (Some (how, v)) R h = refl
 
 fault_name : (o : Offered) (P : Option Given) (R : List Row) → IsFresh P R → turn_fault (shape (sub_of o)) [] (at R (pend P) idle) (45 ∷ 45 ∷ name_text (name_of o)) ≡ []
 unfolding clap_on_literals
@@ -189,6 +218,7 @@ fault_name (in_run workers) P R h = rw (fault_settle of_run P R h) refl
 fault_name (in_run which) P R h = rw (fault_settle of_run P R h) refl
 fault_name (in_run how) P R h = rw (fault_settle of_run P R h) refl
 fault_name in_plan P R h = rw (fault_settle of_plan P R h) refl
+fault_name in_bench P R h = rw (fault_settle of_bench P R h) refl
 
 fault_value : (o : Offered) (R : List Row) (x : ℕ) (xs : Text) → (x == 45) ≡ false → turn_fault (shape (sub_of o)) [] (at R (Some (name_text (name_of o), [])) (option (name_text (name_of o)))) (x ∷ xs) ≡ []
 unfolding clap_on_literals
@@ -196,6 +226,7 @@ fault_value (in_run workers) R x xs h = rw h (rw h refl)
 fault_value (in_run which) R x xs h = rw h (rw h refl)
 fault_value (in_run how) R x xs h = rw h (rw h refl)
 fault_value in_plan R x xs h = rw h (rw h refl)
+fault_value in_bench R x xs h = rw h (rw h refl)
 
 fault_first : (c : Sub) (P : Option Given) (R : List Row) (x : ℕ) (xs : Text) → IsFresh P R → (x == 45) ≡ false → turn_fault (shape c) [] (at R (pend P) idle) (x ∷ xs) ≡ []
 unfolding clap_on_literals
@@ -215,13 +246,18 @@ fault_first of_plan None R x xs f h = rw h (rw h refl)
 fault_first of_plan (Some (workers, v)) R x xs f h = rw h (rw (h, f) refl)
 fault_first of_plan (Some (which, v)) R x xs f h = rw h (rw h refl)
 fault_first of_plan (Some (how, v)) R x xs f h = rw h (rw h refl)
+fault_first of_bench None R x xs f h = rw h (rw h refl)
+fault_first of_bench (Some (workers, v)) R x xs f h = rw h (rw (h, f) refl)
+fault_first of_bench (Some (which, v)) R x xs f h = rw h (rw h refl)
+fault_first of_bench (Some (how, v)) R x xs f h = rw h (rw h refl)
 
-fault_more : (c : Sub) (R : List Row) (acc : List Text) (x : ℕ) (xs : Text) → (x == 45) ≡ false → turn_fault (shape c) [] (at R (Some (settings_id, acc)) positional) (x ∷ xs) ≡ []
+fault_more : (c : Sub) (R : List Row) (acc : List Text) (x : ℕ) (xs : Text) → (x == 45) ≡ false → turn_fault (shape c) [] (at R (Some (rest_id c, acc)) positional) (x ∷ xs) ≡ []
 unfolding clap_on_literals
 fault_more of_run R acc x xs h = rw h (rw h refl)
 fault_more of_seq R acc x xs h = rw h (rw h refl)
 fault_more of_verify R acc x xs h = rw h (rw h refl)
 fault_more of_plan R acc x xs h = rw h (rw h refl)
+fault_more of_bench R acc x xs h = rw h (rw h refl)
 
 -- ---- the walk over options
 
@@ -306,33 +342,49 @@ reached_plan (x ∷ xs) rest ok =
       faults = fault_step of_plan _ _ _ _ (fault_name in_plan None [] tt) one ∙ fault_step of_plan _ _ _ _ (fault_value in_plan [] x xs st) two;
     }
 
+-- that of `bench`
+reached_bench : (v : Text) (rest : List Text) → value_ok workers v ≡ true → Reached of_bench (walk_from nothing_held) (written ((workers, v) ∷ []) ++ rest) rest ((workers, v) ∷ [])
+reached_bench [] rest ok = absurd (true≢false (sym ok ∙ not_empty workers))
+reached_bench (x ∷ xs) rest ok =
+    let st = starts workers x xs ok in
+    let one = step_name in_bench [] None in
+    let two = step_value in_bench [] x xs st in
+    record {
+      D = [];
+      P = Some (workers, x ∷ xs);
+      fresh = refl;
+      settled_is = added workers (x ∷ xs) [] refl;
+      walk_is = ap (λ s. fold (g of_bench) (g of_bench s (x ∷ xs)) rest) one ∙ ap (λ s. fold (g of_bench) s rest) two;
+      faults = fault_step of_bench _ _ _ _ (fault_name in_bench None [] tt) one ∙ fault_step of_bench _ _ _ _ (fault_value in_bench [] x xs st) two;
+    }
+
 -- ---- the walk over settings
 
 hyphen_free : (x : ℕ) → not (x == 45) ≡ true → (x == 45) ≡ false
 hyphen_free x h = not-true (x == 45) h
 
 go_more : (c : Sub) (R : List Row) (acc ss : List Text) → list_all is_setting ss ≡ true
-    → (fold (g c) (at R (Some (settings_id, acc)) positional) ss ≡ at R (Some (settings_id, acc ++ ss)) positional) × (walk_fault (shape c) [] (at R (Some (settings_id, acc)) positional) ss ≡ [])
+    → (fold (g c) (at R (Some (rest_id c, acc)) positional) ss ≡ at R (Some (rest_id c, acc ++ ss)) positional) × (walk_fault (shape c) [] (at R (Some (rest_id c, acc)) positional) ss ≡ [])
 unfolding walk_fault
-go_more c R acc [] h = (ap (λ ts. at R (Some (settings_id, ts)) positional) (sym (append-nil acc)), refl)
+go_more c R acc [] h = (ap (λ ts. at R (Some (rest_id c, ts)) positional) (sym (append-nil acc)), refl)
 go_more c R acc ([] ∷ ss) h = absurd (true≢false (sym h))
 go_more c R acc ((x ∷ xs) ∷ ss) h =
     let parts = and_parts (not (x == 45)) _ h in
     let st = hyphen_free x parts.0 in
     let one = step_more c R acc x xs st in
     let more = go_more c R (acc ++ (x ∷ xs) ∷ []) ss parts.1 in (
-      ap (λ s. fold (g c) s ss) one ∙ (more.0 ∙ ap (λ ts. at R (Some (settings_id, ts)) positional) (append_assoc acc ((x ∷ xs) ∷ []) ss)),
+      ap (λ s. fold (g c) s ss) one ∙ (more.0 ∙ ap (λ ts. at R (Some (rest_id c, ts)) positional) (append_assoc acc ((x ∷ xs) ∷ []) ss)),
       fault_step c _ _ _ _ (fault_more c R acc x xs st) one ∙ more.1,
     )
 
 -- ---- the end of the walk
 
-abbrev settings_row : List Text → Row
-settings_row ss = record { id = settings_id; values = ss; count = None; source = Some CommandLine; reading = reading_of vp.String }
+abbrev rest_row : Text → List Text → Row
+rest_row id ss = record { id = id; values = ss; count = None; source = Some CommandLine; reading = reading_of vp.String }
 
-abbrev tail_rows : List Text → List Row
-tail_rows [] = []
-tail_rows (s ∷ ss) = settings_row (s ∷ ss) ∷ []
+abbrev tail_rows : Text → List Text → List Row
+tail_rows id [] = []
+tail_rows id (s ∷ ss) = rest_row id (s ∷ ss) ∷ []
 
 no_settings : (os : List Given) → has_row settings_id (map row_for os) ≡ false
 no_settings [] = refl
@@ -340,11 +392,25 @@ no_settings ((workers, v) ∷ os) = no_settings os
 no_settings ((which, v) ∷ os) = no_settings os
 no_settings ((how, v) ∷ os) = no_settings os
 
-settled_settings : (c : Sub) (R : List Row) (s : Text) (ss : List Text) → has_row settings_id R ≡ false → settled_rows (rules c) (Some (settings_id, s ∷ ss)) R ≡ R ++ settings_row (s ∷ ss) ∷ []
-settled_settings of_run R s ss h = at_none settings_id (λ r. more_values CommandLine (s ∷ ss) r) (settings_row (s ∷ ss) ∷ []) R h
-settled_settings of_seq R s ss h = at_none settings_id (λ r. more_values CommandLine (s ∷ ss) r) (settings_row (s ∷ ss) ∷ []) R h
-settled_settings of_verify R s ss h = at_none settings_id (λ r. more_values CommandLine (s ∷ ss) r) (settings_row (s ∷ ss) ∷ []) R h
-settled_settings of_plan R s ss h = at_none settings_id (λ r. more_values CommandLine (s ∷ ss) r) (settings_row (s ∷ ss) ∷ []) R h
+no_sizes : (os : List Given) → has_row sizes_id (map row_for os) ≡ false
+no_sizes [] = refl
+no_sizes ((workers, v) ∷ os) = no_sizes os
+no_sizes ((which, v) ∷ os) = no_sizes os
+no_sizes ((how, v) ∷ os) = no_sizes os
+
+no_rest : (c : Sub) (os : List Given) → has_row (rest_id c) (map row_for os) ≡ false
+no_rest of_seq os = no_settings os
+no_rest of_verify os = no_settings os
+no_rest of_plan os = no_settings os
+no_rest of_run os = no_settings os
+no_rest of_bench os = no_sizes os
+
+settled_rest : (c : Sub) (R : List Row) (s : Text) (ss : List Text) → has_row (rest_id c) R ≡ false → settled_rows (rules c) (Some (rest_id c, s ∷ ss)) R ≡ R ++ rest_row (rest_id c) (s ∷ ss) ∷ []
+settled_rest of_run R s ss h = at_none settings_id (λ r. more_values CommandLine (s ∷ ss) r) (rest_row settings_id (s ∷ ss) ∷ []) R h
+settled_rest of_seq R s ss h = at_none settings_id (λ r. more_values CommandLine (s ∷ ss) r) (rest_row settings_id (s ∷ ss) ∷ []) R h
+settled_rest of_verify R s ss h = at_none settings_id (λ r. more_values CommandLine (s ∷ ss) r) (rest_row settings_id (s ∷ ss) ∷ []) R h
+settled_rest of_plan R s ss h = at_none settings_id (λ r. more_values CommandLine (s ∷ ss) r) (rest_row settings_id (s ∷ ss) ∷ []) R h
+settled_rest of_bench R s ss h = at_none sizes_id (λ r. more_values CommandLine (s ∷ ss) r) (rest_row sizes_id (s ∷ ss) ∷ []) R h
 
 range_ok : (n : ℕ) → 1 ≤ n → n < 2 ^ 64 → range_kinds 1 usize_max n ≡ []
 range_ok n low high = grind (arith, nat_tests)
@@ -353,11 +419,12 @@ all_strings : (vs : List Text) → values_kinds false vp.String vs ≡ []
 all_strings [] = refl
 all_strings (v ∷ vs) = all_strings vs
 
-settings_settle : (c : Sub) (R : List Row) (s : Text) (ss : List Text) → length (s ∷ ss) < 2 ^ 64 → settle_fault (rules c) false (record { rows = R; pending = Some (settings_id, s ∷ ss); skip = 0 }) ≡ []
-settings_settle of_run R s ss few = ap (λ k. or_else k (values_kinds false vp.String (s ∷ ss))) (range_ok (length (s ∷ ss)) (omega arith) few) ∙ all_strings (s ∷ ss)
-settings_settle of_seq R s ss few = ap (λ k. or_else k (values_kinds false vp.String (s ∷ ss))) (range_ok (length (s ∷ ss)) (omega arith) few) ∙ all_strings (s ∷ ss)
-settings_settle of_verify R s ss few = ap (λ k. or_else k (values_kinds false vp.String (s ∷ ss))) (range_ok (length (s ∷ ss)) (omega arith) few) ∙ all_strings (s ∷ ss)
-settings_settle of_plan R s ss few = ap (λ k. or_else k (values_kinds false vp.String (s ∷ ss))) (range_ok (length (s ∷ ss)) (omega arith) few) ∙ all_strings (s ∷ ss)
+rest_settle : (c : Sub) (R : List Row) (s : Text) (ss : List Text) → length (s ∷ ss) < 2 ^ 64 → settle_fault (rules c) false (record { rows = R; pending = Some (rest_id c, s ∷ ss); skip = 0 }) ≡ []
+rest_settle of_run R s ss few = ap (λ k. or_else k (values_kinds false vp.String (s ∷ ss))) (range_ok (length (s ∷ ss)) (omega arith) few) ∙ all_strings (s ∷ ss)
+rest_settle of_seq R s ss few = ap (λ k. or_else k (values_kinds false vp.String (s ∷ ss))) (range_ok (length (s ∷ ss)) (omega arith) few) ∙ all_strings (s ∷ ss)
+rest_settle of_verify R s ss few = ap (λ k. or_else k (values_kinds false vp.String (s ∷ ss))) (range_ok (length (s ∷ ss)) (omega arith) few) ∙ all_strings (s ∷ ss)
+rest_settle of_plan R s ss few = ap (λ k. or_else k (values_kinds false vp.String (s ∷ ss))) (range_ok (length (s ∷ ss)) (omega arith) few) ∙ all_strings (s ∷ ss)
+rest_settle of_bench R s ss few = ap (λ k. or_else k (values_kinds false vp.String (s ∷ ss))) (range_ok (length (s ∷ ss)) (omega arith) few) ∙ all_strings (s ∷ ss)
 
 record Ended (c : Sub) (ws : List Text) (rows : List Row) : Type 0 where
   pub held : Held
@@ -366,7 +433,7 @@ record Ended (c : Sub) (ws : List Text) (rows : List Row) : Type 0 where
   pub settle : settle_fault (rules c) false held ≡ []
   pub rows_is : settled_rows (rules c) held.pending held.rows ≡ rows
 
-ended : (c : Sub) (ws ss : List Text) (all : List Given) → Reached c (walk_from nothing_held) ws ss all → list_all is_setting ss ≡ true → length ss < 2 ^ 64 → Ended c ws (map row_for all ++ tail_rows ss)
+ended : (c : Sub) (ws ss : List Text) (all : List Given) → Reached c (walk_from nothing_held) ws ss all → list_all is_setting ss ≡ true → length ss < 2 ^ 64 → Ended c ws (map row_for all ++ tail_rows (rest_id c) ss)
 unfolding walk_fault
 ended c ws [] all reached good few = record {
   held = record { rows = map row_for reached.D; pending = pend reached.P; skip = 0 };
@@ -379,15 +446,15 @@ ended c ws ([] ∷ ss) all reached good few = absurd (true≢false (sym good))
 ended c ws ((x ∷ xs) ∷ ss) all reached good few =
     let parts = and_parts (not (x == 45)) _ good in
     let st = hyphen_free x parts.0 in
-    let one : g c (at (map row_for reached.D) (pend reached.P) idle) (x ∷ xs) ≡ at (map row_for all) (Some (settings_id, (x ∷ xs) ∷ [])) positional =
-    step_first c reached.P (map row_for reached.D) x xs st ∙ ap (λ rs. at rs (Some (settings_id, (x ∷ xs) ∷ [])) positional) reached.settled_is in
+    let one : g c (at (map row_for reached.D) (pend reached.P) idle) (x ∷ xs) ≡ at (map row_for all) (Some (rest_id c, (x ∷ xs) ∷ [])) positional =
+    step_first c reached.P (map row_for reached.D) x xs st ∙ ap (λ rs. at rs (Some (rest_id c, (x ∷ xs) ∷ [])) positional) reached.settled_is in
     let rest = go_more c (map row_for all) ((x ∷ xs) ∷ []) ss parts.1 in
     record {
-      held = record { rows = map row_for all; pending = Some (settings_id, (x ∷ xs) ∷ ss); skip = 0 };
+      held = record { rows = map row_for all; pending = Some (rest_id c, (x ∷ xs) ∷ ss); skip = 0 };
       walk_is = ap (λ (w : Walk). w.held) (reached.walk_is ∙ (ap (λ s. fold (g c) s ss) one ∙ rest.0));
       faults = reached.faults ∙ (fault_step c _ _ _ _ (fault_first c reached.P (map row_for reached.D) x xs reached.fresh st) one ∙ rest.1);
-      settle = settings_settle c (map row_for all) (x ∷ xs) ss few;
-      rows_is = settled_settings c (map row_for all) (x ∷ xs) ss (no_settings all);
+      settle = rest_settle c (map row_for all) (x ∷ xs) ss few;
+      rows_is = settled_rest c (map row_for all) (x ∷ xs) ss (no_rest c all);
     }
 
 -- ---- no default
@@ -405,6 +472,7 @@ all_empty of_run = refl
 all_empty of_seq = refl
 all_empty of_verify = refl
 all_empty of_plan = refl
+all_empty of_bench = refl
 
 no_defaults : (c : Sub) (rows : List Row) → fold with_default rows (rules c) ≡ rows
 no_defaults c rows = go (rules c) (all_empty c)
@@ -431,7 +499,7 @@ defaults_none c rows = go rows (rules c) (all_empty c)
 
 -- ---- what is read
 
-first_is : (a : Name) (os : List Given) (ss : List Text) → first_of (name_text a) (map row_for os ++ tail_rows ss) ≡ value_of a os
+first_is : (a : Name) (os : List Given) (ss : List Text) → first_of (name_text a) (map row_for os ++ tail_rows settings_id ss) ≡ value_of a os
 first_is workers [] [] = refl
 first_is workers [] (s ∷ ss) = refl
 first_is workers ((workers, v) ∷ os) ss = refl
@@ -448,7 +516,7 @@ first_is how ((workers, v) ∷ os) ss = first_is how os ss
 first_is how ((which, v) ∷ os) ss = first_is how os ss
 first_is how ((how, v) ∷ os) ss = refl
 
-given_is : (a : Name) (os : List Given) (ss : List Text) → is_given (name_text a) (map row_for os ++ tail_rows ss) ≡ is_some (value_of a os)
+given_is : (a : Name) (os : List Given) (ss : List Text) → is_given (name_text a) (map row_for os ++ tail_rows settings_id ss) ≡ is_some (value_of a os)
 given_is workers [] [] = refl
 given_is workers [] (s ∷ ss) = refl
 given_is workers ((workers, v) ∷ os) ss = refl
@@ -465,7 +533,7 @@ given_is how ((workers, v) ∷ os) ss = given_is how os ss
 given_is how ((which, v) ∷ os) ss = given_is how os ss
 given_is how ((how, v) ∷ os) ss = refl
 
-settings_are : (os : List Given) (ss : List Text) → settings_of (map row_for os ++ tail_rows ss) ≡ ss
+settings_are : (os : List Given) (ss : List Text) → settings_of (map row_for os ++ tail_rows settings_id ss) ≡ ss
 settings_are [] [] = refl
 settings_are [] (s ∷ ss) = refl
 settings_are ((workers, v) ∷ os) ss = settings_are os ss
@@ -484,6 +552,9 @@ run_check rows workers_given = rw workers_given refl
 plan_check : (rows : List Row) → is_given (codes "workers") rows ≡ true → check_fault (shape of_plan) rows false ≡ []
 plan_check rows workers_given = rw workers_given refl
 
+bench_check : (rows : List Row) → is_given (codes "workers") rows ≡ true → check_fault (shape of_bench) rows false ≡ []
+bench_check rows workers_given = rw workers_given refl
+
 sub_fault : (c : Sub) (ws : List Text) (rows : List Row) → Ended c ws rows → check_fault (shape c) rows false ≡ [] → level_fault (shape c) [] nothing_held ws false [] ≡ []
 sub_fault c ws rows e h =
     let again = (shape c).args_override_self in
@@ -498,6 +569,7 @@ sub_fault c ws rows e h =
     never_overrides of_seq = refl
     never_overrides of_verify = refl
     never_overrides of_plan = refl
+    never_overrides of_bench = refl
 
 abbrev top : App
 top = built tool_app
@@ -521,6 +593,7 @@ enters of_run = refl
 enters of_seq = refl
 enters of_verify = refl
 enters of_plan = refl
+enters of_bench = refl
 
 enter_fault : (c : Sub) → turn_fault top.top (names_of top) (walk_from nothing_held) (sub_text c) ≡ []
 unfolding clap_on_literals
@@ -528,6 +601,7 @@ enter_fault of_run = refl
 enter_fault of_seq = refl
 enter_fault of_verify = refl
 enter_fault of_plan = refl
+enter_fault of_bench = refl
 
 top_walk : (c : Sub) (ws : List Text) → walk top.top.rules (names_of top) nothing_held (sub_text c ∷ ws) ≡ stopped_at c ws
 top_walk c ws = ap (λ s. fold (walked top.top.rules (names_of top)) s ws) (enters c) ∙ stop_more c [] ws
@@ -564,15 +638,19 @@ taken of_plan ws rows e check = (
   ap₂ whole_fault (top_fault of_plan ws) (top_walk of_plan ws) ∙ rest_fault _ (sub_fault of_plan ws rows e check),
   ap (λ (w : Walk). entered top w.stopped) (top_walk of_plan ws) ∙ ap (λ rs. Some (codes "plan", rs)) (ap (finished (rules of_plan)) e.walk_is ∙ (no_defaults of_plan (settled (rules of_plan) e.held).rows ∙ e.rows_is)),
 )
+taken of_bench ws rows e check = (
+  ap₂ whole_fault (top_fault of_bench ws) (top_walk of_bench ws) ∙ rest_fault _ (sub_fault of_bench ws rows e check),
+  ap (λ (w : Walk). entered top w.stopped) (top_walk of_bench ws) ∙ ap (λ rs. Some (codes "bench", rs)) (ap (finished (rules of_bench)) e.walk_is ∙ (no_defaults of_bench (settled (rules of_bench) e.held).rows ∙ e.rows_is)),
+)
 
 pub every_plain_run : EveryPlainRunIsTaken
-every_plain_run os ss n p h =
+every_plain_run os ss n p by h =
     let ws = written os ++ ss in
-    let rows = map row_for os ++ tail_rows ss in
+    let rows = map row_for os ++ tail_rows settings_id ss in
     let e = ended of_run ws ss os (go_options [] None os ss tt h.once h.values) h.settings_ok h.few in
     let workers_given = given_is workers os ss ∙ has_value workers_of (value_of workers os) n h.workers_is in
     let found = taken of_run ws rows e (run_check rows workers_given) in
-    let run_is : run_of rows ≡ Some (run n p ss) = rw (first_is workers os ss, first_is which os ss, first_is how os ss, settings_are os ss, h.workers_is, h.plan_is, h.by_is) refl in
+    let run_is : run_of rows ≡ Some (run n p by ss) = rw (first_is workers os ss, first_is which os ss, first_is how os ss, settings_are os ss, h.workers_is, h.plan_is, h.by_is) refl in
     (found.0, ap wanted_by found.1 ∙ run_is)
 
 -- a command with settings alone
@@ -581,22 +659,53 @@ settings_alone of_seq ss = record { D = []; P = None; fresh = tt; settled_is = r
 settings_alone of_verify ss = record { D = []; P = None; fresh = tt; settled_is = refl; walk_is = refl; faults = refl }
 settings_alone of_plan ss = record { D = []; P = None; fresh = tt; settled_is = refl; walk_is = refl; faults = refl }
 settings_alone of_run ss = record { D = []; P = None; fresh = tt; settled_is = refl; walk_is = refl; faults = refl }
+settings_alone of_bench ss = record { D = []; P = None; fresh = tt; settled_is = refl; walk_is = refl; faults = refl }
 
 pub every_plain_sequential : EveryPlainSequentialIsTaken
 every_plain_sequential ss good few =
-    let found = taken of_seq ss (tail_rows ss) (ended of_seq ss ss [] (settings_alone of_seq ss) good few) refl in
+    let found = taken of_seq ss (tail_rows settings_id ss) (ended of_seq ss ss [] (settings_alone of_seq ss) good few) refl in
     (found.0, ap wanted_by found.1 ∙ ap (λ ts. Some (sequential ts)) (settings_are [] ss))
 
 pub every_plain_verify : EveryPlainVerifyIsTaken
 every_plain_verify ss good few =
-    let found = taken of_verify ss (tail_rows ss) (ended of_verify ss ss [] (settings_alone of_verify ss) good few) refl in
+    let found = taken of_verify ss (tail_rows settings_id ss) (ended of_verify ss ss [] (settings_alone of_verify ss) good few) refl in
     (found.0, ap wanted_by found.1 ∙ ap (λ ts. Some (verify ts)) (settings_are [] ss))
 
 pub every_plain_plan : EveryPlainPlanIsTaken
 every_plain_plan number ss n n_is good few =
     let os : List Given = (workers, number) ∷ [] in
-    let rows = map row_for os ++ tail_rows ss in
+    let rows = map row_for os ++ tail_rows settings_id ss in
     let e = ended of_plan (written os ++ ss) ss os (reached_plan number ss (ap is_some n_is)) good few in
     let found = taken of_plan (written os ++ ss) rows e (plan_check rows (given_is workers os ss)) in
     let plan_is : make_of rows ≡ Some (planned n ss) = ap (option_map (λ m. planned m (settings_of rows))) n_is ∙ ap (λ ts. Some (planned n ts)) (settings_are os ss) in
     (found.0, ap wanted_by found.1 ∙ plan_is)
+
+-- a number is no word that begins with a hyphen
+starts_digit : (d : ℕ) → is_ascii_digit d ≡ true → not (d == 45) ≡ true
+starts_digit d h = elim (eqb_tells d 45) [
+  | inl is ↦ absurd (true≢false (sym h ∙ ap is_ascii_digit is.1))
+  | inr isnt ↦ rw isnt.0 refl
+]
+
+numeral_starts : (t : Text) → is_numeral t ≡ true → is_setting t ≡ true
+numeral_starts [] h = h
+numeral_starts (c ∷ cs) h = starts_digit c (and_parts (is_ascii_digit c) _ (and_parts (list_all is_ascii_digit (c ∷ cs)) _ h).0).0
+
+tested : (b : Bool) (v m : ℕ) → (if b then Some v else None) ≡ Some m → b ≡ true
+tested true v m e = refl
+tested false v m e = absurd (true≢false (sym (ap is_some e)))
+
+size_starts : (low high : ℕ) (t : Text) (m : ℕ) → size_of low high t ≡ Some m → is_setting t ≡ true
+size_starts low high t m e =
+    numeral_starts t (and_parts (is_numeral t) _ (tested (is_numeral t && (nat_le low (digits_value 10 t) && nat_le (digits_value 10 t) high)) (digits_value 10 t) m e)).0
+
+pub every_plain_bench : EveryPlainBenchIsTaken
+every_plain_bench number points sweeps n p s n_is p_is s_is =
+    let os : List Given = (workers, number) ∷ [] in
+    let ss : List Text = points ∷ sweeps ∷ [] in
+    let rows = map row_for os ++ tail_rows sizes_id ss in
+    let good : list_all is_setting ss ≡ true = rw (size_starts 1 500000 points p p_is, size_starts 0 1000000 sweeps s s_is) refl in
+    let e = ended of_bench (written os ++ ss) ss os (reached_bench number ss (ap is_some n_is)) good (omega arith) in
+    let found = taken of_bench (written os ++ ss) rows e (bench_check rows refl) in
+    let bench_is : bench_of rows ≡ Some (bench n p s) = rw (n_is, p_is, s_is) refl in
+    (found.0, ap wanted_by found.1 ∙ bench_is)

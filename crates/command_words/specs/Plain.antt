@@ -3,8 +3,9 @@ use Rattle.std.specs.Prelude.{◌≡◌, ◌<◌, ◌^◌, length, ◌==◌, ◌
 use Rattle.std.specs.List.{list_any, list_all}
 use Rattle.std.specs.Str.{bytes_eq}
 use Rattle.clap.specs.Words.{Text}
+use Rattle.command_words.specs.declared.request.Engine.{Engine}
 use Rattle.command_words.specs.declared.request.PlanChoice.{PlanChoice}
-use Rattle.command_words.specs.Wanted.{Takes, planned, run, sequential, verify, workers_of, plan_of, choice_of, is_by}
+use Rattle.command_words.specs.Wanted.{Takes, planned, run, bench, sequential, verify, workers_of, plan_of, choice_of, engine_of, by_of, size_of}
 
 -- the options of `run`
 pub data Name : Type 0 where
@@ -24,7 +25,7 @@ Given = Name × Text
 abbrev pub value_ok : Name → Text → Bool
 value_ok workers t = is_some (workers_of t)
 value_ok which t = is_some (plan_of t)
-value_ok how t = is_by (Some t)
+value_ok how t = is_some (engine_of t)
 
 abbrev pub written : List Given → List Text
 written [] = []
@@ -47,18 +48,18 @@ is_setting [] = false
 is_setting (x ∷ xs) = not (x == 45)
 
 -- these options, in any order, and then these settings are words of a run
-pub record IsPlainRun (os : List Given) (settings : List Text) (n : ℕ) (p : PlanChoice) : Type 0 where
+pub record IsPlainRun (os : List Given) (settings : List Text) (n : ℕ) (p : PlanChoice) (e : Engine) : Type 0 where
   pub once : each_once [] os ≡ true
   pub values : list_all (λ o. value_ok o.0 o.1) os ≡ true
   pub settings_ok : list_all is_setting settings ≡ true
   pub workers_is : option_and_then workers_of (value_of workers os) ≡ Some n
   pub plan_is : choice_of (value_of which os) ≡ Some p
-  pub by_is : is_by (value_of how os) ≡ true
+  pub by_is : by_of (value_of how os) ≡ Some e
   pub few : length settings < 2 ^ 64
 
 abbrev pub EveryPlainRunIsTaken : Type 0
-EveryPlainRunIsTaken = (os : List Given) (settings : List Text) (n : ℕ) (p : PlanChoice) → IsPlainRun os settings n p
-    → Takes (codes "run" ∷ (written os ++ settings)) (run n p settings)
+EveryPlainRunIsTaken = (os : List Given) (settings : List Text) (n : ℕ) (p : PlanChoice) (e : Engine) → IsPlainRun os settings n p e
+    → Takes (codes "run" ∷ (written os ++ settings)) (run n p e settings)
 
 abbrev pub EveryPlainSequentialIsTaken : Type 0
 EveryPlainSequentialIsTaken = (settings : List Text) → list_all is_setting settings ≡ true → length settings < 2 ^ 64
@@ -71,3 +72,7 @@ EveryPlainVerifyIsTaken = (settings : List Text) → list_all is_setting setting
 abbrev pub EveryPlainPlanIsTaken : Type 0
 EveryPlainPlanIsTaken = (number : Text) (settings : List Text) (n : ℕ) → workers_of number ≡ Some n → list_all is_setting settings ≡ true → length settings < 2 ^ 64
     → Takes (codes "plan" ∷ codes "--workers" ∷ number ∷ settings) (planned n settings)
+
+abbrev pub EveryPlainBenchIsTaken : Type 0
+EveryPlainBenchIsTaken = (number points sweeps : Text) (n p s : ℕ) → workers_of number ≡ Some n → size_of 1 500000 points ≡ Some p → size_of 0 1000000 sweeps ≡ Some s
+    → Takes (codes "bench" ∷ codes "--workers" ∷ number ∷ points ∷ sweeps ∷ []) (bench n p s)

@@ -31,6 +31,16 @@ abbrev pub run_app : App
 run_app = with_rule (with_rule (with_rule (with_rule (new_app (codes "run")) (required_rule (codes "workers")))
     (option_rule (codes "plan"))) (option_rule (codes "by"))) settings_rule
 
+-- words behind the options: how many points, and how many sweeps
+abbrev pub sizes_rule : Rule
+sizes_rule = record (new_rule (codes "sizes")) {
+  range = Some (record { start_inclusive = 1; end_inclusive = usize_max });
+  value_names = 1;
+}
+
+abbrev pub bench_app : App
+bench_app = with_rule (with_rule (new_app (codes "bench")) (required_rule (codes "workers"))) sizes_rule
+
 abbrev pub top_shape : Shape
 top_shape = record (new_app (codes "seagrynt")).top {
   no_binary_name = true;
@@ -40,4 +50,4 @@ top_shape = record (new_app (codes "seagrynt")).top {
 }
 
 abbrev pub tool_app : App
-tool_app = with_subcommand (with_subcommand (with_subcommand (with_subcommand (record { top = top_shape; subs = [] }) seq_app.top) plan_app.top) run_app.top) verify_app.top
+tool_app = with_subcommand (with_subcommand (with_subcommand (with_subcommand (with_subcommand (record { top = top_shape; subs = [] }) seq_app.top) plan_app.top) run_app.top) verify_app.top) bench_app.top

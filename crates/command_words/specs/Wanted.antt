@@ -1,12 +1,16 @@
 -- The request that words stand for.
-use Rattle.std.specs.Prelude.{◌≡◌, ◌≤◌, ⊤, ◌≢◌, ◌⊎◌, ◌&&◌, ◌+◌, ◌-◌, ◌*◌, ℕ, Bool, true, false, List, [], ◌∷◌, Option, Some, None, codes, unwrap_or, nat_le, if◌then◌else◌, option_and_then, option_map}
-use Rattle.std.specs.List.{list_any}
+use Rattle.std.specs.Prelude.{◌≡◌, ◌≤◌, ⊤, ◌≢◌, ◌⊎◌, ◌&&◌, ◌==◌, ◌||◌, length, not, ◌+◌, ◌-◌, ◌*◌, ℕ, Bool, true, false, List, [], ◌∷◌, Option, Some, None, codes, unwrap_or, nat_le, if◌then◌else◌, option_and_then, option_map}
+use Rattle.std.specs.Char.{is_ascii_digit}
+use Rattle.std.specs.List.{list_all, list_any}
 use Rattle.std.specs.Str.{bytes_eq}
+use Rattle.std.specs.Str.Parse.{digits_value}
 use Rattle.clap.specs.Words.{Row, Text, first_of, all_of, fault_of, subcommand_of}
 use Rattle.clap.specs.Walk.{texts}
 use Rattle.clap.specs.declared.error.kind.ErrorKind.{ErrorKind}
 use Rattle.clap.specs.declared.error.kind.ErrorKind.TheVariants.{DisplayHelp, DisplayVersion}
 use Rattle.command_words.specs.Rule.{tool_app}
+use Rattle.command_words.specs.declared.request.Engine.{Engine}
+use Rattle.command_words.specs.declared.request.Engine.TheVariants as engine
 use Rattle.command_words.specs.declared.request.PlanChoice.{PlanChoice}
 use Rattle.command_words.specs.declared.request.PlanChoice.TheVariants as choice
 use Rattle.command_words.specs.declared.request.Request.{Request}
@@ -17,13 +21,15 @@ pub data Wanted : Type 0 where
   sequential : (settings : List Text) → Wanted
   verify : (settings : List Text) → Wanted
   planned : (workers : ℕ) (settings : List Text) → Wanted
-  run : (workers : ℕ) (choice : PlanChoice) (settings : List Text) → Wanted
+  run : (workers : ℕ) (choice : PlanChoice) (by : Engine) (settings : List Text) → Wanted
+  bench : (workers points sweeps : ℕ) → Wanted
 
 abbrev pub wanted : Request → Wanted
 wanted (request.Sequential settings) = sequential (texts settings.items)
 wanted (request.Verify settings) = verify (texts settings.items)
 wanted (request.Plan workers settings) = planned workers (texts settings.items)
-wanted (request.Run workers choice settings) = run workers choice (texts settings.items)
+wanted (request.Run r settings) = run r.workers r.choice r.engine (texts settings.items)
+wanted (request.Bench b) = bench b.workers b.points b.sweeps
 
 -- 1 to 64
 abbrev pub within : ℕ → Option ℕ
@@ -49,37 +55,70 @@ abbrev pub choice_of : Option Text → Option PlanChoice
 choice_of None = Some choice.Made
 choice_of (Some t) = plan_of t
 
--- by what a program is run: core, where left out too
-abbrev pub is_by : Option Text → Bool
-is_by None = true
-is_by (Some t) = bytes_eq t (codes "core")
+abbrev pub engine_of : Text → Option Engine
+engine_of t = if bytes_eq t (codes "core") then Some engine.Core
+    else (if bytes_eq t (codes "join") then Some engine.Join
+    else (if bytes_eq t (codes "spmd") then Some engine.Spmd else None))
+
+-- by what a program is run: spmd, where left out too
+abbrev pub by_of : Option Text → Option Engine
+by_of None = Some engine.Spmd
+by_of (Some t) = engine_of t
+
+-- a nonempty row of decimal digits that has no leading zero
+abbrev pub is_numeral : Text → Bool
+is_numeral [] = false
+is_numeral (c ∷ cs) = list_all is_ascii_digit (c ∷ cs) && (not (c == 48) || (length cs == 0))
+
+-- the number that a text writes so, where it lies within these bounds
+abbrev pub size_of : ℕ → ℕ → Text → Option ℕ
+size_of low high t = if is_numeral t && (nat_le low (digits_value 10 t) && nat_le (digits_value 10 t) high) then Some (digits_value 10 t) else None
+
+-- the words behind the options
+abbrev pub rest_of : Text → List Row → List Text
+rest_of id rows = unwrap_or (all_of id rows) []
 
 abbrev pub settings_of : List Row → List Text
-settings_of rows = unwrap_or (all_of (codes "settings") rows) []
+settings_of rows = rest_of (codes "settings") rows
+
+abbrev pub sizes_of : List Row → List Text
+sizes_of rows = rest_of (codes "sizes") rows
 
 abbrev pub make_of : List Row → Option Wanted
 make_of rows = option_map (λ n. planned n (settings_of rows)) (option_and_then workers_of (first_of (codes "workers") rows))
 
 abbrev pub run_of : List Row → Option Wanted
-run_of rows = option_and_then (λ n. option_and_then (λ p. if is_by (first_of (codes "by") rows) then Some (run n p (settings_of rows)) else None)
+run_of rows = option_and_then (λ n. option_and_then (λ p. option_map (λ e. run n p e (settings_of rows)) (by_of (first_of (codes "by") rows)))
     (choice_of (first_of (codes "plan") rows)))
     (option_and_then workers_of (first_of (codes "workers") rows))
 
+-- 1 to 500,000 points, and 0 to 1,000,000 sweeps
+abbrev pub sizes_named : List Text → Option (ℕ × ℕ)
+sizes_named [] = None
+sizes_named (n ∷ []) = None
+sizes_named (n ∷ m ∷ []) = option_and_then (λ points. option_map (λ sweeps. (points, sweeps)) (size_of 0 1000000 m)) (size_of 1 500000 n)
+sizes_named (n ∷ m ∷ k ∷ rest) = None
+
+abbrev pub bench_of : List Row → Option Wanted
+bench_of rows = option_and_then (λ n. option_map (λ s. bench n s.0 s.1) (sizes_named (sizes_of rows))) (option_and_then workers_of (first_of (codes "workers") rows))
+
 abbrev pub wanted_in : Text → List Row → Option Wanted
-wanted_in name rows = if bytes_eq name (codes "seq") then Some (sequential (settings_of rows))
+wanted_in name rows = if bytes_eq name (codes "bench") then bench_of rows
+    else (if bytes_eq name (codes "seq") then Some (sequential (settings_of rows))
     else (if bytes_eq name (codes "plan") then make_of rows
     else (if bytes_eq name (codes "run") then run_of rows
-    else (if bytes_eq name (codes "verify") then Some (verify (settings_of rows)) else None)))
+    else (if bytes_eq name (codes "verify") then Some (verify (settings_of rows)) else None))))
 
 abbrev pub wanted_by : Option (Text × List Row) → Option Wanted
 wanted_by sub = option_and_then (λ p. wanted_in p.0 p.1) sub
 
--- a plan and a run have 1 to 64 workers
+-- a plan, a run and a bench have 1 to 64 workers, and a bench 1 to 500,000 points and at most 1,000,000 sweeps
 abbrev pub IsCounted : Wanted → Type 0
 IsCounted (sequential settings) = ⊤
 IsCounted (verify settings) = ⊤
 IsCounted (planned workers settings) = (1 ≤ workers) × (workers ≤ 64)
-IsCounted (run workers choice settings) = (1 ≤ workers) × (workers ≤ 64)
+IsCounted (run workers choice by settings) = (1 ≤ workers) × (workers ≤ 64)
+IsCounted (bench workers points sweeps) = ((1 ≤ workers) × (workers ≤ 64)) × (((1 ≤ points) × (points ≤ 500000)) × (sweeps ≤ 1000000))
 
 -- The words are taken, as this request.
 abbrev pub Takes : List Text → Wanted → Type 0

@@ -3,7 +3,7 @@
 ghost use Rattle.std.specs.Prelude.{◌≡◌, [], IfOk, codes, false};
 ghost use Rattle.clap.specs.Words.{app_of, rule_of};
 ghost use Rattle.clap.specs.declared.builder.command.Command.TheViews.{out-Command};
-ghost use Rattle.command_words.specs.Rule.{option_rule, top_shape, required_rule, settings_rule, seq_app, plan_app, verify_app, run_app, tool_app};
+ghost use Rattle.command_words.specs.Rule.{option_rule, top_shape, required_rule, settings_rule, sizes_rule, seq_app, plan_app, verify_app, run_app, bench_app, tool_app};
 
 use clap::{Arg, Command};
 use std::alloc::{AllocError, Global};
@@ -80,7 +80,7 @@ fn run<'a>(alloc: Global) -> Result<Command<'a>, AllocError>
         alloc,
         "by",
         "ENGINE",
-        "core, where left out too: a model of the processors",
+        "spmd, where left out too: a worker on a thread for each processor, over words that all share; join: workers on threads that are forked and joined for each phase; core: a model of the processors",
     );
     let command = Command::new(alloc, "run")
         .arg(workers(alloc))?
@@ -88,6 +88,28 @@ fn run<'a>(alloc: Global) -> Result<Command<'a>, AllocError>
         .arg(by)?
         .arg(settings(alloc))?;
     Ok(command.about("Writes a plan, runs the program by it, and writes what it prints"))
+}
+
+fn sizes<'a>(alloc: Global) -> Arg<'a>
+    ensures rule { rule_of result ≡ sizes_rule }
+    ensures local { result.global ≡ false }
+{
+    Arg::new(alloc, "sizes")
+        .num_args(1usize..)
+        .value_name("N M")
+        .help("N points, 1 to 500000, and M sweeps over them, 0 to 1000000")
+}
+
+fn bench<'a>(alloc: Global) -> Result<Command<'a>, AllocError>
+    ensures app { IfOk result (λ c. app_of c ≡ bench_app) }
+    ensures local { IfOk result (λ c. (out-Command c).has_globals ≡ false) }
+{
+    let command = Command::new(alloc, "bench")
+        .arg(workers(alloc))?
+        .arg(sizes(alloc))?;
+    Ok(command.about(
+        "Runs a program of its own by the plan that is made for it, and writes how many waits of each kind the plan has and what the program prints; reads nothing",
+    ))
 }
 
 // The command without its subcommands.
@@ -107,7 +129,7 @@ fn top<'a>(alloc: Global) -> Result<Command<'a>, AllocError>
     )
 }
 
-/// The tool's command: `seq`, `plan`, `run` and `verify`.
+/// The tool's command: `seq`, `plan`, `run`, `verify` and `bench`.
 pub fn tool<'a>(alloc: Global) -> Result<Command<'a>, AllocError>
     ensures { IfOk result (λ c. app_of c ≡ tool_app) }
 {
@@ -115,5 +137,6 @@ pub fn tool<'a>(alloc: Global) -> Result<Command<'a>, AllocError>
         .subcommand(seq(alloc)?)?
         .subcommand(plan(alloc)?)?
         .subcommand(run(alloc)?)?
-        .subcommand(verify(alloc)?)
+        .subcommand(verify(alloc)?)?
+        .subcommand(bench(alloc)?)
 }

@@ -4,7 +4,7 @@ ghost use Rattle.std.specs.Prelude.{◌≡◌, ◌∷◌, [], codes};
 ghost use Rattle.clap.specs.Words.{fault_of};
 ghost use Rattle.clap.specs.declared.error.kind.ErrorKind.TheVariants as kinds;
 ghost use Rattle.command_words.specs.Rule.{tool_app};
-ghost use Rattle.command_words.specs.Plain.{EveryPlainPlanIsTaken, EveryPlainRunIsTaken, EveryPlainSequentialIsTaken, EveryPlainVerifyIsTaken};
+ghost use Rattle.command_words.specs.Plain.{EveryPlainBenchIsTaken, EveryPlainPlanIsTaken, EveryPlainRunIsTaken, EveryPlainSequentialIsTaken, EveryPlainVerifyIsTaken};
 
 /// Each plain list of words is taken, as what it says.
 pub fn plain_words_are_taken()
@@ -12,6 +12,7 @@ pub fn plain_words_are_taken()
     ensures run { EveryPlainRunIsTaken }
     ensures sequential { EveryPlainSequentialIsTaken }
     ensures verify { EveryPlainVerifyIsTaken }
+    ensures bench { EveryPlainBenchIsTaken }
 {}
 
 /// Words that ask for help or for the version have that fault alone.
@@ -19,5 +20,6 @@ pub fn help_is_shown()
     ensures help { fault_of tool_app (codes "--help" ∷ []) ≡ kinds.DisplayHelp ∷ [] }
     ensures help_of_run { fault_of tool_app (codes "run" ∷ codes "-h" ∷ []) ≡ kinds.DisplayHelp ∷ [] }
     ensures help_of_plan { fault_of tool_app (codes "plan" ∷ codes "-h" ∷ []) ≡ kinds.DisplayHelp ∷ [] }
+    ensures help_of_bench { fault_of tool_app (codes "bench" ∷ codes "-h" ∷ []) ≡ kinds.DisplayHelp ∷ [] }
     ensures version { fault_of tool_app (codes "--version" ∷ []) ≡ kinds.DisplayVersion ∷ [] }
 {}

@@ -1,8 +1,8 @@
 //! The words of the tool's command line, read with `clap` by its stated rule.
 //!
 //! `read_words` gives the request that the words stand for: which command, how many processors,
-//! by which plan, and the settings as they are written. Words that ask for help or for the version
-//! are told apart from words that are no command.
+//! by which plan, run by what, and the settings as they are written. Words that ask for help or for
+//! the version are told apart from words that are no command.
 #![tactic(auto)]
 
 mod commands;
@@ -12,5 +12,5 @@ mod request;
 mod settings;
 
 pub use crate::read::read_words;
-pub use crate::request::{PlanChoice, Refused, Request};
+pub use crate::request::{Bench, Engine, PlanChoice, Refused, Request, Run};
 pub use crate::settings::{SettingFault, read_settings};

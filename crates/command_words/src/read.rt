@@ -1,17 +1,24 @@
 // Words as a request.
 
 ghost use Rattle.std.specs.Prelude.{◌≡◌, ℕ, Bool, [], Some, None, map, IfOk, IfErr, option_map, option_and_then};
+ghost use Rattle.std.specs.Char.{is_ascii_digit};
+ghost use Rattle.std.specs.List.{list_all};
 ghost use Rattle.std.specs.Str.{bytes_eq};
 ghost use Rattle.clap.specs.Words.{first_of, rows_of, found_of, kind_of, subcommand_rows_of, fault_of};
 ghost use Rattle.clap.specs.Walk.{texts};
-ghost use Rattle.command_words.specs.Wanted.{wanted, wanted_by, wanted_in, make_of, run_of, workers_of, plan_of, choice_of, is_by, settings_of, IsCounted, Takes, within as within_of};
+ghost use Rattle.command_words.specs.Wanted.{wanted, wanted_by, wanted_in, make_of, run_of, bench_of, workers_of, plan_of, choice_of, engine_of, by_of, rest_of, settings_of, sizes_of, sizes_named, size_of, is_numeral as numeral, IsCounted, Takes, within as within_of};
 ghost use Rattle.command_words.specs.Refusals.{IsRefused, IsValueFault, refusal_of};
 
 use crate::commands;
-use crate::request::{PlanChoice, Refused, Request};
+use crate::request::{Bench, Engine, PlanChoice, Refused, Request, Run};
 use clap::error::ErrorKind;
 use clap::{ArgMatches, Error};
 use std::alloc::{AllocError, Global};
+
+// The most points of the program that `bench` runs, and the most sweeps over them.
+const MOST_POINTS: u32 = 500_000;
+
+const MOST_SWEEPS: u32 = 1_000_000;
 
 /// The request that the words stand for, which come without the program's name.
 ///
@@ -57,7 +64,11 @@ fn request_in<'a>(alloc: Global, name: &str, inner: &ArgMatches<'a>) -> Result<R
     ensures taken { IfOk result (λ request. wanted_in name.now (rows_of (found_of inner.now)) ≡ Some (wanted request)) }
     ensures refused { IfErr result (λ refused. IsValueFault (wanted_in name.now (rows_of (found_of inner.now))) refused) }
 {
-    let settings = settings(alloc, inner)?;
+    if says(name, "bench") {
+        let sizes = rest(alloc, inner, "sizes")?;
+        return bench(inner, &sizes).ok_or(Refused::Faulty);
+    }
+    let settings = rest(alloc, inner, "settings")?;
     if says(name, "seq") {
         Ok(Request::Sequential(settings))
     } else if says(name, "plan") {
@@ -84,11 +95,41 @@ fn run<'a>(inner: &ArgMatches<'a>, settings: Vec<&'a str>) -> Option<Request<'a>
     ensures { option_map wanted result ≡ run_of (rows_of (found_of inner.now)) }
 {
     let workers = workers_in(text(inner, "workers")?)?;
-    let plan = plan_in(text(inner, "plan"))?;
-    if is_core(text(inner, "by")) {
-        Some(Request::Run(workers, plan, settings))
-    } else {
-        None
+    let choice = plan_in(text(inner, "plan"))?;
+    let engine = engine_in(text(inner, "by"))?;
+    let run = Run {
+        workers,
+        choice,
+        engine,
+    };
+    Some(Request::Run(run, settings))
+}
+
+fn bench<'a>(inner: &ArgMatches<'a>, sizes: &[&str]) -> Option<Request<'a>>
+    requires { texts sizes.now ≡ sizes_of (rows_of (found_of inner.now)) }
+    ensures { option_map wanted result ≡ bench_of (rows_of (found_of inner.now)) }
+{
+    let workers = workers_in(text(inner, "workers")?)?;
+    let (points, sweeps) = sizes_in(sizes)?;
+    Some(Request::Bench(Bench {
+        workers,
+        points,
+        sweeps,
+    }))
+}
+
+// How many points and how many sweeps words name.
+fn sizes_in(words: &[&str]) -> Option<(u32, u32)>
+    ensures { result ≡ sizes_named (texts words.now) }
+{
+    let (points, behind) = words.split_first()?;
+    let (sweeps, behind) = behind.split_first()?;
+    match behind.split_first() {
+        None => Some((
+            size_in(points, 1, MOST_POINTS)?,
+            size_in(sweeps, 0, MOST_SWEEPS)?,
+        )),
+        Some(_) => None,
     }
 }
 
@@ -99,10 +140,11 @@ fn text<'a>(inner: &ArgMatches<'a>, id: &str) -> Option<&'a str>
     inner.get_str(id)
 }
 
-fn settings<'a>(alloc: Global, inner: &ArgMatches<'a>) -> Result<Vec<&'a str>, AllocError>
-    ensures { IfOk result (λ v. texts v.items ≡ settings_of (rows_of (found_of inner.now))) }
+// The words behind the options.
+fn rest<'a>(alloc: Global, inner: &ArgMatches<'a>, id: &str) -> Result<Vec<&'a str>, AllocError>
+    ensures { IfOk result (λ v. texts v.items ≡ rest_of id.now (rows_of (found_of inner.now))) }
 {
-    match inner.get_raw("settings") {
+    match inner.get_raw(id) {
         Some(given) => Vec::from_slice(alloc, given),
         None => Ok(Vec::new(alloc)),
     }
@@ -155,11 +197,53 @@ fn plan_named(word: &str) -> Option<PlanChoice>
     }
 }
 
-fn is_core(word: Option<&str>) -> bool
-    ensures { result ≡ is_by (option_map (λ s. s.now) word.entry) }
+fn engine_in(word: Option<&str>) -> Option<Engine>
+    ensures { result ≡ by_of (option_map (λ s. s.now) word.entry) }
 {
     match word {
-        None => true,
-        Some(word) => says(word, "core"),
+        None => Some(Engine::Spmd),
+        Some(word) => engine_named(word),
     }
+}
+
+fn engine_named(word: &str) -> Option<Engine>
+    ensures { result ≡ engine_of word.now }
+{
+    if says(word, "core") {
+        Some(Engine::Core)
+    } else if says(word, "join") {
+        Some(Engine::Join)
+    } else if says(word, "spmd") {
+        Some(Engine::Spmd)
+    } else {
+        None
+    }
+}
+
+// The number that a word writes in decimal digits without leading zeros, within these bounds.
+fn size_in(word: &str, low: u32, high: u32) -> Option<u32>
+    ensures { result ≡ size_of low high word.now }
+{
+    if !is_numeral(word.as_bytes()) {
+        return None;
+    }
+    match word.parse::<u32>() {
+        Ok(size) if low <= size && size <= high => Some(size),
+        _ => None,
+    }
+}
+
+fn is_numeral(digits: &[u8]) -> bool
+    ensures { result ≡ numeral digits.now }
+{
+    match digits.split_first() {
+        Some((first, rest)) => are_digits(digits) && (*first != b'0' || rest.is_empty()),
+        None => false,
+    }
+}
+
+fn are_digits(bytes: &[u8]) -> bool
+    ensures { result ≡ list_all is_ascii_digit bytes.now }
+{
+    bytes.iter().all(|byte| byte.is_ascii_digit())
 }

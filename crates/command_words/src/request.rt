@@ -17,6 +17,39 @@ pub enum PlanChoice {
     Given,
 }
 
+/// What runs a program by a plan.
+#[derive(Clone, Copy, Debug, PartialEq, Eq)]
+pub enum Engine {
+    /// A model of the processors, one act of one of them at a time.
+    Core,
+    /// Workers on threads, which are forked and joined for each phase.
+    Join,
+    /// A worker on a thread for each processor, over words that all share.
+    Spmd,
+}
+
+/// How a program is run.
+#[derive(Clone, Copy, Debug, PartialEq, Eq)]
+pub struct Run {
+    /// For how many processors: 1 to 64.
+    pub workers: u32,
+    /// By which plan.
+    pub choice: PlanChoice,
+    /// What runs it.
+    pub engine: Engine,
+}
+
+/// The sizes of the program that `bench` runs.
+#[derive(Clone, Copy, Debug, PartialEq, Eq)]
+pub struct Bench {
+    /// How many processors: 1 to 64.
+    pub workers: u32,
+    /// How many points: 1 to 500,000.
+    pub points: u32,
+    /// How many sweeps over them: 0 to 1,000,000.
+    pub sweeps: u32,
+}
+
 /// A command with its settings of named constants, as they are written.
 #[derive(Debug, Drop)]
 pub enum Request<'a> {
@@ -26,8 +59,11 @@ pub enum Request<'a> {
     Verify(Vec<&'a str>),
     /// `plan`: write the plan that is made for this many processors, 1 to 64, and the reasons for what it keeps.
     Plan(u32, Vec<&'a str>),
-    /// `run`: write the plan for this many processors, 1 to 64, then run the program by it and write its output.
-    Run(u32, PlanChoice, Vec<&'a str>),
+    /// `run`: write the plan for these processors, then run the program by it and write its output.
+    Run(Run, Vec<&'a str>),
+    /// `bench`: make a plan for a program of these sizes, count its waits of each kind, and run the
+    /// program by it.
+    Bench(Bench),
 }
 
 /// Why words are no command.

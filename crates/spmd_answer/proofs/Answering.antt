@@ -1,5 +1,5 @@
 -- What was found is due.
-use Rattle.std.proofs.Common.{◌≡◌, ◌∙◌, ℕ, ℤ, ap, sym, subst, List, Option, None, Some}
+use Rattle.std.proofs.Common.{◌≡◌, ◌∙◌, ℕ, ℤ, true, true≢false, refl, ap, sym, subst, List, Option, None, Some}
 use Rattle.std.specs.Prelude.{drop}
 use Rattle.clap.specs.Words.{Text}
 use Rattle.nest_tree.specs.Tree.{Tree}
@@ -8,14 +8,24 @@ use Rattle.f77_lines.specs.Listing.{entries_of, size_to_end}
 use Rattle.f77_scene.specs.Reading.{program_in}
 use Rattle.f77_scene.specs.Scene.{Name}
 use Rattle.command_words.specs.Wanted.{Wanted, verify, run}
+use Rattle.command_words.specs.declared.request.Engine.{Engine}
+use Rattle.command_words.specs.declared.request.Engine.TheVariants.{Core, Join, Spmd}
+use Rattle.command_words.specs.declared.request.PlanChoice.{PlanChoice}
 use Rattle.command_words.specs.declared.request.PlanChoice.TheVariants.{Given}
-use Rattle.spmd_answer.specs.Due.{Due, IsDueOf, IsDueOn, IsFirstOr, behind_end, behind_of, due_of_refusal, plan_refused, unaccepted}
+use Rattle.spmd_answer.specs.Due.{Due, IsDueOf, IsDueOn, IsFirstOr, IsRefusalFor, IsTextBy, behind_end, behind_of, done, due_of_refusal, is_shared, plan_refused, unaccepted}
 use Rattle.spmd_answer.specs.Given.{IsRefusedPlan}
-use Rattle.spmd_answer.specs.Stops.{IsPlanStop, IsStop, due_in}
+use Rattle.spmd_answer.specs.Receipts.{HasReceipt, HasReceiptOf, IsLeftBy}
+use Rattle.spmd_answer.specs.Stops.{IsPlanStop, IsStop, IsStopFor, due_in}
 use Rattle.spmd_answer.specs.declared.source.Behind.{Behind}
 use Rattle.spmd_answer.specs.declared.status.Answer.{Answer}
+use Rattle.spmd_answer.specs.declared.status.Status.TheVariants.{Done, PlanRefused}
 use Rattle.spmd_answer.specs.declared.status.Stop.{Stop}
 use Rattle.spmd_answer.specs.declared.status.Stop.TheVariants as stop
+use Rattle.spmd_answer.proofs.Statuses.{refused_or_done}
+use Rattle.cell_table.specs.Ends.{End}
+use Rattle.nest_tree.specs.View.{tree_of}
+use Rattle.nest_tree.specs.declared.tree.Program.{Program}
+use Rattle.sync_plan.specs.declared.plan.Plan.{Plan}
 
 first_is : (o : Option Due) (IsElse : Due → Type 0) (d : Due) → o ≡ Some d → IsFirstOr o IsElse d
 first_is None IsElse d e = absurd (cc)
@@ -47,7 +57,63 @@ of_verify settings tree bytes s a e h =
     let r : (reason : List ℕ) × IsRefusedPlan None tree bytes reason × (due_in a ≡ plan_refused reason) = subst (IsPlanStop None tree bytes) e h in
     unaccepted r.0 r.1 r.2
 
-pub of_given : (workers : ℕ) (settings : List Text) (tree : Tree) (bytes : List ℕ) (s : Stop) (a : Answer) → s ≡ stop.Refused a → IsPlanStop (Some workers) tree bytes s → IsDueOn (run workers Given settings) tree bytes (due_in a)
-of_given workers settings tree bytes s a e h =
-    let r : (reason : List ℕ) × IsRefusedPlan (Some workers) tree bytes reason × (due_in a ≡ plan_refused reason) = subst (IsPlanStop (Some workers) tree bytes) e h in
+pub of_plan : (wanted : Wanted) (tree : Tree) (bytes : List ℕ) (s : Stop) (a : Answer) → s ≡ stop.Refused a → IsStopFor wanted tree bytes s → IsDueOn wanted tree bytes (due_in a)
+of_plan wanted tree bytes s a e h =
+    let r : (reason : List ℕ) × IsRefusalFor wanted tree bytes reason × (due_in a ≡ plan_refused reason) = subst (IsStopFor wanted tree bytes) e h in
     unaccepted r.0 r.1 r.2
+
+-- a plan that is given and refused, as a run's
+pub of_given : (workers : ℕ) (by : Engine) (settings : List Text) (tree : Tree) (bytes : List ℕ) (s : Stop) → IsPlanStop (Some workers) tree bytes s → IsStopFor (run workers Given by settings) tree bytes s
+of_given workers by settings tree bytes (stop.Refused answer) h = h
+of_given workers by settings tree bytes stop.NoMemory h = tt
+
+-- ---- receipts
+
+refused_undone : (wanted : Wanted) (tree : Tree) (bytes : List ℕ) (a : Answer) (reason : List ℕ) → due_in a ≡ plan_refused reason → HasReceipt wanted tree bytes (due_in a) None
+refused_undone wanted tree bytes a reason e = λ shared done. let f : PlanRefused ≡ Done = sym (ap (λ d. d.status) e) ∙ done in cc
+
+-- a plan that is refused leaves no receipt
+pub none_of_plan : (wanted : Wanted) (tree : Tree) (bytes : List ℕ) (s : Stop) (a : Answer) → s ≡ stop.Refused a → IsStopFor wanted tree bytes s → HasReceipt wanted tree bytes (due_in a) None
+none_of_plan wanted tree bytes s a e h =
+    let r : (reason : List ℕ) × IsRefusalFor wanted tree bytes reason × (due_in a ≡ plan_refused reason) = subst (IsStopFor wanted tree bytes) e h in
+    refused_undone wanted tree bytes a r.0 r.2
+
+-- nor does a source that is
+pub none_of_stop : (wanted : Wanted) (settings : List (Name × ℤ)) (bytes : List ℕ) (behind : Behind) (s : Stop) (a : Answer) → s ≡ stop.Refused a
+    → IsStop (due_of_refusal behind bytes settings) s → HasReceiptOf wanted settings bytes (due_in a) None
+none_of_stop wanted settings bytes behind s a e h =
+    λ shared. refused_or_done behind bytes settings (due_in a) (subst (IsStop (due_of_refusal behind bytes settings)) e h)
+
+-- what a run by spmd leaves is the receipt of its text
+pub shared_left : (wanted : Wanted) (program : Program) (plan : Plan) (bytes text : List ℕ) (receipt : Option End) (a : Answer)
+    → is_shared wanted ≡ true → IsTextBy wanted (tree_of program) bytes plan text → IsLeftBy Spmd program plan receipt → due_in a ≡ done text → HasReceipt wanted (tree_of program) bytes (due_in a) receipt
+shared_left wanted program plan bytes text None a shared is (end, some, given, memory) e = absurd (cc)
+shared_left wanted program plan bytes text (Some r) a shared is (end, some, given, memory) e =
+    let same : end ≡ r = cc in (
+      shared,
+      ap (λ d. d.status) e,
+      record {
+        program = program;
+        plan = plan;
+        given = ap (λ (x : End). x.given) (sym same) ∙ given;
+        program_is = refl;
+        written = subst (IsTextBy wanted (tree_of program) bytes plan) (ap (λ d. d.text) (sym e)) is;
+        memory = ap (λ (x : End). x.memory) (sym same) ∙ memory;
+      },
+    )
+
+-- what a run by any engine leaves
+pub left_by : (by : Engine) (workers : ℕ) (choice : PlanChoice) (settings : List Text) (program : Program) (plan : Plan) (bytes text : List ℕ) (receipt : Option End) (a : Answer)
+    → IsTextBy (run workers choice by settings) (tree_of program) bytes plan text → IsLeftBy by program plan receipt → due_in a ≡ done text → HasReceipt (run workers choice by settings) (tree_of program) bytes (due_in a) receipt
+left_by Core workers choice settings program plan bytes text None a is left e = λ shared. absurd (true≢false (sym shared))
+left_by Core workers choice settings program plan bytes text (Some end) a is left e = absurd (cc)
+left_by Join workers choice settings program plan bytes text None a is left e = λ shared. absurd (true≢false (sym shared))
+left_by Join workers choice settings program plan bytes text (Some end) a is left e = absurd (cc)
+left_by Spmd workers choice settings program plan bytes text receipt a is left e =
+    shared_left (run workers choice Spmd settings) program plan bytes text receipt a refl is left e
+
+-- the receipt on a source's program is the one of the source
+pub receipt_of_program : (wanted : Wanted) (settings : List (Name × ℤ)) (bytes : List ℕ) (tree : Tree) (place : ℕ) (rest : List ℕ) (d : Due) (receipt : Option End)
+    → tree ≡ program_in (entries_of bytes) settings → place ≡ size_to_end (lines_of bytes) → rest ≡ drop place bytes → HasReceipt wanted tree rest d receipt → HasReceiptOf wanted settings bytes d receipt
+receipt_of_program wanted settings bytes tree place rest d receipt tree_is place_is rest_is h =
+    subst (λ (t : Tree). HasReceipt wanted t (behind_end bytes) d receipt) tree_is (subst (λ (xs : List ℕ). HasReceipt wanted tree xs d receipt) (rest_is ∙ ap (λ n. drop n bytes) place_is) h)

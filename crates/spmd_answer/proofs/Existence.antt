@@ -20,7 +20,7 @@ use Rattle.plan_checker.specs.RefusalText.{text_of_refusal}
 use Rattle.plan_checker.specs.declared.refusal.PlanRefusal.{PlanRefusal}
 use Rattle.plan_checker.specs.declared.refusal.PlanRefusal.TheVariants.{Shape}
 use Rattle.plan_checker.proofs.Certified.{accepted_where_none}
-use Rattle.command_words.specs.Wanted.{Wanted, sequential, verify, planned, run}
+use Rattle.command_words.specs.Wanted.{Wanted, sequential, verify, planned, run, bench}
 use Rattle.command_words.specs.declared.request.PlanChoice.TheVariants.{Made, Barrier, Given}
 use Rattle.spmd_answer.specs.Due.{Due, IsDueOf, IsDueOn, IsFirstOr, IsRefusalFor, IsTextFor, behind_end, behind_of, done, due_of_refusal, line, makes_plan, plan_refused, unaccepted, written}
 use Rattle.spmd_answer.specs.Given.{HasWorkers, IsRefusedPlan, IsTakenPlan, first_reason, no_text, unfit}
@@ -98,11 +98,12 @@ on_program (verify settings) tree bytes fixed none =
     refused_or_taken None tree bytes (λ text is. none (plan_refused text) (unaccepted text is refl))
     (λ plan is. none (done (line (codes "ACCEPTED"))) (written (line (codes "ACCEPTED")) (plan, is, refl) refl))
 on_program (planned workers settings) tree bytes fixed none = absurd (true≢false fixed)
-on_program (run workers Made settings) tree bytes fixed none = absurd (true≢false fixed)
-on_program (run workers Barrier settings) tree bytes fixed none = absurd (true≢false fixed)
-on_program (run workers Given settings) tree bytes fixed none =
+on_program (run workers Made by settings) tree bytes fixed none = absurd (true≢false fixed)
+on_program (run workers Barrier by settings) tree bytes fixed none = absurd (true≢false fixed)
+on_program (bench workers points sweeps) tree bytes fixed none = absurd (true≢false fixed)
+on_program (run workers Given by settings) tree bytes fixed none =
     refused_or_taken (Some workers) tree bytes (λ text is. none (plan_refused text) (unaccepted text is refl))
-    (λ plan is. none (done (plan_text plan ++ output_of tree)) (written (plan_text plan ++ output_of tree) (plan, is, refl) refl))
+    (λ plan is. none (done (plan_text plan ++ output_of tree)) (written (plan_text plan ++ output_of tree) (plan, (is, refl)) refl))
 
 -- a refusal, or else what is due without
 pub first_never : (o : Option Due) (IsElse : Due → Type 0) → (((due : Due) → IsElse due → ⊥) → ⊥) → ((due : Due) → IsFirstOr o IsElse due → ⊥) → ⊥

@@ -1,5 +1,5 @@
 -- What is due for a request has one of four statuses.
-use Rattle.std.proofs.Common.{◌≡◌, ◌∙◌, ℕ, true, ap, refl, List, Option, None, Some}
+use Rattle.std.proofs.Common.{◌≡◌, ◌∙◌, ℕ, Bool, true, false, ap, sym, refl, List, Option, None, Some}
 use Rattle.std.specs.Prelude.{ℤ, IfSome}
 use Rattle.std.specs.Option.{option_map, option_or}
 use Rattle.nest_tree.specs.Limits.{first_limit}
@@ -19,54 +19,92 @@ use Rattle.spmd_answer.specs.declared.source.Behind.{Behind}
 use Rattle.spmd_answer.specs.declared.source.Behind.TheVariants.{Comments, PlanText}
 use Rattle.spmd_answer.specs.Due.{Due, IsDueOf, IsDueOn, IsFirstOr, behind_end, behind_of, due_of_fault, due_of_lines, due_of_refusal, due_of_rest, due_of_tree, refused, unaccepted, written}
 use Rattle.spmd_answer.specs.Statuses.{is_due}
+use Rattle.spmd_answer.specs.declared.status.Status.{Status}
+use Rattle.spmd_answer.specs.declared.status.Status.TheVariants.{Done, SourceRefused, BadWords, ReadFault, WriteFault, NoMemory, PlanRefused, TooLong}
+
+-- 1 and 2
+refuses : Status → Bool
+refuses SourceRefused = true
+refuses BadWords = true
+refuses _ = false
+
+abbrev IsRefusal : Due → Type 0
+IsRefusal due = refuses due.status ≡ true
 
 abbrev IsDue : Due → Type 0
 IsDue due = is_due due.status ≡ true
 
-mapped : {A : Type 0} (o : Option A) (f : A → Due) → ((a : A) → IsDue (f a)) → IfSome (option_map f o) IsDue
+refuses-due : (s : Status) → refuses s ≡ true → is_due s ≡ true
+unfolding refuses
+refuses-due SourceRefused h = refl
+refuses-due BadWords h = refl
+refuses-due Done h = absurd (cc)
+refuses-due ReadFault h = absurd (cc)
+refuses-due WriteFault h = absurd (cc)
+refuses-due NoMemory h = absurd (cc)
+refuses-due PlanRefused h = absurd (cc)
+refuses-due TooLong h = absurd (cc)
+
+refuses-done : refuses Done ≡ true → ⊥
+unfolding refuses
+refuses-done h = cc
+
+mapped : {A : Type 0} (o : Option A) (f : A → Due) → ((a : A) → IsRefusal (f a)) → IfSome (option_map f o) IsRefusal
 mapped None f due = tt
 mapped (Some a) f due = due a
 
-either : (o p : Option Due) → IfSome o IsDue → IfSome p IsDue → IfSome (option_or o p) IsDue
+either : (o p : Option Due) → IfSome o IsRefusal → IfSome p IsRefusal → IfSome (option_or o p) IsRefusal
 either None p one other = other
 either (Some a) p one other = one
 
-of_fault : (r : Refusal) → IsDue (due_of_fault r)
+of_fault : (r : Refusal) → IsRefusal (due_of_fault r)
+unfolding refuses
 of_fault (bad_line refusal) = refl
 of_fault (bad_statement fault n) = refl
 of_fault (bad_setting index) = refl
 
-of_tree : (tree : Tree) → IfSome (due_of_tree tree) IsDue
+of_tree : (tree : Tree) → IfSome (due_of_tree tree) IsRefusal
+unfolding refuses
 of_tree tree =
     either (option_map (λ l. refused (text_of_limit l)) (first_limit tree)) (option_map (λ o. refused (text_of_outside o)) (outside_of tree))
     (mapped (first_limit tree) (λ l. refused (text_of_limit l)) (λ l. refl)) (mapped (outside_of tree) (λ o. refused (text_of_outside o)) (λ o. refl))
 
-of_rest : (behind : Behind) (bytes : List ℕ) → IfSome (due_of_rest behind bytes) IsDue
+of_rest : (behind : Behind) (bytes : List ℕ) → IfSome (due_of_rest behind bytes) IsRefusal
+unfolding refuses
 of_rest Comments bytes =
     let rest = first_behind bytes (size_to_end (lines_of bytes)) in
     mapped rest (λ n. refused (text_of_refusal (AfterEnd n))) (λ n. refl)
 of_rest PlanText bytes = tt
 
-of_lines : (behind : Behind) (bytes : List ℕ) → IfSome (due_of_lines behind bytes) IsDue
+of_lines : (behind : Behind) (bytes : List ℕ) → IfSome (due_of_lines behind bytes) IsRefusal
+unfolding refuses
 of_lines behind bytes =
     let fault = first_line_fault bytes in
     either (option_map (λ r. refused (text_of_refusal r)) fault) (due_of_rest behind bytes)
     (mapped fault (λ r. refused (text_of_refusal r)) (λ r. refl)) (of_rest behind bytes)
 
-of_refusal : (behind : Behind) (bytes : List ℕ) (settings : List (Name × ℤ)) → IfSome (due_of_refusal behind bytes settings) IsDue
+of_refusal : (behind : Behind) (bytes : List ℕ) (settings : List (Name × ℤ)) → IfSome (due_of_refusal behind bytes settings) IsRefusal
 of_refusal behind bytes settings =
     let fault = first_fault_in (entries_of bytes) settings in
     let tree = due_of_tree (program_in (entries_of bytes) settings) in
     either (due_of_lines behind bytes) (option_or (option_map due_of_fault fault) tree) (of_lines behind bytes)
     (either (option_map due_of_fault fault) tree (mapped fault due_of_fault of_fault) (of_tree (program_in (entries_of bytes) settings)))
 
+-- a source that is refused isn't done
+pub refused_or_done : (behind : Behind) (bytes : List ℕ) (settings : List (Name × ℤ)) (d : Due) → due_of_refusal behind bytes settings ≡ Some d → d.status ≡ Done → ⊥
+refused_or_done behind bytes settings d e done = go (due_of_refusal behind bytes settings) (of_refusal behind bytes settings) e
+  where
+    go : (o : Option Due) → IfSome o IsRefusal → o ≡ Some d → ⊥
+    go None h e = cc
+    go (Some r) h e = let same : r ≡ d = cc in refuses-done (sym (ap refuses (ap (λ x. x.status) same ∙ done)) ∙ h)
+
 on_program : (wanted : Wanted) (tree : Tree) (bytes : List ℕ) (due : Due) → IsDueOn wanted tree bytes due → IsDue due
 on_program wanted tree bytes due (unaccepted reason is e) = ap (λ d. is_due d.status) e
 on_program wanted tree bytes due (written text is e) = ap (λ d. is_due d.status) e
 
-first : (o : Option Due) (IsElse : Due → Type 0) (due : Due) → IfSome o IsDue → (IsElse due → IsDue due) → IsFirstOr o IsElse due → IsDue due
+first : (o : Option Due) (IsElse : Due → Type 0) (due : Due) → IfSome o IsRefusal → (IsElse due → IsDue due) → IsFirstOr o IsElse due → IsDue due
 first None IsElse due one other h = other h
-first (Some d) IsElse due one other e = ap (λ d. is_due d.status) e ∙ one
+first (Some d) IsElse due one other e = ap (λ d. is_due d.status) e ∙ refuses-due d.status one
 
 pub is_due-status : (wanted : Wanted) (settings : List (Name × ℤ)) (bytes : List ℕ) (due : Due) → IsDueOf wanted settings bytes due → is_due due.status ≡ true
 is_due-status wanted settings bytes due =

@@ -17,7 +17,7 @@ use Rattle.plan_checker.specs.Failures.{first_failure}
 use Rattle.plan_checker.specs.RefusalText.{text_of_refusal}
 use Rattle.plan_checker.specs.declared.refusal.PlanRefusal.{PlanRefusal}
 use Rattle.plan_checker.proofs.Certified.{none_where_accepted}
-use Rattle.command_words.specs.Wanted.{Wanted, sequential, verify, planned, run}
+use Rattle.command_words.specs.Wanted.{Wanted, sequential, verify, planned, run, bench}
 use Rattle.command_words.specs.declared.request.PlanChoice.TheVariants.{Made, Barrier, Given}
 use Rattle.spmd_answer.specs.Due.{Due, IsDueOf, IsDueOn, IsFirstOr, IsRefusalFor, IsTextFor, behind_end, behind_of, done, due_of_refusal, makes_plan, plan_refused, unaccepted, written}
 use Rattle.spmd_answer.specs.declared.status.Status.TheVariants.{Done}
@@ -59,27 +59,30 @@ one_text : (wanted : Wanted) (tree : Tree) (bytes s t : List ℕ) → makes_plan
 one_text (sequential settings) tree bytes s t fixed p q = p ∙ sym q
 one_text (verify settings) tree bytes s t fixed (x, is, p) (y, is', q) = p ∙ sym q
 one_text (planned workers settings) tree bytes s t fixed p q = absurd (true≢false fixed)
-one_text (run workers Made settings) tree bytes s t fixed p q = absurd (true≢false fixed)
-one_text (run workers Barrier settings) tree bytes s t fixed p q = absurd (true≢false fixed)
-one_text (run workers Given settings) tree bytes s t fixed (x, is, p) (y, is', q) =
+one_text (run workers Made by settings) tree bytes s t fixed p q = absurd (true≢false fixed)
+one_text (run workers Barrier by settings) tree bytes s t fixed p q = absurd (true≢false fixed)
+one_text (bench workers points sweeps) tree bytes s t fixed p q = absurd (true≢false fixed)
+one_text (run workers Given by settings) tree bytes s t fixed (x, (is, p)) (y, (is', q)) =
     p ∙ ap (λ plan. plan_text plan ++ output_of tree) (one_plan x y bytes is.shown is'.shown is.bytes_are is'.bytes_are) ∙ sym q
 
 one_refusal : (wanted : Wanted) (tree : Tree) (bytes s t : List ℕ) → IsRefusalFor wanted tree bytes s → IsRefusalFor wanted tree bytes t → s ≡ t
 one_refusal (sequential settings) tree bytes s t p q = absurd p
 one_refusal (verify settings) tree bytes s t p q = one_reason None tree bytes s t p q
 one_refusal (planned workers settings) tree bytes s t p q = absurd p
-one_refusal (run workers Made settings) tree bytes s t p q = absurd p
-one_refusal (run workers Barrier settings) tree bytes s t p q = absurd p
-one_refusal (run workers Given settings) tree bytes s t p q = one_reason (Some workers) tree bytes s t p q
+one_refusal (run workers Made by settings) tree bytes s t p q = absurd p
+one_refusal (run workers Barrier by settings) tree bytes s t p q = absurd p
+one_refusal (bench workers points sweeps) tree bytes s t p q = absurd p
+one_refusal (run workers Given by settings) tree bytes s t p q = one_reason (Some workers) tree bytes s t p q
 
 -- nothing is written where the plan is refused
 pub refused_or_written : (wanted : Wanted) (tree : Tree) (bytes s t : List ℕ) → IsRefusalFor wanted tree bytes s → IsTextFor wanted tree bytes t → ⊥
 refused_or_written (sequential settings) tree bytes s t p q = p
 refused_or_written (verify settings) tree bytes s t p (plan, is, q) = refused_or_taken None tree bytes s plan p is
 refused_or_written (planned workers settings) tree bytes s t p q = p
-refused_or_written (run workers Made settings) tree bytes s t p q = p
-refused_or_written (run workers Barrier settings) tree bytes s t p q = p
-refused_or_written (run workers Given settings) tree bytes s t p (plan, is, q) = refused_or_taken (Some workers) tree bytes s plan p is
+refused_or_written (run workers Made by settings) tree bytes s t p q = p
+refused_or_written (run workers Barrier by settings) tree bytes s t p q = p
+refused_or_written (bench workers points sweeps) tree bytes s t p q = p
+refused_or_written (run workers Given by settings) tree bytes s t p (plan, (is, q)) = refused_or_taken (Some workers) tree bytes s plan p is
 
 -- one status and, where it isn't 0 or one text is written, one text
 on_program : (P : Due → Due → Type 0) (wanted : Wanted) (tree : Tree) (bytes : List ℕ) (a b : Due) → ((d : Due) → P d d)

@@ -15,7 +15,8 @@ use Rattle.f77_scene.specs.Reading.{first_fault_in, program_in}
 use Rattle.f77_scene.specs.Scene.{Name}
 use Rattle.range_check.specs.Outside.{outside_of}
 use Rattle.range_check.specs.OutsideText.{text_of_outside}
-use Rattle.command_words.specs.Wanted.{Wanted, sequential, verify, planned, run}
+use Rattle.command_words.specs.Wanted.{Wanted, sequential, verify, planned, run, bench}
+use Rattle.command_words.specs.declared.request.Engine.TheVariants.{Core, Join, Spmd}
 use Rattle.command_words.specs.declared.request.PlanChoice.{PlanChoice}
 use Rattle.command_words.specs.declared.request.PlanChoice.TheVariants.{Made, Barrier, Given}
 use Rattle.plan_text.specs.PlanText.{plan_text}
@@ -23,6 +24,7 @@ use Rattle.plan_maker.specs.Made.{IsBarrierPlan, IsMade}
 use Rattle.plan_maker.specs.declared.reasons.Reasons.{Reasons}
 use Rattle.reason_text.specs.ReasonText.{reason_text}
 use Rattle.sync_plan.specs.declared.plan.Plan.{Plan}
+use Rattle.spmd_answer.specs.Bench.{bench_head}
 use Rattle.spmd_answer.specs.Given.{IsRefusedPlan, IsTakenPlan}
 use Rattle.spmd_answer.specs.declared.source.Behind.{Behind}
 use Rattle.spmd_answer.specs.declared.source.Behind.TheVariants.{Comments, PlanText}
@@ -104,18 +106,30 @@ abbrev pub behind_of : Wanted → Behind
 behind_of (sequential settings) = Comments
 behind_of (verify settings) = PlanText
 behind_of (planned workers settings) = Comments
-behind_of (run workers Made settings) = Comments
-behind_of (run workers Barrier settings) = Comments
-behind_of (run workers Given settings) = PlanText
+behind_of (run workers Made by settings) = Comments
+behind_of (run workers Barrier by settings) = Comments
+behind_of (run workers Given by settings) = PlanText
+behind_of (bench workers points sweeps) = Comments
 
 -- a plan is made for a request: then more than one text may be due
 abbrev pub makes_plan : Wanted → Bool
 makes_plan (sequential settings) = false
 makes_plan (verify settings) = false
 makes_plan (planned workers settings) = true
-makes_plan (run workers Made settings) = true
-makes_plan (run workers Barrier settings) = true
-makes_plan (run workers Given settings) = false
+makes_plan (run workers Made by settings) = true
+makes_plan (run workers Barrier by settings) = true
+makes_plan (run workers Given by settings) = false
+makes_plan (bench workers points sweeps) = true
+
+-- a request is for a run by workers over words that they share, which leaves a receipt
+abbrev pub is_shared : Wanted → Bool
+is_shared (sequential settings) = false
+is_shared (verify settings) = false
+is_shared (planned workers settings) = false
+is_shared (run workers choice Core settings) = false
+is_shared (run workers choice Join settings) = false
+is_shared (run workers choice Spmd settings) = true
+is_shared (bench workers points sweeps) = true
 
 -- the bytes behind the line end of END
 abbrev pub behind_end : List ℕ → List ℕ
@@ -127,21 +141,31 @@ IsPlanFor Made workers tree bytes plan = (reasons : Reasons) × IsMade tree work
 IsPlanFor Barrier workers tree bytes plan = IsBarrierPlan tree workers plan
 IsPlanFor Given workers tree bytes plan = IsTakenPlan (Some workers) tree bytes plan
 
--- What is written for a request on a program, with these bytes behind its END line: of a sequential run the output; that the plan is accepted; of a plan that is made the plan's text and then that of its reasons; of a run by a plan the plan's text and then the sequential output.
+-- What is written of a run by this plan, with these bytes behind the program's END line: of `run` the plan's text and then the sequential output; of `bench` the sizes, how many waits of each kind the plan has, and then the output.
+abbrev pub IsTextBy : Wanted → Tree → List ℕ → Plan → List ℕ → Type 0
+IsTextBy (sequential settings) tree bytes plan text = ⊥
+IsTextBy (verify settings) tree bytes plan text = ⊥
+IsTextBy (planned workers settings) tree bytes plan text = ⊥
+IsTextBy (run workers choice by settings) tree bytes plan text = IsPlanFor choice workers tree bytes plan × (text ≡ plan_text plan ++ output_of tree)
+IsTextBy (bench workers points sweeps) tree bytes plan text = IsPlanFor Made workers tree bytes plan × (text ≡ bench_head workers points sweeps plan ++ output_of tree)
+
+-- What is written for a request on a program, with these bytes behind its END line: of a sequential run the output; that the plan is accepted; of a plan that is made the plan's text and then that of its reasons; of a run what is written of it by some plan.
 abbrev pub IsTextFor : Wanted → Tree → List ℕ → List ℕ → Type 0
 IsTextFor (sequential settings) tree bytes text = text ≡ output_of tree
 IsTextFor (verify settings) tree bytes text = (plan : Plan) × IsTakenPlan None tree bytes plan × (text ≡ line (codes "ACCEPTED"))
 IsTextFor (planned workers settings) tree bytes text = (made : Plan) × (reasons : Reasons) × IsMade tree workers made reasons × (text ≡ plan_text made ++ reason_text tree reasons)
-IsTextFor (run workers choice settings) tree bytes text = (plan : Plan) × IsPlanFor choice workers tree bytes plan × (text ≡ plan_text plan ++ output_of tree)
+IsTextFor (run workers choice by settings) tree bytes text = (plan : Plan) × IsTextBy (run workers choice by settings) tree bytes plan text
+IsTextFor (bench workers points sweeps) tree bytes text = (plan : Plan) × IsTextBy (bench workers points sweeps) tree bytes plan text
 
 -- The line with which the plan is refused that stands behind END: no request has one where no plan may stand there.
 abbrev pub IsRefusalFor : Wanted → Tree → List ℕ → List ℕ → Type 0
 IsRefusalFor (sequential settings) tree bytes reason = ⊥
 IsRefusalFor (verify settings) tree bytes reason = IsRefusedPlan None tree bytes reason
 IsRefusalFor (planned workers settings) tree bytes reason = ⊥
-IsRefusalFor (run workers Made settings) tree bytes reason = ⊥
-IsRefusalFor (run workers Barrier settings) tree bytes reason = ⊥
-IsRefusalFor (run workers Given settings) tree bytes reason = IsRefusedPlan (Some workers) tree bytes reason
+IsRefusalFor (run workers Made by settings) tree bytes reason = ⊥
+IsRefusalFor (run workers Barrier by settings) tree bytes reason = ⊥
+IsRefusalFor (run workers Given by settings) tree bytes reason = IsRefusedPlan (Some workers) tree bytes reason
+IsRefusalFor (bench workers points sweeps) tree bytes reason = ⊥
 
 -- Due for a request on a program, with these bytes behind its END line.
 pub data IsDueOn (wanted : Wanted) (tree : Tree) (bytes : List ℕ) (due : Due) : Type 0 where

@@ -1,7 +1,8 @@
 -- Answers and stops without where they lie in memory.
 use Rattle.std.specs.Prelude.{ℕ, ◌≡◌, ⊤, List, Option, Some}
 use Rattle.nest_tree.specs.Tree.{Tree}
-use Rattle.spmd_answer.specs.Due.{Due, plan_refused}
+use Rattle.command_words.specs.Wanted.{Wanted}
+use Rattle.spmd_answer.specs.Due.{Due, IsRefusalFor, plan_refused}
 use Rattle.spmd_answer.specs.Given.{IsRefusedPlan}
 use Rattle.spmd_answer.specs.declared.status.Answer.{Answer}
 use Rattle.spmd_answer.specs.declared.status.Stop.{Stop}
@@ -19,3 +20,8 @@ IsStop due stop.NoMemory = ⊤
 abbrev pub IsPlanStop : Option ℕ → Tree → List ℕ → Stop → Type 0
 IsPlanStop asked tree bytes (stop.Refused answer) = (reason : List ℕ) × IsRefusedPlan asked tree bytes reason × (due_in answer ≡ plan_refused reason)
 IsPlanStop asked tree bytes stop.NoMemory = ⊤
+
+-- The same, as the line with which a request's plan is refused.
+abbrev pub IsStopFor : Wanted → Tree → List ℕ → Stop → Type 0
+IsStopFor wanted tree bytes (stop.Refused answer) = (reason : List ℕ) × IsRefusalFor wanted tree bytes reason × (due_in answer ≡ plan_refused reason)
+IsStopFor wanted tree bytes stop.NoMemory = ⊤

@@ -6,43 +6,53 @@ ghost use Rattle.nest_tree.specs.Limits.{IsWithinLimits};
 ghost use Rattle.nest_tree.specs.View.{tree_of};
 ghost use Rattle.nest_tree.specs.WellFormed.{IsWellFormed};
 ghost use Rattle.nest_model.specs.Ranges.{IsInRange};
-ghost use Rattle.command_words.specs.Wanted.{IsCounted, planned, run, sequential, verify, wanted};
+ghost use Rattle.command_words.specs.Wanted.{IsCounted, bench, planned, run, sequential, verify, wanted};
 ghost use Rattle.f77_source.specs.Sources.{setting_of};
 ghost use Rattle.spmd_answer.specs.Due as due;
 ghost use Rattle.spmd_answer.specs.Due.{IsDueOf, IsDueOn};
+ghost use Rattle.spmd_answer.specs.Receipts.{HasReceipt, HasReceiptOf};
 ghost use Rattle.spmd_answer.specs.Stops.{due_in};
 
+use crate::bench::bench_run;
 use crate::given::given_plan;
+use crate::host::Host;
+use crate::plan::plan_for;
 use crate::program::program_of;
 use crate::run::{sequential_output, text_of_plan, text_of_run};
 use crate::source::behind_of;
 use crate::status::{Answer, Status, Stop};
-use command_words::{PlanChoice, Request};
+use cell_table::Receipt;
+use command_words::{Bench, Request, Run};
 use f77_lines::MOST_BYTES;
 use f77_source::Setting;
 use nest_tree::Program;
-use plan_maker::{make, make_barrier};
+use plan_maker::make;
+use spmd_ports::Gate;
 use std::alloc::{AllocError, Global};
+use std::sync::Wait;
 use std::thread::Threads;
 
 /// What is due for a request with these settings and the bytes of a source: of a source that is
 /// refused the line that says so; else of a plan that is given and refused the line that says so;
-/// else what its program's run writes, or that the plan is accepted. The error is that memory ran
-/// out.
-pub fn answer_to<R: Threads + Sync>(
-    rt: &R,
-    alloc: Global,
+/// else what its program's run writes, or that the plan is accepted; and the receipt of a run by
+/// spmd. Workers pass the gate. The error is that memory ran out.
+pub fn answer_to<R: Threads + Wait + Sync, G: Gate + Sync>(
+    host: &Host<'_, R, G>,
     request: &Request,
     settings: &[Setting],
     bytes: &[u8],
-) -> Result<Answer, AllocError>
+) -> Result<(Answer, Option<Receipt>), AllocError>
     requires short { length bytes.now ≤ MOST_BYTES }
     requires counted { IsCounted (wanted request.now) }
-    ensures { IfOk result (λ a. IsDueOf (wanted request.now) (map setting_of settings.now) bytes.now (due_in a)) }
+    ensures due { IfOk result (λ r. IsDueOf (wanted request.now) (map setting_of settings.now) bytes.now (due_in r.0)) }
+    ensures receipt { IfOk result (λ r. HasReceiptOf (wanted request.now) (map setting_of settings.now) bytes.now (due_in r.0) r.1) }
 {
-    match program_of(alloc, bytes, settings, behind_of(request)) {
-        Ok(read) => answer_on(rt, alloc, request, &read.0, from_place(bytes, read.1)),
-        Err(stop) => answer_in(stop),
+    match program_of(host.alloc, bytes, settings, behind_of(request)) {
+        Ok(read) => {
+            let behind = from_place(bytes, read.1);
+            answer_on(host, request, &read.0, behind)
+        }
+        Err(stop) => Ok((answer_in(stop)?, None)),
     }
 }
 
@@ -66,32 +76,72 @@ fn answer_in(stop: Stop) -> Result<Answer, AllocError>
     }
 }
 
-/// What is due for a request on a program, with these bytes behind its END line. The error is that
-/// memory ran out.
-pub fn answer_on<R: Threads + Sync>(
-    rt: &R,
-    alloc: Global,
+/// What is due for a request on a program, with these bytes behind its END line, and the receipt of
+/// a run by spmd. Workers pass the gate. The error is that memory ran out.
+pub fn answer_on<R: Threads + Wait + Sync, G: Gate + Sync>(
+    host: &Host<'_, R, G>,
     request: &Request,
     program: &Program,
     bytes: &[u8],
-) -> Result<Answer, AllocError>
+) -> Result<(Answer, Option<Receipt>), AllocError>
     requires short { length bytes.now ≤ MOST_BYTES }
     requires counted { IsCounted (wanted request.now) }
     requires formed { IsWellFormed (tree_of program.now) }
     requires limits { IsWithinLimits (tree_of program.now) }
     requires ranges { IsInRange (tree_of program.now) }
-    ensures { IfOk result (λ a. IsDueOn (wanted request.now) (tree_of program.now) bytes.now (due_in a)) }
+    ensures due { IfOk result (λ r. IsDueOn (wanted request.now) (tree_of program.now) bytes.now (due_in r.0)) }
+    ensures receipt { IfOk result (λ r. HasReceipt (wanted request.now) (tree_of program.now) bytes.now (due_in r.0) r.1) }
 {
     match request {
-        Request::Sequential(_) => sequential_run(alloc, program),
-        Request::Verify(_) => verified(rt, alloc, program, bytes),
-        Request::Plan(workers, _) => made_plan(alloc, program, *workers),
-        Request::Run(workers, PlanChoice::Made, _) => made_run(alloc, program, *workers),
-        Request::Run(workers, PlanChoice::Barrier, _) => barrier_run(alloc, program, *workers),
-        Request::Run(workers, PlanChoice::Given, _) => {
-            given_run(rt, alloc, program, *workers, bytes)
-        }
+        Request::Sequential(_) => sequential_run(host.alloc, program),
+        Request::Verify(_) => verified(host.rt, host.alloc, program, bytes),
+        Request::Plan(workers, _) => made_plan(host.alloc, program, *workers),
+        Request::Run(asked, _) => planned_run(host, program, bytes, *asked),
+        Request::Bench(bench) => benched(host, program, *bench),
     }
+}
+
+// The run by a plan.
+fn planned_run<R: Threads + Wait + Sync, G: Gate + Sync>(
+    host: &Host<'_, R, G>,
+    program: &Program,
+    bytes: &[u8],
+    asked: Run,
+) -> Result<(Answer, Option<Receipt>), AllocError>
+    requires short { length bytes.now ≤ MOST_BYTES }
+    requires some { 1 ≤ asked.workers }
+    requires few { asked.workers ≤ 64 }
+    requires formed { IsWellFormed (tree_of program.now) }
+    requires limits { IsWithinLimits (tree_of program.now) }
+    requires ranges { IsInRange (tree_of program.now) }
+    ensures due { (settings : List Text) → IfOk result (λ r. IsDueOn (run asked.workers asked.choice asked.engine settings) (tree_of program.now) bytes.now (due_in r.0)) }
+    ensures receipt { (settings : List Text) → IfOk result (λ r. HasReceipt (run asked.workers asked.choice asked.engine settings) (tree_of program.now) bytes.now (due_in r.0) r.1) }
+{
+    match plan_for(host, program, bytes, asked) {
+        Ok(plan) => {
+            let (text, receipt) = text_of_run(host, program, &plan, asked.engine)?;
+            Ok((done(text), receipt))
+        }
+        Err(stop) => Ok((answer_in(stop)?, None)),
+    }
+}
+
+// The run of the program of `bench`, by spmd.
+fn benched<R: Threads + Wait + Sync, G: Gate + Sync>(
+    host: &Host<'_, R, G>,
+    program: &Program,
+    sizes: Bench,
+) -> Result<(Answer, Option<Receipt>), AllocError>
+    requires some { 1 ≤ sizes.workers }
+    requires few { sizes.workers ≤ 64 }
+    requires formed { IsWellFormed (tree_of program.now) }
+    requires limits { IsWithinLimits (tree_of program.now) }
+    requires ranges { IsInRange (tree_of program.now) }
+    ensures due { (bytes : List ℕ) → IfOk result (λ r. IsDueOn (bench sizes.workers sizes.points sizes.sweeps) (tree_of program.now) bytes (due_in r.0)) }
+    ensures receipt { (bytes : List ℕ) → IfOk result (λ r. HasReceipt (bench sizes.workers sizes.points sizes.sweeps) (tree_of program.now) bytes (due_in r.0) r.1) }
+{
+    let (text, receipt) = bench_run(host, program, sizes)?;
+    Ok((done(text), receipt))
 }
 
 fn done(text: Vec<u8>) -> Answer
@@ -103,13 +153,14 @@ fn done(text: Vec<u8>) -> Answer
     }
 }
 
-fn sequential_run(alloc: Global, program: &Program) -> Result<Answer, AllocError>
+fn sequential_run(alloc: Global, program: &Program) -> Result<(Answer, Option<Receipt>), AllocError>
     requires formed { IsWellFormed (tree_of program.now) }
     requires limits { IsWithinLimits (tree_of program.now) }
     requires ranges { IsInRange (tree_of program.now) }
-    ensures { (settings : List Text) (bytes : List ℕ) → IfOk result (λ a. IsDueOn (sequential settings) (tree_of program.now) bytes (due_in a)) }
+    ensures due { (settings : List Text) (bytes : List ℕ) → IfOk result (λ r. IsDueOn (sequential settings) (tree_of program.now) bytes (due_in r.0)) }
+    ensures receipt { (settings : List Text) (bytes : List ℕ) → IfOk result (λ r. HasReceipt (sequential settings) (tree_of program.now) bytes (due_in r.0) r.1) }
 {
-    Ok(done(sequential_output(alloc, program)?))
+    Ok((done(sequential_output(alloc, program)?), None))
 }
 
 // Whether the plan that is given is accepted.
@@ -118,15 +169,16 @@ fn verified<R: Threads + Sync>(
     alloc: Global,
     program: &Program,
     bytes: &[u8],
-) -> Result<Answer, AllocError>
+) -> Result<(Answer, Option<Receipt>), AllocError>
     requires short { length bytes.now ≤ MOST_BYTES }
     requires formed { IsWellFormed (tree_of program.now) }
     requires limits { IsWithinLimits (tree_of program.now) }
-    ensures { (settings : List Text) → IfOk result (λ a. IsDueOn (verify settings) (tree_of program.now) bytes.now (due_in a)) }
+    ensures due { (settings : List Text) → IfOk result (λ r. IsDueOn (verify settings) (tree_of program.now) bytes.now (due_in r.0)) }
+    ensures receipt { (settings : List Text) → IfOk result (λ r. HasReceipt (verify settings) (tree_of program.now) bytes.now (due_in r.0) r.1) }
 {
     match given_plan(rt, alloc, program, bytes, None) {
-        Ok(_) => accepted(alloc),
-        Err(stop) => answer_in(stop),
+        Ok(_) => Ok((accepted(alloc)?, None)),
+        Err(stop) => Ok((answer_in(stop)?, None)),
     }
 }
 
@@ -137,59 +189,18 @@ fn accepted(alloc: Global) -> Result<Answer, AllocError>
 }
 
 // The plan that is made, with its reasons.
-fn made_plan(alloc: Global, program: &Program, workers: u32) -> Result<Answer, AllocError>
-    requires formed { IsWellFormed (tree_of program.now) }
-    requires limits { IsWithinLimits (tree_of program.now) }
-    requires some { 1 ≤ workers }
-    requires few { workers ≤ 64 }
-    ensures { (settings : List Text) (bytes : List ℕ) → IfOk result (λ a. IsDueOn (planned workers settings) (tree_of program.now) bytes (due_in a)) }
-{
-    let (plan, reasons) = make(alloc, program, workers)?;
-    Ok(done(text_of_plan(alloc, program, &plan, &reasons)?))
-}
-
-// The run by the plan that is made.
-fn made_run(alloc: Global, program: &Program, workers: u32) -> Result<Answer, AllocError>
-    requires formed { IsWellFormed (tree_of program.now) }
-    requires limits { IsWithinLimits (tree_of program.now) }
-    requires ranges { IsInRange (tree_of program.now) }
-    requires some { 1 ≤ workers }
-    requires few { workers ≤ 64 }
-    ensures { (settings : List Text) (bytes : List ℕ) → IfOk result (λ a. IsDueOn (run workers PlanChoice.Made settings) (tree_of program.now) bytes (due_in a)) }
-{
-    let (plan, _) = make(alloc, program, workers)?;
-    Ok(done(text_of_run(alloc, program, &plan)?))
-}
-
-// The run by the plan with a barrier in front of each phase.
-fn barrier_run(alloc: Global, program: &Program, workers: u32) -> Result<Answer, AllocError>
-    requires formed { IsWellFormed (tree_of program.now) }
-    requires limits { IsWithinLimits (tree_of program.now) }
-    requires ranges { IsInRange (tree_of program.now) }
-    requires some { 1 ≤ workers }
-    requires few { workers ≤ 64 }
-    ensures { (settings : List Text) (bytes : List ℕ) → IfOk result (λ a. IsDueOn (run workers PlanChoice.Barrier settings) (tree_of program.now) bytes (due_in a)) }
-{
-    let plan = make_barrier(alloc, program, workers)?;
-    Ok(done(text_of_run(alloc, program, &plan)?))
-}
-
-// The run by the plan that is given.
-fn given_run<R: Threads + Sync>(
-    rt: &R,
+fn made_plan(
     alloc: Global,
     program: &Program,
     workers: u32,
-    bytes: &[u8],
-) -> Result<Answer, AllocError>
-    requires short { length bytes.now ≤ MOST_BYTES }
+) -> Result<(Answer, Option<Receipt>), AllocError>
     requires formed { IsWellFormed (tree_of program.now) }
     requires limits { IsWithinLimits (tree_of program.now) }
-    requires ranges { IsInRange (tree_of program.now) }
-    ensures { (settings : List Text) → IfOk result (λ a. IsDueOn (run workers PlanChoice.Given settings) (tree_of program.now) bytes.now (due_in a)) }
+    requires some { 1 ≤ workers }
+    requires few { workers ≤ 64 }
+    ensures due { (settings : List Text) (bytes : List ℕ) → IfOk result (λ r. IsDueOn (planned workers settings) (tree_of program.now) bytes (due_in r.0)) }
+    ensures receipt { (settings : List Text) (bytes : List ℕ) → IfOk result (λ r. HasReceipt (planned workers settings) (tree_of program.now) bytes (due_in r.0) r.1) }
 {
-    match given_plan(rt, alloc, program, bytes, Some(workers)) {
-        Ok(plan) => Ok(done(text_of_run(alloc, program, &plan)?)),
-        Err(stop) => answer_in(stop),
-    }
+    let (plan, reasons) = make(alloc, program, workers)?;
+    Ok((done(text_of_plan(alloc, program, &plan, &reasons)?), None))
 }

@@ -1,6 +1,6 @@
 // What a run by a plan writes, and what a sequential one does.
 
-ghost use Rattle.std.specs.Prelude.{◌≡◌, ◌≤◌, ◌++◌, IfOk};
+ghost use Rattle.std.specs.Prelude.{◌≡◌, ◌++◌, IfOk};
 ghost use Rattle.nest_tree.specs.Limits.{IsWithinLimits};
 ghost use Rattle.nest_tree.specs.View.{tree_of};
 ghost use Rattle.nest_tree.specs.WellFormed.{IsWellFormed};
@@ -10,14 +10,23 @@ ghost use Rattle.plan_text.specs.PlanText.{HasCounts, plan_text};
 ghost use Rattle.reason_text.specs.ReasonText.{reason_text};
 ghost use Rattle.sync_plan.specs.Fit.{IsFit};
 ghost use Rattle.sync_plan.specs.Ordered.{IsOrdered};
+ghost use Rattle.spmd_answer.specs.Receipts.{IsLeftBy};
 
+use crate::host::Host;
+use cell_table::Receipt;
+use command_words::Engine;
+use fork_join::run_join;
 use nest_tree::Program;
 use plan_maker::reasons::Reasons;
 use plan_text::write_plan;
 use reason_text::push_reasons;
 use seq_meaning::run_sequential;
 use spmd_machine::Machine;
+use spmd_ports::Gate;
+use spmd_run::run_spmd;
 use std::alloc::{AllocError, Global};
+use std::sync::Wait;
+use std::thread::Threads;
 use sync_plan::Plan;
 
 /// What a program prints. The error is that memory ran out.
@@ -31,27 +40,66 @@ pub fn sequential_output(alloc: Global, program: &Program) -> Result<Vec<u8>, Al
     output.as_slice().to_vec(alloc)
 }
 
-/// The text of a plan, and then the output of the run by it, which is the sequential one. The error
-/// is that memory ran out.
-pub fn text_of_run(alloc: Global, program: &Program, plan: &Plan) -> Result<Vec<u8>, AllocError>
+/// The text of a plan, and then the output of the run by it, which is the sequential one; and of a
+/// run by spmd the receipt. A run by join or by spmd passes the gate. The error is that memory ran
+/// out.
+pub fn text_of_run<R: Threads + Wait + Sync, G: Gate + Sync>(
+    host: &Host<'_, R, G>,
+    program: &Program,
+    plan: &Plan,
+    engine: Engine,
+) -> Result<(Vec<u8>, Option<Receipt>), AllocError>
     requires formed { IsWellFormed (tree_of program.now) }
     requires limits { IsWithinLimits (tree_of program.now) }
     requires ranges { IsInRange (tree_of program.now) }
     requires fits { IsFit (tree_of program.now) plan.now }
     requires ordered { IsOrdered (tree_of program.now) plan.now }
     requires counts { HasCounts plan.now }
-    ensures { IfOk result (λ text. text.items ≡ plan_text plan.now ++ output_of (tree_of program.now)) }
+    ensures text { IfOk result (λ r. r.0.items ≡ plan_text plan.now ++ output_of (tree_of program.now)) }
+    ensures receipt { IfOk result (λ r. IsLeftBy engine program.now plan.now r.1) }
 {
-    let text = write_plan(alloc, plan)?;
-    let output = planned_output(alloc, program, plan)?;
-    joined(text, &output)
+    let text = write_plan(host.alloc, plan)?;
+    let (output, receipt) = output_by(host, program, plan, engine)?;
+    Ok((joined(text, &output)?, receipt))
 }
 
-fn joined(mut front: Vec<u8>, behind: &[u8]) -> Result<Vec<u8>, AllocError>
+/// One text and then another. The error is that memory ran out.
+pub fn joined(mut front: Vec<u8>, behind: &[u8]) -> Result<Vec<u8>, AllocError>
     ensures { IfOk result (λ text. text.items ≡ front.items ++ behind.now) }
 {
     front.extend_from_slice(behind)?;
     Ok(front)
+}
+
+/// The output of the run by an ordered plan, and of a run by spmd the receipt. The error is that
+/// memory ran out.
+pub fn output_by<R: Threads + Wait + Sync, G: Gate + Sync>(
+    host: &Host<'_, R, G>,
+    program: &Program,
+    plan: &Plan,
+    engine: Engine,
+) -> Result<(Vec<u8>, Option<Receipt>), AllocError>
+    requires formed { IsWellFormed (tree_of program.now) }
+    requires limits { IsWithinLimits (tree_of program.now) }
+    requires ranges { IsInRange (tree_of program.now) }
+    requires fits { IsFit (tree_of program.now) plan.now }
+    requires ordered { IsOrdered (tree_of program.now) plan.now }
+    ensures output { IfOk result (λ r. r.0.items ≡ output_of (tree_of program.now)) }
+    ensures receipt { IfOk result (λ r. IsLeftBy engine program.now plan.now r.1) }
+{
+    let alloc = host.alloc;
+    match engine {
+        Engine::Core => Ok((core_output(alloc, program, plan)?, None)),
+        Engine::Join => {
+            let (_, output) = run_join(host.rt, alloc, program, plan, host.gate)?;
+            Ok((output.as_slice().to_vec(alloc)?, None))
+        }
+        Engine::Spmd => {
+            let (closed, output) = run_spmd(host.rt, alloc, program, plan, host.gate)?;
+            let output = output.as_slice().to_vec(alloc)?;
+            Ok((output, Some(closed.into_receipt())))
+        }
+    }
 }
 
 /// The text of a plan, and then that of its reasons. The error is that memory ran out.
@@ -69,8 +117,8 @@ pub fn text_of_plan(
     Ok(text)
 }
 
-// The output of a run by an ordered plan, in rounds of one step per processor.
-fn planned_output(alloc: Global, program: &Program, plan: &Plan) -> Result<Vec<u8>, AllocError>
+// The output of a run by an ordered plan on the model, in rounds of one step per processor.
+fn core_output(alloc: Global, program: &Program, plan: &Plan) -> Result<Vec<u8>, AllocError>
     requires formed { IsWellFormed (tree_of program.now) }
     requires limits { IsWithinLimits (tree_of program.now) }
     requires ranges { IsInRange (tree_of program.now) }

@@ -27,10 +27,12 @@ pub fn behind_of(request: &Request) -> Behind
     ensures { result ≡ behind_of (wanted request.now) }
 {
     match request {
-        Request::Sequential(_)
-        | Request::Plan(..)
-        | Request::Run(_, PlanChoice::Made | PlanChoice::Barrier, _) => Behind::Comments,
-        Request::Verify(_) | Request::Run(_, PlanChoice::Given, _) => Behind::PlanText,
+        Request::Sequential(_) | Request::Plan(..) | Request::Bench(_) => Behind::Comments,
+        Request::Verify(_) => Behind::PlanText,
+        Request::Run(run, _) => match run.choice {
+            PlanChoice::Made | PlanChoice::Barrier => Behind::Comments,
+            PlanChoice::Given => Behind::PlanText,
+        },
     }
 }
 

@@ -3,12 +3,14 @@
 
 ghost use Rattle.command_words.specs.Wanted.{IsCounted, wanted};
 
-use crate::{Answer, Status, answer_to};
-use command_words::{PlanChoice, Request};
+use crate::{Answer, Behind, Host, Status, answer_to, bench_source, program_of};
+use command_words::{Bench, Engine, PlanChoice, Request, Run};
 use f77_lines::MOST_BYTES;
 use f77_source::Setting;
+use spmd_ports::NoGate;
 use std::alloc::{AllocError, Global};
 use std::fmt::Write;
+use std::sync::Wait;
 use std::test::Fail;
 use std::thread::Threads;
 
@@ -19,11 +21,16 @@ fn request_of(alloc: Global, workers: u32) -> Request<'static>
     if workers == 0 {
         Request::Sequential(Vec::new(alloc))
     } else {
-        Request::Run(workers.min(64), PlanChoice::Barrier, Vec::new(alloc))
+        let run = Run {
+            workers: workers.min(64),
+            choice: PlanChoice::Barrier,
+            engine: Engine::Core,
+        };
+        Request::Run(run, Vec::new(alloc))
     }
 }
 
-fn answer_of<R: Threads + Sync>(
+fn answer_of<R: Threads + Wait + Sync>(
     rt: &R,
     alloc: Global,
     source: &[u8],
@@ -34,7 +41,14 @@ fn answer_of<R: Threads + Sync>(
         return Err(AllocError);
     }
     let request = request_of(alloc, workers);
-    answer_to(rt, alloc, &request, settings, source)
+    let gate = NoGate;
+    let host = Host {
+        rt,
+        alloc,
+        gate: &gate,
+    };
+    let (answer, _) = answer_to(&host, &request, settings, source)?;
+    Ok(answer)
 }
 
 fn source_of(alloc: Global, lines: &[&str]) -> Result<String, AllocError> {
@@ -247,15 +261,20 @@ fn plan_for(alloc: Global, workers: u32) -> Request<'static>
     Request::Plan(workers.min(64).max(1), Vec::new(alloc))
 }
 
-/// The run by a plan for so many workers.
-fn run_for(alloc: Global, workers: u32, plan: PlanChoice) -> Request<'static>
+/// The run by a plan for so many workers, by an engine.
+fn run_for(alloc: Global, workers: u32, choice: PlanChoice, engine: Engine) -> Request<'static>
     ensures { IsCounted (wanted result) }
 {
-    Request::Run(workers.min(64).max(1), plan, Vec::new(alloc))
+    let run = Run {
+        workers: workers.min(64).max(1),
+        choice,
+        engine,
+    };
+    Request::Run(run, Vec::new(alloc))
 }
 
 /// What is due for a request without settings.
-fn due_for<R: Threads + Sync>(
+fn due_for<R: Threads + Wait + Sync>(
     rt: &R,
     alloc: Global,
     request: &Request,
@@ -266,7 +285,14 @@ fn due_for<R: Threads + Sync>(
     if source.len() > MOST_BYTES {
         return Err(AllocError);
     }
-    answer_to(rt, alloc, request, &[], source)
+    let gate = NoGate;
+    let host = Host {
+        rt,
+        alloc,
+        gate: &gate,
+    };
+    let (answer, _) = answer_to(&host, request, &[], source)?;
+    Ok(answer)
 }
 
 /// A program, the front of the plan that is made for so many workers, the end of the text with its
@@ -442,14 +468,19 @@ const LARGEST: [Made; 1] = [Made {
     output: "END PLAN\n 1 1 1 1\n",
 }];
 
-/// Whether the plan that is made, its reasons and the runs by it and by its barriers are these.
-fn is_answered<R: Threads + Sync>(rt: &R, alloc: Global, row: &Made) -> Result<bool, AllocError> {
+/// Whether the plan that is made, its reasons, the run by it over shared words and the run by its
+/// barriers that is forked and joined are these.
+fn is_answered<R: Threads + Wait + Sync>(
+    rt: &R,
+    alloc: Global,
+    row: &Made,
+) -> Result<bool, AllocError> {
     let source = source_of(alloc, row.source)?;
     let source = source.as_bytes();
     let plan = due_for(rt, alloc, &plan_for(alloc, row.workers), source)?;
-    let request = run_for(alloc, row.workers, PlanChoice::Made);
+    let request = run_for(alloc, row.workers, PlanChoice::Made, Engine::Spmd);
     let made = due_for(rt, alloc, &request, source)?;
-    let request = run_for(alloc, row.workers, PlanChoice::Barrier);
+    let request = run_for(alloc, row.workers, PlanChoice::Barrier, Engine::Join);
     let barriers = due_for(rt, alloc, &request, source)?;
     Ok(
         plan.text.starts_with(row.front.as_bytes())
@@ -589,21 +620,23 @@ fn mirror_with(alloc: Global, number: usize, changed: &str) -> Result<String, Al
 }
 
 /// What is due for `verify` where there are no workers, else for a run by the plan that is given.
-fn given_answer<R: Threads + Sync>(
+fn given_answer<R: Threads + Wait + Sync>(
     rt: &R,
     alloc: Global,
     workers: u32,
     source: &[u8],
 ) -> Result<Answer, AllocError> {
-    if source.len() > MOST_BYTES {
-        return Err(AllocError);
-    }
     let request = if workers == 0 {
         Request::Verify(Vec::new(alloc))
     } else {
-        Request::Run(workers.min(64), PlanChoice::Given, Vec::new(alloc))
+        let run = Run {
+            workers: workers.min(64),
+            choice: PlanChoice::Given,
+            engine: Engine::Core,
+        };
+        Request::Run(run, Vec::new(alloc))
     };
-    answer_to(rt, alloc, &request, &[], source)
+    due_for(rt, alloc, &request, source)
 }
 
 #[test]
@@ -643,6 +676,30 @@ fn given_plans_are_answered(rt: HostRuntime) -> Result<(), Fail> {
             answer.status == Status::PlanRefused,
             text.starts_with("PLAN ")
         );
+    }
+    Ok(())
+}
+
+/// Whether the source of `bench` has a program, for these sizes.
+fn is_read(alloc: Global, points: u32, sweeps: u32) -> Result<bool, AllocError> {
+    let sizes = Bench {
+        workers: 1,
+        points,
+        sweeps,
+    };
+    let source = bench_source(alloc, sizes)?;
+    let bytes = source.as_slice();
+    if bytes.len() > MOST_BYTES {
+        return Ok(false);
+    }
+    Ok(program_of(alloc, bytes, &[], Behind::Comments).is_ok())
+}
+
+/// The source of `bench` is read at the ends of its sizes.
+#[test]
+fn the_source_of_bench_is_read(rt: HostRuntime) -> Result<(), Fail> {
+    for (points, sweeps) in [(1, 0), (1, 1_000_000), (500_000, 0), (500_000, 1_000_000)] {
+        assert!(rt; is_read(rt.alloc(), points, sweeps)?, "{points} {sweeps}");
     }
     Ok(())
 }

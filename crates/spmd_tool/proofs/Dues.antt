@@ -1,5 +1,5 @@
 -- What is due, by its cases.
-use Rattle.std.proofs.Common.{◌≡◌, ◌≢◌, ◌≤◌, ◌<◌, ℕ, ℤ, Bool, true, false, List, [], ◌∷◌, ◌++◌, length, Option, Some, None, IfSome, nat_lt, if◌then◌else◌, option_map, ◌⊎◌, inl, inr, ⊎_elim, refl, sym, ap, subst, ◌∙◌, arith, ltb-false, ltb-true}
+use Rattle.std.proofs.Common.{◌≡◌, ◌≢◌, ◌≤◌, ◌<◌, ℕ, ℤ, Bool, true, false, List, [], ◌∷◌, length, Option, Some, None, IfSome, nat_lt, if◌then◌else◌, option_map, ◌⊎◌, inl, inr, ⊎_elim, refl, sym, ap, subst, ◌∙◌, arith, ltb-false, ltb-true}
 use Rattle.std.specs.Option.{option_or}
 use Rattle.std.proofs.lemmas.Bool.{cases_Bool}
 use Rattle.std.proofs.lemmas.Bool.Decides.{nat_tests}
@@ -17,7 +17,7 @@ use Rattle.clap.specs.Words.{Text, fault_of, subcommand_of}
 use Rattle.clap.specs.declared.error.kind.ErrorKind.{ErrorKind}
 use Rattle.command_words.specs.Rule.{tool_app}
 use Rattle.command_words.specs.Settings.{first_fault_from, settings_in}
-use Rattle.command_words.specs.Wanted.{Wanted, sequential, verify, planned, run, Takes, AreFaulty, asks_to_show, is_shown, wanted_by}
+use Rattle.command_words.specs.Wanted.{Wanted, sequential, verify, planned, run, bench, Takes, AreFaulty, asks_to_show, is_shown, wanted_by}
 use Rattle.command_words.specs.declared.request.PlanChoice.TheVariants.{Made, Barrier, Given}
 use Rattle.spmd_answer.specs.Due as answer
 use Rattle.spmd_answer.specs.Due.{Due, IsDueOn, IsFirstOr, IsRefusalFor, IsTextFor, behind_end, behind_of, done, due_of_fault, due_of_lines, due_of_refusal, due_of_rest, due_of_tree, line, makes_plan, plan_refused, unaccepted, written, wrong_setting}
@@ -28,7 +28,7 @@ use Rattle.spmd_answer.specs.declared.status.Status.TheVariants.{Done, SourceRef
 use Rattle.spmd_answer.proofs.Existence.{first_never, never_none}
 use Rattle.spmd_answer.proofs.Unique.{first_one, one_is_due, one_refused, refused_or_taken}
 use Rattle.spmd_answer.proofs.Unique as unique
-use Rattle.spmd_tool.specs.Due.{AreWrong, AskFor, HasPlan, IsDue, IsDueFor, IsRunnable, IsUnplanned, MakeNoPlan, asked, due_of_form, faulty, first_wrong, is_said, most_bytes, program_for, settings_of, shown, too_long, wrong_words}
+use Rattle.spmd_tool.specs.Due.{AreWrong, AskFor, HasPlan, IsDue, IsDueFor, IsRunnable, IsUnplanned, MakeNoPlan, asked, due_of_form, faulty, first_wrong, ReadFor, is_said, most_bytes, program_for, reads, settings_of, shown, source_for, too_long, wrong_words}
 
 -- ---- what words stand for
 
@@ -185,17 +185,19 @@ plan_of_text : (w : Wanted) (tree : Tree) (bytes text : List ℕ) → IsTextFor 
 plan_of_text (sequential settings) tree bytes text is = tt
 plan_of_text (verify settings) tree bytes text (plan, is, e) = (plan, is)
 plan_of_text (planned workers settings) tree bytes text is = tt
-plan_of_text (run workers Made settings) tree bytes text is = tt
-plan_of_text (run workers Barrier settings) tree bytes text is = tt
-plan_of_text (run workers Given settings) tree bytes text (plan, is, e) = (plan, is)
+plan_of_text (run workers Made by settings) tree bytes text is = tt
+plan_of_text (run workers Barrier by settings) tree bytes text is = tt
+plan_of_text (run workers Given by settings) tree bytes text (plan, (is, e)) = (plan, is)
+plan_of_text (bench workers points sweeps) tree bytes text is = tt
 
 plan_or_refusal : (w : Wanted) (tree : Tree) (bytes reason : List ℕ) → HasPlan w tree bytes → IsRefusalFor w tree bytes reason → ⊥
 plan_or_refusal (sequential settings) tree bytes reason has is = is
 plan_or_refusal (verify settings) tree bytes reason (plan, taken) is = refused_or_taken None tree bytes reason plan is taken
 plan_or_refusal (planned workers settings) tree bytes reason has is = is
-plan_or_refusal (run workers Made settings) tree bytes reason has is = is
-plan_or_refusal (run workers Barrier settings) tree bytes reason has is = is
-plan_or_refusal (run workers Given settings) tree bytes reason (plan, taken) is = refused_or_taken (Some workers) tree bytes reason plan is taken
+plan_or_refusal (run workers Made by settings) tree bytes reason has is = is
+plan_or_refusal (run workers Barrier by settings) tree bytes reason has is = is
+plan_or_refusal (bench workers points sweeps) tree bytes reason has is = is
+plan_or_refusal (run workers Given by settings) tree bytes reason (plan, taken) is = refused_or_taken (Some workers) tree bytes reason plan is taken
 
 -- with status 0 the source may be run, and the text is what is asked for
 pub record IsRunOf (w : Wanted) (bytes : List ℕ) (d : Due) : Type 0 where
@@ -365,7 +367,7 @@ one_status words bytes a b (faulty are e) (asked w takes e') = absurd (taken_or_
 one_status words bytes a b (asked w takes e) (shown asks s) = absurd (taken_or_shown words w takes asks)
 one_status words bytes a b (asked w takes e) (faulty are e') = absurd (taken_or_faulty words w takes are)
 one_status words bytes a b (asked v takes e) (asked w takes' e') =
-    status_for w bytes a b (subst (λ u. IsDueFor u bytes a) (one_request words v w takes takes') e) e'
+    status_for w (source_for w bytes) a b (subst (λ u. IsDueFor u (source_for u bytes) a) (one_request words v w takes takes') e) e'
 
 -- and one text, where it isn't 0
 pub refused_due : (words : List Text) (bytes : List ℕ) (a b : Due) → IsDue words bytes a → IsDue words bytes b → a.status ≢ Done → a ≡ b
@@ -375,7 +377,7 @@ refused_due words bytes a b (faulty are e) (faulty are' e') other = e ∙ sym e'
 refused_due words bytes a b (faulty are e) (asked w takes e') other = absurd (taken_or_faulty words w takes are)
 refused_due words bytes a b (asked w takes e) (shown asks s) other = absurd (taken_or_shown words w takes asks)
 refused_due words bytes a b (asked w takes e) (faulty are e') other = absurd (taken_or_faulty words w takes are)
-refused_due words bytes a b (asked v takes e) (asked w takes' e') other = refused_for w bytes a b (subst (λ u. IsDueFor u bytes a) (one_request words v w takes takes') e) e' other
+refused_due words bytes a b (asked v takes e) (asked w takes' e') other = refused_for w (source_for w bytes) a b (subst (λ u. IsDueFor u (source_for u bytes) a) (one_request words v w takes takes') e) e' other
 
 -- and where they ask for nothing to be shown and no plan is made
 pub one_due : (words : List Text) (bytes : List ℕ) (a b : Due) → asks_to_show words ≡ false → MakeNoPlan words → IsDue words bytes a → IsDue words bytes b → a ≡ b
@@ -385,13 +387,13 @@ one_due words bytes a b quiet fixed (faulty are e) (faulty are' e') = e ∙ sym 
 one_due words bytes a b quiet fixed (faulty are e) (asked w takes e') = absurd (taken_or_faulty words w takes are)
 one_due words bytes a b quiet fixed (asked w takes e) (shown asks s) = absurd (taken_or_shown words w takes asks)
 one_due words bytes a b quiet fixed (asked w takes e) (faulty are e') = absurd (taken_or_faulty words w takes are)
-one_due words bytes a b quiet fixed (asked v takes e) (asked w takes' e') = one_for w bytes a b (fixed w takes') (subst (λ u. IsDueFor u bytes a) (one_request words v w takes takes') e) e'
+one_due words bytes a b quiet fixed (asked v takes e) (asked w takes' e') = one_for w (source_for w bytes) a b (fixed w takes') (subst (λ u. IsDueFor u (source_for u bytes) a) (one_request words v w takes takes') e) e'
 
 -- for words that stand for a request what is due for it
-pub asked-due : (words : List Text) (bytes : List ℕ) (w : Wanted) (d : Due) → Takes words w → IsDue words bytes d → IsDueFor w bytes d
+pub asked-due : (words : List Text) (bytes : List ℕ) (w : Wanted) (d : Due) → Takes words w → IsDue words bytes d → IsDueFor w (source_for w bytes) d
 asked-due words bytes w d takes (shown asks s) = absurd (taken_or_shown words w takes asks)
 asked-due words bytes w d takes (faulty are e) = absurd (taken_or_faulty words w takes are)
-asked-due words bytes w d takes (asked v takes' e) = subst (λ u. IsDueFor u bytes d) (one_request words v w takes' takes) e
+asked-due words bytes w d takes (asked v takes' e) = subst (λ u. IsDueFor u (source_for u bytes) d) (one_request words v w takes' takes) e
 
 -- for words that ask for it help or the version
 pub shown-due : (words : List Text) (bytes : List ℕ) (d : Due) → asks_to_show words ≡ true → IsDue words bytes d → d.status ≡ Done
@@ -402,7 +404,7 @@ pub wrong-due : (words : List Text) (bytes : List ℕ) (d : Due) → AreWrong wo
 wrong-due words bytes d wrong due =
     ⊎_elim (λ are. one_status words bytes d wrong_words due (faulty are refl))
     (λ (some : (w : Wanted) × (index : ℕ) × Takes words w × (first_wrong w ≡ Some index)).
-    ap (λ e. e.status) (request-wrong some.0 bytes d some.1 (asked-due words bytes some.0 d some.2 due) some.3)) wrong
+    ap (λ e. e.status) (request-wrong some.0 (source_for some.0 bytes) d some.1 (asked-due words bytes some.0 d some.2 due) some.3)) wrong
 
 -- wrong words stand for no request with right settings
 pub wrong_or_asked : (words : List Text) (w : Wanted) → AreWrong words → AskFor words w → ⊥
@@ -416,19 +418,29 @@ pub refused-asks : (words : List Text) (bytes : List ℕ) (d : Due) → IsDue wo
 refused-asks words bytes d (shown asks s) e = absurd (let h : Done ≡ SourceRefused = sym s ∙ e in cc)
 refused-asks words bytes d (faulty are f) e = absurd (let h : BadWords ≡ SourceRefused = ap (λ x. x.status) (sym f) ∙ e in cc)
 refused-asks words bytes d (asked w takes f) e =
-    (w, record { takes = takes; settings_are = request-refused w bytes d f e })
+    (w, record { takes = takes; settings_are = request-refused w (source_for w bytes) d f e })
 
--- and status 6
-pub unfit-asks : (words : List Text) (bytes : List ℕ) (d : Due) → IsDue words bytes d → d.status ≡ PlanRefused → (w : Wanted) × AskFor words w
+-- a plan is refused only for a request that reads the source
+refusal-reads : (w : Wanted) (tree : Tree) (bytes reason : List ℕ) → IsRefusalFor w tree bytes reason → reads w ≡ true
+refusal-reads (sequential settings) tree bytes reason is = refl
+refusal-reads (verify settings) tree bytes reason is = refl
+refusal-reads (planned workers settings) tree bytes reason is = refl
+refusal-reads (run workers choice by settings) tree bytes reason is = refl
+refusal-reads (bench workers points sweeps) tree bytes reason is = absurd is
+
+-- and status 6, for one that reads the source
+pub unfit-asks : (words : List Text) (bytes : List ℕ) (d : Due) → IsDue words bytes d → d.status ≡ PlanRefused → (w : Wanted) × ReadFor words w
 unfit-asks words bytes d (shown asks s) e = absurd (let h : Done ≡ PlanRefused = sym s ∙ e in cc)
 unfit-asks words bytes d (faulty are f) e = absurd (let h : BadWords ≡ PlanRefused = ap (λ x. x.status) (sym f) ∙ e in cc)
-unfit-asks words bytes d (asked w takes f) e = (w, record { takes = takes; settings_are = (request-unfit w bytes d f e).settings_are })
+unfit-asks words bytes d (asked w takes f) e =
+    let unfit = request-unfit w (source_for w bytes) d f e in
+    (w, record { asked = record { takes = takes; settings_are = unfit.settings_are }; reads_are = refusal-reads w (program_for w (source_for w bytes)) (behind_end (source_for w bytes)) unfit.reason unfit.is_reason })
 
 -- a text is due with each status that is due
 pub due-said : (words : List Text) (bytes : List ℕ) (d : Due) → IsDue words bytes d → is_said d.status ≡ true
 due-said words bytes d (shown asks s) = ap is_said s
 due-said words bytes d (faulty are e) = ap (λ x. is_said x.status) e
-due-said words bytes d (asked w takes e) = request-said w bytes d e
+due-said words bytes d (asked w takes e) = request-said w (source_for w bytes) d e
 
 -- ---- at least one
 
@@ -449,9 +461,10 @@ on_program : (w : Wanted) (tree : Tree) (bytes : List ℕ) → behind_of w ≡ C
 on_program (sequential settings) tree bytes e fixed = (done (output_of tree), written (output_of tree) refl refl)
 on_program (verify settings) tree bytes e fixed = absurd (cc)
 on_program (planned workers settings) tree bytes e fixed = absurd (cc)
-on_program (run workers Made settings) tree bytes e fixed = absurd (cc)
-on_program (run workers Barrier settings) tree bytes e fixed = absurd (cc)
-on_program (run workers Given settings) tree bytes e fixed = absurd (cc)
+on_program (run workers Made by settings) tree bytes e fixed = absurd (cc)
+on_program (run workers Barrier by settings) tree bytes e fixed = absurd (cc)
+on_program (run workers Given by settings) tree bytes e fixed = absurd (cc)
+on_program (bench workers points sweeps) tree bytes e fixed = absurd (cc)
 
 some_for : (w : Wanted) (bytes : List ℕ) → behind_of w ≡ Comments → makes_plan w ≡ false → (d : Due) × IsDueFor w bytes d
 unfolding IsDueFor
@@ -468,7 +481,7 @@ some_due words bytes bare fixed =
     (λ (fine : fault_of tool_app words ≡ []).
     ⊎_elim (λ (none : wanted_by (subcommand_of tool_app words) ≡ None). (wrong_words, faulty (quiet, inr none) refl))
     (λ (some : (w : Wanted) × (wanted_by (subcommand_of tool_app words) ≡ Some w)).
-    let found = some_for some.0 bytes (bare some.0 (fine, some.1)) (fixed some.0 (fine, some.1)) in
+    let found = some_for some.0 (source_for some.0 bytes) (bare some.0 (fine, some.1)) (fixed some.0 (fine, some.1)) in
     (found.0, asked some.0 (fine, some.1) found.1))
     (option_cases (wanted_by (subcommand_of tool_app words))))
     (λ (fault : fault_of tool_app words ≢ []). (wrong_words, faulty (quiet, inl fault) refl))
@@ -487,7 +500,7 @@ never_due words bytes fixed none =
     ⊎_elim
     (λ (fine : fault_of tool_app words ≡ []).
     ⊎_elim (λ (no : wanted_by (subcommand_of tool_app words) ≡ None). none wrong_words (faulty (quiet, inr no) refl))
-    (λ (some : (w : Wanted) × (wanted_by (subcommand_of tool_app words) ≡ Some w)). never_for some.0 bytes (fixed some.0 (fine, some.1)) (λ d is. none d (asked some.0 (fine, some.1) is)))
+    (λ (some : (w : Wanted) × (wanted_by (subcommand_of tool_app words) ≡ Some w)). never_for some.0 (source_for some.0 bytes) (fixed some.0 (fine, some.1)) (λ d is. none d (asked some.0 (fine, some.1) is)))
     (option_cases (wanted_by (subcommand_of tool_app words))))
     (λ (fault : fault_of tool_app words ≢ []). none wrong_words (faulty (quiet, inl fault) refl))
     (list_cases (fault_of tool_app words)))

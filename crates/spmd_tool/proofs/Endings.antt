@@ -1,15 +1,17 @@
 -- How the top call ends, from its answer and how it was written.
 use Rattle.std.proofs.Common.{◌≡◌, ◌≢◌, ℕ, true, false, List, [], Option, Some, None, ◌⊎◌, inl, inr, ap, sym, subst, ◌∙◌, refl}
 use Rattle.std.specs.Io.KnownBytes.{Appends}
+use Rattle.cell_table.specs.Ends.{End}
 use Rattle.clap.specs.Words.{Text}
-use Rattle.command_words.specs.Wanted.{Wanted, Takes}
-use Rattle.spmd_answer.specs.Due.{Due}
+use Rattle.command_words.specs.Wanted.{Wanted, Takes, sequential, verify, planned, run, bench}
+use Rattle.spmd_answer.specs.Bench.{bench_source}
+use Rattle.spmd_answer.specs.Due.{Due, is_shared}
 use Rattle.spmd_answer.specs.declared.status.Status.{Status}
 use Rattle.spmd_answer.specs.declared.status.Status.TheVariants.{Done, SourceRefused, BadWords, ReadFault, WriteFault, NoMemory, PlanRefused, TooLong}
-use Rattle.spmd_tool.specs.Due.{AreWrong, AskFor, IsDue, IsRunnable, IsUnplanned, is_said, settings_of}
+use Rattle.spmd_tool.specs.Due.{AreWrong, AskFor, IsDue, IsRunnable, IsRunnableBench, IsUnplanned, ReadFor, ReadNothing, asked, faulty, is_said, reads, settings_of, shown, source_for}
 use Rattle.spmd_tool.specs.Outside.{WhereTold}
-use Rattle.spmd_tool.specs.Written.{IsDueFrom, WritesDue, WritesRefusal, WritesRun}
-use Rattle.spmd_tool.proofs.Dues.{asked-due, one_status, refused-asks, request-done, request-runs, request-unfit, request-unnamed, request-unplanned, unfit-asks, wrong-due}
+use Rattle.spmd_tool.specs.Written.{IsAnswerFrom, IsDueFrom, WritesDue, WritesReceipt, WritesRefusal, WritesRun}
+use Rattle.spmd_tool.proofs.Dues.{taken_or_faulty, taken_or_shown, asked-due, one_status, refused-asks, request-done, request-runs, request-unfit, request-unnamed, request-unplanned, unfit-asks, wrong-due}
 use Rattle.spmd_tool.proofs.Told.{at_told}
 
 not_fault : (r : Status) → is_said r ≡ true → r ≢ WriteFault
@@ -23,7 +25,7 @@ same_due : (words : List Text) (told : Option (List ℕ)) (status s : Status) (t
 same_due words told status s text t is p q = subst (λ (x : Status). IsDueFrom words told (due x t)) (sym p) (subst (λ (y : List ℕ). IsDueFrom words told (due status y)) (sym q) is)
 
 -- a due text that was said
-said-due : (words : List Text) (told : Option (List ℕ)) (status r : Status) (text t : List ℕ) (a b : Option (List ℕ))
+pub said-due : (words : List Text) (told : Option (List ℕ)) (status r : Status) (text t : List ℕ) (a b : Option (List ℕ))
     → IsDueFrom words told (due status text) → t ≡ text → (r ≢ WriteFault → r ≡ status) → (r ≢ WriteFault → Appends a b t) → is_said r ≡ true → WritesDue words told r a b
 said-due words told status r text t a b is e outcome said h =
     let fine = not_fault r h in
@@ -33,7 +35,7 @@ said-due words told status r text t a b is e outcome said h =
 run-due : (words : List Text) (w : Wanted) (told a b : Option (List ℕ)) → Takes words w → WritesDue words told Done a b → WritesRun w told a b
 run-due words w told a b takes wrote =
     let bytes = wrote.due.bytes in
-    let run = request-done w bytes (due Done wrote.text) (asked-due words bytes w (due Done wrote.text) takes wrote.due.is_due) refl in
+    let run = request-done w (source_for w bytes) (due Done wrote.text) (asked-due words bytes w (due Done wrote.text) takes wrote.due.is_due) refl in
     record {
       bytes = bytes;
       told = wrote.due.told;
@@ -52,7 +54,7 @@ run-said words told status r text t w a b is q outcome said takes e =
 unfit-due : (words : List Text) (w : Wanted) (told a b : Option (List ℕ)) → Takes words w → WritesDue words told PlanRefused a b → WritesRefusal w told a b
 unfit-due words w told a b takes wrote =
     let bytes = wrote.due.bytes in
-    let unfit = request-unfit w bytes (due PlanRefused wrote.text) (asked-due words bytes w (due PlanRefused wrote.text) takes wrote.due.is_due) refl in
+    let unfit = request-unfit w (source_for w bytes) (due PlanRefused wrote.text) (asked-due words bytes w (due PlanRefused wrote.text) takes wrote.due.is_due) refl in
     record {
       bytes = bytes;
       told = wrote.due.told;
@@ -73,15 +75,20 @@ status-exact words told d r P is p = at_told told is.bytes _ is.told (λ e due. 
 
 -- so with a source that may be run
 pub where_runnable : (words : List Text) (told : Option (List ℕ)) (d : Due) (r : Status) (P : Status → Status → Type 0) → IsDueFrom words told d → ((s : Status) → s ≡ d.status → P s r)
-    → WhereTold told (λ bytes. (w : Wanted) → AskFor words w → IsRunnable w bytes → P Done r)
+    → WhereTold told (λ bytes. (w : Wanted) → AskFor words w → IsRunnable w (source_for w bytes) → P Done r)
 where_runnable words told d r P is p =
-    at_told told is.bytes _ is.told (λ w ask runnable. p Done (sym (request-runs w is.bytes d (asked-due words is.bytes w d ask.takes is.is_due) ask.settings_are runnable)))
+    at_told told is.bytes _ is.told (λ w ask runnable. p Done (sym (request-runs w (source_for w is.bytes) d (asked-due words is.bytes w d ask.takes is.is_due) ask.settings_are runnable)))
 
 -- and with one without its plan
 pub where_unplanned : (words : List Text) (told : Option (List ℕ)) (d : Due) (r : Status) (P : Status → Status → Type 0) → IsDueFrom words told d → ((s : Status) → s ≡ d.status → P s r)
-    → WhereTold told (λ bytes. (w : Wanted) → AskFor words w → IsUnplanned w bytes → P PlanRefused r)
+    → WhereTold told (λ bytes. (w : Wanted) → AskFor words w → IsUnplanned w (source_for w bytes) → P PlanRefused r)
 where_unplanned words told d r P is p =
-    at_told told is.bytes _ is.told (λ w ask unplanned. p PlanRefused (sym (request-unplanned w is.bytes d (asked-due words is.bytes w d ask.takes is.is_due) ask.settings_are unplanned)))
+    at_told told is.bytes _ is.told (λ w ask unplanned. p PlanRefused (sym (request-unplanned w (source_for w is.bytes) d (asked-due words is.bytes w d ask.takes is.is_due) ask.settings_are unplanned)))
+
+-- and of `bench`, whatever the source's bytes
+pub bench_runs : (words : List Text) (told : Option (List ℕ)) (d : Due) (workers points sweeps : ℕ) → IsDueFrom words told d → IsRunnableBench words workers points sweeps → d.status ≡ Done
+bench_runs words told d workers points sweeps is runs =
+    request-runs (bench workers points sweeps) (bench_source points sweeps) d (asked-due words is.bytes (bench workers points sweeps) d runs.takes is.is_due) refl runs.runnable
 
 pub where_each : (told : Option (List ℕ)) (P : List ℕ → Type 0) → ((bytes : List ℕ) → P bytes) → WhereTold told P
 where_each None P h = tt
@@ -90,21 +97,31 @@ where_each (Some bytes) P h = h bytes
 pub from-wrong : (words : List Text) (told : Option (List ℕ)) (d : Due) → IsDueFrom words told d → AreWrong words → d.status ≡ BadWords
 from-wrong words told d is wrong = wrong-due words is.bytes d wrong is.is_due
 
-pub from-refused : (words : List Text) (told : Option (List ℕ)) (d : Due) → IsDueFrom words told d → d.status ≡ SourceRefused → (w : Wanted) × AskFor words w
-from-refused words told d is e = refused-asks words is.bytes d is.is_due e
+-- a request reads the source, unless it is one that reads nothing
+reads_or_none : (words : List Text) (w : Wanted) → Takes words w → (ReadNothing words → ⊥) → reads w ≡ true
+reads_or_none words (sequential settings) takes other = refl
+reads_or_none words (verify settings) takes other = refl
+reads_or_none words (planned workers settings) takes other = refl
+reads_or_none words (run workers choice by settings) takes other = refl
+reads_or_none words (bench workers points sweeps) takes other = absurd (other (bench workers points sweeps, takes, refl))
 
-pub from-unfit : (words : List Text) (told : Option (List ℕ)) (d : Due) → IsDueFrom words told d → d.status ≡ PlanRefused → (w : Wanted) × AskFor words w
+pub from-refused : (words : List Text) (told : Option (List ℕ)) (d : Due) → IsDueFrom words told d → (ReadNothing words → ⊥) → d.status ≡ SourceRefused → (w : Wanted) × ReadFor words w
+from-refused words told d is other e =
+    let ask = refused-asks words is.bytes d is.is_due e in
+    (ask.0, record { asked = ask.1; reads_are = reads_or_none words ask.0 ask.1.takes other })
+
+pub from-unfit : (words : List Text) (told : Option (List ℕ)) (d : Due) → IsDueFrom words told d → d.status ≡ PlanRefused → (w : Wanted) × ReadFor words w
 from-unfit words told d is e = unfit-asks words is.bytes d is.is_due e
 
 -- with status 0 the settings have the form of settings
 pub from-done : (words : List Text) (told : Option (List ℕ)) (d : Due) (w : Wanted) → IsDueFrom words told d → Takes words w → d.status ≡ Done → AskFor words w
 from-done words told d w is takes e =
-    let run = request-done w is.bytes d (asked-due words is.bytes w d takes is.is_due) e in
+    let run = request-done w (source_for w is.bytes) d (asked-due words is.bytes w d takes is.is_due) e in
     record { takes = takes; settings_are = run.settings_are }
 
 pub from-unnamed : (words : List Text) (told : Option (List ℕ)) (d : Due) (w : Wanted) → IsDueFrom words told d → AskFor words w → settings_of w ≡ [] → d.status ≢ BadWords
 from-unnamed words told d w is ask none e =
-    request-unnamed w is.bytes d (asked-due words is.bytes w d ask.takes is.is_due) none e
+    request-unnamed w (source_for w is.bytes) d (asked-due words is.bytes w d ask.takes is.is_due) none e
 
 -- the status that was found, or that a write failed
 pub said_or_fault : (r s : Status) → (r ≢ WriteFault → r ≡ s) → (r ≡ s) ⊎ ((r ≡ WriteFault) ⊎ (r ≡ NoMemory))
@@ -116,3 +133,43 @@ said_or_fault ReadFault s h = inl (h (λ e. absurd (cc)))
 said_or_fault NoMemory s h = inl (h (λ e. absurd (cc)))
 said_or_fault PlanRefused s h = inl (h (λ e. absurd (cc)))
 said_or_fault TooLong s h = inl (h (λ e. absurd (cc)))
+
+-- ---- receipts
+
+-- of a run by spmd with status 0 there is the receipt of what was written
+pub receipt-said : (words : List Text) (told : Option (List ℕ)) (status r : Status) (text t : List ℕ) (receipt : Option End) (w : Wanted) (a b : Option (List ℕ))
+    → IsAnswerFrom words told (due status text) receipt → t ≡ text → status ≡ Done → Appends a b t → Takes words w → is_shared w ≡ true → WritesReceipt w told a b receipt
+receipt-said words told status r text t None w a b is same done written takes shared = absurd (is.receipt_is w takes shared done)
+receipt-said words told status r text t (Some end) w a b is same done written takes shared =
+    let run = request-done w (source_for w is.bytes) (due status text) (asked-due words is.bytes w (due status text) takes is.is_due) done in
+    record {
+      bytes = is.bytes;
+      told = is.told;
+      runnable = run.runnable;
+      text = text;
+      written = subst (Appends a b) same written;
+      end = end;
+      receipt_is = refl;
+      is_receipt = (is.receipt_is w takes).2;
+    }
+
+-- and without there is none
+pub receipt-none : (words : List Text) (told : Option (List ℕ)) (status : Status) (text : List ℕ) (receipt : Option End)
+    → IsAnswerFrom words told (due status text) receipt → status ≡ Done → ((w : Wanted) → Takes words w → is_shared w ≡ true → ⊥) → receipt ≡ None
+receipt-none words told status text None is done never = refl
+receipt-none words told status text (Some end) is done never = by_case is.is_due
+  where
+    by_case : IsDue words is.bytes (due status text) → Some end ≡ None
+    by_case (shown asks e) = is.none (λ w takes. taken_or_shown words w takes asks)
+    by_case (faulty are e) = is.none (λ w takes. taken_or_faulty words w takes are)
+    by_case (asked w takes e) = absurd (never w takes (is.receipt_is w takes).0)
+
+pub is_done : (s : Status) → (s ≡ Done) ⊎ (s ≢ Done)
+is_done Done = inl refl
+is_done SourceRefused = inr (λ e. cc)
+is_done BadWords = inr (λ e. cc)
+is_done ReadFault = inr (λ e. cc)
+is_done WriteFault = inr (λ e. cc)
+is_done NoMemory = inr (λ e. cc)
+is_done PlanRefused = inr (λ e. cc)
+is_done TooLong = inr (λ e. cc)

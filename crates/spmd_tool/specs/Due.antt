@@ -1,5 +1,5 @@
 -- What is due for a command: the status and the text, from its words and the bytes of the source alone.
-use Rattle.std.specs.Prelude.{ℕ, ◌≡◌, ◌≤◌, ◌⊎◌, ⊤, Bool, true, false, List, length, codes, Option, Some, None, nat_lt, if◌then◌else◌}
+use Rattle.std.specs.Prelude.{ℕ, ◌≡◌, ◌≤◌, ◌⊎◌, ⊤, Bool, true, false, List, [], length, codes, Option, Some, None, nat_lt, if◌then◌else◌}
 use Rattle.std.specs.Option.{option_map, option_or}
 use Rattle.nest_tree.specs.Tree.{Tree}
 use Rattle.f77_lines.specs.Listing.{entries_of}
@@ -7,11 +7,14 @@ use Rattle.f77_scene.specs.Reading.{program_in}
 use Rattle.sync_plan.specs.declared.plan.Plan.{Plan}
 use Rattle.clap.specs.Words.{Text}
 use Rattle.command_words.specs.Settings.{first_fault_from, settings_in}
-use Rattle.command_words.specs.Wanted.{Wanted, sequential, verify, planned, run, Takes, AreFaulty, asks_to_show}
+use Rattle.command_words.specs.Wanted.{Wanted, sequential, verify, planned, run, bench, Takes, AreFaulty, asks_to_show}
 use Rattle.command_words.specs.declared.request.PlanChoice.TheVariants.{Made, Barrier, Given}
+use Rattle.cell_table.specs.Ends.{End}
+use Rattle.spmd_answer.specs.Bench.{bench_source}
 use Rattle.spmd_answer.specs.Due as answer
 use Rattle.spmd_answer.specs.Due.{Due, IsFirstOr, behind_end, behind_of, due_of_refusal, line, wrong_setting}
 use Rattle.spmd_answer.specs.Given.{IsTakenPlan}
+use Rattle.spmd_answer.specs.Receipts.{HasReceipt}
 use Rattle.spmd_answer.specs.declared.status.Status.{Status}
 use Rattle.spmd_answer.specs.declared.status.Status.TheVariants.{Done, SourceRefused, BadWords, ReadFault, WriteFault, NoMemory, PlanRefused, TooLong}
 
@@ -24,7 +27,24 @@ abbrev pub settings_of : Wanted → List Text
 settings_of (sequential settings) = settings
 settings_of (verify settings) = settings
 settings_of (planned workers settings) = settings
-settings_of (run workers choice settings) = settings
+settings_of (run workers choice by settings) = settings
+settings_of (bench workers points sweeps) = []
+
+-- the source is read for a request; `bench` has its own
+abbrev pub reads : Wanted → Bool
+reads (sequential settings) = true
+reads (verify settings) = true
+reads (planned workers settings) = true
+reads (run workers choice by settings) = true
+reads (bench workers points sweeps) = false
+
+-- the bytes from which a request is answered: those of the source, or of `bench` those of its own program
+abbrev pub source_for : Wanted → List ℕ → List ℕ
+source_for (sequential settings) bytes = bytes
+source_for (verify settings) bytes = bytes
+source_for (planned workers settings) bytes = bytes
+source_for (run workers choice by settings) bytes = bytes
+source_for (bench workers points sweeps) bytes = bench_source points sweeps
 
 -- due with a source of too many bytes
 abbrev pub too_long : Due
@@ -41,7 +61,7 @@ first_wrong wanted = first_fault_from 1 (settings_of wanted)
 abbrev pub due_of_form : Wanted → List ℕ → Option Due
 due_of_form wanted bytes = option_or (option_map wrong_setting (first_wrong wanted)) (if nat_lt most_bytes (length bytes) then Some too_long else None)
 
--- Due for a request, from all bytes of the source.
+-- Due for a request, from all bytes of its source.
 unfoldable pub IsDueFor : Wanted → List ℕ → Due → Type 0
 IsDueFor wanted bytes due = IsFirstOr (due_of_form wanted bytes) (answer.IsDueOf wanted (settings_in (settings_of wanted)) bytes) due
 
@@ -49,16 +69,25 @@ IsDueFor wanted bytes due = IsFirstOr (due_of_form wanted bytes) (answer.IsDueOf
 pub data IsDue (words : List Text) (bytes : List ℕ) (due : Due) : Type 0 where
   shown : (asks : asks_to_show words ≡ true) (status_is : due.status ≡ Done) → IsDue words bytes due
   faulty : (are : AreFaulty words) (due_is : due ≡ wrong_words) → IsDue words bytes due
-  asked : (wanted : Wanted) (takes : Takes words wanted) (is_due : IsDueFor wanted bytes due) → IsDue words bytes due
+  asked : (wanted : Wanted) (takes : Takes words wanted) (is_due : IsDueFor wanted (source_for wanted bytes) due) → IsDue words bytes due
 
 -- no plan is made for words: then one text is due, but for help and the version
 abbrev pub MakeNoPlan : List Text → Type 0
 MakeNoPlan words = (wanted : Wanted) → Takes words wanted → answer.makes_plan wanted ≡ false
 
--- The words stand for this request, and its settings have the form of settings: then the source is read.
+-- The words stand for this request, and its settings have the form of settings.
 pub record AskFor (words : List Text) (wanted : Wanted) : Type 0 where
   pub takes : Takes words wanted
   pub settings_are : first_wrong wanted ≡ None
+
+-- The same, and the source is read for it.
+pub record ReadFor (words : List Text) (wanted : Wanted) : Type 0 where
+  pub asked : AskFor words wanted
+  pub reads_are : reads wanted ≡ true
+
+-- The words stand for a request that doesn't read the source.
+abbrev pub ReadNothing : List Text → Type 0
+ReadNothing words = (wanted : Wanted) × Takes words wanted × (reads wanted ≡ false)
 
 -- The words are faulty, or one of them that should be a setting is none.
 abbrev pub AreWrong : List Text → Type 0
@@ -73,9 +102,14 @@ abbrev pub HasPlan : Wanted → Tree → List ℕ → Type 0
 HasPlan (sequential settings) tree bytes = ⊤
 HasPlan (verify settings) tree bytes = (plan : Plan) × IsTakenPlan None tree bytes plan
 HasPlan (planned workers settings) tree bytes = ⊤
-HasPlan (run workers Made settings) tree bytes = ⊤
-HasPlan (run workers Barrier settings) tree bytes = ⊤
-HasPlan (run workers Given settings) tree bytes = (plan : Plan) × IsTakenPlan (Some workers) tree bytes plan
+HasPlan (bench workers points sweeps) tree bytes = ⊤
+HasPlan (run workers Made by settings) tree bytes = ⊤
+HasPlan (run workers Barrier by settings) tree bytes = ⊤
+HasPlan (run workers Given by settings) tree bytes = (plan : Plan) × IsTakenPlan (Some workers) tree bytes plan
+
+-- There is the receipt of a run by spmd, where it writes what is due for a request from these bytes of its source, and else none.
+abbrev pub HasReceiptFor : Wanted → List ℕ → Due → Option End → Type 0
+HasReceiptFor wanted bytes due receipt = HasReceipt wanted (program_for wanted bytes) (behind_end bytes) due receipt
 
 -- The bytes stand for a program that is within its limits and has its subscripts in range, where its named constants have the values of the request's settings; and what stands behind END may.
 pub record IsRunnable (wanted : Wanted) (bytes : List ℕ) : Type 0 where
@@ -83,7 +117,12 @@ pub record IsRunnable (wanted : Wanted) (bytes : List ℕ) : Type 0 where
   pub unrefused : due_of_refusal (behind_of wanted) bytes (settings_in (settings_of wanted)) ≡ None
   pub planned : HasPlan wanted (program_for wanted bytes) (behind_end bytes)
 
--- The same, but that no such plan stands behind END, where the request takes one from there.
+-- The words stand for `bench` with these sizes, and its own bytes stand for a program that may be run.
+pub record IsRunnableBench (words : List Text) (workers points sweeps : ℕ) : Type 0 where
+  pub takes : Takes words (bench workers points sweeps)
+  pub runnable : IsRunnable (bench workers points sweeps) (bench_source points sweeps)
+
+-- The same as `IsRunnable`, but that no such plan stands behind END, where the request takes one from there.
 pub record IsUnplanned (wanted : Wanted) (bytes : List ℕ) : Type 0 where
   pub short : length bytes ≤ most_bytes
   pub unrefused : due_of_refusal (behind_of wanted) bytes (settings_in (settings_of wanted)) ≡ None

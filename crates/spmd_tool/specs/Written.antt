@@ -1,11 +1,13 @@
 -- What the top call has found and written, of what is due.
-use Rattle.std.specs.Prelude.{ℕ, List, Option}
+use Rattle.std.specs.Prelude.{ℕ, ◌≡◌, List, Option, Some, None}
 use Rattle.std.specs.Io.KnownBytes.{Appends}
 use Rattle.clap.specs.Words.{Text}
-use Rattle.command_words.specs.Wanted.{Wanted}
+use Rattle.cell_table.specs.Ends.{End}
+use Rattle.command_words.specs.Wanted.{Takes, Wanted}
 use Rattle.spmd_answer.specs.Due.{Due, IsRefusalFor, IsTextFor, behind_end, line}
+use Rattle.spmd_answer.specs.Receipts.{IsReceiptOf}
 use Rattle.spmd_answer.specs.declared.status.Status.{Status}
-use Rattle.spmd_tool.specs.Due.{IsDue, IsDueFor, IsRunnable, IsUnplanned, program_for}
+use Rattle.spmd_tool.specs.Due.{HasReceiptFor, IsDue, IsDueFor, IsRunnable, IsUnplanned, program_for, source_for}
 use Rattle.spmd_tool.specs.Outside.{AreTold, WritesPart}
 
 -- This is due for the words and the bytes of the source, where it tells them.
@@ -14,11 +16,20 @@ pub record IsDueFrom (words : List Text) (source : Option (List ℕ)) (due : Due
   pub told : AreTold source bytes
   pub is_due : IsDue words bytes due
 
--- The same for a request.
-pub record IsDueOf (wanted : Wanted) (source : Option (List ℕ)) (due : Due) : Type 0 where
+-- This is due for a request and the bytes of the source, where it tells them, and this is the receipt of a run by spmd.
+pub record IsAnswerOf (wanted : Wanted) (source : Option (List ℕ)) (due : Due) (receipt : Option End) : Type 0 where
   pub bytes : List ℕ
   pub told : AreTold source bytes
-  pub is_due : IsDueFor wanted bytes due
+  pub is_due : IsDueFor wanted (source_for wanted bytes) due
+  pub receipt_is : HasReceiptFor wanted (source_for wanted bytes) due receipt
+
+-- The same for words; without a request there is no receipt.
+pub record IsAnswerFrom (words : List Text) (source : Option (List ℕ)) (due : Due) (receipt : Option End) : Type 0 where
+  pub bytes : List ℕ
+  pub told : AreTold source bytes
+  pub is_due : IsDue words bytes due
+  pub receipt_is : (wanted : Wanted) → Takes words wanted → HasReceiptFor wanted (source_for wanted bytes) due receipt
+  pub none : ((wanted : Wanted) → Takes words wanted → ⊥) → receipt ≡ None
 
 -- The text that is due with this status, for these words and the bytes of the source, was written.
 pub record WritesDue (words : List Text) (source : Option (List ℕ)) (status : Status) (old new : Option (List ℕ)) : Type 0 where
@@ -32,20 +43,31 @@ pub record WritesPartOfDue (words : List Text) (source : Option (List ℕ)) (old
   pub is_due : IsDueFrom words source due
   pub written : WritesPart old new due.text
 
--- The bytes of the source stand for a program that may be run, and what the request asks for was written: of `plan` the text of a plan that is made and then that of its reasons, of `run` the text of a plan and then the sequential output, of `seq` the output, of `verify` that the plan is accepted.
+-- The bytes of the source, of `bench` those of its own, stand for a program that may be run, and what the request asks for was written: of `plan` the text of a plan that is made and then that of its reasons, of `run` the text of a plan and then the sequential output, of `bench` how many waits of each kind the plan has and then the output, of `seq` the output, of `verify` that the plan is accepted.
 pub record WritesRun (wanted : Wanted) (source : Option (List ℕ)) (old new : Option (List ℕ)) : Type 0 where
   pub bytes : List ℕ
   pub told : AreTold source bytes
-  pub runnable : IsRunnable wanted bytes
+  pub runnable : IsRunnable wanted (source_for wanted bytes)
   pub text : List ℕ
-  pub is_text : IsTextFor wanted (program_for wanted bytes) (behind_end bytes) text
+  pub is_text : IsTextFor wanted (program_for wanted (source_for wanted bytes)) (behind_end (source_for wanted bytes)) text
   pub written : Appends old new text
+
+-- The same of a run by spmd: what was written is what the run by one plan writes, and of that program and that plan is the receipt, with the last memory.
+pub record WritesReceipt (wanted : Wanted) (source : Option (List ℕ)) (old new : Option (List ℕ)) (receipt : Option End) : Type 0 where
+  pub bytes : List ℕ
+  pub told : AreTold source bytes
+  pub runnable : IsRunnable wanted (source_for wanted bytes)
+  pub text : List ℕ
+  pub written : Appends old new text
+  pub end : End
+  pub receipt_is : receipt ≡ Some end
+  pub is_receipt : IsReceiptOf wanted (program_for wanted (source_for wanted bytes)) (behind_end (source_for wanted bytes)) text end
 
 -- The bytes of the source stand for such a program, but the plan that the request takes from behind END is refused, and the line that says so was written.
 pub record WritesRefusal (wanted : Wanted) (source : Option (List ℕ)) (old new : Option (List ℕ)) : Type 0 where
   pub bytes : List ℕ
   pub told : AreTold source bytes
-  pub unplanned : IsUnplanned wanted bytes
+  pub unplanned : IsUnplanned wanted (source_for wanted bytes)
   pub reason : List ℕ
-  pub is_reason : IsRefusalFor wanted (program_for wanted bytes) (behind_end bytes) reason
+  pub is_reason : IsRefusalFor wanted (program_for wanted (source_for wanted bytes)) (behind_end (source_for wanted bytes)) reason
   pub written : Appends old new (line reason)

@@ -1,24 +1,26 @@
 // What is due for words and a source, all of which is known before anything is written.
 
-ghost use Rattle.std.specs.Prelude.{◌≡◌, ◌≢◌, ◌+◌, ◌<◌, ℕ, None, Some, IfOk, IsTrue};
+ghost use Rattle.std.specs.Prelude.{◌≡◌, ◌≢◌, ◌≤◌, ◌+◌, ◌<◌, ℕ, List, None, Some, IfOk, OnOk, IsTrue, false, length, true};
 ghost use Rattle.std.specs.Io.KnownBytes.{IsAtEnd};
 ghost use Rattle.clap.specs.Walk.{texts};
 ghost use Rattle.command_words.specs.Wanted.{Wanted, wanted, IsCounted};
 ghost use Rattle.spmd_ports.specs.Counts.{Rose};
 ghost use Rattle.spmd_answer.specs.Due as due;
 ghost use Rattle.spmd_answer.specs.Stops.{due_in};
-ghost use Rattle.spmd_tool.specs.Due.{AskFor, first_wrong, is_said, most_bytes, settings_of, too_long as due_too_long};
-ghost use Rattle.spmd_tool.specs.Outside.{TakesBytes};
-ghost use Rattle.spmd_tool.specs.Written.{IsDueFrom, IsDueOf};
+ghost use Rattle.spmd_tool.specs.Due.{ReadFor, first_wrong, is_said, most_bytes, reads, settings_of, source_for, too_long as due_too_long};
+ghost use Rattle.spmd_tool.specs.Outside.{AreTold, TakesBytes};
+ghost use Rattle.spmd_tool.specs.Written.{IsAnswerFrom, IsAnswerOf};
 ghost use Rattle.spmd_tool.specs.declared.answer.Trouble.TheVariants as trouble;
 
 use crate::outside::{ReadTrouble, read_all};
+use cell_table::Receipt;
 use clap::Error;
 use command_words::{Refused, Request, SettingFault, read_settings, read_words};
-use spmd_answer::{Answer, Status, answer_to};
-use spmd_ports::Source;
+use spmd_answer::{Answer, Host, Status, answer_to, bench_source};
+use spmd_ports::{Gate, Source};
 use std::alloc::{AllocError, Global};
 use std::fmt::Write;
+use std::sync::Wait;
 use std::thread::Threads;
 
 /// Why there is no answer.
@@ -38,58 +40,83 @@ impl From<AllocError> for Trouble {
     }
 }
 
-/// The answer to words, which stand without the program's name, from the bytes of the source. It
-/// is read only where the words stand for a request and its settings have the form of settings.
-pub fn answer_in<R: Threads + Sync, S: Source>(
-    rt: &R,
-    alloc: Global,
+/// The answer to words, which stand without the program's name, from the bytes of the source, and
+/// the receipt of a run by spmd, whose workers pass the gate. The source is read only where the words
+/// stand for a request that reads it and its settings have the form of settings.
+pub fn answer_in<R: Threads + Wait + Sync, S: Source, G: Gate + Sync>(
+    host: &Host<'_, R, G>,
     words: &[&str],
     source: &mut S,
-) -> Result<Answer, Trouble>
-    ensures due { IfOk result (λ a. IsDueFrom (texts words.now) (S.left source.old) (due_in a)) }
-    ensures said { IfOk result (λ a. IsTrue (is_said a.status)) }
-    ensures end { (w : Wanted) → AskFor (texts words.now) w → IfOk result (λ a. a.status ≢ Status.TooLong → IsAtEnd (S.left source.new)) }
-    ensures stops { IfOk result (λ a. a.status ≡ Status.TooLong → TakesBytes (S.left source.old) (S.left source.new) (most_bytes + 1)) }
-    ensures unread { ((w : Wanted) → AskFor (texts words.now) w → ⊥) → source.new ≡ source.old }
-    ensures reads { result ≡ Err Trouble.ReadFault → (w : Wanted) × AskFor (texts words.now) w }
+) -> Result<(Answer, Option<Receipt>), Trouble>
+    ensures due { IfOk result (λ r. IsAnswerFrom (texts words.now) (S.left source.old) (due_in r.0) r.1) }
+    ensures said { IfOk result (λ r. IsTrue (is_said r.0.status)) }
+    ensures end { (w : Wanted) → ReadFor (texts words.now) w → IfOk result (λ r. r.0.status ≢ Status.TooLong → IsAtEnd (S.left source.new)) }
+    ensures stops { IfOk result (λ r. r.0.status ≡ Status.TooLong → TakesBytes (S.left source.old) (S.left source.new) (most_bytes + 1)) }
+    ensures unread { ((w : Wanted) → ReadFor (texts words.now) w → ⊥) → source.new ≡ source.old }
+    ensures reads { result ≡ Err Trouble.ReadFault → (w : Wanted) × ReadFor (texts words.now) w }
     ensures fault { result ≡ Err Trouble.ReadFault → Rose (S.faults source.old) (S.faults source.new) }
     ensures no_fault { S.faults source.old < S.faults source.new → result ≡ Err Trouble.ReadFault }
 {
+    let alloc = host.alloc;
     match read_words(alloc, words) {
-        Ok(request) => answer_for(rt, alloc, &request, source),
-        Err(Refused::Shown(error)) => Ok(shown(alloc, &error)?),
-        Err(Refused::Faulty) => Ok(wrong_words(alloc, 0)?),
+        Ok(request) => answer_for(host, &request, source),
+        Err(Refused::Shown(error)) => Ok((shown(alloc, &error)?, None)),
+        Err(Refused::Faulty) => Ok((wrong_words(alloc, 0)?, None)),
         Err(Refused::NoMemory) => Err(Trouble::NoMemory),
     }
 }
 
-// The answer to a request.
-fn answer_for<R: Threads + Sync, S: Source>(
-    rt: &R,
-    alloc: Global,
+// The answer to a request, and the receipt of a run by spmd.
+fn answer_for<R: Threads + Wait + Sync, S: Source, G: Gate + Sync>(
+    host: &Host<'_, R, G>,
     request: &Request,
     source: &mut S,
-) -> Result<Answer, Trouble>
+) -> Result<(Answer, Option<Receipt>), Trouble>
     requires { IsCounted (wanted request.now) }
-    ensures due { IfOk result (λ a. IsDueOf (wanted request.now) (S.left source.old) (due_in a)) }
-    ensures said { IfOk result (λ a. IsTrue (is_said a.status)) }
-    ensures end { first_wrong (wanted request.now) ≡ None → IfOk result (λ a. a.status ≢ Status.TooLong → IsAtEnd (S.left source.new)) }
-    ensures stops { IfOk result (λ a. a.status ≡ Status.TooLong → TakesBytes (S.left source.old) (S.left source.new) (most_bytes + 1)) }
+    ensures due { IfOk result (λ r. IsAnswerOf (wanted request.now) (S.left source.old) (due_in r.0) r.1) }
+    ensures said { IfOk result (λ r. IsTrue (is_said r.0.status)) }
+    ensures end { first_wrong (wanted request.now) ≡ None → reads (wanted request.now) ≡ true → IfOk result (λ r. r.0.status ≢ Status.TooLong → IsAtEnd (S.left source.new)) }
+    ensures stops { IfOk result (λ r. r.0.status ≡ Status.TooLong → TakesBytes (S.left source.old) (S.left source.new) (most_bytes + 1)) }
     ensures unread { (index : ℕ) → first_wrong (wanted request.now) ≡ Some index → source.new ≡ source.old }
-    ensures reads { result ≡ Err Trouble.ReadFault → first_wrong (wanted request.now) ≡ None }
+    ensures unasked { reads (wanted request.now) ≡ false → source.new ≡ source.old }
+    ensures reads { result ≡ Err Trouble.ReadFault → (first_wrong (wanted request.now) ≡ None) × (reads (wanted request.now) ≡ true) }
     ensures fault { result ≡ Err Trouble.ReadFault → Rose (S.faults source.old) (S.faults source.new) }
     ensures no_fault { S.faults source.old < S.faults source.new → result ≡ Err Trouble.ReadFault }
 {
+    let alloc = host.alloc;
     let settings = match read_settings(alloc, settings_in(request)) {
         Ok(settings) => settings,
-        Err(SettingFault::Word(index)) => return Ok(wrong_words(alloc, index)?),
+        Err(SettingFault::Word(index)) => return Ok((wrong_words(alloc, index)?, None)),
         Err(SettingFault::NoMemory) => return Err(Trouble::NoMemory),
     };
-    match read_all(alloc, source) {
-        Ok(bytes) => Ok(answer_to(rt, alloc, request, &settings, &bytes)?),
-        Err(ReadTrouble::TooLong) => Ok(too_long(alloc)?),
+    match source_of(alloc, request, source) {
+        Ok(bytes) => Ok(answer_to(host, request, &settings, &bytes)?),
+        Err(ReadTrouble::TooLong) => Ok((too_long(alloc)?, None)),
         Err(ReadTrouble::Fault) => Err(Trouble::ReadFault),
         Err(ReadTrouble::NoMemory) => Err(Trouble::NoMemory),
+    }
+}
+
+// The bytes from which a request is answered: all those of the source, or of `bench` those of its
+// own program.
+fn source_of<S: Source>(
+    alloc: Global,
+    request: &Request,
+    source: &mut S,
+) -> Result<Vec<u8>, ReadTrouble>
+    requires { IsCounted (wanted request.now) }
+    ensures bytes { IfOk result (λ bytes. (all : List ℕ) × AreTold (S.left source.old) all × (bytes.items ≡ source_for (wanted request.now) all)) }
+    ensures short { IfOk result (λ bytes. length bytes.items ≤ most_bytes) }
+    ensures end { reads (wanted request.now) ≡ true → OnOk result (IsAtEnd (S.left source.new)) }
+    ensures unread { reads (wanted request.now) ≡ false → source.new ≡ source.old }
+    ensures reads { result ≡ Err ReadTrouble.Fault → reads (wanted request.now) ≡ true }
+    ensures fault { result ≡ Err ReadTrouble.Fault → Rose (S.faults source.old) (S.faults source.new) }
+    ensures no_fault { S.faults source.old < S.faults source.new → result ≡ Err ReadTrouble.Fault }
+    ensures long { result ≡ Err ReadTrouble.TooLong → (reads (wanted request.now) ≡ true) × TakesBytes (S.left source.old) (S.left source.new) (most_bytes + 1) }
+{
+    match request {
+        Request::Bench(bench) => Ok(bench_source(alloc, *bench)?),
+        _ => read_all(alloc, source),
     }
 }
 
@@ -101,7 +128,8 @@ fn settings_in<'a>(request: &'a Request<'a>) -> &'a [&'a str]
         Request::Sequential(settings)
         | Request::Verify(settings)
         | Request::Plan(_, settings)
-        | Request::Run(_, _, settings) => settings,
+        | Request::Run(_, settings) => settings,
+        Request::Bench(_) => &[],
     }
 }
 

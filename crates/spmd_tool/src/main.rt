@@ -17,7 +17,7 @@ mod tool;
 
 use crate::tool::tool;
 use spmd_answer::Status;
-use spmd_ports::{StdSink, StdSource};
+use spmd_ports::{NoGate, StdSink, StdSource};
 use std::alloc::{AllocError, Global};
 use std::io::ErrorKind;
 use std::process::ExitCode;
@@ -36,7 +36,8 @@ fn main(rt: HostRuntime) -> ExitCode {
         Ok(texts) => {
             let mut source = StdSource::new(rt.stdin());
             let mut sink = StdSink::new(rt.stdout());
-            tool(&rt, rt.alloc(), &texts, &mut source, &mut sink)
+            let (status, _) = tool(&rt, rt.alloc(), &texts, &mut source, &mut sink, &NoGate);
+            status
         }
         Err(_) => Status::NoMemory,
     };
@@ -79,5 +80,7 @@ fn number_of(status: Status) -> u8
     }
 }
 
+#[cfg(test)]
+mod runs;
 #[cfg(test)]
 mod tests;

@@ -3,10 +3,11 @@
 ghost use Rattle.std.specs.Prelude.{◌≡◌, ◌+◌, ◌++◌, ◌≤◌, ◌<◌, ℕ, List, [], length, IfOk, OnOk, OnErr, IsErrOf, IsOk, take};
 ghost use Rattle.std.specs.Io.KnownBytes.{Appends, Consumes, IsAtEnd, Keeps};
 ghost use Rattle.spmd_ports.specs.Counts.{Rose};
+ghost use Rattle.spmd_tool.specs.declared.outside.ReadTrouble.TheVariants.{NoMemory};
 ghost use Rattle.spmd_tool.specs.Outside.{TakesBytes, WritesPart, RoseOneOf};
 
 use spmd_ports::{Failed, Sink, Source};
-use std::alloc::Global;
+use std::alloc::{AllocError, Global};
 
 /// The most bytes of a source.
 pub const MOST_BYTES: usize = 4_194_304;
@@ -23,6 +24,14 @@ pub enum ReadTrouble {
     TooLong,
     /// Memory ran out.
     NoMemory,
+}
+
+impl From<AllocError> for ReadTrouble {
+    ghost from_gives = { λ _ trouble. trouble ≡ NoMemory };
+
+    fn from(_error: AllocError) -> ReadTrouble {
+        ReadTrouble::NoMemory
+    }
 }
 
 /// All bytes of a source, up to its end. Of a source that is too long exactly 4,194,305 bytes are

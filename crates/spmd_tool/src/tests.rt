@@ -4,9 +4,10 @@ ghost use Rattle.std.specs.Prelude.{◌<◌};
 
 use crate::tool::tool;
 use spmd_answer::Status;
-use spmd_ports::{MemSink, MemSource};
+use spmd_ports::{MemSink, MemSource, NoGate};
 use std::alloc::Global;
 use std::fmt::Write;
+use std::sync::Wait;
 use std::test::Fail;
 use std::thread::Threads;
 
@@ -22,7 +23,7 @@ const WORDS: [&str; 7] = ["run", "--workers", "2", "--plan", "barrier", "--by", 
 type Calls<'a> = (&'a [u64], &'a [u64], &'a [u64]);
 
 // What a run with the usual words writes, and its status.
-fn run_of<R: Threads + Sync>(
+fn run_of<R: Threads + Wait + Sync>(
     rt: &R,
     alloc: Global,
     pieces: (usize, usize),
@@ -33,12 +34,12 @@ fn run_of<R: Threads + Sync>(
 {
     let mut source = MemSource::new(alloc, FIRST, pieces.0, calls.0)?;
     let mut sink = MemSink::new(alloc, 1000, pieces.1, calls.1, calls.2)?;
-    let status = tool(rt, alloc, &WORDS, &mut source, &mut sink);
+    let (status, _) = tool(rt, alloc, &WORDS, &mut source, &mut sink, &NoGate);
     Ok((status, sink))
 }
 
 // What these words write for a source, and their status.
-fn said_to<R: Threads + Sync>(
+fn said_to<R: Threads + Wait + Sync>(
     rt: &R,
     alloc: Global,
     words: &[&str],
@@ -46,7 +47,7 @@ fn said_to<R: Threads + Sync>(
 ) -> Result<(Status, MemSink), Fail> {
     let mut source = MemSource::new(alloc, bytes, 100_000, &[])?;
     let mut sink = MemSink::new(alloc, 20_000, 20_000, &[], &[])?;
-    let status = tool(rt, alloc, words, &mut source, &mut sink);
+    let (status, _) = tool(rt, alloc, words, &mut source, &mut sink, &NoGate);
     Ok((status, sink))
 }
 
@@ -79,7 +80,7 @@ fn a_read_that_fails_writes_nothing(rt: HostRuntime) -> Result<(), Fail> {
 }
 
 // What the first run writes 1 byte a call where this call of the sink fails, or takes nothing.
-fn run_to<R: Threads + Sync>(
+fn run_to<R: Threads + Wait + Sync>(
     rt: &R,
     alloc: Global,
     call: u64,
@@ -217,7 +218,7 @@ fn refuses_a_source_that_is_too_long(rt: HostRuntime) -> Result<(), Fail> {
         let long = vec![in rt.alloc(); b'\n'; length]?;
         let mut source = MemSource::new(rt.alloc(), &long, piece, &[])?;
         let mut sink = MemSink::new(rt.alloc(), 1000, 1000, &[], &[])?;
-        let ended = tool(&rt, rt.alloc(), &["seq"], &mut source, &mut sink);
+        let (ended, _) = tool(&rt, rt.alloc(), &["seq"], &mut source, &mut sink, &NoGate);
         assert_eq!(rt; ended, status);
         let line = sink.written() == b"TOO LONG\n".as_slice();
         assert_eq!(rt; line, status == Status::TooLong);

@@ -17,3 +17,7 @@ returns-clause-help_of_plan c = refl
 pub returns-clause-version : goal.returns-clause-version
 unfolding clap_on_literals
 returns-clause-version c = refl
+
+pub returns-clause-help_of_bench : goal.returns-clause-help_of_bench
+unfolding clap_on_literals
+returns-clause-help_of_bench c = refl

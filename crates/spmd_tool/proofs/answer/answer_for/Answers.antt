@@ -10,12 +10,12 @@ returns-in-Err-Word-clause-due g c =
     wrong-of (wanted c.args.request.now) _ (texts c.settings_in.result.now) c.in-Err-Word.index _ c.settings_in.ensures
     (rw c.in-Err-Word.field-0-is at c.in-Err-Word.ensures.refused) c.in_ok-wrong_words-in-Err-Word.ensures
 
-pub returns-in-Ok-read_all-clause-due : goal.returns-in-Ok-read_all-clause-due
-returns-in-Ok-read_all-clause-due g c =
+pub returns-in-Ok-source_of-clause-due : goal.returns-in-Ok-source_of-clause-due
+returns-in-Ok-source_of-clause-due g c =
     let same = ap (map setting_of) c.deref.ensures.value in
-    read-of (wanted c.args.request.now) _ _ c.in-Ok-read_all.bytes.items c.deref-in-Ok-read_all.result.now (texts c.settings_in.result.now) (map setting_of c.deref.result.now) _ c.settings_in.ensures
-    (c.in-Ok.ensures.read.0, same ∙ c.in-Ok.ensures.read.1) c.in-Ok-read_all.ensures.read c.in-Ok-read_all.ensures.end c.deref-in-Ok-read_all.ensures.value
-    c.in-Ok-read_all.ensures.short c.in_ok-answer_to-in-Ok-read_all.ensures
+    read-of (wanted c.args.request.now) _ c.in-Ok-source_of.bytes.items c.in-Ok-source_of.ensures.bytes c.deref-in-Ok-source_of.result.now (texts c.settings_in.result.now) (map setting_of c.deref.result.now) _ _ c.settings_in.ensures
+    (c.in-Ok.ensures.read.0, same ∙ c.in-Ok.ensures.read.1) c.deref-in-Ok-source_of.ensures.value c.in-Ok-source_of.ensures.short
+    c.in_ok-answer_to-in-Ok-source_of.ensures.due c.in_ok-answer_to-in-Ok-source_of.ensures.receipt
 
 pub returns-in-Err-TooLong-clause-due : goal.returns-in-Err-TooLong-clause-due
 returns-in-Err-TooLong-clause-due g c =

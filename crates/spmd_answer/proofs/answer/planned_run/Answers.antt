@@ -1,0 +1,24 @@
+use Rattle.nest_tree.specs.View.{tree_of}
+use Rattle.command_words.specs.Wanted.{run}
+use Rattle.spmd_answer.specs.Due.{written}
+use Rattle.spmd_answer.proofs.Answering.{left_by, none_of_plan, of_plan}
+use Rattle.spmd_answer.proofs.answer.planned_run.Goals as goal
+
+pub returns-in_ok-text-in-Ok-clause-due : goal.returns-in_ok-text-in-Ok-clause-due
+returns-in_ok-text-in-Ok-clause-due g c = λ settings. written _ (c.in-Ok.plan, (c.in-Ok.ensures.plan, c.in_ok-text-in-Ok.ensures.text)) c.done.ensures
+
+pub returns-in_ok-text-in-Ok-clause-receipt : goal.returns-in_ok-text-in-Ok-clause-receipt
+returns-in_ok-text-in-Ok-clause-receipt g c =
+    λ settings.
+    left_by c.args.asked.engine c.args.asked.workers c.args.asked.choice settings c.args.program.now c.in-Ok.plan c.args.bytes.now c.in_ok-text-in-Ok.text.items c.in_ok-text-in-Ok.receipt c.done.result
+    (c.in-Ok.ensures.plan, c.in_ok-text-in-Ok.ensures.text) c.in_ok-text-in-Ok.ensures.receipt c.done.ensures
+
+pub returns-in_ok-answer_in-in-Err-clause-due : goal.returns-in_ok-answer_in-in-Err-clause-due
+returns-in_ok-answer_in-in-Err-clause-due g c =
+    λ settings.
+    of_plan (run c.args.asked.workers c.args.asked.choice c.args.asked.engine settings) (tree_of c.args.program.now) c.args.bytes.now c.in-Err.stop _ c.in_ok-answer_in-in-Err.ensures (c.in-Err.ensures.refused settings)
+
+pub returns-in_ok-answer_in-in-Err-clause-receipt : goal.returns-in_ok-answer_in-in-Err-clause-receipt
+returns-in_ok-answer_in-in-Err-clause-receipt g c =
+    λ settings.
+    none_of_plan (run c.args.asked.workers c.args.asked.choice c.args.asked.engine settings) (tree_of c.args.program.now) c.args.bytes.now c.in-Err.stop _ c.in_ok-answer_in-in-Err.ensures (c.in-Err.ensures.refused settings)

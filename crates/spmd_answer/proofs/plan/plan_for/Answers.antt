@@ -1,0 +1,51 @@
+use Rattle.std.proofs.Common.{sym, subst}
+use Rattle.std.proofs.lemmas.Result.{IfErr-weaker, IfOk-weaker}
+use Rattle.nest_tree.specs.View.{tree_of}
+use Rattle.command_words.specs.Wanted.{run}
+use Rattle.command_words.specs.declared.request.PlanChoice.{PlanChoice}
+use Rattle.plan_checker.proofs.AcceptedOrder.{accepted_ordered}
+use Rattle.plan_text.proofs.Counts.{counts_of_fit, counts_of_text}
+use Rattle.spmd_answer.specs.Due.{IsPlanFor}
+use Rattle.spmd_answer.specs.Stops.{IsStopFor}
+use Rattle.spmd_answer.proofs.Answering.{of_given}
+use Rattle.spmd_answer.proofs.plan.plan_for.Goals as goal
+
+pub returns-in_ok-plan-in-Made-clause-plan : goal.returns-in_ok-plan-in-Made-clause-plan
+returns-in_ok-plan-in-Made-clause-plan g c =
+    subst (λ (choice : PlanChoice). IsPlanFor choice c.args.asked.workers (tree_of c.args.program.now) c.args.bytes.now c.in_ok-plan-in-Made.plan) (sym c.in-Made.is) (c.in_ok-plan-in-Made.field-0-1, c.in_ok-plan-in-Made.ensures)
+
+pub returns-in_ok-plan-in-Made-clause-ordered : goal.returns-in_ok-plan-in-Made-clause-ordered
+returns-in_ok-plan-in-Made-clause-ordered g c =
+    accepted_ordered (tree_of c.args.program.now) c.in_ok-plan-in-Made.plan c.requires.formed c.requires.ranges c.in_ok-plan-in-Made.ensures.accepted
+
+pub returns-in_ok-plan-in-Made-clause-counts : goal.returns-in_ok-plan-in-Made-clause-counts
+returns-in_ok-plan-in-Made-clause-counts g c =
+    let made = c.in_ok-plan-in-Made.ensures in
+    counts_of_fit (tree_of c.args.program.now) c.in_ok-plan-in-Made.plan c.requires.formed made.version made.conditions made.accepted.fits
+
+pub returns-in_ok-make_barrier-in-Barrier-clause-ordered : goal.returns-in_ok-make_barrier-in-Barrier-clause-ordered
+returns-in_ok-make_barrier-in-Barrier-clause-ordered g c =
+    accepted_ordered (tree_of c.args.program.now) c.in_ok-make_barrier-in-Barrier.field-0 c.requires.formed c.requires.ranges c.in_ok-make_barrier-in-Barrier.ensures.accepted
+
+pub returns-in_ok-make_barrier-in-Barrier-clause-counts : goal.returns-in_ok-make_barrier-in-Barrier-clause-counts
+returns-in_ok-make_barrier-in-Barrier-clause-counts g c =
+    let barriers = c.in_ok-make_barrier-in-Barrier.ensures in
+    counts_of_fit (tree_of c.args.program.now) c.in_ok-make_barrier-in-Barrier.field-0 c.requires.formed barriers.version barriers.conditions barriers.accepted.fits
+
+pub returns-in-Given-clause-fits : goal.returns-in-Given-clause-fits
+returns-in-Given-clause-fits g c = IfOk-weaker c.given_plan.result _ _ (λ plan taken. taken.accepted.fits) c.given_plan.ensures.taken
+
+pub returns-in-Given-clause-ordered : goal.returns-in-Given-clause-ordered
+returns-in-Given-clause-ordered g c =
+    IfOk-weaker c.given_plan.result _ _ (λ plan taken. accepted_ordered (tree_of c.args.program.now) plan c.requires.formed c.requires.ranges taken.accepted) c.given_plan.ensures.taken
+
+pub returns-in-Given-clause-counts : goal.returns-in-Given-clause-counts
+returns-in-Given-clause-counts g c = IfOk-weaker c.given_plan.result _ _ (λ plan taken. counts_of_text plan taken.shown) c.given_plan.ensures.taken
+
+pub returns-in-Given-clause-refused : goal.returns-in-Given-clause-refused
+returns-in-Given-clause-refused g c =
+    λ settings.
+    let tree = tree_of c.args.program.now in
+    IfErr-weaker c.given_plan.result _ _
+    (λ s h. subst (λ (choice : PlanChoice). IsStopFor (run c.args.asked.workers choice c.args.asked.engine settings) tree c.args.bytes.now s) (sym c.in-Given.is) (of_given c.args.asked.workers c.args.asked.engine settings tree c.args.bytes.now s h))
+    c.given_plan.ensures.refused

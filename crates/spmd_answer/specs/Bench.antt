@@ -1,0 +1,56 @@
+-- The program that `bench` runs, and what it writes of its plan.
+use Rattle.std.specs.Prelude.{ℕ, List, ◌++◌, ◌∷◌, [], length, filter, codes}
+use Rattle.std.specs.Fmt.{decimal}
+use Rattle.std.specs.Str.{bytes_eq}
+use Rattle.sync_plan.specs.declared.plan.Kind.{Kind}
+use Rattle.sync_plan.specs.declared.plan.Kind.TheVariants.{Nothing, Producer, Left, Right, Both, Barrier, Join}
+use Rattle.sync_plan.specs.declared.plan.Plan.{Plan}
+use Rattle.plan_text.specs.PlanText.{text_of}
+
+-- the lines of the program: sweeps over points, each the half of its neighbours' sum
+abbrev pub bench_lines : ℕ → ℕ → List (List ℕ)
+bench_lines points sweeps =
+    codes "      PROGRAM BENCH"
+    ∷ codes "      INTEGER N, M"
+    ∷ (codes "      PARAMETER (N=" ++ (decimal points ++ (codes ", M=" ++ (decimal sweeps ++ codes ")"))))
+    ∷ codes "      INTEGER A(0:N+1), B(0:N+1)"
+    ∷ codes "      DO 10 I = 0, N+1"
+    ∷ codes "   10 A(I) = 7*I - I*I"
+    ∷ codes "      DO 40 IT = 1, M"
+    ∷ codes "      DO 20 I = 1, N"
+    ∷ codes "   20 B(I) = (A(I-1)+A(I+1))/2"
+    ∷ codes "      DO 30 I = 1, N"
+    ∷ codes "   30 A(I) = B(I)"
+    ∷ codes "   40 CONTINUE"
+    ∷ codes "      PRINT *, A(1), A(N)"
+    ∷ codes "      END"
+    ∷ []
+
+abbrev pub bench_source : ℕ → ℕ → List ℕ
+bench_source points sweeps = text_of (bench_lines points sweeps)
+
+-- what a kind of wait is called
+abbrev pub kind_word : Kind → List ℕ
+kind_word Nothing = codes "NOTHING"
+kind_word (Producer anchor) = codes "PRODUCER"
+kind_word Left = codes "LEFT"
+kind_word Right = codes "RIGHT"
+kind_word Both = codes "BOTH"
+kind_word Barrier = codes "BARRIER"
+kind_word Join = codes "JOIN"
+
+-- how many waits are called so
+abbrev pub waits_called : List ℕ → List Kind → ℕ
+waits_called word kinds = length (filter (λ k. bytes_eq (kind_word k) word) kinds)
+
+-- what a wait is called, and how many are
+abbrev pub count_of : List ℕ → List Kind → List ℕ
+count_of word kinds = word ++ 32 ∷ decimal (waits_called word kinds)
+
+-- the sizes and the workers, and how many waits of each kind the plan has
+abbrev pub bench_head : ℕ → ℕ → ℕ → Plan → List ℕ
+bench_head workers points sweeps plan = text_of (
+    (codes "BENCH N " ++ (decimal points ++ (codes " M " ++ (decimal sweeps ++ (codes " WORKERS " ++ decimal workers)))))
+    ∷ (count_of (codes "NOTHING") plan.kinds ++ 32 ∷ (count_of (codes "PRODUCER") plan.kinds ++ 32 ∷ (count_of (codes "LEFT") plan.kinds ++ 32 ∷ (count_of (codes "RIGHT") plan.kinds
+    ++ 32 ∷ (count_of (codes "BOTH") plan.kinds ++ 32 ∷ (count_of (codes "BARRIER") plan.kinds ++ 32 ∷ count_of (codes "JOIN") plan.kinds))))))
+    ∷ [])

@@ -1,0 +1,105 @@
+// The program that `bench` runs, and what it writes.
+
+ghost use Rattle.std.specs.Prelude.{◌≡◌, ◌≤◌, ℕ, List, IfOk};
+ghost use Rattle.nest_tree.specs.Limits.{IsWithinLimits};
+ghost use Rattle.nest_tree.specs.View.{tree_of};
+ghost use Rattle.nest_tree.specs.WellFormed.{IsWellFormed};
+ghost use Rattle.nest_model.specs.Ranges.{IsInRange};
+ghost use Rattle.command_words.specs.Wanted as wanted;
+ghost use Rattle.spmd_answer.specs.Bench as texts;
+ghost use Rattle.spmd_answer.specs.Receipts.{IsRunOf};
+
+use crate::host::Host;
+use crate::run::{joined, output_by};
+use cell_table::Receipt;
+use command_words::{Bench, Engine};
+use nest_tree::Program;
+use plan_maker::make;
+use spmd_ports::Gate;
+use std::alloc::{AllocError, Global};
+use std::fmt::Write;
+use std::sync::Wait;
+use std::thread::Threads;
+use sync_plan::{Kind, Plan};
+
+/// The source of the program that `bench` runs. The error is that memory ran out.
+pub fn bench_source(alloc: Global, bench: Bench) -> Result<Vec<u8>, AllocError>
+    ensures { IfOk result (λ t. t.items ≡ texts.bench_source bench.points bench.sweeps) }
+{
+    let Bench { points, sweeps, .. } = bench;
+    let mut text = String::from_str(alloc, "      PROGRAM BENCH\n      INTEGER N, M\n")?;
+    writeln!(text, "      PARAMETER (N={points}, M={sweeps})")?;
+    text.push_str("      INTEGER A(0:N+1), B(0:N+1)\n")?;
+    text.push_str("      DO 10 I = 0, N+1\n   10 A(I) = 7*I - I*I\n")?;
+    text.push_str("      DO 40 IT = 1, M\n      DO 20 I = 1, N\n")?;
+    text.push_str("   20 B(I) = (A(I-1)+A(I+1))/2\n      DO 30 I = 1, N\n")?;
+    text.push_str("   30 A(I) = B(I)\n   40 CONTINUE\n      PRINT *, A(1), A(N)\n      END\n")?;
+    Ok(text.into_bytes())
+}
+
+/// What `bench` writes of a program's run by the plan that is made, by spmd, and its receipt.
+/// Workers pass the gate. The error is that memory ran out.
+pub fn bench_run<R: Threads + Wait + Sync, G: Gate + Sync>(
+    host: &Host<'_, R, G>,
+    program: &Program,
+    bench: Bench,
+) -> Result<(Vec<u8>, Option<Receipt>), AllocError>
+    requires formed { IsWellFormed (tree_of program.now) }
+    requires limits { IsWithinLimits (tree_of program.now) }
+    requires ranges { IsInRange (tree_of program.now) }
+    requires some { 1 ≤ bench.workers }
+    requires few { bench.workers ≤ 64 }
+    ensures { (bytes : List ℕ) → IfOk result (λ r. IsRunOf (wanted.bench bench.workers bench.points bench.sweeps) program.now bytes r.0.items r.1) }
+{
+    let (plan, _) = make(host.alloc, program, bench.workers)?;
+    let head = bench_head(host.alloc, bench, &plan)?;
+    let (output, receipt) = output_by(host, program, &plan, Engine::Spmd)?;
+    Ok((joined(head, &output)?, receipt))
+}
+
+/// The sizes, and how many waits of each kind a plan has. The error is that memory ran out.
+pub fn bench_head(alloc: Global, bench: Bench, plan: &Plan) -> Result<Vec<u8>, AllocError>
+    ensures { IfOk result (λ t. t.items ≡ texts.bench_head bench.workers bench.points bench.sweeps plan.now) }
+{
+    let Bench {
+        workers,
+        points,
+        sweeps,
+    } = bench;
+    let kinds = plan.kinds.as_slice();
+    let mut text = format!(in alloc; "BENCH N {points} M {sweeps} WORKERS {workers}\n")?;
+    writeln!(
+        text,
+        "NOTHING {} PRODUCER {} LEFT {} RIGHT {} BOTH {} BARRIER {} JOIN {}",
+        waits_called(kinds, "NOTHING"),
+        waits_called(kinds, "PRODUCER"),
+        waits_called(kinds, "LEFT"),
+        waits_called(kinds, "RIGHT"),
+        waits_called(kinds, "BOTH"),
+        waits_called(kinds, "BARRIER"),
+        waits_called(kinds, "JOIN")
+    )?;
+    Ok(text.into_bytes())
+}
+
+// How many waits are called so.
+fn waits_called(kinds: &[Kind], word: &str) -> usize
+    ensures { result ≡ texts.waits_called word.now kinds.now }
+{
+    kinds.iter().filter(|kind| word_of(kind) == word).count()
+}
+
+// What a kind of wait is called.
+fn word_of(kind: &Kind) -> &'static str
+    ensures { result.now ≡ texts.kind_word kind.now }
+{
+    match kind {
+        Kind::Nothing => "NOTHING",
+        Kind::Producer(_) => "PRODUCER",
+        Kind::Left => "LEFT",
+        Kind::Right => "RIGHT",
+        Kind::Both => "BOTH",
+        Kind::Barrier => "BARRIER",
+        Kind::Join => "JOIN",
+    }
+}
