@@ -12,7 +12,7 @@ const MOST: u32 = 100_000;
 
 const FIRST: u32 = 20_000;
 
-// Every so many misses in a row it yields its processor; else it spins.
+// So many misses in a row it only spins.
 const SPINS: u32 = 100;
 
 // So many misses in a row end a leg. Where somebody else answers at last, others run beside it, and
@@ -49,9 +49,9 @@ impl Patience {
 
 // Between two polls, behind so many misses in a row.
 pub(crate) fn pause(misses: u32) {
-    if misses % SPINS == 0 {
-        thread::yield_now();
-    } else {
+    if misses <= SPINS {
         hint::spin_loop();
+    } else {
+        thread::yield_now();
     }
 }
