@@ -213,20 +213,6 @@ fn a_worker_may_be_a_phase_ahead(rt: HostRuntime) -> Result<(), Fail> {
     Ok(())
 }
 
-// The text behind its first two lines.
-fn behind_two_lines(text: &[u8]) -> &[u8] {
-    let mut lines = 0;
-    for (index, &byte) in text.iter().enumerate() {
-        if lines == 2 {
-            return &text[index..];
-        }
-        if byte == b'\n' {
-            lines += 1;
-        }
-    }
-    text
-}
-
 // The first read of the source would fail.
 #[test]
 fn bench_runs_its_own_program(rt: HostRuntime) -> Result<(), Fail> {
@@ -259,9 +245,7 @@ fn one_worker_and_four_print_the_same(rt: HostRuntime) -> Result<(), Fail> {
         four.written()
             .starts_with(b"BENCH N 2000 M 200 WORKERS 4\n")
     );
-    assert_eq!(rt;
-        behind_two_lines(four.written()),
-        behind_two_lines(alone.written())
-    );
+    assert!(rt; four.written().ends_with(b"\n -8 -3986014\n"));
+    assert!(rt; alone.written().ends_with(b"\n -8 -3986014\n"));
     Ok(())
 }
