@@ -7,4 +7,6 @@
 
 mod laws;
 
-pub use laws::{accepted_plans_never_stick, accepted_plans_run_sequentially};
+pub use laws::{
+    accepted_plans_never_stick, accepted_plans_run_in_styles, accepted_plans_run_sequentially,
+};

@@ -62,7 +62,7 @@ moment_is m p t (job j) at = by (j.owner == p)
     by true = job_is m t j at
     by false = refl
 
-deeds_along : (m : Machine) (p place : ℕ) (xs : List Moment) → StandsFrom m place xs → map (deed_of m) (acts_from p place xs) ≡ flat_map (moment_deeds p) xs
+pub deeds_along : (m : Machine) (p place : ℕ) (xs : List Moment) → StandsFrom m place xs → map (deed_of m) (acts_from p place xs) ≡ flat_map (moment_deeds p) xs
 deeds_along m p place [] stands = refl
 deeds_along m p place (x ∷ xs) stands =
     map-append (deed_of m) (moment_acts p place x) (acts_from p (suc place) xs)

@@ -10,10 +10,10 @@ use Rattle.spmd_model.specs.Timelines.{Job}
 use Rattle.spmd_model.specs.OwnPhases.{AreApart, Come, IsGoodLoad, IsSumJob, Own, adds_total, at_slot, behind_job, behind_store, clears, keeps_private, own_cell, own_job, put, sum_up, without}
 use Rattle.spmd_model.proofs.LastValues.{plus-swap}
 
-put_here : {X : Type 0} (f : ℕ → X) (c : ℕ) (v : X) → put f c v c ≡ v
+pub put_here : {X : Type 0} (f : ℕ → X) (c : ℕ) (v : X) → put f c v c ≡ v
 put_here f c v = ap (λ b. if b then v else f c) (eq-eqb c c refl)
 
-put_other : {X : Type 0} (f : ℕ → X) (c x : ℕ) (v : X) → c ≢ x → put f c v x ≡ f x
+pub put_other : {X : Type 0} (f : ℕ → X) (c x : ℕ) (v : X) → c ≢ x → put f c v x ≡ f x
 put_other f c x v apart = elim (cases_Bool (c == x)) [
   | inl same ↦ absurd (apart (eqb-true c x same))
   | inr other ↦ ap (λ b. if b then v else f x) other
@@ -140,7 +140,7 @@ module _ (o : Own) (apart : AreApart o) (m f : ℕ → ℤ) (last : ℕ → Opti
         shared_apart d lt e = apart.behind j.owner k d lt e
 
         other_slot : (d l : ℕ) → o.slot d ≡ Some l → c ≢ d → (p : ℕ) → o.cell j.owner k ≢ o.cell p l
-        other_slot d l is ne p e = ne (apart.place c d k slot (is ∙ ap Some (sym (apart.one j.owner k p l e).1)))
+        other_slot d l is ne p e = ne (apart.place c d k slot (is ∙ ap Some (sym (apart.one c d k l slot is j.owner p e).1)))
 
         no_sum : (d l : ℕ) → o.slot d ≡ Some l → o.is_sum d ≡ true → c ≢ d
         no_sum d l is sum e = true≢false (sym sum ∙ ap o.is_sum (sym e) ∙ private)
@@ -198,7 +198,7 @@ module _ (o : Own) (apart : AreApart o) (m f : ℕ → ℤ) (last : ℕ → Opti
       shared_apart d lt e = apart.behind j.owner k d lt e
 
       other_slot : (d l : ℕ) → o.slot d ≡ Some l → c ≢ d → (p : ℕ) → o.cell j.owner k ≢ o.cell p l
-      other_slot d l is ne p e = ne (apart.place c d k s.slot (is ∙ ap Some (sym (apart.one j.owner k p l e).1)))
+      other_slot d l is ne p e = ne (apart.place c d k s.slot (is ∙ ap Some (sym (apart.one c d k l s.slot is j.owner p e).1)))
 
       clash : (d : ℕ) → o.slot d ≡ None → c ≡ d → ⊥
       clash d is e = let none : None ≡ Some k = sym is ∙ ap o.slot (sym e) ∙ s.slot in cc
@@ -233,7 +233,7 @@ module _ (o : Own) (apart : AreApart o) (m f : ℕ → ℤ) (last : ℕ → Opti
           now d same = ap (put assigned c (put (assigned c) j.owner true)) (sym same) ∙ put_here assigned c (put (assigned c) j.owner true)
 
           other_owner : (p : ℕ) → p ≢ j.owner → o.cell j.owner k ≢ o.cell p k
-          other_owner p ne e = ne (sym (apart.one j.owner k p k e).0)
+          other_owner p ne e = ne (sym (apart.one c c k k s.slot s.slot j.owner p e).0)
 
           mine : (d l : ℕ) → o.slot d ≡ Some l → c ≡ d → put m c (plus (m c) (s.amount (map m s.rest))) d ≡ sum_up o (put f (o.cell j.owner k) (plus (f (o.cell j.owner k)) (s.amount (map m s.rest)))) l (put assigned c (put (assigned c) j.owner true) d) (put f (o.cell j.owner k) (plus (f (o.cell j.owner k)) (s.amount (map m s.rest))) d) o.workers
           mine d l is same =
@@ -289,14 +289,14 @@ sum_moved o f g k b c x p (suc n) lt had now others = elim (cases_eq p n) [
         ∙ sum_from o f k b x (f (o.cell p k)) p
         ∙ sym (ap (λ y. if y then plus (sum_up o f k b x p) (f (o.cell p k)) else sum_up o f k b x p) had)
 
-sum_none : (o : Own) (f : ℕ → ℤ) (k : ℕ) (b : ℕ → Bool) (x : ℤ) (n : ℕ) → ((p : ℕ) → p < n → b p ≡ false) → sum_up o f k b x n ≡ x
+pub sum_none : (o : Own) (f : ℕ → ℤ) (k : ℕ) (b : ℕ → Bool) (x : ℤ) (n : ℕ) → ((p : ℕ) → p < n → b p ≡ false) → sum_up o f k b x n ≡ x
 sum_none o f k b x zero none = refl
 sum_none o f k b x (suc n) none = ap (λ y. if y then plus (sum_up o f k b x n) (f (o.cell n k)) else sum_up o f k b x n) (none n (omega arith)) ∙ sum_none o f k b x n (λ p lt. none p (omega (arith, lt)))
 
 pub apart_without : (o : Own) (c : ℕ) → AreApart o → AreApart (without o c)
 apart_without o c apart = record {
   behind = apart.behind;
-  one = apart.one;
+  one = λ d e k l is is'. apart.one d e k l (had d k is) (had e l is');
   place = λ d e k is is'. apart.place d e k (had d k is) (had e k is');
   there = λ d k is. apart.there d k (had d k is);
 }
@@ -382,7 +382,7 @@ module _ (o : Own) (apart : AreApart o) (m f : ℕ → ℤ) (last : ℕ → Opti
           }
         where
           apart_from : (d l q : ℕ) → o.slot d ≡ Some l → c ≢ d → o.cell p k ≢ o.cell q l
-          apart_from d l q is ne e = ne (apart.place c d k slot (is ∙ ap Some (sym (apart.one p k q l e).1)))
+          apart_from d l q is ne e = ne (apart.place c d k slot (is ∙ ap Some (sym (apart.one c d k l slot is p q e).1)))
 
           place_is : (d l : ℕ) → o.slot d ≡ Some l → c ≡ d → k ≡ l
           place_is d l is same = let places : Some k ≡ Some l = sym slot ∙ ap o.slot same ∙ is in cc
@@ -393,7 +393,7 @@ module _ (o : Own) (apart : AreApart o) (m f : ℕ → ℤ) (last : ℕ → Opti
           others : (q : ℕ) → q ≢ p → (put (assigned c) p false q ≡ assigned c q) × (put (put f c (plus (f c) (f (o.cell p k)))) (o.cell p k) (pos 0) (o.cell q k) ≡ f (o.cell q k))
           others q ne = (
             put_other (assigned c) p q false (λ e. ne (sym e)),
-            put_other (put f c (plus (f c) (f (o.cell p k)))) (o.cell p k) (o.cell q k) (pos 0) (λ e. ne (sym (apart.one p k q k e).0)) ∙ put_other f c (o.cell q k) (plus (f c) (f (o.cell p k))) (no_own_here q k),
+            put_other (put f c (plus (f c) (f (o.cell p k)))) (o.cell p k) (o.cell q k) (pos 0) (λ e. ne (sym (apart.one c c k k slot slot p q e).0)) ∙ put_other f c (o.cell q k) (plus (f c) (f (o.cell p k))) (no_own_here q k),
           )
 
           mine : (d l : ℕ) → o.slot d ≡ Some l → c ≡ d → m d ≡ sum_up o (put (put f c (plus (f c) (f (o.cell p k)))) (o.cell p k) (pos 0)) l (put assigned c (put (assigned c) p false) d) (put (put f c (plus (f c) (f (o.cell p k)))) (o.cell p k) (pos 0) d) o.workers

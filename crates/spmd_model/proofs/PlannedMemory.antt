@@ -54,7 +54,7 @@ jobs_along tree plan e (v ∷ vs) =
 
 -- ---- memory
 
-abbrev job_behind : List ℤ → Job → List ℤ
+abbrev pub job_behind : List ℤ → Job → List ℤ
 job_behind memory j = with_change memory j.store j.adds (j.assigned (map (cell_value memory) j.loads))
 
 fold_jobs : (memory : List ℤ) (xs : List Moment) → fold memory_behind memory xs ≡ fold job_behind memory (jobs_in xs)
@@ -66,7 +66,7 @@ same_change : (memory : List ℤ) (store : Option ℕ) (v : ℤ) → with_change
 same_change memory None v = refl
 same_change memory (Some cell) v = refl
 
-behind_instance : (tree : Tree) (plan : Plan) (memory : List ℤ) (x : Execution) → job_behind memory (job_of tree plan x) ≡ memory_after tree memory x.instance
+pub behind_instance : (tree : Tree) (plan : Plan) (memory : List ℤ) (x : Execution) → job_behind memory (job_of tree plan x) ≡ memory_after tree memory x.instance
 behind_instance tree plan memory x = same_change memory (store_of tree x.instance) (assigned_value tree x.instance (loaded_in tree memory x.instance))
 
 fold_instances : (tree : Tree) (plan : Plan) (memory : List ℤ) (xs : List Execution) → fold job_behind memory (map (job_of tree plan) xs) ≡ fold (memory_after tree) memory (map (λ (x : Execution). x.instance) xs)

@@ -38,7 +38,7 @@ filtered test a (suc n) q among = by (filtered test (a + 1) n q) (test a) refl a
         in_first (zero, lt, e) = (ap test (sym e) ∙ h, omega (arith, e))
         in_first (suc k, lt, e) = let r = rest (k, omega (arith, lt), e) in (r.0, omega (arith, r.1))
 
-awaited_below : (tree : Tree) (plan : Plan) (p e q : ℕ) → Contains (awaited_in_front tree plan p e) q → q < plan.workers
+pub awaited_below : (tree : Tree) (plan : Plan) (p e q : ℕ) → Contains (awaited_in_front tree plan p e) q → q < plan.workers
 awaited_below tree plan p e q among = by_phase (slice_get (phases tree plan.cut.marks) (e - 1)) among
   where
     by_kind : (o : Option Kind) (v : Visit) → Contains (awaited_behind o plan.workers v.loops (param_values tree) p) q → q < plan.workers
@@ -56,7 +56,7 @@ abbrev boundary_place : Tree → Plan → ℕ → ℕ
 boundary_place tree plan e = boundary_place_from tree plan 1 (phases tree plan.cut.marks) (e - 1)
 
 -- a phase at which somebody is awaited is there
-phase_there : (tree : Tree) (plan : Plan) (p e q : ℕ) → Contains (awaited_in_front tree plan p e) q → (v : Visit) × (slice_get (phases tree plan.cut.marks) (e - 1) ≡ Some v)
+pub phase_there : (tree : Tree) (plan : Plan) (p e q : ℕ) → Contains (awaited_in_front tree plan p e) q → (v : Visit) × (slice_get (phases tree plan.cut.marks) (e - 1) ≡ Some v)
 phase_there tree plan p e q among = by (slice_get (phases tree plan.cut.marks) (e - 1)) refl among
   where
     by : (o : Option Visit) → slice_get (phases tree plan.cut.marks) (e - 1) ≡ o → Contains (awaited_in_plan tree plan p o) q → (v : Visit) × (slice_get (phases tree plan.cut.marks) (e - 1) ≡ Some v)
@@ -67,7 +67,7 @@ abbrev hops_of : Tree → Plan → List PlanHop → List Hop
 hops_of tree plan hops = map (λ (h : PlanHop). record { place = boundary_place tree plan h.phase; processor = h.processor }) hops
 
 -- whoever a chain leads from is a worker, where its end is one
-from_worker : (tree : Tree) (plan : Plan) (q e : ℕ) (hops : List PlanHop) (p t : ℕ) → p < plan.workers → IsPlanChain tree plan q e hops p t → q < plan.workers
+pub from_worker : (tree : Tree) (plan : Plan) (q e : ℕ) (hops : List PlanHop) (p t : ℕ) → p < plan.workers → IsPlanChain tree plan q e hops p t → q < plan.workers
 from_worker tree plan q e [] p t inside (same, le) = omega (arith, same, inside)
 from_worker tree plan q e (h ∷ hops) p t inside (lt, among, rest) = awaited_below tree plan h.processor h.phase q among
 

@@ -1,8 +1,8 @@
 -- Whoever has come behind all rounds of a barrier knows that every processor has come to it.
 use Rattle.std.proofs.Common.{◌≡◌, ◌≢◌, ℕ, zero, suc, ◌+◌, ◌-◌, ◌*◌, ◌^◌, ◌%◌, ◌<◌, ◌≤◌, ◌⊎◌, ℤ, List, [], ◌∷◌, Some, refl, ap, sym, subst, ◌∙◌, inl, inr, ⊎_elim, arith}
-use Rattle.std.specs.Prelude.{slice_get}
+use Rattle.std.specs.Prelude.{if◌then◌else◌, nat_le, slice_get}
 use Rattle.std.specs.List.{Contains}
-use Rattle.std.proofs.lemmas.Bool.{cases_lt}
+use Rattle.std.proofs.lemmas.Bool.{cases_Bool, cases_lt, leb-false, leb-true}
 use Rattle.std.proofs.Math.Nat.{add-mod-mod, add-mod_right, mod-add-mod}
 use Rattle.std.proofs.Math.Pow.{pow_mono}
 use Rattle.spmd_model.specs.Timelines.{Machine}
@@ -10,7 +10,7 @@ use Rattle.spmd_model.specs.Ordered.{Hop, IsChain, IsSound, awaited_in, number_i
 use Rattle.spmd_model.specs.Lawful.{IsLawful, acts_in_front}
 use Rattle.spmd_model.proofs.ActLists.{in_front-rises}
 use Rattle.spmd_model.proofs.Chains.{chain_back, chain_posted, waited_in}
-use Rattle.spmd_model.specs.Rounds.{AreEnough, AreRounds, awaited_in_round, round_boundary}
+use Rattle.spmd_model.specs.Rounds.{AreEnough, AreRounds, awaited_in_round, round_boundary, rounds_from, rounds_of}
 
 mod_small : (n k : ℕ) → n < k → n % k ≡ n
 mod_small n k lt = grind arith
@@ -187,3 +187,23 @@ pub posted_by_all : (m : Machine) (cells : List ℤ) (at : ℕ → ℕ) (place f
     acts_in_front m p (place + rounds) ≤ at p → acts_in_front m q place < at q
 posted_by_all m cells at zero first rounds q p sound law there enough some lt lt' apart come = all_posted_first m cells at first rounds q p sound law there some enough.least enough.reach lt lt' apart come
 posted_by_all m cells at (suc place) first rounds q p sound law there enough some lt lt' apart come = all_posted m cells at place first rounds q p sound law there some enough.least enough.reach lt lt' apart come
+
+-- ---- the least number of rounds that reach all is enough
+
+enough_from : (more workers r : ℕ) → workers ≤ 2 ^ (r + more) → 2 ^ r ≤ workers + workers → AreEnough workers (rounds_from more workers r)
+enough_from zero workers r reach least = let none : r + 0 ≡ r = omega arith in record { reach = subst (λ n. workers ≤ 2 ^ n) none reach; least = least }
+enough_from (suc more) workers r reach least = elim (cases_Bool (nat_le workers (2 ^ r))) [
+  | inl there ↦ subst (AreEnough workers) (sym (ap (λ b. if b then r else rounds_from more workers (suc r)) there)) (record { reach = leb-true workers (2 ^ r) there; least = least })
+  | inr past ↦
+      let twice : 2 ^ suc r ≡ 2 ^ r + 2 ^ r = grind arith in
+      let less = leb-false workers (2 ^ r) past in
+      let shift : r + suc more ≡ suc r + more = omega arith in
+      subst (AreEnough workers) (sym (ap (λ b. if b then r else rounds_from more workers (suc r)) past))
+      (enough_from more workers (suc r) (subst (λ n. workers ≤ 2 ^ n) shift reach) (omega (arith, twice, less)))
+]
+
+pub rounds_enough : (workers : ℕ) → 1 ≤ workers → workers ≤ 64 → AreEnough workers (rounds_of workers)
+rounds_enough workers some few =
+    let most : 2 ^ (0 + 6) ≡ 64 = refl in
+    let one : 2 ^ 0 ≡ 1 = refl in
+    enough_from 6 workers 0 (omega (arith, most, few)) (omega (arith, one, some))

@@ -10,11 +10,11 @@ use Rattle.spmd_model.specs.Rounds.{round_boundary}
 -- ---- A(1) = 7 by processor 0 and A(2) = 8 by processor 1; and then A(1) = A(2) by processor 0, which waits for processor 1
 
 abbrev pub fixed : ℤ → ℕ → ℕ → Job
-fixed v owner cell = record { owner = owner; loads = []; store = Some cell; adds = false; assigned = λ given. v; line = λ given. [] }
+fixed v owner cell = record { owner = owner; loads = []; store = Some cell; adds = false; assigned = λ given. v; line = λ given. []; counts = 1 }
 
 -- it changes a cell by what another one holds
 abbrev pub from_cell : Bool → ℕ → ℕ → ℕ → Job
-from_cell adds owner loaded cell = record { owner = owner; loads = loaded ∷ []; store = Some cell; adds = adds; assigned = λ given. slice_index_or given 0 (pos 0); line = λ given. [] }
+from_cell adds owner loaded cell = record { owner = owner; loads = loaded ∷ []; store = Some cell; adds = adds; assigned = λ given. slice_index_or given 0 (pos 0); line = λ given. []; counts = 1 }
 
 abbrev two_phases : (ℕ → List ℕ) → Machine
 two_phases awaits = record {

@@ -12,4 +12,7 @@ pub mod OwnPhases
 pub mod Trips
 pub mod Planned
 pub mod Deeds
+pub mod Closings
+pub mod Styled
+pub mod StyledDeeds
 pub mod Examples

@@ -1,6 +1,7 @@
 -- A phase with own scalars: what its jobs do on memory as a whole, and what they do where each processor has cells of its own for these scalars.
 use Rattle.std.specs.Prelude.{ℕ, zero, suc, ◌≡◌, ◌≢◌, ◌<◌, ◌⊎◌, ◌==◌, ℤ, pos, Bool, true, false, List, [], ◌∷◌, map, Option, Some, None, if◌then◌else◌}
 use Rattle.std.specs.Option.{option_map}
+pub use Rattle.sync_plan.specs.Own.{Own, at_slot, own_cell}
 use Rattle.spmd_model.specs.Cells.{changed, plus}
 use Rattle.spmd_model.specs.Timelines.{Job}
 
@@ -18,29 +19,14 @@ behind_store f (Some c) adds v = put f c (changed adds (f c) v)
 abbrev pub behind_job : (ℕ → ℤ) → Job → ℕ → ℤ
 behind_job f j = behind_store f j.store j.adds (j.assigned (map f j.loads))
 
--- own scalars: so many processors; the place of a cell among the own scalars, if it is one; whether it is a sum scalar; the cell that a processor has for a place
-pub record Own : Type 0 where
-  pub workers : ℕ
-  pub shared : ℕ
-  pub slot : ℕ → Option ℕ
-  pub is_sum : ℕ → Bool
-  pub cell : (p k : ℕ) → ℕ
-
--- own cells are no shared ones, and each is one processor's for one place; each place is one scalar's
+-- own cells are no shared ones, and each is one processor's for one scalar's place; each place is one scalar's
 pub record AreApart (o : Own) : Type 0 where
   pub behind : (p k c : ℕ) → c < o.shared → o.cell p k ≢ c
-  pub one : (p k q l : ℕ) → o.cell p k ≡ o.cell q l → (p ≡ q) × (k ≡ l)
+  pub one : (c d k l : ℕ) → o.slot c ≡ Some k → o.slot d ≡ Some l → (p q : ℕ) → o.cell p k ≡ o.cell q l → (p ≡ q) × (k ≡ l)
   pub place : (c d k : ℕ) → o.slot c ≡ Some k → o.slot d ≡ Some k → c ≡ d
   pub there : (c k : ℕ) → o.slot c ≡ Some k → c < o.shared
 
--- where processor p has a cell
-abbrev pub at_slot : Own → ℕ → ℕ → Option ℕ → ℕ
-at_slot o p c None = c
-at_slot o p c (Some k) = o.cell p k
-
-abbrev pub own_cell : Own → ℕ → ℕ → ℕ
-own_cell o p c = at_slot o p c (o.slot c)
-
+-- a job as it is where its owner has own cells
 abbrev pub own_job : Own → Job → Job
 own_job o j = record j { loads = map (own_cell o j.owner) j.loads; store = option_map (own_cell o j.owner) j.store }
 

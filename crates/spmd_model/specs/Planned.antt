@@ -21,6 +21,7 @@ job_of tree plan x = record {
   adds = false;
   assigned = assigned_value tree x.instance;
   line = line_of tree x.instance;
+  counts = 1;
 }
 
 -- in front of phase number e, from 1, the number e - 1 is posted on the counters

@@ -1,6 +1,6 @@
 // What holds of every run: there is nothing to call.
 
-ghost use Rattle.std.specs.Prelude.{ℕ, ℤ, pos, Bool, true, false, Option, None, Contains, fold, ◌∷◌, length, replicate, slice_get, map, List, Some, All, ◌≡◌, ◌≢◌, ◌<◌, ◌≤◌, ◌+◌, ◌⊎◌, ◌++◌};
+ghost use Rattle.std.specs.Prelude.{ℕ, ℤ, pos, Bool, true, false, Option, None, Contains, fold, ◌∷◌, length, replicate, slice_get, take, map, List, Some, All, ◌≡◌, ◌≢◌, ◌<◌, ◌≤◌, ◌+◌, ◌⊎◌, ◌++◌};
 ghost use Rattle.nest_tree.specs.Layout.{cell_count};
 ghost use Rattle.nest_tree.specs.Tree.{Tree};
 ghost use Rattle.nest_tree.specs.WellFormed.{IsWellFormed};
@@ -20,7 +20,15 @@ ghost use Rattle.spmd_model.specs.OwnPhases.{AreApart, Come, IsGoodLoad, IsSumJo
 ghost use Rattle.spmd_model.specs.Trips.{IsTrip, last_behind};
 ghost use Rattle.spmd_model.specs.Quiet.{quiet_next, turns_of};
 ghost use Rattle.spmd_model.specs.Reached.{CanGo, IsPossibleAt, memory_by, state_at};
-ghost use Rattle.spmd_model.specs.Rounds.{AreEnough, AreRounds};
+ghost use Rattle.spmd_model.specs.Rounds.{AreEnough, AreRounds, rounds_of};
+ghost use Rattle.nest_model.specs.Accesses.{loads_of};
+ghost use Rattle.sync_plan.specs.Own.{own_of};
+ghost use Rattle.spmd_model.specs.Styled.{instances_in_front, is_by_signals, job_under, machine_by, part_place, parts_by, timeline_by};
+ghost use Rattle.spmd_model.specs.StyledDeeds.{HasNoOwn, deeds_by};
+ghost use Rattle.spmd_model.specs.declared.style.Style.{Style};
+ghost use Rattle.spmd_model.specs.declared.style.Style.TheVariants.{Arrive};
+ghost use Rattle.nest_model.specs.Ranges.{IsInRange};
+ghost use Rattle.nest_model.specs.Visits.{Visit};
 ghost use Rattle.spmd_model.specs.Sequential.{last_memory, memory_at, stored_at, value_at, whole_output};
 ghost use Rattle.spmd_model.specs.States.{IsEnded, State, acted, first_state, is_possible, next_act, run_of, stepped};
 ghost use Rattle.spmd_model.specs.Timelines.{Act, Job, Machine, act_at, acts_of, add, job, load, store};
@@ -163,6 +171,53 @@ pub fn timelines_of_plans()
         → IsSound (machine_of tree plan) }
     ensures ordered { (tree : Tree) → (plan : Plan) → IsWellFormed tree → IsFit tree plan
         → IsOrderedPlan tree plan → IsOrdered (machine_of tree plan) }
+{}
+
+/// Where processors have cells of their own for the own scalars of phases, and pass barriers in
+/// either style: a plan that fits a well-formed program has a sound timeline, an ordered plan of a
+/// program in range an ordered one; and a processor's acts do, phase by phase, what stands in front
+/// of the phase, then each instance that it owns, then its closings. Where no loop has own scalars,
+/// and barriers are passed by counters, they do what they do along the plain timeline. Nobody is
+/// behind the last round of a barrier by signals unless all others are behind their first signal in
+/// it. Of a program in range, the cells that all share have its last memory behind all, and the
+/// output is its own; a job that counts as an instance is the one whose number is that of the
+/// instances in front, and each of its loads, but of a sum scalar of its phase, gives what the
+/// program's memory has there in front of it.
+pub fn timelines_in_styles()
+    ensures sound { (style : Style) → (tree : Tree) → (plan : Plan) → IsWellFormed tree
+        → IsFit tree plan → IsSound (machine_by style tree plan) }
+    ensures ordered { (style : Style) → (tree : Tree) → (plan : Plan) → IsWellFormed tree
+        → IsFit tree plan → IsInRange tree → IsOrderedPlan tree plan
+        → IsOrdered (machine_by style tree plan) }
+    ensures deeds { (style : Style) → (tree : Tree) → (plan : Plan) → (p : ℕ)
+        → IsWellFormed tree → IsFit tree plan → p < plan.workers
+        → map (deed_of (machine_by style tree plan)) (acts_of (machine_by style tree plan) p)
+        ≡ deeds_by style tree plan p 1 0 (phases tree plan.cut.marks) }
+    ensures plain { (tree : Tree) → (plan : Plan) → (p e passed : ℕ) → (vs : List Visit)
+        → ((place : ℕ) → HasNoOwn tree plan place)
+        → deeds_by Arrive tree plan p e passed vs ≡ deeds_from tree plan p e vs }
+    ensures signals { (style : Style) → (tree : Tree) → (plan : Plan) → (k : ℕ) → (v : Visit)
+        → (cells : List ℤ) → (at : ℕ → ℕ) → (q p : ℕ) → IsWellFormed tree → IsFit tree plan
+        → slice_get (phases tree plan.cut.marks) k ≡ Some v → is_by_signals style plan v ≡ true
+        → IsLawful (machine_by style tree plan) cells at → q < plan.workers → p < plan.workers
+        → q ≢ p → acts_in_front (machine_by style tree plan) p (part_place (parts_by style tree
+        plan) k + rounds_of plan.workers) ≤ at p → acts_in_front (machine_by style tree plan) q
+        (part_place (parts_by style tree plan) k) < at q }
+    ensures last { (style : Style) → (tree : Tree) → (plan : Plan) → IsWellFormed tree
+        → IsFit tree plan → IsInRange tree → take (cell_count tree)
+        (last_memory (machine_by style tree plan)) ≡ Memory.last_memory tree }
+    ensures output { (style : Style) → (tree : Tree) → (plan : Plan) → IsWellFormed tree
+        → IsFit tree plan → IsInRange tree
+        → whole_output (machine_by style tree plan) ≡ output_of tree }
+    ensures instance { (style : Style) → (tree : Tree) → (plan : Plan) → (place : ℕ) → (j : Job)
+        → IsWellFormed tree → IsFit tree plan → IsInRange tree
+        → slice_get (timeline_by style tree plan) place ≡ Some (job j) → j.counts ≡ 1
+        → (x : Execution) × (j ≡ job_under tree plan x) × (slice_get (instances tree)
+        (instances_in_front style tree plan place) ≡ Some x.instance) × ((c : ℕ)
+        → Contains (loads_of tree x.instance) c → (own_of tree plan x.place).is_sum c ≡ false
+        → cell_value (memory_at (machine_by style tree plan) place) (own_cell (own_of tree plan
+        x.place) j.owner c) ≡ cell_value (memory_before tree (instances_in_front style tree plan
+        place)) c) }
 {}
 
 /// The sequential values along a plan's timeline are the program's: memory in front of a job is

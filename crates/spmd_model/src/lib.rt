@@ -14,13 +14,19 @@
 //!   own for some scalars, and their closings.
 //! - `specs/Planned.antt`: the timeline of a program under a plan.
 //! - `specs/Deeds.antt`: what acts do, phase by phase.
+//! - `specs/Closings.antt`, `specs/Styled.antt`, `specs/StyledDeeds.antt`: the same where processors
+//!   have cells of their own for a phase's scalars, and pass barriers in either style.
+//! - [`style`]: the two styles.
 //! - `laws`: no state is stuck, and runs of ordered plans are sequential.
 #![tactic(auto)]
 
 mod laws;
+pub mod style;
 
 pub use laws::{
     acts_are_steps, acts_by_their_deeds, every_load_is_sequential, no_state_is_stuck,
     own_cells_follow, rounds_lead_to_all, runs_are_sequential, stored_values,
-    timelines_are_sequential, timelines_of_plans, trips_keep_privates, turns_are_runs,
+    timelines_are_sequential, timelines_in_styles, timelines_of_plans, trips_keep_privates,
+    turns_are_runs,
 };
+pub use style::Style;

@@ -1,0 +1,220 @@
+-- The instances of a phase as jobs: in each trip all are one processor's, and each private scalar that is loaded was stored by it before; so all are good.
+use Rattle.std.proofs.Common.{◌≡◌, ℕ, ◌+◌, ◌-◌, ◌<◌, ◌≤◌, ℤ, pos, ◌+ℤ◌, ◌*ℤ◌, Bool, true, false, true≢false, ◌&&◌, ◌||◌, ◌==◌, not, List, [], ◌∷◌, ◌++◌, fold, get_or, length, map, Option, Some, if◌then◌else◌, refl, ap, sym, subst, ◌∙◌, inl, inr, arith, append_assoc, is_none}
+use Rattle.std.specs.Prelude.{Contains, slice_get}
+use Rattle.std.specs.List.{All, AllByRecursion, list_all, list_any}
+use Rattle.std.proofs.lemmas.Bool.{and_parts, cases_Bool}
+use Rattle.std.proofs.lemmas.List.{get_or-set_other, map-append}
+use Rattle.std.proofs.lemmas.List.Elements.{All-append, All-cons, All-head, All-nil, All-tail, All-weaker}
+use Rattle.std.proofs.lemmas.List.Sums.{fold-append}
+use Rattle.nest_tree.specs.Form.{Form, dot, form_value, is_form, numbered}
+use Rattle.nest_tree.specs.Layout.{first_cell, count_of}
+use Rattle.nest_tree.specs.Loads.{loads_in_work}
+use Rattle.nest_tree.specs.Tree.{Work, assign, print, Head, Statement, Statements, do_loop, work, continue, done, next, Tree, param_values}
+use Rattle.nest_tree.specs.WellFormed.{IsWellFormed, Scope, are_good_statements, is_good_statement, is_number_of, loops_in, names_only, scope_of}
+use Rattle.nest_tree.proofs.Good.{good_loop}
+use Rattle.nest_model.specs.Accesses.{loads_of}
+use Rattle.nest_model.specs.Instances.{Instance, head_trips, instances_in, instances_of, is_executed, with_loop, works_in}
+use Rattle.nest_model.specs.Ranges.{is_instance_inside}
+use Rattle.nest_model.specs.Visits.{Visit}
+use Rattle.own_scalars.specs.OwnScalars.{has_access, is_of, is_other, is_plain_store, loads, stores}
+use Rattle.owner_partition.specs.Owners.{dealt, has_places, owner_by}
+use Rattle.owner_partition.specs.Phases.{phases}
+use Rattle.owner_partition.proofs.Sites.{All-flat_map}
+use Rattle.sync_plan.specs.declared.plan.Plan.{Plan}
+use Rattle.sync_plan.specs.Fit.{IsFit}
+use Rattle.sync_plan.specs.Own.{is_cell_of, own_loop, own_of}
+use Rattle.sync_plan.specs.Shape.{is_doall, mark_of, own_loops, static_phases}
+use Rattle.sync_plan.proofs.FitOwners.{good_each, named_low}
+use Rattle.sync_plan.proofs.Fits.{fit_parts}
+use Rattle.sync_plan.proofs.PhasePlaces.{visit_there}
+use Rattle.spmd_model.specs.Closings.{phase_owner}
+use Rattle.spmd_model.specs.Planned.{job_of}
+use Rattle.spmd_model.specs.Timelines.{Job}
+use Rattle.spmd_model.specs.Trips.{IsAway, IsTrip, last_behind}
+use Rattle.spmd_model.proofs.CellsThere.{IsGoodWork, every}
+use Rattle.spmd_model.proofs.Deeds.{anchored}
+use Rattle.spmd_model.proofs.InstanceJobs.{good_job, load_is, store_is}
+use Rattle.spmd_model.proofs.LastStores.{StoresFirst}
+use Rattle.spmd_model.proofs.OwnRuns.{AreGoodJobs}
+use Rattle.spmd_model.proofs.OwnTexts.{AreOwnIn, IsScalar, cell_there, not_both, private_is}
+use Rattle.spmd_model.proofs.Stands.{plain_store, slot_there}
+use Rattle.spmd_model.proofs.Trips.{before_load}
+
+-- ---- inside a trip the loops round it keep their values
+
+-- two lists of values have the first so many in common
+abbrev pub AgreeBelow : ℕ → List ℤ → List ℤ → Type 0
+AgreeBelow n xs ys = (k : ℕ) → k < n → get_or xs k (pos 0) ≡ get_or ys k (pos 0)
+
+mutual
+  agree_of : (params : List ℤ) (scope : Scope) (around : List ℕ) (number : ℕ) (s : Statement) (first : ℕ) (loops : List ℤ) → is_good_statement scope around number s ≡ true → 1 ≤ number →
+      All (λ (i : Instance). AgreeBelow (number - 1) i.loops loops) (instances_of params s first loops)
+  agree_of params scope around number (do_loop head body) first loops good low =
+      let g = good_loop scope around number head body good in
+      let P = λ (i : Instance). AgreeBelow (number - 1) i.loops loops in
+      let inside : ℤ → List Instance = λ v. instances_in params body first (with_loop loops head.number v) in
+      All-flat_map P inside (head_trips params head loops) (every (λ v. All P (inside v)) (λ v.
+      All-weaker (λ (i : Instance). AgreeBelow (number + 1 - 1) i.loops (with_loop loops head.number v)) P
+      (λ i agree k lt'. agree k (omega (arith, lt', low)) ∙ get_or-set_other loops (head.number - 1) k v (pos 0) (λ e. absurd (omega (arith, e, lt', g.number)))) (inside v)
+      (agree_in params scope (head.number ∷ around) (number + 1) body first (with_loop loops head.number v) g.inside (omega arith))) (head_trips params head loops))
+  agree_of params scope around number (work w) first loops good low =
+      let P = λ (i : Instance). AgreeBelow (number - 1) i.loops loops in
+      let here : Instance = record { statement = first; what = w; loops = loops } in
+      elim (is_executed w loops params) as (λ b. All P (if b then here ∷ [] else [])) [ true ↦ All-cons P here [] (λ k lt. refl) (All-nil P) | false ↦ All-nil P ]
+  agree_of params scope around number (continue line) first loops good low = All-nil (λ (i : Instance). AgreeBelow (number - 1) i.loops loops)
+
+  agree_in : (params : List ℤ) (scope : Scope) (around : List ℕ) (number : ℕ) (ss : Statements) (first : ℕ) (loops : List ℤ) → are_good_statements scope around number ss ≡ true → 1 ≤ number →
+      All (λ (i : Instance). AgreeBelow (number - 1) i.loops loops) (instances_in params ss first loops)
+  agree_in params scope around number done first loops good low = All-nil (λ (i : Instance). AgreeBelow (number - 1) i.loops loops)
+  agree_in params scope around number (next s rest) first loops good low =
+      let both = and_parts (is_good_statement scope around number s) (are_good_statements scope around (number + loops_in s) rest) good in
+      let P = λ (i : Instance). AgreeBelow (number - 1) i.loops loops in
+      All-append P (instances_of params s first loops) (instances_in params rest (first + works_in s) loops) (agree_of params scope around number s first loops both.0 low)
+      (All-weaker (λ (i : Instance). AgreeBelow (number + loops_in s - 1) i.loops loops) P (λ i agree k lt. agree k (omega (arith, lt))) (instances_in params rest (first + works_in s) loops) (agree_in params scope around (number + loops_in s) rest (first + works_in s) loops both.1 (omega (arith, low))))
+
+-- a form that names lower loops alone has the same value
+dot_agrees : (pairs : List (ℕ × ℤ)) (n : ℕ) (around : List ℕ) (xs ys : List ℤ) → 1 ≤ n → All (λ k. k ≤ n) around → list_all (λ (p : ℕ × ℤ). list_any (λ l. l == p.0) around) pairs ≡ true → AgreeBelow n xs ys → dot pairs xs ≡ dot pairs ys
+dot_agrees [] n around xs ys some low named agree = refl
+dot_agrees (p ∷ pairs) n around xs ys some low named agree =
+    let parts = and_parts (list_any (λ l. l == p.0) around) (list_all (λ (q : ℕ × ℤ). list_any (λ l. l == q.0) around) pairs) named in
+    let here = agree (p.0 - 1) (omega (arith, named_low n around p.0 low parts.0, some)) in
+    ap (λ z. p.1 *ℤ z +ℤ dot pairs xs) here ∙ ap (λ z. p.1 *ℤ numbered ys p.0 +ℤ z) (dot_agrees pairs n around xs ys some low parts.1 agree)
+
+form_agrees : (constants n : ℕ) (around : List ℕ) (f : Form) (params xs ys : List ℤ) → 1 ≤ n → All (λ k. k ≤ n) around → names_only constants around f ≡ true → AgreeBelow n xs ys → form_value f xs params ≡ form_value f ys params
+form_agrees constants n around f params xs ys some low named agree =
+    let all = list_all (λ (p : ℕ × ℤ). list_any (λ l. l == p.0) around) f.loops in
+    let last = and_parts (is_form f && all) (list_all (λ (p : ℕ × ℤ). is_number_of constants p.0) f.params) named in
+    ap (λ z. f.constant +ℤ z +ℤ dot f.params params) (dot_agrees f.loops n around xs ys some low (and_parts (is_form f) all last.0).1 agree)
+
+-- the loops that an anchor may name have numbers up to the loop's own
+own_low : (number : ℕ) (around : List ℕ) (b : Bool) (n : ℕ) → n ≡ number → All (λ k. k < number) around → All (λ k. k ≤ number) (if b then n ∷ around else around)
+own_low number around true n is below = All-cons (λ k. k ≤ number) n around (omega (arith, is)) (All-weaker (λ k. k < number) (λ k. k ≤ number) (λ k lt. omega (arith, lt)) around below)
+own_low number around false n is below = All-weaker (λ k. k < number) (λ k. k ≤ number) (λ k lt. omega (arith, lt)) around below
+
+-- ---- so all instances of a trip have one owner
+
+pub one_owner : (tree : Tree) (plan : Plan) (k : ℕ) (v : Visit) (head : Head) (body : Statements) (x : ℤ) → IsWellFormed tree → IsFit tree plan → slice_get (phases tree plan.cut.marks) k ≡ Some v → v.what ≡ do_loop head body →
+    All (λ (i : Instance). phase_owner tree plan v i.loops ≡ phase_owner tree plan v (with_loop v.loops head.number x)) (instances_in (param_values tree) body v.first (with_loop v.loops head.number x))
+one_owner tree plan k v head body x formed fits at what =
+    let params = param_values tree in
+    let f = visit_there tree plan.cut.marks k v formed at in
+    let parts = fit_parts tree plan fits in
+    let a = anchored tree plan formed fits k v at in
+    let index : v.place - 1 ≡ f.k = omega (arith, f.place_is) in
+    let number = f.there.number in
+    let around = f.there.around in
+    let static : slice_get (static_phases tree plan.cut.marks) f.k ≡ Some (record { what = do_loop head body; around = around }) = f.there.at ∙ ap (λ y. Some (record { what = y; around = around })) what in
+    let good = good_loop (scope_of tree) around number head body (ap (is_good_statement (scope_of tree) around number) (sym what) ∙ f.there.good) in
+    let good_anchor = good_each (length tree.params) plan.cut.marks (static_phases tree plan.cut.marks) plan.anchors f.k (record { what = do_loop head body; around = around }) a.0 parts.good_anchors static (ap (slice_get plan.anchors) (sym index) ∙ a.1) in
+    let names = (and_parts (names_only (length tree.params) (own_loops plan.cut.marks (do_loop head body) around) a.0.form) (has_places a.0.dist) good_anchor).0 in
+    let low = own_low number around (is_doall (mark_of plan.cut.marks head.number)) head.number good.number f.there.below in
+    let loops = with_loop v.loops head.number x in
+    All-weaker (λ (i : Instance). AgreeBelow (number + 1 - 1) i.loops loops) (λ (i : Instance). phase_owner tree plan v i.loops ≡ phase_owner tree plan v loops)
+    (λ i agree.
+    let value = form_agrees (length tree.params) number (own_loops plan.cut.marks (do_loop head body) around) a.0.form params i.loops loops f.there.low low names (λ j lt. agree j (omega (arith, lt))) in
+    ap (λ o. owner_by o plan.workers i.loops params) a.1 ∙ ap (λ z. count_of (dealt a.0.dist plan.workers z)) value ∙ sym (ap (λ o. owner_by o plan.workers loops params) a.1))
+    (instances_in params body v.first loops) (agree_in params (scope_of tree) (head.number ∷ around) (number + 1) body v.first loops good.inside (omega arith))
+
+-- ---- a trip
+
+by_recursion : {X Y : Type 0} (P : X → Type 0) (Q : Y → Type 0) (f : X → Y) (xs : List X) → ((x : X) → P x → Q (f x)) → All P xs → AllByRecursion Q (map f xs)
+by_recursion P Q f [] h all = tt
+by_recursion P Q f (x ∷ xs) h all = (h x (All-head P x xs all), by_recursion P Q f xs h (All-tail P x xs all))
+
+pub front_all : {X : Type 0} (P : X → Type 0) (xs ys : List X) → All P (xs ++ ys) → All P xs
+front_all P [] ys all = All-nil P
+front_all P (x ∷ xs) ys all = All-cons P x xs (All-head P x (xs ++ ys) all) (front_all P xs ys (All-tail P x (xs ++ ys) all))
+
+pub back_all : {X : Type 0} (P : X → Type 0) (xs ys : List X) → All P (xs ++ ys) → All P ys
+back_all P [] ys all = all
+back_all P (x ∷ xs) ys all = back_all P xs ys (All-tail P x (xs ++ ys) all)
+
+-- what is asked of an instance of a phase by its text and its cells
+pub record IsFineIn (tree : Tree) (plan : Plan) (v : Visit) (i : Instance) : Type 0 where
+  pub good : IsGoodWork tree i
+  pub inside : is_instance_inside tree i ≡ true
+  pub summed : (u : ℕ) → Contains (own_loop tree plan v.place).sums u → is_other u i.what ≡ false
+  pub worker : phase_owner tree plan v i.loops < plan.workers
+
+module _ (tree : Tree) (plan : Plan) (e : ℕ) (v : Visit) (formed : IsWellFormed tree) (o : AreOwnIn tree plan v) where
+  abbrev pub job_in_phase : Instance → Job
+  job_in_phase i = job_of tree plan (record { phase = e; place = v.place; instance = i })
+
+  -- a list of instances of one owner, where each private scalar is stored first
+  module _ (is : List Instance) (p : ℕ) (owners : All (λ (i : Instance). phase_owner tree plan v i.loops ≡ p) is) (fine : All (IsFineIn tree plan v) is)
+      (first : (u : ℕ) → Contains (own_loop tree plan v.place).privates u → (n : ℕ) × (body : Statements) × (loops : List ℤ) × StoresFirst u n body loops is) where
+    no_loads : (u : ℕ) → IsScalar tree u → (i : Instance) → IsFineIn tree plan v i → list_any (is_of u) (loads_in_work i.what) ≡ false → Contains (loads_of tree i) (first_cell tree u) → ⊥
+    no_loads u scalar i f none among = true≢false (sym (load_is tree formed f.good.around i.loops u scalar i.what f.good.good f.inside among) ∙ none)
+
+    neither_one : (a b : Bool) → (a || b) ≡ false → (a ≡ false) × (b ≡ false)
+    neither_one true b e = absurd (true≢false e)
+    neither_one false b e = (refl, e)
+
+    away : (u : ℕ) → IsScalar tree u → (i : Instance) → IsFineIn tree plan v i → has_access u i.what ≡ false → IsAway (first_cell tree u) (job_in_phase i)
+    away u scalar i f none =
+        let both = neither_one (list_any (is_of u) (loads_in_work i.what)) (stores u i.what) none in
+        record {
+          loads = no_loads u scalar i f both.0;
+          store = λ stored. true≢false (sym (store_is tree formed f.good.around i.loops u scalar i.what f.good.good f.inside stored) ∙ both.1);
+        }
+
+    unloaded : (u : ℕ) (w : Work) → is_plain_store u w ≡ true → list_any (is_of u) (loads_in_work w) ≡ false
+    unloaded u (assign a) plain = not_true (loads u a.value) (and_parts (is_of u a.target) (not (loads u a.value)) (and_parts (is_of u a.target && not (loads u a.value)) (is_none a.guard) plain).0).1
+      where
+        not_true : (b : Bool) → not b ≡ true → b ≡ false
+        not_true true h = absurd (true≢false (sym h))
+        not_true false h = refl
+    unloaded u (print q) plain = absurd (true≢false (sym plain))
+
+    pub trip : (u : ℕ) → Contains (own_loop tree plan v.place).privates u → IsTrip (own_of tree plan v.place) (first_cell tree u) p (map job_in_phase is)
+    trip u among =
+        let s = (first u among).3 in
+        let scalar = (private_is tree plan v o u among).1 in
+        let split_fine = subst (All (IsFineIn tree plan v)) s.split fine in
+        let store_fine = All-head (IsFineIn tree plan v) s.store s.after (back_all (IsFineIn tree plan v) s.before (s.store ∷ s.after) split_fine) in
+        let both : All (λ (i : Instance). IsFineIn tree plan v i × (has_access u i.what ≡ false)) s.before = paired s.before (front_all (IsFineIn tree plan v) s.before (s.store ∷ s.after) split_fine) s.away in
+        record {
+          owners = by_recursion (λ (i : Instance). phase_owner tree plan v i.loops ≡ p) (λ (j : Job). j.owner ≡ p) job_in_phase is (λ i h. h) owners;
+          before = map job_in_phase s.before;
+          first = job_in_phase s.store;
+          after = map job_in_phase s.after;
+          is = ap (map job_in_phase) s.split ∙ map-append job_in_phase s.before (s.store ∷ s.after);
+          away = by_recursion (λ (i : Instance). IsFineIn tree plan v i × (has_access u i.what ≡ false)) (IsAway (first_cell tree u)) job_in_phase s.before (λ i h. away u scalar i h.0 h.1) both;
+          stores = plain_store tree u s.store.loops s.store.what scalar s.plain;
+          clean = no_loads u scalar s.store store_fine (unloaded u s.store.what s.plain);
+        }
+      where
+        paired : (xs : List Instance) → All (IsFineIn tree plan v) xs → All (λ (i : Instance). has_access u i.what ≡ false) xs → All (λ (i : Instance). IsFineIn tree plan v i × (has_access u i.what ≡ false)) xs
+        paired [] a b = All-nil (λ (i : Instance). IsFineIn tree plan v i × (has_access u i.what ≡ false))
+        paired (x ∷ xs) a b =
+            let Q = λ (i : Instance). has_access u i.what ≡ false in
+            All-cons (λ (i : Instance). IsFineIn tree plan v i × (has_access u i.what ≡ false)) x xs (All-head (IsFineIn tree plan v) x xs a, All-head Q x xs b) (paired xs (All-tail (IsFineIn tree plan v) x xs a) (All-tail Q x xs b))
+
+    pub not_sum : (u : ℕ) → Contains (own_loop tree plan v.place).privates u → is_cell_of tree (own_loop tree plan v.place).sums (first_cell tree u) ≡ false
+    not_sum u among = elim (cases_Bool (is_cell_of tree (own_loop tree plan v.place).sums (first_cell tree u))) [
+      | inl summed ↦ absurd (not_both tree plan v o (first_cell tree u) (cell_there tree (own_loop tree plan v.place).privates u among) summed)
+      | inr failed ↦ failed
+    ]
+
+    good_from : (last : ℕ → Option ℕ) (xs ys : List Instance) → is ≡ xs ++ ys → AreGoodJobs (own_of tree plan v.place) (fold (last_behind (own_of tree plan v.place)) last (map job_in_phase xs)) (map job_in_phase ys)
+    good_from last xs [] same = tt
+    good_from last xs (y ∷ ys) same =
+        let all = subst (All (IsFineIn tree plan v)) same fine in
+        let f = All-head (IsFineIn tree plan v) y ys (back_all (IsFineIn tree plan v) xs (y ∷ ys) all) in
+        let owner = All-head (λ (i : Instance). phase_owner tree plan v i.loops ≡ p) y ys (back_all (λ (i : Instance). phase_owner tree plan v i.loops ≡ p) xs (y ∷ ys) (subst (All (λ (i : Instance). phase_owner tree plan v i.loops ≡ p)) same owners)) in
+        let behind = fold (last_behind (own_of tree plan v.place)) last (map job_in_phase xs) in
+        let jobs_split = ap (map job_in_phase) same ∙ map-append job_in_phase xs (y ∷ ys) in
+        let kept = λ (u : ℕ) (among : Contains (own_loop tree plan v.place).privates u) (loaded : Contains (loads_of tree y) (first_cell tree u)).
+        let s = slot_there tree plan v o (first_cell tree u) (inl (cell_there tree (own_loop tree plan v.place).privates u among)) in
+        before_load (own_of tree plan v.place) (first_cell tree u) s.0 p s.1 (not_sum u among) last (map job_in_phase is) (map job_in_phase xs) (job_in_phase y) (map job_in_phase ys) (trip u among) jobs_split loaded ∙ ap Some (sym owner) in
+        let moved : xs ++ (y ∷ ys) ≡ (xs ++ y ∷ []) ++ ys = sym (append_assoc xs (y ∷ []) ys) in
+        let next_is : fold (last_behind (own_of tree plan v.place)) last (map job_in_phase (xs ++ y ∷ [])) ≡ last_behind (own_of tree plan v.place) behind (job_in_phase y) =
+        ap (fold (last_behind (own_of tree plan v.place)) last) (map-append job_in_phase xs (y ∷ [])) ∙ fold-append (last_behind (own_of tree plan v.place)) last (map job_in_phase xs) (job_in_phase y ∷ []) in (
+          good_job tree plan e v formed o y f.good f.inside behind kept f.summed,
+          refl,
+          f.worker,
+          subst (λ l. AreGoodJobs (own_of tree plan v.place) l (map job_in_phase ys)) next_is (good_from last (xs ++ y ∷ []) ys (same ∙ moved)),
+        )
+
+    pub trip_good : (last : ℕ → Option ℕ) → AreGoodJobs (own_of tree plan v.place) last (map job_in_phase is)
+    trip_good last = good_from last [] is refl
