@@ -9,28 +9,74 @@ ghost use Rattle.farkas_cert.specs.Units.{RoseWithin};
 use crate::counting::Steps;
 use std::sync::ledger::Ledger;
 
-// The quotient, if nothing remains. One division gives both.
-fn exact_quotient<L: Ledger>(number: i128, divisor: i128, steps: &mut Steps<L>) -> Option<i128>
+// The quotient of numbers of 64 bits, if nothing remains. One division gives both.
+#[inline(always)]
+fn small_exact_quotient(number: i64, divisor: i64) -> Option<i128>
     requires { pos 1 ≤ℤ divisor }
-    ensures quotient { result ≡ (if int_eq (int_rem number divisor) (pos 0) then Some (int_div number divisor) else None) }
-    ensures counted { steps.new ≡ steps.old + 1 }
+    ensures { result ≡ (if int_eq (int_rem number divisor) (pos 0) then Some (int_div number divisor) else None) }
 {
-    steps.tick();
     if number % divisor == 0 {
+        Some(i128::from(number / divisor))
+    } else {
+        None
+    }
+}
+
+// The quotient of any two numbers, if nothing remains.
+fn wide_exact_quotient(number: i128, divisor: i128) -> Option<i128>
+    requires { pos 1 ≤ℤ divisor }
+    ensures { result ≡ (if int_eq (int_rem number divisor) (pos 0) then Some (int_div number divisor) else None) }
+{
+    let rest = number % divisor;
+    if rest == 0 {
         Some(number / divisor)
     } else {
         None
     }
 }
 
-/// The quotient, rounded down.
+// The quotient, if nothing remains: with no division by 1, and by one of 64 bits where that does.
+#[inline(always)]
+#[tactic(auto, using(crate::proofs::Integers::exact_by_one))]
+fn exact_quotient<L: Ledger>(number: i128, divisor: i128, steps: &mut Steps<L>) -> Option<i128>
+    requires { pos 1 ≤ℤ divisor }
+    ensures quotient { result ≡ (if int_eq (int_rem number divisor) (pos 0) then Some (int_div number divisor) else None) }
+    ensures counted { steps.new ≡ steps.old + 1 }
+{
+    steps.tick();
+    if divisor == 1 {
+        return Some(number);
+    }
+    match (i64::try_from(number), i64::try_from(divisor)) {
+        (Ok(number), Ok(divisor)) => small_exact_quotient(number, divisor),
+        _ => wide_exact_quotient(number, divisor),
+    }
+}
+
+// The quotient of numbers of 64 bits, rounded down.
+#[inline(always)]
+fn small_floor_quotient(number: i64, divisor: i64) -> i128
+    requires { pos 1 ≤ℤ divisor }
+    ensures { result ≡ int_div_euclid number divisor }
+{
+    i128::from(number.div_euclid(divisor))
+}
+
+/// The quotient, rounded down: with no division by 1, and by one of 64 bits where that does.
+#[tactic(auto, using(crate::proofs::Integers::floor_by_one))]
 pub(crate) fn floor_quotient<L: Ledger>(number: i128, divisor: i128, steps: &mut Steps<L>) -> i128
     requires { pos 1 ≤ℤ divisor }
     ensures quotient { result ≡ int_div_euclid number divisor }
     ensures counted { steps.new ≡ steps.old + 1 }
 {
     steps.tick();
-    number.div_euclid(divisor)
+    if divisor == 1 {
+        return number;
+    }
+    match (i64::try_from(number), i64::try_from(divisor)) {
+        (Ok(number), Ok(divisor)) => small_floor_quotient(number, divisor),
+        _ => number.div_euclid(divisor),
+    }
 }
 
 /// Divides each number, if the divisor divides them all. Where it doesn't, those in front of the

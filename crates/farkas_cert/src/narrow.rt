@@ -11,10 +11,14 @@ use crate::system::Row;
 pub const LIMIT: u128 = 1 << 126;
 
 /// Whether the number is at most 2 ^ 126 in size.
+#[inline(always)]
 pub fn is_narrow(number: i128) -> bool
     ensures { result ≡ narrow number }
 {
-    number.unsigned_abs() <= LIMIT
+    match i64::try_from(number) {
+        Ok(_) => true,
+        Err(_) => number.unsigned_abs() <= LIMIT,
+    }
 }
 
 /// Whether these numbers are all at most 2 ^ 126 in size.
