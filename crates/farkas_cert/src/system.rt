@@ -15,6 +15,9 @@ use std::sync::ledger::Ledger;
 /// How many coefficients a row keeps with no memory of its own.
 pub const INLINE: usize = 4;
 
+// How many rows the first one brings room for: a system of a plan has some 30 or 40.
+const ROOM: usize = 40;
+
 /// The coefficients of a row, from the first variable on. Contracts see the list of them.
 #[derive(Drop)]
 pub struct Coefs {
@@ -142,6 +145,9 @@ impl Rows {
         ensures ok { OnOk result (self.new ≡ self.old ++ row ∷ []) }
         ensures err { OnErr result (self.new ≡ self.old) }
     {
+        if self.items.is_empty() {
+            self.items.reserve(ROOM)?;
+        }
         self.items.push(row)?;
         Ok(())
     }
