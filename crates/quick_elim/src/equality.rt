@@ -1,6 +1,7 @@
 // Equalities, and whole changes of variables.
 
-use crate::row::{Bounds, WorkRow, hash_of};
+use crate::flat::{Flat, number_at};
+use crate::row::{Bounds, WorkRow, are_opposite, hash_of, weight_of};
 use crate::stop::Stop;
 use crate::values::Change;
 use crate::work::Work;
@@ -38,12 +39,12 @@ fn least_place(numbers: &[i64]) -> Option<usize> {
 // By how much each other variable goes into this one, so that the row's coefficients shrink.
 fn factors_of(
     alloc: Global,
-    row: &WorkRow,
+    coefs: &[i64],
     variable: usize,
 ) -> Result<Option<Vec<i64>>, AllocError> {
-    let by = row.coef(variable);
-    let mut factors = Vec::with_capacity(alloc, row.coefs.len())?;
-    for (place, coef) in row.coefs.as_slice().iter().enumerate() {
+    let by = number_at(coefs, variable);
+    let mut factors = Vec::with_capacity(alloc, coefs.len())?;
+    for (place, coef) in coefs.iter().enumerate() {
         if place == variable {
             factors.push(0)?;
         } else {
@@ -74,23 +75,24 @@ fn take_multiples(numbers: &mut [i64], times: i64, factors: &[i64]) -> bool {
 impl WorkRow {
     // Its form where the variable is one less so many times each other variable; false where a number has
     // more than 64 bits.
-    fn replace(&mut self, variable: usize, factors: &[i64]) -> bool {
-        let times = self.coef(variable);
+    fn replace(&mut self, flat: &mut Flat, variable: usize, factors: &[i64]) -> bool {
+        let times = flat.coef(self.start, variable);
         if times == 0 {
             return true;
         }
-        if !take_multiples(self.coefs.as_mut_slice(), times, factors) {
+        let coefs = flat.row_mut(self.start);
+        if !take_multiples(coefs, times, factors) {
             return false;
         }
-        self.hash = hash_of(self.coefs.as_slice());
+        self.hash = hash_of(coefs);
         true
     }
 }
 
 // The form of each row.
-fn replace_all(rows: &mut [WorkRow], variable: usize, factors: &[i64]) -> bool {
+fn replace_all(rows: &mut [WorkRow], flat: &mut Flat, variable: usize, factors: &[i64]) -> bool {
     for row in rows.iter_mut() {
-        if !row.replace(variable, factors) {
+        if !row.replace(flat, variable, factors) {
             return false;
         }
     }
@@ -105,7 +107,7 @@ impl Work {
         let mut least = usize::MAX;
         for (place, row) in self.rows.iter().enumerate() {
             if row.is_tight {
-                let weight = row.weight();
+                let weight = weight_of(self.flat.row(row.start));
                 if weight < least {
                     least = weight;
                     best = Some(place);
@@ -119,15 +121,15 @@ impl Work {
     fn count_with(&self, variable: usize) -> usize {
         self.rows
             .iter()
-            .filter(|row| row.coef(variable) != 0)
+            .filter(|row| self.flat.coef(row.start, variable) != 0)
             .count()
     }
 
     // Of the variables with a coefficient 1 or -1 in a row the one that fewest rows have.
-    fn unit_variable(&self, row: &WorkRow) -> Option<usize> {
+    fn unit_variable(&self, coefs: &[i64]) -> Option<usize> {
         let mut best = None;
         let mut least = usize::MAX;
-        for (variable, coef) in row.coefs.as_slice().iter().enumerate() {
+        for (variable, coef) in coefs.iter().enumerate() {
             if coef.unsigned_abs() == 1 {
                 let count = self.count_with(variable);
                 if count < least {
@@ -151,34 +153,48 @@ impl Work {
     // Takes the row at a place away, with its opposite: first the one in which the variable's coefficient is above 0.
     fn take_equality(&mut self, place: usize, variable: usize) -> Result<(WorkRow, WorkRow), Stop> {
         let row = self.take(place)?;
-        let coefs = row.coefs.as_slice();
+        let coefs = self.flat.row(row.start);
         let wanted = row.hash.wrapping_neg();
-        let Some(opposite) = self
-            .rows
-            .iter()
-            .position(|other| other.hash == wanted && other.is_opposite(coefs))
+        let Some(opposite) = self.rows.iter().position(|other| {
+            other.hash == wanted && are_opposite(self.flat.row(other.start), coefs)
+        })
         else {
             return Err(Stop::GivenUp);
         };
         let other = self.take(opposite)?;
-        if row.coef(variable) > 0 {
+        if self.flat.coef(row.start, variable) > 0 {
             Ok((row, other))
         } else {
             Ok((other, row))
         }
     }
 
+    // Lays an upper row and a lower one by.
+    fn lay_by(&mut self, upper: WorkRow, lower: WorkRow) -> Result<Bounds, AllocError> {
+        let first = self.gone.len();
+        self.gone.push(upper)?;
+        let middle = self.gone.len();
+        self.gone.push(lower)?;
+        Ok(Bounds {
+            first,
+            middle,
+            end: self.gone.len(),
+        })
+    }
+
     // Replaces a variable in each row by what an equality says of it, where its coefficient is 1 or -1.
-    fn substitute(&mut self, alloc: Global, place: usize, variable: usize) -> Result<(), Stop> {
+    fn substitute(&mut self, place: usize, variable: usize) -> Result<(), Stop> {
         let (upper, lower) = self.take_equality(place, variable)?;
-        let bounds = self.take_with(alloc, variable)?;
-        for row in &bounds.uppers {
-            self.join(alloc, variable, row, &lower)?;
+        let bounds = self.take_with(variable)?;
+        for above in bounds.first..bounds.middle {
+            let row = self.gone_at(above)?;
+            self.join(variable, row, lower)?;
         }
-        for row in &bounds.lowers {
-            self.join(alloc, variable, &upper, row)?;
+        for below in bounds.middle..bounds.end {
+            let row = self.gone_at(below)?;
+            self.join(variable, upper, row)?;
         }
-        let bounds = Bounds::of(alloc, upper, lower)?;
+        let bounds = self.lay_by(upper, lower)?;
         self.trail.push(Change::Removed(variable, bounds))?;
         Ok(())
     }
@@ -188,13 +204,15 @@ impl Work {
         let Some(row) = self.rows.get(place) else {
             return Err(Stop::GivenUp);
         };
-        let Some(variable) = least_place(row.coefs.as_slice()) else {
+        let coefs = self.flat.row(row.start);
+        let Some(variable) = least_place(coefs) else {
             return Err(Stop::GivenUp);
         };
-        let Some(factors) = factors_of(alloc, row, variable)? else {
+        let Some(factors) = factors_of(alloc, coefs, variable)? else {
             return Err(Stop::GivenUp);
         };
-        if !replace_all(self.rows.as_mut_slice(), variable, factors.as_slice()) {
+        let rows = self.rows.as_mut_slice();
+        if !replace_all(rows, &mut self.flat, variable, factors.as_slice()) {
             return Err(Stop::GivenUp);
         }
         self.trail.push(Change::Replaced(variable, factors))?;
@@ -207,8 +225,8 @@ impl Work {
             let Some(row) = self.rows.get(place) else {
                 return Err(Stop::GivenUp);
             };
-            match self.unit_variable(row) {
-                Some(variable) => return self.substitute(alloc, place, variable),
+            match self.unit_variable(self.flat.row(row.start)) {
+                Some(variable) => return self.substitute(place, variable),
                 None => self.change_variables(alloc, place)?,
             }
         }

@@ -9,7 +9,7 @@
 //! - `answer`: the answers, and the budget.
 //! - `settling`: the search with the checks behind it.
 //! - `point`: values of the variables, and the check of them.
-//! - `work`, with `row` and `sum`: the rows that stand, and how variables are removed from them.
+//! - `work`, with `row`, `flat` and `sum`: the rows that stand, and how variables are removed from them.
 //! - `equality`: equalities, and whole changes of variables.
 //! - `values`: values taken back.
 //! - `certificate`: the certificate that ends in a row that was made.
@@ -18,6 +18,7 @@
 mod answer;
 mod certificate;
 mod equality;
+mod flat;
 mod point;
 mod row;
 mod settling;

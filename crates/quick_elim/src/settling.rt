@@ -22,13 +22,13 @@ enum Guess {
 
 // Removes all variables of a system.
 fn remove_all(alloc: Global, system: &System, work: &mut Work) -> Result<(), Stop> {
-    work.put_all(alloc, system.rows())?;
+    work.put_all(system.rows())?;
     work.remove_all(alloc)
 }
 
 // The values that the work leads to.
 fn guess_point(alloc: Global, work: &Work) -> Result<Guess, AllocError> {
-    let found = find_values(alloc, work.vars, work.trail.as_slice(), &work.budget)?;
+    let found = find_values(alloc, work)?;
     let Some(found) = found else {
         return Ok(Guess::Nothing);
     };

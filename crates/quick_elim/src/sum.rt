@@ -1,7 +1,5 @@
 // Sums of multiples of rows, in their lowest terms.
 
-use crate::row::WorkRow;
-
 /// How a row is made: the sum of multiples of rows, by their numbers, and what it is divided by.
 #[derive(Clone, Copy)]
 pub(crate) struct Sum {
@@ -21,8 +19,8 @@ impl Sum {
     }
 }
 
-// m * a + n * b, where it and the products have 64 bits.
-fn weighted_sum(m: i64, a: i64, n: i64, b: i64) -> Option<i64> {
+/// m * a + n * b, where it and the products have 64 bits.
+pub(crate) fn weighted_sum(m: i64, a: i64, n: i64, b: i64) -> Option<i64> {
     m.checked_mul(a)?.checked_add(n.checked_mul(b)?)
 }
 
@@ -76,18 +74,14 @@ pub(crate) fn divide_all(numbers: &mut [i64], divisor: i64) -> bool {
     true
 }
 
-/// Makes the coefficients of m times the first row and n times the other, and gives the bound; None
-/// where a number has more than 64 bits.
-pub(crate) fn combine(
-    m: i64,
-    upper: &WorkRow,
-    n: i64,
-    lower: &WorkRow,
-    coefs: &mut [i64],
-) -> Option<i64> {
-    let pairs = upper.coefs.as_slice().iter().zip(lower.coefs.as_slice());
-    for (coef, (a, b)) in coefs.iter_mut().zip(pairs) {
-        *coef = weighted_sum(m, *a, n, *b)?;
+/// Makes the coefficients of m times those of a row and n times those of another; false where a number
+/// has more than 64 bits.
+pub(crate) fn combine(m: i64, upper: &[i64], n: i64, lower: &[i64], coefs: &mut [i64]) -> bool {
+    for (coef, (a, b)) in coefs.iter_mut().zip(upper.iter().zip(lower)) {
+        match weighted_sum(m, *a, n, *b) {
+            Some(sum) => *coef = sum,
+            None => return false,
+        }
     }
-    weighted_sum(m, upper.bound, n, lower.bound)
+    true
 }

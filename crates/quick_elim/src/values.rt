@@ -1,7 +1,8 @@
 // Values taken back, from the last variable that was removed on.
 
-use crate::answer::Budget;
-use crate::row::{Bounds, WorkRow, number_at};
+use crate::flat::{Flat, number_at};
+use crate::row::{Bounds, WorkRow};
+use crate::work::Work;
 use std::alloc::{AllocError, Global};
 
 /// What was done with a variable.
@@ -59,30 +60,27 @@ fn rest_of(number: i64, coefs: &[i64], values: &[i64]) -> Option<i64> {
 }
 
 // The most that a row leaves for a variable times its coefficient's size, rounded down.
-fn room_in(row: &WorkRow, variable: usize, values: &[i64]) -> Option<i64> {
-    let rest = rest_of(row.bound, row.coefs.as_slice(), values)?;
-    rest.checked_div_euclid(row.coef(variable).checked_abs()?)
+fn room_in(coefs: &[i64], bound: i64, variable: usize, values: &[i64]) -> Option<i64> {
+    let rest = rest_of(bound, coefs, values)?;
+    rest.checked_div_euclid(number_at(coefs, variable).checked_abs()?)
 }
 
-// Where a variable's value lies, which stands as 0 among the values.
-fn between(bounds: &Bounds, variable: usize, values: &[i64]) -> Option<Interval> {
-    let mut high: Option<i64> = None;
-    for row in &bounds.uppers {
-        let most = room_in(row, variable, values)?;
-        high = match high {
-            Some(high) => Some(most.min(high)),
+// The most that all these rows leave for a variable times its coefficient's size.
+fn room_in_all(
+    coefs: &Flat,
+    rows: &[WorkRow],
+    variable: usize,
+    values: &[i64],
+) -> Option<Option<i64>> {
+    let mut room: Option<i64> = None;
+    for row in rows {
+        let most = room_in(coefs.row(row.start), row.bound, variable, values)?;
+        room = match room {
+            Some(room) => Some(most.min(room)),
             None => Some(most),
         };
     }
-    let mut low: Option<i64> = None;
-    for row in &bounds.lowers {
-        let least = room_in(row, variable, values)?.checked_neg()?;
-        low = match low {
-            Some(low) => Some(least.max(low)),
-            None => Some(least),
-        };
-    }
-    Some(Interval { low, high })
+    Some(room)
 }
 
 impl Change {
@@ -93,12 +91,36 @@ impl Change {
             Change::Replaced(variable, _) => *variable,
         }
     }
+}
 
-    // Where the variable's value lies, by the values of those that were removed after it.
-    fn interval(&self, values: &[i64]) -> Option<Interval> {
-        match self {
-            Change::Removed(variable, bounds) => between(bounds, *variable, values),
+// The values so far, and how many more may be tried.
+#[derive(Drop)]
+struct Search<'a> {
+    work: &'a Work,
+    values: Vec<i64>,
+    steps: usize,
+    width: i64,
+}
+
+impl Search<'_> {
+    // Where a variable's value lies, which stands as 0 among the values.
+    fn between(&self, variable: usize, bounds: Bounds) -> Option<Interval> {
+        let work = self.work;
+        let values = self.values.as_slice();
+        let high = room_in_all(&work.flat, work.uppers(bounds), variable, values)?;
+        let low = match room_in_all(&work.flat, work.lowers(bounds), variable, values)? {
+            Some(room) => Some(room.checked_neg()?),
+            None => None,
+        };
+        Some(Interval { low, high })
+    }
+
+    // Where the value of a variable lies, by the values of those that were removed after it.
+    fn interval(&self, change: &Change) -> Option<Interval> {
+        match change {
+            Change::Removed(variable, bounds) => self.between(*variable, *bounds),
             Change::Replaced(variable, factors) => {
+                let values = self.values.as_slice();
                 let given = number_at(values, *variable);
                 let value = rest_of(given, factors.as_slice(), values)?;
                 Some(Interval {
@@ -108,17 +130,7 @@ impl Change {
             }
         }
     }
-}
 
-// The values so far, and how many more may be tried.
-#[derive(Drop)]
-struct Search {
-    values: Vec<i64>,
-    steps: usize,
-    width: i64,
-}
-
-impl Search {
     // A variable's value.
     fn set(&mut self, variable: usize, value: i64) {
         if let Some(place) = self.values.get_mut(variable) {
@@ -137,7 +149,7 @@ impl Search {
         self.steps -= 1;
         let variable = last.variable();
         let given = number_at(self.values.as_slice(), variable);
-        let Some(interval) = last.interval(self.values.as_slice()) else {
+        let Some(interval) = self.interval(last) else {
             return false;
         };
         for number in 0..self.width {
@@ -155,18 +167,14 @@ impl Search {
 }
 
 /// Values of the variables that what was done leads to, if some are found.
-pub(crate) fn find_values(
-    alloc: Global,
-    vars: usize,
-    trail: &[Change],
-    budget: &Budget,
-) -> Result<Option<Vec<i64>>, AllocError> {
+pub(crate) fn find_values(alloc: Global, work: &Work) -> Result<Option<Vec<i64>>, AllocError> {
     let mut search = Search {
-        values: vec![in alloc; 0; vars]?,
-        steps: budget.steps,
-        width: i64::try_from(budget.values).unwrap_or(i64::MAX),
+        work,
+        values: vec![in alloc; 0; work.vars]?,
+        steps: work.budget.steps,
+        width: i64::try_from(work.budget.values).unwrap_or(i64::MAX),
     };
-    if search.find(trail) {
+    if search.find(work.trail.as_slice()) {
         let Search { values, .. } = search;
         Ok(Some(values))
     } else {

@@ -1,13 +1,13 @@
 // The rows that stand, and how variables are removed from them.
 
 use crate::answer::Budget;
-use crate::row::{Bounds, WorkRow, hash_of};
+use crate::flat::{Flat, number_at};
+use crate::row::{Bounds, WorkRow, are_opposite, hash_of};
 use crate::stop::Stop;
-use crate::sum::{Sum, combine, common_divisor, divide_all, multipliers};
+use crate::sum::{Sum, combine, common_divisor, divide_all, multipliers, weighted_sum};
 use crate::values::Change;
 use farkas_cert::{Row, System};
 use std::alloc::{AllocError, Global};
-use std::mem;
 
 /// A system at work.
 #[derive(Drop)]
@@ -18,8 +18,12 @@ pub(crate) struct Work {
     /// How many rows were given.
     pub given: usize,
     pub vars: usize,
+    /// The coefficients of the rows that stand or are gone.
+    pub flat: Flat,
     /// The rows that stand: no two with equal coefficients.
     pub rows: Vec<WorkRow>,
+    /// The rows that variables were removed from.
+    pub gone: Vec<WorkRow>,
     /// How rows were made. Their numbers follow those of the given ones.
     pub made: Vec<Sum>,
     /// How rows were combined so far.
@@ -37,6 +41,14 @@ struct Tally {
     lowers: i64,
     rough_uppers: i64,
     rough_lowers: i64,
+}
+
+// The rows related to the one that is made: the place of the one with the same coefficients, and the bound
+// and the number of the one with the opposite ones.
+#[derive(Clone, Copy)]
+struct Relatives {
+    same: Option<usize>,
+    opposite: Option<(i64, usize)>,
 }
 
 /// What a rough removal costs more than any other.
@@ -108,24 +120,44 @@ impl Work {
         order: u32,
     ) -> Result<Self, Stop> {
         let vars = system.vars() as usize;
-        if vars > budget.vars || system.rows().len() > budget.rows {
+        let given = system.rows().len();
+        if vars > budget.vars || given > budget.rows {
             return Err(Stop::GivenUp);
         }
         Ok(Work {
             budget: *budget,
             order,
-            given: system.rows().len(),
+            given,
             vars,
-            rows: Vec::new(alloc),
-            made: Vec::new(alloc),
+            flat: Flat::new(alloc, vars, given.saturating_mul(3))?,
+            rows: Vec::with_capacity(alloc, given.saturating_mul(2))?,
+            gone: Vec::with_capacity(alloc, given.saturating_mul(3))?,
+            made: Vec::with_capacity(alloc, given.saturating_mul(2))?,
             sums: 0,
             coefs: vec![in alloc; 0; vars]?,
-            trail: Vec::new(alloc),
+            trail: Vec::with_capacity(alloc, vars)?,
         })
     }
 
+    // The rows that are gone from one place to another.
+    fn gone_between(&self, from: usize, to: usize) -> &[WorkRow] {
+        let gone = self.gone.as_slice();
+        let front = &gone[..to.min(gone.len())];
+        &front[from.min(front.len())..]
+    }
+
+    /// The rows that bound a variable from above.
+    pub(crate) fn uppers(&self, bounds: Bounds) -> &[WorkRow] {
+        self.gone_between(bounds.first, bounds.middle)
+    }
+
+    /// The rows that bound a variable from below.
+    pub(crate) fn lowers(&self, bounds: Bounds) -> &[WorkRow] {
+        self.gone_between(bounds.middle, bounds.end)
+    }
+
     // Puts a given row among the others.
-    fn put_given(&mut self, alloc: Global, row: &Row, number: usize) -> Result<(), Stop> {
+    fn put_given(&mut self, row: &Row, number: usize) -> Result<(), Stop> {
         for (coef, given) in self.coefs.iter_mut().zip(row.coefs.as_slice()) {
             match i64::try_from(*given) {
                 Ok(given) => *coef = given,
@@ -133,15 +165,15 @@ impl Work {
             }
         }
         match i64::try_from(row.bound) {
-            Ok(bound) => self.put(alloc, bound, Sum::copy(number)),
+            Ok(bound) => self.put(bound, Sum::copy(number)),
             Err(_) => Err(Stop::GivenUp),
         }
     }
 
     /// Puts the given rows among the others.
-    pub(crate) fn put_all(&mut self, alloc: Global, rows: &[Row]) -> Result<(), Stop> {
+    pub(crate) fn put_all(&mut self, rows: &[Row]) -> Result<(), Stop> {
         for (place, row) in rows.iter().enumerate() {
-            self.put_given(alloc, row, place.saturating_add(1))?;
+            self.put_given(row, place.saturating_add(1))?;
         }
         Ok(())
     }
@@ -159,13 +191,13 @@ impl Work {
     }
 
     /// Puts the row that is made among the others, in its lowest terms.
-    pub(crate) fn put(&mut self, alloc: Global, bound: i64, sum: Sum) -> Result<(), Stop> {
+    pub(crate) fn put(&mut self, bound: i64, sum: Sum) -> Result<(), Stop> {
         let divisor = common_divisor(self.coefs.as_slice());
         if divisor == 0 {
             return self.put_empty(bound, sum);
         }
         if divisor == 1 {
-            return self.put_reduced(alloc, bound, sum);
+            return self.put_reduced(bound, sum);
         }
         let Ok(divisor) = i64::try_from(divisor) else {
             return Err(Stop::GivenUp);
@@ -176,7 +208,7 @@ impl Work {
         let Some(bound) = bound.checked_div_euclid(divisor) else {
             return Err(Stop::GivenUp);
         };
-        self.put_reduced(alloc, bound, Sum { divisor, ..sum })
+        self.put_reduced(bound, Sum { divisor, ..sum })
     }
 
     // A row without coefficients is left out where it holds, and else a contradiction.
@@ -187,30 +219,34 @@ impl Work {
         Err(Stop::Contradiction(self.number_of(sum)?))
     }
 
-    // The place of the row with the coefficients that are made.
-    fn place_of(&self, hash: u64) -> Option<usize> {
-        let coefs = self.coefs.as_slice();
-        self.rows
-            .iter()
-            .position(|row| row.hash == hash && row.coefs.as_slice() == coefs)
-    }
-
-    // The row opposite to the coefficients that are made: its bound and its number.
-    fn opposite(&self, hash: u64) -> Option<(i64, usize)> {
+    // The rows related to the one that is made.
+    fn relatives(&self, hash: u64) -> Relatives {
         let coefs = self.coefs.as_slice();
         let wanted = hash.wrapping_neg();
-        for row in &self.rows {
-            if row.hash == wanted && row.is_opposite(coefs) {
-                return Some((row.bound, row.number));
+        let mut found = Relatives {
+            same: None,
+            opposite: None,
+        };
+        for (place, row) in self.rows.iter().enumerate() {
+            if row.hash == hash && self.flat.row(row.start) == coefs {
+                found.same = Some(place);
+            }
+            if row.hash == wanted && are_opposite(self.flat.row(row.start), coefs) {
+                found.opposite = Some((row.bound, row.number));
             }
         }
-        None
+        found
     }
 
-    // Whether the row that is made, with this bound, is half of an equality. It ends where the row and
-    // its opposite are a contradiction.
-    fn is_tight(&mut self, hash: u64, bound: i64, number: usize) -> Result<bool, Stop> {
-        let Some((other_bound, other)) = self.opposite(hash) else {
+    // Whether the row that is made, with this bound, is half of an equality with its opposite. It ends where
+    // the two are a contradiction.
+    fn is_tight(
+        &mut self,
+        bound: i64,
+        number: usize,
+        opposite: Option<(i64, usize)>,
+    ) -> Result<bool, Stop> {
+        let Some((other_bound, other)) = opposite else {
             return Ok(false);
         };
         let Some(gap) = bound.checked_add(other_bound) else {
@@ -227,17 +263,17 @@ impl Work {
     }
 
     // Puts the row that is made among the others: the least bound of those with its coefficients is kept.
-    fn put_reduced(&mut self, alloc: Global, bound: i64, sum: Sum) -> Result<(), Stop> {
+    fn put_reduced(&mut self, bound: i64, sum: Sum) -> Result<(), Stop> {
         let hash = hash_of(self.coefs.as_slice());
-        let place = self.place_of(hash);
-        if let Some(place) = place {
+        let Relatives { same, opposite } = self.relatives(hash);
+        if let Some(place) = same {
             if self.has_bound_within(place, bound) {
                 return Ok(());
             }
         }
         let number = self.number_of(sum)?;
-        let is_tight = self.is_tight(hash, bound, number)?;
-        match place {
+        let is_tight = self.is_tight(bound, number, opposite)?;
+        match same {
             Some(place) => {
                 if let Some(row) = self.rows.get_mut(place) {
                     row.bound = bound;
@@ -246,16 +282,7 @@ impl Work {
                 }
                 Ok(())
             }
-            None => {
-                let coefs = Vec::from_slice(alloc, self.coefs.as_slice())?;
-                self.push(WorkRow {
-                    coefs,
-                    bound,
-                    number,
-                    hash,
-                    is_tight,
-                })
-            }
+            None => self.push(bound, number, hash, is_tight),
         }
     }
 
@@ -267,70 +294,100 @@ impl Work {
         }
     }
 
-    // One row more.
-    fn push(&mut self, row: WorkRow) -> Result<(), Stop> {
+    // One row more, with the coefficients that are made.
+    fn push(&mut self, bound: i64, number: usize, hash: u64, is_tight: bool) -> Result<(), Stop> {
         if self.rows.len() >= self.budget.rows {
             return Err(Stop::GivenUp);
         }
-        self.rows.push(row)?;
+        let start = self.flat.push(self.coefs.as_slice())?;
+        self.rows.push(WorkRow {
+            start,
+            bound,
+            number,
+            hash,
+            is_tight,
+        })?;
         Ok(())
     }
 
     /// Takes the rows with a variable away, by the sign of its coefficient.
-    pub(crate) fn take_with(
-        &mut self,
-        alloc: Global,
-        variable: usize,
-    ) -> Result<Bounds, AllocError> {
-        let mut bounds = Bounds::new(alloc);
-        let room = Vec::with_capacity(alloc, self.rows.len())?;
-        for row in mem::replace(&mut self.rows, room) {
-            let coef = row.coef(variable);
-            if coef > 0 {
-                bounds.uppers.push(row)?;
-            } else if coef < 0 {
-                bounds.lowers.push(row)?;
-            } else {
-                self.rows.push(row)?;
+    pub(crate) fn take_with(&mut self, variable: usize) -> Result<Bounds, AllocError> {
+        let flat = &self.flat;
+        let first = self.gone.len();
+        for row in &self.rows {
+            if flat.coef(row.start, variable) > 0 {
+                self.gone.push(*row)?;
             }
         }
-        Ok(bounds)
+        let middle = self.gone.len();
+        for row in &self.rows {
+            if flat.coef(row.start, variable) < 0 {
+                self.gone.push(*row)?;
+            }
+        }
+        let end = self.gone.len();
+        self.rows.retain(|row| flat.coef(row.start, variable) == 0);
+        Ok(Bounds { first, middle, end })
     }
 
     /// Puts the least combination of two rows without the variable among the others.
     pub(crate) fn join(
         &mut self,
-        alloc: Global,
         variable: usize,
-        upper: &WorkRow,
-        lower: &WorkRow,
+        upper: WorkRow,
+        lower: WorkRow,
     ) -> Result<(), Stop> {
         if self.sums >= self.budget.sums {
             return Err(Stop::GivenUp);
         }
         self.sums += 1;
-        let Some((m, n)) = multipliers(upper.coef(variable), lower.coef(variable)) else {
+        let above = self.flat.row(upper.start);
+        let below = self.flat.row(lower.start);
+        let multipliers = multipliers(number_at(above, variable), number_at(below, variable));
+        let Some((m, n)) = multipliers else {
             return Err(Stop::GivenUp);
         };
-        match combine(m, upper, n, lower, self.coefs.as_mut_slice()) {
-            Some(bound) => self.put(
-                alloc,
-                bound,
-                Sum {
-                    divisor: 1,
-                    first: (upper.number, m),
-                    second: Some((lower.number, n)),
-                },
-            ),
+        if !combine(m, above, n, below, self.coefs.as_mut_slice()) {
+            return Err(Stop::GivenUp);
+        }
+        let Some(bound) = weighted_sum(m, upper.bound, n, lower.bound) else {
+            return Err(Stop::GivenUp);
+        };
+        self.put(
+            bound,
+            Sum {
+                divisor: 1,
+                first: (upper.number, m),
+                second: Some((lower.number, n)),
+            },
+        )
+    }
+
+    /// The row that is gone at a place.
+    pub(crate) fn gone_at(&self, place: usize) -> Result<WorkRow, Stop> {
+        match self.gone.get(place) {
+            Some(row) => Ok(*row),
             None => Err(Stop::GivenUp),
         }
+    }
+
+    // Puts the combinations of each row that bounds a variable from above with each from below among the others.
+    fn join_all(&mut self, variable: usize, bounds: Bounds) -> Result<(), Stop> {
+        for above in bounds.first..bounds.middle {
+            let upper = self.gone_at(above)?;
+            for below in bounds.middle..bounds.end {
+                let lower = self.gone_at(below)?;
+                self.join(variable, upper, lower)?;
+            }
+        }
+        Ok(())
     }
 
     // The variable whose removal costs least, None where no row is left that has one.
     fn cheapest(&self, alloc: Global) -> Result<Option<usize>, AllocError> {
         let mut tallies = vec![in alloc; Tally::NONE; self.vars]?;
         for row in &self.rows {
-            for (tally, coef) in tallies.iter_mut().zip(row.coefs.as_slice()) {
+            for (tally, coef) in tallies.iter_mut().zip(self.flat.row(row.start)) {
                 tally.add(*coef);
             }
         }
@@ -349,13 +406,9 @@ impl Work {
     }
 
     // Removes a variable: each row that bounds it from above is combined with each that bounds it from below.
-    fn eliminate(&mut self, alloc: Global, variable: usize) -> Result<(), Stop> {
-        let bounds = self.take_with(alloc, variable)?;
-        for upper in &bounds.uppers {
-            for lower in &bounds.lowers {
-                self.join(alloc, variable, upper, lower)?;
-            }
-        }
+    fn eliminate(&mut self, variable: usize) -> Result<(), Stop> {
+        let bounds = self.take_with(variable)?;
+        self.join_all(variable, bounds)?;
         self.trail.push(Change::Removed(variable, bounds))?;
         Ok(())
     }
@@ -368,7 +421,7 @@ impl Work {
                 continue;
             }
             match self.cheapest(alloc)? {
-                Some(variable) => self.eliminate(alloc, variable)?,
+                Some(variable) => self.eliminate(variable)?,
                 None => return Ok(()),
             }
         }
