@@ -3,6 +3,7 @@ pub mod Dots
 pub mod GroupsMet
 pub mod Nesting
 pub mod SmallTerms
+pub mod Counting
 pub mod RowLists
 pub mod GoodNesting
 pub mod Over

@@ -1,7 +1,7 @@
 // Constraints as rows of a system.
 
-ghost use Rattle.std.specs.Prelude.{◌≡◌, ◌==◌, if◌then◌else◌, pos, ◌++◌, [], ◌∷◌, IfOk, IsTrue, OnOk};
-ghost use Rattle.std.specs.List.{list_all};
+ghost use Rattle.std.specs.Prelude.{◌≡◌, pos, ◌++◌, [], ◌∷◌, IfOk, IsTrue, OnOk, length, map, replicate};
+ghost use Rattle.std.specs.List.{All, list_all, range_with_len};
 ghost use Rattle.nest_tree.specs.Form.{is_small};
 ghost use Rattle.farkas_cert.specs.Combination.{is_narrow};
 ghost use Rattle.farkas_cert.specs.Narrow.{IsNarrowRow};
@@ -9,29 +9,25 @@ ghost use Rattle.nest_rows.specs.Constraints.{coefficient as coefficient_in, is_
 ghost use Rattle.nest_rows.specs.More.{HasMore};
 
 use crate::constraint::Constraint;
+use farkas_cert::system::INLINE;
 use farkas_cert::{Coefs, NarrowSystem, Row};
+use smallvec::SmallVec;
 use std::alloc::{AllocError, Global};
 
-// How often the unknown with this number is counted in a term.
-fn counted(unknown: u32, coefficient: i64, number: u32) -> i64
-    requires { IsTrue (is_small coefficient) }
-    ensures value { result ≡ (if unknown == number then coefficient else pos 0) }
-    ensures small { IsTrue (is_small result) }
+// Counts each term at its unknown's place, the first of which is that of unknown 1. One whose unknown has no
+// place isn't counted.
+fn count_terms(sums: &mut [i128], terms: &[(u32, i64)])
+    requires none { sums.old ≡ replicate (length sums.old) (pos 0) }
+    requires small { IsTrue (list_all (λ t. is_small t.1) terms.now) }
+    ensures counted { sums.new ≡ map (coefficient_in terms.now) (range_with_len 1 (length sums.old)) }
+    ensures narrow { All (λ a. IsTrue (is_narrow a)) sums.new }
 {
-    if unknown == number { coefficient } else { 0 }
-}
-
-// How often the unknown with this number is counted.
-fn coefficient(terms: &[(u32, i64)], number: u32) -> i128
-    requires { IsTrue (list_all (λ t. is_small t.1) terms.now) }
-    ensures value { result ≡ coefficient_in terms.now number }
-    ensures narrow { IsTrue (is_narrow result) }
-{
-    let mut sum = 0i128;
     for (unknown, coefficient) in terms {
-        sum += i128::from(counted(*unknown, *coefficient, number));
+        let number = *unknown as usize;
+        if number >= 1 && number <= sums.len() {
+            sums[number - 1] += i128::from(*coefficient);
+        }
     }
-    sum
 }
 
 /// The row of a constraint, over so many unknowns.
@@ -40,13 +36,14 @@ pub fn row(alloc: Global, vars: u32, constraint: &Constraint) -> Result<Row, All
     ensures row { IfOk result (λ r. r ≡ row_of vars constraint.now) }
     ensures narrow { IfOk result (λ r. IsNarrowRow r) }
 {
-    let terms = constraint.terms.as_slice();
-    let mut coefs = Coefs::with_capacity(alloc, vars as usize)?;
-    for index in 0..vars {
-        coefs.push(coefficient(terms, index + 1))?;
-    }
+    let mut sums: SmallVec<i128, INLINE, Global> = SmallVec::from_elem(
+        alloc,
+        0i128,
+        vars as usize,
+    )?;
+    count_terms(sums.as_mut_slice(), constraint.terms.as_slice());
     Ok(Row {
-        coefs,
+        coefs: Coefs::from_items(sums),
         bound: constraint.bound,
     })
 }
