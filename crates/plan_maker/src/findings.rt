@@ -17,12 +17,18 @@ use std::alloc::{AllocError, Global};
 const CHAINS: usize = 4096;
 
 /// What each number is multiplied by: odd, and with no pattern.
-const FACTOR: u128 = 0x2360_ED05_1FC6_5DA4_4385_DF64_9FCC_F645;
+const FACTOR: u64 = 0x9FCC_F645_4385_DF65;
+
+/// What a coefficient is multiplied by before its place is added: odd, and with no pattern.
+const SPREAD: u64 = 0x2360_ED05_1FC6_5DA5;
+
+/// Numbers below this have 64 bits.
+const WORD: u128 = 1 << 64;
 
 // A certificate, with a hash of the system that it refutes.
 #[derive(Drop)]
 struct Known {
-    hash: u128,
+    hash: u64,
     certificate: Certificate,
 }
 
@@ -34,17 +40,22 @@ pub(crate) struct Findings {
 }
 
 // The hash with one number more.
-fn mixed(hash: u128, number: i128) -> u128 {
-    hash.wrapping_add(number.cast_unsigned())
-        .wrapping_mul(FACTOR)
+fn mixed(hash: u64, number: u64) -> u64 {
+    hash.wrapping_add(number).wrapping_mul(FACTOR)
+}
+
+// The low 64 bits of a number.
+fn low_bits(number: i128) -> u64 {
+    (number.cast_unsigned() % WORD) as u64
 }
 
 // The hash with one row more.
-fn with_row(hash: u128, row: &Row) -> u128 {
-    let mut sum = mixed(hash, row.bound);
+fn with_row(hash: u64, row: &Row) -> u64 {
+    let mut sum = mixed(hash, low_bits(row.bound));
     for (place, coef) in row.coefs.as_slice().iter().enumerate() {
         if *coef != 0 {
-            sum = mixed(mixed(sum, place as i128), *coef);
+            let number = low_bits(*coef).wrapping_mul(SPREAD);
+            sum = mixed(sum, number.wrapping_add(place as u64));
         }
     }
     sum
@@ -54,7 +65,7 @@ fn with_row(hash: u128, row: &Row) -> u128 {
 #[derive(Clone, Copy)]
 pub(crate) struct SharedRows {
     count: usize,
-    hash: u128,
+    hash: u64,
 }
 
 impl SharedRows {
@@ -62,19 +73,19 @@ impl SharedRows {
     pub(crate) fn of(system: &System, count: usize) -> Self {
         let rows = system.rows();
         let count = count.min(rows.len());
-        let hash = with_rows(mixed(0, i128::from(system.vars())), &rows[..count]);
+        let hash = with_rows(mixed(0, u64::from(system.vars())), &rows[..count]);
         SharedRows { count, hash }
     }
 
     // A hash of a system that begins with these rows.
-    fn hash_of(self, system: &System) -> u128 {
+    fn hash_of(self, system: &System) -> u64 {
         let rows = system.rows();
         with_rows(self.hash, &rows[self.count.min(rows.len())..])
     }
 }
 
 // The hash with these rows more.
-fn with_rows(hash: u128, rows: &[Row]) -> u128 {
+fn with_rows(hash: u64, rows: &[Row]) -> u64 {
     let mut sum = hash;
     for row in rows {
         sum = with_row(sum, row);
@@ -83,8 +94,8 @@ fn with_rows(hash: u128, rows: &[Row]) -> u128 {
 }
 
 // The chain of a hash.
-fn chain_of(hash: u128) -> usize {
-    ((hash >> 64) % CHAINS as u128) as usize
+fn chain_of(hash: u64) -> usize {
+    ((hash >> 32) % CHAINS as u64) as usize
 }
 
 // Whether a certificate is good for a system.
@@ -102,7 +113,7 @@ fn is_good(alloc: Global, system: &System, certificate: &Certificate) -> Result<
 fn good_copy(
     alloc: Global,
     known: &Known,
-    hash: u128,
+    hash: u64,
     system: &System,
 ) -> Result<Option<Certificate>, AllocError>
     ensures { IfOk result (λ o. IfSome o (IsGood system.now)) }
@@ -120,7 +131,7 @@ fn good_copy(
 fn recall(
     alloc: Global,
     chain: &[Known],
-    hash: u128,
+    hash: u64,
     system: &System,
 ) -> Result<Option<Certificate>, AllocError>
     ensures { IfOk result (λ o. IfSome o (IsGood system.now)) }
@@ -138,7 +149,7 @@ fn recall(
 fn find_anew(
     alloc: Global,
     chain: &mut Vec<Known>,
-    hash: u128,
+    hash: u64,
     system: &System,
     dists: &[Dist],
     beginning: Option<&Beginning>,
