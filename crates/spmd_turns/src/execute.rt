@@ -24,6 +24,10 @@ use std::alloc::{AllocError, Global};
 // The most statements that a program has, and so the most loops.
 const MOST_STATEMENTS: usize = 400;
 
+// So many registers are left over, so that those of one processor never share a line of memory with
+// what another, on another thread, writes behind them.
+const APART: usize = 16;
+
 /// What a processor executes its instances with: the program with its cells and the values of its
 /// named constants, which others may be lent too, the values of loops by number, what the loads of
 /// the instance that has begun gave, and the output.
@@ -65,13 +69,13 @@ impl<'a> Executor<'a> {
         ensures output { IfOk result (λ x. executor_output x ≡ []) }
         ensures room { IfOk result (λ x. room ≤ executor_room x) }
     {
-        let registers = most_loads(program, table).ok_or(AllocError)?;
+        let most = most_loads(program, table).ok_or(AllocError)?;
         Ok(Executor {
             program,
             table,
             params,
             loops: vec![in alloc; 0; MOST_STATEMENTS]?,
-            registers: vec![in alloc; 0; registers]?,
+            registers: vec![in alloc; 0; most.saturating_add(APART)]?,
             output: Output::with_room(alloc, room)?,
         })
     }
