@@ -1,4 +1,5 @@
 pub mod Mapped
+pub mod Keyed
 pub mod Parted
 pub mod Quotients
 pub mod Summed

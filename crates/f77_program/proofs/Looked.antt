@@ -33,12 +33,12 @@ numbered-within (m ∷ names) n k h = by_test (bytes_eq m n) refl (numbered-with
         (omega (arith, p.2), omega (arith, p.2, r.1))
 
 -- what a name has, by lists side by side
-abbrev at : {X : Type 0} → List Name → List X → Name → X → X
+abbrev pub at : {X : Type 0} → List Name → List X → Name → X → X
 at [] xs n d = d
 at (m ∷ names) [] n d = d
 at (m ∷ names) (x ∷ xs) n d = if bytes_eq m n then x else at names xs n d
 
-at-number : {X : Type 0} (names : List Name) (xs : List X) (n : Name) (d : X) (k : ℕ) → length names ≡ length xs → numbered names n ≡ Some k → at names xs n d ≡ get_or xs (k - 1) d
+pub at-number : {X : Type 0} (names : List Name) (xs : List X) (n : Name) (d : X) (k : ℕ) → length names ≡ length xs → numbered names n ≡ Some k → at names xs n d ≡ get_or xs (k - 1) d
 at-number [] xs n d k l h = absurd cc
 at-number (m ∷ names) [] n d k l h = absurd (omega arith)
 at-number {X} (m ∷ names) (x ∷ xs) n d k l h = by_test (bytes_eq m n) refl (at-number names xs n d)
@@ -55,7 +55,7 @@ at-number {X} (m ∷ names) (x ∷ xs) n d k l h = by_test (bytes_eq m n) refl (
         let place : suc (p.0 - 1) ≡ k - 1 = omega (arith, p.2, within.0) in
         rw e (rest p.0 (omega arith) p.1 ∙ ap (λ j. get_or (x ∷ xs) j d) place)
 
-at-missing : {X : Type 0} (names : List Name) (xs : List X) (n : Name) (d : X) → numbered names n ≡ None → at names xs n d ≡ d
+pub at-missing : {X : Type 0} (names : List Name) (xs : List X) (n : Name) (d : X) → numbered names n ≡ None → at names xs n d ≡ d
 at-missing [] xs n d h = refl
 at-missing (m ∷ names) [] n d h = refl
 at-missing {X} (m ∷ names) (x ∷ xs) n d h = by_test (bytes_eq m n) refl (at-missing names xs n d)

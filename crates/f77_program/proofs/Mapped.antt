@@ -1,8 +1,8 @@
--- The numbers of names in an ordered map.
+-- The numbers of names in ordered maps.
 use Rattle.std.proofs.Common.{◌≡◌, ◌≢◌, ℕ, suc, ◌+◌, Bool, true, false, List, [], ◌∷◌, ◌++◌, length, if◌then◌else◌, cond, Option, Some, None, refl, sym, ap, ◌∙◌, arith, rules}
 use Rattle.std.proofs.lemmas.Map.Text.{is_eq-slice_cmp}
 use Rattle.std.proofs.lemmas.Slice.Eq.{bytes_eq-Decides}
-use Rattle.std.specs.BTreeMap.{BTreeMap, is_at, insert_entry}
+use Rattle.std.specs.BTreeMap.{is_at, insert_entry}
 use Rattle.std.specs.Cmp.Lexicographic.{slice_cmp}
 use Rattle.std.specs.Global.{Vec}
 use Rattle.std.specs.Map.{lookup}
@@ -14,10 +14,11 @@ use Rattle.std.specs.declared.cmp.Ordering.TheVariants.{Less, Equal, Greater}
 use Rattle.f77_forms.proofs.Told.{same_bytes}
 use Rattle.f77_scene.specs.Scene.{Name, is_among}
 use Rattle.f77_program.specs.Numbered.{numbered, number_under, AreNumbered}
+use Rattle.f77_program.specs.declared.numbers.Numbers.{Numbers}
 
 -- ---- equal names
 
-differ : (xs ys : List ℕ) → bytes_eq xs ys ≡ false → xs ≢ ys
+pub differ : (xs ys : List ℕ) → bytes_eq xs ys ≡ false → xs ≢ ys
 differ xs ys h = search (rules, bytes_eq-Decides xs ys)
 
 pub same_itself : (xs : List ℕ) → bytes_eq xs xs ≡ true
@@ -106,7 +107,7 @@ numbered-more (m ∷ names) n q =
     joined None false true = ap (λ k. Some k) (omega arith)
     joined None false false = refl
 
-pub AreNumbered-again : (numbers : BTreeMap (Vec ℕ) ℕ) (names : List Name) (n : Name) (k : ℕ) → AreNumbered numbers names → number_under numbers n ≡ Some k → AreNumbered numbers (names ++ n ∷ [])
+pub AreNumbered-again : (numbers : Numbers) (names : List Name) (n : Name) (k : ℕ) → AreNumbered numbers names → number_under numbers n ≡ Some k → AreNumbered numbers (names ++ n ∷ [])
 AreNumbered-again numbers names n k good there q = good q ∙ by_test (bytes_eq n q) refl ∙ sym (numbered-more names n q)
   where
     by_test : (b : Bool) → bytes_eq n q ≡ b → numbered names q ≡ option_or (numbered names q) (if bytes_eq n q then Some (length names + 1) else None)
@@ -119,7 +120,7 @@ AreNumbered-again numbers names n k good there q = good q ∙ by_test (bytes_eq 
         same None = refl
         same (Some x) = refl
 
-pub AreNumbered-more : (old new : BTreeMap (Vec ℕ) ℕ) (names : List Name) (n : Name) → AreNumbered old names → number_under old n ≡ None
+pub AreNumbered-more : (old new : Numbers) (names : List Name) (n : Name) → AreNumbered old names → number_under old n ≡ None
     → ((q : Name) → number_under new q ≡ (if bytes_eq q n then Some (length names + 1) else number_under old q)) → AreNumbered new (names ++ n ∷ [])
 AreNumbered-more old new names n good none made q = made q ∙ by_test (bytes_eq q n) refl ∙ sym (numbered-more names n q)
   where

@@ -14,6 +14,7 @@ mod marks;
 mod measure;
 pub mod measures;
 mod names;
+mod numbers;
 mod opened;
 mod parts;
 mod pass;

@@ -2,8 +2,8 @@
 
 ghost use Rattle.std.specs.Prelude.{◌≡◌, ◌≤◌, ◌++◌, [], ◌∷◌, OnOk, OnErr, IfSome, map};
 
+use crate::numbers::Numbers;
 use std::alloc::{AllocError, Global};
-use std::collections::BTreeMap;
 use std::marker::Model;
 
 /// Names, numbered from 1 in the order in which they came. A name may come again; its number is
@@ -11,8 +11,7 @@ use std::marker::Model;
 #[derive(Drop)]
 pub struct Names {
     names: Vec<Vec<u8>>,
-    // The number of each name.
-    numbers: BTreeMap<Vec<u8>, u32>,
+    numbers: Numbers,
 }
 
 impl Model for Names {
@@ -37,7 +36,7 @@ impl Names {
     {
         Names {
             names: Vec::new(alloc),
-            numbers: BTreeMap::new(alloc),
+            numbers: Numbers::new(alloc),
         }
     }
 
@@ -53,7 +52,7 @@ impl Names {
         ensures number { result ≡ numbered self.now name.now }
         ensures counted { IfSome result (λ k. 1 ≤ k) }
     {
-        number_under(&self.numbers, name)
+        self.numbers.number(name)
     }
 
     /// Whether this name is among these.
@@ -73,11 +72,11 @@ impl Names {
             return Err(AllocError);
         }
         self.names.push(Vec::from_slice(alloc, name)?)?;
-        if number_under(&self.numbers, name).is_some() {
+        if self.numbers.number(name).is_some() {
             return Ok(());
         }
         let number = self.names.len() as u32;
-        match put(alloc, &mut self.numbers, name, number) {
+        match self.numbers.put(alloc, name, number) {
             Ok(()) => Ok(()),
             Err(err) => {
                 self.names.pop();
@@ -116,31 +115,4 @@ impl Names {
         }
         Ok(())
     }
-}
-
-ghost use Rattle.std.specs.Prelude.{ℕ, List, Some, None, if◌then◌else◌};
-ghost use Rattle.std.specs.Str.{bytes_eq};
-ghost use Rattle.f77_program.specs.Numbered.{number_under};
-
-// The number under this name, where it has one.
-fn number_under(numbers: &BTreeMap<Vec<u8>, u32>, name: &[u8]) -> Option<u32>
-    ensures { result ≡ number_under numbers.now name.now }
-{
-    numbers.get(name).copied()
-}
-
-// Puts a new name's number into the map, which stays as it was where memory runs out.
-fn put(
-    alloc: Global,
-    numbers: &mut BTreeMap<Vec<u8>, u32>,
-    name: &[u8],
-    number: u32,
-) -> Result<(), AllocError>
-    requires { number_under numbers.old name.now ≡ None }
-    ensures there { OnOk result ((other : List ℕ) → number_under numbers.new other ≡ (if bytes_eq other name.now then Some number else number_under numbers.old other)) }
-    ensures unchanged { OnErr result ((other : List ℕ) → number_under numbers.new other ≡ number_under numbers.old other) }
-{
-    let name = Vec::from_slice(alloc, name)?;
-    numbers.insert(name, number)?;
-    Ok(())
 }

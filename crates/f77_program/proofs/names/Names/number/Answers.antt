@@ -4,7 +4,7 @@ use Rattle.f77_program.proofs.Looked.{numbered-within}
 use Rattle.f77_program.proofs.names.Names.number.Goals as goal
 
 pub returns-clause-counted : goal.returns-clause-counted
-returns-clause-counted c = counted c.number_under.result (sym (c.number_under.ensures ∙ c.self.invariant c.args.name.now))
+returns-clause-counted c = counted c.number.result (sym (c.number.ensures ∙ c.self.invariant c.args.name.now))
   where
     counted : (o : Option ℕ) → numbered (texts_of c.self.inside.names.items) c.args.name.now ≡ o → IfSome o (λ k. 1 ≤ k)
     counted None h = tt

@@ -19,7 +19,7 @@ pub invariant_of-self-then-is_some : goal.invariant_of-self-then-is_some
 invariant_of-self-then-is_some c =
     let name = c.args.name.now in
     let names = c.self.inside.names.items in
-    let there : is_some (number_under c.self.inside.numbers name) ≡ true = sym (ap is_some c.number_under.ensures) ∙ sym c.is_some.ensures ∙ c.if-is_some.true in
+    let there : is_some (number_under c.self.inside.numbers name) ≡ true = sym (ap is_some c.number.ensures) ∙ sym c.is_some.ensures ∙ c.if-is_some.true in
     let found = the_number (number_under c.self.inside.numbers name) there in
     let again : AreNumbered c.self.inside.numbers (texts_of names ++ name ∷ []) = AreNumbered-again c.self.inside.numbers (texts_of names) name found.0 c.self.invariant found.1 in
     rw c.in_ok-push.ensures.items (rw (map_push (λ w. w.items) names c.in_ok-from_slice.field-0) (rw c.in_ok-from_slice.ensures.items again))
@@ -28,9 +28,9 @@ pub invariant_of-self-in-Ok : goal.invariant_of-self-in-Ok
 invariant_of-self-in-Ok c =
     let name = c.args.name.now in
     let names = c.self.inside.names.items in
-    let absent : number_under c.self.inside.numbers name ≡ None = missing (number_under c.self.inside.numbers name) (sym (ap is_some c.number_under.ensures) ∙ sym c.is_some.ensures ∙ c.if-is_some.false) in
+    let absent : number_under c.self.inside.numbers name ≡ None = missing (number_under c.self.inside.numbers name) (sym (ap is_some c.number.ensures) ∙ sym c.is_some.ensures ∙ c.if-is_some.false) in
     let next : c.len-number.result ≡ length (texts_of names) + 1 = grind (arith, length-map names (λ w. w.items)) in
-    let there : (q : Name) → number_under c.put.new.numbers q ≡ (if bytes_eq q name then Some (length (texts_of names) + 1) else number_under c.self.inside.numbers q) =
+    let there : (q : Name) → number_under c.put.new.self q ≡ (if bytes_eq q name then Some (length (texts_of names) + 1) else number_under c.self.inside.numbers q) =
     λ q. c.in-Ok.ensures.there q ∙ ap (λ k. if bytes_eq q name then Some k else number_under c.self.inside.numbers q) next in
-    let more : AreNumbered c.put.new.numbers (texts_of names ++ name ∷ []) = AreNumbered-more c.self.inside.numbers c.put.new.numbers (texts_of names) name c.self.invariant absent there in
+    let more : AreNumbered c.put.new.self (texts_of names ++ name ∷ []) = AreNumbered-more c.self.inside.numbers c.put.new.self (texts_of names) name c.self.invariant absent there in
     rw c.in_ok-push.ensures.items (rw (map_push (λ w. w.items) names c.in_ok-from_slice.field-0) (rw c.in_ok-from_slice.ensures.items more))
