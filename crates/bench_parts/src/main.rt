@@ -51,6 +51,7 @@
 mod decisions;
 mod ending;
 mod line;
+mod measure;
 mod number;
 mod own;
 mod parts;
@@ -60,8 +61,10 @@ mod verdict;
 
 use crate::decisions::decisions;
 use crate::ending::Ending;
+use crate::measure::Measure;
 use f77_lines::MOST_BYTES;
-use std::io::{ErrorKind, Read};
+use plan_input::Stop;
+use std::io::{ErrorKind, Read, Write};
 use std::process::ExitCode;
 use std::sync::Wait;
 use std::thread::Threads;
@@ -153,18 +156,49 @@ fn over_input<R: Threads + Wait + Sync>(
     }
     let mut bytes = Vec::new(rt.alloc());
     rt.stdin().read_to_end(&mut bytes)?;
+    match measure_of(rt, threads, part, &bytes) {
+        Ok(measure) => tell(rt, &measure, times),
+        Err(stop) => tell_stop(rt, stop),
+    }
+}
+
+// What is told of a part, over these bytes.
+fn measure_of<R: Threads + Wait + Sync>(
+    rt: &HostRuntime,
+    threads: &R,
+    part: Part,
+    bytes: &[u8],
+) -> Result<Measure, Stop> {
     if bytes.len() > MOST_BYTES {
-        rt.println("TOO LONG")?;
-        return Ok(Ending::Refused);
+        return Err(Stop::TooLong);
     }
     match part {
-        Part::Systems | Part::Source => parts::source(rt, &bytes, times),
-        Part::Plan => parts::plan(rt, &bytes, times),
-        Part::Ranges => parts::ranges(rt, &bytes, times),
-        Part::Run => parts::run(rt, &bytes, times),
-        Part::Machine => parts::machine(rt, &bytes, times),
-        Part::Join => threads::join(rt, threads, &bytes, times),
-        Part::Spmd => threads::spmd(rt, threads, &bytes, times),
-        Part::Own => parts::own(rt, &bytes, times),
+        Part::Systems | Part::Source => parts::source(rt, bytes),
+        Part::Plan => parts::plan(rt, bytes),
+        Part::Ranges => parts::ranges(rt, bytes),
+        Part::Run => parts::run(rt, bytes),
+        Part::Machine => parts::machine(rt, bytes),
+        Part::Join => threads::join(rt, threads, bytes),
+        Part::Spmd => threads::spmd(rt, threads, bytes),
+        Part::Own => parts::own(rt, bytes),
+    }
+}
+
+fn tell(rt: &HostRuntime, measure: &Measure, times: bool) -> io::Result<Ending> {
+    if times {
+        eprintln!(rt; "{}", measure.times)?;
+    }
+    rt.stdout().write_all(&measure.text)?;
+    Ok(Ending::Done)
+}
+
+fn tell_stop(rt: &HostRuntime, stop: Stop) -> io::Result<Ending> {
+    if stop.is_told() {
+        rt.println(stop)?;
+        return Ok(Ending::Refused);
+    }
+    match stop {
+        Stop::NoMemory => Ok(Ending::NoMemory),
+        _ => Ok(Ending::Fault),
     }
 }

@@ -7,105 +7,83 @@ ghost use Rattle.nest_tree.specs.View.{tree_of};
 ghost use Rattle.nest_tree.specs.WellFormed.{IsWellFormed};
 ghost use Rattle.sync_plan.specs.Fit.{IsFit};
 ghost use Rattle.sync_plan.specs.Ordered.{IsOrdered};
-ghost use Rattle.plan_checker.specs.Accepted.{IsAccepted};
 
-use crate::ending::Ending;
-use crate::parts::{refused, source_of};
+use crate::measure::{Measure, measured, now};
+use crate::parts::read_inside;
 use f77_lines::MOST_BYTES;
 use nest_tree::Program;
 use plan_checker::check;
-use plan_text::read_plan;
-use range_check::check_ranges;
+use plan_checker::laws::accepted_plans_are_ordered;
+use plan_input::{Stop, read_fitting};
 use spmd_ports::NoGate;
 use spmd_run::{run_join, run_spmd};
-use std::io::{self, Write};
+use std::alloc::Global;
 use std::sync::Wait;
 use std::thread::Threads;
-use std::time::Instant;
 use sync_plan::Plan;
 
-// The program of a source, whose subscripts are in range, and the plan behind it, which is accepted;
-// or how the run ends where one of them is refused.
+// The program of a source, whose subscripts are in range, and the plan behind it, which is accepted.
 fn case_of<R: Threads + Sync>(
-    rt: &HostRuntime,
     threads: &R,
+    alloc: Global,
     bytes: &[u8],
-) -> io::Result<Result<(Program, Plan), Ending>>
+) -> Result<(Program, Plan), Stop>
     requires { length bytes.now ≤ MOST_BYTES }
-    ensures formed { IfOk result (λ read. IfOk read (λ r. IsWellFormed (tree_of r.0))) }
-    ensures limits { IfOk result (λ read. IfOk read (λ r. IsWithinLimits (tree_of r.0))) }
-    ensures ranges { IfOk result (λ read. IfOk read (λ r. IsInRange (tree_of r.0))) }
-    ensures fits { IfOk result (λ read. IfOk read (λ r. IsFit (tree_of r.0) r.1)) }
-    ensures ordered { IfOk result (λ read. IfOk read (λ r. IsOrdered (tree_of r.0) r.1)) }
+    ensures formed { IfOk result (λ r. IsWellFormed (tree_of r.0)) }
+    ensures limits { IfOk result (λ r. IsWithinLimits (tree_of r.0)) }
+    ensures ranges { IfOk result (λ r. IsInRange (tree_of r.0)) }
+    ensures fits { IfOk result (λ r. IsFit (tree_of r.0) r.1) }
+    ensures ordered { IfOk result (λ r. IsOrdered (tree_of r.0) r.1) }
 {
-    let (program, rest) = match source_of(rt.alloc(), bytes)? {
-        Ok(read) => read,
-        Err(line) => return Ok(Err(refused(rt, line)?)),
-    };
-    if let Err(outside) = check_ranges(rt.alloc(), &program) {
-        return Ok(Err(refused(rt, outside)?));
-    }
-    let plan = match read_plan(rt.alloc(), &bytes[rest..]) {
-        Ok(plan) => plan,
-        Err(refusal) => return Ok(Err(refused(rt, refusal)?)),
-    };
-    if let Err(refusal) = check(threads, rt.alloc(), &program, &plan) {
-        return Ok(Err(refused(rt, refusal)?));
-    }
-    is_ordered(&program, &plan);
-    Ok(Ok((program, plan)))
+    let (program, rest) = read_inside(alloc, bytes)?;
+    let plan = read_accepted(threads, alloc, &program, &bytes[rest..])?;
+    Ok((program, plan))
 }
 
-// An accepted plan is ordered.
-fn is_ordered(program: &Program, plan: &Plan)
+// The plan whose text the bytes are, which is accepted and so is ordered.
+fn read_accepted<R: Threads + Sync>(
+    threads: &R,
+    alloc: Global,
+    program: &Program,
+    bytes: &[u8],
+) -> Result<Plan, Stop>
+    requires short { length bytes.now ≤ MOST_BYTES }
     requires formed { IsWellFormed (tree_of program.now) }
+    requires limits { IsWithinLimits (tree_of program.now) }
     requires ranges { IsInRange (tree_of program.now) }
-    requires accepted { IsAccepted (tree_of program.now) plan.now }
-    ensures { IsOrdered (tree_of program.now) plan.now }
-{}
+    ensures fits { IfOk result (IsFit (tree_of program.now)) }
+    ensures ordered { IfOk result (IsOrdered (tree_of program.now)) }
+{
+    accepted_plans_are_ordered();
+    let plan = read_fitting(alloc, program, bytes)?;
+    check(threads, alloc, program, &plan)?;
+    Ok(plan)
+}
 
-/// Times the run by fork and join, and writes the output.
+/// The run by fork and join, which writes the output.
 pub(crate) fn join<R: Threads + Sync>(
     rt: &HostRuntime,
     threads: &R,
     bytes: &[u8],
-    times: bool,
-) -> io::Result<Ending>
+) -> Result<Measure, Stop>
     requires { length bytes.now ≤ MOST_BYTES }
 {
-    let (program, plan) = match case_of(rt, threads, bytes)? {
-        Ok(read) => read,
-        Err(ending) => return Ok(ending),
-    };
-    let begun = Instant::now(rt)?;
+    let (program, plan) = case_of(threads, rt.alloc(), bytes)?;
+    let begun = now(rt)?;
     let (_memory, output) = run_join(threads, rt.alloc(), &program, &plan, &NoGate)?;
-    let ran = begun.elapsed(rt)?.as_micros();
-    if times {
-        eprintln!(rt; "join {ran}")?;
-    }
-    rt.stdout().write_all(output.as_slice())?;
-    Ok(Ending::Done)
+    measured(rt, "join", &begun, output.as_slice())
 }
 
-/// Times the run over shared words, and writes the output.
+/// The run over shared words, which writes the output.
 pub(crate) fn spmd<R: Threads + Wait + Sync>(
     rt: &HostRuntime,
     threads: &R,
     bytes: &[u8],
-    times: bool,
-) -> io::Result<Ending>
+) -> Result<Measure, Stop>
     requires { length bytes.now ≤ MOST_BYTES }
 {
-    let (program, plan) = match case_of(rt, threads, bytes)? {
-        Ok(read) => read,
-        Err(ending) => return Ok(ending),
-    };
-    let begun = Instant::now(rt)?;
+    let (program, plan) = case_of(threads, rt.alloc(), bytes)?;
+    let begun = now(rt)?;
     let (_closed, output) = run_spmd(threads, rt.alloc(), &program, &plan, &NoGate)?;
-    let ran = begun.elapsed(rt)?.as_micros();
-    if times {
-        eprintln!(rt; "spmd {ran}")?;
-    }
-    rt.stdout().write_all(output.as_slice())?;
-    Ok(Ending::Done)
+    measured(rt, "spmd", &begun, output.as_slice())
 }

@@ -6,9 +6,19 @@ use plan_text::put_kind;
 use reason_witness::account::{About, Reason, Why};
 use reason_witness::found::{Finding, Found};
 use reason_witness::meeting::{Meeting, Touch};
-use serde_json::{Map, Value, json, put};
+use serde_json::{Map, Value, json};
 use std::alloc::{AllocError, Global};
 use sync_plan::Kind;
+
+// One more member. It has no clause: what an object has is not followed.
+fn enter(
+    map: &mut Map<String, Value>,
+    alloc: Global,
+    key: &str,
+    value: Value,
+) -> Result<(), AllocError> {
+    serde_json::put(map, alloc, key, value)
+}
 
 // A number; a text where it passes 64 bits.
 fn number_value(alloc: Global, number: i128) -> Result<Value, AllocError> {
@@ -51,14 +61,14 @@ impl Page<'_> {
         let phases = self.phases_value(alloc)?;
         let reasons = self.reasons_value(alloc)?;
         let mut map = Map::new(alloc);
-        put(
+        enter(
             &mut map,
             alloc,
             "workers",
             Value::from(self.account.plan.workers),
         )?;
-        put(&mut map, alloc, "phases", phases)?;
-        put(&mut map, alloc, "reasons", reasons)?;
+        enter(&mut map, alloc, "phases", phases)?;
+        enter(&mut map, alloc, "reasons", reasons)?;
         let mut text = Value::Object(map).to_vec(alloc)?;
         text.push(b'\n')?;
         Ok(text)
@@ -69,8 +79,8 @@ impl Page<'_> {
         let mut list = Vec::new(alloc);
         for (kind, line) in self.account.plan.kinds.as_slice().iter().zip(self.lines) {
             let mut map = Map::new(alloc);
-            put(&mut map, alloc, "line", Value::from(*line))?;
-            put(&mut map, alloc, "waits_for", kind_value(alloc, kind)?)?;
+            enter(&mut map, alloc, "line", Value::from(*line))?;
+            enter(&mut map, alloc, "waits_for", kind_value(alloc, kind)?)?;
             list.push(Value::Object(map))?;
         }
         Ok(Value::Array(list))
@@ -96,10 +106,10 @@ impl Page<'_> {
     ) -> Result<(), AllocError> {
         match about {
             About::Loop(number) => {
-                put(map, alloc, "loop", Value::from(*number))?;
+                enter(map, alloc, "loop", Value::from(*number))?;
                 if let Some(it) = self.loop_at(*number) {
-                    put(map, alloc, "line", Value::from(it.line))?;
-                    put(
+                    enter(map, alloc, "line", Value::from(it.line))?;
+                    enter(
                         map,
                         alloc,
                         "variable",
@@ -109,11 +119,11 @@ impl Page<'_> {
                 Ok(())
             }
             About::Weaker(phase, kind) => {
-                put(map, alloc, "phase", Value::from(*phase))?;
-                put(map, alloc, "line", Value::from(self.line_of(*phase)))?;
-                put(map, alloc, "not", kind_value(alloc, kind)?)
+                enter(map, alloc, "phase", Value::from(*phase))?;
+                enter(map, alloc, "line", Value::from(self.line_of(*phase)))?;
+                enter(map, alloc, "not", kind_value(alloc, kind)?)
             }
-            About::Refused(number) => put(map, alloc, "refused", Value::from(*number)),
+            About::Refused(number) => enter(map, alloc, "refused", Value::from(*number)),
         }
     }
 
@@ -127,7 +137,7 @@ impl Page<'_> {
         let why = match &reason.why {
             Why::Print => "print",
             Why::Found(found) => {
-                put(
+                enter(
                     map,
                     alloc,
                     "obligation",
@@ -139,7 +149,7 @@ impl Page<'_> {
             Why::Certified => "certified",
             Why::Unfit => "unfit",
         };
-        put(map, alloc, "why", json!(in alloc; why)?)
+        enter(map, alloc, "why", json!(in alloc; why)?)
     }
 
     // Two iterations that meet, where some are found.
@@ -161,19 +171,19 @@ impl Page<'_> {
         map: &mut Map<String, Value>,
         meeting: &Meeting,
     ) -> Result<(), AllocError> {
-        put(
+        enter(
             map,
             alloc,
             "first",
             self.touch_value(alloc, &meeting.first)?,
         )?;
-        put(
+        enter(
             map,
             alloc,
             "second",
             self.touch_value(alloc, &meeting.second)?,
         )?;
-        put(
+        enter(
             map,
             alloc,
             "producers",
@@ -185,28 +195,28 @@ impl Page<'_> {
     fn touch_value(&self, alloc: Global, touch: &Touch) -> Result<Value, AllocError> {
         let mut map = Map::new(alloc);
         if let Some(processor) = touch.processor {
-            put(
+            enter(
                 &mut map,
                 alloc,
                 "processor",
                 number_value(alloc, processor)?,
             )?;
         }
-        put(&mut map, alloc, "stores", Value::Bool(touch.stores))?;
-        put(
+        enter(&mut map, alloc, "stores", Value::Bool(touch.stores))?;
+        enter(
             &mut map,
             alloc,
             "name",
             name_value(alloc, self.name_of(touch.variable))?,
         )?;
-        put(
+        enter(
             &mut map,
             alloc,
             "subscripts",
             numbers_value(alloc, touch.subscripts.as_slice())?,
         )?;
-        put(&mut map, alloc, "line", Value::from(touch.line))?;
-        put(&mut map, alloc, "loops", self.loops_value(alloc, touch)?)?;
+        enter(&mut map, alloc, "line", Value::from(touch.line))?;
+        enter(&mut map, alloc, "loops", self.loops_value(alloc, touch)?)?;
         Ok(Value::Object(map))
     }
 
@@ -216,7 +226,7 @@ impl Page<'_> {
         for (number, value) in &touch.loops {
             let mut map = Map::new(alloc);
             self.put_about(alloc, &mut map, &About::Loop(*number))?;
-            put(&mut map, alloc, "value", number_value(alloc, *value)?)?;
+            enter(&mut map, alloc, "value", number_value(alloc, *value)?)?;
             list.push(Value::Object(map))?;
         }
         Ok(Value::Array(list))
@@ -225,20 +235,20 @@ impl Page<'_> {
     // What an obligation speaks of.
     fn obligation_value(&self, alloc: Global, o: &Obligation) -> Result<Value, AllocError> {
         let mut map = Map::new(alloc);
-        put(
+        enter(
             &mut map,
             alloc,
             "lines",
             json!(in alloc; [o.lines.0, o.lines.1])?,
         )?;
-        put(
+        enter(
             &mut map,
             alloc,
             "name",
             name_value(alloc, self.name_of(o.variable))?,
         )?;
-        put(&mut map, alloc, "level", Value::from(o.level))?;
-        put(&mut map, alloc, "piece", Value::from(o.piece))?;
+        enter(&mut map, alloc, "level", Value::from(o.level))?;
+        enter(&mut map, alloc, "piece", Value::from(o.piece))?;
         Ok(Value::Object(map))
     }
 }

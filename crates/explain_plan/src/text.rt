@@ -10,15 +10,20 @@ use reason_witness::meeting::{Meeting, Touch};
 use std::alloc::{AllocError, Global};
 use sync_plan::Kind;
 
+// Words, as they stand. It has no clause: what the text has is not followed.
+fn push_words(text: &mut Vec<u8>, words: &[u8]) -> Result<(), AllocError> {
+    text.extend_from_slice(words)
+}
+
 // A number, in decimals.
 fn push_number(text: &mut Vec<u8>, number: i128) -> Result<(), AllocError> {
     let mut buffer = itoa::Buffer::new();
-    text.extend_from_slice(buffer.format(number).as_bytes())
+    push_words(text, buffer.format(number).as_bytes())
 }
 
 // A word, and a number in decimals.
 fn push_part(text: &mut Vec<u8>, word: &[u8], number: i128) -> Result<(), AllocError> {
-    text.extend_from_slice(word)?;
+    push_words(text, word)?;
     push_number(text, number)
 }
 
@@ -66,7 +71,7 @@ impl Page<'_> {
     // One line: how many phases there are, who waits in front of them, and which loops are serial.
     fn push_summary(&self, text: &mut Vec<u8>) -> Result<(), AllocError> {
         push_number(text, self.lines.len() as i128)?;
-        text.extend_from_slice(b" phases")?;
+        push_words(text, b" phases")?;
         let mut word = b"; barriers in front of lines ".as_slice();
         let kinds = self.account.plan.kinds.as_slice();
         for (kind, line) in kinds.iter().zip(self.lines) {
@@ -79,11 +84,11 @@ impl Page<'_> {
             .iter()
             .all(|kind| !matches!(kind, Kind::Barrier | Kind::Join))
         {
-            text.extend_from_slice(b"; no barrier")?;
+            push_words(text, b"; no barrier")?;
         }
         push_waits(text, kinds)?;
         self.push_serial_loops(text)?;
-        text.push(b'\n')?;
+        push_words(text, b"\n")?;
         Ok(())
     }
 
@@ -92,14 +97,14 @@ impl Page<'_> {
         let mut word = b"; loops not dealt out: ".as_slice();
         for reason in &self.account.reasons {
             if let About::Loop(number) = &reason.about {
-                text.extend_from_slice(word)?;
+                push_words(text, word)?;
                 self.push_loop(text, *number)?;
                 match &reason.why {
-                    Why::Print => text.extend_from_slice(b" (PRINT)")?,
+                    Why::Print => push_words(text, b" (PRINT)")?,
                     Why::Found(found) => {
-                        text.extend_from_slice(b" (")?;
-                        text.extend_from_slice(self.name_of(found.obligation.variable))?;
-                        text.push(b')')?;
+                        push_words(text, b" (")?;
+                        push_words(text, self.name_of(found.obligation.variable))?;
+                        push_words(text, b")")?;
                     }
                     Why::Certified | Why::Unfit => {}
                 }
@@ -113,7 +118,7 @@ impl Page<'_> {
     fn push_loop(&self, text: &mut Vec<u8>, number: u32) -> Result<(), AllocError> {
         match self.loop_at(number) {
             Some(it) => {
-                text.extend_from_slice(it.variable.as_slice())?;
+                push_words(text, it.variable.as_slice())?;
                 push_part(text, b" in line ", i128::from(it.line))
             }
             None => push_part(text, b"loop ", i128::from(number)),
@@ -124,12 +129,12 @@ impl Page<'_> {
     fn push_phase(&self, text: &mut Vec<u8>, phase: u32) -> Result<(), AllocError> {
         push_part(text, b"PHASE ", i128::from(phase))?;
         push_part(text, b", line ", i128::from(self.line_of(phase)))?;
-        text.extend_from_slice(b", waits for")?;
+        push_words(text, b", waits for")?;
         let place = (phase as usize).saturating_sub(1);
         if let Some(kind) = self.account.plan.kinds.as_slice().get(place) {
             put_kind(text, kind)?;
         }
-        text.push(b'\n')?;
+        push_words(text, b"\n")?;
         Ok(())
     }
 
@@ -138,26 +143,26 @@ impl Page<'_> {
         match &reason.about {
             About::Loop(number) => {
                 push_part(text, b"LOOP ", i128::from(*number))?;
-                text.extend_from_slice(b", ")?;
+                push_words(text, b", ")?;
                 self.push_loop(text, *number)?;
-                text.extend_from_slice(b", is not dealt out:\n    ")?;
+                push_words(text, b", is not dealt out:\n    ")?;
             }
             About::Weaker(_, kind) => {
-                text.extend_from_slice(b"    not")?;
+                push_words(text, b"    not")?;
                 put_kind(text, kind)?;
-                text.extend_from_slice(b": ")?;
+                push_words(text, b": ")?;
             }
             About::Refused(number) => {
                 push_part(text, b"REFUSED FOR OBLIGATION ", i128::from(*number))?;
                 if let Why::Found(found) = &reason.why {
-                    text.extend_from_slice(b": ")?;
+                    push_words(text, b": ")?;
                     self.push_obligation(text, &found.obligation)?;
                 }
-                text.extend_from_slice(b"\n    ")?;
+                push_words(text, b"\n    ")?;
             }
         }
         self.push_why(text, reason)?;
-        text.push(b'\n')?;
+        push_words(text, b"\n")?;
         Ok(())
     }
 
@@ -165,8 +170,8 @@ impl Page<'_> {
     fn push_obligation(&self, text: &mut Vec<u8>, o: &Obligation) -> Result<(), AllocError> {
         push_part(text, b"lines ", i128::from(o.lines.0))?;
         push_part(text, b" and ", i128::from(o.lines.1))?;
-        text.extend_from_slice(b", ")?;
-        text.extend_from_slice(self.name_of(o.variable))?;
+        push_words(text, b", ")?;
+        push_words(text, self.name_of(o.variable))?;
         push_part(text, b", level ", i128::from(o.level))?;
         push_part(text, b", piece ", i128::from(o.piece))
     }
@@ -174,17 +179,20 @@ impl Page<'_> {
     // What a reason is, without a line's end.
     fn push_why(&self, text: &mut Vec<u8>, reason: &Reason) -> Result<(), AllocError> {
         match &reason.why {
-            Why::Print => text.extend_from_slice(b"a PRINT stands in it"),
+            Why::Print => push_words(text, b"a PRINT stands in it"),
             Why::Found(found) => self.push_found(text, found, word_of(reason)),
-            Why::Certified => text.extend_from_slice(match &reason.wanted {
-                Wanted::Named(_) => {
-                    b"no two iterations meet; elimination's order doesn't see it".as_slice()
-                }
-                Wanted::First | Wanted::Number(_) => {
-                    b"nothing is in its way: each obligation has a certificate"
-                }
-            }),
-            Why::Unfit => text.extend_from_slice(b"nothing is known of it"),
+            Why::Certified => push_words(
+                text,
+                match &reason.wanted {
+                    Wanted::Named(_) => {
+                        b"no two iterations meet; elimination's order doesn't see it".as_slice()
+                    }
+                    Wanted::First | Wanted::Number(_) => {
+                        b"nothing is in its way: each obligation has a certificate"
+                    }
+                },
+            ),
+            Why::Unfit => push_words(text, b"nothing is known of it"),
         }
     }
 
@@ -192,17 +200,22 @@ impl Page<'_> {
     fn push_found(&self, text: &mut Vec<u8>, found: &Found, word: Word) -> Result<(), AllocError> {
         match &found.finding {
             Finding::Solved(_, meeting) => self.push_meeting(text, meeting),
-            Finding::Refuted => text.extend_from_slice(
+            Finding::Refuted => push_words(
+                text,
                 b"no two iterations meet: a certificate exists, and the plan has no good one",
             ),
             Finding::Unknown => {
                 self.push_obligation(text, &found.obligation)?;
-                text.extend_from_slice(match word {
-                    Word::Open => b": elimination leaves it open".as_slice(),
-                    Word::Wide => b": numbers of elimination grow too large",
-                    Word::Many => b": rows of elimination grow too many",
-                })?;
-                text.extend_from_slice(
+                push_words(
+                    text,
+                    match word {
+                        Word::Open => b": elimination leaves it open".as_slice(),
+                        Word::Wide => b": numbers of elimination grow too large",
+                        Word::Many => b": rows of elimination grow too many",
+                    },
+                )?;
+                push_words(
+                    text,
                     b", and neither a certificate nor two iterations are found within the budget",
                 )
             }
@@ -216,12 +229,12 @@ impl Page<'_> {
                 push_part(text, b"processor ", q)?;
                 self.push_touch(text, &meeting.first)?;
                 push_part(text, b"; processor ", p)?;
-                text.extend_from_slice(b" then")?;
+                push_words(text, b" then")?;
             }
             _ => {
-                text.extend_from_slice(b"an iteration")?;
+                push_words(text, b"an iteration")?;
                 self.push_touch(text, &meeting.first)?;
-                text.extend_from_slice(b"; a later one")?;
+                push_words(text, b"; a later one")?;
             }
         }
         self.push_touch(text, &meeting.second)?;
@@ -235,18 +248,21 @@ impl Page<'_> {
 
     // What is done, to what, in which line and trips.
     fn push_touch(&self, text: &mut Vec<u8>, touch: &Touch) -> Result<(), AllocError> {
-        text.extend_from_slice(if touch.stores {
-            b" stores ".as_slice()
-        } else {
-            b" loads "
-        })?;
+        push_words(
+            text,
+            if touch.stores {
+                b" stores ".as_slice()
+            } else {
+                b" loads "
+            },
+        )?;
         self.push_element(text, touch)?;
         push_part(text, b" in line ", i128::from(touch.line))?;
         let mut word = b" at ".as_slice();
         for (number, value) in &touch.loops {
-            text.extend_from_slice(word)?;
+            push_words(text, word)?;
             match self.loop_at(*number) {
-                Some(it) => text.extend_from_slice(it.variable.as_slice())?,
+                Some(it) => push_words(text, it.variable.as_slice())?,
                 None => push_part(text, b"loop ", i128::from(*number))?,
             }
             push_part(text, b" = ", *value)?;
@@ -257,14 +273,14 @@ impl Page<'_> {
 
     // The element that is accessed, as in a source.
     fn push_element(&self, text: &mut Vec<u8>, touch: &Touch) -> Result<(), AllocError> {
-        text.extend_from_slice(self.name_of(touch.variable))?;
+        push_words(text, self.name_of(touch.variable))?;
         let mut word = b"(".as_slice();
         for subscript in &touch.subscripts {
             push_part(text, word, *subscript)?;
             word = b", ";
         }
         if !touch.subscripts.is_empty() {
-            text.push(b')')?;
+            push_words(text, b")")?;
         }
         Ok(())
     }

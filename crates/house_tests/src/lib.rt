@@ -14,8 +14,6 @@ mod lines;
 #[cfg(test)]
 mod plans;
 #[cfg(test)]
-mod programs;
-#[cfg(test)]
 mod runs;
 #[cfg(test)]
 mod shared_words;

@@ -1,18 +1,12 @@
 // Sources with plans behind them, and what the checker answers. What no clause says is that the
 // definitions mean what is wanted, and that memory is not refused where there is enough.
 
-ghost use Rattle.std.specs.Prelude.{◌≤◌, length};
-ghost use Rattle.nest_tree.specs.Limits.{IsWithinLimits};
-ghost use Rattle.nest_tree.specs.View.{tree_of};
-ghost use Rattle.nest_tree.specs.WellFormed.{IsWellFormed};
-
-use crate::programs::source_of;
 use bstr::ByteSlice;
 use comm_system::Obligation;
 use f77_lines::MOST_BYTES;
-use nest_tree::Program;
 use obligation_numbers::{obligation_at, obligation_count};
-use plan_checker::{check, check_fit};
+use plan_checker::check;
+use plan_input::{Stop, read_fitting, read_source};
 use plan_text::{PlanSyntax, read_plan};
 use std::alloc::{AllocError, Global};
 use std::test::Fail;
@@ -35,7 +29,7 @@ const CHAIN: &[u8] =
     b"      INTEGER A(6), B(6), C(6)\n      DO 10 I = 1, 6\n   10 A(I) = I\n      DO 20 I = 1, 6\n   20 B(I) = I\n      DO 30 I = 1, 6\n   30 C(I) = A(7-I)\n      PRINT *, C(1)\n      END\nSPMD PLAN 2\nWORKERS 3\nLOOPS 3\n1 DOALL\n2 DOALL\n3 DOALL\nPHASES 4\n1 NOTHING AT -1 1*L1 BLOCK 2\n2 BOTH AT -1 1*L2 BLOCK 2\n3 BOTH AT -1 1*L3 BLOCK 2\n4 NOTHING AT 0 BLOCK 1\nCERTIFICATES 7\n1 STEPS 1\n1 1*1 6*1 10*1 11*1\n2 STEPS 1\n1 1*1 6*1 10*1 11*1\n3 STEPS 1\n1 1*1 6*1 10*1 11*1\n4 STEPS 1\n1 13*1 18*1 19*1\n5 STEPS 1\n1 14*1 17*1 19*1\n6 STEPS 1\n1 9*1 11*1 15*1\n7 STEPS 1\n1 5*1 7*1 12*2 15*2\nEND PLAN\n";
 
 // Conditions on a named constant.
-pub(crate) const CONDITIONS: &[u8] =
+const CONDITIONS: &[u8] =
     b"      PARAMETER (N=6)\n      INTEGER A(N), B(N)\n      DO 10 I = 1, N\n   10 A(I) = I\n      DO 20 I = 1, N\n   20 B(I) = A(I) + 1\n      PRINT *, B(1)\n      END\nSPMD PLAN 3\nWORKERS 2\nWHERE 2\n1 1*P1 <= 7\n2 -1*P1 <= -1\nLOOPS 2\n1 DOALL\n2 DOALL\nPHASES 3\n1 NOTHING AT -1 1*L1 BLOCK 4\n2 NOTHING AT -1 1*L2 BLOCK 4\n3 NOTHING AT 0 BLOCK 1\nCERTIFICATES 6\n1 STEPS 1\n1 3*1 8*1 12*1 13*1\n2 STEPS 1\n1 3*1 8*1 12*1 13*1\n3 STEPS 1\n1 12*1 14*1 17*1 21*4\n4 STEPS 1\n1 11*1 13*1 18*1 21*4\n5 STEPS 1\n1 11*1 13*1 17*1\n6 STEPS 1\n1 7*1 9*1 14*4 17*4\nEND PLAN\n";
 
 // The first lines of a text, so many.
@@ -54,79 +48,58 @@ fn first_lines(text: &[u8], count: usize) -> &[u8] {
 
 // Whether the plan behind a source is accepted for it, or the line that tells why not.
 fn verdict<R: Threads + Sync>(rt: &R, alloc: Global, bytes: &[u8]) -> Result<String, AllocError> {
-    if bytes.len() > MOST_BYTES {
-        return Err(AllocError);
-    }
-    match source_of(alloc, bytes)? {
-        Ok((program, rest)) => verdict_on(rt, alloc, &program, &bytes[rest..]),
-        Err(line) => Ok(line),
+    match refusal(rt, alloc, bytes) {
+        Ok(()) => String::from_str(alloc, "ACCEPTED"),
+        Err(stop) => format!(in alloc; "{stop}"),
     }
 }
 
-fn verdict_on<R: Threads + Sync>(
-    rt: &R,
-    alloc: Global,
-    program: &Program,
-    bytes: &[u8],
-) -> Result<String, AllocError>
-    requires formed { IsWellFormed (tree_of program.now) }
-    requires limits { IsWithinLimits (tree_of program.now) }
-    requires short { length bytes.now ≤ MOST_BYTES }
-{
-    let plan = match read_plan(alloc, bytes) {
-        Ok(plan) => plan,
-        Err(refusal) => return format!(in alloc; "{refusal}"),
-    };
-    match check(rt, alloc, program, &plan) {
-        Ok(()) => String::from_str(alloc, "ACCEPTED"),
-        Err(refusal) => format!(in alloc; "{refusal}"),
+// Why the plan behind a source is not accepted for it.
+fn refusal<R: Threads + Sync>(rt: &R, alloc: Global, bytes: &[u8]) -> Result<(), Stop> {
+    if bytes.len() > MOST_BYTES {
+        return Err(Stop::TooLong);
     }
+    let (program, rest) = read_source(alloc, bytes)?;
+    let plan = read_plan(alloc, &bytes[rest..])?;
+    check(rt, alloc, &program, &plan)?;
+    Ok(())
 }
 
 // How many obligations the plan behind a source has, and what that with a number speaks of.
 fn obligation(alloc: Global, bytes: &[u8], number: u64) -> Result<String, AllocError> {
-    if bytes.len() > MOST_BYTES {
-        return Err(AllocError);
-    }
-    match source_of(alloc, bytes)? {
-        Ok((program, rest)) => obligation_on(alloc, &program, &bytes[rest..], number),
-        Err(line) => Ok(line),
+    match obligation_behind(alloc, bytes, number) {
+        Ok((Some(found), count)) => shown(alloc, &found, count),
+        Ok((None, count)) => format!(in alloc; "none of {count}"),
+        Err(stop) => format!(in alloc; "{stop}"),
     }
 }
 
-fn obligation_on(
+fn obligation_behind(
     alloc: Global,
-    program: &Program,
     bytes: &[u8],
     number: u64,
-) -> Result<String, AllocError>
-    requires formed { IsWellFormed (tree_of program.now) }
-    requires limits { IsWithinLimits (tree_of program.now) }
-    requires short { length bytes.now ≤ MOST_BYTES }
-{
-    let plan = match read_plan(alloc, bytes) {
-        Ok(plan) => plan,
-        Err(refusal) => return format!(in alloc; "{refusal}"),
-    };
-    if let Err(refusal) = check_fit(program, &plan) {
-        return format!(in alloc; "{refusal}");
+) -> Result<(Option<Obligation>, u64), Stop> {
+    if bytes.len() > MOST_BYTES {
+        return Err(Stop::TooLong);
     }
-    let count = obligation_count(program, &plan);
-    match obligation_at(alloc, program, &plan, number)? {
-        Some(found) => {
-            let Obligation {
-                number,
-                lines,
-                variable,
-                level,
-                piece,
-                ..
-            } = found;
-            let (first, second) = lines;
-            format!(in alloc; "{number} of {count}: {first}-{second} V{variable} L{level} P{piece}")
-        }
-        None => format!(in alloc; "none of {count}"),
-    }
+    let (program, rest) = read_source(alloc, bytes)?;
+    let plan = read_fitting(alloc, &program, &bytes[rest..])?;
+    let count = obligation_count(&program, &plan);
+    Ok((obligation_at(alloc, &program, &plan, number)?, count))
+}
+
+// An obligation, one of so many.
+fn shown(alloc: Global, found: &Obligation, count: u64) -> Result<String, AllocError> {
+    let Obligation {
+        number,
+        lines,
+        variable,
+        level,
+        piece,
+        ..
+    } = found;
+    let (first, second) = lines;
+    format!(in alloc; "{number} of {count}: {first}-{second} V{variable} L{level} P{piece}")
 }
 
 // Each text with one change.

@@ -1,40 +1,38 @@
-// Accepted plans run on threads: what they print and leave, that their workers run beside one
-// another, and where legs end.
+// Accepted plans run on threads: what they print and leave, and where legs end. That workers run
+// beside one another is tested by the command.
 
-ghost use Rattle.std.specs.Prelude.{◌≡◌, ◌<◌, IfOk, length};
+ghost use Rattle.std.specs.Prelude.{◌≡◌, ◌≤◌, ◌<◌, IfOk, length};
 ghost use Rattle.nest_model.specs.Ranges.{IsInRange};
 ghost use Rattle.nest_tree.specs.Limits.{IsWithinLimits};
 ghost use Rattle.nest_tree.specs.View.{tree_of};
 ghost use Rattle.nest_tree.specs.WellFormed.{IsWellFormed};
 ghost use Rattle.sync_plan.specs.Fit.{IsFit};
 ghost use Rattle.sync_plan.specs.Ordered.{IsOrdered};
-ghost use Rattle.plan_checker.specs.Accepted.{IsAccepted};
 ghost use Rattle.crossbeam_utils.specs.Padded.{padded_value};
 ghost use Rattle.cell_table.specs.Calls.{AreAllEnded};
 ghost use Rattle.spmd_run.specs.Teams.{AreWorkersOf};
 
-use crate::plans::{CONDITIONS, MIRROR, ROUNDING};
-use crate::programs::source_of;
+use crate::plans::{MIRROR, ROUNDING};
 use bstr::ByteSlice;
 use cell_table::{Cells, CloseRefused, Closed, MainSeat};
 use crossbeam_utils::CachePadded;
 use f77_lines::MOST_BYTES;
 use nest_tree::Program;
 use plan_checker::check;
-use plan_text::read_plan;
+use plan_checker::laws::accepted_plans_are_ordered;
+use plan_input::{read_fitting, read_source};
 use range_check::check_ranges;
-use spmd_ports::{Gate, NoGate};
+use spmd_ports::NoGate;
 use spmd_run::run::{gathered, have_ended, workers_of};
 use spmd_run::{Leg, Tables, Worker, run_join, run_spmd};
 use std::alloc::Global;
-use std::sync::atomic::{AtomicU64, Ordering};
+use std::sync::Wait;
 use std::test::Fail;
-use std::thread::Threads;
-use std::{hint, thread};
+use std::thread::{self, Threads};
 use sync_plan::Plan;
 
-// So often a gate looks before it lets a worker pass, and so many legs a worker has.
-const MOST_TURNS: u32 = 10_000_000;
+// So many legs a worker has.
+const MOST_LEGS: u32 = 10_000_000;
 
 // What the plan whose certificates round prints, and the memory behind it.
 const ROUNDED: &[u8] = b" 5 5 0 0 0 0 0 0\n";
@@ -55,95 +53,60 @@ fn case_of<R: Threads + Sync>(rt: &R, alloc: Global, bytes: &[u8]) -> Result<(Pr
     if bytes.len() > MOST_BYTES {
         return Err(Fail::new("the text is too long"));
     }
-    let Ok((program, rest)) = source_of(alloc, bytes)? else {
+    let Ok((program, rest)) = read_source(alloc, bytes) else {
         return Err(Fail::new("no program is read"));
-    };
-    let Ok(plan) = read_plan(alloc, &bytes[rest..]) else {
-        return Err(Fail::new("no plan is read"));
     };
     if check_ranges(alloc, &program).is_err() {
         return Err(Fail::new("a subscript is out of range"));
     }
-    let Ok(()) = check(rt, alloc, &program, &plan) else {
-        return Err(Fail::new("the plan is refused"));
-    };
-    is_ordered(&program, &plan);
+    let plan = accepted(rt, alloc, &program, &bytes[rest..])?;
     Ok((program, plan))
 }
 
-// An accepted plan is ordered.
-fn is_ordered(program: &Program, plan: &Plan)
+// The plan whose text the bytes are, which is accepted and so is ordered.
+fn accepted<R: Threads + Sync>(
+    rt: &R,
+    alloc: Global,
+    program: &Program,
+    bytes: &[u8],
+) -> Result<Plan, Fail>
     requires formed { IsWellFormed (tree_of program.now) }
+    requires limits { IsWithinLimits (tree_of program.now) }
     requires ranges { IsInRange (tree_of program.now) }
-    requires accepted { IsAccepted (tree_of program.now) plan.now }
-    ensures { IsOrdered (tree_of program.now) plan.now }
-{}
-
-// A gate that holds each worker in phase 1 until as many have come there.
-#[derive(Drop)]
-struct Meeting {
-    workers: u64,
-    come: AtomicU64,
-    late: AtomicU64,
-}
-
-impl Meeting {
-    fn of(workers: u64) -> Self {
-        Meeting {
-            workers,
-            come: AtomicU64::new(0),
-            late: AtomicU64::new(0),
-        }
+    requires short { length bytes.now ≤ MOST_BYTES }
+    ensures fits { IfOk result (IsFit (tree_of program.now)) }
+    ensures ordered { IfOk result (IsOrdered (tree_of program.now)) }
+{
+    accepted_plans_are_ordered();
+    let Ok(plan) = read_fitting(alloc, program, bytes) else {
+        return Err(Fail::new("no plan is read that fits"));
+    };
+    match check(rt, alloc, program, &plan) {
+        Ok(()) => Ok(plan),
+        Err(_) => Err(Fail::new("the plan is refused")),
     }
 }
 
-impl Gate for Meeting {
-    fn pass(&self, _p: u32, e: u64) {
-        if e == 1 {
-            self.come.fetch_add(1, Ordering::SeqCst);
-            if !comes_to(&self.come, self.workers) {
-                self.late.fetch_add(1, Ordering::SeqCst);
-            }
-        }
-    }
+// What a run leaves: its memory and what it prints.
+type Left = (Vec<i64>, Vec<u8>);
+
+// A run by fork and join of a source by the plan behind it.
+fn left_by_join<R: Threads + Sync>(rt: &R, alloc: Global, bytes: &[u8]) -> Result<Left, Fail> {
+    let (program, plan) = case_of(rt, alloc, bytes)?;
+    let (memory, output) = run_join(rt, alloc, &program, &plan, &NoGate)?;
+    Ok((memory, output.as_slice().to_vec(alloc)?))
 }
 
-// A gate that holds worker 0 in phase 1 until worker 1 has come to phase 2.
-#[derive(Drop)]
-struct Overtaking {
-    come: AtomicU64,
-    late: AtomicU64,
-}
-
-impl Overtaking {
-    fn new() -> Self {
-        Overtaking {
-            come: AtomicU64::new(0),
-            late: AtomicU64::new(0),
-        }
-    }
-}
-
-impl Gate for Overtaking {
-    fn pass(&self, p: u32, e: u64) {
-        if p == 1 && e == 2 {
-            self.come.store(1, Ordering::SeqCst);
-        }
-        if p == 0 && e == 1 && !comes_to(&self.come, 1) {
-            self.late.store(1, Ordering::SeqCst);
-        }
-    }
-}
-
-// Whether a count comes to a number in time.
-fn comes_to(count: &AtomicU64, wanted: u64) -> bool {
-    for _ in 0..MOST_TURNS {
-        if wanted <= count.load(Ordering::SeqCst) {
-            return true;
-        }
-        hint::spin_loop();
-    }
-    false
+// The same over shared words.
+fn left_by_spmd<R: Threads + Wait + Sync>(
+    rt: &R,
+    alloc: Global,
+    bytes: &[u8],
+) -> Result<Left, Fail> {
+    let (program, plan) = case_of(rt, alloc, bytes)?;
+    let (closed, output) = run_spmd(rt, alloc, &program, &plan, &NoGate)?;
+    let memory = closed.memory().to_vec(alloc)?;
+    Ok((memory, output.as_slice().to_vec(alloc)?))
 }
 
 // One text with one change, by either way: what is printed, and the memory.
@@ -157,50 +120,13 @@ fn runs_end_as_the_program_does(rt: HostRuntime) -> Result<(), Fail> {
     ];
     for &(old, new) in &rows {
         let text = ROUNDING.replacen(alloc, old, new, 1)?;
-        let (program, plan) = case_of(&rt, alloc, text.as_slice())?;
-        let (memory, output) = run_join(&rt, alloc, &program, &plan, &NoGate)?;
+        let (memory, output) = left_by_join(&rt, alloc, text.as_slice())?;
         assert_eq!(rt; output.as_slice(), ROUNDED);
         assert_eq!(rt; memory.as_slice(), ROUNDED_CELLS);
-        let (closed, output) = run_spmd(&rt, alloc, &program, &plan, &NoGate)?;
+        let (memory, output) = left_by_spmd(&rt, alloc, text.as_slice())?;
         assert_eq!(rt; output.as_slice(), ROUNDED);
-        assert_eq!(rt; closed.memory(), ROUNDED_CELLS);
+        assert_eq!(rt; memory.as_slice(), ROUNDED_CELLS);
     }
-    Ok(())
-}
-
-// Two workers are in the first phase at once.
-#[test]
-fn workers_run_beside_one_another(rt: HostRuntime) -> Result<(), Fail> {
-    let alloc = rt.alloc();
-    let text = ROUNDING.replacen(alloc, b"1 BARRIER", b"1 NOTHING", 1)?;
-    let (program, plan) = case_of(&rt, alloc, text.as_slice())?;
-    let gate = Meeting::of(2);
-    let (_, output) = run_join(&rt, alloc, &program, &plan, &gate)?;
-    assert_eq!(rt; output.as_slice(), ROUNDED);
-    assert_eq!(rt; gate.come.load(Ordering::SeqCst), 2);
-    assert_eq!(rt; gate.late.load(Ordering::SeqCst), 0);
-    let gate = Meeting::of(2);
-    let (_, output) = run_spmd(&rt, alloc, &program, &plan, &gate)?;
-    assert_eq!(rt; output.as_slice(), ROUNDED);
-    assert_eq!(rt; gate.come.load(Ordering::SeqCst), 2);
-    assert_eq!(rt; gate.late.load(Ordering::SeqCst), 0);
-    Ok(())
-}
-
-// Over shared words a worker goes on into the next phase while another is in this one; where all
-// are joined behind each phase it doesn't.
-#[test]
-fn a_worker_may_be_a_phase_ahead(rt: HostRuntime) -> Result<(), Fail> {
-    let alloc = rt.alloc();
-    let (program, plan) = case_of(&rt, alloc, CONDITIONS)?;
-    let gate = Overtaking::new();
-    let (_, output) = run_spmd(&rt, alloc, &program, &plan, &gate)?;
-    assert_eq!(rt; output.as_slice(), b" 2\n".as_slice());
-    assert_eq!(rt; gate.late.load(Ordering::SeqCst), 0);
-    let gate = Overtaking::new();
-    let (_, output) = run_join(&rt, alloc, &program, &plan, &gate)?;
-    assert_eq!(rt; output.as_slice(), b" 2\n".as_slice());
-    assert_eq!(rt; gate.late.load(Ordering::SeqCst), 1);
     Ok(())
 }
 
@@ -210,7 +136,7 @@ fn to_the_end(cells: &Cells<'_>, worker: &mut Worker<'_>)
     ensures home { worker.new.seat.home ≡ worker.old.seat.home }
     ensures processor { worker.new.seat.processor ≡ worker.old.seat.processor }
 {
-    for _ in 0..MOST_TURNS {
+    for _ in 0..MOST_LEGS {
         if worker.leg(cells, &NoGate) == Leg::Ended {
             return;
         }
@@ -256,22 +182,42 @@ fn closed_at_last(alloc: Global, cells: Cells<'_>, main: MainSeat) -> Result<Clo
     }
 }
 
-// Three workers on threads of the caller's.
-#[test]
-fn workers_may_be_ones_own(rt: HostRuntime) -> Result<(), Fail> {
-    let alloc = rt.alloc();
-    let (program, plan) = case_of(&rt, alloc, MIRROR)?;
-    let tables = Tables::new(alloc, &program, &plan)?;
-    let (cells, mut main) = Cells::new(alloc, &program, &plan)?;
+// What workers on threads of the caller's leave, each of which goes to its end.
+fn left_by_own<R: Threads + Sync>(
+    rt: &R,
+    alloc: Global,
+    program: &Program,
+    plan: &Plan,
+) -> Result<Left, Fail>
+    requires formed { IsWellFormed (tree_of program.now) }
+    requires limits { IsWithinLimits (tree_of program.now) }
+    requires ranges { IsInRange (tree_of program.now) }
+    requires fits { IsFit (tree_of program.now) plan.now }
+    requires ordered { IsOrdered (tree_of program.now) plan.now }
+{
+    let tables = Tables::new(alloc, program, plan)?;
+    let (cells, mut main) = Cells::new(alloc, program, plan)?;
     let mut workers = workers_of(alloc, &tables, &cells, &mut main)?;
-    all_to_the_end(&rt, &cells, &mut workers);
+    all_to_the_end(rt, &cells, &mut workers);
     if !have_ended(&workers) {
         return Err(Fail::new("a worker has not ended"));
     }
     let output = gathered(&cells, &mut main, workers);
-    assert_eq!(rt; output.as_slice(), b" 6\n".as_slice());
     let closed = closed_at_last(alloc, cells, main)?;
-    assert_eq!(rt; closed.memory(), MIRRORED_CELLS);
+    Ok((
+        closed.memory().to_vec(alloc)?,
+        output.as_slice().to_vec(alloc)?,
+    ))
+}
+
+// Three workers.
+#[test]
+fn workers_may_be_ones_own(rt: HostRuntime) -> Result<(), Fail> {
+    let alloc = rt.alloc();
+    let (program, plan) = case_of(&rt, alloc, MIRROR)?;
+    let (memory, output) = left_by_own(&rt, alloc, &program, &plan)?;
+    assert_eq!(rt; output.as_slice(), b" 6\n".as_slice());
+    assert_eq!(rt; memory.as_slice(), MIRRORED_CELLS);
     Ok(())
 }
 
@@ -284,8 +230,26 @@ fn leg_of(cells: &Cells<'_>, workers: &mut [CachePadded<Worker<'_>>], p: usize) 
     workers[p].leg(cells, &NoGate)
 }
 
-// Legs of workers, one after the other, end so.
+// Legs of the workers of a plan, one leg after the other on one thread, end so.
 fn legs_are(
+    alloc: Global,
+    program: &Program,
+    plan: &Plan,
+    rows: &[(usize, Leg)],
+) -> Result<(), Fail>
+    requires formed { IsWellFormed (tree_of program.now) }
+    requires limits { IsWithinLimits (tree_of program.now) }
+    requires ranges { IsInRange (tree_of program.now) }
+    requires fits { IsFit (tree_of program.now) plan.now }
+    requires ordered { IsOrdered (tree_of program.now) plan.now }
+{
+    let tables = Tables::new(alloc, program, plan)?;
+    let (cells, mut main) = Cells::new(alloc, program, plan)?;
+    let mut workers = workers_of(alloc, &tables, &cells, &mut main)?;
+    legs_end_so(&cells, &mut workers, rows)
+}
+
+fn legs_end_so(
     cells: &Cells<'_>,
     workers: &mut [CachePadded<Worker<'_>>],
     rows: &[(usize, Leg)],
@@ -303,15 +267,12 @@ fn legs_are(
     Ok(())
 }
 
-// Two workers leg by leg, on one thread: two barriers and a join.
+// Two workers: two barriers and a join.
 #[test]
 fn legs_end_at_joins(rt: HostRuntime) -> Result<(), Fail> {
     let alloc = rt.alloc();
     let text = ROUNDING.replacen(alloc, b"3 BARRIER", b"3 JOIN", 1)?;
     let (program, plan) = case_of(&rt, alloc, text.as_slice())?;
-    let tables = Tables::new(alloc, &program, &plan)?;
-    let (cells, mut main) = Cells::new(alloc, &program, &plan)?;
-    let mut workers = workers_of(alloc, &tables, &cells, &mut main)?;
     let waits = |wanted, seen| Leg::Waiting {
         on: 2,
         wanted,
@@ -325,5 +286,5 @@ fn legs_end_at_joins(rt: HostRuntime) -> Result<(), Fail> {
         (0, Leg::Ended),
         (1, Leg::Ended),
     ];
-    legs_are(&cells, &mut workers, &rows)
+    legs_are(alloc, &program, &plan, &rows)
 }

@@ -1,8 +1,8 @@
 // Sources, and the fault that each has. What no clause says is that the definitions mean what is
 // wanted, and that memory is not refused where there is enough.
 
-use crate::programs::source_of;
 use f77_lines::MOST_BYTES;
+use plan_input::{Stop, read_source};
 use range_check::check_ranges;
 use std::alloc::{AllocError, Global};
 use std::fmt::Write;
@@ -10,16 +10,20 @@ use std::test::Fail;
 
 // Why a source is refused, or how many statements it has outside its loops.
 fn shown(alloc: Global, source: &[u8]) -> Result<String, AllocError> {
-    if source.len() > MOST_BYTES {
-        return String::from_str(alloc, "too long");
+    match statements_in(alloc, source) {
+        Ok(count) => format!(in alloc; "{count}"),
+        Err(stop) => format!(in alloc; "{stop}"),
     }
-    let program = match source_of(alloc, source)? {
-        Ok((program, _)) => program,
-        Err(line) => return Ok(line),
-    };
+}
+
+fn statements_in(alloc: Global, source: &[u8]) -> Result<usize, Stop> {
+    if source.len() > MOST_BYTES {
+        return Err(Stop::TooLong);
+    }
+    let (program, _) = read_source(alloc, source)?;
     match check_ranges(alloc, &program) {
-        Ok(()) => format!(in alloc; "{}", program.items.len()),
-        Err(outside) => format!(in alloc; "{outside}"),
+        Ok(()) => Ok(program.items.len()),
+        Err(outside) => Err(Stop::Range(outside)),
     }
 }
 

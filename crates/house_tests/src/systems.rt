@@ -1,7 +1,7 @@
 // Systems over three variables: what a certificate shows of them, what elimination says, and what a
 // quick look finds.
 
-ghost use Rattle.std.specs.Prelude.{◌≡◌, IfOk};
+ghost use Rattle.std.specs.Prelude.{◌≡◌, IfOk, length};
 
 use farkas_cert::narrow::are_narrow_rows;
 use farkas_cert::{
@@ -12,78 +12,105 @@ use quick_elim::{Budget, Settled, settle};
 use std::alloc::{AllocError, Global};
 use std::test::Fail;
 
-type Given<'a> = &'a [([i128; 3], i128)];
+fn number_in(word: Option<&str>) -> Result<i128, Fail> {
+    let Some(word) = word else {
+        return Err(Fail::new("a number is missing"));
+    };
+    match word.parse::<i128>() {
+        Ok(number) => Ok(number),
+        Err(_) => Err(Fail::new("a word is no number")),
+    }
+}
 
-type Told<'a> = &'a [(i128, &'a [(u64, i128)])];
+// The row of a text: three coefficients, `<=` and a bound.
+fn row_of(alloc: Global, text: &str) -> Result<Row, Fail>
+    ensures { IfOk result (λ row. length row.coefs ≡ 3) }
+{
+    let mut words = text.split_whitespace();
+    let first = number_in(words.next())?;
+    let second = number_in(words.next())?;
+    let third = number_in(words.next())?;
+    let bound = number_in(words.nth(1))?;
+    let coefs = Coefs::from_slice(alloc, &[first, second, third])?;
+    Ok(Row { coefs, bound })
+}
 
-// 2 ^ 126.
-const LIMIT: i128 = 1 << 126;
-
-fn system_of(alloc: Global, rows: Given<'_>) -> Result<System, AllocError>
+// The system of a text: rows between semicolons.
+fn system_of(alloc: Global, text: &str) -> Result<System, Fail>
     ensures { IfOk result (λ system. system.vars ≡ 3) }
 {
     let mut system = System::empty(alloc, 3);
-    for (coefs, bound) in rows {
-        system.push(Row {
-            coefs: Coefs::from_slice(alloc, coefs)?,
-            bound: *bound,
-        })?;
+    for row in text.split(';') {
+        system.push(row_of(alloc, row)?)?;
     }
     Ok(system)
 }
 
-fn certificate_of(alloc: Global, steps: Told<'_>) -> Result<Certificate, AllocError> {
-    let mut made = Vec::new(alloc);
-    for (divisor, terms) in steps {
-        made.push(Step {
-            divisor: *divisor,
-            terms: Terms::from_vec(terms.to_vec(alloc)?),
-        })?;
+// The step of a text: a divisor, and terms of a row's number, `*` and a multiplier.
+fn step_of(alloc: Global, text: &str) -> Result<Step, Fail> {
+    let mut words = text.split_whitespace();
+    let divisor = number_in(words.next())?;
+    let mut terms = Vec::new(alloc);
+    for word in words {
+        terms.push(term_of(word)?)?;
     }
-    Ok(Certificate {
-        steps: StepList::from_vec(made),
+    Ok(Step {
+        divisor,
+        terms: Terms::from_vec(terms),
     })
 }
 
-fn answer(alloc: Global, rows: Given<'_>, steps: Told<'_>) -> Result<(), CertRefusal> {
-    let system = system_of(alloc, rows)?;
-    let certificate = certificate_of(alloc, steps)?;
-    check_cert(alloc, &system, &certificate)
+fn term_of(word: &str) -> Result<(u64, i128), Fail> {
+    let Some((row, multiplier)) = word.split_once('*') else {
+        return Err(Fail::new("a word is no term"));
+    };
+    match row.parse::<u64>() {
+        Ok(row) => Ok((row, number_in(Some(multiplier))?)),
+        Err(_) => Err(Fail::new("a word is no row")),
+    }
 }
 
-// 2i - 2j <= 1 and j < i: halved, the first says i - j <= 0. And rows at the limit of numbers.
+// The certificate of a text: steps between semicolons.
+fn certificate_of(alloc: Global, text: &str) -> Result<Certificate, Fail> {
+    let mut steps = Vec::new(alloc);
+    for step in text.split(';') {
+        steps.push(step_of(alloc, step)?)?;
+    }
+    Ok(Certificate {
+        steps: StepList::from_vec(steps),
+    })
+}
+
+// 2i - 2j <= 1 and j < i: halved, the first says i - j <= 0. And rows at the limit of numbers, which
+// is 2 ^ 126.
+const ROWS: &str =
+    "2 -2 0 <= 1; -1 1 0 <= -1; 0 0 0 <= -85070591730234615865843651857942052864; 0 0 0 <= -42535295865117307932921825928971026432; 1 85070591730234615865843651857942052865 0 <= -1";
+
 #[test]
-fn certificates_are_checked(rt: HostRuntime) {
-    let rows: Given = &[
-        ([2, -2, 0], 1),
-        ([-1, 1, 0], -1),
-        ([0, 0, 0], -LIMIT),
-        ([0, 0, 0], -LIMIT / 2),
-        ([1, LIMIT + 1, 0], -1),
-    ];
-    let good: (i128, &[(u64, i128)]) = (1, &[(1, 1), (2, 2)]);
-    let table: [(Told, Result<(), CertRefusal>); 14] = [
-        (&[good], Ok(())),
-        (&[(2, &[(1, 1)]), (1, &[(2, 1), (6, 1)])], Ok(())),
-        (&[(1, &[(4, 2)])], Ok(())),
-        (&[good, (1, &[(6, 1)])], Ok(())),
-        (
-            &[(1, &[(0, -1), (2, 1)])],
-            Err(CertRefusal::NegativeMultiplier(1)),
-        ),
-        (&[good, (1, &[(0, 1)])], Err(CertRefusal::BadRow(2))),
-        (&[(1, &[(6, 1)])], Err(CertRefusal::BadRow(1))),
-        (&[(0, &[(1, 1)])], Err(CertRefusal::BadDivisor(1))),
-        (&[(3, &[(1, 1)])], Err(CertRefusal::BadDivisor(1))),
-        (&[(1, &[(4, 3)])], Err(CertRefusal::Wide(1, 4))),
-        (&[(1, &[(3, 1), (4, 1)])], Err(CertRefusal::Wide(1, 4))),
-        (&[(1, &[(5, 1)])], Err(CertRefusal::Wide(1, 2))),
-        (&[(1, &[(1, 1)])], Err(CertRefusal::NoContradiction(6))),
-        (&[(1, &[])], Err(CertRefusal::NoContradiction(6))),
+fn certificates_are_checked(rt: HostRuntime) -> Result<(), Fail> {
+    let alloc = rt.alloc();
+    let system = system_of(alloc, ROWS)?;
+    let table: [(&str, Result<(), CertRefusal>); 14] = [
+        ("1 1*1 2*2", Ok(())),
+        ("2 1*1; 1 2*1 6*1", Ok(())),
+        ("1 4*2", Ok(())),
+        ("1 1*1 2*2; 1 6*1", Ok(())),
+        ("1 0*-1 2*1", Err(CertRefusal::NegativeMultiplier(1))),
+        ("1 1*1 2*2; 1 0*1", Err(CertRefusal::BadRow(2))),
+        ("1 6*1", Err(CertRefusal::BadRow(1))),
+        ("0 1*1", Err(CertRefusal::BadDivisor(1))),
+        ("3 1*1", Err(CertRefusal::BadDivisor(1))),
+        ("1 4*3", Err(CertRefusal::Wide(1, 4))),
+        ("1 3*1 4*1", Err(CertRefusal::Wide(1, 4))),
+        ("1 5*1", Err(CertRefusal::Wide(1, 2))),
+        ("1 1*1", Err(CertRefusal::NoContradiction(6))),
+        ("1", Err(CertRefusal::NoContradiction(6))),
     ];
     for (steps, wanted) in table {
-        assert_eq!(rt; answer(rt.alloc(), rows, steps), wanted);
+        let certificate = certificate_of(alloc, steps)?;
+        assert_eq!(rt; check_cert(alloc, &system, &certificate), wanted, "{steps}");
     }
+    Ok(())
 }
 
 // What elimination says of a system, by its variables in order.
@@ -109,24 +136,21 @@ fn decided(alloc: Global, system: &System) -> Result<String, NoMemory>
 #[test]
 fn systems_are_decided(rt: HostRuntime) -> Result<(), Fail> {
     let alloc = rt.alloc();
-    let large = 1i128 << 64;
-    let table: [(Given, &str); 5] = [
-        (&[([2, 0, 0], 1), ([-2, 0, 0], -1)], "infeasible, good true"),
-        (&[([1, 0, 0], 1), ([-1, 0, 0], -1)], "open"),
+    let table = [
+        ("2 0 0 <= 1; -2 0 0 <= -1", "infeasible, good true"),
+        ("1 0 0 <= 1; -1 0 0 <= -1", "open"),
+        ("-3 -2 0 <= -1; -1 2 0 <= 1; 3 -1 0 <= 1", "open"),
         (
-            &[([-3, -2, 0], -1), ([-1, 2, 0], 1), ([3, -1, 0], 1)],
-            "open",
-        ),
-        (&[], "open"),
-        (
-            &[([large, large - 1, 0], 0), ([-(large + 1), 1, 0], 0)],
+            "18446744073709551616 18446744073709551615 0 <= 0; -18446744073709551617 1 0 <= 0",
             "wide 1",
         ),
     ];
     for (rows, told) in table {
         let system = system_of(alloc, rows)?;
-        assert_eq!(rt; decided(alloc, &system)?.as_str(), told);
+        assert_eq!(rt; decided(alloc, &system)?.as_str(), told, "{rows}");
     }
+    let nothing = System::empty(alloc, 3);
+    assert_eq!(rt; decided(alloc, &nothing)?.as_str(), "open");
     Ok(())
 }
 
@@ -172,32 +196,23 @@ fn found(alloc: Global, system: &System, budget: &Budget) -> Result<&'static str
 #[test]
 fn systems_are_settled(rt: HostRuntime) -> Result<(), Fail> {
     let alloc = rt.alloc();
-    let large = 1i128 << 64;
-    let table: [(Given, &str); 9] = [
-        (&[([2, 0, 0], 1), ([-2, 0, 0], -1)], "refuted"),
-        (&[([3, 0, 0], 2), ([-3, 0, 0], -1)], "refuted"),
-        (&[([1, 0, 0], 1), ([-1, 0, 0], -1)], "solved"),
+    let table = [
+        ("2 0 0 <= 1; -2 0 0 <= -1", "refuted"),
+        ("3 0 0 <= 2; -3 0 0 <= -1", "refuted"),
+        ("1 0 0 <= 1; -1 0 0 <= -1", "solved"),
         (
-            &[
-                ([1, 0, -2], 0),
-                ([-1, 0, 2], 0),
-                ([1, -2, 0], 1),
-                ([-1, 2, 0], -1),
-            ],
+            "1 0 -2 <= 0; -1 0 2 <= 0; 1 -2 0 <= 1; -1 2 0 <= -1",
             "refuted",
         ),
-        (&[([2, 3, 5], 1), ([-2, -3, -5], -1)], "solved"),
-        (
-            &[([-3, -2, 0], -1), ([-1, 2, 0], 1), ([3, -1, 0], 1)],
-            "unknown",
-        ),
-        (&[([2, 2, 0], 1), ([-2, -2, 0], 1)], "solved"),
-        (&[([3, -3, 0], 2), ([-3, 3, 0], -1)], "refuted"),
-        (&[([large, 0, 0], 0)], "unknown"),
+        ("2 3 5 <= 1; -2 -3 -5 <= -1", "solved"),
+        ("-3 -2 0 <= -1; -1 2 0 <= 1; 3 -1 0 <= 1", "unknown"),
+        ("2 2 0 <= 1; -2 -2 0 <= 1", "solved"),
+        ("3 -3 0 <= 2; -3 3 0 <= -1", "refuted"),
+        ("18446744073709551616 0 0 <= 0", "unknown"),
     ];
     for (rows, told) in table {
         let system = system_of(alloc, rows)?;
-        assert_eq!(rt; found(alloc, &system, &Budget::default())?, told);
+        assert_eq!(rt; found(alloc, &system, &Budget::default())?, told, "{rows}");
     }
     Ok(())
 }

@@ -1,7 +1,7 @@
 // Runs through the top call, by each engine: what is written, of which runs there are receipts, and
 // that workers run beside one another.
 
-use crate::tool::tool;
+use crate::tests::{ended, said_by};
 use cell_table::Receipt;
 use spmd_answer::{Host, Status};
 use spmd_ports::{Gate, MemSink, MemSource, NoGate};
@@ -112,25 +112,6 @@ impl Gate for Overtaking {
     }
 }
 
-// What these words write for a source, their status, and the receipt.
-fn said_by<R: Threads + Wait + Sync, G: Gate + Sync>(
-    host: &Host<'_, R, G>,
-    words: &[&str],
-    bytes: &[u8],
-) -> Result<(Status, MemSink, Option<Receipt>), Fail> {
-    let mut source = MemSource::new(host.alloc, bytes, 100_000, &[])?;
-    let mut sink = MemSink::new(host.alloc, 20_000, 20_000, &[], &[])?;
-    let (status, receipt) = tool(
-        host.rt,
-        host.alloc,
-        words,
-        &mut source,
-        &mut sink,
-        host.gate,
-    );
-    Ok((status, sink, receipt))
-}
-
 // By the plan that is made, by barriers, and alone.
 #[test]
 fn each_engine_prints_the_same(rt: HostRuntime) -> Result<(), Fail> {
@@ -140,13 +121,13 @@ fn each_engine_prints_the_same(rt: HostRuntime) -> Result<(), Fail> {
         alloc: rt.alloc(),
         gate: &gate,
     };
-    let rows: [(&[&str], bool, bool); 6] = [
-        (&["run", "--workers", "2", "--by", "core"], true, false),
-        (&["run", "--workers", "2", "--by", "join"], true, false),
-        (&["run", "--workers", "2", "--by", "spmd"], true, true),
-        (&["run", "--workers", "2"], true, true),
-        (&["run", "--workers", "2", "--plan", "barrier"], false, true),
-        (&["seq"], false, false),
+    let rows = [
+        ("run --workers 2 --by core", true, false),
+        ("run --workers 2 --by join", true, false),
+        ("run --workers 2 --by spmd", true, true),
+        ("run --workers 2", true, true),
+        ("run --workers 2 --plan barrier", false, true),
+        ("seq", false, false),
     ];
     for (words, made, shares) in rows {
         let (status, sink, receipt) = said_by(&host, words, JACOBI)?;
@@ -156,6 +137,46 @@ fn each_engine_prints_the_same(rt: HostRuntime) -> Result<(), Fail> {
         assert_eq!(rt; receipt.is_some(), shares);
     }
     Ok(())
+}
+
+// Whether a run of the program by a given plan, whose workers meet at a gate, ends well by an engine:
+// it writes the plan and what is printed, so many workers come to the gate, none in vain, and of a
+// run by spmd there is the receipt.
+fn meets<R: Threads + Wait + Sync>(
+    rt: &R,
+    alloc: Global,
+    plan: &str,
+    way: (&str, u64),
+) -> Result<bool, Fail> {
+    let (engine, come) = way;
+    let gate = Meeting::new();
+    let host = Host {
+        rt,
+        alloc,
+        gate: &gate,
+    };
+    let words = format!(in alloc; "run --workers 2 --plan given --by {engine}")?;
+    let input = format!(in alloc; "{ROUNDING}{plan}")?;
+    let (status, sink, receipt) = said_by(&host, words.as_str(), input.as_bytes())?;
+    let wanted = format!(in alloc; "{plan}{ROUNDED}")?;
+    Ok(
+        status == Status::Done
+            && sink.written() == wanted.as_bytes()
+            && gate.come.load(Ordering::SeqCst) == come
+            && gate.late.load(Ordering::SeqCst) == 0
+            && is_left(&receipt, engine),
+    )
+}
+
+// Whether there is the receipt of a run by spmd, with its workers and the last memory, and of any
+// other run none.
+fn is_left(receipt: &Option<Receipt>, engine: &str) -> bool {
+    match receipt {
+        Some(receipt) => {
+            engine == "spmd" && receipt.workers() == 2 && receipt.memory() == ROUNDED_CELLS
+        }
+        None => engine != "spmd",
+    }
 }
 
 // By three plans that are given, each with a gate at which both workers meet, where there are any.
@@ -168,26 +189,9 @@ fn workers_run_beside_one_another(rt: HostRuntime) -> Result<(), Fail> {
         ("BARRIER", "JOIN"),
     ] {
         let plan = plan_with(alloc, first, last)?;
-        let input = format!(in alloc; "{ROUNDING}{plan}")?;
-        let wanted = format!(in alloc; "{plan}{ROUNDED}")?;
-        for (engine, come) in [("core", 0), ("join", 2), ("spmd", 2)] {
-            let gate = Meeting::new();
-            let host = Host {
-                rt: &rt,
-                alloc,
-                gate: &gate,
-            };
-            let words = ["run", "--workers", "2", "--plan", "given", "--by", engine];
-            let (status, sink, receipt) = said_by(&host, &words, input.as_bytes())?;
-            assert_eq!(rt; status, Status::Done);
-            assert_eq!(rt; sink.written(), wanted.as_bytes());
-            assert_eq!(rt; gate.come.load(Ordering::SeqCst), come);
-            assert_eq!(rt; gate.late.load(Ordering::SeqCst), 0);
-            assert_eq!(rt; receipt.is_some(), engine == "spmd");
-            if let Some(receipt) = receipt {
-                assert_eq!(rt; receipt.workers(), 2);
-                assert_eq!(rt; receipt.memory(), ROUNDED_CELLS);
-            }
+        for way in [("core", 0), ("join", 2), ("spmd", 2)] {
+            let is_met = meets(&rt, alloc, plan.as_str(), way)?;
+            assert!(rt; is_met, "{first} {last} {}", way.0);
         }
     }
     Ok(())
@@ -204,8 +208,8 @@ fn a_worker_may_be_a_phase_ahead(rt: HostRuntime) -> Result<(), Fail> {
             alloc: rt.alloc(),
             gate: &gate,
         };
-        let words = ["run", "--workers", "2", "--by", engine];
-        let (status, sink, _) = said_by(&host, &words, FORWARD)?;
+        let words = format!(in rt.alloc(); "run --workers 2 --by {engine}")?;
+        let (status, sink, _) = said_by(&host, words.as_str(), FORWARD)?;
         assert_eq!(rt; status, Status::Done);
         assert!(rt; sink.written().ends_with(b"END PLAN\n 1 1 1 1\n"));
         assert_eq!(rt; gate.late.load(Ordering::SeqCst), late);
@@ -217,10 +221,15 @@ fn a_worker_may_be_a_phase_ahead(rt: HostRuntime) -> Result<(), Fail> {
 #[test]
 fn bench_runs_its_own_program(rt: HostRuntime) -> Result<(), Fail> {
     let alloc = rt.alloc();
+    let gate = NoGate;
+    let host = Host {
+        rt: &rt,
+        alloc,
+        gate: &gate,
+    };
     let mut source = MemSource::new(alloc, JACOBI, 1000, &[1])?;
     let mut sink = MemSink::new(alloc, 1000, 1000, &[], &[])?;
-    let words = ["bench", "--workers", "2", "4", "2"];
-    let (status, receipt) = tool(&rt, alloc, &words, &mut source, &mut sink, &NoGate);
+    let (status, receipt) = ended(&host, "bench --workers 2 4 2", &mut source, &mut sink)?;
     assert_eq!(rt; status, Status::Done);
     assert_eq!(rt;
         sink.written(),
@@ -238,8 +247,8 @@ fn one_worker_and_four_print_the_same(rt: HostRuntime) -> Result<(), Fail> {
         alloc: rt.alloc(),
         gate: &gate,
     };
-    let (_, alone, _) = said_by(&host, &["bench", "--workers", "1", "2000", "200"], b"")?;
-    let (status, four, _) = said_by(&host, &["bench", "--workers", "4", "2000", "200"], b"")?;
+    let (_, alone, _) = said_by(&host, "bench --workers 1 2000 200", b"")?;
+    let (status, four, _) = said_by(&host, "bench --workers 4 2000 200", b"")?;
     assert_eq!(rt; status, Status::Done);
     assert!(rt;
         four.written()

@@ -3,21 +3,46 @@
 ghost use Rattle.std.specs.Prelude.{◌<◌};
 
 use crate::tool::tool;
-use spmd_answer::Status;
-use spmd_ports::{MemSink, MemSource, NoGate};
-use std::alloc::Global;
+use cell_table::Receipt;
+use spmd_answer::{Host, Status};
+use spmd_ports::{Gate, MemSink, MemSource, NoGate};
+use std::alloc::{AllocError, Global};
 use std::fmt::Write;
 use std::sync::Wait;
 use std::test::Fail;
 use std::thread::Threads;
 
-const FIRST: &[u8] =
-    b"      PROGRAM ONE\n      K = 20\n      K = K*2 + 2\n      PRINT *, 'K', K\n      END\n";
+const FIRST: &str =
+    "      PROGRAM ONE\n      K = 20\n      K = K*2 + 2\n      PRINT *, 'K', K\n      END\n";
 
 const FIRST_RUN: &[u8] =
     b"SPMD PLAN 2\nWORKERS 2\nLOOPS 0\nPHASES 3\n1 BARRIER AT 0 CYCLIC\n2 BARRIER AT 0 CYCLIC\n3 BARRIER AT 0 CYCLIC\nCERTIFICATES 0\nEND PLAN\n K 42\n";
 
-const WORDS: [&str; 7] = ["run", "--workers", "2", "--plan", "barrier", "--by", "core"];
+const WORDS: &str = "run --workers 2 --plan barrier --by core";
+
+// How a call with words, between blanks, ends. No clause says what of it: what was written is looked
+// at.
+pub(crate) fn ended<R: Threads + Wait + Sync, G: Gate + Sync>(
+    host: &Host<'_, R, G>,
+    words: &str,
+    source: &mut MemSource,
+    sink: &mut MemSink,
+) -> Result<(Status, Option<Receipt>), AllocError> {
+    let words: Vec<&str> = words.split_whitespace().collect(host.alloc)?;
+    Ok(tool(host.rt, host.alloc, &words, source, sink, host.gate))
+}
+
+// What words, between blanks, write for a source, their status, and the receipt.
+pub(crate) fn said_by<R: Threads + Wait + Sync, G: Gate + Sync>(
+    host: &Host<'_, R, G>,
+    words: &str,
+    bytes: &[u8],
+) -> Result<(Status, MemSink, Option<Receipt>), Fail> {
+    let mut source = MemSource::new(host.alloc, bytes, 100_000, &[])?;
+    let mut sink = MemSink::new(host.alloc, 20_000, 20_000, &[], &[])?;
+    let (status, receipt) = ended(host, words, &mut source, &mut sink)?;
+    Ok((status, sink, receipt))
+}
 
 // The calls that the source fails, that the sink fails, and that the sink takes nothing at.
 type Calls<'a> = (&'a [u64], &'a [u64], &'a [u64]);
@@ -32,22 +57,32 @@ fn run_of<R: Threads + Wait + Sync>(
     requires source { 0 < pieces.0 }
     requires sink { 0 < pieces.1 }
 {
-    let mut source = MemSource::new(alloc, FIRST, pieces.0, calls.0)?;
+    let gate = NoGate;
+    let host = Host {
+        rt,
+        alloc,
+        gate: &gate,
+    };
+    let mut source = MemSource::new(alloc, FIRST.as_bytes(), pieces.0, calls.0)?;
     let mut sink = MemSink::new(alloc, 1000, pieces.1, calls.1, calls.2)?;
-    let (status, _) = tool(rt, alloc, &WORDS, &mut source, &mut sink, &NoGate);
+    let (status, _) = ended(&host, WORDS, &mut source, &mut sink)?;
     Ok((status, sink))
 }
 
-// What these words write for a source, and their status.
+// What words, between blanks, write for a source, and their status.
 fn said_to<R: Threads + Wait + Sync>(
     rt: &R,
     alloc: Global,
-    words: &[&str],
+    words: &str,
     bytes: &[u8],
 ) -> Result<(Status, MemSink), Fail> {
-    let mut source = MemSource::new(alloc, bytes, 100_000, &[])?;
-    let mut sink = MemSink::new(alloc, 20_000, 20_000, &[], &[])?;
-    let (status, _) = tool(rt, alloc, words, &mut source, &mut sink, &NoGate);
+    let gate = NoGate;
+    let host = Host {
+        rt,
+        alloc,
+        gate: &gate,
+    };
+    let (status, sink, _) = said_by(&host, words, bytes)?;
     Ok((status, sink))
 }
 
@@ -59,7 +94,7 @@ fn runs_the_first_program(rt: HostRuntime) -> Result<(), Fail> {
         assert_eq!(rt; status, Status::Done);
         assert_eq!(rt; sink.written(), FIRST_RUN);
     }
-    let (status, sink) = said_to(&rt, rt.alloc(), &["seq"], FIRST)?;
+    let (status, sink) = said_to(&rt, rt.alloc(), "seq", FIRST.as_bytes())?;
     assert_eq!(rt; status, Status::Done);
     assert_eq!(rt; sink.written(), b" K 42\n".as_slice());
     Ok(())
@@ -111,82 +146,72 @@ fn a_write_that_fails_or_takes_nothing_leaves_a_front(rt: HostRuntime) -> Result
 
 #[test]
 fn says_what_is_wrong(rt: HostRuntime) -> Result<(), Fail> {
-    let rows: [(&[&str], &[u8], Status, &[u8]); 16] = [
-        (&[], FIRST, Status::BadWords, b"WORDS 0\n"),
+    let rows: [(&str, &str, Status, &str); 16] = [
+        ("", FIRST, Status::BadWords, "WORDS 0\n"),
+        ("run --plan made", FIRST, Status::BadWords, "WORDS 0\n"),
+        ("seq Q", "", Status::BadWords, "WORDS 1\n"),
+        ("seq Q=1", FIRST, Status::BadWords, "WORDS 1\n"),
+        ("seq Q=1 R=", FIRST, Status::BadWords, "WORDS 2\n"),
+        ("seq Q=1", "", Status::SourceRefused, "REFUSED L4 LINE 1\n"),
         (
-            &["run", "--plan", "made"],
-            FIRST,
-            Status::BadWords,
-            b"WORDS 0\n",
-        ),
-        (&["seq", "Q"], b"", Status::BadWords, b"WORDS 1\n"),
-        (&["seq", "Q=1"], FIRST, Status::BadWords, b"WORDS 1\n"),
-        (&["seq", "Q=1", "R="], FIRST, Status::BadWords, b"WORDS 2\n"),
-        (
-            &["seq", "Q=1"],
-            b"",
+            "seq",
+            "      END\n      END\n",
             Status::SourceRefused,
-            b"REFUSED L4 LINE 1\n",
+            "REFUSED L5 LINE 2\n",
         ),
         (
-            &["seq"],
-            b"      END\n      END\n",
+            "seq",
+            "      X = 1\n      END\n",
             Status::SourceRefused,
-            b"REFUSED L5 LINE 2\n",
+            "REFUSED F3 LINE 1\n",
         ),
         (
-            &["seq"],
-            b"      X = 1\n      END\n",
+            "seq",
+            "      INTEGER A(1,1,1,1)\n      END\n",
             Status::SourceRefused,
-            b"REFUSED F3 LINE 1\n",
+            "REFUSED F12 LINE 1 COUNT 4\n",
         ),
         (
-            &["seq"],
-            b"      INTEGER A(1,1,1,1)\n      END\n",
+            "seq",
+            "      INTEGER A(1024,1024), B(1)\n      END\n",
             Status::SourceRefused,
-            b"REFUSED F12 LINE 1 COUNT 4\n",
+            "REFUSED X3 CELLS 1048577\n",
         ),
         (
-            &["seq"],
-            b"      INTEGER A(1024,1024), B(1)\n      END\n",
+            "seq",
+            "      INTEGER A(2)\n      A(3) = 1\n      END\n",
             Status::SourceRefused,
-            b"REFUSED X3 CELLS 1048577\n",
+            "REFUSED S1 LINE 2 DIMENSION 1 VALUE 3 BOUND 2\n",
         ),
         (
-            &["seq"],
-            b"      INTEGER A(2)\n      A(3) = 1\n      END\n",
-            Status::SourceRefused,
-            b"REFUSED S1 LINE 2 DIMENSION 1 VALUE 3 BOUND 2\n",
-        ),
-        (
-            &["seq", "n=-7"],
-            b"      PARAMETER (N = 2)\n      PRINT *, N\n      END\n",
+            "seq n=-7",
+            "      PARAMETER (N = 2)\n      PRINT *, N\n      END\n",
             Status::Done,
-            b" -7\n",
+            " -7\n",
         ),
-        (&["seq"], b"      PRINT *\n      END", Status::Done, b"\n"),
+        ("seq", "      PRINT *\n      END", Status::Done, "\n"),
         (
-            &["plan", "--workers", "3"],
-            b"      PRINT *, 7\n      END\n",
+            "plan --workers 3",
+            "      PRINT *, 7\n      END\n",
             Status::Done,
-            b"SPMD PLAN 2\nWORKERS 3\nLOOPS 0\nPHASES 1\n1 NOTHING AT 0 CYCLIC\nCERTIFICATES 0\nEND PLAN\nEND REASONS\n",
+            "SPMD PLAN 2\nWORKERS 3\nLOOPS 0\nPHASES 1\n1 NOTHING AT 0 CYCLIC\nCERTIFICATES 0\nEND PLAN\nEND REASONS\n",
         ),
         (
-            &["run", "--workers", "3"],
-            b"      PRINT *, 7\n      END\n",
+            "run --workers 3",
+            "      PRINT *, 7\n      END\n",
             Status::Done,
-            b"SPMD PLAN 2\nWORKERS 3\nLOOPS 0\nPHASES 1\n1 NOTHING AT 0 CYCLIC\nCERTIFICATES 0\nEND PLAN\n 7\n",
+            "SPMD PLAN 2\nWORKERS 3\nLOOPS 0\nPHASES 1\n1 NOTHING AT 0 CYCLIC\nCERTIFICATES 0\nEND PLAN\n 7\n",
         ),
         (
-            &["plan", "--workers", "3"],
-            b"      X = 1\n      END\n",
+            "plan --workers 3",
+            "      X = 1\n      END\n",
             Status::SourceRefused,
-            b"REFUSED F3 LINE 1\n",
+            "REFUSED F3 LINE 1\n",
         ),
     ];
     for (words, source, wanted, text) in rows {
-        let (status, sink) = said_to(&rt, rt.alloc(), words, source)?;
-        assert_eq!(rt; sink.written(), text);
+        let (status, sink) = said_to(&rt, rt.alloc(), words, source.as_bytes())?;
+        assert_eq!(rt; sink.written(), text.as_bytes());
         assert_eq!(rt; status, wanted);
     }
     Ok(())
@@ -194,17 +219,34 @@ fn says_what_is_wrong(rt: HostRuntime) -> Result<(), Fail> {
 
 #[test]
 fn shows_help_and_the_version(rt: HostRuntime) -> Result<(), Fail> {
-    for words in [
-        ["--help"].as_slice(),
-        ["run", "-h"].as_slice(),
-        ["plan", "--help"].as_slice(),
-        ["--version"].as_slice(),
-    ] {
+    for words in ["--help", "run -h", "plan --help", "--version"] {
         let (status, sink) = said_to(&rt, rt.alloc(), words, b"")?;
         assert_eq!(rt; status, Status::Done);
         assert!(rt; !sink.written().is_empty());
     }
     Ok(())
+}
+
+// What is written of so many line ends, which come in such pieces, and the status.
+fn empty_lines<R: Threads + Wait + Sync>(
+    rt: &R,
+    alloc: Global,
+    length: usize,
+    piece: usize,
+) -> Result<(Status, MemSink), Fail>
+    requires { 0 < piece }
+{
+    let gate = NoGate;
+    let host = Host {
+        rt,
+        alloc,
+        gate: &gate,
+    };
+    let long = vec![in alloc; b'\n'; length]?;
+    let mut source = MemSource::new(alloc, &long, piece, &[])?;
+    let mut sink = MemSink::new(alloc, 1000, 1000, &[], &[])?;
+    let (status, _) = ended(&host, "seq", &mut source, &mut sink)?;
+    Ok((status, sink))
 }
 
 #[test]
@@ -215,11 +257,8 @@ fn refuses_a_source_that_is_too_long(rt: HostRuntime) -> Result<(), Fail> {
         (200_000, 1, Status::SourceRefused),
     ] {
         prove!(piece > 0);
-        let long = vec![in rt.alloc(); b'\n'; length]?;
-        let mut source = MemSource::new(rt.alloc(), &long, piece, &[])?;
-        let mut sink = MemSink::new(rt.alloc(), 1000, 1000, &[], &[])?;
-        let (ended, _) = tool(&rt, rt.alloc(), &["seq"], &mut source, &mut sink, &NoGate);
-        assert_eq!(rt; ended, status);
+        let (found, sink) = empty_lines(&rt, rt.alloc(), length, piece)?;
+        assert_eq!(rt; found, status);
         let line = sink.written() == b"TOO LONG\n".as_slice();
         assert_eq!(rt; line, status == Status::TooLong);
     }
@@ -237,11 +276,11 @@ fn runs_a_long_program(rt: HostRuntime) -> Result<(), Fail> {
     }
     source.push_str("      PRINT *, 'K', K\n      STOP\n      END\n")?;
     due.push_str("397 BARRIER AT 0 CYCLIC\nCERTIFICATES 0\nEND PLAN\n K 1188\n")?;
-    let mut words = Vec::from_array(rt.alloc(), ["run", "--workers", "64", "--plan", "barrier"])?;
+    let mut words = String::from_str(rt.alloc(), "run --workers 64 --plan barrier")?;
     for _ in 0..300 {
-        words.push("N=3")?;
+        words.push_str(" N=3")?;
     }
-    let (status, sink) = said_to(&rt, rt.alloc(), &words, source.as_bytes())?;
+    let (status, sink) = said_to(&rt, rt.alloc(), words.as_str(), source.as_bytes())?;
     assert_eq!(rt; status, Status::Done);
     assert_eq!(rt; sink.written(), due.as_bytes());
     Ok(())
