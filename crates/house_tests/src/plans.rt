@@ -68,8 +68,10 @@ fn refusal<R: Threads + Sync>(rt: &R, alloc: Global, bytes: &[u8]) -> Result<(),
 // How many obligations the plan behind a source has, and what that with a number speaks of.
 fn obligation(alloc: Global, bytes: &[u8], number: u64) -> Result<String, AllocError> {
     match obligation_behind(alloc, bytes, number) {
-        Ok((Some(found), count)) => shown(alloc, &found, count),
-        Ok((None, count)) => format!(in alloc; "none of {count}"),
+        Ok((found, count)) => match &found {
+            Some(found) => shown(alloc, found, count),
+            None => format!(in alloc; "none of {count}"),
+        },
         Err(stop) => format!(in alloc; "{stop}"),
     }
 }

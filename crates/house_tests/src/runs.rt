@@ -8,6 +8,7 @@ ghost use Rattle.nest_tree.specs.View.{tree_of};
 ghost use Rattle.nest_tree.specs.WellFormed.{IsWellFormed};
 ghost use Rattle.sync_plan.specs.Fit.{IsFit};
 ghost use Rattle.sync_plan.specs.Ordered.{IsOrdered};
+ghost use Rattle.plan_checker.specs.Accepted.{IsAccepted};
 ghost use Rattle.crossbeam_utils.specs.Padded.{padded_value};
 ghost use Rattle.cell_table.specs.Calls.{AreAllEnded};
 ghost use Rattle.spmd_run.specs.Teams.{AreWorkersOf};
@@ -19,7 +20,6 @@ use crossbeam_utils::CachePadded;
 use f77_lines::MOST_BYTES;
 use nest_tree::Program;
 use plan_checker::check;
-use plan_checker::laws::accepted_plans_are_ordered;
 use plan_input::{read_fitting, read_source};
 use range_check::check_ranges;
 use spmd_ports::NoGate;
@@ -77,15 +77,23 @@ fn accepted<R: Threads + Sync>(
     ensures fits { IfOk result (IsFit (tree_of program.now)) }
     ensures ordered { IfOk result (IsOrdered (tree_of program.now)) }
 {
-    accepted_plans_are_ordered();
     let Ok(plan) = read_fitting(alloc, program, bytes) else {
         return Err(Fail::new("no plan is read that fits"));
     };
-    match check(rt, alloc, program, &plan) {
-        Ok(()) => Ok(plan),
-        Err(_) => Err(Fail::new("the plan is refused")),
-    }
+    let Ok(()) = check(rt, alloc, program, &plan) else {
+        return Err(Fail::new("the plan is refused"));
+    };
+    is_ordered(program, &plan);
+    Ok(plan)
 }
+
+// An accepted plan is ordered.
+fn is_ordered(program: &Program, plan: &Plan)
+    requires formed { IsWellFormed (tree_of program.now) }
+    requires ranges { IsInRange (tree_of program.now) }
+    requires accepted { IsAccepted (tree_of program.now) plan.now }
+    ensures { IsOrdered (tree_of program.now) plan.now }
+{}
 
 // What a run leaves: its memory and what it prints.
 type Left = (Vec<i64>, Vec<u8>);
