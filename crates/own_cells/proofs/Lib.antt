@@ -1,0 +1,2 @@
+pub mod LoopValues
+pub mod Places

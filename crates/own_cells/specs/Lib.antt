@@ -1,0 +1,2 @@
+pub mod OwnCells
+pub mod FinalTrips
