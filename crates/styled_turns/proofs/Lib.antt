@@ -1,0 +1,15 @@
+pub mod StyledLists
+pub mod FrontDeeds
+pub mod Steps
+pub mod ClosingMarks
+pub mod ClosingDeeds
+pub mod PhaseByPhase
+pub mod OwnSlots
+pub mod SumMarks
+pub mod RoundCounts
+pub mod MarkedPlaces
+pub mod LastTrips
+pub mod KnownOwn
+pub mod Shown
+pub mod LastOwners
+pub mod TurnsAct

@@ -1,0 +1,135 @@
+-- What a cursor shows, by what stands first, and that it stays sound past it.
+use Rattle.std.proofs.Common.{◌≡◌, ◌==◌, ℕ, suc, ◌+◌, ◌/◌, ◌%◌, ◌<◌, Bool, true, false, List, [], ◌∷◌, ◌++◌, length, if◌then◌else◌, refl, ap, sym, subst, ◌∙◌, inl, inr, arith}
+use Rattle.std.specs.Prelude.{slice_index_or, slice_set}
+use Rattle.std.proofs.lemmas.Bool.{cases_Bool}
+use Rattle.nest_tree.specs.Tree.{Tree}
+use Rattle.nest_model.specs.Instances.{Instance}
+use Rattle.nest_walk.specs.declared.cursor.Stop.{Stop}
+use Rattle.owner_partition.specs.Phases.{phases}
+use Rattle.owner_partition.specs.PhasesLeft.{phases_passed}
+use Rattle.sync_plan.specs.Own.{own_loop}
+use Rattle.sync_plan.specs.declared.plan.Plan.{Plan}
+use Rattle.spmd_model.specs.Rounds.{awaited_in_round}
+use Rattle.spmd_model.specs.Timelines.{counter, signal}
+use Rattle.spmd_model.specs.declared.style.Style.{Style}
+use Rattle.spmd_turns.specs.Turns.{Turn, posts, awaits, begins, works, without_beginnings}
+use Rattle.spmd_turns.specs.TurnsLeft.{AreSound, IsNext, at_turn, turns_left, turns_plan, turns_processor, turns_tree}
+use Rattle.spmd_turns.specs.declared.turns.Next.{Next}
+use Rattle.spmd_turns.specs.declared.turns.Next.TheVariants.{Post, Await, Phase, Work, End}
+use Rattle.spmd_turns.specs.declared.turns.Turns.{Turns}
+use Rattle.styled_turns.specs.StyledTurns.{StyledTurn, sets, waits, closed, is_signalled, is_watched, no_phase, none_pending, places_pending, round_turn, styled}
+use Rattle.styled_turns.specs.StyledLeft.{AreStyled, IsBehindInstances, IsOpen, in_rounds, pends, turns, IsOwnPlace, IsSomeTurn, ShowsClosing, rounds_left, standing, styled_left, styled_plan, styled_processor, styled_tree}
+use Rattle.styled_turns.specs.declared.turns.StyledTurns.{StyledTurns}
+use Rattle.styled_turns.proofs.Steps.{moved, numbered_tail, still_among}
+use Rattle.styled_turns.proofs.StyledLists.{await_first, by_counters, next_round, post_first, unseen}
+
+-- ---- where no phase is watched
+
+unseen_at : (style : Style) (tree : Tree) (plan : Plan) (p place barriers : ℕ) (pending : List Bool) (ts : List Turn) → is_watched style plan ≡ false → place ≡ no_phase → pending ≡ none_pending →
+    styled style tree plan p (record { place = place; pending = pending; barriers = barriers }) (without_beginnings ts) ≡ styled style tree plan p (record { place = place; pending = pending; barriers = barriers }) ts
+unseen_at style tree plan p place barriers pending ts none at empty =
+    let f : ℕ → List Bool → List Turn → List StyledTurn = λ k bs us. styled style tree plan p (record { place = k; pending = bs; barriers = barriers }) us in
+    ap (λ k. f k pending (without_beginnings ts)) at ∙ ap (λ bs. f no_phase bs (without_beginnings ts)) empty ∙ unseen style tree plan p barriers ts none
+    ∙ sym (ap (λ k. f k pending ts) at ∙ ap (λ bs. f no_phase bs ts) empty)
+
+-- the plain turns but for beginnings that stand first
+pub unseen_there : (c : StyledTurns) (t : Turns) → AreStyled c → c.is_watched ≡ false → turns_left t ≡ without_beginnings (turns_left c.turns) → styled_left (record c { turns = t }) ≡ styled_left c
+unseen_there c t s none is =
+    let u = s.unwatched none in
+    let front = rounds_left (styled_plan c).workers (styled_processor c) c.first c.step c.steps in
+    ap (λ ts. front ++ styled c.style (styled_tree c) (styled_plan c) (styled_processor c) (standing c) ts) is
+    ∙ ap (λ l. front ++ l) (unseen_at c.style (styled_tree c) (styled_plan c) (styled_processor c) c.place c.barriers c.pending (turns_left c.turns) (sym s.watched ∙ none) u.no_place u.none)
+
+-- no round is left, nothing pends, and no barrier is passed by signals
+pub record IsPlainly (c : StyledTurns) : Type 0 where
+  pub rounds : c.step ≡ c.steps
+  pub none : places_pending c.pending ≡ []
+  pub off : (number : ℕ) → is_signalled c.style (styled_tree c) (styled_plan c) number ≡ false
+
+pub plainly : (c : StyledTurns) → AreStyled c → c.is_watched ≡ false → IsPlainly c
+plainly c s none =
+    let u = s.unwatched none in
+    record { rounds = u.no_round; none = ap places_pending u.none; off = λ number. by_counters c.style (styled_tree c) (styled_plan c) number (sym s.watched ∙ none) }
+
+-- ---- plain turns
+
+-- something comes next
+pub at_some : (t : Turns) (u : Turn) (rest : List Turn) → (at_turn t ≡ false → turns_left t ≡ []) → turns_left t ≡ u ∷ rest → at_turn t ≡ true
+at_some t u rest end is = elim (cases_Bool (at_turn t)) [
+  | inl yes_it_is ↦ yes_it_is
+  | inr off ↦ absurd (let clash : [] ≡ u ∷ rest = sym (end off) ∙ is in cc)
+]
+
+pub behind_instances : (t : Turns) (n : Next) → IsNext t n → ((stop : Stop) → n ≡ Work stop → ⊥) → IsBehindInstances (turns_left t)
+behind_instances t (Post number) next other = subst IsBehindInstances (sym next.1) tt
+behind_instances t (Await on wanted) next other = subst IsBehindInstances (sym next.1) tt
+behind_instances t (Phase e) next other = subst IsBehindInstances (sym next.1) tt
+behind_instances t (Work stop) next other = absurd (other stop refl)
+behind_instances t End next other = subst IsBehindInstances (sym next) tt
+
+-- no round is left and nothing pends: it is something
+pub something : (c : StyledTurns) (n : Next) → IsOpen c n → c.step ≡ c.steps → places_pending c.pending ≡ [] → IsSomeTurn c n
+something c n (in_rounds lt) rounds none = absurd (omega (arith, lt, rounds))
+something c n (pends at k later is) rounds none = absurd (let clash : k ∷ later ≡ [] = sym is ∙ none in cc)
+something c n (turns at some) rounds none = some
+
+-- a counter that isn't passed by signals comes next
+pub post_comes : (c : StyledTurns) (number : ℕ) (rest : List Turn) → c.step ≡ c.steps → places_pending c.pending ≡ [] → is_signalled c.style (styled_tree c) (styled_plan c) number ≡ false → turns_left c.turns ≡ posts number ∷ rest →
+    (more : List StyledTurn) × (styled_left c ≡ sets counter number ∷ more)
+post_comes c number rest rounds none off is =
+    let later = styled c.style (styled_tree c) (styled_plan c) (styled_processor c) (closed (standing c)) rest in
+    (later, post_first c rounds number rest is none ∙ ap (λ b. (if b then [] else sets counter number ∷ []) ++ later) off)
+
+pub await_comes : (c : StyledTurns) (on wanted : ℕ) (rest : List Turn) → c.step ≡ c.steps → places_pending c.pending ≡ [] → is_signalled c.style (styled_tree c) (styled_plan c) wanted ≡ false → turns_left c.turns ≡ awaits on wanted ∷ rest →
+    (more : List StyledTurn) × (styled_left c ≡ waits counter on wanted ∷ more)
+await_comes c on wanted rest rounds none off is =
+    let later = styled c.style (styled_tree c) (styled_plan c) (styled_processor c) (closed (standing c)) rest in
+    (later, await_first c rounds on wanted rest is none ∙ ap (λ b. (if b then [] else waits counter on wanted ∷ []) ++ later) off)
+
+-- ---- rounds
+
+pub round_passed : (c : StyledTurns) → c.step < c.steps → styled_left c ≡ round_turn (styled_plan c).workers (styled_processor c) c.first c.step ∷ styled_left (record c { step = c.step + 1 })
+round_passed c lt = ap (λ l. l ++ styled c.style (styled_tree c) (styled_plan c) (styled_processor c) (standing c) (turns_left c.turns)) (next_round (styled_plan c).workers (styled_processor c) c.first c.step c.steps lt)
+
+pub signal_turn : (workers p first step : ℕ) → step % 2 ≡ 0 → round_turn workers p first step ≡ sets signal (first + step / 2)
+signal_turn workers p first step even = ap (λ k. if k == 0 then sets signal (first + step / 2) else waits signal (awaited_in_round workers (step / 2) p) (first + step / 2)) even
+
+pub await_turn : (workers p first step : ℕ) → step % 2 ≡ 1 → round_turn workers p first step ≡ waits signal (awaited_in_round workers (step / 2) p) (first + step / 2)
+await_turn workers p first step odd = ap (λ k. if k == 0 then sets signal (first + step / 2) else waits signal (awaited_in_round workers (step / 2) p) (first + step / 2)) odd
+
+-- ---- it stays sound
+
+pub stepped_sound : (c : StyledTurns) → AreStyled c → c.step < c.steps → AreStyled (record c { step = c.step + 1 })
+stepped_sound c s lt = record {
+  formed = s.formed;
+  fits = s.fits;
+  worker = s.worker;
+  few_cells = s.few_cells;
+  sound = s.sound;
+  same_tree = s.same_tree;
+  same_plan = s.same_plan;
+  same_processor = s.same_processor;
+  has = s.has;
+  watched = s.watched;
+  own = s.own;
+  all_steps = s.all_steps;
+  within = omega (arith, lt);
+  first_low = s.first_low;
+  phases = s.phases;
+  unwatched = λ w. absurd (omega (arith, lt, (s.unwatched w).no_round));
+}
+
+pub closed_sound : (c : StyledTurns) (k : ℕ) → AreStyled c → length c.pending ≡ 32 → ShowsClosing c k → AreStyled (record c { pending = slice_set c.pending k false })
+closed_sound c k s long shows =
+    moved c c.turns (slice_set c.pending k false) s s.sound refl refl refl (λ j is. s.own.among j (still_among c.pending k j long shows.small is)) (λ w. (s.phases w).numbered)
+    (λ w. absurd (let clash : [] ≡ k ∷ places_pending (slice_set c.pending k false) = sym (ap places_pending (s.unwatched w).none) ∙ shows.pending in cc))
+
+-- past an instance
+pub worked_sound : (c : StyledTurns) (t : Turns) (bs : List Bool) (i : Instance) (u : Turn) (rest : List Turn) → AreStyled c → AreSound t → turns_tree t ≡ turns_tree c.turns → turns_plan t ≡ turns_plan c.turns → turns_processor t ≡ turns_processor c.turns →
+    turns_left c.turns ≡ works i ∷ rest → turns_left c.turns ≡ u ∷ turns_left t → ((k : ℕ) → slice_index_or bs k false ≡ true → IsOwnPlace (own_loop (styled_tree c) (styled_plan c) c.place) k) → (c.is_watched ≡ false → bs ≡ none_pending) → AreStyled (record c { turns = t; pending = bs })
+worked_sound c t bs i u rest s sound tree plan processor is passed among none =
+    moved c t bs s sound tree plan processor among
+    (λ w. numbered_tail (length (phases (styled_tree c) (styled_plan c).cut.marks)) (suc (phases_passed c.phases)) (turns_left c.turns) (turns_left t) u passed other (s.phases w).numbered) none
+  where
+    other : (k : ℕ) → u ≡ begins k → ⊥
+    other k at = absurd (let clash : works i ∷ rest ≡ begins k ∷ turns_left t = sym is ∙ passed ∙ ap (λ v. v ∷ turns_left t) at in cc)

@@ -1,0 +1,168 @@
+-- The styled turns of a processor do what its acts do along the timeline.
+use Rattle.std.proofs.Common.{◌≡◌, ◌==◌, ◌&&◌, ◌||◌, ℕ, ◌+◌, ◌-◌, ◌<◌, ◌≤◌, nat_lt, Bool, true, false, List, [], ◌∷◌, ◌++◌, length, map, Option, Some, None, if◌then◌else◌, refl, ap, sym, ◌∙◌, arith}
+use Rattle.std.specs.Prelude.{position, slice_get}
+use Rattle.std.specs.List.{flat_map, list_any}
+use Rattle.std.specs.Option.{option_map, option_or}
+use Rattle.std.proofs.lemmas.Bool.{eqb-true, lt-ltb, ltb-true}
+use Rattle.std.proofs.lemmas.List.Quantifiers.{position-Some}
+use Rattle.std.proofs.lemmas.Option.{slice_get_within}
+use Rattle.nest_tree.specs.Limits.{IsWithinLimits}
+use Rattle.nest_tree.specs.Tree.{Tree, Work, assign, print, param_values}
+use Rattle.nest_tree.specs.WellFormed.{IsWellFormed}
+use Rattle.nest_model.specs.Accesses.{loads_of, store_of}
+use Rattle.nest_model.specs.Instances.{Instance}
+use Rattle.nest_model.specs.Memory.{assigned_value, line_of}
+use Rattle.nest_model.specs.Ranges.{IsInRange}
+use Rattle.nest_model.specs.Visits.{Visit}
+use Rattle.own_scalars.specs.OwnScalars.{is_of}
+use Rattle.owner_partition.specs.Phases.{phases}
+use Rattle.sync_plan.specs.Fit.{IsFit}
+use Rattle.sync_plan.specs.Own.{OwnLoop, at_slot, own_cell, own_loop, own_of, place_in}
+use Rattle.sync_plan.specs.Shape.{static_phases}
+use Rattle.sync_plan.specs.declared.plan.Plan.{Plan}
+use Rattle.own_cells.specs.OwnCells.{place_assigned}
+use Rattle.spmd_model.specs.Deeds.{posting, awaiting, deed_of, instance_deeds, last_deed, loading, owned_by}
+use Rattle.spmd_model.specs.Styled.{machine_by}
+use Rattle.spmd_model.specs.StyledDeeds.{HasNoOwn, closing_deeds, deeds_by, own_deeds}
+use Rattle.spmd_model.specs.Timelines.{acts_of, counter}
+use Rattle.spmd_model.specs.declared.style.Style.{Style}
+use Rattle.spmd_model.specs.declared.style.Style.TheVariants.{Arrive}
+use Rattle.spmd_model.proofs.NoOwnDeeds.{plain_deeds}
+use Rattle.spmd_model.proofs.OwnTexts.{AreOwnIn, own_in_phase}
+use Rattle.spmd_model.proofs.StyledDeeds.{styled_deeds}
+use Rattle.spmd_turns.specs.Turns.{Turn, posts, awaits, begins, works, turn_deeds, turns_from}
+use Rattle.spmd_turns.proofs.TurnDeeds.{turns_do}
+use Rattle.styled_turns.specs.StyledTurns.{closes, Standing, all_rounds, begun, closings, ends_phase, first_standing, is_watched, no_phase, none_pending, places_pending, styled}
+use Rattle.styled_turns.proofs.ClosingDeeds.{closings_do}
+use Rattle.styled_turns.proofs.ClosingMarks.{is_at, marks, places_are}
+use Rattle.styled_turns.proofs.FrontDeeds.{behind_all, doing}
+use Rattle.styled_turns.proofs.KnownOwn.{none_at, nothing_marked, unwatched_none}
+use Rattle.styled_turns.proofs.LastOwners.{owner_keeps}
+use Rattle.styled_turns.proofs.OwnSlots.{few_privates, few_sums, slot_private, slot_sum}
+use Rattle.styled_turns.proofs.PhaseByPhase.{by_phases}
+use Rattle.styled_turns.proofs.StyledLists.{arrives, no_signals, plainly_begun}
+use Rattle.styled_turns.proofs.SumMarks.{few, sum_pends}
+
+-- ---- the closings of a phase
+
+any_equal : {X : Type 0} (f g : X → Bool) (xs : List X) → ((x : X) → f x ≡ g x) → list_any f xs ≡ list_any g xs
+any_equal f g [] same = refl
+any_equal f g (x ∷ xs) same = ap (λ b. b || list_any f xs) (same x) ∙ ap (λ b. g x || b) (any_equal f g xs same)
+
+none_any : {X : Type 0} (f : X → Bool) (xs : List X) → ((x : X) → f x ≡ false) → list_any f xs ≡ false
+none_any f [] none = refl
+none_any f (x ∷ xs) none = ap (λ b. b || list_any f xs) (none x) ∙ none_any f xs none
+
+not_true : (b : Bool) → (b ≡ true → ⊥) → b ≡ false
+not_true true h = absurd (h refl)
+not_true false h = refl
+
+-- an assignment marks a sum scalar's place or none
+not_marked : (sums : List ℕ) (k : ℕ) (w : Work) → ((n : ℕ) → n < length sums → 16 + n ≡ k → ⊥) → is_at (place_assigned sums w) k ≡ false
+not_marked sums k (print x) other = refl
+not_marked sums k (assign a) other = by (position (λ v. is_of v a.target) sums) refl
+  where
+    by : (o : Option ℕ) → position (λ v. is_of v a.target) sums ≡ o → is_at (option_map (λ n. 16 + n) o) k ≡ false
+    by None at = refl
+    by (Some n) at = not_true (16 + n == k) (λ same. other n (position-Some (λ v. is_of v a.target) sums n 0 at).0 (eqb-true (16 + n) k same))
+
+module _ (tree : Tree) (plan : Plan) (p k : ℕ) (v : Visit) (formed : IsWellFormed tree) (fits : IsFit tree plan) (limits : IsWithinLimits tree) (ranges : IsInRange tree) (at : slice_get (phases tree plan.cut.marks) k ≡ Some v) where
+  abbrev o : AreOwnIn tree plan v
+  o = own_in_phase tree plan k v formed fits at
+
+  abbrev own : OwnLoop
+  own = own_loop tree plan v.place
+
+  abbrev mine : List Instance
+  mine = owned_by tree (slice_get plan.anchors (v.place - 1)) plan.workers p v
+
+  abbrev mark : ℕ → Instance → Bool
+  mark = marks tree plan p v.place (few tree plan k v formed fits ranges at p)
+
+  abbrev ends : Instance → Bool
+  ends i = ends_phase (param_values tree) (slice_get (static_phases tree plan.cut.marks) (v.place - 1)) i.loops
+
+  abbrev pends : ℕ → Bool
+  pends j = list_any (mark j) mine
+
+  same_place : (is : List Instance) (s : Standing) → (behind_all tree plan p s is).place ≡ s.place
+  same_place [] s = refl
+  same_place (i ∷ is) s = same_place is _
+
+  private_pends : (j u : ℕ) → slice_get own.privates j ≡ Some u → pends j ≡ list_any ends mine
+  private_pends j u there =
+      let lt = slice_get_within own.privates j u there in
+      let less = few_privates tree plan v o in
+      any_equal (mark j) ends mine (λ i. ap (λ b. b || (nat_lt j (length own.privates) && ends i)) (not_marked own.sums j i.what (λ n inside is. omega (arith, is, lt, less))) ∙ ap (λ b. b && ends i) (lt-ltb j (length own.privates) lt))
+
+  no_private : (j : ℕ) → length own.privates ≤ j → j < 16 → pends j ≡ false
+  no_private j ge lt =
+      none_any (mark j) mine (λ i. ap (λ b. b || (nat_lt j (length own.privates) && ends i)) (not_marked own.sums j i.what (λ n inside is. omega (arith, is, lt)))
+      ∙ ap (λ b. b && ends i) (not_true (nat_lt j (length own.privates)) (λ yes_it_is. omega (arith, ltb-true j (length own.privates) yes_it_is, ge))))
+
+  no_sum : (j : ℕ) → length own.sums ≤ j → j < 16 → pends (16 + j) ≡ false
+  no_sum j ge lt =
+      let less = few_privates tree plan v o in
+      none_any (mark (16 + j)) mine (λ i. ap (λ b. b || (nat_lt (16 + j) (length own.privates) && ends i)) (not_marked own.sums (16 + j) i.what (λ n inside is. omega (arith, is, inside, ge)))
+      ∙ ap (λ b. b && ends i) (not_true (nat_lt (16 + j) (length own.privates)) (λ yes_it_is. omega (arith, ltb-true (16 + j) (length own.privates) yes_it_is, less))))
+
+  phase_closes : (barriers : ℕ) → doing tree plan p (closings (behind_all tree plan p (record { place = v.place; pending = none_pending; barriers = barriers }) mine)) ≡ closing_deeds tree plan p v
+  phase_closes barriers =
+      let first : Standing = record { place = v.place; pending = none_pending; barriers = barriers } in
+      let last = behind_all tree plan p first mine in
+      ap (λ place. doing tree plan p (map (closes place) (places_pending last.pending))) (same_place mine first)
+      ∙ ap (λ ks. doing tree plan p (map (closes v.place) ks)) (places_are tree plan p v.place (few tree plan k v formed fits ranges at p) mine barriers)
+      ∙ closings_do tree plan p v (few_privates tree plan v o) (few_sums tree plan v o) (slot_private tree plan v o) (slot_sum tree plan v o) pends (list_any ends mine) private_pends no_private
+      (λ u among. owner_keeps tree plan p k v formed fits limits at u among) (sum_pends tree plan k v formed fits ranges at p) no_sum
+
+-- ---- where no phase is watched
+
+no_slot : (tree : Tree) (plan : Plan) (place p c : ℕ) → HasNoOwn tree plan place → own_cell (own_of tree plan place) p c ≡ c
+no_slot tree plan place p c none =
+    ap (at_slot (own_of tree plan place) p c) (
+    ap (λ vs. option_or (place_in tree vs c) (option_map (λ k. 16 + k) (place_in tree (own_loop tree plan place).sums c))) none.privates
+    ∙ ap (λ vs. option_map (λ k. 16 + k) (place_in tree vs c)) none.sums
+    )
+
+same_cells : (f : ℕ → ℕ) (cells : List ℕ) → ((c : ℕ) → f c ≡ c) → map f cells ≡ cells
+same_cells f [] same = refl
+same_cells f (c ∷ cells) same = ap (λ d. d ∷ map f cells) (same c) ∙ ap (λ cs. c ∷ cs) (same_cells f cells same)
+
+same_store : (f : ℕ → ℕ) (o : Option ℕ) → ((c : ℕ) → f c ≡ c) → option_map f o ≡ o
+same_store f None same = refl
+same_store f (Some c) same = ap Some (same c)
+
+same_deeds : (tree : Tree) (plan : Plan) (place p : ℕ) (i : Instance) → HasNoOwn tree plan place → own_deeds tree (own_of tree plan place) p i ≡ instance_deeds tree i
+same_deeds tree plan place p i none =
+    let f = own_cell (own_of tree plan place) p in
+    ap (λ cs. map loading cs ++ last_deed (option_map f (store_of tree i)) false (assigned_value tree i) (line_of tree i) ∷ []) (same_cells f (loads_of tree i) (λ c. no_slot tree plan place p c none))
+    ∙ ap (λ o. map loading (loads_of tree i) ++ last_deed o false (assigned_value tree i) (line_of tree i) ∷ []) (same_store f (store_of tree i) (λ c. no_slot tree plan place p c none))
+
+plainly : (tree : Tree) (plan : Plan) (p : ℕ) → is_watched Arrive plan ≡ false → (ts : List Turn) → doing tree plan p (styled Arrive tree plan p first_standing ts) ≡ flat_map (turn_deeds tree) ts
+plainly tree plan p none [] = refl
+plainly tree plan p none (posts number ∷ rest) = ap (λ l. posting counter number ∷ l) (plainly tree plan p none rest)
+plainly tree plan p none (awaits on wanted ∷ rest) = ap (λ l. awaiting counter on wanted ∷ l) (plainly tree plan p none rest)
+plainly tree plan p none (begins e ∷ rest) =
+    ap (λ b. doing tree plan p ((if b then all_rounds plan.workers p 0 else []) ++ styled Arrive tree plan p (begun Arrive tree plan first_standing e) rest)) (no_signals plan (slice_get (phases tree plan.cut.marks) (e - 1)))
+    ∙ ap (λ s. doing tree plan p (styled Arrive tree plan p s rest)) (plainly_begun Arrive tree plan 0 e none) ∙ plainly tree plan p none rest
+plainly tree plan p none (works i ∷ rest) =
+    let own = none_at tree plan no_phase (unwatched_none Arrive plan none) in
+    ap (λ l. own_deeds tree (own_of tree plan no_phase) p i ++ l)
+    (ap (λ bs. doing tree plan p (styled Arrive tree plan p (record { place = no_phase; pending = bs; barriers = 0 }) rest)) (nothing_marked tree plan first_standing i own) ∙ plainly tree plan p none rest)
+    ∙ ap (λ l. l ++ flat_map (turn_deeds tree) rest) (same_deeds tree plan no_phase p i own)
+
+-- ---- all turns
+
+pub turns_act : (style : Style) (tree : Tree) (plan : Plan) (p : ℕ) → IsWellFormed tree → IsWithinLimits tree → IsFit tree plan → IsInRange tree → p < plan.workers →
+    doing tree plan p (styled style tree plan p first_standing (turns_from tree plan p 1 (phases tree plan.cut.marks))) ≡ map (deed_of (machine_by style tree plan)) (acts_of (machine_by style tree plan) p)
+turns_act style tree plan p formed limits fits ranges worker = by (is_watched style plan) refl ∙ sym (styled_deeds style tree plan p formed fits worker)
+  where
+    by : (b : Bool) → is_watched style plan ≡ b → doing tree plan p (styled style tree plan p first_standing (turns_from tree plan p 1 (phases tree plan.cut.marks))) ≡ deeds_by style tree plan p 1 0 (phases tree plan.cut.marks)
+    by true watched =
+        by_phases style tree plan p worker watched (λ k v barriers at. phase_closes tree plan p k v formed fits limits ranges at barriers) 1 (phases tree plan.cut.marks) no_phase 0 none_pending
+        (λ k v at. let index : 1 + k - 1 ≡ k = omega arith in ap (slice_get (phases tree plan.cut.marks)) index ∙ at)
+    by false none =
+        let is = arrives style plan none in
+        let off : is_watched Arrive plan ≡ false = ap (λ s. is_watched s plan) (sym is) ∙ none in
+        ap (λ s. doing tree plan p (styled s tree plan p first_standing (turns_from tree plan p 1 (phases tree plan.cut.marks)))) is ∙ plainly tree plan p off (turns_from tree plan p 1 (phases tree plan.cut.marks)) ∙ turns_do tree plan p 1 (phases tree plan.cut.marks)
+        ∙ sym (plain_deeds tree plan p 1 0 (phases tree plan.cut.marks) (λ place. none_at tree plan place (unwatched_none Arrive plan off))) ∙ ap (λ s. deeds_by s tree plan p 1 0 (phases tree plan.cut.marks)) (sym is)

@@ -1,0 +1,47 @@
+use Rattle.std.proofs.Common.{◌≡◌, ◌∷◌, [], false, Option, None, Some, MatchOption, ℕ, refl, subst, arith}
+use Rattle.std.specs.Prelude.{slice_set}
+use Rattle.spmd_turns.specs.TurnsLeft.{IsNext}
+use Rattle.styled_turns.specs.StyledTurns.{places_pending}
+use Rattle.styled_turns.specs.StyledLeft.{IsSomeTurn}
+use Rattle.styled_turns.specs.declared.turns.StyledTurns.{StyledTurns}
+use Rattle.styled_turns.proofs.Shown.{await_comes, behind_instances, post_comes, something}
+use Rattle.styled_turns.proofs.Steps.{closing_comes}
+use Rattle.styled_turns.proofs.StyledLists.{work_first}
+use Rattle.styled_turns.proofs.turns.StyledTurns.shown.Goals as goal
+
+none_pends : (c : StyledTurns) (o : Option ℕ) → MatchOption o (places_pending c.pending ≡ []) (λ k. places_pending c.pending ≡ k ∷ places_pending (slice_set c.pending k false)) → ((k : ℕ) → o ≡ Some k → ⊥) → places_pending c.pending ≡ []
+none_pends c None first other = first
+none_pends c (Some k) first other = absurd (other k refl)
+
+pub returns-in-Work : goal.returns-in-Work
+returns-in-Work c =
+    let s = c.args.self.now in
+    let rounds : s.step ≡ s.steps = omega (arith, c.requires.sound.within, c.if-self.false) in
+    let n = subst (IsNext s.turns) c.in-Work.is c.requires.looked.next in
+    (n.0, (_, work_first s rounds n.0.instance n.1 n.2), record { next = n; end = c.requires.looked.end; rounds = rounds })
+
+pub returns-in-Some : goal.returns-in-Some
+returns-in-Some c =
+    let s = c.args.self.now in
+    let rounds : s.step ≡ s.steps = omega (arith, c.requires.sound.within, c.if-self.false) in
+    let behind = behind_instances s.turns c.args.next c.requires.looked.next c.in_default.not-Work in
+    let k = c.in-Some.place in
+    (closing_comes s k (places_pending (slice_set s.pending k false)) rounds behind c.in-Some.ensures.first, record { rounds = rounds; behind = behind; small = c.in-Some.ensures.small; pending = c.in-Some.ensures.first })
+
+pub returns-in-Post : goal.returns-in-Post
+returns-in-Post c =
+    let s = c.args.self.now in
+    let rounds : s.step ≡ s.steps = omega (arith, c.requires.sound.within, c.if-self.false) in
+    let none = none_pends s c.first_pending.result c.first_pending.ensures.first c.in_default-first_pending.not-Some in
+    let off = subst (IsSomeTurn s) c.in-Post.is (something s c.args.next c.requires.open rounds none) in
+    let n = subst (IsNext s.turns) c.in-Post.is c.requires.looked.next in
+    (post_comes s c.in-Post.number n.0 rounds none off n.1, record { shows = record { next = n; end = c.requires.looked.end; rounds = rounds }; none = none; by_counters = off })
+
+pub returns-in-Await : goal.returns-in-Await
+returns-in-Await c =
+    let s = c.args.self.now in
+    let rounds : s.step ≡ s.steps = omega (arith, c.requires.sound.within, c.if-self.false) in
+    let none = none_pends s c.first_pending.result c.first_pending.ensures.first c.in_default-first_pending.not-Some in
+    let off = subst (IsSomeTurn s) c.in-Await.is (something s c.args.next c.requires.open rounds none) in
+    let n = subst (IsNext s.turns) c.in-Await.is c.requires.looked.next in
+    (await_comes s c.in-Await.on c.in-Await.wanted n.0 rounds none off n.1, record { shows = record { next = n; end = c.requires.looked.end; rounds = rounds }; none = none; by_counters = off })

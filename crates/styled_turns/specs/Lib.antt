@@ -1,0 +1,2 @@
+pub mod StyledTurns
+pub mod StyledLeft

@@ -1,0 +1,247 @@
+-- What a cursor of styled turns shows, and what it keeps.
+use Rattle.std.specs.Prelude.{ℕ, suc, ◌+◌, ◌-◌, ◌*◌, ◌≡◌, ◌≤◌, ◌<◌, ◌⊎◌, ℤ, Bool, true, false, List, [], ◌∷◌, ◌++◌, Option, Some, None, drop, length, map, slice_get, slice_index_or, slice_set}
+use Rattle.std.specs.List.{range_with_len}
+use Rattle.std.specs.Option.{MatchOption}
+use Rattle.std.specs.Borrow.{Bor}
+use Rattle.nest_tree.specs.Limits.{most_work}
+use Rattle.nest_tree.specs.Tree.{Tree, param_values}
+use Rattle.nest_tree.specs.Layout.{cell_count}
+use Rattle.nest_tree.specs.View.{loop_of, tree_of}
+use Rattle.nest_tree.specs.WellFormed.{IsWellFormed}
+use Rattle.nest_tree.specs.declared.tree.Nest.{Nest}
+use Rattle.nest_walk.specs.Paths.{Round}
+use Rattle.nest_walk.specs.Texts.{Placed}
+use Rattle.nest_walk.specs.declared.path.Path.{Path}
+use Rattle.owner_partition.specs.Marks.{enters_outer}
+use Rattle.owner_partition.specs.Phases.{phases as all_phases}
+use Rattle.owner_partition.specs.declared.phases.PhaseCursor.{PhaseCursor}
+use Rattle.owner_partition.specs.PhasesLeft.{phases_enters, phases_left, phases_passed, phases_tree}
+use Rattle.sync_plan.specs.Fit.{IsFit}
+use Rattle.sync_plan.specs.Own.{OwnLoop, own_loop}
+use Rattle.sync_plan.specs.Shape.{static_phases}
+use Rattle.sync_plan.specs.declared.plan.Plan.{Plan}
+use Rattle.own_cells.specs.OwnCells.{AreFew, AreOwnCells}
+use Rattle.own_cells.specs.declared.cells.OwnCells.{OwnCells}
+use Rattle.spmd_model.specs.Rounds.{rounds_of}
+use Rattle.spmd_model.specs.Timelines.{counter, signal}
+use Rattle.spmd_model.specs.declared.style.Style.{Style}
+use Rattle.spmd_turns.specs.Turns.{Turn, posts, awaits, begins, works}
+use Rattle.spmd_turns.specs.TurnsLeft.{AreSound, IsInstance, IsNext, at_turn, turns_left, turns_path, turns_plan, turns_processor, turns_rounds, turns_tree}
+use Rattle.spmd_turns.specs.declared.turns.Next.{Next}
+use Rattle.styled_turns.specs.StyledTurns.{StyledTurn, sets, waits, runs, closes, Standing, ends_phase, has_own, is_signalled, is_watched, mark_first, no_phase, none_pending, places_pending, round_turn, styled}
+use Rattle.styled_turns.specs.declared.turns.StyledNext.{StyledNext}
+use Rattle.styled_turns.specs.declared.turns.StyledNext.TheVariants.{Post, Await, Signal, AwaitSignal, Work, Close, End}
+use Rattle.styled_turns.specs.declared.turns.StyledTurns.{StyledTurns}
+use Rattle.spmd_turns.specs.declared.turns.Next.TheVariants as Plain
+
+abbrev pub styled_tree : StyledTurns → Tree
+styled_tree c = tree_of c.program.now
+
+abbrev pub styled_plan : StyledTurns → Plan
+styled_plan c = c.plan.now
+
+abbrev pub styled_processor : StyledTurns → ℕ
+styled_processor c = c.processor
+
+abbrev pub styled_style : StyledTurns → Style
+styled_style c = c.style
+
+abbrev pub styled_rounds : StyledTurns → List Round
+styled_rounds c = turns_rounds c.turns
+
+abbrev pub styled_path : StyledTurns → Path
+styled_path c = turns_path c.turns
+
+abbrev pub styled_own : StyledTurns → OwnCells
+styled_own c = c.own
+
+abbrev pub styled_place : StyledTurns → ℕ
+styled_place c = c.place
+
+abbrev pub standing : StyledTurns → Standing
+standing c = record { place = c.place; pending = c.pending; barriers = c.barriers }
+
+-- the rounds that are left of a barrier of so many processors, whose first round has this number, behind so many half rounds of them all
+abbrev pub rounds_left : ℕ → ℕ → ℕ → ℕ → ℕ → List StyledTurn
+rounds_left workers p first step steps = map (round_turn workers p first) (range_with_len step (steps - step))
+
+-- what is left
+abbrev pub styled_left : StyledTurns → List StyledTurn
+styled_left c = rounds_left (styled_plan c).workers (styled_processor c) c.first c.step c.steps ++ styled c.style (styled_tree c) (styled_plan c) (styled_processor c) (standing c) (turns_left c.turns)
+
+-- the static phase with a place is this loop
+abbrev pub IsPlaced : Option Placed → Nest → Type 0
+IsPlaced None nest = ⊥
+IsPlaced (Some s) nest = s.what ≡ loop_of nest
+
+-- phases begin one by one from this number on, up to a count
+abbrev pub AreNumbered : ℕ → ℕ → List Turn → Type 0
+AreNumbered count e [] = Unit {0}
+AreNumbered count e (posts number ∷ rest) = AreNumbered count e rest
+AreNumbered count e (awaits on wanted ∷ rest) = AreNumbered count e rest
+AreNumbered count e (begins k ∷ rest) = (k ≡ e) × (e ≤ count) × AreNumbered count (suc e) rest
+AreNumbered count e (works i ∷ rest) = AreNumbered count e rest
+
+-- a place is that of an own scalar
+abbrev pub IsOwnPlace : OwnLoop → ℕ → Type 0
+IsOwnPlace own k = (k < length own.privates) ⊎ ((16 ≤ k) × (k - 16 < length own.sums))
+
+-- these are the own scalars of the static phase with this place, and its loop, where it has private ones; those that pend are among them
+pub record KnowsOwn (tree : Tree) (plan : Plan) (place : ℕ) (own : OwnCells) (nest : Option (Bor Nest)) (pending : List Bool) : Type 0 where
+  pub few : AreFew tree (own_loop tree plan place)
+  pub cells : AreOwnCells tree (own_loop tree plan place) own
+  pub loop : MatchOption nest ((own_loop tree plan place).privates ≡ []) (λ n. IsPlaced (slice_get (static_phases tree plan.cut.marks) (place - 1)) n.now)
+  pub among : (k : ℕ) → slice_index_or pending k false ≡ true → IsOwnPlace (own_loop tree plan place) k
+
+-- its phases are those of the plan, and begin one by one
+pub record WatchesPhases (tree : Tree) (plan : Plan) (phases : PhaseCursor) (barriers : ℕ) (left : List Turn) : Type 0 where
+  pub walked : phases_tree phases ≡ tree
+  pub entered : phases_enters phases ≡ enters_outer plan.cut.marks
+  pub behind : phases_left phases ≡ drop (phases_passed phases) (all_phases tree plan.cut.marks)
+  pub numbered : AreNumbered (length (all_phases tree plan.cut.marks)) (suc (phases_passed phases)) left
+  pub few_barriers : barriers ≤ phases_passed phases
+
+-- where phases aren't watched nothing pends
+pub record WatchesNone (place : ℕ) (pending : List Bool) (step steps : ℕ) : Type 0 where
+  pub no_place : place ≡ no_phase
+  pub none : pending ≡ none_pending
+  pub no_round : step ≡ steps
+
+pub record AreStyled (c : StyledTurns) : Type 0 where
+  pub formed : IsWellFormed (styled_tree c)
+  pub fits : IsFit (styled_tree c) (styled_plan c)
+  pub worker : styled_processor c < (styled_plan c).workers
+  pub few_cells : cell_count (styled_tree c) ≤ 1048576
+  pub sound : AreSound c.turns
+  pub same_tree : turns_tree c.turns ≡ styled_tree c
+  pub same_plan : turns_plan c.turns ≡ styled_plan c
+  pub same_processor : turns_processor c.turns ≡ styled_processor c
+  pub has : c.has_own ≡ has_own (styled_plan c)
+  pub watched : c.is_watched ≡ is_watched c.style (styled_plan c)
+  pub own : KnowsOwn (styled_tree c) (styled_plan c) c.place c.own c.nest c.pending
+  pub all_steps : c.steps ≡ rounds_of (styled_plan c).workers * 2
+  pub within : c.step ≤ c.steps
+  pub first_low : c.first ≤ most_work * 6 + 1
+  pub phases : c.is_watched ≡ true → WatchesPhases (styled_tree c) (styled_plan c) c.phases c.barriers (turns_left c.turns)
+  pub unwatched : c.is_watched ≡ false → WatchesNone c.place c.pending c.step c.steps
+
+-- of the same run
+pub record IsSameRun (old new : StyledTurns) : Type 0 where
+  pub program : styled_tree new ≡ styled_tree old
+  pub plan : styled_plan new ≡ styled_plan old
+  pub processor : styled_processor new ≡ styled_processor old
+  pub style : styled_style new ≡ styled_style old
+
+-- this is the first of what is left
+abbrev pub ComesFirst : StyledTurns → StyledTurn → Type 0
+ComesFirst c t = (rest : List StyledTurn) × (styled_left c ≡ t ∷ rest)
+
+-- this comes next of the plain turns, where no round is left
+pub record ShowsPlain (c : StyledTurns) (shown : Next) : Type 0 where
+  pub next : IsNext c.turns shown
+  pub end : at_turn c.turns ≡ false → turns_left c.turns ≡ []
+  pub rounds : c.step ≡ c.steps
+
+-- the same where nothing pends, and what is set or awaited are counters
+pub record ShowsCounter (c : StyledTurns) (shown : Next) (number : ℕ) : Type 0 where
+  pub shows : ShowsPlain c shown
+  pub none : places_pending c.pending ≡ []
+  pub by_counters : is_signalled c.style (styled_tree c) (styled_plan c) number ≡ false
+
+-- no instance comes next
+abbrev pub IsBehindInstances : List Turn → Type 0
+IsBehindInstances [] = Unit {0}
+IsBehindInstances (posts number ∷ rest) = Unit {0}
+IsBehindInstances (awaits on wanted ∷ rest) = Unit {0}
+IsBehindInstances (begins e ∷ rest) = Unit {0}
+IsBehindInstances (works i ∷ rest) = ⊥
+
+-- the own scalar with this place is closed next
+pub record ShowsClosing (c : StyledTurns) (k : ℕ) : Type 0 where
+  pub rounds : c.step ≡ c.steps
+  pub behind : IsBehindInstances (turns_left c.turns)
+  pub small : k < 32
+  pub pending : places_pending c.pending ≡ k ∷ places_pending (slice_set c.pending k false)
+
+-- what comes next
+abbrev pub IsStyledNext : StyledTurns → StyledNext → Type 0
+IsStyledNext c (Post number) = ComesFirst c (sets counter number) × ShowsCounter c (Plain.Post number) number
+IsStyledNext c (Await on wanted) = ComesFirst c (waits counter on wanted) × ShowsCounter c (Plain.Await on wanted) wanted
+IsStyledNext c (Signal number) = ComesFirst c (sets signal number) × (c.step < c.steps)
+IsStyledNext c (AwaitSignal on wanted) = ComesFirst c (waits signal on wanted) × (c.step < c.steps)
+IsStyledNext c (Work stop) = (at : IsInstance (turns_tree c.turns) (styled_rounds c) stop) × ComesFirst c (runs c.place at.instance) × ShowsPlain c (Plain.Work stop)
+IsStyledNext c (Close k) = ComesFirst c (closes c.place k) × ShowsClosing c k
+IsStyledNext c End = styled_left c ≡ []
+
+-- the end is not what comes next
+abbrev pub IsTurn : StyledNext → Type 0
+IsTurn (Post number) = Unit {0}
+IsTurn (Await on wanted) = Unit {0}
+IsTurn (Signal number) = Unit {0}
+IsTurn (AwaitSignal on wanted) = Unit {0}
+IsTurn (Work stop) = Unit {0}
+IsTurn (Close k) = Unit {0}
+IsTurn End = ⊥
+
+-- a plain turn that comes next is nothing here: a phase begins, or it is of the counters of a barrier that is passed by signals
+abbrev pub IsSilentTurn : StyledTurns → Next → Type 0
+IsSilentTurn c (Plain.Post number) = is_signalled c.style (styled_tree c) (styled_plan c) number ≡ true
+IsSilentTurn c (Plain.Await on wanted) = is_signalled c.style (styled_tree c) (styled_plan c) wanted ≡ true
+IsSilentTurn c (Plain.Phase e) = Unit {0}
+IsSilentTurn c (Plain.Work stop) = ⊥
+IsSilentTurn c Plain.End = ⊥
+
+pub record IsSilent (c : StyledTurns) (next : Next) : Type 0 where
+  pub rounds : c.step ≡ c.steps
+  pub none : places_pending c.pending ≡ []
+  pub turn : IsSilentTurn c next
+
+-- it is something, where no round is left and nothing pends
+abbrev pub IsSomeTurn : StyledTurns → Next → Type 0
+IsSomeTurn c (Plain.Post number) = is_signalled c.style (styled_tree c) (styled_plan c) number ≡ false
+IsSomeTurn c (Plain.Await on wanted) = is_signalled c.style (styled_tree c) (styled_plan c) wanted ≡ false
+IsSomeTurn c (Plain.Phase e) = ⊥
+IsSomeTurn c (Plain.Work stop) = Unit {0}
+IsSomeTurn c Plain.End = Unit {0}
+
+-- a round is left, or something pends, or it is something
+pub data IsOpen (c : StyledTurns) (next : Next) : Type 0 where
+  in_rounds : c.step < c.steps → IsOpen c next
+  pends : c.step ≡ c.steps → (k : ℕ) → (later : List ℕ) → places_pending c.pending ≡ k ∷ later → IsOpen c next
+  turns : c.step ≡ c.steps → IsSomeTurn c next → IsOpen c next
+
+-- what a look at the plain turns found
+pub record HasLooked (c : StyledTurns) (found : Next) : Type 0 where
+  pub next : IsNext c.turns found
+  pub end : at_turn c.turns ≡ false → turns_left c.turns ≡ []
+
+-- a counter with this number is set or awaited next
+abbrev pub IsCounterOf : List Turn → ℕ → Type 0
+IsCounterOf [] k = ⊥
+IsCounterOf (posts number ∷ rest) k = number ≡ k
+IsCounterOf (awaits on wanted ∷ rest) k = wanted ≡ k
+IsCounterOf (begins e ∷ rest) k = ⊥
+IsCounterOf (works i ∷ rest) k = ⊥
+
+-- the same where nothing else is left in front of it
+pub record IsBeforeCounter (c : StyledTurns) : Type 0 where
+  pub rounds : c.step ≡ c.steps
+  pub none : places_pending c.pending ≡ []
+  pub end : at_turn c.turns ≡ false → turns_left c.turns ≡ []
+  pub number : ℕ
+  pub counter : IsCounterOf (turns_left c.turns) number
+
+-- and where a phase begins next
+pub record IsBeforeBeginning (c : StyledTurns) : Type 0 where
+  pub rounds : c.step ≡ c.steps
+  pub none : places_pending c.pending ≡ []
+  pub end : at_turn c.turns ≡ false → turns_left c.turns ≡ []
+  pub phase : ℕ
+  pub rest : List Turn
+  pub begins_next : turns_left c.turns ≡ begins phase ∷ rest
+
+-- the private scalars of the phase are to be closed where the loops have these values exactly as this says
+abbrev pub EndsAlike : StyledTurns → List Bool → Bool → List ℤ → Type 0
+EndsAlike c pending ends loops =
+    mark_first pending (length (own_loop (styled_tree c) (styled_plan c) c.place).privates) ends
+    ≡ mark_first pending (length (own_loop (styled_tree c) (styled_plan c) c.place).privates) (ends_phase (param_values (styled_tree c)) (slice_get (static_phases (styled_tree c) (styled_plan c).cut.marks) (c.place - 1)) loops)

@@ -1,0 +1,475 @@
+// What a processor does, turn by turn.
+
+ghost use Rattle.std.specs.Prelude.{◌≡◌, ◌<◌, ◌≤◌, ℕ, List, [], slice_get};
+ghost use Rattle.nest_tree.specs.Limits.{IsWithinLimits};
+ghost use Rattle.nest_tree.specs.View.{tree_of};
+ghost use Rattle.nest_tree.specs.WellFormed.{IsWellFormed};
+ghost use Rattle.nest_walk.specs.RoundsOf.{rounds_of};
+ghost use Rattle.owner_partition.specs.Phases.{phases as phases_of};
+ghost use Rattle.sync_plan.specs.Fit.{IsFit};
+ghost use Rattle.spmd_turns.specs.Turns.{turns_from};
+ghost use Rattle.nest_tree.specs.Layout.{cell_count};
+ghost use Rattle.std.specs.Prelude.{MatchOption, Bool, ◌-◌, ◌==◌, not, length};
+ghost use Rattle.std.specs.List.{list_any};
+ghost use Rattle.owner_partition.specs.Marks.{is_sum_mark};
+ghost use Rattle.sync_plan.specs.Own.{own_loop};
+ghost use Rattle.sync_plan.specs.Shape.{static_phases};
+ghost use Rattle.own_cells.specs.OwnCells.{AreFew, AreOwnCells};
+ghost use Rattle.styled_turns.specs.StyledTurns.{gathered, has_own, has_signals_at, is_watched};
+ghost use Rattle.sync_plan.specs.declared.plan.Plan.{Plan};
+ghost use Rattle.styled_turns.specs.StyledLeft.{IsPlaced};
+
+use crate::pending::{first_pending, with_first, with_place};
+use crate::rounds::{awaited_in_round, rounds_of};
+use nest_tree::{Item, Nest, Program};
+use nest_walk::{Path, Stop};
+use own_cells::{OWN_PLACES, OwnCells, is_final};
+use owner_partition::{Mark, PhaseCursor, Privates, StaticPhase};
+use spmd_model::Style;
+use spmd_turns::{Boundary, Next, Turns};
+use sync_plan::Plan;
+
+/// What a processor does next.
+#[derive(Clone, Copy)]
+pub enum StyledNext<'a> {
+    /// It sets its own counter to this number.
+    Post(u64),
+    /// It awaits that the counter of another is at least a number.
+    Await { on: u32, wanted: u64 },
+    /// It sets its own signal to this number.
+    Signal(u64),
+    /// It awaits that the signal of another is at least a number.
+    AwaitSignal { on: u32, wanted: u64 },
+    /// It executes an instance, with the loops round it that the cursor shows.
+    Work(Stop<'a>),
+    /// It closes the own scalar with this place: the shared cell gets what its own cell holds.
+    Close(usize),
+    /// Nothing is left.
+    End,
+}
+
+// No static phase has this place.
+const NO_PHASE: u32 = u32::MAX;
+
+/// What is left of a processor's turns, in a style: the posts and awaits of each boundary, or the
+/// rounds of its signals; the instances that it owns; and behind those of a phase its closings. It
+/// takes no memory.
+#[derive(Drop)]
+pub struct StyledTurns<'a> {
+    program: &'a Program,
+    plan: &'a Plan,
+    processor: u32,
+    style: Style,
+    // the plain turns
+    turns: Turns<'a>,
+    // whether some phase has own scalars, and whether each phase is looked at as it begins
+    has_own: bool,
+    is_watched: bool,
+    // the phases that have begun, and the place of the last one's static phase
+    phases: PhaseCursor<'a>,
+    place: u32,
+    // the own scalars of that, and its loop, where it has private ones
+    own: OwnCells,
+    nest: Option<&'a Nest>,
+    // which own scalars are to be closed behind the instances, by their places
+    pending: [bool; OWN_PLACES],
+    // how many barriers by signals have begun; of the last one the number of the first round, how
+    // many half rounds are done, and how many there are
+    barriers: u64,
+    first: u64,
+    step: u32,
+    steps: u32,
+}
+
+impl<'a> StyledTurns<'a> {
+    ghost use Rattle.std.specs.Prelude.{◌∷◌, true, false};
+    ghost use Rattle.spmd_turns.specs.Turns.{boundary_at};
+    ghost use Rattle.spmd_turns.specs.TurnsLeft.{IsInstance, turns_boundary, turns_left, turns_plan, turns_tree};
+    ghost use Rattle.styled_turns.specs.StyledTurns.{StyledTurn, behind, first_standing, is_signalled, styled};
+    ghost use Rattle.styled_turns.specs.StyledLeft.{AreStyled, EndsAlike, HasLooked, IsBeforeBeginning, IsBeforeCounter, IsCounterOf, IsOpen, IsSameRun, IsSilent, IsStyledNext, IsTurn, standing, styled_left, styled_own, styled_plan, styled_processor, styled_rounds, styled_style, styled_tree};
+
+    /// All turns of a processor.
+    pub fn new(program: &'a Program, plan: &'a Plan, style: Style, processor: u32) -> Self
+        requires formed { IsWellFormed (tree_of program.now) }
+        requires limits { IsWithinLimits (tree_of program.now) }
+        requires fits { IsFit (tree_of program.now) plan.now }
+        requires worker { processor < plan.now.workers }
+        ensures sound { AreStyled result }
+        ensures turns { styled_left result ≡ styled style (tree_of program.now) plan.now processor first_standing (turns_from (tree_of program.now) plan.now processor 1 (phases_of (tree_of program.now) plan.now.cut.marks)) }
+        ensures program { styled_tree result ≡ tree_of program.now }
+        ensures plan { styled_plan result ≡ plan.now }
+        ensures processor { styled_processor result ≡ processor }
+        ensures style { styled_style result ≡ style }
+    {
+        let steps = rounds_of(plan.workers) * 2;
+        let has_own = has_own(plan);
+        StyledTurns {
+            program,
+            plan,
+            processor,
+            style,
+            turns: Turns::new(program, plan, processor),
+            has_own,
+            is_watched: is_watched(style, has_own),
+            phases: PhaseCursor::new(program, &plan.cut),
+            place: NO_PHASE,
+            own: OwnCells::none(),
+            nest: None,
+            pending: [false; OWN_PLACES],
+            barriers: 0,
+            first: 1,
+            step: steps,
+            steps,
+        }
+    }
+
+    /// The loops round the instance that comes next, with their values.
+    pub fn path(&self) -> &Path
+        ensures { rounds_of result.now ≡ styled_rounds self.now }
+    {
+        self.turns.path()
+    }
+
+    /// The own scalars of the phase.
+    pub fn own_cells(&self) -> &OwnCells
+        ensures { result.now ≡ styled_own self.now }
+    {
+        &self.own
+    }
+
+    /// Whether some phase has own scalars.
+    pub fn has_own(&self) -> bool
+        requires { AreStyled self.now }
+        ensures { result ≡ has_own (styled_plan self.now) }
+    {
+        self.has_own
+    }
+
+    /// What comes next. Nothing of what is left changes.
+    pub fn peek(&mut self) -> StyledNext<'a>
+        requires { AreStyled self.old }
+        ensures sound { AreStyled self.new }
+        ensures left { styled_left self.new ≡ styled_left self.old }
+        ensures next { IsStyledNext self.new result }
+        ensures same { IsSameRun self.old self.new }
+    {
+        if self.is_watched {
+            self.peek_watched()
+        } else {
+            self.peek_plain()
+        }
+    }
+
+    // The same where no phase has own scalars, and barriers are passed by counters.
+    fn peek_plain(&mut self) -> StyledNext<'a>
+        requires sound { AreStyled self.old }
+        requires plain { self.old.is_watched ≡ false }
+        ensures sound { AreStyled self.new }
+        ensures left { styled_left self.new ≡ styled_left self.old }
+        ensures next { IsStyledNext self.new result }
+        ensures same { IsSameRun self.old self.new }
+    {
+        match self.turns.peek_act() {
+            Next::Work(stop) => StyledNext::Work(stop),
+            Next::Post(number) => StyledNext::Post(number),
+            Next::Await { on, wanted } => StyledNext::Await { on, wanted },
+            Next::Phase(_) => unreachable!(),
+            Next::End => StyledNext::End,
+        }
+    }
+
+    // And where each phase is looked at as it begins.
+    fn peek_watched(&mut self) -> StyledNext<'a>
+        requires sound { AreStyled self.old }
+        requires watched { self.old.is_watched ≡ true }
+        ensures sound { AreStyled self.new }
+        ensures left { styled_left self.new ≡ styled_left self.old }
+        ensures next { IsStyledNext self.new result }
+        ensures same { IsSameRun self.old self.new }
+    {
+        let mut next = self.look();
+        while self.is_silent(next) {
+            self.pass_silent(next);
+            next = self.look();
+        }
+        self.shown(next)
+    }
+
+    // What comes next of the plain turns.
+    fn look(&mut self) -> Next<'a>
+        requires sound { AreStyled self.old }
+        ensures sound { AreStyled self.new }
+        ensures looked { HasLooked self.new result }
+        ensures left { styled_left self.new ≡ styled_left self.old }
+        ensures plain { turns_left self.new.turns ≡ turns_left self.old.turns }
+        ensures watched { self.new.is_watched ≡ self.old.is_watched }
+        ensures same { IsSameRun self.old self.new }
+    {
+        self.turns.peek()
+    }
+
+    // Whether a plain turn that comes next is nothing here: a phase that begins, or the counters of a
+    // barrier that is passed by signals.
+    fn is_silent(&self, next: Next<'a>) -> bool
+        requires sound { AreStyled self.now }
+        requires looked { HasLooked self.now next }
+        ensures silent { result ≡ true → IsSilent self.now next.entry }
+        ensures open { result ≡ false → IsOpen self.now next.entry }
+    {
+        if self.step < self.steps || first_pending(&self.pending).is_some() {
+            return false;
+        }
+        match next {
+            Next::Phase(_) => true,
+            Next::Post(_) | Next::Await { .. } => self.is_signalled(),
+            Next::Work(_) | Next::End => false,
+        }
+    }
+
+    // Whether the boundary that comes next is passed by signals.
+    fn is_signalled(&self) -> bool
+        requires sound { AreStyled self.now }
+        ensures { (number : ℕ) → turns_boundary self.now.turns ≡ boundary_at (turns_tree self.now.turns) (turns_plan self.now.turns) number → result ≡ is_signalled self.now.style (styled_tree self.now) (styled_plan self.now) number }
+    {
+        match self.style {
+            Style::Arrive => false,
+            Style::Dissemination => is_gathered(self.turns.boundary()),
+        }
+    }
+
+    // Past such a plain turn.
+    fn pass_silent(&mut self, next: Next<'a>)
+        requires sound { AreStyled self.old }
+        requires watched { self.old.is_watched ≡ true }
+        requires looked { HasLooked self.old next }
+        requires silent { IsSilent self.old next }
+        ensures sound { AreStyled self.new }
+        ensures left { styled_left self.new ≡ styled_left self.old }
+        ensures nearer { length (turns_left self.new.turns) < length (turns_left self.old.turns) }
+        ensures watched { self.new.is_watched ≡ true }
+        ensures same { IsSameRun self.old self.new }
+    {
+        match next {
+            Next::Phase(_) => self.pass_beginning(),
+            _ => self.pass_counters(),
+        }
+    }
+
+    // Past the post or the await of a counter.
+    fn pass_counters(&mut self)
+        requires sound { AreStyled self.old }
+        requires next { IsBeforeCounter self.old }
+        ensures sound { AreStyled self.new }
+        ensures silent { (number : ℕ) → IsCounterOf (turns_left self.old.turns) number → is_signalled self.old.style (styled_tree self.old) (styled_plan self.old) number ≡ true → styled_left self.new ≡ styled_left self.old }
+        ensures passed { (number : ℕ) → IsCounterOf (turns_left self.old.turns) number → is_signalled self.old.style (styled_tree self.old) (styled_plan self.old) number ≡ false → (t : StyledTurn) × (styled_left self.old ≡ t ∷ styled_left self.new) }
+        ensures nearer { length (turns_left self.new.turns) < length (turns_left self.old.turns) }
+        ensures watched { self.new.is_watched ≡ self.old.is_watched }
+        ensures same { IsSameRun self.old self.new }
+    {
+        self.turns.pass();
+        self.pending = [false; OWN_PLACES];
+    }
+
+    // Past the beginning of a phase.
+    fn pass_beginning(&mut self)
+        requires sound { AreStyled self.old }
+        requires watched { self.old.is_watched ≡ true }
+        requires begins { IsBeforeBeginning self.old }
+        ensures sound { AreStyled self.new }
+        ensures left { styled_left self.new ≡ styled_left self.old }
+        ensures nearer { length (turns_left self.new.turns) < length (turns_left self.old.turns) }
+        ensures watched { self.new.is_watched ≡ true }
+        ensures same { IsSameRun self.old self.new }
+    {
+        let Some(phase) = self.phases.next() else {
+            unreachable!()
+        };
+        let by_signals = has_signals(self.style, self.plan, phase.place);
+        let (own, nest) = own_at(self.program, self.plan, self.has_own, phase.place);
+        self.turns.pass();
+        self.place = phase.place;
+        self.own = own;
+        self.nest = nest;
+        self.pending = [false; OWN_PLACES];
+        self.first = self.barriers * u64::from(self.steps / 2) + 1;
+        self.step = if by_signals { 0 } else { self.steps };
+        self.barriers += u64::from(by_signals);
+    }
+
+    // What comes next, where this plain turn does and isn't nothing here.
+    fn shown(&self, next: Next<'a>) -> StyledNext<'a>
+        requires sound { AreStyled self.now }
+        requires looked { HasLooked self.now next }
+        requires open { IsOpen self.now next }
+        ensures { IsStyledNext self.now result }
+    {
+        if self.step < self.steps {
+            return self.round();
+        }
+        if let Next::Work(stop) = next {
+            return StyledNext::Work(stop);
+        }
+        if let Some(place) = first_pending(&self.pending) {
+            return StyledNext::Close(place);
+        }
+        match next {
+            Next::Post(number) => StyledNext::Post(number),
+            Next::Await { on, wanted } => StyledNext::Await { on, wanted },
+            Next::Phase(_) | Next::Work(_) => unreachable!(),
+            Next::End => StyledNext::End,
+        }
+    }
+
+    // The half round that comes next.
+    fn round(&self) -> StyledNext<'a>
+        requires sound { AreStyled self.now }
+        requires some { self.now.step < self.now.steps }
+        ensures { IsStyledNext self.now result }
+    {
+        let round = self.step / 2;
+        let number = self.first + u64::from(round);
+        if self.step % 2 == 0 {
+            StyledNext::Signal(number)
+        } else {
+            StyledNext::AwaitSignal {
+                on: awaited_in_round(self.plan.workers, round, self.processor),
+                wanted: number,
+            }
+        }
+    }
+
+    /// Past what comes next, where something does.
+    pub fn pass(&mut self, next: StyledNext<'a>)
+        requires sound { AreStyled self.old }
+        requires next { IsStyledNext self.old next }
+        requires some { IsTurn next }
+        ensures sound { AreStyled self.new }
+        ensures passed { (t : StyledTurn) × (styled_left self.old ≡ t ∷ styled_left self.new) }
+        ensures same { IsSameRun self.old self.new }
+    {
+        match next {
+            StyledNext::Signal(_) | StyledNext::AwaitSignal { .. } => self.step += 1,
+            StyledNext::Close(place) => self.pending[place] = false,
+            StyledNext::Work(stop) => self.leave(stop),
+            StyledNext::Post(_) | StyledNext::Await { .. } => self.pass_counters(),
+            StyledNext::End => {}
+        }
+    }
+
+    // Past an instance, which leaves own scalars to be closed.
+    fn leave(&mut self, stop: Stop<'a>)
+        requires sound { AreStyled self.old }
+        requires next { IsStyledNext self.old (StyledNext.Work stop) }
+        ensures sound { AreStyled self.new }
+        ensures passed { (t : StyledTurn) × (styled_left self.old ≡ t ∷ styled_left self.new) }
+        ensures same { IsSameRun self.old self.new }
+    {
+        if self.has_own {
+            self.pending = self.marked(stop);
+            self.turns.pass();
+        } else {
+            self.turns.pass();
+        }
+    }
+
+    // What is to be closed behind the instance that comes next.
+    fn marked(&self, stop: Stop<'a>) -> [bool; OWN_PLACES]
+        requires sound { AreStyled self.now }
+        requires next { IsStyledNext self.now (StyledNext.Work stop) }
+        ensures { (at : IsInstance (turns_tree self.now.turns) (styled_rounds self.now) stop.entry) → result ≡ (behind (styled_tree self.now) (styled_plan self.now) (standing self.now) at.instance).pending }
+    {
+        let pending = with_place(self.pending, self.own.assigned_by(stop.item));
+        with_first(pending, self.own.privates(), self.is_in_last_trip(stop))
+    }
+
+    // Whether the instance that comes next is one of its loop's last trip, where that has private
+    // scalars.
+    fn is_in_last_trip(&self, stop: Stop<'a>) -> bool
+        requires sound { AreStyled self.now }
+        requires next { IsStyledNext self.now (StyledNext.Work stop) }
+        ensures { (pending : List Bool) → (at : IsInstance (turns_tree self.now.turns) (styled_rounds self.now) stop.entry) → EndsAlike self.now pending result at.instance.loops }
+    {
+        let Some(nest) = self.nest else {
+            return false;
+        };
+        self.own.privates() > 0 && is_final(self.program, self.turns.path(), nest)
+    }
+}
+
+// Whether all processors of two or more wait for all.
+fn is_gathered(boundary: Boundary) -> bool
+    ensures { result ≡ gathered boundary }
+{
+    match boundary {
+        Boundary::Barrier => true,
+        Boundary::Counters | Boundary::Join => false,
+    }
+}
+
+// Whether signals stand in front of the phases of a static phase.
+fn has_signals(style: Style, plan: &Plan, place: u32) -> bool
+    ensures { result ≡ has_signals_at style plan.now place }
+{
+    match style {
+        Style::Arrive => false,
+        Style::Dissemination => match plan.kinds.as_slice().get(place.saturating_sub(1) as usize) {
+            Some(kind) => kind.is_barrier(),
+            None => false,
+        },
+    }
+}
+
+// The own scalars of a static phase, and its loop, if it is one.
+fn own_at<'a>(
+    program: &'a Program,
+    plan: &Plan,
+    is_some: bool,
+    place: u32,
+) -> (OwnCells, Option<&'a Nest>)
+    requires formed { IsWellFormed (tree_of program.now) }
+    requires cells { cell_count (tree_of program.now) ≤ 1048576 }
+    requires few { AreFew (tree_of program.now) (own_loop (tree_of program.now) plan.now place) }
+    requires has { is_some ≡ has_own plan.now }
+    ensures cells { AreOwnCells (tree_of program.now) (own_loop (tree_of program.now) plan.now place) result.0 }
+    ensures nest { MatchOption result.1 ((own_loop (tree_of program.now) plan.now place).privates ≡ []) (λ n. IsPlaced (slice_get (static_phases (tree_of program.now) plan.now.cut.marks) (place - 1)) n.now) }
+{
+    if !is_some {
+        return (OwnCells::none(), None);
+    }
+    let Some(text) = StaticPhase::at(program, &plan.cut, place) else {
+        return (OwnCells::none(), None);
+    };
+    match text.item {
+        Item::Loop(nest) => (OwnCells::of_loop(program, &plan.cut, nest), Some(nest)),
+        Item::Assign(..) | Item::Print(..) | Item::Continue(_) => (OwnCells::none(), None),
+    }
+}
+
+// Whether some phase of a plan has own scalars.
+fn has_own(plan: &Plan) -> bool
+    ensures { result ≡ has_own plan.now }
+{
+    has_sums(plan.cut.as_slice()) || has_privates(plan.cut.privates())
+}
+
+fn has_sums(marks: &[Mark]) -> bool
+    ensures { result ≡ list_any is_sum_mark marks.now }
+{
+    marks.iter().any(|mark| mark.is_sum())
+}
+
+fn has_privates(lists: &[Privates]) -> bool
+    ensures { result ≡ list_any (λ (l : List ℕ). not (length l == 0)) lists.now }
+{
+    lists.iter().any(|list| !list.as_slice().is_empty())
+}
+
+// Whether each phase is looked at as it begins, where some has own scalars or none.
+fn is_watched(style: Style, is_some: bool) -> bool
+    ensures { (plan : Plan) → is_some ≡ has_own plan → result ≡ is_watched style plan }
+{
+    match style {
+        Style::Arrive => is_some,
+        Style::Dissemination => true,
+    }
+}
