@@ -20,7 +20,7 @@ Walk-field-send a =
         Turns-field-send a,
         (
           Executor-field-send a,
-          (search (sendable, crosses) depth 20, (search (sendable, crosses, patience.the_send, patience.the_field_send) depth 20, (search (sendable, crosses) depth 20, tt))),
+          (search (sendable, crosses) depth 20, (search (sendable, crosses, patience.the_field_send) depth 20, (search (sendable, crosses) depth 20, tt))),
         ),
       ),
     )

@@ -1,7 +1,8 @@
 // How long a worker polls before it ends its leg.
 
-ghost use Rattle.std.specs.Prelude.{◌≡◌, ◌≤◌};
+ghost use Rattle.std.specs.Prelude.{◌≡◌, ◌≤◌, ◌<◌, true, false};
 
+use crossbeam_utils::atomic::AtomicCell;
 use std::{hint, thread};
 
 // The least and the most misses in a row for which a worker polls, and those for which it polls
@@ -16,17 +17,42 @@ const FIRST: u32 = 20_000;
 const SPINS: u32 = 100;
 
 // So many misses in a row end a leg. Where somebody else answers at last, others run beside it, and
-// it polls longer from then on; where nobody did, perhaps nobody does.
+// it polls longer from then on; where nobody did, perhaps nobody does. Who has given up does nothing
+// more in this round, so from then on the others end their legs after the least misses, and soon:
+// on a busy machine a yield takes milliseconds.
 #[derive(Clone, Copy)]
-pub(crate) struct Patience {
+pub(crate) struct Patience<'a> {
     pub(crate) misses: u32,
+    // whether a worker has given up a wait in this round
+    pub(crate) given_up: &'a AtomicCell<bool>,
     ghost low: { 1000 ≤ misses },
     ghost high: { misses ≤ 100000 },
 }
 
-impl Patience {
-    pub(crate) const fn new() -> Self {
-        Patience { misses: FIRST }
+impl<'a> Patience<'a> {
+    pub(crate) const fn new(given_up: &'a AtomicCell<bool>) -> Self {
+        Patience {
+            misses: FIRST,
+            given_up,
+        }
+    }
+
+    // Whether so many misses in a row are too many; where they aren't, there is a pause.
+    pub(crate) fn ends(self, misses: u32) -> bool
+        ensures least { result ≡ true → 1000 ≤ misses }
+        ensures most { result ≡ false → misses < 100000 }
+    {
+        let hopeless = self.given_up.load();
+        let most = if hopeless { LEAST } else { self.misses };
+        if most <= misses {
+            return true;
+        }
+        if hopeless || misses <= SPINS {
+            hint::spin_loop();
+        } else {
+            thread::yield_now();
+        }
+        false
     }
 
     // Behind a wait that came, after so many misses.
@@ -36,22 +62,16 @@ impl Patience {
         }
         Patience {
             misses: (2 * self.misses).min(MOST),
+            given_up: self.given_up,
         }
     }
 
-    // Behind a wait that was given up.
+    // Behind a wait that was given up, which all may see.
     pub(crate) fn behind_leg(self) -> Self {
+        self.given_up.store(true);
         Patience {
             misses: (self.misses / 8).max(LEAST),
+            given_up: self.given_up,
         }
-    }
-}
-
-// Between two polls, behind so many misses in a row.
-pub(crate) fn pause(misses: u32) {
-    if misses <= SPINS {
-        hint::spin_loop();
-    } else {
-        thread::yield_now();
     }
 }

@@ -5,7 +5,7 @@ ghost use Rattle.cell_table.specs.Calls.{AwaitsNext, GathersNext, all_arrivals};
 ghost use Rattle.cell_table.specs.Homes.{gone, through};
 ghost use Rattle.spmd_run.specs.Legs.{HasMissed};
 
-use crate::patience::{Patience, pause};
+use crate::patience::Patience;
 use cell_table::{CellSeat, Cells, Poll};
 
 // The counter of a processor, and the number that is awaited of it.
@@ -21,7 +21,7 @@ pub(crate) fn poll_until(
     cells: &Cells<'_>,
     seat: &mut CellSeat,
     awaited: Awaited,
-    patience: Patience,
+    patience: Patience<'_>,
 ) -> Result<u32, u64>
     requires own { seat.old.home ≡ cells.now }
     requires next { AwaitsNext seat.old awaited.on awaited.wanted }
@@ -32,10 +32,9 @@ pub(crate) fn poll_until(
     let mut misses = 0;
     while let Poll::NotYet { seen } = cells.poll(seat, awaited.on, awaited.wanted) {
         misses += 1;
-        if patience.misses <= misses {
+        if patience.ends(misses) {
             return Err(seen);
         }
-        pause(misses);
     }
     Ok(misses)
 }
@@ -45,7 +44,7 @@ pub(crate) fn poll_arrivals_until(
     cells: &Cells<'_>,
     seat: &mut CellSeat,
     phase: u64,
-    patience: Patience,
+    patience: Patience<'_>,
 ) -> Result<u32, u64>
     requires own { seat.old.home ≡ cells.now }
     requires next { GathersNext seat.old (phase - 1) }
@@ -56,10 +55,9 @@ pub(crate) fn poll_arrivals_until(
     let mut misses = 0;
     while let Poll::NotYet { seen } = cells.poll_arrivals(seat, phase) {
         misses += 1;
-        if patience.misses <= misses {
+        if patience.ends(misses) {
             return Err(seen);
         }
-        pause(misses);
     }
     Ok(misses)
 }

@@ -51,6 +51,7 @@ pub fn run_spmd<R: Threads + Wait + Sync, G: Gate + Sync>(
     let (cells, mut main) = Cells::new(alloc, program, plan)?;
     let mut workers = workers_of(alloc, &tables, &cells, &mut main)?;
     for _ in rt.forever() {
+        tables.begin_round();
         round(rt, &cells, &mut workers, gate);
         if have_ended(&workers) {
             break;

@@ -7,6 +7,8 @@ ghost use Rattle.nest_tree.specs.WellFormed.{IsWellFormed};
 ghost use Rattle.nest_model.specs.Ranges.{IsInRange};
 ghost use Rattle.sync_plan.specs.Fit.{IsFit};
 
+use crossbeam_utils::CachePadded;
+use crossbeam_utils::atomic::AtomicCell;
 use nest_tree::Program;
 use nest_walk::CellTable;
 use spmd_turns::{longest_output, open_printing};
@@ -18,7 +20,7 @@ use sync_plan::Plan;
 const MOST_STATEMENTS: usize = 400;
 
 /// What all workers of a program under a plan look up: the cells of its accesses, the values of its
-/// named constants, and how long its output can be.
+/// named constants, how long its output can be, and whether one of them has given up a wait.
 #[derive(Drop)]
 pub struct Tables<'a> {
     pub(crate) program: &'a Program,
@@ -26,6 +28,7 @@ pub struct Tables<'a> {
     pub(crate) cells: CellTable,
     pub(crate) params: Vec<i64>,
     pub(crate) room: usize,
+    pub(crate) given_up: CachePadded<AtomicCell<bool>>,
 }
 
 impl<'a> Model for Tables<'a> {
@@ -68,6 +71,13 @@ impl<'a> Tables<'a> {
             cells,
             params,
             room,
+            given_up: CachePadded::new(AtomicCell::new(false)),
         })
+    }
+
+    /// A new round of legs begins, in which no worker has given up a wait yet. Where one has, the
+    /// others' waits end soon too.
+    pub fn begin_round(&self) {
+        self.given_up.store(false);
     }
 }

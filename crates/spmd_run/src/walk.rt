@@ -21,7 +21,7 @@ pub(crate) struct Walk<'a> {
     pub(crate) turns: Turns<'a>,
     pub(crate) executor: Executor<'a>,
     pub(crate) answered: u64,
-    pub(crate) patience: Patience,
+    pub(crate) patience: Patience<'a>,
     // whether a leg has come to its end
     pub(crate) ended: bool,
 }

@@ -90,7 +90,7 @@ impl<'a> Worker<'a> {
                 turns,
                 executor,
                 answered: 0,
-                patience: Patience::new(),
+                patience: Patience::new(&tables.given_up),
                 ended: false,
             },
         })
