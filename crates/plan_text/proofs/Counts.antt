@@ -12,7 +12,7 @@ use Rattle.owner_partition.proofs.Sites.{placed_counts}
 use Rattle.owner_partition.specs.Marks.{enters_outer}
 use Rattle.owner_partition.specs.declared.cut.Mark.{Mark}
 use Rattle.plan_text.proofs.Written.{zipped-length}
-use Rattle.plan_text.specs.PlanText.{HasCounts, HasText, is_32, is_phase_shown, zipped}
+use Rattle.plan_text.specs.PlanText.{HasCounts, HasText, cut_loops, is_32, is_loop_shown, is_phase_shown, zipped}
 use Rattle.sync_plan.proofs.Fits.{fit_parts}
 use Rattle.sync_plan.specs.Fit.{IsFit}
 use Rattle.sync_plan.specs.Shape.{static_phases}
@@ -24,7 +24,8 @@ use Rattle.sync_plan.specs.declared.plan.Version.TheVariants.{Two}
 pub counts_of_text : (plan : Plan) → HasText plan → HasCounts plan
 counts_of_text plan h = record {
   conditions = h.conditions;
-  loops = h.loops;
+  lists = h.lists;
+  loops = ap is_32 (sym (zipped-length plan.cut.marks plan.cut.privates h.lists)) ∙ (and_parts (is_32 (length (cut_loops plan.cut))) (list_all (is_loop_shown plan.version) (cut_loops plan.cut)) h.loops).0;
   pairs = h.pairs;
   phases = ap is_32 (sym (zipped-length plan.kinds plan.anchors h.pairs)) ∙ (and_parts (is_32 (length (zipped plan.kinds plan.anchors))) (list_all is_phase_shown (zipped plan.kinds plan.anchors)) h.phases).0;
 }
@@ -53,6 +54,7 @@ counts_of_fit tree plan formed two values fits =
     let parts = fit_parts tree plan fits in
     record {
       conditions = rw (two, values) refl;
+      lists = parts.marks ∙ sym parts.privates;
       loops = below (length plan.cut.marks) (omega (arith, parts.marks, loops-few tree formed));
       pairs = parts.kinds ∙ sym parts.anchors;
       phases = below (length plan.kinds) (omega (arith, parts.kinds, phases_few tree plan.cut.marks formed));

@@ -7,13 +7,13 @@ use Rattle.std.proofs.lemmas.Bool.{and_from, and_parts}
 use Rattle.std.proofs.lemmas.List.{append_cancel_left}
 use Rattle.farkas_cert.specs.declared.certificate.Certificate.{Certificate}
 use Rattle.farkas_cert.specs.declared.certificate.Step.{Step}
-use Rattle.owner_partition.specs.declared.cut.Mark.{Mark}
+use Rattle.sync_plan.specs.declared.plan.Version.{Version}
 use Rattle.plan_text.specs.declared.syntax.PlanSyntax.{PlanSyntax}
 use Rattle.plan_text.specs.declared.syntax.PlanSyntax.TheVariants.{Line, NoMemory}
 use Rattle.plan_text.specs.Loose.{loop_said, phase_said, row_said, step_said, steps_said}
-use Rattle.plan_text.specs.PlanText.{is_mark_shown, alone, cert_lines, headed, is_64, is_certificate_shown, is_phase_shown, is_row_shown, is_step_shown, numbered, text_of}
+use Rattle.plan_text.specs.PlanText.{alone, cert_lines, headed, is_64, is_certificate_shown, is_loop_shown, is_phase_shown, is_row_shown, is_step_shown, numbered, text_of}
 use Rattle.plan_text.specs.Stops.{AreItems, ItemsRead, RefusesLine, RefusesPart}
-use Rattle.plan_text.specs.Words.{cert_line, line_of, loop_line, mark_word, phase_line, row_line, spaced, step_line}
+use Rattle.plan_text.specs.Words.{cert_line, line_of, loop_line, mark_word, phase_line, private_words, row_line, spaced, step_line}
 use Rattle.plan_text.proofs.Counting.{items-free}
 use Rattle.plan_text.proofs.Items.{one_line}
 use Rattle.plan_text.proofs.LineLaws.{line_free, loop-law, phase-law, row-law, step-law, steps-law}
@@ -26,8 +26,8 @@ renumbered k ws vs e = ap (λ b. decimal 0 ++ b) (append_cancel_left (decimal k)
 alone-free : {X : Type 0} (line : ℕ → X → List ℕ) (shown : X → Bool) → ((k : ℕ) (x y : X) → shown x ≡ true → shown y ≡ true → line k x ≡ line k y → x ≡ y) → (k : ℕ) → IsFree (alone line k) (λ x. shown x ≡ true)
 alone-free line shown apart k x y r s h h' e = (let first : line k x ≡ line k y = cc in apart k x y h h' first)
 
-pub loops-free : (k : ℕ) → IsFree (alone loop_line k) (λ (m : Mark). is_mark_shown m ≡ true)
-loops-free = alone-free loop_line is_mark_shown (λ k x y h h' e. line_free (loop_line 0) is_mark_shown loop_said (loop-law 0 (omega arith)) x y h h' (renumbered k (mark_word x ∷ []) (mark_word y ∷ []) e))
+pub loops-free : (v : Version) (k : ℕ) → IsFree (alone loop_line k) (λ l. is_loop_shown v l ≡ true)
+loops-free v = alone-free loop_line (is_loop_shown v) (λ k x y h h' e. line_free (loop_line 0) (is_loop_shown v) loop_said (loop-law v 0 (omega arith)) x y h h' (renumbered k (mark_word x.0 ∷ private_words x.1) (mark_word y.0 ∷ private_words y.1) e))
 
 pub phases-free : (k : ℕ) → IsFree (alone phase_line k) (λ p. is_phase_shown p ≡ true)
 phases-free = alone-free phase_line is_phase_shown (λ k x y h h' e. line_free (phase_line 0) is_phase_shown phase_said (phase-law 0 (omega arith)) x y h h' (renumbered k _ _ e))

@@ -5,6 +5,7 @@ pub mod PairWords
 pub mod Anchors
 pub mod Stopping
 pub mod Counting
+pub mod LoopWords
 pub mod LineLaws
 pub mod Said
 pub mod Items

@@ -8,17 +8,18 @@ use Rattle.farkas_cert.specs.declared.certificate.Step.{Step}
 use Rattle.nest_tree.specs.Form.{is_small, rises_above}
 use Rattle.owner_partition.specs.declared.anchor.Anchor.{Anchor}
 use Rattle.owner_partition.specs.declared.cut.Mark.{Mark}
-use Rattle.owner_partition.specs.declared.cut.Mark.TheVariants.{Outer, Doall, Single, Inner, Sum}
 use Rattle.sync_plan.specs.declared.plan.ConditionRow.{ConditionRow}
 use Rattle.sync_plan.specs.declared.plan.Kind.{Kind}
-use Rattle.plan_text.specs.Loose.{count_32_said, count_64_said, last_word, loop_said, mark_of, narrow_of, number_32, number_64, phase_of, phase_said, row_of, row_said, step_of, step_said, steps_said, term_of, word_at}
-use Rattle.plan_text.specs.PlanText.{is_mark_shown, is_32, is_64, is_phase_shown, is_row_shown, is_step_shown, is_kind_shown, is_anchor_shown}
+use Rattle.sync_plan.specs.declared.plan.Version.{Version}
+use Rattle.plan_text.specs.Loose.{count_32_said, count_64_said, last_word, loop_of, loop_said, narrow_of, number_32, number_64, phase_of, phase_said, row_of, row_said, step_of, step_said, steps_said, term_of, word_at}
+use Rattle.plan_text.specs.PlanText.{has_loop, is_loop_shown, is_32, is_64, is_phase_shown, is_row_shown, is_step_shown, is_kind_shown, is_anchor_shown}
 use Rattle.std.proofs.Common.{subst}
 use Rattle.plan_text.specs.declared.syntax.PlanSyntax.{PlanSyntax}
 use Rattle.plan_text.specs.declared.syntax.PlanSyntax.TheVariants.{Line}
 use Rattle.plan_text.specs.Stops.{IsAlienLine, RefusesLine, Stops}
-use Rattle.plan_text.specs.Words.{anchor_words, cert_line, count_line, kind_words, loop_line, mark_word, pair_word, phase_line, row_line, step_line, term_word}
+use Rattle.plan_text.specs.Words.{anchor_words, cert_line, count_line, kind_words, loop_line, mark_word, pair_word, phase_line, private_words, row_line, step_line, term_word}
 use Rattle.plan_text.proofs.Anchors.{good_pairs, last-word, phase-read, words-anchor, words-kind}
+use Rattle.plan_text.proofs.LoopWords.{loop-read, word-mark, words-privates}
 use Rattle.plan_text.proofs.Numbers.{signed-read}
 use Rattle.plan_text.proofs.PairWords.{is_good_pair, is_good_term, narrow-read, pairs-read, plain-passed, read-32, read-64, small-wide, terms-read, word-32, word-64, words-pairs, words-terms}
 use Rattle.plan_text.specs.Unbroken.{is_unbroken}
@@ -81,27 +82,19 @@ stops_line line shown d good rest taken alien = record {
 }
 
 -- the laws of each line
-pub loop-law : (k : ℕ) → k < 10 ^ 64 → LineLaw (loop_line k) is_mark_shown loop_said
-loop-law k h =
-    let words = λ (m : Mark). and_from (is_word (decimal k)) (is_word (mark_word m) && true) (word-decimal k h) (and_from (is_word (mark_word m)) true (word m) refl) in
-    record {
-      unbroken = λ m good. line-unbroken (decimal k) (mark_word m ∷ []) (words m);
-      read = λ m good. ap (λ ws. Some (mark_of (word_at 1 ws))) (words_of-line (decimal k) (mark_word m ∷ []) (words m)) ∙ ap Some (mark m good);
-    }
+pub loop-law : (v : Version) (k : ℕ) → k < 10 ^ 64 → LineLaw (loop_line k) (is_loop_shown v) loop_said
+loop-law v k low = record {
+  unbroken = λ l h. line-unbroken (decimal k) (mark_word l.0 ∷ private_words l.1) (words l h);
+  read = λ l h. ap (λ ws. Some (loop_of ws)) (words_of-line (decimal k) (mark_word l.0 ∷ private_words l.1) (words l h)) ∙ ap Some (loop-read (decimal k) l (narrow l h));
+}
   where
-    word : (m : Mark) → is_word (mark_word m) ≡ true
-    word Outer = refl
-    word Doall = refl
-    word Single = refl
-    word Inner = refl
-    word Sum = refl
+    narrow : (l : Mark × List ℕ) → is_loop_shown v l ≡ true → list_all is_32 l.1 ≡ true
+    narrow l h = (and_parts (has_loop v l) (list_all is_32 l.1) h).1
 
-    mark : (m : Mark) → is_mark_shown m ≡ true → mark_of (mark_word m) ≡ m
-    mark Outer h = refl
-    mark Doall h = refl
-    mark Single h = refl
-    mark Inner h = refl
-    mark Sum h = absurd (cc)
+    words : (l : Mark × List ℕ) → is_loop_shown v l ≡ true → list_all is_word (decimal k ∷ mark_word l.0 ∷ private_words l.1) ≡ true
+    words l h =
+        and_from (is_word (decimal k)) (list_all is_word (mark_word l.0 ∷ private_words l.1)) (word-decimal k low)
+        (and_from (is_word (mark_word l.0)) (list_all is_word (private_words l.1)) (word-mark l.0) (words-privates l.1 (narrow l h)))
 
 pub count_32-law : (word : List ℕ) → is_word word ≡ true → LineLaw (count_line word) is_32 count_32_said
 count_32-law word w =

@@ -8,7 +8,8 @@ use Rattle.std.proofs.lemmas.List.{append_cancel_left}
 use Rattle.std.proofs.lemmas.List.Folds.{list_all-append}
 use Rattle.farkas_cert.specs.declared.certificate.Certificate.{Certificate}
 use Rattle.owner_partition.specs.declared.anchor.Anchor.{Anchor}
-use Rattle.owner_partition.specs.Cuts.{Cutting, plain_cut}
+use Rattle.owner_partition.specs.Cuts.{Cutting}
+use Rattle.owner_partition.specs.declared.cut.Mark.{Mark}
 use Rattle.sync_plan.specs.declared.plan.Conditions.{Conditions}
 use Rattle.sync_plan.specs.declared.plan.Conditions.TheVariants.{Values, Rows}
 use Rattle.sync_plan.specs.declared.plan.Kind.{Kind}
@@ -16,7 +17,7 @@ use Rattle.sync_plan.specs.declared.plan.Plan.{Plan}
 use Rattle.sync_plan.specs.declared.plan.Version.{Version}
 use Rattle.sync_plan.specs.declared.plan.Version.TheVariants.{One, Two, Three, Four, Five}
 use Rattle.plan_text.specs.Parts.{firsts, seconds}
-use Rattle.plan_text.specs.PlanText.{where_lines, are_where_shown, is_mark_shown, HasText, alone, are_conditions_shown, cert_lines, condition_lines, counted, is_32, is_64, is_certificate_shown, is_phase_shown, is_row_shown, is_step_shown, numbered, plan_lines, plan_text, text_of, zipped}
+use Rattle.plan_text.specs.PlanText.{where_lines, are_where_shown, HasText, alone, are_conditions_shown, are_loops_shown, cert_lines, condition_lines, counted, cut_loops, is_32, is_64, is_certificate_shown, is_loop_shown, is_phase_shown, is_row_shown, is_step_shown, numbered, plan_lines, plan_text, text_of, zipped}
 use Rattle.plan_text.specs.Refused.{IsFirstAlien, Opens, RefusesText}
 use Rattle.plan_text.specs.Stops.{RefusesPart, Stops}
 use Rattle.plan_text.specs.declared.syntax.PlanSyntax.{PlanSyntax}
@@ -25,20 +26,28 @@ use Rattle.plan_text.specs.Unbroken.{is_unbroken}
 use Rattle.plan_text.specs.Words.{cert_line, count_line, loop_line, phase_line, row_line, step_line, version_line}
 use Rattle.plan_text.proofs.Chain.{conditions-free}
 use Rattle.plan_text.proofs.LineLaws.{count_32-law, count_64-law, loop-law, phase-law, row-law, same_line, step-law, steps-law}
-use Rattle.plan_text.proofs.Plans.{end_lines, from_certificates, from_conditions, from_loops, from_phases, from_workers, kinds-free, marks-free, marks-shown, proofs-free, version-free, version-law, workers-free}
+use Rattle.plan_text.proofs.Plans.{cut-free, end_lines, from_certificates, from_conditions, from_loops, from_phases, from_workers, kinds-free, proofs-free, version-free, version-law, workers-free}
 use Rattle.plan_text.proofs.Stopping.{IsFree}
 
 -- pairs tell both lists
-firsts-zipped : (ks : List Kind) (vs : List Anchor) → length ks ≡ length vs → firsts (zipped ks vs) ≡ ks
+firsts-zipped : {X Y : Type 0} (ks : List X) (vs : List Y) → length ks ≡ length vs → firsts (zipped ks vs) ≡ ks
 firsts-zipped [] vs h = refl
 firsts-zipped (k ∷ ks) [] h = absurd (omega arith)
 firsts-zipped (k ∷ ks) (a ∷ vs) h = ap (λ r. k ∷ r) (firsts-zipped ks vs (omega arith))
 
-seconds-zipped : (ks : List Kind) (vs : List Anchor) → length ks ≡ length vs → seconds (zipped ks vs) ≡ vs
+seconds-zipped : {X Y : Type 0} (ks : List X) (vs : List Y) → length ks ≡ length vs → seconds (zipped ks vs) ≡ vs
 seconds-zipped [] [] h = refl
 seconds-zipped [] (a ∷ vs) h = absurd (omega arith)
 seconds-zipped (k ∷ ks) [] h = absurd (omega arith)
 seconds-zipped (k ∷ ks) (a ∷ vs) h = ap (λ r. a ∷ r) (seconds-zipped ks vs (omega arith))
+
+same_cut : (a b : Cutting) → length a.marks ≡ length a.privates → length b.marks ≡ length b.privates → cut_loops a ≡ cut_loops b → a ≡ b
+same_cut a b long other e =
+    let marks = sym (firsts-zipped a.marks a.privates long) ∙ ap firsts e ∙ firsts-zipped b.marks b.privates other in
+    let lists = sym (seconds-zipped a.marks a.privates long) ∙ ap seconds e ∙ seconds-zipped b.marks b.privates other in
+    let P : List Mark → Cutting = λ z. record { marks = z; privates = a.privates } in
+    let Q : List (List ℕ) → Cutting = λ z. record { marks = b.marks; privates = z } in
+    ap P marks ∙ ap Q lists
 
 same_plan : (x y : Plan) → x.version ≡ y.version → x.conditions ≡ y.conditions → x.workers ≡ y.workers → x.cut ≡ y.cut → x.anchors ≡ y.anchors → x.kinds ≡ y.kinds → x.certificates ≡ y.certificates → x ≡ y
 same_plan x y v c w m a k s =
@@ -61,9 +70,11 @@ plan-free x y r s hx hy e =
     let e2' = sym (append_assoc (condition_lines x.version x.conditions) (from_loops x) r) ∙ e2 ∙ append_assoc (condition_lines y.version y.conditions) (from_loops y) s ∙ ap (λ u. condition_lines u y.conditions ++ (from_loops y ++ s)) (sym v) in
     let c = conditions-free x.version x.conditions y.conditions (from_loops x ++ r) (from_loops y ++ s) hx.conditions (ap (λ u. are_conditions_shown u y.conditions) v ∙ hy.conditions) e2' in
     let e3 = append_cancel_left (condition_lines x.version x.conditions) (from_loops x ++ r) (from_loops y ++ s) (e2' ∙ ap (λ z. condition_lines x.version z ++ (from_loops y ++ s)) (sym c)) in
-    let e3' = sym (append_assoc (counted (codes "LOOPS") (alone loop_line) x.cut.marks) (from_phases x) r) ∙ e3 ∙ append_assoc (counted (codes "LOOPS") (alone loop_line) y.cut.marks) (from_phases y) s in
-    let m = marks-free x.cut.marks y.cut.marks (from_phases x ++ r) (from_phases y ++ s) (marks-shown x.cut.marks hx.loops hx.marks) (marks-shown y.cut.marks hy.loops hy.marks) e3' in
-    let e4 = append_cancel_left (counted (codes "LOOPS") (alone loop_line) x.cut.marks) (from_phases x ++ r) (from_phases y ++ s) (e3' ∙ ap (λ z. counted (codes "LOOPS") (alone loop_line) z ++ (from_phases y ++ s)) (sym m)) in
+    let lx = cut_loops x.cut in
+    let ly = cut_loops y.cut in
+    let e3' = sym (append_assoc (counted (codes "LOOPS") (alone loop_line) lx) (from_phases x) r) ∙ e3 ∙ append_assoc (counted (codes "LOOPS") (alone loop_line) ly) (from_phases y) s in
+    let l = cut-free x.version lx ly (from_phases x ++ r) (from_phases y ++ s) hx.loops (ap (λ u. are_loops_shown u ly) v ∙ hy.loops) e3' in
+    let e4 = append_cancel_left (counted (codes "LOOPS") (alone loop_line) lx) (from_phases x ++ r) (from_phases y ++ s) (e3' ∙ ap (λ z. counted (codes "LOOPS") (alone loop_line) z ++ (from_phases y ++ s)) (sym l)) in
     let px = zipped x.kinds x.anchors in
     let py = zipped y.kinds y.anchors in
     let e4' = sym (append_assoc (counted (codes "PHASES") (alone phase_line) px) (from_certificates x) r) ∙ e4 ∙ append_assoc (counted (codes "PHASES") (alone phase_line) py) (from_certificates y) s in
@@ -71,7 +82,7 @@ plan-free x y r s hx hy e =
     let e5 = append_cancel_left (counted (codes "PHASES") (alone phase_line) px) (from_certificates x ++ r) (from_certificates y ++ s) (e4' ∙ ap (λ z. counted (codes "PHASES") (alone phase_line) z ++ (from_certificates y ++ s)) (sym p)) in
     let e5' = sym (append_assoc (counted (codes "CERTIFICATES") cert_lines x.certificates) (end_lines x) r) ∙ e5 ∙ append_assoc (counted (codes "CERTIFICATES") cert_lines y.certificates) (end_lines y) s in
     let k = proofs-free x.certificates y.certificates (end_lines x ++ r) (end_lines y ++ s) hx.certificates hy.certificates e5' in
-    same_plan x y v c w (hx.privates ∙ ap plain_cut m ∙ sym hy.privates)
+    same_plan x y v c w (same_cut x.cut y.cut hx.lists hy.lists l)
     (sym (seconds-zipped x.kinds x.anchors hx.pairs) ∙ ap seconds p ∙ seconds-zipped y.kinds y.anchors hy.pairs)
     (sym (firsts-zipped x.kinds x.anchors hx.pairs) ∙ ap firsts p ∙ firsts-zipped y.kinds y.anchors hy.pairs) k
 
@@ -122,9 +133,11 @@ plan-whole x h =
     let ps = zipped x.kinds x.anchors in
     let phases = and_parts (is_32 (length ps)) (list_all is_phase_shown ps) h.phases in
     let certs = and_parts (is_64 (length x.certificates)) (list_all is_certificate_shown x.certificates) h.certificates in
-    let loops : are_whole (counted (codes "LOOPS") (alone loop_line) x.cut.marks) ≡ true =
-    and_from (is_unbroken (count_line (codes "LOOPS") (length x.cut.marks))) (are_whole (numbered (alone loop_line) 1 x.cut.marks)) ((count_32-law (codes "LOOPS") refl).unbroken (length x.cut.marks) h.loops)
-    (numbered-whole (alone loop_line) is_mark_shown (λ k m low good. one (loop_line k m) ((loop-law k low).unbroken m good)) 1 x.cut.marks (low-32 (length x.cut.marks) h.loops) h.marks) in
+    let ls = cut_loops x.cut in
+    let shown = and_parts (is_32 (length ls)) (list_all (is_loop_shown x.version) ls) h.loops in
+    let loops : are_whole (counted (codes "LOOPS") (alone loop_line) ls) ≡ true =
+    and_from (is_unbroken (count_line (codes "LOOPS") (length ls))) (are_whole (numbered (alone loop_line) 1 ls)) ((count_32-law (codes "LOOPS") refl).unbroken (length ls) shown.0)
+    (numbered-whole (alone loop_line) (is_loop_shown x.version) (λ k l low good. one (loop_line k l) ((loop-law x.version k low).unbroken l good)) 1 ls (low-32 (length ls) shown.0) shown.1) in
     let kinds : are_whole (counted (codes "PHASES") (alone phase_line) ps) ≡ true =
     and_from (is_unbroken (count_line (codes "PHASES") (length ps))) (are_whole (numbered (alone phase_line) 1 ps)) ((count_32-law (codes "PHASES") refl).unbroken (length ps) phases.0)
     (numbered-whole (alone phase_line) is_phase_shown (λ k p low good. one (phase_line k p) ((phase-law k low).unbroken p good)) 1 ps (low-32 (length ps) phases.0) phases.1) in
@@ -134,7 +147,7 @@ plan-whole x h =
     and_from (is_unbroken (version_line x.version)) (are_whole (from_workers x)) (version-law.unbroken x.version refl)
     (and_from (is_unbroken (count_line (codes "WORKERS") x.workers)) (are_whole (from_conditions x)) ((count_32-law (codes "WORKERS") refl).unbroken x.workers h.workers)
     (both-whole (condition_lines x.version x.conditions) (from_loops x) (conditions-whole x.version x.conditions h.conditions)
-    (both-whole (counted (codes "LOOPS") (alone loop_line) x.cut.marks) (from_phases x) loops
+    (both-whole (counted (codes "LOOPS") (alone loop_line) ls) (from_phases x) loops
     (both-whole (counted (codes "PHASES") (alone phase_line) ps) (from_certificates x) kinds
     (both-whole (counted (codes "CERTIFICATES") cert_lines x.certificates) (end_lines x) proofs refl)))))
 

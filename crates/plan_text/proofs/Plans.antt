@@ -7,7 +7,7 @@ use Rattle.std.specs.Str.{bytes_eq}
 use Rattle.plan_text.specs.declared.syntax.PlanSyntax.{PlanSyntax}
 use Rattle.plan_text.specs.declared.syntax.PlanSyntax.TheVariants.{Line, NoMemory}
 use Rattle.plan_text.proofs.Anchors.{count-no_values}
-use Rattle.std.proofs.lemmas.Bool.{and_from, and_parts, false≢true}
+use Rattle.std.proofs.lemmas.Bool.{and_parts, false≢true}
 use Rattle.std.proofs.lemmas.Slice.Eq.{bytes_eq-Decides}
 use Rattle.farkas_cert.specs.declared.certificate.Certificate.{Certificate}
 use Rattle.owner_partition.specs.declared.anchor.Anchor.{Anchor}
@@ -20,7 +20,7 @@ use Rattle.sync_plan.specs.declared.plan.Version.{Version}
 use Rattle.sync_plan.specs.declared.plan.Version.TheVariants.{One, Two, Three, Four, Five}
 use Rattle.plan_text.specs.Loose.{count_32_said, count_64_said, end_line, is_where_shown, version_said, where_line, where_said, number_32, word_at, words_of}
 use Rattle.plan_text.specs.Parts.{firsts, plan_of, seconds}
-use Rattle.plan_text.specs.PlanText.{are_where_shown, is_mark_shown, HasText, alone, are_certificates_shown, are_conditions_shown, are_phases_shown, cert_lines, condition_lines, counted, is_32, is_64, is_certificate_shown, is_phase_shown, is_row_shown, numbered, where_lines, zipped}
+use Rattle.plan_text.specs.PlanText.{are_where_shown, HasText, alone, are_certificates_shown, are_conditions_shown, are_loops_shown, are_phases_shown, cert_lines, condition_lines, counted, cut_loops, is_32, is_64, is_certificate_shown, is_loop_shown, is_phase_shown, is_row_shown, numbered, where_lines, zipped}
 use Rattle.plan_text.specs.Stops.{AreItems, RefusesLine, RefusesPart, Stops}
 use Rattle.plan_text.specs.Unbroken.{is_unbroken}
 use Rattle.plan_text.specs.Words.{count_line, loop_line, phase_line, row_line, version_line}
@@ -46,17 +46,17 @@ version-law = record { unbroken = unbroken; read = read }
     read Four h = refl
     read Five h = refl
 
-pub zip-unzip : (ps : List (Kind × Anchor)) → zipped (firsts ps) (seconds ps) ≡ ps
+pub zip-unzip : {X Y : Type 0} (ps : List (X × Y)) → zipped (firsts ps) (seconds ps) ≡ ps
 zip-unzip [] = refl
 zip-unzip (p ∷ ps) = ap (λ qs. p ∷ qs) (zip-unzip ps)
 
-same-lengths : (ps : List (Kind × Anchor)) → length (firsts ps) ≡ length (seconds ps)
+same-lengths : {X Y : Type 0} (ps : List (X × Y)) → length (firsts ps) ≡ length (seconds ps)
 same-lengths [] = refl
 same-lengths (p ∷ ps) = (let rest = same-lengths ps in omega (arith, rest))
 
-pub plan_of-shown : (v : Version) (w : ℕ) (c : Conditions) (ms : List Mark) (ps : List (Kind × Anchor)) (cs : List Certificate) →
-    is_32 w ≡ true → are_conditions_shown v c ≡ true → is_32 (length ms) ≡ true → list_all is_mark_shown ms ≡ true → are_phases_shown ps ≡ true → are_certificates_shown cs ≡ true → HasText (plan_of v w c ms ps cs)
-plan_of-shown v w c ms ps cs hw hc hm hk hp hs = record { workers = hw; conditions = hc; loops = hm; marks = hk; privates = refl; pairs = same-lengths ps; phases = ap are_phases_shown (zip-unzip ps) ∙ hp; certificates = hs }
+pub plan_of-shown : (v : Version) (w : ℕ) (c : Conditions) (ls : List (Mark × List ℕ)) (ps : List (Kind × Anchor)) (cs : List Certificate) →
+    is_32 w ≡ true → are_conditions_shown v c ≡ true → are_loops_shown v ls ≡ true → are_phases_shown ps ≡ true → are_certificates_shown cs ≡ true → HasText (plan_of v w c ls ps cs)
+plan_of-shown v w c ls ps cs hw hc hl hp hs = record { workers = hw; conditions = hc; lists = same-lengths ls; loops = ap (are_loops_shown v) (zip-unzip ls) ∙ hl; pairs = same-lengths ps; phases = ap are_phases_shown (zip-unzip ps) ∙ hp; certificates = hs }
 
 -- what stands behind each part
 abbrev pub end_lines : Plan → List (List ℕ)
@@ -69,20 +69,13 @@ abbrev pub from_phases : Plan → List (List ℕ)
 from_phases p = counted (codes "PHASES") (alone phase_line) (zipped p.kinds p.anchors) ++ from_certificates p
 
 abbrev pub from_loops : Plan → List (List ℕ)
-from_loops p = counted (codes "LOOPS") (alone loop_line) p.cut.marks ++ from_phases p
+from_loops p = counted (codes "LOOPS") (alone loop_line) (cut_loops p.cut) ++ from_phases p
 
 abbrev pub from_conditions : Plan → List (List ℕ)
 from_conditions p = condition_lines p.version p.conditions ++ from_loops p
 
 abbrev pub from_workers : Plan → List (List ℕ)
 from_workers p = count_line (codes "WORKERS") p.workers ∷ from_conditions p
-
--- the parts, and what is asked of each
-abbrev pub AreMarks : List Mark → Type 0
-AreMarks ms = (is_32 (length ms) && list_all is_mark_shown ms) ≡ true
-
-pub marks-shown : (ms : List Mark) → is_32 (length ms) ≡ true → list_all is_mark_shown ms ≡ true → AreMarks ms
-marks-shown ms h k = and_from (is_32 (length ms)) (list_all is_mark_shown ms) h k
 
 -- each part's lines tell it apart
 pub version-free : IsFree (λ (v : Version). version_line v ∷ []) (λ v. true ≡ true)
@@ -97,8 +90,8 @@ apart_32 word w m n h h' e = line_free (count_line word) is_32 count_32_said (co
 pub apart_64 : (word : List ℕ) → list_all (λ b. nat_lt 32 b) word ≡ true → (m n : ℕ) → is_64 m ≡ true → is_64 n ≡ true → count_line word m ≡ count_line word n → m ≡ n
 apart_64 word w m n h h' e = line_free (count_line word) is_64 count_64_said (count_64-law word w) m n h h' e
 
-pub marks-free : IsFree (counted (codes "LOOPS") (alone loop_line)) AreMarks
-marks-free = headed-free (count_line (codes "LOOPS")) is_32 (apart_32 (codes "LOOPS") refl) refl (alone loop_line) is_mark_shown loops-free
+pub cut-free : (v : Version) → IsFree (counted (codes "LOOPS") (alone loop_line)) (λ ls. are_loops_shown v ls ≡ true)
+cut-free v = headed-free (count_line (codes "LOOPS")) is_32 (apart_32 (codes "LOOPS") refl) refl (alone loop_line) (is_loop_shown v) (loops-free v)
 
 pub kinds-free : IsFree (counted (codes "PHASES") (alone phase_line)) (λ ps. are_phases_shown ps ≡ true)
 kinds-free = headed-free (count_line (codes "PHASES")) is_32 (apart_32 (codes "PHASES") refl) refl (alone phase_line) is_phase_shown phases-free

@@ -12,7 +12,7 @@ use Rattle.owner_partition.specs.declared.anchor.Dist.TheVariants.{Block, Cyclic
 use Rattle.sync_plan.specs.declared.plan.ConditionRow.{ConditionRow}
 use Rattle.sync_plan.specs.declared.plan.Kind.{Kind}
 use Rattle.sync_plan.specs.declared.plan.Kind.TheVariants.{Nothing, Producer, Left, Right, Both, Barrier, Join}
-use Rattle.plan_text.specs.Loose.{after_star, anchor_of, before_star, both, dist_of, form_of, is_at, kept, kind_of, last_word, narrow_of, negated, number_32, number_64, number_of, pair_behind, pairs_of, phase_of, plain_kind, row_of, signed_of, step_of, term_of, word_at}
+use Rattle.plan_text.specs.Loose.{after_star, anchor_of, before_star, both, dist_of, form_of, is_at, kept, kind_of, last_word, loop_of, narrow_of, negated, number_32, number_64, number_of, pair_behind, pairs_of, phase_of, plain_kind, private_of, row_of, signed_of, step_of, term_of, word_at}
 use Rattle.plan_text.specs.PlanText.{is_128, is_32, is_64, is_anchor_shown, is_dist_shown, is_form_shown, is_kind_shown, is_phase_shown, is_row_shown, is_step_shown}
 
 shown-32 : (w : List ℕ) → is_32 (number_32 w) ≡ true
@@ -38,6 +38,14 @@ shown-kept n = by_case (nat_lt n (2 ^ 127)) refl
 shown-signed : (w : List ℕ) → is_128 (signed_of w) ≡ true
 shown-signed [] = refl
 shown-signed (c ∷ cs) = elim (c == 45) as (λ b. is_128 (if b then negated (number_of cs) else kept (number_of (c ∷ cs))) ≡ true) [ true ↦ shown-negated (number_of cs) | false ↦ shown-kept (number_of (c ∷ cs)) ]
+
+-- private scalars
+shown-privates : (words : List (List ℕ)) → list_all is_32 (map private_of words) ≡ true
+shown-privates [] = refl
+shown-privates (w ∷ words) = and_from (is_32 (private_of w)) (list_all is_32 (map private_of words)) (shown-32 (drop 1 w)) (shown-privates words)
+
+pub shown-loop : (words : List (List ℕ)) → list_all is_32 (loop_of words).1 ≡ true
+shown-loop words = shown-privates (drop 3 words)
 
 -- pairs
 pub shown-pairs : (letter : ℕ) (words : List (List ℕ)) → list_all (λ p. is_32 p.0) (pairs_of letter words) ≡ true

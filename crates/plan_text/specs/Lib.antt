@@ -5,3 +5,4 @@ pub mod Loose
 pub mod Unbroken
 pub mod Stops
 pub mod Parts
+pub mod SyntaxText

@@ -10,7 +10,7 @@ use Rattle.owner_partition.specs.declared.anchor.Anchor.{Anchor}
 use Rattle.owner_partition.specs.declared.anchor.Dist.{Dist}
 use Rattle.owner_partition.specs.declared.anchor.Dist.TheVariants.{Block, Cyclic}
 use Rattle.owner_partition.specs.declared.cut.Mark.{Mark}
-use Rattle.owner_partition.specs.declared.cut.Mark.TheVariants.{Outer, Doall, Single, Inner}
+use Rattle.owner_partition.specs.declared.cut.Mark.TheVariants.{Outer, Doall, Sum, Single, Inner}
 use Rattle.sync_plan.specs.declared.plan.ConditionRow.{ConditionRow}
 use Rattle.sync_plan.specs.declared.plan.Kind.{Kind}
 use Rattle.sync_plan.specs.declared.plan.Version.{Version}
@@ -96,8 +96,16 @@ abbrev pub mark_of : List ℕ → Mark
 mark_of word =
     if bytes_eq word (codes "OUTER") then Outer
     else if bytes_eq word (codes "DOALL") then Doall
+    else if bytes_eq word (codes "SUM") then Sum
     else if bytes_eq word (codes "SINGLE") then Single
     else Inner
+
+-- a loop: its mark, and behind one more word its private scalars
+abbrev pub private_of : List ℕ → ℕ
+private_of word = number_32 (drop 1 word)
+
+abbrev pub loop_of : List (List ℕ) → Mark × List ℕ
+loop_of words = (mark_of (word_at 1 words), map private_of (drop 3 words))
 
 -- a kind, where it isn't Producer
 abbrev pub plain_kind : List ℕ → Kind
@@ -142,8 +150,8 @@ pub pair_of-example : pair_of 76 (codes "-7*L12") ≡ Some (12, negsuc 6)
 pair_of-example = refl
 
 -- what a line says: a loop, a count, a phase, a row of conditions, the number of a certificate's steps, and a step
-abbrev pub loop_said : List ℕ → Option Mark
-loop_said line = Some (mark_of (word_at 1 (words_of line)))
+abbrev pub loop_said : List ℕ → Option (Mark × List ℕ)
+loop_said line = Some (loop_of (words_of line))
 
 abbrev pub count_32_said : List ℕ → Option ℕ
 count_32_said line = Some (number_32 (word_at 1 (words_of line)))

@@ -7,16 +7,15 @@ use Rattle.sync_plan.specs.declared.plan.Conditions.{Conditions}
 use Rattle.sync_plan.specs.declared.plan.Kind.{Kind}
 use Rattle.sync_plan.specs.declared.plan.Plan.{Plan}
 use Rattle.sync_plan.specs.declared.plan.Version.{Version}
-use Rattle.owner_partition.specs.Cuts.{plain_cut}
 
--- the kinds and the anchors of phases
-abbrev pub firsts : List (Kind × Anchor) → List Kind
+-- both lists of pairs
+abbrev pub firsts : {X Y : Type 0} → List (X × Y) → List X
 firsts [] = []
 firsts (p ∷ ps) = p.0 ∷ firsts ps
 
-abbrev pub seconds : List (Kind × Anchor) → List Anchor
+abbrev pub seconds : {X Y : Type 0} → List (X × Y) → List Y
 seconds [] = []
 seconds (p ∷ ps) = p.1 ∷ seconds ps
 
-abbrev pub plan_of : Version → ℕ → Conditions → List Mark → List (Kind × Anchor) → List Certificate → Plan
-plan_of v w c ms ps cs = record { version = v; conditions = c; workers = w; cut = plain_cut ms; anchors = seconds ps; kinds = firsts ps; certificates = cs }
+abbrev pub plan_of : Version → ℕ → Conditions → List (Mark × List ℕ) → List (Kind × Anchor) → List Certificate → Plan
+plan_of v w c ls ps cs = record { version = v; conditions = c; workers = w; cut = record { marks = firsts ls; privates = seconds ls }; anchors = seconds ps; kinds = firsts ps; certificates = cs }

@@ -1,5 +1,5 @@
 -- The text of a plan, and the plans that have one.
-use Rattle.std.specs.Prelude.{ℕ, suc, ◌^◌, ◌≡◌, ℤ, pos, negsuc, Bool, true, false, ◌&&◌, nat_lt, List, [], ◌∷◌, ◌++◌, length, codes}
+use Rattle.std.specs.Prelude.{ℕ, suc, ◌^◌, ◌≡◌, ℤ, pos, negsuc, Bool, true, false, not, ◌&&◌, ◌||◌, ◌==◌, nat_lt, List, [], ◌∷◌, ◌++◌, length, codes}
 use Rattle.std.specs.List.{flat_map, list_all}
 use Rattle.farkas_cert.specs.declared.certificate.Certificate.{Certificate}
 use Rattle.farkas_cert.specs.declared.certificate.Step.{Step}
@@ -7,9 +7,10 @@ use Rattle.nest_tree.specs.Form.{Form, is_form, is_small, rises_above}
 use Rattle.owner_partition.specs.declared.anchor.Anchor.{Anchor}
 use Rattle.owner_partition.specs.declared.anchor.Dist.{Dist}
 use Rattle.owner_partition.specs.declared.anchor.Dist.TheVariants.{Block, Cyclic}
-use Rattle.owner_partition.specs.Cuts.{plain_cut}
+use Rattle.owner_partition.specs.Cuts.{Cutting}
+use Rattle.owner_partition.specs.Marks.{is_doall, is_sum_mark}
 use Rattle.owner_partition.specs.declared.cut.Mark.{Mark}
-use Rattle.owner_partition.specs.declared.cut.Mark.TheVariants.{Outer, Doall, Sum, Single, Inner}
+use Rattle.sync_plan.specs.Shape.{has_privates, has_sums}
 use Rattle.sync_plan.specs.declared.plan.ConditionRow.{ConditionRow}
 use Rattle.sync_plan.specs.declared.plan.Conditions.{Conditions}
 use Rattle.sync_plan.specs.declared.plan.Conditions.TheVariants.{Values, Rows}
@@ -48,7 +49,7 @@ condition_lines Three c = where_lines c
 condition_lines Four c = where_lines c
 condition_lines Five c = where_lines c
 
--- the kinds and the anchors of the phases, as far as both go
+-- two lists side by side, as far as both go
 abbrev pub zipped : {X Y : Type 0} → List X → List Y → List (X × Y)
 zipped [] ys = []
 zipped (x ∷ xs) [] = []
@@ -62,11 +63,15 @@ cert_lines k c = headed (cert_line k) (alone (λ n. step_line)) c.steps
 abbrev pub head_lines : Plan → List (List ℕ)
 head_lines plan = version_line plan.version ∷ (count_line (codes "WORKERS") plan.workers ∷ condition_lines plan.version plan.conditions)
 
+-- each loop's mark and its private scalars
+abbrev pub cut_loops : Cutting → List (Mark × List ℕ)
+cut_loops cut = zipped cut.marks cut.privates
+
 -- the lines of a plan's text
 abbrev pub plan_lines : Plan → List (List ℕ)
 plan_lines plan =
     head_lines plan
-    ++ (counted (codes "LOOPS") (alone loop_line) plan.cut.marks
+    ++ (counted (codes "LOOPS") (alone loop_line) (cut_loops plan.cut)
     ++ (counted (codes "PHASES") (alone phase_line) (zipped plan.kinds plan.anchors)
     ++ (counted (codes "CERTIFICATES") cert_lines plan.certificates
     ++ codes "END PLAN" ∷ [])))
@@ -140,28 +145,30 @@ are_phases_shown phases = is_32 (length phases) && list_all is_phase_shown phase
 abbrev pub are_certificates_shown : List Certificate → Bool
 are_certificates_shown cs = is_64 (length cs) && list_all is_certificate_shown cs
 
--- a mark that a text shows: no text has Sum loops, until all that runs a plan knows them
-abbrev pub is_mark_shown : Mark → Bool
-is_mark_shown Outer = true
-is_mark_shown Doall = true
-is_mark_shown Sum = false
-is_mark_shown Single = true
-is_mark_shown Inner = true
+-- a version shows a loop: it has Sum loops, and private scalars where a loop's trips are dealt out
+abbrev pub has_loop : Version → Mark × List ℕ → Bool
+has_loop version l = (not (is_sum_mark l.0) || has_sums version) && (length l.1 == 0 || (has_privates version && is_doall l.0))
+
+abbrev pub is_loop_shown : Version → Mark × List ℕ → Bool
+is_loop_shown version l = has_loop version l && list_all is_32 l.1
+
+abbrev pub are_loops_shown : Version → List (Mark × List ℕ) → Bool
+are_loops_shown version loops = is_32 (length loops) && list_all (is_loop_shown version) loops
 
 -- the plan's version shows it in full, with numbers in their ranges
 pub record HasText (plan : Plan) : Type 0 where
   pub workers : is_32 plan.workers ≡ true
   pub conditions : are_conditions_shown plan.version plan.conditions ≡ true
-  pub loops : is_32 (length plan.cut.marks) ≡ true
-  pub marks : list_all is_mark_shown plan.cut.marks ≡ true
-  pub privates : plan.cut ≡ plain_cut plan.cut.marks
+  pub lists : length plan.cut.marks ≡ length plan.cut.privates
+  pub loops : are_loops_shown plan.version (cut_loops plan.cut) ≡ true
   pub pairs : length plan.kinds ≡ length plan.anchors
   pub phases : are_phases_shown (zipped plan.kinds plan.anchors) ≡ true
   pub certificates : are_certificates_shown plan.certificates ≡ true
 
--- a kind for each anchor; and the conditions, the loops and the phases are as many as its version shows
+-- private scalars for each mark, and a kind for each anchor; and the conditions, the loops and the phases are as many as its version shows
 pub record HasCounts (plan : Plan) : Type 0 where
   pub conditions : are_conditions_shown plan.version plan.conditions ≡ true
+  pub lists : length plan.cut.marks ≡ length plan.cut.privates
   pub loops : is_32 (length plan.cut.marks) ≡ true
   pub pairs : length plan.kinds ≡ length plan.anchors
   pub phases : is_32 (length plan.kinds) ≡ true

@@ -51,6 +51,14 @@ mark_word Single = codes "SINGLE"
 mark_word Inner = codes "INNER"
 mark_word Sum = codes "SUM"
 
+-- private scalars V2, V5, .., if there are some
+abbrev pub private_word : ℕ → List ℕ
+private_word v = codes "V" ++ decimal v
+
+abbrev pub private_words : List ℕ → List (List ℕ)
+private_words [] = []
+private_words (v ∷ vs) = codes "PRIVATE" ∷ map private_word (v ∷ vs)
+
 abbrev pub kind_words : Kind → List (List ℕ)
 kind_words Nothing = codes "NOTHING" ∷ []
 kind_words (Producer a) = codes "PRODUCER" ∷ anchor_words a
@@ -74,8 +82,8 @@ version_line v = codes "SPMD PLAN " ++ version_digit v
 abbrev pub count_line : List ℕ → ℕ → List ℕ
 count_line word n = line_of (word ∷ decimal n ∷ [])
 
-abbrev pub loop_line : ℕ → Mark → List ℕ
-loop_line k m = line_of (decimal k ∷ mark_word m ∷ [])
+abbrev pub loop_line : ℕ → Mark × List ℕ → List ℕ
+loop_line k l = line_of (decimal k ∷ mark_word l.0 ∷ private_words l.1)
 
 abbrev pub phase_line : ℕ → Kind × Anchor → List ℕ
 phase_line k p = line_of (decimal k ∷ kind_words p.0 ++ codes "AT" ∷ anchor_words p.1)

@@ -4,21 +4,21 @@ ghost use Rattle.std.specs.Prelude.{◌≡◌, ◌+◌, ◌∷◌, ◌++◌, ◌
 ghost use Rattle.nest_tree.specs.Form.{is_small, rises_above};
 ghost use Rattle.std.specs.List.{list_all};
 ghost use Rattle.plan_text.specs.Unbroken.{is_glyph};
-ghost use Rattle.plan_text.specs.PlanText.{is_32, is_64, is_mark_shown, is_phase_shown, is_row_shown, is_step_shown};
+ghost use Rattle.plan_text.specs.PlanText.{has_loop, is_32, is_64, is_loop_shown, is_phase_shown, is_row_shown, is_step_shown};
 ghost use Rattle.plan_text.specs.Stops.{RefusesLine};
 ghost use Rattle.plan_text.specs.Words as spec;
 
 use crate::line::{put_cert, put_count, put_loop, put_phase, put_row, put_step};
 use crate::lines::{Lines, is_same};
 use crate::loose::{
-    behind_first, is_small, mark_of, number_32, number_64, phase_of, rises_above, row_of, step_of,
+    behind_first, is_small, loop_of, number_32, number_64, phase_of, rises_above, row_of, step_of,
     word_at, words_of,
 };
 use crate::syntax::PlanSyntax;
 use farkas_cert::Step;
-use owner_partition::{Anchor, Mark};
+use owner_partition::{Anchor, Mark, Privates};
 use std::alloc::Global;
-use sync_plan::{ConditionRow, Kind};
+use sync_plan::{ConditionRow, Kind, Version};
 
 /// The line of a count of 32 bits.
 pub(crate) fn read_count_32(
@@ -68,23 +68,41 @@ pub(crate) fn read_count_64(
     }
 }
 
-/// The line of the loop with this number.
-pub(crate) fn read_loop(alloc: Global, lines: &mut Lines, number: u32) -> Result<Mark, PlanSyntax>
-    ensures ok { IfOk result (λ mark. lines.old.rest.now ≡ spec.loop_line number mark ++ (10 ∷ lines.new.rest.now)) }
-    ensures taken { IfOk result (λ mark. lines.new.taken ≡ lines.old.taken + 1) }
-    ensures shown { IfOk result (λ mark. is_mark_shown mark ≡ true) }
-    ensures refused { IfErr result (RefusesLine (spec.loop_line number) is_mark_shown lines.old.rest.now lines.old.taken) }
+/// The line of the loop with this number, in a plan of this version.
+pub(crate) fn read_loop(
+    alloc: Global,
+    lines: &mut Lines,
+    version: Version,
+    number: u32,
+) -> Result<(Mark, Privates), PlanSyntax>
+    ensures ok { IfOk result (λ l. lines.old.rest.now ≡ spec.loop_line number l ++ (10 ∷ lines.new.rest.now)) }
+    ensures taken { IfOk result (λ l. lines.new.taken ≡ lines.old.taken + 1) }
+    ensures shown { IfOk result (λ l. is_loop_shown version l ≡ true) }
+    ensures refused { IfErr result (RefusesLine (spec.loop_line number) (is_loop_shown version) lines.old.rest.now lines.old.taken) }
 {
     let line = lines.next()?;
     let words = words_of(alloc, line)?;
-    let mark = mark_of(word_at(&words, 1));
+    let (mark, privates) = loop_of(alloc, &words)?;
     let mut written = Vec::with_capacity(alloc, line.len())?;
-    put_loop(&mut written, number, mark)?;
-    if is_same(line, &written) {
-        Ok(mark)
+    put_loop(&mut written, number, mark, privates.as_slice())?;
+    if !is_same(line, &written) {
+        return Err(lines.refusal());
+    }
+    if has_loop(version, mark, &privates) {
+        Ok((mark, privates))
     } else {
         Err(lines.refusal())
     }
+}
+
+// Whether a version has such a loop: Sum loops, and private scalars where a loop's trips are dealt
+// out.
+fn has_loop(version: Version, mark: Mark, privates: &Privates) -> bool
+    ensures { result ≡ has_loop version (mark, privates.now) }
+{
+    let may_sum = !mark.is_sum() || version.has_sums();
+    let may_own = privates.as_slice().is_empty() || (version.has_privates() && mark.is_doall());
+    may_sum && may_own
 }
 
 /// The line of the phase with this number.

@@ -65,11 +65,46 @@ pub(crate) fn put_count(out: &mut Vec<u8>, word: &[u8], count: u64) -> Result<()
 }
 
 /// Appends the line of a loop.
-pub(crate) fn put_loop(out: &mut Vec<u8>, number: u32, mark: Mark) -> Result<(), AllocError>
-    ensures { OnOk result (out.new.items ≡ out.old.items ++ spec.loop_line number mark) }
+pub(crate) fn put_loop(
+    out: &mut Vec<u8>,
+    number: u32,
+    mark: Mark,
+    privates: &[u32],
+) -> Result<(), AllocError>
+    ensures { OnOk result (out.new.items ≡ out.old.items ++ spec.loop_line number (mark, privates.now)) }
 {
     put_natural(out, u64::from(number))?;
-    put_word(out, mark_word(mark))
+    put_word(out, mark_word(mark))?;
+    put_privates(out, privates)
+}
+
+// The words of private scalars, if there are some.
+fn put_privates(out: &mut Vec<u8>, privates: &[u32]) -> Result<(), AllocError>
+    ensures { OnOk result (out.new.items ≡ out.old.items ++ spec.spaced (spec.private_words privates.now)) }
+{
+    match privates {
+        [] => Ok(()),
+        [_, ..] => {
+            put_word(out, b"PRIVATE")?;
+            put_scalars(out, privates)
+        }
+    }
+}
+
+fn put_scalars(out: &mut Vec<u8>, scalars: &[u32]) -> Result<(), AllocError>
+    ensures { OnOk result (out.new.items ≡ out.old.items ++ spec.spaced (map spec.private_word scalars.now)) }
+{
+    for &scalar in scalars {
+        put_scalar(out, scalar)?;
+    }
+    Ok(())
+}
+
+fn put_scalar(out: &mut Vec<u8>, scalar: u32) -> Result<(), AllocError>
+    ensures { OnOk result (out.new.items ≡ out.old.items ++ 32 ∷ spec.private_word scalar) }
+{
+    out.extend_from_slice(b" V")?;
+    put_natural(out, u64::from(scalar))
 }
 
 fn mark_word(mark: Mark) -> &'static [u8]

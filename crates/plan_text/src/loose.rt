@@ -6,11 +6,10 @@ ghost use Rattle.std.specs.List.{after_first, before_first};
 ghost use Rattle.std.specs.Str.{bytes_eq};
 ghost use Rattle.nest_tree.specs.Form.{is_small, rises_above};
 ghost use Rattle.plan_text.specs.Loose as spec;
-ghost use Rattle.plan_text.specs.PlanText.{is_mark_shown};
 
 use farkas_cert::{Step, Terms};
 use nest_tree::{Affine, Pairs};
-use owner_partition::{Anchor, Dist, Mark};
+use owner_partition::{Anchor, Dist, Mark, Privates};
 use std::alloc::{AllocError, Global};
 use sync_plan::{ConditionRow, Kind};
 
@@ -212,19 +211,59 @@ fn is_same(word: &[u8], other: &[u8]) -> bool
     word == other
 }
 
-/// The mark that a word names.
-pub(crate) fn mark_of(word: &[u8]) -> Mark
-    ensures mark { result ≡ spec.mark_of word.now }
-    ensures shown { is_mark_shown result ≡ true }
+// The mark that a word names.
+fn mark_of(word: &[u8]) -> Mark
+    ensures { result ≡ spec.mark_of word.now }
 {
     if is_same(word, b"OUTER") {
         Mark::Outer
     } else if is_same(word, b"DOALL") {
         Mark::Doall
+    } else if is_same(word, b"SUM") {
+        Mark::Sum
     } else if is_same(word, b"SINGLE") {
         Mark::Single
     } else {
         Mark::Inner
+    }
+}
+
+// Private scalars.
+fn privates_of(alloc: Global, words: &[&[u8]]) -> Result<Privates, AllocError>
+    ensures { IfOk result (λ privates. privates ≡ map spec.private_of (map (λ w. w.now) words.now)) }
+{
+    let mut numbers = Vec::with_capacity(alloc, words.len())?;
+    for word in words {
+        numbers.push(private_of(word))?;
+    }
+    Ok(Privates::from_vec(numbers))
+}
+
+fn private_of(word: &[u8]) -> u32
+    ensures { result ≡ spec.private_of word.now }
+{
+    match word {
+        [_, digits @ ..] => number_32(digits),
+        [] => number_32(word),
+    }
+}
+
+/// A loop's mark and its private scalars.
+pub(crate) fn loop_of(alloc: Global, words: &[&[u8]]) -> Result<(Mark, Privates), AllocError>
+    ensures { IfOk result (λ l. l ≡ spec.loop_of (map (λ w. w.now) words.now)) }
+{
+    let mark = mark_of(word_at(words, 1));
+    let privates = privates_of(alloc, behind_third(words))?;
+    Ok((mark, privates))
+}
+
+// The words behind the third.
+fn behind_third<'a, 'b>(words: &'b [&'a [u8]]) -> &'b [&'a [u8]]
+    ensures { map (λ w. w.now) result.now ≡ drop 3 (map (λ w. w.now) words.now) }
+{
+    match words {
+        [_, _, _, behind @ ..] => behind,
+        _ => &words[words.len()..],
     }
 }
 

@@ -9,22 +9,23 @@ use crate::item::{read_loop, read_phase, read_row, read_step, read_steps};
 use crate::lines::Lines;
 use crate::syntax::PlanSyntax;
 use farkas_cert::{Certificate, Step, StepList};
-use owner_partition::{Anchor, Mark};
+use owner_partition::{Anchor, Mark, Privates};
 use std::alloc::Global;
-use sync_plan::{ConditionRow, Kind};
+use sync_plan::{ConditionRow, Kind, Version};
 
 /// So many loops.
 pub(crate) fn read_loops(
     alloc: Global,
     lines: &mut Lines,
+    version: Version,
     count: u32,
-) -> Result<Vec<Mark>, PlanSyntax>
-    ensures ok { IfOk result (λ items. ItemsRead (spec.alone loop_line) spec.is_mark_shown lines.old.rest.now lines.old.taken lines.new.rest.now lines.new.taken items.items count) }
-    ensures refused { IfErr result (RefusesPart (spec.numbered (spec.alone loop_line) 1) (AreItems spec.is_mark_shown count) lines.old.rest.now lines.old.taken) }
+) -> Result<Vec<(Mark, Privates)>, PlanSyntax>
+    ensures ok { IfOk result (λ items. ItemsRead (spec.alone loop_line) (spec.is_loop_shown version) lines.old.rest.now lines.old.taken lines.new.rest.now lines.new.taken items.items count) }
+    ensures refused { IfErr result (RefusesPart (spec.numbered (spec.alone loop_line) 1) (AreItems (spec.is_loop_shown version) count) lines.old.rest.now lines.old.taken) }
 {
     let mut items = Vec::new(alloc);
     for index in 0..count {
-        match read_loop(alloc, lines, index + 1) {
+        match read_loop(alloc, lines, version, index + 1) {
             Ok(item) => items.push(item)?,
             Err(refusal) => return Err(refusal),
         }

@@ -16,7 +16,7 @@ use crate::loose::{number_32, word_at, words_of};
 use crate::part::{read_certificates, read_loops, read_phases, read_rows};
 use crate::syntax::PlanSyntax;
 use farkas_cert::Certificate;
-use owner_partition::{Anchor, Cut, Mark};
+use owner_partition::{Anchor, Cut, Mark, Privates};
 use std::alloc::{AllocError, Global};
 use sync_plan::{Anchors, Certificates, ConditionRows, Conditions, Kind, Kinds, Plan, Version};
 
@@ -99,18 +99,22 @@ fn read_rows_where(alloc: Global, lines: &mut Lines) -> Result<Conditions, PlanS
     }
 }
 
-// The loops, behind their number.
-fn read_marks(alloc: Global, lines: &mut Lines) -> Result<Vec<Mark>, PlanSyntax>
-    ensures ok { IfOk result (λ marks. lines.old.rest.now ≡ spec.text_of (spec.counted (codes "LOOPS") (spec.alone loop_line) marks.items) ++ lines.new.rest.now) }
-    ensures taken { IfOk result (λ marks. lines.new.taken ≡ lines.old.taken + length (spec.counted (codes "LOOPS") (spec.alone loop_line) marks.items)) }
-    ensures shown { IfOk result (λ marks. (spec.is_32 (length marks.items) && list_all spec.is_mark_shown marks.items) ≡ true) }
-    ensures refused { IfErr result (RefusesPart (spec.counted (codes "LOOPS") (spec.alone loop_line)) (λ marks. (spec.is_32 (length marks) && list_all spec.is_mark_shown marks) ≡ true) lines.old.rest.now lines.old.taken) }
+// The loops of a version's plan, behind their number.
+fn read_cut(
+    alloc: Global,
+    lines: &mut Lines,
+    version: Version,
+) -> Result<Vec<(Mark, Privates)>, PlanSyntax>
+    ensures ok { IfOk result (λ loops. lines.old.rest.now ≡ spec.text_of (spec.counted (codes "LOOPS") (spec.alone loop_line) loops.items) ++ lines.new.rest.now) }
+    ensures taken { IfOk result (λ loops. lines.new.taken ≡ lines.old.taken + length (spec.counted (codes "LOOPS") (spec.alone loop_line) loops.items)) }
+    ensures shown { IfOk result (λ loops. spec.are_loops_shown version loops.items ≡ true) }
+    ensures refused { IfErr result (RefusesPart (spec.counted (codes "LOOPS") (spec.alone loop_line)) (λ loops. spec.are_loops_shown version loops ≡ true) lines.old.rest.now lines.old.taken) }
 {
     let count = match read_count_32(alloc, lines, b"LOOPS") {
         Ok(count) => count,
         Err(refusal) => return Err(refusal),
     };
-    read_loops(alloc, lines, count)
+    read_loops(alloc, lines, version, count)
 }
 
 // The phases, behind their number.
@@ -164,16 +168,16 @@ struct Parts {
     version: Version,
     workers: u32,
     conditions: Conditions,
-    marks: Vec<Mark>,
+    loops: Vec<(Mark, Privates)>,
     phases: Vec<(Kind, Anchor)>,
     certificates: Vec<Certificate>,
 }
 
 // All lines of a plan's text.
 fn read_parts(alloc: Global, lines: &mut Lines) -> Result<Parts, PlanSyntax>
-    ensures ok { IfOk result (λ p. lines.old.rest.now ≡ spec.text_of (spec.plan_lines (plan_of p.version p.workers p.conditions p.marks.items p.phases.items p.certificates.items)) ++ lines.new.rest.now) }
-    ensures taken { IfOk result (λ p. lines.new.taken ≡ lines.old.taken + length (spec.plan_lines (plan_of p.version p.workers p.conditions p.marks.items p.phases.items p.certificates.items))) }
-    ensures shown { IfOk result (λ p. spec.HasText (plan_of p.version p.workers p.conditions p.marks.items p.phases.items p.certificates.items)) }
+    ensures ok { IfOk result (λ p. lines.old.rest.now ≡ spec.text_of (spec.plan_lines (plan_of p.version p.workers p.conditions p.loops.items p.phases.items p.certificates.items)) ++ lines.new.rest.now) }
+    ensures taken { IfOk result (λ p. lines.new.taken ≡ lines.old.taken + length (spec.plan_lines (plan_of p.version p.workers p.conditions p.loops.items p.phases.items p.certificates.items))) }
+    ensures shown { IfOk result (λ p. spec.HasText (plan_of p.version p.workers p.conditions p.loops.items p.phases.items p.certificates.items)) }
     ensures refused { IfErr result (RefusesPart spec.plan_lines spec.HasText lines.old.rest.now lines.old.taken) }
 {
     let version = match read_version(lines) {
@@ -188,8 +192,8 @@ fn read_parts(alloc: Global, lines: &mut Lines) -> Result<Parts, PlanSyntax>
         Ok(conditions) => conditions,
         Err(refusal) => return Err(refusal),
     };
-    let marks = match read_marks(alloc, lines) {
-        Ok(marks) => marks,
+    let loops = match read_cut(alloc, lines, version) {
+        Ok(loops) => loops,
         Err(refusal) => return Err(refusal),
     };
     let phases = match read_kinds(alloc, lines) {
@@ -205,7 +209,7 @@ fn read_parts(alloc: Global, lines: &mut Lines) -> Result<Parts, PlanSyntax>
             version,
             workers,
             conditions,
-            marks,
+            loops,
             phases,
             certificates,
         }),
@@ -213,41 +217,42 @@ fn read_parts(alloc: Global, lines: &mut Lines) -> Result<Parts, PlanSyntax>
     }
 }
 
-// The kinds and the anchors of phases.
-fn unzipped(
+// Both lists of pairs.
+fn unzipped<A: Drop, B: Drop>(
     alloc: Global,
-    phases: Vec<(Kind, Anchor)>,
-) -> Result<(Vec<Kind>, Vec<Anchor>), AllocError>
-    ensures kinds { IfOk result (λ r. r.0.items ≡ firsts phases.items) }
-    ensures anchors { IfOk result (λ r. r.1.items ≡ seconds phases.items) }
+    pairs: Vec<(A, B)>,
+) -> Result<(Vec<A>, Vec<B>), AllocError>
+    ensures firsts { IfOk result (λ r. r.0.items ≡ firsts pairs.items) }
+    ensures seconds { IfOk result (λ r. r.1.items ≡ seconds pairs.items) }
 {
-    let mut kinds = Vec::with_capacity(alloc, phases.len())?;
-    let mut anchors = Vec::with_capacity(alloc, phases.len())?;
-    for (kind, anchor) in phases {
-        kinds.push(kind)?;
-        anchors.push(anchor)?;
+    let mut firsts = Vec::with_capacity(alloc, pairs.len())?;
+    let mut seconds = Vec::with_capacity(alloc, pairs.len())?;
+    for (first, second) in pairs {
+        firsts.push(first)?;
+        seconds.push(second)?;
     }
-    Ok((kinds, anchors))
+    Ok((firsts, seconds))
 }
 
 // The plan of these parts.
 fn made(alloc: Global, parts: Parts) -> Result<Plan, AllocError>
-    ensures { IfOk result (λ plan. plan ≡ plan_of parts.version parts.workers parts.conditions parts.marks.items parts.phases.items parts.certificates.items) }
+    ensures { IfOk result (λ plan. plan ≡ plan_of parts.version parts.workers parts.conditions parts.loops.items parts.phases.items parts.certificates.items) }
 {
     let Parts {
         version,
         workers,
         conditions,
-        marks,
+        loops,
         phases,
         certificates,
     } = parts;
+    let (marks, privates) = unzipped(alloc, loops)?;
     let (kinds, anchors) = unzipped(alloc, phases)?;
     Ok(Plan {
         version,
         conditions,
         workers,
-        cut: Cut::plain(alloc, marks)?,
+        cut: Cut::new(alloc, marks, privates)?,
         anchors: Anchors::from_vec(anchors),
         kinds: Kinds::from_vec(kinds),
         certificates: Certificates::from_vec(certificates),

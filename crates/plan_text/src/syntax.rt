@@ -1,6 +1,7 @@
 // Why bytes are no plan's text.
 
-ghost use Rattle.std.specs.Prelude.{◌≡◌};
+ghost use Rattle.std.specs.Prelude.{◌≡◌, Some};
+ghost use Rattle.plan_text.specs.SyntaxText.{text_of_syntax};
 ghost use Rattle.plan_text.specs.declared.syntax.PlanSyntax.TheVariants.{NoMemory};
 
 use std::alloc::{AllocError, AllocFailed};
@@ -16,7 +17,10 @@ pub enum PlanSyntax {
     NoMemory,
 }
 
+/// The line that is printed, without its line end.
 impl fmt::Display for PlanSyntax {
+    ghost output = { λ refusal. Some (text_of_syntax refusal) };
+
     fn fmt<W: fmt::Write>(&self, f: &mut fmt::Formatter<W>) -> fmt::Result {
         match self {
             PlanSyntax::Line(number) => write!(f, "PLAN SYNTAX {number}"),

@@ -6,7 +6,7 @@ ghost use Rattle.plan_text.specs.Words.{loop_line, phase_line, row_line, step_li
 
 use crate::line::{put_cert, put_count, put_loop, put_phase, put_row, put_step, put_version};
 use farkas_cert::{Certificate, Step};
-use owner_partition::{Anchor, Mark};
+use owner_partition::{Anchor, Mark, Privates};
 use std::alloc::{AllocError, Global};
 use sync_plan::{ConditionRow, Conditions, Kind, Plan, Version};
 
@@ -17,7 +17,7 @@ pub fn write_plan(alloc: Global, plan: &Plan) -> Result<Vec<u8>, AllocError>
 {
     let mut out = Vec::new(alloc);
     put_head(&mut out, plan)?;
-    put_loops(&mut out, plan.cut.as_slice())?;
+    put_loops(&mut out, plan.cut.as_slice(), plan.cut.privates())?;
     put_phases(&mut out, plan.kinds.as_slice(), plan.anchors.as_slice())?;
     put_certificates(&mut out, plan.certificates.as_slice())?;
     out.extend_from_slice(b"END PLAN\n")?;
@@ -62,14 +62,15 @@ fn put_rows(out: &mut Vec<u8>, rows: &[ConditionRow]) -> Result<(), AllocError>
     Ok(())
 }
 
-fn put_loops(out: &mut Vec<u8>, marks: &[Mark]) -> Result<(), AllocError>
-    requires { length marks.now < 2 ^ 32 }
-    ensures { OnOk result (out.new.items ≡ out.old.items ++ spec.text_of (spec.counted (codes "LOOPS") (spec.alone loop_line) marks.now)) }
+fn put_loops(out: &mut Vec<u8>, marks: &[Mark], privates: &[Privates]) -> Result<(), AllocError>
+    requires few { length marks.now < 2 ^ 32 }
+    requires lists { length marks.now ≡ length privates.now }
+    ensures { OnOk result (out.new.items ≡ out.old.items ++ spec.text_of (spec.counted (codes "LOOPS") (spec.alone loop_line) (spec.zipped marks.now privates.now))) }
 {
     put_count(out, b"LOOPS", marks.len() as u64)?;
     out.push(b'\n')?;
     for (place, mark) in marks.iter().enumerate() {
-        put_loop(out, place as u32 + 1, *mark)?;
+        put_loop(out, place as u32 + 1, *mark, privates[place].as_slice())?;
         out.push(b'\n')?;
     }
     Ok(())

@@ -64,7 +64,7 @@ empty_plan = record { version = One; conditions = Values; workers = 1; cut = pla
 
 empty_text : HasText empty_plan
 unfolding empty_plan
-empty_text = record { workers = refl; conditions = refl; loops = refl; marks = refl; privates = refl; pairs = refl; phases = refl; certificates = refl }
+empty_text = record { workers = refl; conditions = refl; lists = refl; loops = refl; pairs = refl; phases = refl; certificates = refl }
 
 pub read_or_alien : (bytes : List ℕ) → (IsPlanText bytes → ⊥) → ((n : ℕ) → IsFirstAlien bytes n → ⊥) → ⊥
 read_or_alien bytes unread unrefused = never_open bytes unread unrefused (length bytes) [] bytes (omega arith) refl (empty_plan, empty_text, (plan_lines empty_plan, refl))

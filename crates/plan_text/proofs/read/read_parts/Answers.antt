@@ -1,7 +1,3 @@
-use Rattle.std.proofs.Common.{length}
-use Rattle.std.proofs.lemmas.Bool.{and_parts}
-use Rattle.std.specs.List.{list_all}
-use Rattle.plan_text.specs.PlanText.{is_mark_shown, is_32}
 use Rattle.plan_text.proofs.Chain.{all_counted, all_read, stop0, stop1, stop2, stop3, stop4, stop5, stop6}
 use Rattle.plan_text.proofs.Plans.{plan_of-shown}
 use Rattle.plan_text.proofs.read.read_parts.Goals as goal
@@ -21,19 +17,19 @@ returns-in-Err-read_conditions-clause-refused c = stop2 c.args.lines.now.rest.no
     c.in-Ok-read_count_32.workers c.in-Ok-read_count_32.ensures.fits c.read_count_32.new.lines.rest.now c.read_count_32.new.lines.taken c.in-Ok-read_count_32.ensures.ok c.in-Ok-read_count_32.ensures.taken
     c.in-Err-read_conditions.refusal c.in-Err-read_conditions.ensures.refused
 
-pub returns-in-Err-read_marks-clause-refused : goal.returns-in-Err-read_marks-clause-refused
-returns-in-Err-read_marks-clause-refused c = stop3 c.args.lines.now.rest.now c.args.lines.now.taken
+pub returns-in-Err-read_cut-clause-refused : goal.returns-in-Err-read_cut-clause-refused
+returns-in-Err-read_cut-clause-refused c = stop3 c.args.lines.now.rest.now c.args.lines.now.taken
     c.in-Ok.version c.read_version.new.lines.rest.now c.read_version.new.lines.taken c.in-Ok.ensures.ok c.in-Ok.ensures.taken
     c.in-Ok-read_count_32.workers c.in-Ok-read_count_32.ensures.fits c.read_count_32.new.lines.rest.now c.read_count_32.new.lines.taken c.in-Ok-read_count_32.ensures.ok c.in-Ok-read_count_32.ensures.taken
     c.in-Ok-read_conditions.conditions c.in-Ok-read_conditions.ensures.shown c.read_conditions.new.lines.rest.now c.read_conditions.new.lines.taken c.in-Ok-read_conditions.ensures.ok c.in-Ok-read_conditions.ensures.taken
-    c.in-Err-read_marks.refusal c.in-Err-read_marks.ensures.refused
+    c.in-Err-read_cut.refusal c.in-Err-read_cut.ensures.refused
 
 pub returns-in-Err-read_kinds-clause-refused : goal.returns-in-Err-read_kinds-clause-refused
 returns-in-Err-read_kinds-clause-refused c = stop4 c.args.lines.now.rest.now c.args.lines.now.taken
     c.in-Ok.version c.read_version.new.lines.rest.now c.read_version.new.lines.taken c.in-Ok.ensures.ok c.in-Ok.ensures.taken
     c.in-Ok-read_count_32.workers c.in-Ok-read_count_32.ensures.fits c.read_count_32.new.lines.rest.now c.read_count_32.new.lines.taken c.in-Ok-read_count_32.ensures.ok c.in-Ok-read_count_32.ensures.taken
     c.in-Ok-read_conditions.conditions c.in-Ok-read_conditions.ensures.shown c.read_conditions.new.lines.rest.now c.read_conditions.new.lines.taken c.in-Ok-read_conditions.ensures.ok c.in-Ok-read_conditions.ensures.taken
-    c.in-Ok-read_marks.marks.items c.in-Ok-read_marks.ensures.shown c.read_marks.new.lines.rest.now c.read_marks.new.lines.taken c.in-Ok-read_marks.ensures.ok c.in-Ok-read_marks.ensures.taken
+    c.in-Ok-read_cut.loops.items c.in-Ok-read_cut.ensures.shown c.read_cut.new.lines.rest.now c.read_cut.new.lines.taken c.in-Ok-read_cut.ensures.ok c.in-Ok-read_cut.ensures.taken
     c.in-Err-read_kinds.refusal c.in-Err-read_kinds.ensures.refused
 
 pub returns-in-Err-read_proofs-clause-refused : goal.returns-in-Err-read_proofs-clause-refused
@@ -41,7 +37,7 @@ returns-in-Err-read_proofs-clause-refused c = stop5 c.args.lines.now.rest.now c.
     c.in-Ok.version c.read_version.new.lines.rest.now c.read_version.new.lines.taken c.in-Ok.ensures.ok c.in-Ok.ensures.taken
     c.in-Ok-read_count_32.workers c.in-Ok-read_count_32.ensures.fits c.read_count_32.new.lines.rest.now c.read_count_32.new.lines.taken c.in-Ok-read_count_32.ensures.ok c.in-Ok-read_count_32.ensures.taken
     c.in-Ok-read_conditions.conditions c.in-Ok-read_conditions.ensures.shown c.read_conditions.new.lines.rest.now c.read_conditions.new.lines.taken c.in-Ok-read_conditions.ensures.ok c.in-Ok-read_conditions.ensures.taken
-    c.in-Ok-read_marks.marks.items c.in-Ok-read_marks.ensures.shown c.read_marks.new.lines.rest.now c.read_marks.new.lines.taken c.in-Ok-read_marks.ensures.ok c.in-Ok-read_marks.ensures.taken
+    c.in-Ok-read_cut.loops.items c.in-Ok-read_cut.ensures.shown c.read_cut.new.lines.rest.now c.read_cut.new.lines.taken c.in-Ok-read_cut.ensures.ok c.in-Ok-read_cut.ensures.taken
     c.in-Ok-read_kinds.phases.items c.in-Ok-read_kinds.ensures.shown c.read_kinds.new.lines.rest.now c.read_kinds.new.lines.taken c.in-Ok-read_kinds.ensures.ok c.in-Ok-read_kinds.ensures.taken
     c.in-Err-read_proofs.refusal c.in-Err-read_proofs.ensures.refused
 
@@ -50,21 +46,21 @@ returns-in-Err-read_end-clause-refused c = stop6 c.args.lines.now.rest.now c.arg
     c.in-Ok.version c.read_version.new.lines.rest.now c.read_version.new.lines.taken c.in-Ok.ensures.ok c.in-Ok.ensures.taken
     c.in-Ok-read_count_32.workers c.in-Ok-read_count_32.ensures.fits c.read_count_32.new.lines.rest.now c.read_count_32.new.lines.taken c.in-Ok-read_count_32.ensures.ok c.in-Ok-read_count_32.ensures.taken
     c.in-Ok-read_conditions.conditions c.in-Ok-read_conditions.ensures.shown c.read_conditions.new.lines.rest.now c.read_conditions.new.lines.taken c.in-Ok-read_conditions.ensures.ok c.in-Ok-read_conditions.ensures.taken
-    c.in-Ok-read_marks.marks.items c.in-Ok-read_marks.ensures.shown c.read_marks.new.lines.rest.now c.read_marks.new.lines.taken c.in-Ok-read_marks.ensures.ok c.in-Ok-read_marks.ensures.taken
+    c.in-Ok-read_cut.loops.items c.in-Ok-read_cut.ensures.shown c.read_cut.new.lines.rest.now c.read_cut.new.lines.taken c.in-Ok-read_cut.ensures.ok c.in-Ok-read_cut.ensures.taken
     c.in-Ok-read_kinds.phases.items c.in-Ok-read_kinds.ensures.shown c.read_kinds.new.lines.rest.now c.read_kinds.new.lines.taken c.in-Ok-read_kinds.ensures.ok c.in-Ok-read_kinds.ensures.taken
     c.in-Ok-read_proofs.certificates.items c.in-Ok-read_proofs.ensures.shown c.read_proofs.new.lines.rest.now c.read_proofs.new.lines.taken c.in-Ok-read_proofs.ensures.ok c.in-Ok-read_proofs.ensures.taken
     c.in-Err-read_end.refusal c.in-Err-read_end.ensures.refused
 
 pub returns-in-Ok-read_end-clause-ok : goal.returns-in-Ok-read_end-clause-ok
-returns-in-Ok-read_end-clause-ok c = all_read c.in-Ok.version c.in-Ok-read_count_32.workers c.in-Ok-read_conditions.conditions c.in-Ok-read_marks.marks.items c.in-Ok-read_kinds.phases.items c.in-Ok-read_proofs.certificates.items
-    c.args.lines.now.rest.now c.read_version.new.lines.rest.now c.read_count_32.new.lines.rest.now c.read_conditions.new.lines.rest.now c.read_marks.new.lines.rest.now c.read_kinds.new.lines.rest.now c.read_proofs.new.lines.rest.now c.read_end.new.lines.rest.now
-    c.in-Ok.ensures.ok c.in-Ok-read_count_32.ensures.ok c.in-Ok-read_conditions.ensures.ok c.in-Ok-read_marks.ensures.ok c.in-Ok-read_kinds.ensures.ok c.in-Ok-read_proofs.ensures.ok c.in-Ok-read_end.ensures.ok
+returns-in-Ok-read_end-clause-ok c = all_read c.in-Ok.version c.in-Ok-read_count_32.workers c.in-Ok-read_conditions.conditions c.in-Ok-read_cut.loops.items c.in-Ok-read_kinds.phases.items c.in-Ok-read_proofs.certificates.items
+    c.args.lines.now.rest.now c.read_version.new.lines.rest.now c.read_count_32.new.lines.rest.now c.read_conditions.new.lines.rest.now c.read_cut.new.lines.rest.now c.read_kinds.new.lines.rest.now c.read_proofs.new.lines.rest.now c.read_end.new.lines.rest.now
+    c.in-Ok.ensures.ok c.in-Ok-read_count_32.ensures.ok c.in-Ok-read_conditions.ensures.ok c.in-Ok-read_cut.ensures.ok c.in-Ok-read_kinds.ensures.ok c.in-Ok-read_proofs.ensures.ok c.in-Ok-read_end.ensures.ok
 
 pub returns-in-Ok-read_end-clause-taken : goal.returns-in-Ok-read_end-clause-taken
-returns-in-Ok-read_end-clause-taken c = all_counted c.in-Ok.version c.in-Ok-read_count_32.workers c.in-Ok-read_conditions.conditions c.in-Ok-read_marks.marks.items c.in-Ok-read_kinds.phases.items c.in-Ok-read_proofs.certificates.items
-    c.args.lines.now.taken c.read_version.new.lines.taken c.read_count_32.new.lines.taken c.read_conditions.new.lines.taken c.read_marks.new.lines.taken c.read_kinds.new.lines.taken c.read_proofs.new.lines.taken c.read_end.new.lines.taken
-    c.in-Ok.ensures.taken c.in-Ok-read_count_32.ensures.taken c.in-Ok-read_conditions.ensures.taken c.in-Ok-read_marks.ensures.taken c.in-Ok-read_kinds.ensures.taken c.in-Ok-read_proofs.ensures.taken c.in-Ok-read_end.ensures.taken
+returns-in-Ok-read_end-clause-taken c = all_counted c.in-Ok.version c.in-Ok-read_count_32.workers c.in-Ok-read_conditions.conditions c.in-Ok-read_cut.loops.items c.in-Ok-read_kinds.phases.items c.in-Ok-read_proofs.certificates.items
+    c.args.lines.now.taken c.read_version.new.lines.taken c.read_count_32.new.lines.taken c.read_conditions.new.lines.taken c.read_cut.new.lines.taken c.read_kinds.new.lines.taken c.read_proofs.new.lines.taken c.read_end.new.lines.taken
+    c.in-Ok.ensures.taken c.in-Ok-read_count_32.ensures.taken c.in-Ok-read_conditions.ensures.taken c.in-Ok-read_cut.ensures.taken c.in-Ok-read_kinds.ensures.taken c.in-Ok-read_proofs.ensures.taken c.in-Ok-read_end.ensures.taken
 
 pub returns-in-Ok-read_end-clause-shown : goal.returns-in-Ok-read_end-clause-shown
-returns-in-Ok-read_end-clause-shown c = plan_of-shown c.in-Ok.version c.in-Ok-read_count_32.workers c.in-Ok-read_conditions.conditions c.in-Ok-read_marks.marks.items c.in-Ok-read_kinds.phases.items c.in-Ok-read_proofs.certificates.items
-    c.in-Ok-read_count_32.ensures.fits c.in-Ok-read_conditions.ensures.shown (and_parts (is_32 (length c.in-Ok-read_marks.marks.items)) (list_all is_mark_shown c.in-Ok-read_marks.marks.items) c.in-Ok-read_marks.ensures.shown).0 (and_parts (is_32 (length c.in-Ok-read_marks.marks.items)) (list_all is_mark_shown c.in-Ok-read_marks.marks.items) c.in-Ok-read_marks.ensures.shown).1 c.in-Ok-read_kinds.ensures.shown c.in-Ok-read_proofs.ensures.shown
+returns-in-Ok-read_end-clause-shown c = plan_of-shown c.in-Ok.version c.in-Ok-read_count_32.workers c.in-Ok-read_conditions.conditions c.in-Ok-read_cut.loops.items c.in-Ok-read_kinds.phases.items c.in-Ok-read_proofs.certificates.items
+    c.in-Ok-read_count_32.ensures.fits c.in-Ok-read_conditions.ensures.shown c.in-Ok-read_cut.ensures.shown c.in-Ok-read_kinds.ensures.shown c.in-Ok-read_proofs.ensures.shown

@@ -23,7 +23,7 @@ returns-in-Err-clause-refused c =
 pub returns-then-not-is_empty-clause-refused : goal.returns-then-not-is_empty-clause-refused
 returns-then-not-is_empty-clause-refused c =
     let p = c.in-Ok.parts in
-    let plan = plan_of p.version p.workers p.conditions p.marks.items p.phases.items p.certificates.items in
+    let plan = plan_of p.version p.workers p.conditions p.loops.items p.phases.items p.certificates.items in
     let rest = c.read_parts.new.lines.rest.now in
     let some = some_left rest c.is_empty.result c.is_empty.ensures c.if-not-is_empty.true in
     bytes_behind c.args.bytes.now plan rest (c.read_parts.new.lines.taken + 1) c.in-Ok.ensures.shown (sym c.new-lines.ensures.rest ∙ c.in-Ok.ensures.ok) some
@@ -32,7 +32,7 @@ returns-then-not-is_empty-clause-refused c =
 pub returns-clause-plan : goal.returns-clause-plan
 returns-clause-plan c =
     let p = c.in-Ok.parts in
-    let plan = plan_of p.version p.workers p.conditions p.marks.items p.phases.items p.certificates.items in
+    let plan = plan_of p.version p.workers p.conditions p.loops.items p.phases.items p.certificates.items in
     let rest = c.read_parts.new.lines.rest.now in
     let none = nothing_left rest c.is_empty.result c.is_empty.ensures c.if-not-is_empty.false in
     sym c.new-lines.ensures.rest ∙ c.in-Ok.ensures.ok ∙ ap (λ r. plan_text plan ++ r) none ∙ append-nil (plan_text plan) ∙ ap plan_text (sym c.in_ok-plan.ensures)

@@ -2,8 +2,8 @@ use Rattle.std.proofs.Common.{◌≡◌}
 use Rattle.plan_text.specs.Parts.{firsts, seconds}
 use Rattle.plan_text.proofs.read.unzipped.Given as goal
 
-abbrev pub invariant-loop-kind : goal.invariant-loop-kind
-invariant-loop-kind l = record {
-  kinds : l.kinds.items ≡ firsts l.yielded;
-  anchors : l.anchors.items ≡ seconds l.yielded;
+abbrev pub invariant-loop-first : goal.invariant-loop-first
+invariant-loop-first g l = record {
+  firsts : l.firsts.items ≡ firsts l.yielded;
+  seconds : l.seconds.items ≡ seconds l.yielded;
 }
