@@ -20,7 +20,7 @@ returns-then-not-is_same-clause-refused c =
     let says = sym (ap Some (c.in_ok-mark.ensures ∙ ap loop_of words)) in
     refuse (loop_line number) (is_loop_shown version) loop_said (loop-law version number low) c.in_ok-line.line.now c.args.lines.now.rest.now c.next.new.self.rest.now c.deref-2.result.now l c.refusal.result c.args.lines.now.taken c.next.new.self.taken
     c.refusal.ensures c.in_ok-line.ensures.taken c.in_ok-line.ensures.whole c.in_ok-line.ensures.cut says
-    (c.deref-2.ensures.value ∙ c.in_ok-put_loop.ensures ∙ ap (λ b. b ++ loop_line number l) c.in_ok-written.ensures.items)
+    (c.deref-2.ensures.value ∙ c.in_ok-put_loop.ensures ∙ ap (λ vs. c.in_ok-written.written.items ++ loop_line number (c.in_ok-mark.mark, vs)) c.as_slice.ensures ∙ ap (λ b. b ++ loop_line number l) c.in_ok-written.ensures.items)
     (c.is_same.ensures.differs c.if-not-is_same.true)
 
 pub returns-then-has_loop-clause-shown : goal.returns-then-has_loop-clause-shown

@@ -13,8 +13,7 @@ seconds-push (q ∷ ps) p = ap (λ ys. q.1 ∷ ys) (seconds-push ps p)
 pub loop-first-preserved : goal.loop-first-preserved
 loop-first-preserved g c =
     let done = c.loop-first.yielded in
-    let x = (c.in-Some.first, c.in-Some.second) in
     record {
-      firsts = c.in_ok-push.ensures.items ∙ ap (λ xs. xs ++ c.in-Some.first ∷ []) c.loop-first.invariant.firsts ∙ sym (firsts-push done x);
-      seconds = c.in_ok-push-2.ensures.items ∙ ap (λ ys. ys ++ c.in-Some.second ∷ []) c.loop-first.invariant.seconds ∙ sym (seconds-push done x);
+      firsts = c.in_ok-push.ensures.items ∙ ap (λ xs. xs ++ c.in-Some.first ∷ []) c.loop-first.invariant.firsts ∙ sym (firsts-push done (c.in-Some.first, c.in-Some.second));
+      seconds = c.in_ok-push-2.ensures.items ∙ ap (λ ys. ys ++ c.in-Some.second ∷ []) c.loop-first.invariant.seconds ∙ sym (seconds-push done (c.in-Some.first, c.in-Some.second));
     }
