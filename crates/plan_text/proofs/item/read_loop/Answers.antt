@@ -1,6 +1,6 @@
-use Rattle.std.proofs.Common.{Some, ◌≡◌, ◌++◌, ◌<◌, ◌^◌, ◌&&◌, true, false, sym, ap, ◌∙◌, map, List, ℕ, arith}
+use Rattle.std.proofs.Common.{Some, ◌≡◌, ◌++◌, ◌<◌, ◌^◌, ◌&&◌, false, sym, ap, ◌∙◌, map, List, ℕ, arith}
 use Rattle.std.specs.List.{list_all}
-use Rattle.std.proofs.lemmas.Bool.{and_from, and_parts}
+use Rattle.std.proofs.lemmas.Bool.{and_from}
 use denote.Ref.{Bor}
 use Rattle.owner_partition.specs.declared.cut.Mark.{Mark}
 use Rattle.plan_text.specs.Loose.{loop_of, loop_said, words_of}
