@@ -1,7 +1,8 @@
 -- What stands at an anchor's value within its blocks has an owner among the processors.
-use Rattle.std.proofs.Common.{◌≡◌, ℕ, zero, suc, ◌+◌, ◌*◌, ◌/◌, ◌%◌, ◌<◌, ◌≤◌, ◌==◌, ◌&&◌, ◌||◌, ℤ, pos, negsuc, ◌+ℤ◌, ◌*ℤ◌, ◌≤ℤ◌, neg_ℤ, int_le, int_lt, Bool, true, false, true≢false, Some, None, List, [], ◌∷◌, ◌++◌, if◌then◌else◌, refl, ap, sym, ◌∙◌, subst, inl, inr, arith}
+use Rattle.std.proofs.Common.{◌≡◌, ℕ, zero, suc, ◌+◌, ◌*◌, ◌/◌, ◌%◌, ◌<◌, ◌≤◌, ◌==◌, ◌&&◌, ◌||◌, ℤ, pos, negsuc, ◌+ℤ◌, ◌*ℤ◌, ◌≤ℤ◌, neg_ℤ, int_le, int_lt, Bool, true, false, true≢false, Option, Some, None, List, [], ◌∷◌, ◌++◌, if◌then◌else◌, refl, ap, sym, ◌∙◌, subst, inl, inr, arith}
 use Rattle.std.specs.Int.{int_div_euclid}
-use Rattle.std.specs.List.{AllByRecursion, list_all, list_any, slice_get}
+use Rattle.std.specs.List.{AllByRecursion, cons_option, list_all, list_any, slice_get}
+use Rattle.std.specs.Option.{option_map}
 use Rattle.std.proofs.Math.Nat.{div-lt_iff_lt-mul}
 use Rattle.std.proofs.lemmas.Bool.{and_parts, cases_Bool, eqb-true}
 use Rattle.std.proofs.lemmas.Int.{ints}
@@ -22,8 +23,9 @@ use Rattle.owner_partition.specs.declared.placement.Placement.{Placement}
 use Rattle.owner_partition.specs.Owners.{anchor_owner, dealt, reaches}
 use Rattle.owner_partition.specs.Placement.{misplaced, misplaced_within, names_empty, unplaced}
 use Rattle.sync_plan.specs.declared.plan.Kind.{Kind}
-use Rattle.sync_plan.specs.declared.plan.Kind.TheVariants.{Nothing, Producer, Left, Right, Both, Barrier, Join}
+use Rattle.sync_plan.specs.declared.plan.Kind.TheVariants.{Producer}
 use Rattle.sync_plan.specs.Fit.{kind_anchors, numbered_anchors}
+use Rattle.sync_plan.specs.Kinds.{anchor_in}
 use Rattle.comm_system.specs.Meetings.{Holder, Holds}
 use Rattle.comm_system.proofs.Lists.{all_split}
 use Rattle.sync_plan.proofs.FitOwners.{none_empty}
@@ -145,28 +147,18 @@ module _ (tree : Tree) (marks : List Mark) (workers : ℕ) where
   kind_there n (kind ∷ kinds) zero a all at =
       let same : kind ≡ Producer a = cc in
       let here : n ≡ n + 0 = omega arith in
-      subst (λ j. misplaced tree marks workers j a ≡ None) here (first kind same all)
+      subst (λ j. misplaced tree marks workers j a ≡ None) here (first (anchor_in kind) (ap anchor_in same) all)
     where
-      first : (x : Kind) → x ≡ Producer a → AllByRecursion (λ u. misplaced tree marks workers u.0 u.1 ≡ None) (kind_anchors n (x ∷ kinds)) → misplaced tree marks workers n a ≡ None
-      first Nothing e h = absurd (cc)
-      first (Producer b) e h = let one : b ≡ a = cc in subst (λ x. misplaced tree marks workers n x ≡ None) one h.0
-      first Left e h = absurd (cc)
-      first Right e h = absurd (cc)
-      first Both e h = absurd (cc)
-      first Barrier e h = absurd (cc)
-      first Join e h = absurd (cc)
+      first : (o : Option Anchor) → o ≡ Some a → AllByRecursion (λ u. misplaced tree marks workers u.0 u.1 ≡ None) (cons_option (option_map (λ (b : Anchor). (n, b)) o) (kind_anchors (suc n) kinds)) → misplaced tree marks workers n a ≡ None
+      first None e h = absurd (cc)
+      first (Some b) e h = let one : b ≡ a = cc in subst (λ x. misplaced tree marks workers n x ≡ None) one h.0
   kind_there n (kind ∷ kinds) (suc k) a all at =
       let far : suc n + k ≡ n + suc k = omega arith in
-      subst (λ j. misplaced tree marks workers j a ≡ None) far (kind_there (suc n) kinds k a (later kind all) at)
+      subst (λ j. misplaced tree marks workers j a ≡ None) far (kind_there (suc n) kinds k a (later (anchor_in kind) all) at)
     where
-      later : (x : Kind) → AllByRecursion (λ u. misplaced tree marks workers u.0 u.1 ≡ None) (kind_anchors n (x ∷ kinds)) → AllByRecursion (λ u. misplaced tree marks workers u.0 u.1 ≡ None) (kind_anchors (suc n) kinds)
-      later Nothing h = h
-      later (Producer b) h = h.1
-      later Left h = h
-      later Right h = h
-      later Both h = h
-      later Barrier h = h
-      later Join h = h
+      later : (o : Option Anchor) → AllByRecursion (λ u. misplaced tree marks workers u.0 u.1 ≡ None) (cons_option (option_map (λ (b : Anchor). (n, b)) o) (kind_anchors (suc n) kinds)) → AllByRecursion (λ u. misplaced tree marks workers u.0 u.1 ≡ None) (kind_anchors (suc n) kinds)
+      later None h = h
+      later (Some b) h = h.1
 
   pub anchor_placed : (anchors : List Anchor) (kinds : List Kind) (k : ℕ) (a : Anchor) → unplaced tree marks workers (numbered_anchors 1 anchors ++ kind_anchors 1 kinds) ≡ None → slice_get anchors k ≡ Some a → misplaced tree marks workers (1 + k) a ≡ None
   anchor_placed anchors kinds k a none at =

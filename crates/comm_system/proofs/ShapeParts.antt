@@ -1,6 +1,7 @@
 -- What a plan of a fitting shape has: few workers, as many anchors and kinds as phases, blocks with places, and good conditions.
-use Rattle.std.proofs.Common.{◌≡◌, ℕ, ◌≤◌, ◌==◌, nat_le, ◌&&◌, true, false, None, List, [], ◌∷◌, length, refl, arith}
+use Rattle.std.proofs.Common.{◌≡◌, ℕ, ◌≤◌, ◌==◌, nat_le, ◌&&◌, true, false, Option, Some, None, List, [], ◌∷◌, length, refl, arith}
 use Rattle.std.specs.List.{list_all}
+use Rattle.std.specs.Option.{option_map_or}
 use Rattle.std.proofs.lemmas.Bool.{and_from, and_parts, eqb-true, leb-true}
 use Rattle.nest_tree.specs.Tree.{Tree}
 use Rattle.nest_tree.specs.WellFormed.{loops_of, names_only}
@@ -8,8 +9,8 @@ use Rattle.nest_walk.specs.Texts.{Placed}
 use Rattle.owner_partition.specs.declared.anchor.Anchor.{Anchor}
 use Rattle.owner_partition.specs.declared.cut.Mark.{Mark}
 use Rattle.sync_plan.specs.declared.plan.Kind.{Kind}
-use Rattle.sync_plan.specs.declared.plan.Kind.TheVariants.{Nothing, Producer, Left, Right, Both, Barrier, Join}
 use Rattle.sync_plan.specs.declared.plan.Plan.{Plan}
+use Rattle.sync_plan.specs.Kinds.{anchor_in}
 use Rattle.sync_plan.specs.Shape.{are_good_anchors, are_good_conditions, are_good_kinds, are_marked_well, has_places, is_good_anchor, is_good_kind, own_loops, static_phases, wrong_field}
 use Rattle.comm_system.specs.Signatures.{has_places_in}
 use Rattle.sync_plan.proofs.Fits.{field_right}
@@ -26,13 +27,11 @@ pub record IsShaped (tree : Tree) (plan : Plan) : Type 0 where
   pub conditions : are_good_conditions (length tree.params) plan.version plan.conditions ≡ true
 
 kind_places : (constants : ℕ) (loops : List ℕ) (k : Kind) → is_good_kind constants loops k ≡ true → has_places_in k ≡ true
-kind_places constants loops Nothing good = refl
-kind_places constants loops (Producer a) good = (and_parts (names_only constants loops a.form) (has_places a.dist) good).1
-kind_places constants loops Left good = refl
-kind_places constants loops Right good = refl
-kind_places constants loops Both good = refl
-kind_places constants loops Barrier good = refl
-kind_places constants loops Join good = refl
+kind_places constants loops k good = by (anchor_in k) good
+  where
+    by : (o : Option Anchor) → option_map_or (is_good_anchor constants loops) o true ≡ true → option_map_or (λ (a : Anchor). has_places a.dist) o true ≡ true
+    by None good = refl
+    by (Some a) good = (and_parts (names_only constants loops a.form) (has_places a.dist) good).1
 
 all_anchors : (constants : ℕ) (marks : List Mark) (text : List Placed) (anchors : List Anchor) → length anchors ≡ length text → are_good_anchors constants marks text anchors ≡ true → list_all (λ (a : Anchor). has_places a.dist) anchors ≡ true
 all_anchors constants marks text [] many good = refl

@@ -1,12 +1,14 @@
 -- What the certain boundaries of a slot make of the plan's kinds.
-use Rattle.std.specs.Prelude.{ℕ, ◌-◌, min, Bool, true, false, List, [], ◌∷◌, drop, length, Option, Some, None, slice_get, if◌then◌else◌}
+use Rattle.std.specs.Prelude.{ℕ, ◌-◌, min, Bool, true, false, List, drop, length, Option, Some, None, slice_get, if◌then◌else◌}
 use Rattle.std.specs.List.{flat_map, list_any}
+use Rattle.std.specs.Option.{option_map, option_map_or, option_to_list}
 use Rattle.std.specs.Prelude.{sum_by}
 use Rattle.owner_partition.specs.declared.anchor.Anchor.{Anchor}
 use Rattle.sync_plan.specs.declared.plan.Kind.{Kind}
 use Rattle.sync_plan.specs.declared.plan.Kind.TheVariants.{Nothing, Producer, Left, Right, Both, Barrier, Join}
 use Rattle.sync_plan.specs.declared.plan.Version.{Version}
 use Rattle.sync_plan.specs.declared.plan.Version.TheVariants.{One, Two, Three, Four, Five}
+use Rattle.sync_plan.specs.Kinds.{anchor_in}
 use Rattle.sync_plan.specs.Shape.{has_places}
 use Rattle.comm_system.specs.Boundaries.{Boundary, Side}
 
@@ -26,13 +28,7 @@ is_barrier Join = true
 
 -- a producer's blocks have 1 to 2147483647 places
 abbrev pub has_places_in : Kind → Bool
-has_places_in Nothing = true
-has_places_in (Producer a) = has_places a.dist
-has_places_in Left = true
-has_places_in Right = true
-has_places_in Both = true
-has_places_in Barrier = true
-has_places_in Join = true
+has_places_in kind = option_map_or (λ (a : Anchor). has_places a.dist) (anchor_in kind) true
 
 abbrev pub left_waits : Kind → ℕ
 left_waits Nothing = 0
@@ -61,13 +57,7 @@ abbrev pub kind_at : List Kind → Boundary → Kind
 kind_at kinds u = or_nothing (slice_get kinds (u.phase - 1))
 
 abbrev pub producers_at : Side → Kind → List (Anchor × Side)
-producers_at side Nothing = []
-producers_at side (Producer a) = (a, side) ∷ []
-producers_at side Left = []
-producers_at side Right = []
-producers_at side Both = []
-producers_at side Barrier = []
-producers_at side Join = []
+producers_at side kind = option_to_list (option_map (λ a. (a, side)) (anchor_in kind))
 
 abbrev pub last_three : List (Anchor × Side) → List (Anchor × Side)
 last_three all = drop (length all - 3) all

@@ -154,12 +154,9 @@ fn anchor_at<'p>(plan: &'p Plan, none: &'p Anchor, s: u32) -> &'p Anchor
     ensures anchor { result.now ≡ anchor_under plan.now s }
     ensures places { IsTrue (has_places result.now.dist) }
 {
-    let anchors = plan.anchors.as_slice();
-    let place = s.saturating_sub(1) as usize;
-    if place < anchors.len() {
-        &anchors[place]
-    } else {
-        none
+    match plan.anchor(s) {
+        Some(anchor) => anchor,
+        None => none,
     }
 }
 

@@ -97,6 +97,23 @@ fn kind_in_front(kinds: &[Kind], place: usize) -> Option<&Kind>
     }
 }
 
+/// Whether the producers among these kinds have blocks of 1 to 2147483647 places, as those of a plan
+/// of a fitting shape.
+pub fn have_places(kinds: &[Kind]) -> bool
+    ensures { result ≡ list_all has_places_in kinds.now }
+{
+    kinds.iter().all(has_places_in)
+}
+
+fn has_places_in(kind: &Kind) -> bool
+    ensures { result ≡ has_places_in kind.now }
+{
+    match kind.anchor() {
+        Some(anchor) => anchor.dist.has_places(),
+        None => true,
+    }
+}
+
 // In version One neighbours don't add up.
 fn counted(version: Version, count: u32) -> u32
     ensures count { result ≡ counted_in version count }

@@ -130,8 +130,7 @@ impl Page<'_> {
         push_part(text, b"PHASE ", i128::from(phase))?;
         push_part(text, b", line ", i128::from(self.line_of(phase)))?;
         push_words(text, b", waits for")?;
-        let place = (phase as usize).saturating_sub(1);
-        if let Some(kind) = self.account.plan.kinds.as_slice().get(place) {
+        if let Some(kind) = self.account.plan.kind(phase) {
             put_kind(text, kind)?;
         }
         push_words(text, b"\n")?;

@@ -1,7 +1,8 @@
 -- What the certain boundaries of a slot show of a plan's kinds, counted.
-use Rattle.std.proofs.Common.{◌≡◌, ℕ, suc, ◌+◌, ◌-◌, ◌<◌, min, Bool, true, false, ◌||◌, nat_lt, List, [], ◌∷◌, length, drop, if◌then◌else◌, refl, ap, sym, ◌∙◌, arith}
+use Rattle.std.proofs.Common.{◌≡◌, ℕ, suc, ◌+◌, ◌-◌, ◌<◌, min, Bool, true, false, ◌||◌, nat_lt, List, [], ◌∷◌, length, drop, Option, Some, None, if◌then◌else◌, refl, ap, sym, ◌∙◌, arith}
 use Rattle.std.specs.Prelude.{sum_by}
 use Rattle.std.specs.List.{flat_map, list_any}
+use Rattle.std.specs.Option.{is_some, option_map, option_to_list}
 use Rattle.std.proofs.lemmas.Bool.{lt-ltb}
 use Rattle.std.proofs.lemmas.List.{length-drop}
 use Rattle.std.proofs.lemmas.List.Concat.{length-flat_map}
@@ -9,8 +10,8 @@ use Rattle.std.proofs.lemmas.List.Sums.{sum_by-append, sum_by-cons}
 use Rattle.nest_tree.specs.Tree.{Head}
 use Rattle.owner_partition.specs.declared.anchor.Anchor.{Anchor}
 use Rattle.sync_plan.specs.declared.plan.Kind.{Kind}
-use Rattle.sync_plan.specs.declared.plan.Kind.TheVariants.{Nothing, Producer, Left, Right, Both, Barrier, Join}
 use Rattle.sync_plan.specs.declared.plan.Version.{Version}
+use Rattle.sync_plan.specs.Kinds.{anchor_in}
 use Rattle.comm_system.specs.Boundaries.{Boundary, Side, boundaries_where, certain_boundaries, is_before_second, is_behind_first, of_first, of_second}
 use Rattle.comm_system.specs.Obligations.{Slot, slot_signature}
 use Rattle.comm_system.specs.OwnerRows.{pieces}
@@ -75,13 +76,11 @@ any_counted {X} p (x ∷ xs) = by (p x) (any_counted p xs) ∙ ap (nat_lt 0) (sy
     by false later = let same : sum_by (λ x. if p x then 1 else 0) xs ≡ 0 + sum_by (λ x. if p x then 1 else 0) xs = omega arith in later ∙ ap (nat_lt 0) same
 
 one_producer : (side : Side) (k : Kind) → length (producers_at side k) ≡ (if is_producer k then 1 else 0)
-one_producer side Nothing = refl
-one_producer side (Producer a) = refl
-one_producer side Left = refl
-one_producer side Right = refl
-one_producer side Both = refl
-one_producer side Barrier = refl
-one_producer side Join = refl
+one_producer side k = by (anchor_in k)
+  where
+    by : (o : Option Anchor) → length {A = Anchor × Side} (option_to_list (option_map (λ (a : Anchor). (a, side)) o)) ≡ (if is_some o then 1 else 0)
+    by None = refl
+    by (Some a) = refl
 
 abbrev producers_on : List Kind → List Boundary → List (Anchor × Side)
 producers_on kinds bs = flat_map (λ (u : Boundary). producers_at u.side (kind_at kinds u)) bs

@@ -1,10 +1,11 @@
 -- How many obligations a plan has, counted over its static phases.
-use Rattle.std.specs.Prelude.{ℕ, ◌+◌, ◌*◌, ◌-◌, ◌==◌, Bool, true, false, ◌&&◌, ◌||◌, List, length, slice_get, sum_by, if◌then◌else◌}
+use Rattle.std.specs.Prelude.{ℕ, ◌+◌, ◌*◌, ◌-◌, ◌==◌, Bool, ◌&&◌, ◌||◌, List, length, slice_get, sum_by, if◌then◌else◌}
+use Rattle.std.specs.Option.{is_some}
 use Rattle.nest_tree.specs.Tree.{Head, Statement, Tree}
 use Rattle.sync_plan.specs.declared.plan.Kind.{Kind}
-use Rattle.sync_plan.specs.declared.plan.Kind.TheVariants.{Nothing, Producer, Left, Right, Both, Barrier, Join}
 use Rattle.sync_plan.specs.declared.plan.Plan.{Plan}
 use Rattle.sync_plan.specs.Fit.{is_dealt}
+use Rattle.sync_plan.specs.Kinds.{anchor_in}
 use Rattle.comm_system.specs.Boundaries.{is_before_second, is_behind_first}
 use Rattle.comm_system.specs.Levels.{common, levels}
 use Rattle.comm_system.specs.Obligations.{Slot, slot_signature}
@@ -27,13 +28,7 @@ sides_at around around' s t level u outer =
     (if is_behind_first around s t level u outer then 1 else 0) + (if is_before_second around around' s t level u outer then 1 else 0)
 
 abbrev pub is_producer : Kind → Bool
-is_producer Nothing = false
-is_producer (Producer a) = true
-is_producer Left = false
-is_producer Right = false
-is_producer Both = false
-is_producer Barrier = false
-is_producer Join = false
+is_producer kind = is_some (anchor_in kind)
 
 -- the kind in front of the phase with this number
 abbrev pub kind_before : List Kind → ℕ → Kind

@@ -1,5 +1,6 @@
 pub mod Instances
 mod Places
+mod Anchors
 mod Congruences
 mod Limits
 mod Strides

@@ -1,7 +1,9 @@
 -- Who owns an instance, and whom an anchor names.
-use Rattle.std.specs.Prelude.{ℕ, ◌*◌, ◌-◌, ℤ, pos, negsuc, int_le, int_lt, nat_le, Bool, true, ◌&&◌, ◌==◌, List, Option, Some, None, slice_get, ◌≡◌, refl}
+use Rattle.std.specs.Prelude.{ℕ, ◌*◌, ◌-◌, ℤ, pos, negsuc, int_le, int_lt, nat_le, Bool, true, false, ◌&&◌, ◌==◌, List, Option, Some, None, slice_get, ◌≡◌, refl}
 use Rattle.std.specs.Int.{int_div_euclid, int_rem_euclid}
+use Rattle.std.specs.Cmp.Lexicographic.{pointwise}
 use Rattle.std.specs.List.{filter}
+use Rattle.std.specs.Ordering.{int_eq}
 use Rattle.nest_tree.specs.Form.{form_value}
 use Rattle.nest_tree.specs.Layout.{count_of}
 use Rattle.nest_tree.specs.Tree.{Tree, param_values}
@@ -21,6 +23,20 @@ dealt Cyclic workers w = int_rem_euclid w (pos workers)
 abbrev pub has_places : Dist → Bool
 has_places (Block b) = nat_le 1 b && nat_le b 2147483647
 has_places Cyclic = true
+
+-- two anchors have the same form and deal its places the same way
+abbrev pub is_same_pair : ℕ × ℤ → ℕ × ℤ → Bool
+is_same_pair p q = p.0 == q.0 && int_eq p.1 q.1
+
+abbrev pub is_same_dist : Dist → Dist → Bool
+is_same_dist (Block b) (Block c) = b == c
+is_same_dist (Block b) Cyclic = false
+is_same_dist Cyclic (Block c) = false
+is_same_dist Cyclic Cyclic = true
+
+abbrev pub is_same_anchor : Anchor → Anchor → Bool
+is_same_anchor a b =
+    int_eq a.form.constant b.form.constant && pointwise is_same_pair a.form.loops b.form.loops && pointwise is_same_pair a.form.params b.form.params && is_same_dist a.dist b.dist
 
 -- the processor that an anchor names where the loops and the named constants have these values
 abbrev pub anchor_owner : Anchor → ℕ → List ℤ → List ℤ → ℕ

@@ -1,10 +1,11 @@
 // Anchors, and the owners that they name.
 
-ghost use Rattle.std.specs.Prelude.{◌≡◌, ◌<◌, ◌≤◌, IsTrue, length};
+ghost use Rattle.std.specs.Prelude.{◌≡◌, ◌<◌, ◌≤◌, ◌↔◌, IsTrue, length};
 ghost use Rattle.nest_tree.specs.Form.{form_value, is_given};
 ghost use Rattle.owner_partition.specs.Owners.{anchor_owner, has_places, reaches};
 
 use nest_tree::Affine;
+use std::alloc::{AllocError, Global};
 
 /// How owners are dealt: blocks of so many neighbouring places, or places in turn.
 #[derive(Clone, Copy, Debug, PartialEq, Eq)]
@@ -31,6 +32,32 @@ impl Dist {
 pub struct Anchor {
     pub form: Affine,
     pub dist: Dist,
+}
+
+impl Anchor {
+    ghost use Rattle.std.specs.Prelude.{IfOk};
+    ghost use Rattle.owner_partition.specs.Owners.{is_same_anchor};
+
+    /// The same anchor.
+    pub fn copy(&self, alloc: Global) -> Result<Self, AllocError>
+        ensures { IfOk result (λ copy. copy ≡ self.now) }
+    {
+        Ok(Anchor {
+            form: self.form.copy(alloc)?,
+            dist: self.dist,
+        })
+    }
+
+    /// Whether both have the same form and deal its places the same way.
+    pub fn is_same(&self, other: &Anchor) -> bool
+        ensures same { result ≡ is_same_anchor self.now other.now }
+        ensures exact { IsTrue result ↔ (self.now ≡ other.now) }
+    {
+        self.form.constant() == other.form.constant()
+            && self.form.loops() == other.form.loops()
+            && self.form.params() == other.form.params()
+            && self.dist == other.dist
+    }
 }
 
 /// The processor that the anchor names where the loops and the named constants, by number from 1,

@@ -1,7 +1,7 @@
 -- What a plan of a fitting shape names is the program's.
 use Rattle.std.proofs.Common.{◌≡◌, ℕ, ◌+◌, ◌≤◌, Bool, true, false, ◌&&◌, ◌==◌, nat_le, nat_lt, ℤ, List, [], ◌∷◌, ◌++◌, length, Option, Some, None, if◌then◌else◌, refl, ap, ◌∙◌, arith}
 use Rattle.std.specs.List.{list_all}
-use Rattle.std.specs.Option.{option_or}
+use Rattle.std.specs.Option.{option_map_or, option_or}
 use Rattle.std.proofs.lemmas.Bool.{and_from, and_parts, eqb-true}
 use Rattle.std.proofs.lemmas.Bool.Decides.{nat_tests}
 use Rattle.std.proofs.lemmas.List.Folds.{list_all-append}
@@ -20,10 +20,10 @@ use Rattle.sync_plan.specs.declared.plan.ConditionRow.{ConditionRow}
 use Rattle.sync_plan.specs.declared.plan.Conditions.{Conditions}
 use Rattle.sync_plan.specs.declared.plan.Conditions.TheVariants.{Values, Rows}
 use Rattle.sync_plan.specs.declared.plan.Kind.{Kind}
-use Rattle.sync_plan.specs.declared.plan.Kind.TheVariants.{Nothing, Producer, Left, Right, Both, Barrier, Join}
 use Rattle.sync_plan.specs.declared.plan.Plan.{Plan}
 use Rattle.sync_plan.specs.declared.plan.Version.{Version}
 use Rattle.sync_plan.specs.declared.plan.Version.TheVariants.{Three}
+use Rattle.sync_plan.specs.Kinds.{anchor_in}
 use Rattle.sync_plan.specs.Shape.{are_good_anchors, are_good_conditions, are_good_kinds, has_places, has_rows, is_doall, is_good_anchor, is_good_kind, is_good_row, mark_of, own_loops, static_phases, wrong_field}
 use Rattle.plan_checker.specs.Named.{are_given_anchors, are_given_kinds, is_given_kind}
 use Rattle.comm_system.proofs.ShapeParts.{shaped}
@@ -90,13 +90,11 @@ anchors_given n constants marks (s ∷ text) (a ∷ anchors) within good long =
     and_from _ _ (form-given n constants (own_loops marks s.what s.around) a.form (own_within n marks s.what s.around w.0) named.0) (anchors_given n constants marks text anchors w.1 g.1 (omega (arith, long)))
 
 one_given : (n constants : ℕ) (around : List ℕ) (k : Kind) → all_within n around ≡ true → is_good_kind constants around k ≡ true → is_given_kind n constants k ≡ true
-one_given n constants around Nothing within good = refl
-one_given n constants around (Producer a) within good = form-given n constants around a.form within (and_parts (names_only constants around a.form) (has_places a.dist) good).0
-one_given n constants around Left within good = refl
-one_given n constants around Right within good = refl
-one_given n constants around Both within good = refl
-one_given n constants around Barrier within good = refl
-one_given n constants around Join within good = refl
+one_given n constants around k within good = by (anchor_in k) good
+  where
+    by : (o : Option Anchor) → option_map_or (is_good_anchor constants around) o true ≡ true → option_map_or (λ (a : Anchor). is_given a.form n constants) o true ≡ true
+    by None good = refl
+    by (Some a) good = form-given n constants around a.form within (and_parts (names_only constants around a.form) (has_places a.dist) good).0
 
 kinds_given : (n constants : ℕ) (text : List Placed) (kinds : List Kind) → list_all (is_within n) text ≡ true → are_good_kinds constants text kinds ≡ true → length kinds ≡ length text → are_given_kinds n constants kinds ≡ true
 kinds_given n constants [] [] within good long = refl

@@ -69,9 +69,9 @@ fn own_loop(cut: &Cut, item: &Item) -> Option<u32>
 fn is_good_kind(constants: usize, phase: &StaticPhase, kind: &Kind) -> bool
     ensures { result ≡ is_good_kind constants (loops_round phase.now) kind.now }
 {
-    match kind {
-        Kind::Producer(anchor) => is_good_anchor(constants, phase, None, anchor),
-        Kind::Nothing | Kind::Left | Kind::Right | Kind::Both | Kind::Barrier | Kind::Join => true,
+    match kind.anchor() {
+        Some(anchor) => is_good_anchor(constants, phase, None, anchor),
+        None => true,
     }
 }
 

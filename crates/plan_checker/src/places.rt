@@ -74,11 +74,9 @@ fn check_kind(
     requires given { IsTrue (is_given_kind (loops_of (tree_of program.now).items) (length (tree_of program.now).params) kind.now) }
     ensures { (rest : List Kind) → option_or (result_err result) (unplaced (tree_of program.now) cut.now.marks workers (kind_anchors (suc number) rest)) ≡ unplaced (tree_of program.now) cut.now.marks workers (kind_anchors number (kind.now ∷ rest)) }
 {
-    match kind {
-        Kind::Producer(anchor) => check_anchor(program, cut, number, anchor, workers),
-        Kind::Nothing | Kind::Left | Kind::Right | Kind::Both | Kind::Barrier | Kind::Join => Ok(
-            (),
-        ),
+    match kind.anchor() {
+        Some(anchor) => check_anchor(program, cut, number, anchor, workers),
+        None => Ok(()),
     }
 }
 

@@ -11,7 +11,6 @@ pub mod Numbers
 pub mod Memories
 pub mod Verdicts
 pub mod Marked
-pub mod Same
 pub mod SlotSteps
 pub mod Choices
 pub mod Meeting

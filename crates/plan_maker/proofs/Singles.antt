@@ -5,12 +5,13 @@ use Rattle.std.specs.List.{list_any}
 use Rattle.std.proofs.lemmas.List.{append-nil, at_drop_more}
 use Rattle.owner_partition.specs.declared.anchor.Anchor.{Anchor}
 use Rattle.owner_partition.specs.declared.cut.Mark.{Mark}
+use Rattle.owner_partition.specs.Owners.{is_same_anchor}
 use Rattle.sync_plan.specs.Fit.{is_dealt}
 use Rattle.comm_system.specs.Boundaries.{is_prefix}
 use Rattle.comm_system.specs.PhaseViews.{phase_seen}
 use Rattle.comm_system.specs.References.{StaticPhase}
 use Rattle.comm_system.specs.declared.phase.Phase.{Phase}
-use Rattle.plan_maker.specs.Candidates.{each_once, is_same_anchor, single_anchors, single_more}
+use Rattle.plan_maker.specs.Candidates.{each_once, single_anchors, single_more}
 use Rattle.plan_checker.proofs.Texts.{from_place, past_end}
 
 module _ (marks : List Mark) (t : StaticPhase) where

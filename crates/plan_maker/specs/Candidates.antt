@@ -1,34 +1,15 @@
 -- What may stand in front of a phase of a made plan, from the weakest on.
-use Rattle.std.specs.Prelude.{ℕ, suc, ◌==◌, ℤ, Bool, true, false, not, ◌&&◌, List, [], ◌∷◌, ◌++◌, map, Option, Some, None, slice_get, if◌then◌else◌}
+use Rattle.std.specs.Prelude.{ℕ, suc, not, ◌&&◌, List, [], ◌∷◌, ◌++◌, map, Option, Some, None, slice_get, if◌then◌else◌}
 use Rattle.std.specs.List.{list_any, range_with_len}
-use Rattle.std.specs.Ordering.{int_eq}
 use Rattle.nest_tree.specs.Tree.{Tree}
 use Rattle.owner_partition.specs.declared.anchor.Anchor.{Anchor}
-use Rattle.owner_partition.specs.declared.anchor.Dist.{Dist}
-use Rattle.owner_partition.specs.declared.anchor.Dist.TheVariants.{Block, Cyclic}
 use Rattle.owner_partition.specs.declared.cut.Mark.{Mark}
+use Rattle.owner_partition.specs.Owners.{is_same_anchor}
 use Rattle.sync_plan.specs.declared.plan.Kind.{Kind}
 use Rattle.sync_plan.specs.declared.plan.Kind.TheVariants.{Nothing, Producer, Left, Right, Both, Barrier}
 use Rattle.sync_plan.specs.Fit.{is_dealt}
 use Rattle.comm_system.specs.Boundaries.{is_prefix}
 use Rattle.comm_system.specs.References.{StaticPhase, phases_of}
-
--- two anchors have the same form and deal its places the same way
-abbrev pub are_same_pairs : List (ℕ × ℤ) → List (ℕ × ℤ) → Bool
-are_same_pairs [] [] = true
-are_same_pairs [] (q ∷ qs) = false
-are_same_pairs (p ∷ ps) [] = false
-are_same_pairs (p ∷ ps) (q ∷ qs) = p.0 == q.0 && int_eq p.1 q.1 && are_same_pairs ps qs
-
-abbrev pub is_same_dist : Dist → Dist → Bool
-is_same_dist (Block b) (Block c) = b == c
-is_same_dist (Block b) Cyclic = false
-is_same_dist Cyclic (Block c) = false
-is_same_dist Cyclic Cyclic = true
-
-abbrev pub is_same_anchor : Anchor → Anchor → Bool
-is_same_anchor a b =
-    int_eq a.form.constant b.form.constant && are_same_pairs a.form.loops b.form.loops && are_same_pairs a.form.params b.form.params && is_same_dist a.dist b.dist
 
 -- each of these anchors once, where those before them have been seen
 abbrev pub each_once : List Anchor → List Anchor → List Anchor

@@ -2,68 +2,25 @@
 
 ghost use Rattle.std.specs.Prelude.{◌≡◌, ◌&&◌, ◌++◌, [], IfOk, OnOk, map, not, slice_get};
 ghost use Rattle.std.specs.List.{list_any};
-ghost use Rattle.nest_rows.specs.Views.{heads_of};
+ghost use Rattle.owner_partition.specs.Owners.{is_same_anchor};
 ghost use Rattle.sync_plan.specs.declared.plan.Kind.TheVariants.{Producer};
 ghost use Rattle.sync_plan.specs.Fit.{is_dealt};
 ghost use Rattle.comm_system.specs.Boundaries.{is_prefix as are_first_of};
 ghost use Rattle.comm_system.specs.PhaseViews.{phase_seen};
-ghost use Rattle.plan_maker.specs.Candidates.{are_same_pairs, candidate as candidate_of, candidates_at, each_once, is_same_anchor, is_same_dist, kinds_taken, or_barrier, single_anchors, single_more};
+ghost use Rattle.plan_maker.specs.Candidates.{candidate as candidate_of, candidates_at, each_once, kinds_taken, or_barrier, single_anchors, single_more};
 
-use crate::places::{copy_of_anchor, item_at};
+use crate::places::item_at;
 use comm_system::phase::Phase;
 use nest_rows::is_prefix;
-use owner_partition::{Anchor, Cut, Dist};
+use owner_partition::{Anchor, Cut};
 use std::alloc::{AllocError, Global};
 use sync_plan::{Kind, Kinds};
-
-// Whether two lists of pairs are the same.
-fn are_same_pairs(these: &[(u32, i64)], those: &[(u32, i64)]) -> bool
-    ensures { result ≡ are_same_pairs these.now those.now }
-{
-    match these {
-        [] => those.is_empty(),
-        [a, these @ ..] => match those {
-            [] => false,
-            [b, those @ ..] => a.0 == b.0 && a.1 == b.1 && are_same_pairs(these, those),
-        },
-    }
-}
-
-fn is_same_dist(a: Dist, b: Dist) -> bool
-    ensures { result ≡ is_same_dist a b }
-{
-    match a {
-        Dist::Block(a) => match b {
-            Dist::Block(b) => a == b,
-            Dist::Cyclic => false,
-        },
-        Dist::Cyclic => match b {
-            Dist::Block(_) => false,
-            Dist::Cyclic => true,
-        },
-    }
-}
-
-/// Whether two anchors have the same form and deal its places the same way.
-pub(crate) fn is_same_anchor(a: &Anchor, b: &Anchor) -> bool
-    ensures { result ≡ is_same_anchor a.now b.now }
-{
-    a.form.constant() == b.form.constant()
-        && are_same_pairs(a.form.loops(), b.form.loops())
-        && are_same_pairs(a.form.params(), b.form.params())
-        && is_same_dist(a.dist, b.dist)
-}
 
 // Whether an anchor is among these.
 fn is_among(anchor: &Anchor, anchors: &[Anchor]) -> bool
     ensures { result ≡ list_any (is_same_anchor anchor.now) anchors.now }
 {
-    for one in anchors {
-        if is_same_anchor(anchor, one) {
-            return true;
-        }
-    }
-    false
+    anchors.iter().any(|one| anchor.is_same(one))
 }
 
 // Whether a phase isn't dealt out and its Outer loops are the first of those round another.
@@ -87,7 +44,7 @@ fn push_single(
     if !can_produce(cut, one, phase) || is_among(anchor, found.as_slice()) {
         return Ok(());
     }
-    found.push(copy_of_anchor(alloc, anchor)?)?;
+    found.push(anchor.copy(alloc)?)?;
     Ok(())
 }
 
@@ -160,27 +117,12 @@ pub(crate) fn all_candidates(
     Ok(all)
 }
 
-/// A kind like this one.
-pub(crate) fn copy_of_kind(alloc: Global, kind: &Kind) -> Result<Kind, AllocError>
-    ensures { IfOk result (λ copy. copy ≡ kind.now) }
-{
-    Ok(match kind {
-        Kind::Nothing => Kind::Nothing,
-        Kind::Producer(anchor) => Kind::Producer(copy_of_anchor(alloc, anchor)?),
-        Kind::Left => Kind::Left,
-        Kind::Right => Kind::Right,
-        Kind::Both => Kind::Both,
-        Kind::Barrier => Kind::Barrier,
-        Kind::Join => Kind::Join,
-    })
-}
-
 // The candidate at this place; a barrier where there is none.
 fn kind_at(alloc: Global, candidates: &[Kind], place: usize) -> Result<Kind, AllocError>
     ensures { IfOk result (λ kind. kind ≡ or_barrier (slice_get candidates.now place)) }
 {
     match item_at(candidates, place) {
-        Some(kind) => copy_of_kind(alloc, kind),
+        Some(kind) => kind.copy(alloc),
         None => Ok(Kind::Barrier),
     }
 }

@@ -13,11 +13,9 @@ ghost use Rattle.plan_maker.specs.Asked.{AreRefuted, owners_dealt as owners_are_
 ghost use Rattle.plan_maker.specs.Judged.{IsOutcome, IsVerdict};
 ghost use Rattle.plan_maker.specs.Memories.{IsEntry, IsMemory, key_seen, pair_seen, waits_seen};
 
-use crate::candidates::is_same_anchor;
 use crate::cause::Cause;
 use crate::findings::Findings;
 use crate::judge::{Verdict, judge_groups};
-use crate::places::{copy_of_anchor, item_at};
 use comm_system::groups::slot_groups;
 use comm_system::producer::{Producer, Side};
 use comm_system::slot::Slot;
@@ -50,18 +48,11 @@ pub(crate) struct Memory {
     entries: Vec<Entry>,
 }
 
-// Whether two anchors are the same.
-fn is_anchor(a: &Anchor, b: &Anchor) -> bool
-    ensures { IsTrue result → b.now ≡ a.now }
-{
-    is_same_anchor(a, b)
-}
-
 // Whether a producer is this anchor on this side.
 fn is_producer(one: &(Anchor, Side), producer: &Producer) -> bool
     ensures { IsTrue result → producer_seen producer.now ≡ pair_seen one.now }
 {
-    is_anchor(&one.0, producer.anchor) && producer.side == one.1
+    one.0.is_same(producer.anchor) && producer.side == one.1
 }
 
 // Whether these are the same producers.
@@ -86,7 +77,7 @@ impl Key {
     {
         let mut producers = Vec::new(alloc);
         for producer in waits.producers.iter() {
-            producers.push((copy_of_anchor(alloc, producer.anchor)?, producer.side))?;
+            producers.push((producer.anchor.copy(alloc)?, producer.side))?;
         }
         Ok(Key {
             left: waits.left,
@@ -127,8 +118,7 @@ fn owners_dealt(
 fn anchor_dist(plan: &Plan, number: u32) -> Dist
     ensures { result ≡ (anchor_at plan.now number).dist }
 {
-    let place = (number as usize).saturating_sub(1);
-    match item_at(plan.anchors.as_slice(), place) {
+    match plan.anchor(number) {
         Some(anchor) => anchor.dist,
         None => Dist::Cyclic,
     }

@@ -46,16 +46,6 @@ pub(crate) fn less(alloc: Global, form: &Affine, low: i128) -> Result<Option<Aff
     Ok(Some(Affine::new(constant, loops, params)))
 }
 
-/// An anchor like this one.
-pub(crate) fn copy_of_anchor(alloc: Global, anchor: &Anchor) -> Result<Anchor, AllocError>
-    ensures { IfOk result (λ copy. copy ≡ anchor.now) }
-{
-    Ok(Anchor {
-        form: anchor.form.copy(alloc)?,
-        dist: anchor.dist,
-    })
-}
-
 /// The anchor to processor 0.
 pub(crate) fn first_processor(alloc: Global) -> Anchor
     ensures { result ≡ first_processor }

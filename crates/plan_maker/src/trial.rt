@@ -20,7 +20,7 @@ use crate::findings::Findings;
 use crate::memory::Memory;
 use comm_system::boundary::Boundary;
 use comm_system::phase::Phase;
-use comm_system::signature::{Signature, signature_at};
+use comm_system::signature::{Signature, have_places, signature_at};
 use comm_system::slot::Slot;
 use farkas_cert::Certificate;
 use nest_tree::Program;
@@ -37,27 +37,6 @@ pub(crate) struct Ground<'b, 'a> {
     pub(crate) slots: &'b [Slot<'b, 'a>],
     pub(crate) boundaries: &'b [Vec<Boundary>],
     ghost certain: { AreAllCertain (map phase_seen phases.now) (map slot_seen slots.now) boundaries.now } by { AreAllCertain-prop (map phase_seen phases.now) (map slot_seen slots.now) boundaries.now },
-}
-
-// Whether the producers among these kinds have blocks of a length, as those of a plan that fits.
-fn have_places(kinds: &[Kind]) -> bool
-    ensures { result ≡ list_all has_places_in kinds.now }
-{
-    for kind in kinds {
-        if !has_places_in(kind) {
-            return false;
-        }
-    }
-    true
-}
-
-fn has_places_in(kind: &Kind) -> bool
-    ensures { result ≡ has_places_in kind.now }
-{
-    match kind {
-        Kind::Producer(anchor) => anchor.dist.has_places(),
-        Kind::Nothing | Kind::Left | Kind::Right | Kind::Both | Kind::Barrier | Kind::Join => true,
-    }
 }
 
 // The first system of a slot under these kinds that is kept, if any.

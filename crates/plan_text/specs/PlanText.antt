@@ -1,6 +1,7 @@
 -- The text of a plan, and the plans that have one.
 use Rattle.std.specs.Prelude.{ℕ, suc, ◌^◌, ◌≡◌, ℤ, pos, negsuc, Bool, true, false, not, ◌&&◌, ◌||◌, ◌==◌, nat_lt, List, [], ◌∷◌, ◌++◌, length, codes}
 use Rattle.std.specs.List.{flat_map, list_all}
+use Rattle.std.specs.Option.{option_map_or}
 use Rattle.farkas_cert.specs.declared.certificate.Certificate.{Certificate}
 use Rattle.farkas_cert.specs.declared.certificate.Step.{Step}
 use Rattle.nest_tree.specs.Form.{Form, is_form, is_small, rises_above}
@@ -15,10 +16,10 @@ use Rattle.sync_plan.specs.declared.plan.ConditionRow.{ConditionRow}
 use Rattle.sync_plan.specs.declared.plan.Conditions.{Conditions}
 use Rattle.sync_plan.specs.declared.plan.Conditions.TheVariants.{Values, Rows}
 use Rattle.sync_plan.specs.declared.plan.Kind.{Kind}
-use Rattle.sync_plan.specs.declared.plan.Kind.TheVariants.{Nothing, Producer, Left, Right, Both, Barrier, Join}
 use Rattle.sync_plan.specs.declared.plan.Plan.{Plan}
 use Rattle.sync_plan.specs.declared.plan.Version.{Version}
 use Rattle.sync_plan.specs.declared.plan.Version.TheVariants.{One, Two, Three, Four, Five}
+use Rattle.sync_plan.specs.Kinds.{anchor_in}
 use Rattle.plan_text.specs.Words.{version_line, count_line, loop_line, phase_line, row_line, cert_line, step_line}
 
 -- items with their lines, numbered from this number on
@@ -101,13 +102,7 @@ abbrev pub is_anchor_shown : Anchor → Bool
 is_anchor_shown a = is_form_shown a.form && is_dist_shown a.dist
 
 abbrev pub is_kind_shown : Kind → Bool
-is_kind_shown Nothing = true
-is_kind_shown (Producer a) = is_anchor_shown a
-is_kind_shown Left = true
-is_kind_shown Right = true
-is_kind_shown Both = true
-is_kind_shown Barrier = true
-is_kind_shown Join = true
+is_kind_shown kind = option_map_or is_anchor_shown (anchor_in kind) true
 
 abbrev pub is_phase_shown : Kind × Anchor → Bool
 is_phase_shown p = is_kind_shown p.0 && is_anchor_shown p.1

@@ -1,7 +1,5 @@
 // What may stand in front of a phase in place of a stronger wait.
 
-ghost use Rattle.std.specs.Prelude.{◌≡◌, IfOk};
-
 use comm_system::phase::Phase;
 use nest_rows::is_prefix;
 use owner_partition::{Anchor, Cut};
@@ -20,42 +18,11 @@ fn strength(kind: &Kind) -> u32 {
     }
 }
 
-fn copy_of_anchor(alloc: Global, anchor: &Anchor) -> Result<Anchor, AllocError>
-    ensures { IfOk result (λ copy. copy ≡ anchor.now) }
-{
-    Ok(Anchor {
-        form: anchor.form.copy(alloc)?,
-        dist: anchor.dist,
-    })
-}
-
-/// The same kind.
-pub(crate) fn copy_of_kind(alloc: Global, kind: &Kind) -> Result<Kind, AllocError>
-    ensures { IfOk result (λ copy. copy ≡ kind.now) }
-{
-    Ok(match kind {
-        Kind::Nothing => Kind::Nothing,
-        Kind::Producer(anchor) => Kind::Producer(copy_of_anchor(alloc, anchor)?),
-        Kind::Left => Kind::Left,
-        Kind::Right => Kind::Right,
-        Kind::Both => Kind::Both,
-        Kind::Barrier => Kind::Barrier,
-        Kind::Join => Kind::Join,
-    })
-}
-
-fn is_same_anchor(a: &Anchor, b: &Anchor) -> bool {
-    a.form.constant() == b.form.constant()
-        && a.form.loops() == b.form.loops()
-        && a.form.params() == b.form.params()
-        && a.dist == b.dist
-}
-
 // Whether a wait for the owner that this anchor names is among these.
 fn is_among(anchor: &Anchor, kinds: &[Kind]) -> bool {
-    kinds.iter().any(|kind| match kind {
-        Kind::Producer(other) => is_same_anchor(anchor, other),
-        Kind::Nothing | Kind::Left | Kind::Right | Kind::Both | Kind::Barrier | Kind::Join => false,
+    kinds.iter().any(|kind| match kind.anchor() {
+        Some(other) => anchor.is_same(other),
+        None => false,
     })
 }
 
@@ -92,7 +59,7 @@ pub(crate) fn weaker_kinds(
     push_weaker(&mut found, kind, Kind::Nothing)?;
     for (anchor, one) in plan.anchors.as_slice().iter().zip(phases) {
         if can_produce(&plan.cut, one, phase) && !is_among(anchor, found.as_slice()) {
-            let producer = Kind::Producer(copy_of_anchor(alloc, anchor)?);
+            let producer = Kind::Producer(anchor.copy(alloc)?);
             push_weaker(&mut found, kind, producer)?;
         }
     }

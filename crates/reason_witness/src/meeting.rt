@@ -57,12 +57,6 @@ fn owner_unknowns(anchor: Option<&Anchor>) -> usize {
     }
 }
 
-// The anchor of a static phase by its number from 1.
-fn anchor_at(plan: &Plan, number: u32) -> Option<&Anchor> {
-    let place = (number as usize).checked_sub(1)?;
-    plan.anchors.as_slice().get(place)
-}
-
 // How many subscripts of a target are unknowns: those of an array that is printed whole.
 fn free_count(program: &Program, target: &Target) -> usize {
     match target {
@@ -193,8 +187,8 @@ pub(crate) fn meeting_of(
     let mut owners = (None, None);
     if let Subject::Slot(slot, waits, _, _) = &group.subject {
         let q = second.behind(program);
-        let p = q.saturating_add(owner_unknowns(anchor_at(plan, slot.s)));
-        let mut unknown = p.saturating_add(owner_unknowns(anchor_at(plan, slot.t)));
+        let p = q.saturating_add(owner_unknowns(plan.anchor(slot.s)));
+        let mut unknown = p.saturating_add(owner_unknowns(plan.anchor(slot.t)));
         owners = (Some(q), Some(p));
         for producer in waits.producers.iter() {
             producers.push(values.at(unknown))?;

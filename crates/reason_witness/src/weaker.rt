@@ -15,11 +15,10 @@ ghost use Rattle.reason_witness.specs.Findings.{IsFoundIn, IsFoundUnder};
 ghost use Rattle.reason_witness.specs.Plans.{AreSlotsOf, with_kinds};
 
 use crate::account::Reason;
-use crate::candidates::copy_of_kind;
 use crate::found::{Found, Planned, Wanted};
 use comm_system::groups::slot_groups;
 use comm_system::phase::Phase;
-use comm_system::signature::{Signature, slot_signature};
+use comm_system::signature::{Signature, have_places, slot_signature};
 use comm_system::slot::Slot;
 use comm_system::waits::Waits;
 use nest_tree::Program;
@@ -38,10 +37,10 @@ pub(crate) fn kinds_with(
     let place = (phase as usize).saturating_sub(1);
     let mut made = Vec::new(alloc);
     for given in kinds {
-        made.push(copy_of_kind(alloc, given)?)?;
+        made.push(given.copy(alloc)?)?;
     }
     if place < made.len() {
-        made[place] = copy_of_kind(alloc, kind)?;
+        made[place] = kind.copy(alloc)?;
     }
     Ok(made)
 }
@@ -61,22 +60,6 @@ pub(crate) struct Ground<'k, 'b, 'a> {
     ghost limits: { IsWithinLimits (tree_of program.now) },
     ghost shape: { wrong_field (tree_of program.now) plan.now ≡ None },
     ghost few: { length phases.now < 2 ^ 20 },
-}
-
-// Whether the producers among these kinds have blocks of a length, as those of a plan that fits.
-fn have_places(kinds: &[Kind]) -> bool
-    ensures { result ≡ list_all has_places_in kinds.now }
-{
-    kinds.iter().all(has_places_in)
-}
-
-fn has_places_in(kind: &Kind) -> bool
-    ensures { result ≡ has_places_in kind.now }
-{
-    match kind {
-        Kind::Producer(anchor) => anchor.dist.has_places(),
-        Kind::Nothing | Kind::Left | Kind::Right | Kind::Both | Kind::Barrier | Kind::Join => true,
-    }
 }
 
 // Whether an access of a phase stands in this line.

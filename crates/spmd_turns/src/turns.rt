@@ -301,8 +301,7 @@ impl<'a> Turns<'a> {
 fn boundary_before(plan: &Plan, phase: &Phase) -> Boundary
     ensures { result ≡ boundary_of (slice_get plan.now.kinds (phase.now.place - 1)) plan.now.workers }
 {
-    let place = (phase.place as usize).saturating_sub(1);
-    match plan.kinds.as_slice().get(place) {
+    match plan.kind(phase.place) {
         Some(kind) => passed_by(kind, plan.workers),
         None => Boundary::Counters,
     }

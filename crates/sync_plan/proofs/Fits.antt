@@ -1,7 +1,8 @@
 -- What a plan that fits a well-formed program has.
-use Rattle.std.proofs.Common.{◌≡◌, ℕ, zero, suc, ◌+◌, ◌<◌, ◌≤◌, Bool, true, false, ◌&&◌, ◌==◌, not, nat_le, nat_lt, List, [], ◌∷◌, length, get_or, Option, Some, None, IsTrue, refl, sym, ap, ◌∙◌, arith}
-use Rattle.std.specs.Prelude.{if◌then◌else◌}
+use Rattle.std.proofs.Common.{◌≡◌, ℕ, zero, suc, ◌+◌, ◌≤◌, Bool, true, false, ◌&&◌, ◌==◌, not, nat_le, nat_lt, List, [], ◌∷◌, length, Option, Some, None, IsTrue, refl, sym, ap, ◌∙◌, arith}
+use Rattle.std.specs.Prelude.{if◌then◌else◌, slice_get}
 use Rattle.std.specs.List.{list_all}
+use Rattle.std.specs.Option.{option_map_or}
 use Rattle.std.proofs.lemmas.Bool.{and_parts, and_from, eqb-true, leb-true}
 use Rattle.std.proofs.lemmas.Bool.Decides.{nat_tests}
 use Rattle.std.proofs.lemmas.List.Folds.{list_all-append}
@@ -15,10 +16,10 @@ use Rattle.nest_walk.specs.Texts.{Placed, placed_in, placed_of}
 use Rattle.owner_partition.specs.declared.anchor.Anchor.{Anchor}
 use Rattle.owner_partition.specs.Marks.{enters_outer}
 use Rattle.sync_plan.specs.declared.plan.Kind.{Kind}
-use Rattle.sync_plan.specs.declared.plan.Kind.TheVariants.{Producer}
 use Rattle.sync_plan.specs.declared.plan.Plan.{Plan}
 use Rattle.owner_partition.specs.Placement.{unplaced}
 use Rattle.sync_plan.specs.Fit.{IsFit, Misfit, shape, placement, print_place, as_misfit, misplaced_print, placed_anchors}
+use Rattle.sync_plan.specs.Kinds.{anchor_in}
 use Rattle.sync_plan.specs.Shape.{are_good_anchors, are_good_conditions, are_good_kinds, are_marked_well, has_places, have_good_privates, have_good_sums, is_good_anchor, is_good_kind, is_privately_good, static_phases, wrong_field}
 
 -- the loops round a place have numbers up to this one
@@ -114,30 +115,29 @@ pub record IsGivenKind (loops constants : ℕ) (kind : Kind) : Type 0 where
   pub within : all_within loops around ≡ true
   pub good : is_good_kind constants around kind ≡ true
 
-kind_given : (n constants : ℕ) (text : List Placed) (kinds : List Kind) (i : ℕ) (d : Kind) → list_all (is_within n) text ≡ true → are_good_kinds constants text kinds ≡ true → length kinds ≡ length text → i < length kinds → IsGivenKind n constants (get_or kinds i d)
-kind_given n constants [] [] i d within good long lt = absurd (omega arith)
-kind_given n constants [] (k ∷ kinds) i d within good long lt = absurd (omega arith)
-kind_given n constants (s ∷ text) [] i d within good long lt = absurd (omega arith)
-kind_given n constants (s ∷ text) (k ∷ kinds) zero d within good long lt = record {
+kind_given : (n constants : ℕ) (text : List Placed) (kinds : List Kind) (i : ℕ) (kind : Kind) → list_all (is_within n) text ≡ true → are_good_kinds constants text kinds ≡ true → length kinds ≡ length text → slice_get kinds i ≡ Some kind → IsGivenKind n constants kind
+kind_given n constants text [] i kind within good long at = absurd (let no : None ≡ Some kind = at in cc)
+kind_given n constants [] (k ∷ kinds) i kind within good long at = absurd (omega (arith, long))
+kind_given n constants (s ∷ text) (k ∷ kinds) zero kind within good long at = record {
   around = s.around;
   within = (and_parts (is_within n s) (list_all (is_within n) text) within).0;
-  good = (and_parts (is_good_kind constants s.around k) (are_good_kinds constants text kinds) good).0;
+  good = (let same : k ≡ kind = cc in ap (is_good_kind constants s.around) (sym same) ∙ (and_parts (is_good_kind constants s.around k) (are_good_kinds constants text kinds) good).0);
 }
-kind_given n constants (s ∷ text) (k ∷ kinds) (suc i) d within good long lt =
-    kind_given n constants text kinds i d (and_parts (is_within n s) (list_all (is_within n) text) within).1 (and_parts (is_good_kind constants s.around k) (are_good_kinds constants text kinds) good).1 (omega arith) (omega arith)
+kind_given n constants (s ∷ text) (k ∷ kinds) (suc i) kind within good long at =
+    kind_given n constants text kinds i kind (and_parts (is_within n s) (list_all (is_within n) text) within).1 (and_parts (is_good_kind constants s.around k) (are_good_kinds constants text kinds) good).1 (omega (arith, long)) at
 
 pub record IsGivenAnchor (loops constants : ℕ) (a : Anchor) : Type 0 where
   pub given : IsTrue (is_given a.form loops constants)
   pub places : IsTrue (has_places a.dist)
 
 -- the anchor of the kind with this place, from 0
-pub producer_given : (tree : Tree) (plan : Plan) (i : ℕ) (d : Kind) (a : Anchor) → IsWellFormed tree → IsFit tree plan → i < length plan.kinds → get_or plan.kinds i d ≡ Producer a → IsGivenAnchor (loops_of tree.items) (length tree.params) a
-producer_given tree plan i d a formed fits lt is =
+pub producer_given : (tree : Tree) (plan : Plan) (i : ℕ) (kind : Kind) (a : Anchor) → IsWellFormed tree → IsFit tree plan → slice_get plan.kinds i ≡ Some kind → anchor_in kind ≡ Some a → IsGivenAnchor (loops_of tree.items) (length tree.params) a
+producer_given tree plan i kind a formed fits at is =
     let n = loops_of tree.items in
     let constants = length tree.params in
     let parts = fit_parts tree plan fits in
     let within = placed_of-within (enters_outer plan.cut.marks) (scope_of tree) n [] 1 tree.items (well_formed_parts tree formed).statements (omega arith) refl in
-    let kind = kind_given n constants (static_phases tree plan.cut.marks) plan.kinds i d within parts.good_kinds parts.kinds lt in
-    let good : is_good_anchor constants kind.around a ≡ true = sym (ap (is_good_kind constants kind.around) is) ∙ kind.good in
-    let named = and_parts (names_only constants kind.around a.form) (has_places a.dist) good in
-    record { given = form-given n constants kind.around a.form kind.within named.0; places = named.1 }
+    let given = kind_given n constants (static_phases tree plan.cut.marks) plan.kinds i kind within parts.good_kinds parts.kinds at in
+    let good : is_good_anchor constants given.around a ≡ true = sym (ap (λ o. option_map_or (is_good_anchor constants given.around) o true) is) ∙ given.good in
+    let named = and_parts (names_only constants given.around a.form) (has_places a.dist) good in
+    record { given = form-given n constants given.around a.form given.within named.0; places = named.1 }

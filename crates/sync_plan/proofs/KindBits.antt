@@ -1,9 +1,6 @@
 -- Who posts at a kind, and the bits of those whom a processor awaits there, kind by kind.
 use Rattle.std.proofs.Common.{◌≡◌, ℕ, zero, suc, min, ◌+◌, ◌-◌, ◌*◌, ◌/◌, ◌%◌, ◌^◌, ◌<◌, ◌≤◌, Bool, true, false, ◌&&◌, ◌||◌, ◌==◌, not, nat_lt, List, [], ◌∷◌, refl, sym, ◌∙◌, ap, inl, inr, bit_and, bit_or, max, arith}
 use Rattle.std.specs.List.{list_any, range_with_len}
-use Rattle.std.proofs.Common.{get_or, length, Some, None}
-use Rattle.std.specs.Prelude.{slice_get}
-use Rattle.std.proofs.lemmas.Option.{slice_get-get_or, slice_get_past}
 use Rattle.std.specs.Int.{bit_at}
 use Rattle.std.proofs.lemmas.Bool.{eq-eqb, ne_eqb, cases_lt, lt-ltb, le-ltb, and_right}
 use Rattle.std.proofs.lemmas.Nat.Bits.{bit_at_or, bit_at-zero, bit_at_ones}
@@ -116,11 +113,3 @@ is_awaited-capped kind owner workers q lt = any_same (range_with_len 0 workers)
     any_same (p ∷ ps) =
         ap (λ b. not (p == q) && b || list_any (λ r. does_wait_at kind (min owner workers) r q) ps) (same_waits kind owner workers p q lt)
         ∙ ap (λ b. does_wait_at kind owner p q || b) (any_same ps)
-
--- the kind that is looked up in a list, as the code reads it
-pub looked_up : (kinds read : List Kind) (place i : ℕ) (kind : Kind) → read ≡ kinds → i ≡ place - 1 → i < length read → kind ≡ get_or read i kind → slice_get kinds (place - 1) ≡ Some kind
-looked_up kinds read place i kind all at lt is =
-    ap (λ ks. slice_get ks (place - 1)) (sym all) ∙ ap (slice_get read) (sym at) ∙ slice_get-get_or read i kind lt ∙ ap Some (sym is)
-
-pub none_there : (kinds read : List Kind) (place i : ℕ) → read ≡ kinds → i ≡ place - 1 → length read ≤ i → slice_get kinds (place - 1) ≡ None
-none_there kinds read place i all at past = ap (λ ks. slice_get ks (place - 1)) (sym all) ∙ ap (slice_get read) (sym at) ∙ slice_get_past read i past

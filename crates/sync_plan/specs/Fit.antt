@@ -1,6 +1,7 @@
 -- Plans that fit a program: their shape, where their anchors lie, who prints, and their conditions.
 use Rattle.std.specs.Prelude.{ℕ, suc, ◌≡◌, ℤ, pos, int_le, Bool, not, ◌&&◌, ◌||◌, ◌==◌, List, [], ◌∷◌, ◌++◌, length, Option, Some, None, if◌then◌else◌}
-use Rattle.std.specs.Option.{option_or}
+use Rattle.std.specs.List.{cons_option}
+use Rattle.std.specs.Option.{option_map, option_or}
 use Rattle.std.specs.Ordering.{int_eq}
 use Rattle.nest_tree.specs.Form.{Form, dot}
 pub use Rattle.nest_tree.specs.Prints.{has_print, have_print}
@@ -15,8 +16,8 @@ use Rattle.sync_plan.specs.declared.plan.ConditionRow.{ConditionRow}
 use Rattle.sync_plan.specs.declared.plan.Conditions.{Conditions}
 use Rattle.sync_plan.specs.declared.plan.Conditions.TheVariants.{Values, Rows}
 use Rattle.sync_plan.specs.declared.plan.Kind.{Kind}
-use Rattle.sync_plan.specs.declared.plan.Kind.TheVariants.{Nothing, Producer, Left, Right, Both, Barrier, Join}
 use Rattle.sync_plan.specs.declared.plan.Plan.{Plan}
+use Rattle.sync_plan.specs.Kinds.{anchor_in}
 use Rattle.sync_plan.specs.Shape.{static_phases, wrong_field}
 
 -- why a plan doesn't fit: a field of its shape, a block anchor that leaves its blocks, a phase with a PRINT that processor 0 doesn't run alone, or a row of conditions that isn't met
@@ -33,13 +34,7 @@ numbered_anchors n (a ∷ rest) = (n, a) ∷ numbered_anchors (suc n) rest
 
 abbrev pub kind_anchors : ℕ → List Kind → List (ℕ × Anchor)
 kind_anchors n [] = []
-kind_anchors n (Nothing ∷ rest) = kind_anchors (suc n) rest
-kind_anchors n (Producer a ∷ rest) = (n, a) ∷ kind_anchors (suc n) rest
-kind_anchors n (Left ∷ rest) = kind_anchors (suc n) rest
-kind_anchors n (Right ∷ rest) = kind_anchors (suc n) rest
-kind_anchors n (Both ∷ rest) = kind_anchors (suc n) rest
-kind_anchors n (Barrier ∷ rest) = kind_anchors (suc n) rest
-kind_anchors n (Join ∷ rest) = kind_anchors (suc n) rest
+kind_anchors n (kind ∷ rest) = cons_option (option_map (λ a. (n, a)) (anchor_in kind)) (kind_anchors (suc n) rest)
 
 -- the phases' anchors are placed first, then the kinds'
 abbrev pub placed_anchors : Plan → List (ℕ × Anchor)

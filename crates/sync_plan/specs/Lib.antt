@@ -1,3 +1,4 @@
+pub mod Kinds
 pub mod ProcessorSets
 pub mod PhaseLoops
 pub mod Waits

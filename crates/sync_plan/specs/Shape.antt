@@ -1,6 +1,7 @@
 -- The shape of a plan: the first of its fields that is wrong for a program.
 use Rattle.std.specs.Prelude.{ℕ, Bool, true, false, not, ◌&&◌, ◌||◌, ◌==◌, nat_le, nat_lt, List, [], ◌∷◌, length, Option, Some, None, if◌then◌else◌}
 use Rattle.std.specs.List.{list_all}
+use Rattle.std.specs.Option.{option_map_or}
 use Rattle.nest_tree.specs.Form.{is_small, rises_above}
 use Rattle.nest_tree.specs.Tree.{Statement, Statements, do_loop, work, continue, done, next, Tree}
 use Rattle.nest_tree.specs.WellFormed.{is_number_of, loops_of, names_only}
@@ -17,10 +18,10 @@ use Rattle.sync_plan.specs.declared.plan.ConditionRow.{ConditionRow}
 use Rattle.sync_plan.specs.declared.plan.Conditions.{Conditions}
 use Rattle.sync_plan.specs.declared.plan.Conditions.TheVariants.{Values, Rows}
 use Rattle.sync_plan.specs.declared.plan.Kind.{Kind}
-use Rattle.sync_plan.specs.declared.plan.Kind.TheVariants.{Nothing, Producer, Left, Right, Both, Barrier, Join}
 use Rattle.sync_plan.specs.declared.plan.Plan.{Plan}
 use Rattle.sync_plan.specs.declared.plan.Version.{Version}
 use Rattle.sync_plan.specs.declared.plan.Version.TheVariants.{One, Two, Three, Four, Five}
+use Rattle.sync_plan.specs.Kinds.{anchor_in}
 
 -- a loop inside a phase is Inner, and no other loop is
 abbrev pub fits_mark : Bool → Mark → Bool
@@ -57,13 +58,7 @@ abbrev pub is_good_anchor : ℕ → List ℕ → Anchor → Bool
 is_good_anchor constants loops a = names_only constants loops a.form && has_places a.dist
 
 abbrev pub is_good_kind : ℕ → List ℕ → Kind → Bool
-is_good_kind constants loops Nothing = true
-is_good_kind constants loops (Producer a) = is_good_anchor constants loops a
-is_good_kind constants loops Left = true
-is_good_kind constants loops Right = true
-is_good_kind constants loops Both = true
-is_good_kind constants loops Barrier = true
-is_good_kind constants loops Join = true
+is_good_kind constants loops kind = option_map_or (is_good_anchor constants loops) (anchor_in kind) true
 
 -- the anchors of the static phases, and those of the kinds in front of them
 abbrev pub are_good_anchors : ℕ → List Mark → List Placed → List Anchor → Bool

@@ -2,10 +2,11 @@
 use Rattle.std.specs.Prelude.{ℕ, ◌+◌, ◌-◌, ℤ, Bool, true, false, ◌&&◌, ◌||◌, not, ◌==◌, List, [], ◌∷◌, Option, Some, None, slice_get, ◌≡◌, refl}
 use Rattle.std.specs.List.{filter, list_any, range_with_len}
 use Rattle.nest_tree.specs.Tree.{Tree, param_values}
-use Rattle.owner_partition.specs.Owners.{anchor_owner}
+use Rattle.owner_partition.specs.Owners.{owner_by}
 use Rattle.sync_plan.specs.declared.plan.Kind.{Kind}
 use Rattle.sync_plan.specs.declared.plan.Kind.TheVariants.{Nothing, Producer, Left, Right, Both, Barrier, Join}
 use Rattle.sync_plan.specs.declared.plan.Plan.{Plan}
+use Rattle.sync_plan.specs.Kinds.{anchor_in}
 
 -- processor p waits for q at a kind, where its anchor names `owner`: Nothing nobody, Producer the owner, Left p - 1, Right p + 1, Both these two, Barrier and Join all
 abbrev pub waits_at : Kind → ℕ → ℕ → ℕ → Bool
@@ -17,15 +18,9 @@ waits_at Both owner p q = q + 1 == p || p + 1 == q
 waits_at Barrier owner p q = true
 waits_at Join owner p q = true
 
--- the processor that a kind's anchor names where the loops and the named constants have these values
+-- the processor that a kind's anchor names where the loops and the named constants have these values, 0 where it has none
 abbrev pub kind_owner : Kind → ℕ → List ℤ → List ℤ → ℕ
-kind_owner Nothing workers loops params = 0
-kind_owner (Producer a) workers loops params = anchor_owner a workers loops params
-kind_owner Left workers loops params = 0
-kind_owner Right workers loops params = 0
-kind_owner Both workers loops params = 0
-kind_owner Barrier workers loops params = 0
-kind_owner Join workers loops params = 0
+kind_owner kind workers loops params = owner_by (anchor_in kind) workers loops params
 
 -- for itself no processor waits
 abbrev pub does_wait_at : Kind → ℕ → ℕ → ℕ → Bool

@@ -1,6 +1,6 @@
 // The owner that a kind's anchor names in a phase.
 
-ghost use Rattle.std.specs.Prelude.{◌≡◌, ◌==◌, ◌-◌, ◌<◌, ◌≤◌, pos, IsTrue, nat_lt, drop, length, map, min, true, false, slice_index_or};
+ghost use Rattle.std.specs.Prelude.{◌≡◌, ◌==◌, ◌-◌, ◌<◌, ◌≤◌, pos, IsTrue, nat_lt, drop, length, map, min, true, false, slice_get, slice_index_or};
 ghost use Rattle.nest_tree.specs.Form.{is_given};
 ghost use Rattle.nest_tree.specs.Layout.{count_of};
 ghost use Rattle.nest_tree.specs.Tree.{param_values};
@@ -28,11 +28,10 @@ const MOST_LOOPS: usize = 400;
 pub(crate) fn producer(program: &Program, plan: &Plan, kind: &Kind, phase: &Phase) -> u32
     requires formed { IsWellFormed (tree_of program.now) }
     requires fits { IsFit (tree_of program.now) plan.now }
-    requires place { phase.now.place - 1 < length plan.now.kinds }
-    requires kind { slice_index_or plan.now.kinds (phase.now.place - 1) kind.now ≡ kind.now }
+    requires kind { slice_get plan.now.kinds (phase.now.place - 1) ≡ Some kind.now }
     ensures { result ≡ min (kind_owner kind.now plan.now.workers (phase_loops (tree_of program.now) plan.now.cut.marks phase.now.place phase.now.outer) (param_values (tree_of program.now))) plan.now.workers }
 {
-    let Kind::Producer(anchor) = kind else {
+    let Some(anchor) = kind.anchor() else {
         return 0;
     };
     let mut all = [0; MOST_LOOPS];

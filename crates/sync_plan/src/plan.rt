@@ -5,6 +5,7 @@ ghost use Rattle.std.specs.Prelude.{◌≡◌};
 use farkas_cert::Certificate;
 use nest_tree::Pairs;
 use owner_partition::{Anchor, Cut};
+use std::alloc::{AllocError, Global};
 use std::marker::Model;
 
 /// The version of a plan and of its text. A later one has all forms of the earlier ones.
@@ -68,6 +69,38 @@ pub enum Kind {
     Barrier,
     /// All others; the running workers end their leg there and are forked again.
     Join,
+}
+
+impl Kind {
+    ghost use Rattle.std.specs.Option.{option_copied};
+    ghost use Rattle.std.specs.Prelude.{IfOk};
+    ghost use Rattle.sync_plan.specs.Kinds.{anchor_in};
+
+    /// The anchor of the owner that is waited for. Only a producer has one.
+    pub fn anchor(&self) -> Option<&Anchor>
+        ensures { option_copied result ≡ anchor_in self.now }
+    {
+        match self {
+            Kind::Producer(anchor) => Some(anchor),
+            Kind::Nothing | Kind::Left | Kind::Right | Kind::Both => None,
+            Kind::Barrier | Kind::Join => None,
+        }
+    }
+
+    /// The same kind.
+    pub fn copy(&self, alloc: Global) -> Result<Self, AllocError>
+        ensures { IfOk result (λ copy. copy ≡ self.now) }
+    {
+        Ok(match self {
+            Kind::Nothing => Kind::Nothing,
+            Kind::Producer(anchor) => Kind::Producer(anchor.copy(alloc)?),
+            Kind::Left => Kind::Left,
+            Kind::Right => Kind::Right,
+            Kind::Both => Kind::Both,
+            Kind::Barrier => Kind::Barrier,
+            Kind::Join => Kind::Join,
+        })
+    }
 }
 
 /// A row of a plan's conditions: coefficients of named constants, by their numbers from 1, times
@@ -256,4 +289,28 @@ pub struct Plan {
     pub anchors: Anchors,
     pub kinds: Kinds,
     pub certificates: Certificates,
+}
+
+impl Plan {
+    ghost use Rattle.std.specs.Option.{option_copied};
+    ghost use Rattle.std.specs.Prelude.{◌-◌, slice_get};
+
+    /// The anchor of the static phase with this number, from 1; none where the plan has none.
+    pub fn anchor(&self, number: u32) -> Option<&Anchor>
+        ensures { option_copied result ≡ slice_get self.now.anchors (number - 1) }
+    {
+        self.anchors
+            .as_slice()
+            .get((number as usize).saturating_sub(1))
+    }
+
+    /// What stands in front of the static phase with this number, from 1; none where the plan has
+    /// nothing for it.
+    pub fn kind(&self, number: u32) -> Option<&Kind>
+        ensures { option_copied result ≡ slice_get self.now.kinds (number - 1) }
+    {
+        self.kinds
+            .as_slice()
+            .get((number as usize).saturating_sub(1))
+    }
 }

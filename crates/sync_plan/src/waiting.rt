@@ -49,8 +49,7 @@ pub fn waits(program: &Program, plan: &Plan, p: u32, phase: &Phase) -> u64
     requires worker { p < plan.now.workers }
     ensures { members result ≡ waits_for (tree_of program.now) plan.now p phase.now.place (phase_loops (tree_of program.now) plan.now.cut.marks phase.now.place phase.now.outer) }
 {
-    let place = (phase.place as usize).saturating_sub(1);
-    match plan.kinds.as_slice().get(place) {
+    match plan.kind(phase.place) {
         Some(kind) => awaited(kind, producer(program, plan, kind, phase), p, plan.workers),
         None => 0,
     }
@@ -63,8 +62,7 @@ pub fn posts(program: &Program, plan: &Plan, q: u32, phase: &Phase) -> bool
     requires worker { q < plan.now.workers }
     ensures { result ≡ posts_at (tree_of program.now) plan.now q phase.now.place (phase_loops (tree_of program.now) plan.now.cut.marks phase.now.place phase.now.outer) }
 {
-    let place = (phase.place as usize).saturating_sub(1);
-    match plan.kinds.as_slice().get(place) {
+    match plan.kind(phase.place) {
         Some(kind) => is_awaited(kind, producer(program, plan, kind, phase), q, plan.workers),
         None => false,
     }

@@ -1,17 +1,16 @@
-use Rattle.std.proofs.Common.{◌-◌, ◌∙◌}
+use Rattle.std.proofs.Common.{◌-◌, refl, sym}
 use Rattle.nest_tree.specs.View.{tree_of}
-use Rattle.std.proofs.Common.{refl}
 use Rattle.sync_plan.specs.Points.{zeros}
 use Rattle.sync_plan.proofs.Fits.{producer_given, fit_parts}
 use Rattle.sync_plan.proofs.owners.producer.Goals as goal
 
 pub owner_in-requires-clause-given : goal.owner_in-requires-clause-given
 owner_in-requires-clause-given c =
-    (producer_given (tree_of c.args.program.now) c.args.plan.now (c.args.phase.now.place - 1) c.args.kind.now c.in-Producer.anchor c.requires.formed c.requires.fits c.requires.place (c.requires.kind ∙ c.in-Producer.is)).given
+    (producer_given (tree_of c.args.program.now) c.args.plan.now (c.args.phase.now.place - 1) c.args.kind.now c.in-Some.anchor.now c.requires.formed c.requires.fits c.requires.kind (sym c.in-Some.ensures)).given
 
 pub owner_in-requires-clause-places : goal.owner_in-requires-clause-places
 owner_in-requires-clause-places c =
-    (producer_given (tree_of c.args.program.now) c.args.plan.now (c.args.phase.now.place - 1) c.args.kind.now c.in-Producer.anchor c.requires.formed c.requires.fits c.requires.place (c.requires.kind ∙ c.in-Producer.is)).places
+    (producer_given (tree_of c.args.program.now) c.args.plan.now (c.args.phase.now.place - 1) c.args.kind.now c.in-Some.anchor.now c.requires.formed c.requires.fits c.requires.kind (sym c.in-Some.ensures)).places
 
 pub owner_in-requires-clause-some : goal.owner_in-requires-clause-some
 owner_in-requires-clause-some c = (fit_parts (tree_of c.args.program.now) c.args.plan.now c.requires.fits).some

@@ -1,9 +1,9 @@
-use Rattle.std.proofs.Common.{◌∙◌, ap, sym}
+use Rattle.std.proofs.Common.{◌∙◌, ap}
 use Rattle.nest_tree.specs.Tree.{param_values}
 use Rattle.nest_tree.specs.View.{tree_of}
 use Rattle.sync_plan.specs.PhaseLoops.{phase_loops}
 use Rattle.sync_plan.specs.Waits.{is_awaited_at, is_awaited_behind, kind_owner}
-use Rattle.sync_plan.proofs.KindBits.{is_awaited-capped, looked_up, none_there}
+use Rattle.sync_plan.proofs.KindBits.{is_awaited-capped}
 use Rattle.sync_plan.proofs.waiting.posts.Goals as goal
 
 pub returns-in-Some : goal.returns-in-Some
@@ -12,16 +12,14 @@ returns-in-Some c =
     let plan = c.args.plan.now in
     let loops = phase_loops tree plan.cut.marks c.args.phase.now.place c.args.phase.now.outer in
     let kind = c.in-Some.kind.now in
-    let there = looked_up plan.kinds c.as_slice.result.now c.args.phase.now.place c.saturating_sub-place.result kind c.as_slice.ensures c.saturating_sub-place.ensures c.in-Some.ensures.lookup.3.0 c.in-Some.ensures.lookup.1 in
     c.is_awaited.ensures
     ∙ ap (λ owner. is_awaited_at kind owner plan.workers c.args.q) c.producer.ensures
     ∙ is_awaited-capped kind (kind_owner kind plan.workers loops (param_values tree)) plan.workers c.args.q c.requires.worker
-    ∙ sym (ap (λ o. is_awaited_behind o plan.workers loops (param_values tree) c.args.q) there)
+    ∙ ap (λ o. is_awaited_behind o plan.workers loops (param_values tree) c.args.q) c.in-Some.ensures
 
 pub returns-in-None : goal.returns-in-None
 returns-in-None c =
     let tree = tree_of c.args.program.now in
     let plan = c.args.plan.now in
     let loops = phase_loops tree plan.cut.marks c.args.phase.now.place c.args.phase.now.outer in
-    let there = none_there plan.kinds c.as_slice.result.now c.args.phase.now.place c.saturating_sub-place.result c.as_slice.ensures c.saturating_sub-place.ensures c.in-None.ensures.lookup.3 in
-    sym (ap (λ o. is_awaited_behind o plan.workers loops (param_values tree) c.args.q) there)
+    ap (λ o. is_awaited_behind o plan.workers loops (param_values tree) c.args.q) c.in-None.ensures

@@ -1,9 +1,9 @@
-use Rattle.std.proofs.Common.{◌∙◌, ap, sym}
+use Rattle.std.proofs.Common.{◌∙◌, ap}
 use Rattle.nest_tree.specs.Tree.{param_values}
 use Rattle.nest_tree.specs.View.{tree_of}
 use Rattle.sync_plan.specs.PhaseLoops.{phase_loops}
 use Rattle.sync_plan.specs.Waits.{awaited_at, awaited_behind, kind_owner}
-use Rattle.sync_plan.proofs.KindBits.{awaited-capped, looked_up, none_there}
+use Rattle.sync_plan.proofs.KindBits.{awaited-capped}
 use Rattle.sync_plan.proofs.ProcessorSets.{members-zero}
 use Rattle.sync_plan.proofs.waiting.waits.Goals as goal
 
@@ -13,16 +13,14 @@ returns-in-Some c =
     let plan = c.args.plan.now in
     let loops = phase_loops tree plan.cut.marks c.args.phase.now.place c.args.phase.now.outer in
     let kind = c.in-Some.kind.now in
-    let there = looked_up plan.kinds c.as_slice.result.now c.args.phase.now.place c.saturating_sub-place.result kind c.as_slice.ensures c.saturating_sub-place.ensures c.in-Some.ensures.lookup.3.0 c.in-Some.ensures.lookup.1 in
     c.awaited.ensures
     ∙ ap (λ owner. awaited_at kind owner plan.workers c.args.p) c.producer.ensures
     ∙ awaited-capped kind (kind_owner kind plan.workers loops (param_values tree)) plan.workers c.args.p
-    ∙ sym (ap (λ o. awaited_behind o plan.workers loops (param_values tree) c.args.p) there)
+    ∙ ap (λ o. awaited_behind o plan.workers loops (param_values tree) c.args.p) c.in-Some.ensures
 
 pub returns-in-None : goal.returns-in-None
 returns-in-None c =
     let tree = tree_of c.args.program.now in
     let plan = c.args.plan.now in
     let loops = phase_loops tree plan.cut.marks c.args.phase.now.place c.args.phase.now.outer in
-    let there = none_there plan.kinds c.as_slice.result.now c.args.phase.now.place c.saturating_sub-place.result c.as_slice.ensures c.saturating_sub-place.ensures c.in-None.ensures.lookup.3 in
-    members-zero ∙ sym (ap (λ o. awaited_behind o plan.workers loops (param_values tree) c.args.p) there)
+    members-zero ∙ ap (λ o. awaited_behind o plan.workers loops (param_values tree) c.args.p) c.in-None.ensures
