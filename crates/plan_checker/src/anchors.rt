@@ -56,8 +56,9 @@ pub(crate) fn constant_count(program: &Program) -> usize
     program.params.as_slice().len()
 }
 
-// The phase's own loop, where its anchor may name it.
-fn own_loop(cut: &Cut, item: &Item) -> Option<u32>
+/// The number of the loop that a static phase is, where the phase's anchor may name it: its trips
+/// are dealt.
+pub fn own_loop(cut: &Cut, item: &Item) -> Option<u32>
     ensures { (around : List ℕ) → own_loops cut.now.marks (statement_of item.now) around ≡ with_own result around }
 {
     match item {
@@ -75,9 +76,14 @@ fn is_good_kind(constants: usize, phase: &StaticPhase, kind: &Kind) -> bool
     }
 }
 
-// Whether an anchor names only loops round the phase, or this one, and named constants of which
-// there are so many, and has a block of a length.
-fn is_good_anchor(constants: usize, phase: &StaticPhase, own: Option<u32>, anchor: &Anchor) -> bool
+/// Whether an anchor names only loops round the phase, or this one, and named constants of which
+/// there are so many, and has a block of 1 to 2147483647 places.
+pub fn is_good_anchor(
+    constants: usize,
+    phase: &StaticPhase,
+    own: Option<u32>,
+    anchor: &Anchor,
+) -> bool
     ensures { result ≡ is_good_anchor constants (with_own own (loops_round phase.now)) anchor.now }
 {
     names_only(constants, phase, own, &anchor.form) && anchor.dist.has_places()

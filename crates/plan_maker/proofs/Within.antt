@@ -15,7 +15,7 @@ use Rattle.owner_partition.specs.declared.anchor.Anchor.{Anchor}
 use Rattle.owner_partition.specs.declared.cut.Mark.{Mark}
 use Rattle.owner_partition.specs.Marks.{enters_outer}
 use Rattle.sync_plan.specs.Shape.{has_places, is_doall, is_good_anchor, mark_of, own_loops, static_phases}
-use Rattle.plan_maker.specs.Allowed.{with_own}
+use Rattle.plan_checker.specs.Named.{with_own}
 
 abbrev pub are_numbers : ℕ → List ℕ → Bool
 are_numbers n around = list_all (is_number_of n) around

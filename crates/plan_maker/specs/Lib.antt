@@ -1,5 +1,4 @@
 pub mod Anchors
-pub mod Allowed
 pub mod Seats
 pub mod Marks
 pub mod Orders

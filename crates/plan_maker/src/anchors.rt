@@ -13,9 +13,10 @@ ghost use Rattle.plan_maker.specs.Anchors.{along, along_axis, if_good, if_one_go
 ghost use Rattle.plan_maker.specs.Seats.{constants_at, found_anchor, good_element_anchor, good_own_anchor, loops_at};
 
 use crate::places::{dealt_as, extent, first_processor, in_blocks, item_at, less};
-use crate::seat::{Seat, own_loop};
+use crate::seat::Seat;
 use nest_tree::{Access, Affine, Item, Pairs, Program, Spread, Variable};
 use owner_partition::{Anchor, Cut, Dist, StaticPhase, check_anchor};
+use plan_checker::own_loop;
 use std::alloc::{AllocError, Global};
 
 /// The anchors of a program's static phases under a cut, in text order, for so many workers.
