@@ -17,7 +17,7 @@ ghost use Rattle.range_check.specs.RangeSystems.{AreProof, IsKeptAs, above, belo
 ghost use Rattle.range_check.specs.Sites.{IsSite, Site, site_of, sites};
 
 use crate::accesses::accesses_in;
-use crate::systems::{bounded, elimination_order, high_limit, low_limit, unknown_count};
+use crate::systems::{elimination_order, high_limit, low_limit, side_system, unknown_count};
 use farkas_cert::{Certificate, NarrowSystem};
 use fm_elim::{Answer, NoMemory, decide};
 use nest_rows::{Nested, Sign, nested_works};
@@ -70,7 +70,7 @@ fn side_proof(
         return Err(NoMemory);
     };
     let order = elimination_order(alloc, program.params.len() as u32, around.len() as u32)?;
-    let system = bounded(alloc, program, nested, access, side, vars)?;
+    let system = side_system(alloc, program, nested, access, side, vars)?;
     refuted(alloc, &system, order.as_slice())
 }
 

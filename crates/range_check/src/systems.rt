@@ -103,7 +103,7 @@ fn standing(
 
 // The system of an access's subscript in the dimension with this place, from 0: with this sign it
 // is at most a number.
-pub(crate) fn bounded(
+pub(crate) fn side_system(
     alloc: Global,
     program: &Program,
     nested: &Nested,

@@ -10,7 +10,7 @@ use Rattle.nest_rows.specs.Views.{heads_of}
 use Rattle.range_check.specs.RangeSystems.{first_loop, no_form, standing, unknowns}
 use Rattle.range_check.specs.Sites.{site_of}
 use Rattle.range_check.proofs.Standing.{one_row_more}
-use Rattle.range_check.proofs.systems.bounded.Goals as goal
+use Rattle.range_check.proofs.systems.side_system.Goals as goal
 
 pub returns : goal.returns
 returns c = λ n view.
