@@ -16,9 +16,10 @@ use Rattle.plan_checker.specs.declared.refusal.PlanRefusal.{PlanRefusal}
 use Rattle.plan_checker.specs.declared.refusal.PlanRefusal.TheVariants.{Bad, Shape}
 use Rattle.plan_checker.specs.Accepted.{AreCertified, IsAccepted}
 use Rattle.plan_checker.specs.Failures.{first_failure, first_uncertified, surplus}
+use Rattle.plan_checker.specs.Proved.{IsProved, first_unproved}
 use Rattle.plan_checker.specs.Refusals.{first_refusal, refusal_of}
 
-unmapped : {A B : Type 0} (f : A → B) (a : Option A) → option_map f a ≡ None → a ≡ None
+pub unmapped : {A B : Type 0} (f : A → B) (a : Option A) → option_map f a ≡ None → a ≡ None
 unmapped f None h = refl
 unmapped f (Some x) h = absurd cc
 
@@ -84,3 +85,21 @@ none_where_accepted tree plan accepted =
     none_joined (option_map Shape (wrong_field tree plan)) _ (ap (option_map Shape) (fit_shape tree plan accepted.fits))
     (none_joined (surplus os plan.certificates) _ (ap (λ b. if b then Some (Shape 7) else None) (false_where_few (length os) (length plan.certificates) (omega (arith, many))))
     (none_joined (first_refusal tree plan) _ (ap (option_map refusal_of) accepted.fits) (none_where_certified os plan.certificates accepted.certified)))
+
+pub proved_where_none : (tree : Tree) (plan : Plan) → first_unproved tree plan ≡ None → IsProved tree plan
+proved_where_none tree plan none =
+    let os = obligations_of tree plan in
+    let field = neither (option_map Shape (wrong_field tree plan)) _ none in
+    let many = neither (surplus os plan.certificates) _ field.1 in
+    record {
+      shape = unmapped Shape (wrong_field tree plan) field.0;
+      certified = certified_where_none os plan.certificates (few_where_false _ _ (no_surplus (nat_lt (length os) (length plan.certificates)) (Shape 7) many.0)) many.1;
+    }
+
+pub none_where_proved : (tree : Tree) (plan : Plan) → IsProved tree plan → first_unproved tree plan ≡ None
+none_where_proved tree plan proved =
+    let os = obligations_of tree plan in
+    let many = as_many os plan.certificates proved.certified in
+    none_joined (option_map Shape (wrong_field tree plan)) _ (ap (option_map Shape) proved.shape)
+    (none_joined (surplus os plan.certificates) _ (ap (λ b. if b then Some (Shape 7) else None) (false_where_few (length os) (length plan.certificates) (omega (arith, many))))
+    (none_where_certified os plan.certificates proved.certified))

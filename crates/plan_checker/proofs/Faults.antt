@@ -4,7 +4,6 @@ use Rattle.std.specs.Prelude.{slice_get}
 use Rattle.std.specs.List.{flat_map}
 use Rattle.std.specs.Option.{option_map, option_or}
 use Rattle.std.proofs.lemmas.Bool.{cases_lt}
-use Rattle.std.proofs.lemmas.List.{map-append, take-append-drop}
 use Rattle.std.proofs.lemmas.Option.{slice_get_within}
 use Rattle.farkas_cert.specs.declared.certificate.Certificate.{Certificate}
 use Rattle.farkas_cert.specs.Fault.{first_fault}
@@ -18,8 +17,7 @@ use Rattle.comm_system.proofs.GroupLists.{groups_all, groups_first, groups_some,
 use Rattle.plan_checker.specs.declared.refusal.PlanRefusal.{PlanRefusal}
 use Rattle.plan_checker.specs.declared.refusal.PlanRefusal.TheVariants.{Bad, Shape}
 use Rattle.plan_checker.specs.Certificates.{fault_in, fault_of, fault_with, first_of}
-use Rattle.plan_checker.specs.Failures.{first_failure, first_uncertified, surplus}
-use Rattle.plan_checker.specs.Refusals.{first_refusal}
+use Rattle.plan_checker.specs.Failures.{failure_with, first_uncertified, surplus}
 use Rattle.plan_checker.proofs.Certified.{false_where_few, true_where_more}
 use Rattle.plan_checker.proofs.Texts.{from_place, past_end}
 
@@ -33,9 +31,10 @@ pub first_behind : {A : Type 0} (f : A → Option PlanRefusal) (xs ys : List A) 
 first_behind f [] ys = refl
 first_behind f (x ∷ xs) ys = ap (option_or (f x)) (first_behind f xs ys) ∙ or_behind (f x) (first_of f xs) (first_of f ys)
 
-pub first_halves : {A B : Type 0} (f : B → Option PlanRefusal) (v : A → B) (xs low high : List A) (n : ℕ) → low ≡ take n xs → high ≡ drop n xs → option_or (first_of f (map v low)) (first_of f (map v high)) ≡ first_of f (map v xs)
-first_halves f v xs low high n is is' =
-    sym (first_behind f (map v low) (map v high)) ∙ ap (first_of f) (sym (map-append v low high) ∙ ap (map v) (ap (λ ys. ys ++ high) is ∙ ap (λ ys. take n xs ++ ys) is' ∙ take-append-drop n xs))
+-- a list of faults is that of what has them
+pub first_of_map : {A B : Type 0} (f : B → Option PlanRefusal) (v : A → B) (xs : List A) → first_of f (map v xs) ≡ first_of (λ x. f (v x)) xs
+first_of_map f v [] = refl
+first_of_map f v (x ∷ xs) = ap (option_or (f (v x))) (first_of_map f v xs)
 
 pub first_in_groups : (tree : Tree) (plan : Plan) (gs : List Group) → first_of (fault_in tree plan) gs ≡ first_of (fault_of plan.certificates) (flat_map (obligations_in tree plan) gs)
 first_in_groups tree plan [] = refl
@@ -106,6 +105,6 @@ no_surplus_where tree plan past =
 
 -- ---- the first failure, part by part
 
-pub failure_by : (tree : Tree) (plan : Plan) (field many fit bad : Option PlanRefusal) → option_map Shape (wrong_field tree plan) ≡ field → surplus (obligations_of tree plan) plan.certificates ≡ many →
-    first_refusal tree plan ≡ fit → first_uncertified (obligations_of tree plan) plan.certificates ≡ bad → first_failure tree plan ≡ option_or field (option_or many (option_or fit bad))
-failure_by tree plan field many fit bad a b c d = rw a (rw b (rw c (rw d refl)))
+pub failure_by : (tree : Tree) (plan : Plan) (misfit field many bad : Option PlanRefusal) → option_map Shape (wrong_field tree plan) ≡ field → surplus (obligations_of tree plan) plan.certificates ≡ many →
+    first_uncertified (obligations_of tree plan) plan.certificates ≡ bad → failure_with misfit tree plan ≡ option_or field (option_or many (option_or misfit bad))
+failure_by tree plan misfit field many bad a b c = rw a (rw b (rw c refl))

@@ -1,5 +1,5 @@
 -- A plan that is accepted in version one, in version two: chains make its systems tighter.
-use Rattle.std.proofs.Common.{◌≡◌, ℕ, suc, ◌+◌, ◌-◌, ◌≤◌, pos, ◌≤ℤ◌, Bool, true, false, List, [], ◌∷◌, ◌++◌, length, map, Option, Some, None, if◌then◌else◌, refl, ap, sym, subst, inl, inr, arith}
+use Rattle.std.proofs.Common.{◌≡◌, ℕ, suc, ◌+◌, ◌-◌, ◌≤◌, pos, ◌≤ℤ◌, Bool, true, false, List, [], ◌∷◌, ◌++◌, length, map, Option, Some, None, if◌then◌else◌, refl, ap, sym, ◌∙◌, subst, inl, inr, arith}
 use Rattle.std.specs.Prelude.{◌⊎◌, min, neg_ℤ, sum_by}
 use Rattle.std.specs.List.{flat_map, list_any}
 use Rattle.std.specs.Option.{option_map, option_or}
@@ -33,7 +33,7 @@ use Rattle.comm_system.specs.Signatures.{blocked, waits, counted, is_barrier, ki
 use Rattle.plan_checker.specs.declared.refusal.PlanRefusal.{PlanRefusal}
 use Rattle.plan_checker.specs.declared.refusal.PlanRefusal.TheVariants.{Bad, Shape}
 use Rattle.plan_checker.specs.Accepted.{AreCertified, IsAccepted}
-use Rattle.plan_checker.specs.Failures.{first_failure, first_uncertified}
+use Rattle.plan_checker.specs.Failures.{failure_with, first_failure, first_uncertified}
 use Rattle.plan_checker.specs.Refusals.{refusal_of}
 use Rattle.plan_checker.proofs.Certified.{accepted_where_none, as_many, false_where_few, fit_shape}
 use Rattle.plan_checker.proofs.Faults.{failure_by}
@@ -164,8 +164,9 @@ fits_alike tree plan fits =
 -- where it fits, and has as many certificates as obligations, its failure is the first bad certificate
 failure_in : (tree : Tree) (plan : Plan) (bad : Option PlanRefusal) → IsFit tree plan → length plan.certificates ≤ length (obligations_of tree plan) → first_uncertified (obligations_of tree plan) plan.certificates ≡ bad → first_failure tree plan ≡ bad
 failure_in tree plan bad fits few is =
-    failure_by tree plan None None None bad (ap (option_map Shape) (fit_shape tree plan fits))
-    (ap (λ b. if b then Some (Shape 7) else None) (false_where_few (length (obligations_of tree plan)) (length plan.certificates) few)) (ap (option_map refusal_of) fits) is
+    ap (λ misfit. failure_with misfit tree plan) (ap (option_map refusal_of) fits)
+    ∙ failure_by tree plan None None None bad (ap (option_map Shape) (fit_shape tree plan fits))
+    (ap (λ b. if b then Some (Shape 7) else None) (false_where_few (length (obligations_of tree plan)) (length plan.certificates) few)) is
 
 by_failure : (tree : Tree) (plan : Plan) → IsFit tree plan → length plan.certificates ≤ length (obligations_of tree plan) →
     (first_uncertified (obligations_of tree plan) plan.certificates ≡ None) ⊎ IsRefusedForWidth (first_uncertified (obligations_of tree plan) plan.certificates) → IsAccepted tree plan ⊎ IsRefusedForWidth (first_failure tree plan)

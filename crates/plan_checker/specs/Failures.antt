@@ -22,9 +22,13 @@ first_uncertified [] certificates = None
 first_uncertified (o ∷ rest) [] = Some (Missing o.number)
 first_uncertified (o ∷ rest) (c ∷ certificates) = option_or (option_map (Bad o.number) (first_fault o.system c)) (first_uncertified rest certificates)
 
-abbrev pub first_failure : Tree → Plan → Option PlanRefusal
-first_failure tree plan =
+-- the first of these, where this one stands in front of the obligations
+abbrev pub failure_with : Option PlanRefusal → Tree → Plan → Option PlanRefusal
+failure_with misfit tree plan =
     option_or (option_map Shape (wrong_field tree plan))
     (option_or (surplus (obligations_of tree plan) plan.certificates)
-    (option_or (first_refusal tree plan)
+    (option_or misfit
     (first_uncertified (obligations_of tree plan) plan.certificates)))
+
+abbrev pub first_failure : Tree → Plan → Option PlanRefusal
+first_failure tree plan = failure_with (first_refusal tree plan) tree plan

@@ -6,3 +6,4 @@ pub mod Failures
 pub mod Certificates
 pub mod Barriers
 pub mod RefusalText
+pub mod Proved

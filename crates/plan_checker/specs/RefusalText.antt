@@ -4,7 +4,7 @@ use Rattle.std.specs.Fmt.{decimal, signed_decimal}
 use Rattle.farkas_cert.specs.declared.certificate.CertRefusal.{CertRefusal}
 use Rattle.farkas_cert.specs.declared.certificate.CertRefusal.TheVariants as certificate
 use Rattle.plan_checker.specs.declared.refusal.PlanRefusal.{PlanRefusal}
-use Rattle.plan_checker.specs.declared.refusal.PlanRefusal.TheVariants.{Bad, Condition, Missing, NoMemory, Placement, PrintPlace, Shape}
+use Rattle.plan_checker.specs.declared.refusal.PlanRefusal.TheVariants.{Bad, Condition, Differs, Missing, NoMemory, Placement, PrintPlace, Shape}
 
 -- why a certificate is refused, as its code
 abbrev pub text_of_bad : CertRefusal → List ℕ
@@ -22,4 +22,5 @@ text_of_refusal (PrintPlace phase) = codes "PLAN P3 " ++ decimal phase
 text_of_refusal (Missing obligation) = codes "PLAN P4 " ++ decimal obligation
 text_of_refusal (Bad obligation reason) = codes "PLAN P5 " ++ decimal obligation ++ 32 ∷ text_of_bad reason
 text_of_refusal (Condition row) = codes "PLAN P6 " ++ decimal row
+text_of_refusal Differs = codes "PLAN P7"
 text_of_refusal NoMemory = codes "memory ran out"

@@ -5,7 +5,7 @@ ghost use Rattle.nest_tree.specs.Limits.{IsWithinLimits};
 ghost use Rattle.nest_tree.specs.View.{tree_of};
 ghost use Rattle.nest_tree.specs.WellFormed.{IsWellFormed};
 ghost use Rattle.plan_checker.specs.Accepted.{IsAccepted};
-ghost use Rattle.plan_checker.specs.Failures.{first_failure};
+ghost use Rattle.plan_checker.specs.Failures.{failure_with, first_failure};
 ghost use Rattle.plan_checker.specs.declared.refusal.PlanRefusal.TheVariants.{NoMemory};
 
 use crate::certificates::first_fault;
@@ -18,9 +18,6 @@ use nest_tree::Program;
 use std::alloc::{AllocError, Global};
 use std::thread::Threads;
 use sync_plan::Plan;
-
-// Into how many pieces the groups are cut, each checked by a thread.
-const PIECES: u32 = 16;
 
 /// Whether a plan is accepted for a program; else its first failure, by the order in which
 /// failures are told. Certificates are checked side by side, and the refusal is the same however
@@ -36,23 +33,25 @@ pub fn check<R: Threads + Sync>(
     ensures accepted { OnOk result (IsAccepted (tree_of program.now) plan.now) }
     ensures refused { IfErr result (λ refusal. refusal ≢ NoMemory → first_failure (tree_of program.now) plan.now ≡ Some refusal) }
 {
-    match failure(rt, alloc, program, plan)? {
+    let misfit = check_fit(program, plan).err();
+    match failure(rt, alloc, program, plan, misfit)? {
         None => Ok(()),
         Some(refusal) => Err(refusal),
     }
 }
 
-// The first failure of a plan. Of its obligations no more are made than it takes to find the first
-// one without a certificate.
-fn failure<R: Threads + Sync>(
+// The first failure of a plan, where this one stands between its shape and its obligations. Of
+// these no more are made than it takes to find the first one without a certificate.
+pub(crate) fn failure<R: Threads + Sync>(
     rt: &R,
     alloc: Global,
     program: &Program,
     plan: &Plan,
+    misfit: Option<PlanRefusal>,
 ) -> Result<Option<PlanRefusal>, AllocError>
     requires formed { IsWellFormed (tree_of program.now) }
     requires limits { IsWithinLimits (tree_of program.now) }
-    ensures { IfOk result (λ found. found ≡ first_failure (tree_of program.now) plan.now) }
+    ensures { IfOk result (λ found. found ≡ failure_with misfit (tree_of program.now) plan.now) }
 {
     if let Some(field) = wrong_field(program, plan) {
         return Ok(Some(PlanRefusal::Shape(field)));
@@ -63,8 +62,8 @@ fn failure<R: Threads + Sync>(
     if groups.next <= certificates {
         return Ok(Some(PlanRefusal::Shape(7)));
     }
-    if let Err(refusal) = check_fit(program, plan) {
+    if let Some(refusal) = misfit {
         return Ok(Some(refusal));
     }
-    first_fault(rt, alloc, program, plan, groups.items.as_slice(), PIECES)
+    first_fault(rt, alloc, program, plan, groups.items.as_slice())
 }

@@ -1,8 +1,8 @@
 // The first obligation whose certificate is missing or bad.
 
-ghost use Rattle.std.specs.Prelude.{◌≡◌, IfOk, None, Option, map};
-ghost use Rattle.std.specs.Option.{option_or};
-ghost use Rattle.std.specs.Thread.{IsSync};
+ghost use Rattle.std.specs.Prelude.{◌≡◌, IfOk, List, None, Option, map};
+ghost use Rattle.std.specs.List.{AllZip};
+ghost use Rattle.plan_checker.specs.declared.refusal.PlanRefusal.{PlanRefusal};
 ghost use Rattle.nest_tree.specs.View.{tree_of};
 ghost use Rattle.sync_plan.specs.Shape.{wrong_field};
 ghost use Rattle.comm_system.specs.GroupViews.{group_seen};
@@ -13,9 +13,13 @@ use comm_system::Obligation;
 use comm_system::group::Group;
 use farkas_cert::{CertRefusal, Certificate, check_cert};
 use nest_tree::Program;
+use rayon::prelude::*;
 use std::alloc::{AllocError, Global};
-use std::thread::{Threads, join};
+use std::thread::Threads;
 use sync_plan::Plan;
+
+// From how many certificates on it is worth the start of threads to check them side by side.
+const MANY: usize = 2_000;
 
 // What is wrong with the certificate of an obligation.
 fn fault_of(
@@ -56,7 +60,7 @@ fn fault_in(
     Ok(None)
 }
 
-// The same of several groups, by one thread.
+// The same of several groups, one after the other.
 fn first_in_turn(
     alloc: Global,
     program: &Program,
@@ -75,46 +79,60 @@ fn first_in_turn(
     Ok(None)
 }
 
-/// The first obligation of these groups whose certificate is missing or bad, by about so many
-/// threads.
+/// The first obligation of these groups whose certificate is missing or bad. Where there are many
+/// certificates, groups are looked at side by side.
 pub(crate) fn first_fault<R: Threads + Sync>(
     rt: &R,
     alloc: Global,
     program: &Program,
     plan: &Plan,
     groups: &[Group],
-    pieces: u32,
 ) -> Result<Option<PlanRefusal>, AllocError>
     requires { wrong_field (tree_of program.now) plan.now ≡ None }
     ensures { IfOk result (λ found. found ≡ first_of (stands_fault_in (tree_of program.now) plan.now) (map group_seen groups.now)) }
 {
-    if pieces <= 1 || groups.len() < 16 {
+    if plan.certificates.as_slice().len() < MANY {
         return first_in_turn(alloc, program, plan, groups);
     }
-    let (low, high) = groups.split_at(groups.len() / 2);
-    let half = pieces / 2;
-    let front = move || -> Result<Option<PlanRefusal>, AllocError>
-        requires { IsSync R.row × (wrong_field (tree_of program.now) plan.now ≡ None) }
-        ensures { IfOk result (λ found. found ≡ first_of (stands_fault_in (tree_of program.entry.now) plan.entry.now) (map group_seen low.entry.now)) }
-    { first_fault(rt, alloc, program, plan, low, half) };
-    let back = move || -> Result<Option<PlanRefusal>, AllocError>
-        requires { IsSync R.row × (wrong_field (tree_of program.now) plan.now ≡ None) }
-        ensures { IfOk result (λ found. found ≡ first_of (stands_fault_in (tree_of program.entry.now) plan.entry.now) (map group_seen high.entry.now)) }
-    { first_fault(rt, alloc, program, plan, high, half) };
-    let (first, second) = join(rt, front, back);
-    joined(first, second)
+    let found = faults(rt, alloc, program, plan, groups)?;
+    first_found(&found)
 }
 
-// What both halves come to.
-fn joined(
-    first: Result<Option<PlanRefusal>, AllocError>,
-    second: Result<Option<PlanRefusal>, AllocError>,
-) -> Result<Option<PlanRefusal>, AllocError>
-    ensures { (a b : Option PlanRefusal) → IfOk first (λ found. found ≡ a) → IfOk second (λ found. found ≡ b) → IfOk result (λ found. found ≡ option_or a b) }
+// What is wrong in each group, side by side.
+fn faults<R: Threads + Sync>(
+    rt: &R,
+    alloc: Global,
+    program: &Program,
+    plan: &Plan,
+    groups: &[Group],
+) -> Result<Vec<Result<Option<PlanRefusal>, AllocError>>, AllocError>
+    requires { wrong_field (tree_of program.now) plan.now ≡ None }
+    ensures { IfOk result (λ found. AllZip (λ group one. IfOk one (λ fault. fault ≡ stands_fault_in (tree_of program.now) plan.now (group_seen group))) groups.now found.items) }
 {
-    match first {
-        Err(error) => Err(error),
-        Ok(Some(refusal)) => Ok(Some(refusal)),
-        Ok(None) => second,
+    groups
+        .par_iter()
+        .with_min_len(1)
+        .map(
+            move |group: &Group| -> Result<Option<PlanRefusal>, AllocError>
+                requires { wrong_field (tree_of program.now) plan.now ≡ None }
+                ensures { IfOk result (λ fault. fault ≡ stands_fault_in (tree_of program.entry.now) plan.entry.now (group_seen group.now)) }
+            { fault_in(alloc, program, plan, group) },
+        )
+        .collect(rt, alloc)
+}
+
+// The first fault among what groups come to.
+fn first_found(
+    found: &[Result<Option<PlanRefusal>, AllocError>],
+) -> Result<Option<PlanRefusal>, AllocError>
+    ensures { (faults : List (Option PlanRefusal)) → AllZip (λ fault one. IfOk one (λ is. is ≡ fault)) faults found.now → IfOk result (λ first. first ≡ first_of (λ fault. fault) faults) }
+{
+    for one in found {
+        match one {
+            Ok(None) => {}
+            Ok(Some(refusal)) => return Ok(Some(*refusal)),
+            Err(_) => return Err(AllocError),
+        }
     }
+    Ok(None)
 }

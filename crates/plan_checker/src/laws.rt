@@ -3,7 +3,8 @@
 ghost use Rattle.std.specs.Prelude.{◌≡◌, ◌⊎◌, ℕ, List, None, Some};
 ghost use Rattle.farkas_cert.specs.declared.certificate.Certificate.{Certificate};
 ghost use Rattle.farkas_cert.specs.declared.certificate.CertRefusal.TheVariants.{Wide};
-ghost use Rattle.nest_tree.specs.Tree.{Tree};
+ghost use Rattle.nest_agree.specs.Agree.{Agree};
+ghost use Rattle.nest_tree.specs.Tree.{Tree, param_values};
 ghost use Rattle.nest_tree.specs.WellFormed.{IsWellFormed};
 ghost use Rattle.nest_model.specs.Ranges.{IsInRange};
 ghost use Rattle.owner_partition.specs.declared.anchor.Anchor.{Anchor};
@@ -13,9 +14,13 @@ ghost use Rattle.sync_plan.specs.declared.plan.Version.TheVariants.{One, Two};
 ghost use Rattle.sync_plan.specs.Barriers.{barrier_plan};
 ghost use Rattle.sync_plan.specs.Fit.{IsFit};
 ghost use Rattle.sync_plan.specs.Ordered.{IsOrdered};
+ghost use Rattle.sync_plan.specs.Shape.{wrong_field};
+ghost use Rattle.comm_system.specs.Obligations.{obligations_of};
+ghost use Rattle.comm_system.specs.PairRows.{conditions_have};
 ghost use Rattle.plan_checker.specs.Accepted.{AreCertified, IsAccepted};
 ghost use Rattle.plan_checker.specs.Barriers.{doall_obligations};
 ghost use Rattle.plan_checker.specs.Failures.{first_failure};
+ghost use Rattle.plan_checker.specs.Proved.{IsProved, first_unfit, first_unproved};
 ghost use Rattle.plan_checker.specs.declared.refusal.PlanRefusal.TheVariants.{Bad};
 
 /// A plan is accepted exactly where it has no failure.
@@ -44,4 +49,25 @@ pub fn barrier_plans_are_accepted()
 pub fn accepted_plans_may_chain()
     ensures { (tree : Tree) (plan : Plan) → IsAccepted tree (record plan { version = One }) → let two = record plan { version = Two } in
         IsAccepted tree two ⊎ ((number : ℕ) × (step : ℕ) × (entry : ℕ) × (first_failure tree two ≡ Some (Bad number (Wide step entry)))) }
+{}
+
+/// A plan is proved on a program exactly where nothing of its shape and of its obligations speaks
+/// against it.
+#[tactic(auto, using(crate::proofs::Certified::proved_where_none, crate::proofs::Certified::none_where_proved))]
+pub fn proved_plans_have_no_failure()
+    ensures proved { (tree : Tree) (plan : Plan) → first_unproved tree plan ≡ None → IsProved tree plan }
+    ensures none { (tree : Tree) (plan : Plan) → IsProved tree plan → first_unproved tree plan ≡ None }
+{}
+
+/// A plan that is proved on a program is accepted for each program that it fits.
+pub fn proved_plans_are_accepted()
+    ensures { (f g : Tree) (plan : Plan) → IsProved f plan → first_unfit f plan g ≡ None → IsAccepted g plan }
+{}
+
+/// Of programs that agree a plan has the same first wrong field and, where the conditions on their
+/// named constants are the same rows, the same obligations.
+pub fn agreeing_programs_have_the_same_obligations()
+    ensures shape { (f g : Tree) (plan : Plan) → Agree f g → wrong_field f plan ≡ wrong_field g plan }
+    ensures obligations { (f g : Tree) (plan : Plan) → Agree f g → conditions_have (param_values f) plan.conditions ≡ conditions_have (param_values g) plan.conditions →
+        obligations_of f plan ≡ obligations_of g plan }
 {}

@@ -4,7 +4,9 @@
 //! - [`fit`]: whether a plan fits a program.
 //! - [`accept`]: whether a plan is accepted for a program.
 //! - [`anchors`]: what the anchors of phases and of kinds may name.
-//! - [`laws`]: a plan is accepted exactly where it has no failure, and accepted plans are ordered.
+//! - [`proven`]: a plan that is proved on one program, for all that agree and meet its conditions.
+//! - [`laws`]: a plan is accepted exactly where it has no failure, accepted plans are ordered, and
+//!   a plan that is proved on one program is accepted for each that it fits.
 //! - `certificates`: certificates, each against its obligation, side by side.
 //! - `shape`, `marks`, `conditions`, `own`: the fields of its shape.
 //! - `places`: where its anchors lie, and who prints.
@@ -19,10 +21,12 @@ pub mod laws;
 mod marks;
 mod own;
 mod places;
+pub mod proven;
 pub mod refusal;
 mod shape;
 
 pub use accept::check;
 pub use anchors::{is_good_anchor, own_loop};
 pub use fit::check_fit;
+pub use proven::{Proven, prove};
 pub use refusal::PlanRefusal;

@@ -30,6 +30,8 @@ pub enum PlanRefusal {
     PrintPlace(u32),
     /// The first row of conditions, from 1, that the values of the named constants don't meet.
     Condition(u64),
+    /// The program doesn't agree with the one on which the plan was proved.
+    Differs,
     /// The first obligation that isn't certified, by its number from 1, has no certificate.
     Missing(u64),
     /// The first obligation that isn't certified, by its number from 1, has a bad certificate,
@@ -63,6 +65,7 @@ impl fmt::Display for PlanRefusal {
                 write!(f, "PLAN P5 {obligation} {}", Reason(*reason))
             }
             PlanRefusal::Condition(row) => write!(f, "PLAN P6 {row}"),
+            PlanRefusal::Differs => write!(f, "PLAN P7"),
             PlanRefusal::NoMemory => write!(f, "memory ran out"),
         }
     }
