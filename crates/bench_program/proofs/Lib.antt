@@ -1,1 +1,5 @@
 pub mod Listed
+pub mod Stated
+pub mod Faultless
+pub mod Limited
+pub mod Inside
