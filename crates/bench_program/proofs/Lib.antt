@@ -3,3 +3,4 @@ pub mod Stated
 pub mod Faultless
 pub mod Limited
 pub mod Inside
+pub mod Sized
