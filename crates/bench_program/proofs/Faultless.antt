@@ -14,8 +14,9 @@ use Rattle.nest_tree.proofs.Sums.{small-fits}
 use Rattle.f77_forms.specs.Characters.{decimal}
 use Rattle.f77_scene.specs.Scene.{first_scene}
 use Rattle.f77_scene.specs.Reading.{body_from, directives_of, fault_from, first_fault_in, first_fault_of, given_with, last_body, last_scene, program_in, scene_from, tree_from}
-use Rattle.bench_program.proofs.Listed.{AreDigits, entries}
-use Rattle.bench_program.proofs.Stated.{source-stated, statements}
+use Rattle.bench_program.proofs.Rows.{entries, statements}
+use Rattle.bench_program.proofs.Listed.{AreDigits}
+use Rattle.bench_program.proofs.Stated.{source-stated}
 
 -- ---- the tree
 

@@ -11,11 +11,12 @@ use Rattle.f77_lines.specs.declared.row.Kind.TheVariants.{Initial}
 use Rattle.f77_lines.specs.Columns.{body_of, columns_of, kind_of, label_field, lines_of}
 use Rattle.f77_lines.specs.Faults.{fault_from, is_printable}
 use Rattle.f77_lines.specs.Listing.{entries_of, first_behind, first_line_fault, size_to_end}
-use Rattle.f77_lines.specs.Statements.{Entry, continued, entries_from, is_end, statement}
+use Rattle.f77_lines.specs.Statements.{continued, entries_from, is_end, statement}
 use Rattle.f77_lines.specs.Texts.{counted, label_at, quoted_after, text_from, text_of}
 use Rattle.f77_lines.proofs.Characters.{text_from-blanks}
 use Rattle.f77_lines.proofs.Cuts.{first_kept-none}
 use Rattle.f77_forms.specs.Characters.{is_digit, is_number}
+use Rattle.bench_program.proofs.Rows.{entries, entry_of, rows_behind, sizes_text}
 
 -- no line feed
 abbrev pub is_within_line : ℕ → Bool
@@ -127,12 +128,9 @@ columns-line : (l : List ℕ) (c : ℕ) → (c == 13) ≡ false → length l ≤
 columns-line l c other short =
     rw (last-of (l ++ c ∷ []) 10, front-of (l ++ c ∷ []) 10, last-of l c, other) (take_all 72 (l ++ c ∷ []) (omega (arith, short, length-append l (c ∷ []))))
 
--- the PARAMETER line and its text, with these digits
+-- the PARAMETER line with these digits
 abbrev pub sizes_line : List ℕ → List ℕ → List ℕ
 sizes_line ds es = codes "      PARAMETER (N=" ++ (ds ++ (codes ", M=" ++ (es ++ codes ")")))
-
-abbrev pub sizes_text : List ℕ → List ℕ → List ℕ
-sizes_text ds es = codes "PARAMETER(N=" ++ (ds ++ (codes ",M=" ++ (es ++ codes ")")))
 
 module _ (ds es : List ℕ) (one : AreDigits ds) (other : AreDigits es) where
   all-sizes : (p : ℕ → Bool) → ((c : ℕ) → is_digit c ≡ true → p c ≡ true) → list_all p (codes "      PARAMETER (N=") ≡ true → list_all p (codes ", M=") ≡ true → list_all p (codes ")") ≡ true → list_all p (sizes_line ds es) ≡ true
@@ -187,21 +185,6 @@ lines_behind =
     ∷ codes "      END"
     ∷ []
 
-abbrev pub entries_behind : List Entry
-entries_behind =
-    statement 4 0 (codes "INTEGERA(0:N+1),B(0:N+1)")
-    ∷ statement 5 0 (codes "DO10I=0,N+1")
-    ∷ statement 6 10 (codes "A(I)=7*I-I*I")
-    ∷ statement 7 0 (codes "DO40IT=1,M")
-    ∷ statement 8 0 (codes "DO20I=1,N")
-    ∷ statement 9 20 (codes "B(I)=(A(I-1)+A(I+1))/2")
-    ∷ statement 10 0 (codes "DO30I=1,N")
-    ∷ statement 11 30 (codes "A(I)=B(I)")
-    ∷ statement 12 40 (codes "CONTINUE")
-    ∷ statement 13 0 (codes "PRINT*,A(1),A(N)")
-    ∷ statement 14 0 (codes "END")
-    ∷ []
-
 behind-faultless : fault_from 19 4 (with_feeds lines_behind) ≡ None
 unfolding kind_of label_at is_end fault_from
 behind-faultless = refl
@@ -210,7 +193,7 @@ behind-continues : continued (with_feeds lines_behind) ≡ []
 unfolding kind_of continued
 behind-continues = refl
 
-behind-listed : entries_from 4 (with_feeds lines_behind) ≡ entries_behind
+behind-listed : entries_from 4 (with_feeds lines_behind) ≡ map entry_of rows_behind
 unfolding kind_of label_at is_end continued entries_from
 behind-listed = refl
 
@@ -232,9 +215,6 @@ lines ds es = codes "      PROGRAM BENCH" ∷ codes "      INTEGER N, M" ∷ siz
 -- the whole text
 abbrev pub source : List ℕ → List ℕ → List ℕ
 source ds es = flat_map (λ l. l ++ 10 ∷ []) (lines ds es)
-
-abbrev pub entries : List ℕ → List ℕ → List Entry
-entries ds es = statement 1 0 (codes "PROGRAMBENCH") ∷ statement 2 0 (codes "INTEGERN,M") ∷ statement 3 0 (sizes_text ds es) ∷ entries_behind
 
 module _ (ds es : List ℕ) (one : AreDigits ds) (other : AreDigits es) where
   lines-are : lines_of (source ds es) ≡ with_feeds (lines ds es)
