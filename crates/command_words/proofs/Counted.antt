@@ -5,8 +5,9 @@ use Rattle.std.specs.Str.{bytes_eq}
 use Rattle.std.specs.Str.Parse.{digits_value}
 use Rattle.std.proofs.lemmas.Bool.{and_parts}
 use Rattle.std.proofs.lemmas.Bool.Decides.{nat_tests}
-use Rattle.clap.specs.Words.{Row, Text, first_of}
-use Rattle.command_words.specs.Wanted.{IsCounted, Wanted, bench, bench_of, by_of, choice_of, is_digit, is_numeral, make_of, planned, run, run_of, sequential, settings_of, size_of, sizes_named, sizes_of, verify, wanted_in, within, workers_of}
+use Rattle.clap.specs.Words.{Row, Text, first_of, subcommand_of}
+use Rattle.command_words.specs.Rule.{tool_app}
+use Rattle.command_words.specs.Wanted.{IsCounted, Takes, Wanted, bench, bench_of, by_of, choice_of, is_digit, is_numeral, make_of, planned, run, run_of, sequential, settings_of, size_of, sizes_named, sizes_of, verify, wanted_in, within, workers_of}
 
 -- where a choice gives a value, the value is of the kind that its parts are
 chosen : {X : Type 0} (P : X → Type 0) (b : Bool) (x y : X) → (b ≡ true → P x) → (if b then Some x else None) ≡ Some y → P y
@@ -78,3 +79,7 @@ in_counted name rows w = by_name (bytes_eq name (codes "bench")) (bytes_eq name 
     by_name false false false true c e = run_counted rows w e
     by_name false false false false true e = subst IsCounted (ap (λ o. unwrap_or o (sequential [])) e) tt
     by_name false false false false false e = absent IsCounted w e
+
+-- what words stand for
+pub taken_counted : (words : List Text) (w : Wanted) → Takes words w → IsCounted w
+taken_counted words w takes = bound IsCounted (λ p. wanted_in p.0 p.1) (subcommand_of tool_app words) w (λ p p_is. in_counted p.0 p.1 w) takes.1

@@ -1,4 +1,4 @@
-mod Counted
+pub mod Counted
 mod Numbers
 mod PlainWords
 mod Sorts

@@ -1,10 +1,11 @@
 // Laws of the rule by which words are taken.
 
-ghost use Rattle.std.specs.Prelude.{◌≡◌, ◌∷◌, [], codes};
-ghost use Rattle.clap.specs.Words.{fault_of};
+ghost use Rattle.std.specs.Prelude.{◌≡◌, ◌∷◌, List, [], codes};
+ghost use Rattle.clap.specs.Words.{Text, fault_of};
 ghost use Rattle.clap.specs.declared.error.kind.ErrorKind.TheVariants as kinds;
 ghost use Rattle.command_words.specs.Rule.{tool_app};
 ghost use Rattle.command_words.specs.Plain.{EveryPlainBenchIsTaken, EveryPlainPlanIsTaken, EveryPlainRunIsTaken, EveryPlainSequentialIsTaken, EveryPlainVerifyIsTaken};
+ghost use Rattle.command_words.specs.Wanted.{IsCounted, Takes, Wanted};
 
 /// Each plain list of words is taken, as what it says.
 pub fn plain_words_are_taken()
@@ -13,6 +14,12 @@ pub fn plain_words_are_taken()
     ensures sequential { EveryPlainSequentialIsTaken }
     ensures verify { EveryPlainVerifyIsTaken }
     ensures bench { EveryPlainBenchIsTaken }
+{}
+
+/// A plan, a run and a bench that words ask for have 1 to 64 workers, and a bench 1 to 500,000
+/// points and at most 1,000,000 sweeps.
+pub fn taken_words_are_counted()
+    ensures { (words : List Text) (wanted : Wanted) → Takes words wanted → IsCounted wanted }
 {}
 
 /// Words that ask for help or for the version have that fault alone.
