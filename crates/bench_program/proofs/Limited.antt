@@ -16,10 +16,10 @@ use Rattle.bench_program.proofs.Faultless.{tree}
 from_one : (n : ℕ) → extent (pos 1, pos n) ≡ n
 from_one n = (let same : pos n -ℤ pos 1 +ℤ pos 1 ≡ pos n = omega (arith, ints) in ap count_of same)
 
-small : (n : ℕ) → n ≤ 1000001 → is_small (pos n) ≡ true
+small : (n : ℕ) → n ≤ 1000000 → is_small (pos n) ≡ true
 small n few = grind (arith, nat_tests)
 
-small-less : (n : ℕ) → n ≤ 1000001 → is_small (negsuc 0 +ℤ pos n) ≡ true
+small-less : (n : ℕ) → n ≤ 1000000 → is_small (negsuc 0 +ℤ pos n) ≡ true
 small-less zero few = refl
 small-less (suc n) few = (let same : negsuc 0 +ℤ pos (suc n) ≡ pos n = omega (arith, ints) in rw same (small n (omega (arith, few))))
 

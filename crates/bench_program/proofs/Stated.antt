@@ -15,16 +15,31 @@ all-stated [] h = refl
 all-stated (r ∷ rs) h = rw (form-read r.text r.form h.0, all-stated rs h.1) refl
 
 behind-have : AllByRecursion (λ r. HasForm r.text r.form) rows_behind
-behind-have =
-    (record { good = refl; written = refl },
-    (record { good = refl; written = refl },
-    (record { good = refl; written = refl },
-    (record { good = refl; written = refl },
-    (record { good = refl; written = refl },
-    (record { good = refl; written = refl },
-    (record { good = refl; written = refl },
-    (record { good = refl; written = refl },
-    (record { good = refl; written = refl }, (record { good = refl; written = refl }, (record { good = refl; written = refl }, tt)))))))))))
+behind-have = (
+  record { good = refl; written = refl },
+  (
+    record { good = refl; written = refl },
+    (
+      record { good = refl; written = refl },
+      (
+        record { good = refl; written = refl },
+        (
+          record { good = refl; written = refl },
+          (
+            record { good = refl; written = refl },
+            (
+              record { good = refl; written = refl },
+              (
+                record { good = refl; written = refl },
+                (record { good = refl; written = refl }, (record { good = refl; written = refl }, (record { good = refl; written = refl }, tt))),
+              ),
+            ),
+          ),
+        ),
+      ),
+    ),
+  ),
+)
 
 regroup : (ds es z : List ℕ) → (ds ++ 44 ∷ 77 ∷ 61 ∷ (es ++ [])) ++ z ≡ ds ++ 44 ∷ 77 ∷ 61 ∷ (es ++ z)
 regroup ds es z = simp (append_assoc, append-nil)

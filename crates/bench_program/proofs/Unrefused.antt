@@ -1,11 +1,10 @@
 -- `bench` is never refused its own source.
-use Rattle.std.proofs.Common.{◌≡◌, ℕ, ◌+◌, ◌≤◌, pos, true, List, [], Option, Some, None, refl, ap, ◌∙◌, arith}
-use Rattle.std.specs.Prelude.{is_none}
+use Rattle.std.proofs.Common.{◌≡◌, ℕ, ◌+◌, ◌≤◌, pos, List, [], Option, Some, None, refl, sym, ap, ◌∙◌, arith}
 use Rattle.std.specs.Fmt as fmt
-use Rattle.nest_model.specs.Instances.{instances}
 use Rattle.f77_forms.specs.Characters.{decimal}
 use Rattle.range_check.specs.Outside.{outside_of}
-use Rattle.range_check.proofs.Lists.{none-instances}
+use Rattle.range_check.specs.declared.outside.OutOfRange.{OutOfRange}
+use Rattle.range_check.proofs.Lists.{some_in_range}
 use Rattle.spmd_answer.specs.Bench.{bench_source}
 use Rattle.spmd_answer.specs.Due.{due_of_refusal, due_of_tree}
 use Rattle.spmd_answer.specs.declared.source.Behind.TheVariants.{Comments}
@@ -15,15 +14,13 @@ use Rattle.bench_program.proofs.Limited.{no_limit_passed}
 use Rattle.bench_program.proofs.Inside.{all_inside}
 use Rattle.bench_program.proofs.Sized.{sizes-digits, value-is}
 
-none_is : {X : Type 0} (o : Option X) → is_none o ≡ true → o ≡ None
-none_is None h = refl
-none_is (Some x) h = absurd cc
-
 -- no subscript is out of range
 none_outside : (points sweeps : ℕ) → 1 ≤ points → outside_of (tree points sweeps (pos (points + 1))) ≡ None
-none_outside points sweeps some =
-    let t = tree points sweeps (pos (points + 1)) in
-    none_is (outside_of t) (none-instances t (instances t) ∙ all_inside points sweeps some)
+none_outside points sweeps some = by_case (outside_of (tree points sweeps (pos (points + 1)))) refl
+  where
+    by_case : (o : Option OutOfRange) → o ≡ outside_of (tree points sweeps (pos (points + 1))) → outside_of (tree points sweeps (pos (points + 1))) ≡ None
+    by_case None e = sym e
+    by_case (Some o) e = absurd (some_in_range (tree points sweeps (pos (points + 1))) o e (all_inside points sweeps some))
 
 none_of_tree : (points sweeps : ℕ) → 1 ≤ points → points ≤ 500000 → sweeps ≤ 1000000 → due_of_tree (tree points sweeps (pos (points + 1))) ≡ None
 none_of_tree points sweeps some few fewer = rw (no_limit_passed points sweeps few fewer, none_outside points sweeps some) refl
