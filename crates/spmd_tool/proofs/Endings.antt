@@ -1,14 +1,17 @@
 -- How the top call ends, from its answer and how it was written.
-use Rattle.std.proofs.Common.{◌≡◌, ◌≢◌, ℕ, true, false, List, [], Option, Some, None, ◌⊎◌, inl, inr, ap, sym, subst, ◌∙◌, refl}
+use Rattle.std.proofs.Common.{◌≡◌, ◌≢◌, ℕ, true, false, List, [], Option, Some, None, ◌⊎◌, inl, inr, ap, sym, subst, ◌∙◌, refl, arith}
 use Rattle.std.specs.Io.KnownBytes.{Appends}
 use Rattle.cell_table.specs.Ends.{End}
 use Rattle.clap.specs.Words.{Text}
 use Rattle.command_words.specs.Wanted.{Wanted, Takes, sequential, verify, planned, run, bench}
+use Rattle.command_words.proofs.Counted.{taken_counted}
 use Rattle.spmd_answer.specs.Bench.{bench_source}
 use Rattle.spmd_answer.specs.Due.{Due, is_shared}
 use Rattle.spmd_answer.specs.declared.status.Status.{Status}
 use Rattle.spmd_answer.specs.declared.status.Status.TheVariants.{Done, SourceRefused, BadWords, ReadFault, WriteFault, NoMemory, PlanRefused, TooLong}
-use Rattle.spmd_tool.specs.Due.{AreWrong, AskFor, IsDue, IsRunnable, IsRunnableBench, IsUnplanned, ReadFor, ReadNothing, asked, faulty, is_said, reads, settings_of, shown, source_for}
+use Rattle.spmd_answer.proofs.Benches.{bench_short}
+use Rattle.bench_program.proofs.Unrefused.{never_refused}
+use Rattle.spmd_tool.specs.Due.{AreWrong, AskFor, IsDue, IsRunnable, IsUnplanned, ReadFor, asked, faulty, is_said, reads, settings_of, shown, source_for}
 use Rattle.spmd_tool.specs.Outside.{WhereTold}
 use Rattle.spmd_tool.specs.Written.{IsAnswerFrom, IsDueFrom, WritesDue, WritesReceipt, WritesRefusal, WritesRun}
 use Rattle.spmd_tool.proofs.Dues.{taken_or_faulty, taken_or_shown, asked-due, one_status, refused-asks, request-done, request-runs, request-unfit, request-unnamed, request-unplanned, unfit-asks, wrong-due}
@@ -85,10 +88,19 @@ pub where_unplanned : (words : List Text) (told : Option (List ℕ)) (d : Due) (
 where_unplanned words told d r P is p =
     at_told told is.bytes _ is.told (λ w ask unplanned. p PlanRefused (sym (request-unplanned w (source_for w is.bytes) d (asked-due words is.bytes w d ask.takes is.is_due) ask.settings_are unplanned)))
 
--- and of `bench`, whatever the source's bytes
-pub bench_runs : (words : List Text) (told : Option (List ℕ)) (d : Due) (workers points sweeps : ℕ) → IsDueFrom words told d → IsRunnableBench words workers points sweeps → d.status ≡ Done
-bench_runs words told d workers points sweeps is runs =
-    request-runs (bench workers points sweeps) (bench_source points sweeps) d (asked-due words is.bytes (bench workers points sweeps) d runs.takes is.is_due) refl runs.runnable
+-- the source of `bench` may be run
+bench_runnable : (words : List Text) (workers points sweeps : ℕ) → Takes words (bench workers points sweeps) → IsRunnable (bench workers points sweeps) (bench_source points sweeps)
+bench_runnable words workers points sweeps takes =
+    let sizes = (taken_counted words (bench workers points sweeps) takes).1 in record {
+      short = bench_short points sweeps (omega (arith, sizes.0.1)) (omega (arith, sizes.1));
+      unrefused = never_refused points sweeps sizes.0.0 sizes.0.1 sizes.1;
+      planned = tt;
+    }
+
+-- so `bench` runs, whatever the source's bytes
+pub bench_runs : (words : List Text) (told : Option (List ℕ)) (d : Due) (workers points sweeps : ℕ) → IsDueFrom words told d → Takes words (bench workers points sweeps) → d.status ≡ Done
+bench_runs words told d workers points sweeps is takes =
+    request-runs (bench workers points sweeps) (bench_source points sweeps) d (asked-due words is.bytes (bench workers points sweeps) d takes is.is_due) refl (bench_runnable words workers points sweeps takes)
 
 pub where_each : (told : Option (List ℕ)) (P : List ℕ → Type 0) → ((bytes : List ℕ) → P bytes) → WhereTold told P
 where_each None P h = tt
@@ -97,18 +109,18 @@ where_each (Some bytes) P h = h bytes
 pub from-wrong : (words : List Text) (told : Option (List ℕ)) (d : Due) → IsDueFrom words told d → AreWrong words → d.status ≡ BadWords
 from-wrong words told d is wrong = wrong-due words is.bytes d wrong is.is_due
 
--- a request reads the source, unless it is one that reads nothing
-reads_or_none : (words : List Text) (w : Wanted) → Takes words w → (ReadNothing words → ⊥) → reads w ≡ true
-reads_or_none words (sequential settings) takes other = refl
-reads_or_none words (verify settings) takes other = refl
-reads_or_none words (planned workers settings) takes other = refl
-reads_or_none words (run workers choice by settings) takes other = refl
-reads_or_none words (bench workers points sweeps) takes other = absurd (other (bench workers points sweeps, takes, refl))
+-- a request whose source is refused reads it
+refused_reads : (words : List Text) (told : Option (List ℕ)) (d : Due) (w : Wanted) → IsDueFrom words told d → Takes words w → d.status ≡ SourceRefused → reads w ≡ true
+refused_reads words told d (sequential settings) is takes e = refl
+refused_reads words told d (verify settings) is takes e = refl
+refused_reads words told d (planned workers settings) is takes e = refl
+refused_reads words told d (run workers choice by settings) is takes e = refl
+refused_reads words told d (bench workers points sweeps) is takes e = absurd (let f : Done ≡ SourceRefused = sym (bench_runs words told d workers points sweeps is takes) ∙ e in cc)
 
-pub from-refused : (words : List Text) (told : Option (List ℕ)) (d : Due) → IsDueFrom words told d → (ReadNothing words → ⊥) → d.status ≡ SourceRefused → (w : Wanted) × ReadFor words w
-from-refused words told d is other e =
+pub from-refused : (words : List Text) (told : Option (List ℕ)) (d : Due) → IsDueFrom words told d → d.status ≡ SourceRefused → (w : Wanted) × ReadFor words w
+from-refused words told d is e =
     let ask = refused-asks words is.bytes d is.is_due e in
-    (ask.0, record { asked = ask.1; reads_are = reads_or_none words ask.0 ask.1.takes other })
+    (ask.0, record { asked = ask.1; reads_are = refused_reads words told d ask.0 is ask.1.takes e })
 
 pub from-unfit : (words : List Text) (told : Option (List ℕ)) (d : Due) → IsDueFrom words told d → d.status ≡ PlanRefused → (w : Wanted) × ReadFor words w
 from-unfit words told d is e = unfit-asks words is.bytes d is.is_due e

@@ -85,10 +85,6 @@ pub record ReadFor (words : List Text) (wanted : Wanted) : Type 0 where
   pub asked : AskFor words wanted
   pub reads_are : reads wanted ≡ true
 
--- The words stand for a request that doesn't read the source.
-abbrev pub ReadNothing : List Text → Type 0
-ReadNothing words = (wanted : Wanted) × Takes words wanted × (reads wanted ≡ false)
-
 -- The words are faulty, or one of them that should be a setting is none.
 abbrev pub AreWrong : List Text → Type 0
 AreWrong words = AreFaulty words ⊎ ((wanted : Wanted) × (index : ℕ) × Takes words wanted × (first_wrong wanted ≡ Some index))
@@ -116,11 +112,6 @@ pub record IsRunnable (wanted : Wanted) (bytes : List ℕ) : Type 0 where
   pub short : length bytes ≤ most_bytes
   pub unrefused : due_of_refusal (behind_of wanted) bytes (settings_in (settings_of wanted)) ≡ None
   pub planned : HasPlan wanted (program_for wanted bytes) (behind_end bytes)
-
--- The words stand for `bench` with these sizes, and its own bytes stand for a program that may be run.
-pub record IsRunnableBench (words : List Text) (workers points sweeps : ℕ) : Type 0 where
-  pub takes : Takes words (bench workers points sweeps)
-  pub runnable : IsRunnable (bench workers points sweeps) (bench_source points sweeps)
 
 -- The same as `IsRunnable`, but that no such plan stands behind END, where the request takes one from there.
 pub record IsUnplanned (wanted : Wanted) (bytes : List ℕ) : Type 0 where

@@ -3,10 +3,10 @@
 ghost use Rattle.std.specs.Prelude.{◌≡◌, ◌≢◌, ◌+◌, ◌<◌, ◌⊎◌, ℕ, [], None, true, IsTrue};
 ghost use Rattle.std.specs.Io.KnownBytes.{Appends, IsAtEnd};
 ghost use Rattle.clap.specs.Walk.{texts};
-ghost use Rattle.command_words.specs.Wanted.{Takes, Wanted, asks_to_show};
+ghost use Rattle.command_words.specs.Wanted.{Takes, Wanted, asks_to_show, bench};
 ghost use Rattle.spmd_ports.specs.Counts.{Rose};
 ghost use Rattle.spmd_answer.specs.Due.{Due, is_shared};
-ghost use Rattle.spmd_tool.specs.Due.{AreWrong, AskFor, IsDue, IsOrNoMemory, IsRunnable, IsRunnableBench, IsUnplanned, ReadFor, ReadNothing, is_said, most_bytes, reads, settings_of, source_for};
+ghost use Rattle.spmd_tool.specs.Due.{AreWrong, AskFor, IsDue, IsOrNoMemory, IsRunnable, IsUnplanned, ReadFor, is_said, most_bytes, reads, settings_of, source_for};
 ghost use Rattle.spmd_tool.specs.Outside.{TakesBytes, WhereTold, WritesPart, RoseOneOf, NoneRose};
 ghost use Rattle.spmd_tool.specs.Written.{WritesDue, WritesPartOfDue, WritesReceipt, WritesRefusal, WritesRun};
 
@@ -60,9 +60,9 @@ pub fn tool<R: Threads + Wait + Sync, S: Source, K: Sink, G: Gate + Sync>(
     ensures complete { NoneRose (S.faults source.old) (S.faults source.new) (K.faults sink.old) (K.faults sink.new) (K.empties sink.old) (K.empties sink.new) →
         WhereTold (S.left source.old) (λ bytes. (w : Wanted) → AskFor (texts words.now) w → IsRunnable w (source_for w bytes) → IsOrNoMemory Status.Done result.0) }
 
-    // And so for `bench`, whether or not the source tells its bytes, where its own bytes stand for such a program.
+    // And so for `bench`, whose own source always stands for such a program, whether or not the source that is handed in tells its bytes.
     ensures complete_bench { NoneRose (S.faults source.old) (S.faults source.new) (K.faults sink.old) (K.faults sink.new) (K.empties sink.old) (K.empties sink.new) →
-        (workers points sweeps : ℕ) → IsRunnableBench (texts words.now) workers points sweeps → IsOrNoMemory Status.Done result.0 }
+        (workers points sweeps : ℕ) → Takes (texts words.now) (bench workers points sweeps) → IsOrNoMemory Status.Done result.0 }
 
     // With status 6 the plan that stands behind END is refused for the line that was written.
     ensures refused_plan { (w : Wanted) → Takes (texts words.now) w → result.0 ≡ Status.PlanRefused → WritesRefusal w (S.left source.old) (K.written sink.old) (K.written sink.new) }
@@ -79,8 +79,8 @@ pub fn tool<R: Threads + Wait + Sync, S: Source, K: Sink, G: Gate + Sync>(
     // Unless words stand for a request that reads the source and whose settings have the form of settings, nothing is read.
     ensures unread { ((w : Wanted) → ReadFor (texts words.now) w → ⊥) → source.new ≡ source.old }
 
-    // With 1, unless the words stand for a request that reads nothing, with 6, and with 2 for a setting's name, the source was read to its end.
-    ensures end_refused { (ReadNothing (texts words.now) → ⊥) → result.0 ≡ Status.SourceRefused → IsAtEnd (S.left source.new) }
+    // With 1, with 6, and with 2 for a setting's name, the source was read to its end.
+    ensures end_refused { result.0 ≡ Status.SourceRefused → IsAtEnd (S.left source.new) }
     ensures end_unplanned { result.0 ≡ Status.PlanRefused → IsAtEnd (S.left source.new) }
     ensures end_named { (w : Wanted) → ReadFor (texts words.now) w → result.0 ≡ Status.BadWords → IsAtEnd (S.left source.new) }
 

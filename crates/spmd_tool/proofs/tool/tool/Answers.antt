@@ -35,10 +35,10 @@ returns-in-Ok-clause-complete g c =
 
 pub returns-in-Ok-clause-complete_bench : goal.returns-in-Ok-clause-complete_bench
 returns-in-Ok-clause-complete_bench g c =
-    λ none workers points sweeps runs.
+    λ none workers points sweeps takes.
     inl
     (c.say-status.ensures.outcome (λ f. none.1 (c.say-status.ensures.fault f))
-    ∙ bench_runs (texts c.args.words.now) _ (due_in c.in-Ok.answer) workers points sweeps (due_from (texts c.args.words.now) _ (due_in c.in-Ok.answer) c.in-Ok.receipt c.in-Ok.ensures.due) runs)
+    ∙ bench_runs (texts c.args.words.now) _ (due_in c.in-Ok.answer) workers points sweeps (due_from (texts c.args.words.now) _ (due_in c.in-Ok.answer) c.in-Ok.receipt c.in-Ok.ensures.due) takes)
 
 pub returns-in-Ok-clause-unplanned : goal.returns-in-Ok-clause-unplanned
 returns-in-Ok-clause-unplanned g c =
@@ -65,9 +65,9 @@ returns-in-Ok-clause-right_words g c =
 
 pub returns-in-Ok-clause-end_refused : goal.returns-in-Ok-clause-end_refused
 returns-in-Ok-clause-end_refused g c =
-    λ other refused.
+    λ refused.
     let status : c.in-Ok.answer.status ≡ SourceRefused = sym (c.say-status.ensures.outcome (λ f. absurd (cc))) ∙ refused in
-    let ask = from-refused (texts c.args.words.now) _ (due_in c.in-Ok.answer) (due_from (texts c.args.words.now) _ (due_in c.in-Ok.answer) c.in-Ok.receipt c.in-Ok.ensures.due) other status in
+    let ask = from-refused (texts c.args.words.now) _ (due_in c.in-Ok.answer) (due_from (texts c.args.words.now) _ (due_in c.in-Ok.answer) c.in-Ok.receipt c.in-Ok.ensures.due) status in
     c.in-Ok.ensures.end ask.0 ask.1 (λ long. absurd (cc))
 
 pub returns-in-Ok-clause-end_unplanned : goal.returns-in-Ok-clause-end_unplanned
