@@ -1,5 +1,5 @@
 -- Obligations that are looked for, and what is found of them.
-use Rattle.std.specs.Prelude.{ℕ, ◌≡◌, ⊤, List}
+use Rattle.std.specs.Prelude.{◌≡◌, ⊤, List}
 use Rattle.std.specs.List.{Contains}
 use Rattle.farkas_cert.specs.Inequalities.{HasNoWholeSolution, IsWholeSolution}
 use Rattle.comm_system.specs.Obligations.{Task}

@@ -3,7 +3,6 @@ use Rattle.std.specs.Prelude.{replicate}
 use Rattle.nest_tree.specs.View.{statements_from, tree_of}
 use Rattle.owner_partition.specs.Cuts.{plain_cut}
 use Rattle.plan_maker.specs.Marks.{flagged, marks_of}
-use Rattle.reason_witness.specs.Plans.{alone_marks}
 use Rattle.reason_witness.proofs.account.cut_of_loop.Goals as goal
 
 pub returns : goal.returns

@@ -1,8 +1,7 @@
-use Rattle.std.proofs.Common.{length, sym, ap, ◌∙◌, subst}
+use Rattle.std.proofs.Common.{length, sym, ◌∙◌, subst}
 use Rattle.std.specs.List.{Contains}
 use Rattle.std.proofs.lemmas.Iterator.Adapters.{YieldsList-from_vec}
 use Rattle.std.proofs.lemmas.Iterator.Consumers.{YieldsList-turn}
-use Rattle.comm_system.specs.declared.obligation.Obligation.{Obligation}
 use Rattle.reason_witness.proofs.found.Planned.found_in.Goals as goal
 
 pub returns-then-takes : goal.returns-then-takes

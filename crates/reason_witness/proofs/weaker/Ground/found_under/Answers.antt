@@ -1,9 +1,9 @@
-use Rattle.std.proofs.Common.{◌≡◌, List, map, ap, sym, ◌∙◌, subst}
+use Rattle.std.proofs.Common.{List, ap, sym, ◌∙◌, subst}
 use Rattle.std.specs.Option.{IfSome}
 use Rattle.std.specs.List.{Contains}
 use Rattle.nest_tree.specs.View.{tree_of}
 use Rattle.comm_system.specs.Obligations.{numbered_from, slot_signature, slot_tasks, slots_of}
-use Rattle.comm_system.specs.References.{StaticPhase, phases_of}
+use Rattle.comm_system.specs.References.{StaticPhase}
 use Rattle.comm_system.specs.SlotViews.{slot_seen}
 use Rattle.comm_system.proofs.Lists.{in_map}
 use Rattle.reason_witness.specs.Findings.{IsFoundIn}
