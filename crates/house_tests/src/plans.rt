@@ -5,7 +5,7 @@ use bstr::ByteSlice;
 use comm_system::Obligation;
 use f77_lines::MOST_BYTES;
 use obligation_numbers::{obligation_at, obligation_count};
-use plan_checker::check;
+use plan_checker::{check, prove};
 use plan_input::{Stop, read_fitting, read_source};
 use plan_text::{PlanSyntax, read_plan};
 use std::alloc::{AllocError, Global};
@@ -62,6 +62,38 @@ fn refusal<R: Threads + Sync>(rt: &R, alloc: Global, bytes: &[u8]) -> Result<(),
     let (program, rest) = read_source(alloc, bytes)?;
     let plan = read_plan(alloc, &bytes[rest..])?;
     check(rt, alloc, &program, &plan)?;
+    Ok(())
+}
+
+// Whether the plan behind a source, proved on its program, fits the program of another source, or
+// the line that tells why not.
+fn fit<R: Threads + Sync>(
+    rt: &R,
+    alloc: Global,
+    bytes: &[u8],
+    other: &[u8],
+) -> Result<String, AllocError> {
+    match misfit(rt, alloc, bytes, other) {
+        Ok(()) => String::from_str(alloc, "ACCEPTED"),
+        Err(stop) => format!(in alloc; "{stop}"),
+    }
+}
+
+// Why it is not proved, or does not fit.
+fn misfit<R: Threads + Sync>(
+    rt: &R,
+    alloc: Global,
+    bytes: &[u8],
+    other: &[u8],
+) -> Result<(), Stop> {
+    if bytes.len() > MOST_BYTES || other.len() > MOST_BYTES {
+        return Err(Stop::TooLong);
+    }
+    let (program, rest) = read_source(alloc, bytes)?;
+    let plan = read_plan(alloc, &bytes[rest..])?;
+    let (another, _) = read_source(alloc, other)?;
+    let proven = prove(rt, alloc, &program, &plan)?;
+    proven.fits(&another)?;
     Ok(())
 }
 
@@ -169,6 +201,38 @@ fn plans_are_checked(rt: HostRuntime) -> Result<(), Fail> {
     for &(text, old, new, wanted) in &rows {
         let bytes = text.replacen(alloc, old, new, 1)?;
         let found = verdict(&rt, alloc, bytes.as_slice())?;
+        assert_eq!(rt; found.as_str(), wanted);
+    }
+    Ok(())
+}
+
+// A plan that is proved on one program, and others that it fits or not: each the same text with one
+// change.
+#[test]
+fn proved_plans_fit_other_programs(rt: HostRuntime) -> Result<(), Fail> {
+    let alloc = rt.alloc();
+    let eight = CONDITIONS.replacen(alloc, b"N=6", b"N=8", 1)?;
+    let values = CONDITIONS.replacen(
+        alloc,
+        b"WHERE 2\n1 1*P1 <= 7\n2 -1*P1 <= -1\n",
+        b"WHERE VALUES\n",
+        1,
+    )?;
+    let rows: [(&[u8], &[u8], &[u8], &str); 10] = [
+        (CONDITIONS, b"", b"", "ACCEPTED"),
+        (CONDITIONS, b"N=6", b"N=7", "ACCEPTED"),
+        (CONDITIONS, b"N=6", b"N=8", "PLAN P6 1"),
+        (CONDITIONS, b"N=6", b"N=9", "PLAN P2 1 0 8"),
+        (CONDITIONS, b"A(I) + 1", b"A(I) + 2", "PLAN P7"),
+        (eight.as_slice(), b"N=8", b"N=6", "ACCEPTED"),
+        (eight.as_slice(), b"", b"", "PLAN P6 1"),
+        (values.as_slice(), b"", b"", "ACCEPTED"),
+        (values.as_slice(), b"N=6", b"N=7", "PLAN P6 1"),
+        (values.as_slice(), b"N=6", b"N=5", "PLAN P6 2"),
+    ];
+    for &(text, old, new, wanted) in &rows {
+        let other = text.replacen(alloc, old, new, 1)?;
+        let found = fit(&rt, alloc, text, other.as_slice())?;
         assert_eq!(rt; found.as_str(), wanted);
     }
     Ok(())
