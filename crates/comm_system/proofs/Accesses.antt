@@ -1,5 +1,5 @@
 -- Which access of a phase an execution makes at a cell, and the pairs that conflict.
-use Rattle.std.proofs.Common.{◌≡◌, ℕ, ◌+◌, ◌-◌, nat_le, ℤ, true, false, Option, Some, None, List, [], ◌∷◌, ◌++◌, length, map, refl, ap, sym, ◌∙◌, inl, inr, arith}
+use Rattle.std.proofs.Common.{◌≡◌, ℕ, ◌+◌, ◌-◌, nat_le, nat_lt, ℤ, true, false, Option, Some, None, List, [], ◌∷◌, ◌++◌, length, map, refl, ap, sym, ◌∙◌, inl, inr, arith}
 use Rattle.std.specs.List.{AllByRecursion, Contains, filter, flat_map, list_all, slice_get}
 use Rattle.std.specs.Option.{option_to_list}
 use Rattle.std.proofs.lemmas.Bool.{and_parts, leb-true}
@@ -10,7 +10,7 @@ use Rattle.nest_tree.specs.declared.tree.Access.{Access}
 use Rattle.nest_tree.specs.Guards.{holds}
 use Rattle.nest_tree.specs.Loads.{loads_in, loads_in_item}
 use Rattle.nest_tree.specs.Tree.{Head, Printed, value, whole, text, Work, assign, print, Tree, param_values}
-use Rattle.nest_tree.specs.WellFormed.{IsWellFormed, is_good_access, loops_of, rank, scope_of}
+use Rattle.nest_tree.specs.WellFormed.{IsWellFormed, is_good_access, is_number_of, loops_of, rank, rank_of, scope_of}
 use Rattle.nest_model.specs.Accesses.{cells_of, loads_of, store_of}
 use Rattle.nest_model.specs.Instances.{Instance, instances, is_executed, no_values}
 use Rattle.nest_model.specs.Ranges.{IsInRange, accesses_of, is_access_inside, is_instance_inside}
@@ -26,7 +26,7 @@ use Rattle.owner_partition.specs.Marks.{enters_outer}
 use Rattle.owner_partition.specs.Phases.{Execution, executions, phase_instances, phases}
 use Rattle.owner_partition.proofs.Instances.{all_executed}
 use Rattle.comm_system.specs.Meetings.{Point, subscripts_at}
-use Rattle.comm_system.specs.Pairs.{Pair, conflict, pairs_of}
+use Rattle.comm_system.specs.Pairs.{Pair, conflict, pairs_among}
 use Rattle.comm_system.specs.References.{Reference, StaticPhase, phases_of, reference_of, references_in, references_of, variable_of}
 use Rattle.comm_system.proofs.Cells.{IsSound, IsSoundLoaded, Touches, load_touches, same_element_of, store_touches}
 use Rattle.comm_system.proofs.Contexts.{at_first}
@@ -79,7 +79,7 @@ module _ (tree : Tree) (loops : List ℤ) where
   sound_loaded around [] g h = tt
   sound_loaded around (element a ∷ ws) g h = (record { there = good_access-there tree around a g.0; inside = h.0 }, sound_loaded around ws g.1 h.1)
   sound_loaded around (array variable ∷ ws) g h =
-      let number = and_parts (nat_le 1 variable) (nat_le variable (length (scope_of tree).ranks)) g.0 in
+      let number = and_parts (nat_le 1 variable) (nat_le variable (length (scope_of tree).ranks)) (and_parts (is_number_of (length (scope_of tree).ranks) variable) (nat_lt 0 (rank_of (scope_of tree) variable)) g.0).0 in
       ((leb-true 1 variable number.0, omega (arith, leb-true variable (length (scope_of tree).ranks) number.1, length-map tree.variables rank)), sound_loaded around ws g.1 h.1)
 
   sound_stored : (around : List ℕ) (xs : List Access) → AllByRecursion (λ a. is_good_access (scope_of tree) around a ≡ true) xs → AllByRecursion (λ a. is_access_inside tree loops a ≡ true) xs → AllByRecursion (IsSound tree loops) xs
@@ -107,7 +107,7 @@ module _ (tree : Tree) (phase : StaticPhase) (around : List Head) (i : Instance)
   in_references : (a : Reference) → Contains (references_in (record { what = i.what; around = around })) a → Contains (references_of phase) a
   in_references a c = in_flat_map references_in (nested_in phase.outer phase.what) (record { what = i.what; around = around }) a nested c
 
-  load_access : Contains (loads_of tree i) cell → (a : Reference) × IsAccessAt tree phase around i cell a
+  pub load_access : Contains (loads_of tree i) cell → (a : Reference) × IsAccessAt tree phase around i cell a
   load_access c =
       let sound = sound_loaded tree i.loops good.loops (loaded_in_work i.what) (loaded_good (scope_of tree) good.loops i.what good.good) (loaded_inside tree i.loops i.what inside) in
       let h = load_touches tree i.loops cell i.what sound c in
@@ -122,7 +122,7 @@ module _ (tree : Tree) (phase : StaticPhase) (around : List Head) (i : Instance)
         },
       )
 
-  pub store_access : store_of tree i ≡ Some cell → (a : Reference) × IsAccessAt tree phase around i cell a × (a.stores ≡ true)
+  pub store_access : store_of tree i ≡ Some cell → (a : Reference) × IsAccessAt tree phase around i cell a × (a.stores ≡ true) × Contains (map (λ x. reference_of (record { what = i.what; around = around }) true (element x)) (stores_in i.what)) a
   store_access is =
       let sound = sound_stored tree i.loops good.loops (stores_in i.what) (stored_good (scope_of tree) good.loops i.what good.good) (stored_inside tree i.loops i.what inside) in
       let h = store_touches tree i.loops cell i.what sound is in
@@ -136,6 +136,7 @@ module _ (tree : Tree) (phase : StaticPhase) (around : List Head) (i : Instance)
           touches = h.touches;
         },
         refl,
+        in_map (λ x. reference_of (record { what = i.what; around = around }) true (element x)) (stores_in i.what) h.access h.among,
       )
 
   pub any_access : Contains (cells_of tree i) cell → (a : Reference) × IsAccessAt tree phase around i cell a
@@ -225,7 +226,7 @@ elements_same tree loops loops' cell a b ns ms h k =
 abbrev pair_with : Reference → Reference → Pair
 pair_with a b = record { first = a; second = b }
 
-pub pair_there : (s t : StaticPhase) (a b : Reference) → Contains (references_of s) a → Contains (references_of t) b → conflict a b ≡ true → Contains (pairs_of s t) (record { first = a; second = b })
-pair_there s t a b here there h =
-    in_flat_map (λ a. map (pair_with a) (filter (conflict a) (references_of t))) (references_of s) a (record { first = a; second = b }) here
-    (in_map (pair_with a) (filter (conflict a) (references_of t)) b (in_filter (conflict a) (references_of t) b there h))
+pub pair_there : (firsts seconds : List Reference) (a b : Reference) → Contains firsts a → Contains seconds b → conflict a b ≡ true → Contains (pairs_among firsts seconds) (record { first = a; second = b })
+pair_there firsts seconds a b here there h =
+    in_flat_map (λ a. map (pair_with a) (filter (conflict a) seconds)) firsts a (record { first = a; second = b }) here
+    (in_map (pair_with a) (filter (conflict a) seconds) b (in_filter (conflict a) seconds b there h))

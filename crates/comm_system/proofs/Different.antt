@@ -24,7 +24,7 @@ use Rattle.sync_plan.specs.Ordered.{Hop, IsChain}
 use Rattle.comm_system.specs.Boundaries.{Boundary, Side, certain_boundaries, of_first, of_second}
 use Rattle.comm_system.specs.Levels.{common, order_at}
 use Rattle.comm_system.specs.Meetings.{AreHolders, AreSame, Holder, Holds, IsHolder, LiesBeside, Meet, Point, around_at, loops_at}
-use Rattle.comm_system.specs.Obligations.{Slot, Task, anchor_at, piece_task, slot_signature, slots_of, tasks_of}
+use Rattle.comm_system.specs.Obligations.{Slot, Task, anchor_at, lasts_at, piece_task, slot_signature, slots_of, tasks_of}
 use Rattle.comm_system.specs.OwnerRows.{Direction, Piece, above, below, distance, pieces}
 use Rattle.comm_system.specs.Pairs.{Pair, pairs_of}
 use Rattle.comm_system.specs.References.{phases_of}
@@ -209,7 +209,8 @@ module _ (tree : Tree) (plan : Plan) (ex ey : ℕ) (sx sy : Station) (two : AreT
 
     module _ (level : ℕ) (le : ex ≤ ey) (certain : AreCertain tree plan ex ey sx sy two (certain_boundaries (text_among (enters_outer plan.cut.marks) tree.items) sx.heads sy.heads sx.visit.place sy.visit.place level))
         (there : Contains (slots_of (phases_of tree plan.cut.marks)) (slot_at sx.visit.place (record { what = sx.visit.what; outer = sx.heads }) sy.visit.place (record { what = sy.visit.what; outer = sy.heads }) level))
-        (among : Contains (pairs_of (record { what = sx.visit.what; outer = sx.heads }) (record { what = sy.visit.what; outer = sy.heads })) pair) (meet : Meet tree (order_at (common sx.heads sy.heads) level) pair X Y)
+        (among : Contains (pairs_of plan.cut (record { what = sx.visit.what; outer = sx.heads }) (record { what = sy.visit.what; outer = sy.heads })) pair)
+        (meet : Meet tree (order_at (common sx.heads sy.heads) level) (lasts_at plan.cut (slot_at sx.visit.place (record { what = sx.visit.what; outer = sx.heads }) sy.visit.place (record { what = sy.visit.what; outer = sy.heads }) level) pair) pair X Y)
         (first : Holder) (second : Holder) (is_first : IsHolder tree plan.workers pair X Y (anchor_at plan sx.visit.place, of_first) first) (is_second : IsHolder tree plan.workers pair X Y (anchor_at plan sy.visit.place, of_second) second)
         (less : first.owner < plan.workers) (less' : second.owner < plan.workers) (apart : second.owner ≡ first.owner → ⊥) (none : (task : Task) → Contains (tasks_of tree plan) task → HasNoWholeSolution task.system) where
       abbrev us : List Boundary

@@ -23,7 +23,7 @@ use Rattle.comm_system.proofs.Solved.{AreNamed, IsGoodReference}
 
 abbrev pub IsGoodLoaded : Scope → List ℕ → Loaded → Type 0
 IsGoodLoaded scope around (element a) = is_good_access scope around a ≡ true
-IsGoodLoaded scope around (array variable) = is_number_of (length scope.ranks) variable ≡ true
+IsGoodLoaded scope around (array variable) = (is_number_of (length scope.ranks) variable && nat_lt 0 (rank_of scope variable)) ≡ true
 
 module _ (scope : Scope) (around : List ℕ) where
   abbrev AllGood : List Access → Type 0
@@ -63,7 +63,7 @@ module _ (scope : Scope) (around : List ℕ) where
 
   item_good : (p : Printed) → is_good_item scope around p ≡ true → AllByRecursion (IsGoodLoaded scope around) (loaded_in_item p)
   item_good (value e) good = elements (loads_in e) (loads_good e good)
-  item_good (whole variable) good = ((and_parts (is_number_of (length scope.ranks) variable) (nat_lt 0 (rank_of scope variable)) good).0, tt)
+  item_good (whole variable) good = (good, tt)
   item_good (text characters) good = tt
 
   items_good : (ps : List Printed) → list_all (is_good_item scope around) ps ≡ true → AllByRecursion (IsGoodLoaded scope around) (flat_map loaded_in_item ps)

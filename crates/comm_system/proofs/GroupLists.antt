@@ -14,7 +14,7 @@ use Rattle.sync_plan.proofs.Gets.{get-behind, get-front}
 use Rattle.comm_system.specs.Boundaries.{Side}
 use Rattle.comm_system.specs.Obligations.{Slot, Task, numbered_from, obligations_of, pair_tasks, piece_task, pieces_from, slot_signature, slot_tasks, slots_of, tasks_of, trips_task, trips_tasks}
 use Rattle.comm_system.specs.OwnerRows.{Piece, pieces}
-use Rattle.comm_system.specs.Pairs.{Pair, pairs_of}
+use Rattle.comm_system.specs.Pairs.{Pair, pairs_of, pairs_within}
 use Rattle.comm_system.specs.References.{StaticPhase, phases_of}
 use Rattle.comm_system.specs.Signatures.{Signature, blocked, waits}
 use Rattle.comm_system.specs.Subjects.{Group, Listed, Subject, count_about, groups_of, obligations_in, of_slot, of_trips, slot_subjects, subjects_of, tasks_about, trips_subjects, with_subject, with_subjects}
@@ -49,8 +49,8 @@ trips_systems tree plan s (p ∷ ps) = ap (λ ts. trips_task tree plan s p ∷ t
 phase_systems : (tree : Tree) (plan : Plan) (s : StaticPhase) → flat_map (tasks_about tree plan) (trips_subjects plan s) ≡ trips_tasks tree plan s
 phase_systems tree plan s = by (is_dealt plan.cut.marks s.what)
   where
-    by : (b : Bool) → flat_map (tasks_about tree plan) (if b then map (of_trips s) (pairs_of s s) else []) ≡ (if b then map (trips_task tree plan s) (pairs_of s s) else [])
-    by true = trips_systems tree plan s (pairs_of s s)
+    by : (b : Bool) → flat_map (tasks_about tree plan) (if b then map (of_trips s) (pairs_within plan.cut s) else []) ≡ (if b then map (trips_task tree plan s) (pairs_within plan.cut s) else [])
+    by true = trips_systems tree plan s (pairs_within plan.cut s)
     by false = refl
 
 pub pairs_systems : (tree : Tree) (plan : Plan) (slot : Slot) (left right : ℕ) (producers : List (Anchor × Side)) (ps : List Pair) →
@@ -58,9 +58,9 @@ pub pairs_systems : (tree : Tree) (plan : Plan) (slot : Slot) (left right : ℕ)
 pairs_systems tree plan slot left right producers [] = refl
 pairs_systems tree plan slot left right producers (p ∷ ps) = ap (λ ts. pair_tasks tree plan slot left right producers p ++ ts) (pairs_systems tree plan slot left right producers ps)
 
-slot_systems : (tree : Tree) (plan : Plan) (slot : Slot) (signature : Signature) → flat_map (tasks_about tree plan) (slot_subjects slot signature) ≡ slot_tasks tree plan slot signature
+slot_systems : (tree : Tree) (plan : Plan) (slot : Slot) (signature : Signature) → flat_map (tasks_about tree plan) (slot_subjects plan.cut slot signature) ≡ slot_tasks tree plan slot signature
 slot_systems tree plan slot blocked = refl
-slot_systems tree plan slot (waits left right producers) = pairs_systems tree plan slot left right producers (pairs_of slot.first slot.second)
+slot_systems tree plan slot (waits left right producers) = pairs_systems tree plan slot left right producers (pairs_of plan.cut slot.first slot.second)
 
 flat_twice : {A : Type 0} (tree : Tree) (plan : Plan) (subjects : A → List Subject) (tasks : A → List Task) → ((x : A) → flat_map (tasks_about tree plan) (subjects x) ≡ tasks x) → (xs : List A) →
     flat_map (tasks_about tree plan) (flat_map subjects xs) ≡ flat_map tasks xs
@@ -73,10 +73,10 @@ all_systems tree plan =
     let phases = phases_of tree plan.cut.marks in
     let signature = λ (slot : Slot). slot_signature plan.version plan.kinds phases slot in
     let first = flat_map (trips_subjects plan) phases in
-    let second = flat_map (λ (slot : Slot). slot_subjects slot (slot_signature plan.version plan.kinds phases slot)) (slots_of phases) in
+    let second = flat_map (λ (slot : Slot). slot_subjects plan.cut slot (slot_signature plan.version plan.kinds phases slot)) (slots_of phases) in
     flat_map-append (tasks_about tree plan) first second
     ∙ ap (λ ts. ts ++ flat_map (tasks_about tree plan) second) (flat_twice tree plan (trips_subjects plan) (trips_tasks tree plan) (phase_systems tree plan) phases)
-    ∙ ap (λ ts. flat_map (trips_tasks tree plan) phases ++ ts) (flat_twice tree plan (λ slot. slot_subjects slot (slot_signature plan.version plan.kinds phases slot)) (λ slot. slot_tasks tree plan slot (slot_signature plan.version plan.kinds phases slot)) (λ slot. slot_systems tree plan slot (slot_signature plan.version plan.kinds phases slot)) (slots_of phases))
+    ∙ ap (λ ts. flat_map (trips_tasks tree plan) phases ++ ts) (flat_twice tree plan (λ slot. slot_subjects plan.cut slot (slot_signature plan.version plan.kinds phases slot)) (λ slot. slot_tasks tree plan slot (slot_signature plan.version plan.kinds phases slot)) (λ slot. slot_systems tree plan slot (slot_signature plan.version plan.kinds phases slot)) (slots_of phases))
 
 -- ---- what is listed
 
@@ -192,18 +192,18 @@ listed_whole tree plan most n ss within =
     listed_are tree plan most from ss ∙ take_all ((with_subjects most from ss).next - n) all reach
 
 -- the systems of two trips of a phase, and of a slot
-pub of_phase : (tree : Tree) (plan : Plan) (most n : ℕ) (s : StaticPhase) (l : Listed) → l ≡ with_subjects most (record { groups = []; next = n }) (map (of_trips s) (pairs_of s s)) → l.next ≤ most →
-    flat_map (obligations_in tree plan) l.groups ≡ numbered_from n (map (trips_task tree plan s) (pairs_of s s))
+pub of_phase : (tree : Tree) (plan : Plan) (most n : ℕ) (s : StaticPhase) (l : Listed) → l ≡ with_subjects most (record { groups = []; next = n }) (map (of_trips s) (pairs_within plan.cut s)) → l.next ≤ most →
+    flat_map (obligations_in tree plan) l.groups ≡ numbered_from n (map (trips_task tree plan s) (pairs_within plan.cut s))
 of_phase tree plan most n s l is within =
-    let ss = map (of_trips s) (pairs_of s s) in
+    let ss = map (of_trips s) (pairs_within plan.cut s) in
     let next = ap (λ (m : Listed). m.next) is in
-    ap (λ (m : Listed). flat_map (obligations_in tree plan) m.groups) is ∙ listed_whole tree plan most n ss (omega (arith, next, within)) ∙ ap (numbered_from n) (trips_systems tree plan s (pairs_of s s))
+    ap (λ (m : Listed). flat_map (obligations_in tree plan) m.groups) is ∙ listed_whole tree plan most n ss (omega (arith, next, within)) ∙ ap (numbered_from n) (trips_systems tree plan s (pairs_within plan.cut s))
 
-pub of_waits : (tree : Tree) (plan : Plan) (most n : ℕ) (slot : Slot) (signature : Signature) (l : Listed) → l ≡ with_subjects most (record { groups = []; next = n }) (slot_subjects slot signature) → l.next ≤ most →
+pub of_waits : (tree : Tree) (plan : Plan) (most n : ℕ) (slot : Slot) (signature : Signature) (l : Listed) → l ≡ with_subjects most (record { groups = []; next = n }) (slot_subjects plan.cut slot signature) → l.next ≤ most →
     flat_map (obligations_in tree plan) l.groups ≡ numbered_from n (slot_tasks tree plan slot signature)
 of_waits tree plan most n slot signature l is within =
     let next = ap (λ (m : Listed). m.next) is in
-    ap (λ (m : Listed). flat_map (obligations_in tree plan) m.groups) is ∙ listed_whole tree plan most n (slot_subjects slot signature) (omega (arith, next, within)) ∙ ap (numbered_from n) (slot_systems tree plan slot signature)
+    ap (λ (m : Listed). flat_map (obligations_in tree plan) m.groups) is ∙ listed_whole tree plan most n (slot_subjects plan.cut slot signature) (omega (arith, next, within)) ∙ ap (numbered_from n) (slot_systems tree plan slot signature)
 
 -- ---- of a plan
 

@@ -6,10 +6,8 @@ use Rattle.std.proofs.lemmas.List.{map-append}
 use Rattle.comm_system.specs.GroupViews.{paired}
 use Rattle.comm_system.specs.Pairs.{conflict}
 use Rattle.comm_system.specs.References.{Reference}
-use Rattle.comm_system.specs.Seen.{reference_seen}
 use Rattle.comm_system.specs.Subjects.{Listed, Subject, count_about, with_subject, with_subjects}
 use Rattle.comm_system.specs.SubjectViews.{subject_at}
-use Rattle.comm_system.specs.declared.reference.Reference.{Reference as Held}
 use Rattle.comm_system.specs.declared.subject.Scene.{Scene}
 use Rattle.comm_system.proofs.RowSteps.{left_more}
 
@@ -45,19 +43,19 @@ one_partner scene a b bs = by (conflict a b)
     by true = refl
     by false = refl
 
-pub partners_more : (scene : Scene) (a : Reference) (bs : List Held) (k : ℕ) (b : Held) → k < length bs → b ≡ get_or bs k b →
-    partners scene a (map reference_seen (drop k bs)) ≡ partners scene a (reference_seen b ∷ []) ++ partners scene a (map reference_seen (drop (k + 1) bs))
-partners_more scene a bs k b lt is = ap (partners scene a) (left_more reference_seen bs k b lt is) ∙ one_partner scene a (reference_seen b) (map reference_seen (drop (k + 1) bs))
+pub partners_more : {A : Type 0} (seen : A → Reference) (scene : Scene) (a : Reference) (bs : List A) (k : ℕ) (b : A) → k < length bs → b ≡ get_or bs k b →
+    partners scene a (map seen (drop k bs)) ≡ partners scene a (seen b ∷ []) ++ partners scene a (map seen (drop (k + 1) bs))
+partners_more seen scene a bs k b lt is = ap (partners scene a) (left_more seen bs k b lt is) ∙ one_partner scene a (seen b) (map seen (drop (k + 1) bs))
 
 -- those of all pairs
 abbrev pub all_pairs : Scene → List Reference → List Reference → List Subject
 all_pairs scene bs xs = map (subject_at scene) (flat_map (λ a. map (paired a) (filter (conflict a) bs)) xs)
 
-pub pairs_more : (scene : Scene) (bs : List Reference) (xs : List Held) (k : ℕ) (a : Held) → k < length xs → a ≡ get_or xs k a →
-    all_pairs scene bs (map reference_seen (drop k xs)) ≡ partners scene (reference_seen a) bs ++ all_pairs scene bs (map reference_seen (drop (k + 1) xs))
-pairs_more scene bs xs k a lt is =
-    ap (all_pairs scene bs) (left_more reference_seen xs k a lt is)
-    ∙ map-append (subject_at scene) (map (paired (reference_seen a)) (filter (conflict (reference_seen a)) bs)) (flat_map (λ a. map (paired a) (filter (conflict a) bs)) (map reference_seen (drop (k + 1) xs)))
+pub pairs_more : {A : Type 0} (seen : A → Reference) (scene : Scene) (bs : List Reference) (xs : List A) (k : ℕ) (a : A) → k < length xs → a ≡ get_or xs k a →
+    all_pairs scene bs (map seen (drop k xs)) ≡ partners scene (seen a) bs ++ all_pairs scene bs (map seen (drop (k + 1) xs))
+pairs_more seen scene bs xs k a lt is =
+    ap (all_pairs scene bs) (left_more seen xs k a lt is)
+    ∙ map-append (subject_at scene) (map (paired (seen a)) (filter (conflict (seen a)) bs)) (flat_map (λ a. map (paired a) (filter (conflict a) bs)) (map seen (drop (k + 1) xs)))
 
 -- one thing's subjects more
 pub flat_more : {A B : Type 0} (seen : A → B) (f : B → List Subject) (xs : List A) (k : ℕ) (x : A) → k < length xs → x ≡ get_or xs k x →

@@ -29,6 +29,7 @@ pub mod CertainLists
 pub mod Owners
 pub mod Slots
 pub mod Different
+mod SeenAccesses
 pub mod Ordered
 pub mod Waiting
 pub mod SamePhase
@@ -36,6 +37,11 @@ pub mod ObligationOrder
 pub mod GroupLists
 pub mod PhaseCounts
 mod GroupSteps
+mod ShownLists
+pub mod FirstStores
+mod LastTrips
+mod FirstWorks
+mod PrivateScalars
 mod ListSteps
 mod SystemParts
 pub mod ShapeParts
@@ -43,3 +49,4 @@ mod SmallLoops
 mod Steps
 mod Looks
 mod RowSteps
+mod LastRows

@@ -10,6 +10,7 @@ use Rattle.nest_model.specs.Instances.{Instance, no_values}
 use Rattle.nest_rows.specs.Nested.{AreTrips}
 use Rattle.owner_partition.specs.declared.anchor.Anchor.{Anchor}
 use Rattle.owner_partition.specs.declared.anchor.Dist.TheVariants.{Cyclic}
+use Rattle.owner_partition.specs.Cuts.{Cutting}
 use Rattle.owner_partition.specs.Marks.{enters_outer}
 use Rattle.owner_partition.specs.Owners.{anchor_owner, owner_by}
 use Rattle.owner_partition.specs.Phases.{Execution}
@@ -19,13 +20,15 @@ use Rattle.sync_plan.specs.Ordered.{owner_under}
 use Rattle.sync_plan.specs.Shape.{static_phases}
 use Rattle.sync_plan.proofs.Fits.{fit_parts}
 use Rattle.comm_system.specs.Levels.{Order, order_at}
-use Rattle.comm_system.specs.Meetings.{AreSame, IsEarlier, IsEarlierWhere, Meet}
+use Rattle.comm_system.specs.Meetings.{AreSame, IsEarlier, IsEarlierWhere, IsInLastTripWhere, Meet}
 use Rattle.comm_system.specs.Obligations.{anchor_at}
-use Rattle.comm_system.specs.Pairs.{pairs_of}
+use Rattle.comm_system.specs.Pairs.{conflict, pairs_of}
 use Rattle.comm_system.specs.References.{Reference, StaticPhase, variable_of}
+use Rattle.comm_system.specs.Shown.{shown_of}
 use Rattle.comm_system.proofs.Accesses.{IsAccessAt, elements_same, pair_there, point_at}
 use Rattle.comm_system.proofs.Lists.{some_there}
 use Rattle.comm_system.proofs.Owners.{index_is, there}
+use Rattle.comm_system.proofs.SeenAccesses.{IsSeen}
 use Rattle.comm_system.proofs.StationOrder.{differ_test, equal_test}
 use Rattle.comm_system.proofs.Stations.{Station, stations_in}
 
@@ -70,26 +73,32 @@ module _ (tree : Tree) (plan : Plan) (formed : IsWellFormed tree) (fits : IsFit 
 
 -- ---- two accesses that conflict
 
-pub record Conflicting (tree : Tree) (s t : StaticPhase) (around around' : List Head) (i j : Instance) : Type 0 where
-  pub cell : ℕ
+pub record Conflicting (tree : Tree) (cut : Cutting) (s t : StaticPhase) (around around' : List Head) (i j : Instance) (cell : ℕ) : Type 0 where
   pub a : Reference
   pub b : Reference
   pub first : IsAccessAt tree s around i cell a
   pub second : IsAccessAt tree t around' j cell b
+  pub first_seen : IsSeen tree cut s around i a
+  pub second_seen : IsSeen tree cut t around' j b
   pub stored : (a.stores || b.stores) ≡ true
 
-pub meeting_pair : (tree : Tree) (s t : StaticPhase) (around around' : List Head) (i j : Instance) (c : Conflicting tree s t around around' i j) → Contains (pairs_of s t) (record { first = c.a; second = c.b })
-meeting_pair tree s t around around' i j c =
-    let same = (elements_same tree i.loops j.loops c.cell c.a.what c.b.what [] [] c.first.touches c.second.touches).0 in
-    pair_there s t c.a c.b c.first.among c.second.among (and_from (variable_of c.a.what == variable_of c.b.what) (c.a.stores || c.b.stores) (equal_test (variable_of c.a.what) (variable_of c.b.what) same) c.stored)
+pub conflict_so : (tree : Tree) (cut : Cutting) (s t : StaticPhase) (around around' : List Head) (i j : Instance) (cell : ℕ) (c : Conflicting tree cut s t around around' i j cell) → conflict c.a c.b ≡ true
+conflict_so tree cut s t around around' i j cell c =
+    let same = (elements_same tree i.loops j.loops cell c.a.what c.b.what [] [] c.first.touches c.second.touches).0 in
+    and_from (variable_of c.a.what == variable_of c.b.what) (c.a.stores || c.b.stores) (equal_test (variable_of c.a.what) (variable_of c.b.what) same) c.stored
 
-pub meeting : (tree : Tree) (s t : StaticPhase) (around around' : List Head) (i j : Instance) (c : Conflicting tree s t around around' i j) (ns ms : List ℕ) (order : Order) → AreTrips (param_values tree) i.loops around ns → AreTrips (param_values tree) j.loops around' ms →
-    AreSame order.equal around around' i.loops j.loops → (order.earlier ≡ true → IsEarlier order.equal ns ms) →
-    Meet tree order (record { first = c.a; second = c.b }) (point_at i ns c.first.touches.free) (point_at j ms c.second.touches.free)
-meeting tree s t around around' i j c ns ms order trips trips' same earlier = record {
+pub meeting_pair : (tree : Tree) (cut : Cutting) (s t : StaticPhase) (around around' : List Head) (i j : Instance) (cell : ℕ) (c : Conflicting tree cut s t around around' i j cell) → Contains (pairs_of cut s t) (record { first = c.a; second = c.b })
+meeting_pair tree cut s t around around' i j cell c = pair_there (shown_of cut s) (shown_of cut t) c.a c.b c.first_seen.shown c.second_seen.shown (conflict_so tree cut s t around around' i j cell c)
+
+pub meeting : (tree : Tree) (cut : Cutting) (s t : StaticPhase) (around around' : List Head) (i j : Instance) (cell : ℕ) (c : Conflicting tree cut s t around around' i j cell) (ns ms : List ℕ) (order : Order) (lasts : Bool × Bool) → AreTrips (param_values tree) i.loops around ns → AreTrips (param_values tree) j.loops around' ms →
+    AreSame order.equal around around' i.loops j.loops → (order.earlier ≡ true → IsEarlier order.equal ns ms) → IsInLastTripWhere lasts.0 (param_values tree) i.loops around → IsInLastTripWhere lasts.1 (param_values tree) j.loops around' →
+    Meet tree order lasts (record { first = c.a; second = c.b }) (point_at i ns c.first.touches.free) (point_at j ms c.second.touches.free)
+meeting tree cut s t around around' i j cell c ns ms order lasts trips trips' same earlier last last' = record {
   first = record { trips = subst (λ hs. AreTrips (param_values tree) i.loops hs ns) (sym c.first.around_is) trips; executed = c.first.executed; free = c.first.touches.within };
   second = record { trips = subst (λ hs. AreTrips (param_values tree) j.loops hs ms) (sym c.second.around_is) trips'; executed = c.second.executed; free = c.second.touches.within };
-  element = (elements_same tree i.loops j.loops c.cell c.a.what c.b.what ns ms c.first.touches c.second.touches).1;
+  first_last = subst (λ hs. IsInLastTripWhere lasts.0 (param_values tree) i.loops hs) (sym c.first.around_is) last;
+  second_last = subst (λ hs. IsInLastTripWhere lasts.1 (param_values tree) j.loops hs) (sym c.second.around_is) last';
+  element = (elements_same tree i.loops j.loops cell c.a.what c.b.what ns ms c.first.touches c.second.touches).1;
   same = subst (λ hs. AreSame order.equal hs c.b.around i.loops j.loops) (sym c.first.around_is) (subst (λ gs. AreSame order.equal around gs i.loops j.loops) (sym c.second.around_is) same);
   earlier = by order.earlier earlier;
 }

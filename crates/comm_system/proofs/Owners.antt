@@ -142,7 +142,7 @@ module _ (tree : Tree) (plan : Plan) (formed : IsWellFormed tree) (fits : IsFit 
   index_is = omega (arith, there.place_is)
 
   -- the loops round it, by number and with their heads
-  around_among : AreAmong there.there.around (numbers s.heads)
+  pub around_among : AreAmong there.there.around (numbers s.heads)
   around_among =
       let text = ap (slice_get (phases_of tree plan.cut.marks)) (sym index_is) ∙ phase_there tree plan.cut.marks formed e s at in
       (same_at (placed tree (enters_outer plan.cut.marks)) (phases_of tree plan.cut.marks) there.k (record { what = s.visit.what; around = there.there.around }) (record { what = s.visit.what; outer = s.heads }) (same_among (enters_outer plan.cut.marks) [] [] tree.items (λ n h. h)) there.there.at text).among
@@ -152,7 +152,7 @@ module _ (tree : Tree) (plan : Plan) (formed : IsWellFormed tree) (fits : IsFit 
       let back : 1 + there.k - 1 ≡ there.k = omega arith in
       ap (misplaced_at (param_values tree) plan.workers (1 + there.k) a) (sym (ap (phase_ends tree plan.cut.marks) back ∙ there.there.ends_are)) ∙ none
 
-  as_many : length tree.params ≡ length (param_values tree)
+  pub as_many : length tree.params ≡ length (param_values tree)
   as_many = sym (length-map tree.params (λ (c : Constant). c.value))
 
   -- the phase's anchor

@@ -1,5 +1,5 @@
 -- Two points at which accesses meet meet the rows of their pair.
-use Rattle.std.proofs.Common.{◌≡◌, ℕ, zero, suc, ◌+◌, ◌*◌, ℤ, pos, negsuc, ◌+ℤ◌, ◌*ℤ◌, ◌-ℤ◌, ◌≤ℤ◌, Bool, true, false, List, [], ◌∷◌, map, length, if◌then◌else◌, refl, ap, sym, ◌∙◌, subst, arith}
+use Rattle.std.proofs.Common.{◌≡◌, ℕ, zero, suc, ◌+◌, ◌*◌, ℤ, pos, negsuc, ◌+ℤ◌, ◌*ℤ◌, ◌-ℤ◌, ◌≤ℤ◌, int_le, ◌&&◌, nat_lt, unsigned_abs, Bool, true, false, List, [], ◌∷◌, map, length, if◌then◌else◌, refl, ap, sym, ◌∙◌, subst, arith}
 use Rattle.std.specs.List.{AllByRecursion, list_all}
 use Rattle.std.proofs.lemmas.Bool.{and_parts}
 use Rattle.std.proofs.lemmas.Int.{ints}
@@ -9,13 +9,13 @@ use Rattle.nest_tree.specs.WellFormed.{names_only}
 use Rattle.nest_rows.specs.declared.constraint.Sign.{Sign}
 use Rattle.nest_rows.specs.declared.constraint.Sign.TheVariants.{Plus, Minus}
 use Rattle.nest_rows.specs.Constraints.{IsMet}
-use Rattle.nest_rows.specs.Places.{AreLaid}
-use Rattle.nest_rows.specs.Signs.{signed, with_sign}
+use Rattle.nest_rows.specs.Places.{AreLaid, terms_of}
+use Rattle.nest_rows.specs.Signs.{flipped, signed, with_sign}
 use Rattle.nest_rows.proofs.Dots.{AreConstants, dot-append, dot-form, dot-signed, numbers}
-use Rattle.nest_rows.proofs.GroupsMet.{both_met}
+use Rattle.nest_rows.proofs.GroupsMet.{both_met, is_head_among}
 use Rattle.comm_system.specs.Levels.{Order}
-use Rattle.comm_system.specs.Meetings.{AreFree, AreSame, IsEarlier, IsEarlierWhere}
-use Rattle.comm_system.specs.PairRows.{Sum, apart, free_have, free_sums, no_more, ordered_so, same_element, same_loops, sum_of}
+use Rattle.comm_system.specs.Meetings.{AreFree, AreSame, IsEarlier, IsEarlierWhere, IsBehind, IsInLastTrip, IsInLastTripWhere, IsPast}
+use Rattle.comm_system.specs.PairRows.{Sum, apart, free_have, free_sums, innermost_last, last_has, no_more, ordered_so, past_next, same_element, same_loops, sum_of}
 use Rattle.comm_system.proofs.Lies.{LiesAt}
 
 -- free subscripts within their bounds
@@ -106,3 +106,32 @@ order_met values m n order loops loops' heads others ns ms here there few few' s
     by : (b : Bool) → IsEarlierWhere b order.equal ns ms → AllByRecursion (IsMet values) (if b then apart Plus (m + 2 * order.equal + 1) (n + 2 * order.equal + 1) (negsuc 0) ∷ [] else [])
     by true h = (apart_met values Plus (m + 2 * order.equal + 1) (n + 2 * order.equal + 1) (negsuc 0) (earlier_apart values m n order.equal loops loops' heads others ns ms here there few few' h), tt)
     by false h = tt
+
+-- ---- the innermost loop's last trip
+
+module _ (values : List ℤ) (first : ℕ) (loops : List ℤ) (heads : List Head) (ns : List ℕ) (params : List ℤ) (are : AreLaid values first loops heads ns) (constants : AreConstants values params) where
+  past_met : (place : ℕ) (head : Head) → numbered values place ≡ numbered loops head.number → names_only (length params) (numbers heads) head.m2 ≡ true → IsPast head.step (numbered loops head.number +ℤ head.step) (form_value head.m2 loops params) →
+      IsMet values (past_next first heads place head)
+  past_met place head at named past = by (int_le (pos 0) head.step) past
+    where
+      by : (b : Bool) → IsBehind b (numbered loops head.number +ℤ head.step) (form_value head.m2 loops params) → IsMet values (record {
+        terms = (place, signed (flipped (if b then Plus else Minus)) (pos 1)) ∷ with_sign (if b then Plus else Minus) (terms_of first heads head.m2);
+        bound = signed (if b then Plus else Minus) head.step -ℤ pos 1 -ℤ signed (if b then Plus else Minus) head.m2.constant;
+      })
+      by true h = omega (arith, ints, dot-signed Plus (terms_of first heads head.m2) values, dot-form values first loops heads ns params head.m2 are constants named, at, h)
+      by false h = omega (arith, ints, dot-signed Minus (terms_of first heads head.m2) values, dot-form values first loops heads ns params head.m2 are constants named, at, h)
+
+  innermost_met : (place : ℕ) (rest : List Head) (more : List ℕ) → AreLaid values place loops rest more → AllByRecursion (λ h. is_head_among (length params) (numbers heads) h ≡ true) rest → IsInLastTrip params loops rest → AllByRecursion (IsMet values) (innermost_last first heads place rest)
+  innermost_met place [] more laid good last = tt
+  innermost_met place (h ∷ []) [] laid good last = absurd laid
+  innermost_met place (h ∷ []) (n ∷ more) laid good last =
+      let parts = and_parts (names_only (length params) (numbers heads) h.m1 && names_only (length params) (numbers heads) h.m2) (nat_lt 0 (unsigned_abs h.step)) good.0 in
+      let named = (and_parts (names_only (length params) (numbers heads) h.m1) (names_only (length params) (numbers heads) h.m2) parts.0).1 in
+      (past_met place h laid.0 named last, tt)
+  innermost_met place (h ∷ g ∷ rest) [] laid good last = absurd laid
+  innermost_met place (h ∷ g ∷ rest) (n ∷ more) laid good last = innermost_met (place + 2) (g ∷ rest) more laid.2 good.1 last
+
+  -- an access that is made in the last trip alone
+  pub last_trip_met : (last : Bool) → AllByRecursion (λ h. is_head_among (length params) (numbers heads) h ≡ true) heads → IsInLastTripWhere last params loops heads → AllByRecursion (IsMet values) (last_has last first heads)
+  last_trip_met true good is = innermost_met first heads ns are good is
+  last_trip_met false good is = tt

@@ -1,22 +1,25 @@
 -- The terms of a pair's rows are among its unknowns.
-use Rattle.std.proofs.Common.{◌≡◌, ℕ, zero, suc, ◌+◌, ◌*◌, ◌≤◌, ℤ, pos, negsuc, neg_ℤ, Bool, true, false, List, [], ◌∷◌, ◌++◌, length, if◌then◌else◌, refl, ◌∙◌, arith}
+use Rattle.std.proofs.Common.{◌≡◌, ℕ, zero, suc, ◌+◌, ◌*◌, ◌≤◌, ℤ, pos, negsuc, neg_ℤ, ◌&&◌, nat_lt, unsigned_abs, Bool, true, false, List, [], ◌∷◌, ◌++◌, length, if◌then◌else◌, refl, ◌∙◌, arith}
 use Rattle.std.specs.List.{AllByRecursion, list_all}
-use Rattle.std.proofs.lemmas.Bool.{and_from}
+use Rattle.std.proofs.lemmas.Bool.{and_from, and_parts}
 use Rattle.std.proofs.lemmas.List.Folds.{list_all-append}
+use Rattle.nest_tree.specs.Tree.{Head}
 use Rattle.nest_tree.specs.WellFormed.{is_number_of, names_only}
 use Rattle.nest_rows.specs.declared.constraint.Constraint.{Constraint}
 use Rattle.nest_rows.specs.declared.constraint.Sign.{Sign}
 use Rattle.nest_rows.specs.declared.constraint.Sign.TheVariants.{Plus, Minus}
+use Rattle.nest_rows.specs.Groups.{sign_of as sign_of_step}
 use Rattle.nest_rows.specs.Places.{terms_of}
 use Rattle.nest_rows.specs.Signs.{with_sign}
 use Rattle.nest_rows.proofs.Dots.{numbers}
+use Rattle.nest_rows.proofs.GroupsMet.{is_head_among}
 use Rattle.nest_rows.proofs.Over.{both-over, form-over, number-from}
 use Rattle.nest_rows.proofs.Sums.{is_over}
 use Rattle.owner_partition.specs.declared.anchor.Dist.{Dist}
 use Rattle.owner_partition.specs.declared.anchor.Dist.TheVariants.{Block, Cyclic}
 use Rattle.comm_system.specs.Levels.{Order}
 use Rattle.comm_system.specs.OwnerRows.{Direction, Piece, Placed, beside, distance, last_rows, owner_has, owner_numbers, owner_unknowns, owners_have, owners_unknowns, owns, sign_of}
-use Rattle.comm_system.specs.PairRows.{Sum, apart, free_have, free_sums, ordered_so, same_element, same_loops}
+use Rattle.comm_system.specs.PairRows.{Sum, apart, free_have, free_sums, innermost_last, last_has, ordered_so, same_element, same_loops}
 
 abbrev pub are_over : ℕ → List (ℕ × ℤ) → Bool
 are_over vars terms = list_all (λ t. is_number_of vars t.0) terms
@@ -29,6 +32,20 @@ free_over vars n [] low room = refl
 free_over vars n (b ∷ bounds) low room =
     let number = number-from vars n low (omega (arith, room)) in
     and_from _ _ (and_from (is_number_of vars n) true number refl) (and_from _ _ (and_from (is_number_of vars n) true number refl) (free_over vars (suc n) bounds (omega (arith, low)) (omega (arith, room))))
+
+-- the innermost loop's last trip
+module _ (vars constants first : ℕ) (heads : List Head) (low : 1 ≤ first) (few : constants ≤ vars) (room : first + 2 * length heads ≤ vars + 1) where
+  innermost_over : (place : ℕ) (rest : List Head) → 1 ≤ place → place + 2 * length rest ≤ vars + 1 → AllByRecursion (λ h. is_head_among constants (numbers heads) h ≡ true) rest → list_all (is_over vars) (innermost_last first heads place rest) ≡ true
+  innermost_over place [] from to good = refl
+  innermost_over place (h ∷ []) from to good =
+      let parts = and_parts (names_only constants (numbers heads) h.m1 && names_only constants (numbers heads) h.m2) (nat_lt 0 (unsigned_abs h.step)) good.0 in
+      let named = (and_parts (names_only constants (numbers heads) h.m1) (names_only constants (numbers heads) h.m2) parts.0).1 in
+      and_from _ true (and_from (is_number_of vars place) (are_over vars (with_sign (sign_of_step h.step) (terms_of first heads h.m2))) (number-from vars place from (omega (arith, to))) (form-over vars constants first heads low few room (sign_of_step h.step) h.m2 named)) refl
+  innermost_over place (h ∷ g ∷ rest) from to good = innermost_over (place + 2) (g ∷ rest) (omega (arith, from)) (omega (arith, to)) good.1
+
+  pub last_trip_over : (last : Bool) → AllByRecursion (λ h. is_head_among constants (numbers heads) h ≡ true) heads → list_all (is_over vars) (last_has last first heads) ≡ true
+  last_trip_over true good = innermost_over first heads low room good
+  last_trip_over false good = refl
 
 -- a subscript's terms, with either sign
 abbrev pub IsSumOver : ℕ → Sum → Type 0

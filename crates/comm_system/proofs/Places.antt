@@ -2,20 +2,21 @@
 use Rattle.std.proofs.Common.{◌≡◌, ℕ, zero, suc, ◌+◌, ◌-◌, ◌<◌, ◌≤◌, ℤ, Bool, true, false, Some, None, List, [], ◌∷◌, ◌++◌, length, map, if◌then◌else◌, refl, ap, sym, ◌∙◌, subst, inl, inr, arith}
 use Rattle.std.specs.List.{AllByRecursion, Contains, flat_map, slice_get}
 use Rattle.std.proofs.lemmas.Bool.{cases_lt}
+use Rattle.std.proofs.lemmas.List.{map-append}
 use Rattle.nest_tree.specs.Form.{numbered}
 use Rattle.nest_tree.specs.Tree.{Head, Work, Statement, Statements, do_loop, work, continue, done, next}
 use Rattle.nest_tree.specs.WellFormed.{Scope, loops_in}
-use Rattle.nest_model.specs.Instances.{Instance, is_executed}
-use Rattle.nest_model.specs.Visits.{Visit, every, executed_at, instances_at}
+use Rattle.nest_model.specs.Instances.{Instance, is_executed, works_in, works_of}
+use Rattle.nest_model.specs.Visits.{Visit, every, executed_at, instances_at, stops_in, stops_of}
 use Rattle.nest_walk.proofs.InstanceLists.{one_same}
 use Rattle.nest_rows.specs.Nested.{AreTrips, Nested, nested_among, nested_in}
-use Rattle.nest_rows.proofs.Nesting.{all-append, all-at}
+use Rattle.nest_rows.proofs.Nesting.{all-append, all-at, all-weaker}
 use Rattle.owner_partition.specs.Phases.{Execution, executions_from, phase_instances}
 use Rattle.sync_plan.proofs.Gets.{get-behind, get-front}
 use Rattle.comm_system.specs.References.{StaticPhase, phases_among, phases_in}
 use Rattle.nest_rows.proofs.Nesting.{IsBefore, kept-number}
 use Rattle.comm_system.proofs.Contexts.{IsInFront}
-use Rattle.comm_system.proofs.Lists.{all_in_range, all_split, contains_here, contains_later, mapped_get}
+use Rattle.comm_system.proofs.Lists.{all_in_range, all_mapped, get_contains, mapped_get}
 use Rattle.comm_system.proofs.StationFacts.{Deepens, IsStation, each_of, loops_after}
 use Rattle.comm_system.proofs.Stations.{Station, at_trip, phases_in-within, push, stations_in, stations_of, trips_of, text_of, visit_in, visits-of, within}
 use Rattle.comm_system.proofs.StationOrder.{Comes, comes_at, rises_of}
@@ -161,30 +162,49 @@ kept_after params loops (h ∷ hs) [] m low high some less d = refl
 kept_after params loops (h ∷ hs) (n ∷ ns) m low high some less d =
     kept_after params (at_trip params h loops n) hs ns m (h.number + 1) high some (omega (arith, less, d.0)) d.2 ∙ kept-number loops h.number _ m some (omega (arith, less, d.0))
 
--- the pieces of work of a statement, as stops of the walk that enters every loop
-abbrev NestedAt : (Nested → Type 0) → List Head → Statement → Type 0
-NestedAt P outer (do_loop head body) = Unit {0}
-NestedAt P outer (work w) = P (record { what = w; around = outer })
-NestedAt P outer (continue line) = Unit {0}
-
-abbrev NestedHere : (Nested → Type 0) → StaticPhase → Type 0
-NestedHere P p = NestedAt P p.outer p.what
+-- the pieces of work of a statement are the stops of the walk that enters every loop
+abbrev as_phase : Nested → StaticPhase
+as_phase n = record { what = work n.what; outer = n.around }
 
 mutual
-  nested_stops : (P : Nested → Type 0) (outer : List Head) (s : Statement) → AllByRecursion P (nested_in outer s) → AllByRecursion (NestedHere P) (phases_in every outer s)
-  nested_stops P outer (do_loop head body) all = nesteds_stops P (outer ++ head ∷ []) body all
-  nested_stops P outer (work w) all = (all.0, tt)
-  nested_stops P outer (continue line) all = tt
+  every_text : (outer : List Head) (s : Statement) → phases_in every outer s ≡ map as_phase (nested_in outer s)
+  every_text outer (do_loop head body) = every_texts (outer ++ head ∷ []) body
+  every_text outer (work w) = refl
+  every_text outer (continue line) = refl
 
-  nesteds_stops : (P : Nested → Type 0) (outer : List Head) (ss : Statements) → AllByRecursion P (nested_among outer ss) → AllByRecursion (NestedHere P) (phases_among every outer ss)
-  nesteds_stops P outer done all = tt
-  nesteds_stops P outer (next s rest) all =
-      let parts = all_split P (nested_in outer s) (nested_among outer rest) all in
-      all-append (NestedHere P) (phases_in every outer s) (phases_among every outer rest) (nested_stops P outer s parts.0) (nesteds_stops P outer rest parts.1)
+  every_texts : (outer : List Head) (ss : Statements) → phases_among every outer ss ≡ map as_phase (nested_among outer ss)
+  every_texts outer done = refl
+  every_texts outer (next s rest) =
+      ap (λ ps. ps ++ phases_among every outer rest) (every_text outer s) ∙ ap (λ ps. map as_phase (nested_in outer s) ++ ps) (every_texts outer rest) ∙ sym (map-append as_phase (nested_in outer s) (nested_among outer rest))
 
-each_itself : {X : Type 0} (all xs : List X) → ((x : X) → Contains xs x → Contains all x) → AllByRecursion (Contains all) xs
-each_itself all [] f = tt
-each_itself all (x ∷ xs) f = (f x (contains_here x xs), each_itself all xs (λ y c. f y (contains_later x y xs c)))
+mutual
+  stops_works : (s : Statement) → stops_in every s ≡ works_in s
+  stops_works (do_loop head body) = all_works body
+  stops_works (work w) = refl
+  stops_works (continue line) = refl
+
+  all_works : (ss : Statements) → stops_of every ss ≡ works_of ss
+  all_works done = refl
+  all_works (next s rest) = omega (arith, stops_works s, all_works rest)
+
+-- so the numbers of stops and of pieces of work rise together
+abbrev RisesWith : ℕ → ℕ → Station → Type 0
+RisesWith place first x = x.visit.first + place ≡ x.visit.place + first
+
+mutual
+  rise_of : (params : List ℤ) (s : Statement) (place first : ℕ) (loops : List ℤ) → AllByRecursion (RisesWith place first) (stations_of params every s place first loops)
+  rise_of params (do_loop head body) place first loops =
+      all_in_range (RisesWith place first) (λ n. map (push head n) (stations_in params every body place first (at_trip params head loops n))) 0 (trips_of params head loops)
+      (λ n lt. all_mapped (RisesWith place first) (RisesWith place first) (push head n) (stations_in params every body place first (at_trip params head loops n)) (λ x h. h) (rise_in params body place first (at_trip params head loops n)))
+  rise_of params (work w) place first loops = (omega arith, tt)
+  rise_of params (continue line) place first loops = tt
+
+  rise_in : (params : List ℤ) (ss : Statements) (place first : ℕ) (loops : List ℤ) → AllByRecursion (RisesWith place first) (stations_in params every ss place first loops)
+  rise_in params done place first loops = tt
+  rise_in params (next s rest) place first loops =
+      let later = stations_in params every rest (place + stops_in every s) (first + works_in s) loops in
+      all-append (RisesWith place first) (stations_of params every s place first loops) later (rise_of params s place first loops)
+      (all-weaker (RisesWith (place + stops_in every s) (first + works_in s)) (RisesWith place first) later (λ x h. omega (arith, h, stops_works s)) (rise_in params rest (place + stops_in every s) (first + works_in s) loops))
 
 -- a walk inside a statement is in its loop, at a trip of that
 abbrev pub StartsIn : List ℤ → List ℤ → Statement → List Head → List ℕ → Type 0
@@ -209,6 +229,7 @@ starts params loops (continue line) place first = tt
 pub record IsPlaced (params : List ℤ) (scope : Scope) (heads : List Head) (ns : List ℕ) (v : Visit) (i : Instance) : Type 0 where
   pub inner : Station
   pub executed : is_executed i.what i.loops params ≡ true
+  pub number : slice_get (nested_in heads v.what) (i.statement - v.first) ≡ Some (record { what = i.what; around = heads ++ inner.heads })
   pub nested : Contains (nested_in heads v.what) (record { what = i.what; around = heads ++ inner.heads })
   pub trips : AreTrips params i.loops (heads ++ inner.heads) (ns ++ inner.trips)
   pub loops_are : i.loops ≡ loops_after params v.loops inner.heads inner.trips
@@ -219,12 +240,12 @@ pub record IsPlaced (params : List ℤ) (scope : Scope) (heads : List Head) (ns 
   pub before : AllByRecursion (IsBefore low) heads
 
 work_alone : (params : List ℤ) (first : ℕ) (w : Work) (loops : List ℤ) (b : Bool) (i : Instance) → is_executed w loops params ≡ b → (if b then record { statement = first; what = w; loops = loops } ∷ [] else []) ≡ i ∷ [] →
-    (w ≡ i.what) × (loops ≡ i.loops) × (is_executed i.what i.loops params ≡ true)
+    (w ≡ i.what) × (loops ≡ i.loops) × (is_executed i.what i.loops params ≡ true) × (first ≡ i.statement)
 work_alone params first w loops true i e is =
     let same : record { statement = first; what = w; loops = loops } ≡ i = cc in
     let what = ap (λ (x : Instance). x.what) same in
     let values = ap (λ (x : Instance). x.loops) same in
-    (what, values, sym (ap (λ x. is_executed x i.loops params) what) ∙ sym (ap (λ l. is_executed w l params) values) ∙ e)
+    (what, values, sym (ap (λ x. is_executed x i.loops params) what) ∙ sym (ap (λ l. is_executed w l params) values) ∙ e, ap (λ (x : Instance). x.statement) same)
 work_alone params first w loops false i e is = absurd (let no : [] ≡ i ∷ [] = is in cc)
 
 module _ (params : List ℤ) (scope : Scope) (heads : List Head) (ns : List ℕ) (v : Visit) (number : ℕ) (context : IsInFront params scope heads ns v.loops number v.what) where
@@ -237,18 +258,27 @@ module _ (params : List ℤ) (scope : Scope) (heads : List Head) (ns : List ℕ)
       let known = all-at (IsStation params scope heads ns v.loops number (number + loops_in v.what) 1 (text_of every v.what)) (stations_of params every v.what 1 v.first v.loops) k s (each_of params scope every heads ns v.loops number 1 v.first v.what context) at in
       by s.visit.what refl known
     where
+      nested_is : (n : Nested) (w : Work) → work n.what ≡ work w → n.around ≡ heads ++ s.heads → w ≡ i.what → n ≡ record { what = i.what; around = heads ++ s.heads }
+      nested_is n w same around what =
+          let inner : n.what ≡ w = cc in
+          ap (λ x. record { what = x; around = n.around }) (inner ∙ what) ∙ ap (λ hs. record { what = i.what; around = hs }) around
+
       by : (what : Statement) → s.visit.what ≡ what → IsStation params scope heads ns v.loops number (number + loops_in v.what) 1 (text_of every v.what) s → (p : IsPlaced params scope heads ns v i) × (p.inner ≡ s)
       by (do_loop head body) e known = absurd (let no : [] ≡ i ∷ [] = sym (ap (λ w. executed_at params s.visit.first w s.visit.loops) e) ∙ is in cc)
       by (work w) e known =
           let alone = work_alone params s.visit.first w s.visit.loops (is_executed w s.visit.loops params) i refl (sym (ap (λ w. executed_at params s.visit.first w s.visit.loops) e) ∙ is) in
           let text = ap (λ x. slice_get x (s.visit.place - 1)) (phases_in-within every heads v.what) ∙ mapped_get (within heads) (text_of every v.what) (s.visit.place - 1) (record { what = s.visit.what; outer = s.heads }) known.at in
-          let there = all-at (NestedHere (Contains (nested_in heads v.what))) (phases_in every heads v.what) (s.visit.place - 1) (record { what = s.visit.what; outer = heads ++ s.heads })
-          (nested_stops (Contains (nested_in heads v.what)) heads v.what (each_itself (nested_in heads v.what) (nested_in heads v.what) (λ x c. c))) text in
-          let there' : NestedAt (Contains (nested_in heads v.what)) (heads ++ s.heads) (work w) = subst (λ x. NestedAt (Contains (nested_in heads v.what)) (heads ++ s.heads) x) e there in (
+          let m = mapped as_phase (nested_in heads v.what) (s.visit.place - 1) (record { what = s.visit.what; outer = heads ++ s.heads }) (ap (λ ps. slice_get ps (s.visit.place - 1)) (sym (every_text heads v.what)) ∙ text) in
+          let same : work m.0.what ≡ work w = ap (λ (x : StaticPhase). x.what) m.2 ∙ e in
+          let nested : m.0 ≡ record { what = i.what; around = heads ++ s.heads } = nested_is m.0 w same (ap (λ (x : StaticPhase). x.outer) m.2) alone.0 in
+          let rises = all-at (RisesWith 1 v.first) (stations_of params every v.what 1 v.first v.loops) k s (rise_of params v.what 1 v.first v.loops) at in
+          let index : s.visit.place - 1 ≡ i.statement - v.first = omega (arith, rises, alone.3, known.low) in
+          let stands : slice_get (nested_in heads v.what) (i.statement - v.first) ≡ Some (record { what = i.what; around = heads ++ s.heads }) = ap (slice_get (nested_in heads v.what)) (sym index) ∙ m.1 ∙ ap Some nested in (
             record {
               inner = s;
               executed = alone.2;
-              nested = subst (λ x. Contains (nested_in heads v.what) (record { what = x; around = heads ++ s.heads })) alone.0 there';
+              number = stands;
+              nested = get_contains (nested_in heads v.what) (i.statement - v.first) (record { what = i.what; around = heads ++ s.heads }) stands;
               trips = subst (λ l. AreTrips params l (heads ++ s.heads) (ns ++ s.trips)) alone.1 known.context.trips;
               loops_are = sym alone.1 ∙ known.loops_are;
               starts_in = all-at (λ (x : Station). StartsIn params v.loops v.what x.heads x.trips) (stations_of params every v.what 1 v.first v.loops) k s (starts params v.loops v.what 1 v.first) at;

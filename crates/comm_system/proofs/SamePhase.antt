@@ -1,16 +1,19 @@
 -- Two executions of one phase that conflict have one owner, where no system of two trips has a whole solution.
-use Rattle.std.proofs.Common.{◌≡◌, ℕ, suc, ◌+◌, ◌-◌, ◌≤◌, ◌⊎◌, ℤ, true, true≢false, Some, List, [], ◌∷◌, ◌++◌, length, map, if◌then◌else◌, refl, ap, sym, ◌∙◌, subst, inl, inr, arith}
+use Rattle.std.proofs.Common.{◌≡◌, ℕ, suc, ◌+◌, ◌-◌, ◌<◌, ◌≤◌, ◌⊎◌, ◌&&◌, ◌||◌, not, nat_lt, unsigned_abs, ℤ, ◌+ℤ◌, Bool, true, false, true≢false, Some, List, [], ◌∷◌, ◌++◌, length, map, if◌then◌else◌, refl, ap, sym, ◌∙◌, subst, inl, inr, arith}
 use Rattle.std.specs.List.{AllByRecursion, Contains, flat_map, slice_get}
-use Rattle.std.proofs.lemmas.Bool.{cases_Bool, cases_eq, ltb-true}
+use Rattle.std.proofs.lemmas.Bool.{and_parts, cases_Bool, cases_eq, ltb-true}
 use Rattle.std.proofs.lemmas.List.Elements.{Contains-append_left}
-use Rattle.nest_tree.specs.Form.{numbered}
+use Rattle.nest_tree.specs.Form.{Form, form_value, is_small, numbered}
 use Rattle.nest_tree.specs.Layout.{count_of}
 use Rattle.nest_tree.specs.Tree.{Head, Statement, Statements, do_loop, work, continue, Tree, param_values}
-use Rattle.nest_tree.specs.WellFormed.{IsWellFormed, names_only, scope_of}
-use Rattle.nest_model.specs.Instances.{Instance, no_values}
+use Rattle.nest_tree.specs.WellFormed.{IsWellFormed, is_good_statement, names_only, scope_of}
+use Rattle.nest_tree.proofs.Good.{good_loop}
+use Rattle.nest_model.specs.Instances.{Instance, no_values, trip_count}
 use Rattle.nest_model.specs.Ranges.{IsInRange}
 use Rattle.nest_model.specs.Visits.{Visit}
+use Rattle.nest_rows.specs.Nested.{AreTrips, IsTrip}
 use Rattle.nest_rows.proofs.Dots.{numbers}
+use Rattle.nest_rows.proofs.GoodNesting.{form-among}
 use Rattle.nest_rows.proofs.Nesting.{all-append}
 use Rattle.farkas_cert.specs.Inequalities.{HasNoWholeSolution}
 use Rattle.owner_partition.specs.declared.anchor.Anchor.{Anchor}
@@ -19,23 +22,25 @@ use Rattle.owner_partition.specs.Owners.{anchor_owner, dealt}
 use Rattle.owner_partition.specs.Phases.{phase_instances, phases}
 use Rattle.sync_plan.specs.declared.plan.Plan.{Plan}
 use Rattle.sync_plan.specs.Fit.{IsFit, is_dealt}
-use Rattle.sync_plan.proofs.NoOwn.{seen_conflict}
 use Rattle.sync_plan.specs.Ordered.{IsChain, IsOrdered, owner_under}
 use Rattle.comm_system.specs.Levels.{two_trips}
-use Rattle.comm_system.specs.Meetings.{AreSame, IsEarlier, values_of}
+use Rattle.comm_system.specs.Meetings.{AreSame, IsEarlier, IsPast, values_of}
 use Rattle.comm_system.specs.Obligations.{Task, anchor_at, slot_signature, slot_tasks, slots_of, tasks_of, trips_task, trips_tasks}
-use Rattle.comm_system.specs.Pairs.{Pair, pairs_of}
-use Rattle.comm_system.specs.References.{StaticPhase, phases_of}
-use Rattle.comm_system.proofs.Accesses.{IsExecutedAt, executed_at_station, nested_good, phase_there, point_at, station_known}
+use Rattle.comm_system.specs.Pairs.{Pair, pairs_within}
+use Rattle.comm_system.specs.References.{StaticPhase, phases_of, references_of, variable_of}
+use Rattle.comm_system.specs.Shown.{is_own_in, is_private_in, is_summed, shared_of}
+use Rattle.comm_system.proofs.Accesses.{IsExecutedAt, executed_at_station, pair_there, phase_there, point_at, station_known}
 use Rattle.comm_system.proofs.Certain.{valid-length}
 use Rattle.comm_system.proofs.Contexts.{IsInFront, loop_number}
 use Rattle.comm_system.proofs.Different.{keeps}
 use Rattle.comm_system.proofs.Holders.{form_keeps}
-use Rattle.comm_system.proofs.Lists.{get_contains, in_flat_map, in_map}
+use Rattle.comm_system.proofs.LastTrips.{none_later}
+use Rattle.comm_system.proofs.Lists.{get_contains, in_filter, in_flat_map, in_map}
 use Rattle.comm_system.proofs.Meets.{trips_meet}
-use Rattle.comm_system.proofs.Ordered.{Conflicting, anchor_there, meeting, meeting_pair, owner_is, same_further}
-use Rattle.comm_system.proofs.Owners.{anchor_named, outer_named, own_heads, visit_at}
+use Rattle.comm_system.proofs.Ordered.{Conflicting, anchor_there, conflict_so, meeting, owner_is, same_further}
+use Rattle.comm_system.proofs.Owners.{anchor_named, around_among, as_many, outer_named, own_heads, there, visit_at}
 use Rattle.comm_system.proofs.Places.{InOrder, IsPlaced, StartsIn, in_order, instances_placed, kept_after}
+use Rattle.comm_system.proofs.SeenAccesses.{IsOwnLast, sum_seen}
 use Rattle.comm_system.proofs.StationFacts.{Deepens, loops_after}
 use Rattle.comm_system.proofs.StationOrder.{Comes, comes, comes_earlier}
 use Rattle.comm_system.proofs.Stations.{Station, at_trip, stations_in}
@@ -65,6 +70,23 @@ started_value params L head body (h ∷ hs) [] low high a d some = absurd a
 started_value params L head body (h ∷ hs) (n ∷ ns) low high a d some =
     let deeper : Deepens (head.number + 1) high hs = subst (λ x. Deepens (x + 1) high hs) (ap (λ (x : Head). x.number) a.0) d.2 in
     ap (λ x. numbered (loops_after params (at_trip params x L n) hs ns) head.number) a.0 ∙ kept_after params (at_trip params head L n) hs ns head.number (head.number + 1) high some (omega arith) deeper
+
+-- the trip of the first loop behind these
+trips_behind : (params L : List ℤ) (hs gs : List Head) (ts ms : List ℕ) → length ts ≡ length hs → AreTrips params L (hs ++ gs) (ts ++ ms) → AreTrips params L gs ms
+trips_behind params L [] gs [] ms long t = t
+trips_behind params L [] gs (n ∷ ts) ms long t = absurd (omega (arith, long))
+trips_behind params L (h ∷ hs) gs [] ms long t = absurd (omega (arith, long))
+trips_behind params L (h ∷ hs) gs (n ∷ ts) ms long t = trips_behind params L hs gs ts ms (omega (arith, long)) t.1
+
+own_trip : (params L M : List ℤ) (head : Head) (body : Statements) (hs : List Head) (ns : List ℕ) → StartsIn params M (do_loop head body) hs ns → AreTrips params L hs ns → IsTrip params L head (first_trip ns)
+own_trip params L M head body [] ns a t = absurd a
+own_trip params L M head body (h ∷ hs) [] a t = absurd a
+own_trip params L M head body (h ∷ hs) (n ∷ ns) a t = subst (λ x. IsTrip params L x n) a.0 t.0
+
+first_earlier : (ns ms : List ℕ) → IsEarlier 0 ns ms → first_trip ns < first_trip ms
+first_earlier [] ms e = absurd e
+first_earlier (n ∷ ns) [] e = absurd e
+first_earlier (n ∷ ns) (m ∷ ms) e = e
 
 earlier_behind : (ts ns ms : List ℕ) → IsEarlier 0 ns ms → IsEarlier (length ts) (ts ++ ns) (ts ++ ms)
 earlier_behind [] ns ms e = e
@@ -98,9 +120,9 @@ module _ (tree : Tree) (plan : Plan) (formed : IsWellFormed tree) (fits : IsFit 
       let a = anchor_at plan s.visit.place in
       ap (λ w. count_of (dealt a.dist plan.workers w)) (form_keeps (length (param_values tree)) hs i.loops j.loops (param_values tree) a.form named values)
 
-  -- where two trips of the phase's loop meet
-  two_trips_meet : is_dealt plan.cut.marks s.visit.what ≡ true → Conflicting tree phase phase (s.heads ++ p.inner.heads) (s.heads ++ q.inner.heads) i j → IsEarlier 0 p.inner.trips q.inner.trips → ⊥
-  two_trips_meet is c earlier =
+  -- where two trips of the phase's loop meet at a cell that all share
+  two_trips_meet : is_dealt plan.cut.marks s.visit.what ≡ true → (cell : ℕ) (c : Conflicting tree plan.cut phase phase (s.heads ++ p.inner.heads) (s.heads ++ q.inner.heads) i j cell) → is_own_in plan.cut phase c.a ≡ false → IsEarlier 0 p.inner.trips q.inner.trips → ⊥
+  two_trips_meet is cell c shared earlier =
       let params = param_values tree in
       let known = station_known tree plan.cut.marks formed e s at in
       let long = valid-length params (no_values tree) s.heads s.trips known.valid in
@@ -109,20 +131,45 @@ module _ (tree : Tree) (plan : Plan) (formed : IsWellFormed tree) (fits : IsFit 
       let pair : Pair = record { first = c.a; second = c.b } in
       let X = point_at i (s.trips ++ p.inner.trips) c.first.touches.free in
       let Y = point_at j (s.trips ++ q.inner.trips) c.second.touches.free in
-      let meet = meeting tree phase phase (s.heads ++ p.inner.heads) (s.heads ++ q.inner.heads) i j c (s.trips ++ p.inner.trips) (s.trips ++ q.inner.trips) (two_trips (length s.heads)) p.trips q.trips same (λ e. early) in
+      let meet = meeting tree plan.cut phase phase (s.heads ++ p.inner.heads) (s.heads ++ q.inner.heads) i j cell c (s.trips ++ p.inner.trips) (s.trips ++ q.inner.trips) (two_trips (length s.heads)) (false, false) p.trips q.trips same (λ e. early) tt tt in
       let here = get_contains (phases_of tree plan.cut.marks) (s.visit.place - 1) phase (phase_there tree plan.cut.marks formed e s at) in
-      let among = meeting_pair tree phase phase (s.heads ++ p.inner.heads) (s.heads ++ q.inner.heads) i j c in
+      let first = in_filter (λ r. not (is_own_in plan.cut phase r)) (references_of phase) c.a c.first.among (ap not shared) in
+      let among : Contains (pairs_within plan.cut phase) pair = pair_there (shared_of plan.cut phase) (references_of phase) c.a c.b first c.second.among (conflict_so tree plan.cut phase phase (s.heads ++ p.inner.heads) (s.heads ++ q.inner.heads) i j cell c) in
       let solved = trips_meet tree plan phase pair X Y formed fits here among meet in
-      let task = in_map (trips_task tree plan phase) (pairs_of phase phase) pair among in
-      let task' : Contains (trips_tasks tree plan phase) (trips_task tree plan phase pair) = subst (λ b. Contains (if b then map (trips_task tree plan phase) (pairs_of phase phase) else []) (trips_task tree plan phase pair)) (sym is) task in
+      let task = in_map (trips_task tree plan phase) (pairs_within plan.cut phase) pair among in
+      let task' : Contains (trips_tasks tree plan phase) (trips_task tree plan phase pair) = subst (λ b. Contains (if b then map (trips_task tree plan phase) (pairs_within plan.cut phase) else []) (trips_task tree plan phase pair)) (sym is) task in
       let all = phases_of tree plan.cut.marks in
       let there = Contains-append_left (flat_map (trips_tasks tree plan) all) (flat_map (λ slot. slot_tasks tree plan slot (slot_signature plan.version plan.kinds all slot)) (slots_of all)) (trips_task tree plan phase pair)
       (in_flat_map (trips_tasks tree plan) all phase (trips_task tree plan phase pair) here task') in
       none (trips_task tree plan phase pair) there (values_of tree pair X Y []) solved
 
-  pub one_owner : Conflicting tree (record { what = s.visit.what; outer = s.heads }) (record { what = s.visit.what; outer = s.heads }) (s.heads ++ p.inner.heads) (s.heads ++ q.inner.heads) i j →
+  -- no trip comes behind that of a private scalar's access
+  none_behind : (head : Head) (body : Statements) → s.visit.what ≡ do_loop head body → IsOwnLast true (param_values tree) s.visit.what i.loops → IsEarlier 0 p.inner.trips q.inner.trips → ⊥
+  none_behind head body what last earlier =
+      let params = param_values tree in
+      let known = station_known tree plan.cut.marks formed e s at in
+      let long = valid-length params (no_values tree) s.heads s.trips known.valid in
+      let f = there tree plan formed fits e s at in
+      let good = good_loop (scope_of tree) f.there.around f.there.number head body (ap (is_good_statement (scope_of tree) f.there.around f.there.number) (sym what) ∙ f.there.good) in
+      let bounds = and_parts (names_only (length tree.params) f.there.around head.m1 && names_only (length tree.params) f.there.around head.m2 && nat_lt 0 (unsigned_abs head.step)) (is_small head.step) good.bounds in
+      let moves = and_parts (names_only (length tree.params) f.there.around head.m1 && names_only (length tree.params) f.there.around head.m2) (nat_lt 0 (unsigned_abs head.step)) bounds.0 in
+      let ends = and_parts (names_only (length tree.params) f.there.around head.m1) (names_only (length tree.params) f.there.around head.m2) moves.0 in
+      let same_value = λ (form : Form) (named : names_only (length tree.params) f.there.around form ≡ true).
+      form_keeps (length params) s.heads i.loops j.loops params form
+      (subst (λ n. names_only n (numbers s.heads) form ≡ true) (as_many tree plan formed fits e s at) (form-among (length tree.params) f.there.around (numbers s.heads) form (around_among tree plan formed fits e s at) named)) outer_values in
+      let a : StartsIn params s.visit.loops (do_loop head body) p.inner.heads p.inner.trips = subst (λ w. StartsIn params s.visit.loops w p.inner.heads p.inner.trips) what p.starts_in in
+      let b : StartsIn params s.visit.loops (do_loop head body) q.inner.heads q.inner.trips = subst (λ w. StartsIn params s.visit.loops w q.inner.heads q.inner.trips) what q.starts_in in
+      let one = own_trip params i.loops s.visit.loops head body p.inner.heads p.inner.trips a (trips_behind params i.loops s.heads p.inner.heads s.trips p.inner.trips long p.trips) in
+      let two = own_trip params j.loops s.visit.loops head body q.inner.heads q.inner.trips b (trips_behind params j.loops s.heads q.inner.heads s.trips q.inner.trips long q.trips) in
+      let count : trip_count (form_value head.m1 j.loops params) (form_value head.m2 j.loops params) head.step ≡ trip_count (form_value head.m1 i.loops params) (form_value head.m2 i.loops params) head.step =
+      ap (λ z. trip_count z (form_value head.m2 j.loops params) head.step) (sym (same_value head.m1 ends.0)) ∙ ap (λ z. trip_count (form_value head.m1 i.loops params) z head.step) (sym (same_value head.m2 ends.1)) in
+      let past : IsPast head.step (numbered i.loops head.number +ℤ head.step) (form_value head.m2 i.loops params) = subst (λ w. IsOwnLast true params w i.loops) what last in
+      none_later (form_value head.m1 i.loops params) (form_value head.m2 i.loops params) head.step (numbered i.loops head.number) (first_trip p.inner.trips) (first_trip q.inner.trips) (ltb-true 0 (unsigned_abs head.step) moves.1) past one.value (first_earlier p.inner.trips q.inner.trips earlier)
+      (subst (λ n. first_trip q.inner.trips < n) count two.within)
+
+  pub one_owner : (cell : ℕ) (c : Conflicting tree plan.cut (record { what = s.visit.what; outer = s.heads }) (record { what = s.visit.what; outer = s.heads }) (s.heads ++ p.inner.heads) (s.heads ++ q.inner.heads) i j cell) → (is_summed plan.cut s.visit.what (variable_of c.a.what) ≡ true → ⊥) →
       anchor_owner (anchor_at plan s.visit.place) plan.workers i.loops (param_values tree) ≡ anchor_owner (anchor_at plan s.visit.place) plan.workers j.loops (param_values tree)
-  one_owner c = elim (cases_Bool (is_dealt plan.cut.marks s.visit.what)) [
+  one_owner cell c unsummed = elim (cases_Bool (is_dealt plan.cut.marks s.visit.what)) [
     | inr still ↦ same_owner s.heads (outer_named tree plan formed fits e s at (anchor_at plan s.visit.place) (anchor_there tree plan formed fits e s at) still) outer_values
     | inl is ↦ by s.visit.what refl is
   ]
@@ -144,13 +191,25 @@ module _ (tree : Tree) (plan : Plan) (formed : IsWellFormed tree) (fits : IsFit 
           let value_j = ap (λ l. numbered l head.number) q.loops_are ∙ started_value params s.visit.loops head body q.inner.heads q.inner.trips q.low q.high b q.deepens some in
           choose head named value_i value_j (trips_rise params s.visit.loops head body p.inner.heads p.inner.trips p.inner.visit.place q.inner.heads q.inner.trips q.inner.visit.place a b rises) is
         where
+          none_in : (what : Statement) → s.visit.what ≡ what → IsOwnLast true (param_values tree) s.visit.what i.loops → IsEarlier 0 p.inner.trips q.inner.trips → ⊥
+          none_in (do_loop h b) same last earlier = none_behind h b same last earlier
+          none_in (work w) same last earlier = absurd (subst (λ x. IsOwnLast true (param_values tree) x i.loops) same last)
+          none_in (continue line) same last earlier = absurd (subst (λ x. IsOwnLast true (param_values tree) x i.loops) same last)
+
+          neither_own : (b : Bool) → is_private_in plan.cut phase c.a ≡ false → (b ≡ true → ⊥) → (is_private_in plan.cut phase c.a || b) ≡ false
+          neither_own true plain unsummed = absurd (unsummed refl)
+          neither_own false plain unsummed = ap (λ x. x || false) plain
+
           choose : (head : Head) → names_only (length (param_values tree)) (numbers (s.heads ++ head ∷ [])) (anchor_at plan s.visit.place).form ≡ true → numbered i.loops head.number ≡ numbered (at_trip (param_values tree) head s.visit.loops (first_trip p.inner.trips)) head.number →
               numbered j.loops head.number ≡ numbered (at_trip (param_values tree) head s.visit.loops (first_trip q.inner.trips)) head.number → (first_trip p.inner.trips ≡ first_trip q.inner.trips) ⊎ IsEarlier 0 p.inner.trips q.inner.trips → is_dealt plan.cut.marks s.visit.what ≡ true →
               anchor_owner (anchor_at plan s.visit.place) plan.workers i.loops (param_values tree) ≡ anchor_owner (anchor_at plan s.visit.place) plan.workers j.loops (param_values tree)
           choose head named vi vj (inl equal) is =
               same_owner (s.heads ++ head ∷ []) named (all-append (λ h. numbered i.loops h.number ≡ numbered j.loops h.number) s.heads (head ∷ []) outer_values
               (vi ∙ ap (λ n. numbered (at_trip (param_values tree) head s.visit.loops n) head.number) equal ∙ sym vj, tt))
-          choose head named vi vj (inr earlier) is = absurd (two_trips_meet is c earlier)
+          choose head named vi vj (inr earlier) is = elim (cases_Bool (is_private_in plan.cut phase c.a)) [
+            | inl private ↦ absurd (none_in s.visit.what refl (subst (λ b. IsOwnLast b (param_values tree) s.visit.what i.loops) private c.first_seen.own) earlier)
+            | inr plain ↦ absurd (two_trips_meet is cell c (neither_own (is_summed plan.cut s.visit.what (variable_of c.a.what)) plain unsummed) earlier)
+          ]
 
 -- ---- the plan is ordered
 
@@ -160,7 +219,6 @@ some_same v w e = cc
 pub obligations_order : (tree : Tree) (plan : Plan) → IsWellFormed tree → IsInRange tree → IsFit tree plan → ((task : Task) → Contains (tasks_of tree plan) task → HasNoWholeSolution task.system) → IsOrdered tree plan
 obligations_order tree plan formed ranged fits none j k x y lt at at' seen apart =
     let params = param_values tree in
-    let conflict = seen_conflict tree plan x y fits seen in
     let o = in_order params 1 (phases tree plan.cut.marks) x y j k lt at at' in
     let hx = executed_at_station tree plan.cut.marks formed ranged x j at o.first in
     let hy = executed_at_station tree plan.cut.marks formed ranged y k at' o.second in
@@ -168,7 +226,7 @@ obligations_order tree plan formed ranged fits none j k x y lt at at' seen apart
     let phase_y : suc o.second.phase ≡ y.phase = omega (arith, o.second.phase_is) in
     elim (cases_eq o.first.phase o.second.phase) [
       | inr ne ↦
-          let chain = later_phase tree plan formed fits none x y o.first.phase o.second.phase hx hy (omega (arith, o.phases, ne)) conflict apart in
+          let chain = later_phase tree plan formed fits none x y o.first.phase o.second.phase hx hy (omega (arith, o.phases, ne)) seen apart in
           (chain.0, subst (λ e. IsChain tree plan (owner_under tree plan x) e chain.0 (owner_under tree plan y) y.phase) phase_x (subst (λ t. IsChain tree plan (owner_under tree plan x) (suc o.first.phase) chain.0 (owner_under tree plan y) t) phase_y chain.1))
       | inl same ↦ absurd (apart (together o hx hy same))
     ]
@@ -190,5 +248,7 @@ obligations_order tree plan formed ranged fits none j k x y lt at at' seen apart
         let place_y : y.place ≡ s.visit.place = o.second.place_is ∙ ap (λ (v : Visit). v.place) (sym visit_y) in
         let iy : IsExecutedAt tree plan.cut.marks y e = record { station = s; at = hx.at; place_is = place_y; placed = q; inside = hy.inside } in
         let phase : StaticPhase = record { what = s.visit.what; outer = s.heads } in
-        let c = conflicting tree x.instance y.instance phase phase (s.heads ++ p.inner.heads) (s.heads ++ q.inner.heads) p.nested q.nested (nested_good tree plan.cut.marks formed x e ix) (nested_good tree plan.cut.marks formed y e iy) p.executed q.executed hx.inside hy.inside (seen_conflict tree plan x y fits seen) in
-        owner_is tree plan formed fits x e s hx.at hx.place_is ∙ one_owner tree plan formed fits none e s hx.at x.instance y.instance p q placed.1.1 c ∙ sym (owner_is tree plan formed fits y e s hx.at place_y)
+        let c = conflicting tree plan formed fits x y e e ix iy seen in
+        let phase_same : x.phase ≡ y.phase = omega (arith, o.first.phase_is, o.second.phase_is, same) in
+        let unsummed = λ (summed : is_summed plan.cut s.visit.what (variable_of c.a.what) ≡ true). seen.apart (sum_seen tree plan formed fits x e ix seen.cell c.a c.first summed) phase_same in
+        owner_is tree plan formed fits x e s hx.at hx.place_is ∙ one_owner tree plan formed fits none e s hx.at x.instance y.instance p q placed.1.1 seen.cell c unsummed ∙ sym (owner_is tree plan formed fits y e s hx.at place_y)

@@ -71,7 +71,7 @@ module _ (tree : Tree) (plan : Plan) where
       (in_flat_map (λ slot. slot_tasks tree plan slot (slot_signature plan.version plan.kinds phases slot)) (slots_of phases) slot task there among)
 
   -- each piece of a pair has its task
-  pub pieces_tasks : (slot : Slot) (left right : ℕ) (producers : List (Anchor × Side)) (pair : Pair) → Contains (slots_of (phases_of tree plan.cut.marks)) slot → slot_signature plan.version plan.kinds (phases_of tree plan.cut.marks) slot ≡ waits left right producers → Contains (pairs_of slot.first slot.second) pair →
+  pub pieces_tasks : (slot : Slot) (left right : ℕ) (producers : List (Anchor × Side)) (pair : Pair) → Contains (slots_of (phases_of tree plan.cut.marks)) slot → slot_signature plan.version plan.kinds (phases_of tree plan.cut.marks) slot ≡ waits left right producers → Contains (pairs_of plan.cut slot.first slot.second) pair →
       AllByRecursion (λ p. (k : ℕ) × Contains (tasks_of tree plan) (piece_task tree plan slot left right producers pair k p)) (pieces (length producers))
   pieces_tasks slot left right producers pair there is among =
       all-weaker (λ p. (k : ℕ) × Contains (pair_tasks tree plan slot left right producers pair) (piece_task tree plan slot left right producers pair k p)) (λ p. (k : ℕ) × Contains (tasks_of tree plan) (piece_task tree plan slot left right producers pair k p)) (pieces (length producers))
@@ -79,6 +79,6 @@ module _ (tree : Tree) (plan : Plan) where
         h.0,
         slot_task slot (piece_task tree plan slot left right producers pair h.0 p) there
             (subst (λ sig. Contains (slot_tasks tree plan slot sig) (piece_task tree plan slot left right producers pair h.0 p)) (sym is)
-            (in_flat_map (pair_tasks tree plan slot left right producers) (pairs_of slot.first slot.second) pair (piece_task tree plan slot left right producers pair h.0 p) among h.1)),
+            (in_flat_map (pair_tasks tree plan slot left right producers) (pairs_of plan.cut slot.first slot.second) pair (piece_task tree plan slot left right producers pair h.0 p) among h.1)),
       ))
       (pieces_there (piece_task tree plan slot left right producers pair) 1 (pieces (length producers)))

@@ -23,15 +23,15 @@ use Rattle.sync_plan.specs.declared.plan.Conditions.TheVariants.{Values, Rows}
 use Rattle.sync_plan.specs.Fit.{meets, unmet, unmet_among}
 use Rattle.sync_plan.specs.Shape.{is_good_row}
 use Rattle.comm_system.specs.Levels.{Order}
-use Rattle.comm_system.specs.Meetings.{AreFree, AreSame, Holder, IsEarlier, IsEarlierWhere, IsMadeAt, Meet, Point, holder_values, holders_values, point_values, subscripts_at, values_of}
+use Rattle.comm_system.specs.Meetings.{AreFree, AreSame, Holder, IsEarlier, IsEarlierWhere, IsInLastTripWhere, IsMadeAt, Meet, Point, holder_values, holders_values, point_values, subscripts_at, values_of}
 use Rattle.comm_system.specs.OwnerRows.{Placed, owners_unknowns}
-use Rattle.comm_system.specs.PairRows.{behind_pair, conditions_have, first_of, free_bounds, free_have, instance_has, ordered_so, pair_rows, same_element, second_of, subscripts_of, sum_of, unknowns_of}
+use Rattle.comm_system.specs.PairRows.{behind_pair, conditions_have, first_of, free_bounds, free_have, instance_has, last_has, ordered_so, pair_rows, same_element, second_of, subscripts_of, sum_of, unknowns_of}
 use Rattle.comm_system.specs.Pairs.{Pair}
 use Rattle.comm_system.specs.References.{Reference}
 use Rattle.comm_system.proofs.Lies.{LiesAt, laid-length, laid_there, lies-left, lies-right, lies_behind}
 use Rattle.comm_system.proofs.OwnersMet.{AreSeated, holder-length}
-use Rattle.comm_system.proofs.PairMet.{element_met, forms_valued, free_met, free_valued, order_met, sum_value}
-use Rattle.comm_system.proofs.PairOver.{IsSumOver, are_over, depth_of, element_over, free_over, free_sums_over, lists_over, order_over}
+use Rattle.comm_system.proofs.PairMet.{element_met, forms_valued, free_met, free_valued, last_trip_met, order_met, sum_value}
+use Rattle.comm_system.proofs.PairOver.{IsSumOver, are_over, depth_of, element_over, free_over, free_sums_over, last_trip_over, lists_over, order_over}
 use Rattle.nest_rows.proofs.Dots.{constants-in-front, dot-constants}
 use Rattle.nest_rows.proofs.Over.{number-from}
 
@@ -118,8 +118,8 @@ module _ (tree : Tree) (values : List ℤ) (first : ℕ) (a : Reference) (x : Po
       let place : first + length (laid x.loops a.around x.trips) ≡ first + 2 * length a.around = omega (arith, laid-length (param_values tree) x.loops a.around x.trips made.trips) in
       subst (λ n. LiesAt values n x.free) place (lies-right values first (laid x.loops a.around x.trips) x.free lies)
 
-  pub access_met : AllByRecursion (IsMet values) (instance_has tree first a)
-  access_met =
+  pub access_met : (last : Bool) → IsInLastTripWhere last (param_values tree) x.loops a.around → AllByRecursion (IsMet values) (instance_has tree first last a)
+  access_met last is =
       let params = param_values tree in
       let L = loops_have first a.around first a.around in
       let F = free_have (first + 2 * length a.around) (free_bounds tree a.what) in
@@ -127,7 +127,8 @@ module _ (tree : Tree) (values : List ℤ) (first : ℕ) (a : Reference) (x : Po
       let l = loops_met values first x.loops a.around x.trips params loops_laid constants first a.around x.trips loops_laid good.heads made.trips in
       let f = free_met values (first + 2 * length a.around) (free_bounds tree a.what) x.free free_lies made.free in
       let g = guard_met values first x.loops a.around x.trips params loops_laid constants ranks a.guard good.guard made.executed in
-      both_met values (L ++ F) G (both_met values L F l f) g
+      let t = last_trip_met values first x.loops a.around x.trips params loops_laid constants last good.heads is in
+      both_met values ((L ++ F) ++ G) (last_has last first a.around) (both_met values (L ++ F) G (both_met values L F l f) g) t
 
   pub access_valued : map (sum_value values) (subscripts_of tree first a.around a.what) ≡ subscripts_at tree a.what x
   access_valued = by a.what good.named made.free
@@ -137,8 +138,8 @@ module _ (tree : Tree) (values : List ℤ) (first : ℕ) (a : Reference) (x : Po
       by (array variable) named free = free_valued values (first + 2 * length a.around) (bounds_of tree variable) x.free free_lies free
 
 module _ (tree : Tree) (vars first : ℕ) (a : Reference) (ranks : List ℕ) (good : IsGoodReference (length (param_values tree)) ranks a) (few : length (param_values tree) ≤ vars) (low : 1 ≤ first) (room : first + unknowns_of tree a ≤ vars + 1) where
-  access_over : list_all (is_over vars) (instance_has tree first a) ≡ true
-  access_over =
+  access_over : (last : Bool) → list_all (is_over vars) (instance_has tree first last a) ≡ true
+  access_over last =
       let C = length (param_values tree) in
       let L = loops_have first a.around first a.around in
       let F = free_have (first + 2 * length a.around) (free_bounds tree a.what) in
@@ -147,7 +148,8 @@ module _ (tree : Tree) (vars first : ℕ) (a : Reference) (ranks : List ℕ) (go
       let l = loops_have-over vars C first a.around low few inside first a.around low inside good.heads in
       let f = free_over vars (first + 2 * length a.around) (free_bounds tree a.what) (omega (arith, low)) (omega (arith, room)) in
       let g = guard-over vars C first a.around low few inside a.guard (λ x e. sym (ap (is_good_guard (record { constants = C; ranks = ranks }) (numbers a.around)) e) ∙ good.guard) in
-      lists_over vars (L ++ F) G (lists_over vars L F l f) g
+      let t = last_trip_over vars C first a.around low few inside last good.heads in
+      lists_over vars ((L ++ F) ++ G) (last_has last first a.around) (lists_over vars (L ++ F) G (lists_over vars L F l f) g) t
 
   subscripts_over : AllByRecursion (IsSumOver vars) (subscripts_of tree first a.around a.what)
   subscripts_over = by a.what good.named (omega (arith, room))
@@ -193,7 +195,7 @@ seated-length values params workers (p ∷ placed) [] h = absurd h
 seated-length values params workers (p ∷ placed) (o ∷ os) h = omega (arith, length-append (holder_values p.anchor.dist o) (holders_values placed os), holder-length p.anchor.dist o, seated-length values params workers placed os h.1)
 
 -- what is known of a pair whose accesses meet
-module _ (tree : Tree) (conditions : Conditions) (order : Order) (pair : Pair) (x y : Point) (ranks : List ℕ) (meet : Meet tree order pair x y) (goods : AreGoodConditions (length (param_values tree)) conditions) (none : unmet (param_values tree) conditions ≡ None)
+module _ (tree : Tree) (conditions : Conditions) (order : Order) (lasts : Bool × Bool) (pair : Pair) (x y : Point) (ranks : List ℕ) (meet : Meet tree order lasts pair x y) (goods : AreGoodConditions (length (param_values tree)) conditions) (none : unmet (param_values tree) conditions ≡ None)
     (good : IsGoodReference (length (param_values tree)) ranks pair.first) (good' : IsGoodReference (length (param_values tree)) ranks pair.second) (owners : List ℤ) where
   abbrev vs : List ℤ
   vs = values_of tree pair x y owners
@@ -234,15 +236,15 @@ module _ (tree : Tree) (conditions : Conditions) (order : Order) (pair : Pair) (
       let B = point_values pair.second.around y in
       omega (arith, as_many, length-append (param_values tree) (A ++ (B ++ owners)), length-append A (B ++ owners), length-append B owners, point-length pair.first x meet.first, point-length pair.second y meet.second)
 
-  pub pair_met : AllByRecursion (IsMet vs) (pair_rows tree conditions order pair)
+  pub pair_met : AllByRecursion (IsMet vs) (pair_rows tree conditions order lasts pair)
   pair_met =
       let m = first_of tree in
       let n = second_of tree pair in
       let a = pair.first in
       let b = pair.second in
       let C = conditions_have (param_values tree) conditions in
-      let I = instance_has tree m a in
-      let J = instance_has tree n b in
+      let I = instance_has tree m lasts.0 a in
+      let J = instance_has tree n lasts.1 b in
       let E = same_element (subscripts_of tree m a.around a.what) (subscripts_of tree n b.around b.what) in
       let O = ordered_so m n order in
       let rest = point_values a.around x ++ (point_values b.around y ++ owners) in
@@ -250,23 +252,23 @@ module _ (tree : Tree) (conditions : Conditions) (order : Order) (pair : Pair) (
       let place : 1 + k - 1 ≡ k = omega arith in
       ap (λ j. get_or vs j (pos 0)) place ∙ get_or_append_left (param_values tree) rest (pos 0) k lt ∙ get_or_default (param_values tree) k (pos 0) d lt in
       let c = conditions_met vs (param_values tree) conditions constants_known values_at goods none in
-      let i = access_met tree vs m a x ranks constants_known good meet.first first_lies in
-      let j = access_met tree vs n b y ranks constants_known good' meet.second second_lies in
+      let i = access_met tree vs m a x ranks constants_known good meet.first first_lies lasts.0 meet.first_last in
+      let j = access_met tree vs n b y ranks constants_known good' meet.second second_lies lasts.1 meet.second_last in
       let e = element_met vs (subscripts_of tree m a.around a.what) (subscripts_of tree n b.around b.what)
       (access_valued tree vs m a x ranks constants_known good meet.first first_lies ∙ meet.element ∙ sym (access_valued tree vs n b y ranks constants_known good' meet.second second_lies)) in
       let o = order_met vs m n order x.loops y.loops a.around b.around x.trips y.trips (loops_laid tree vs m a x ranks constants_known good meet.first first_lies) (loops_laid tree vs n b y ranks constants_known good' meet.second second_lies)
       (trips-length (param_values tree) x.loops a.around x.trips meet.first.trips) (trips-length (param_values tree) y.loops b.around y.trips meet.second.trips) meet.same meet.earlier in
       both_met vs (((C ++ I) ++ J) ++ E) O (both_met vs ((C ++ I) ++ J) E (both_met vs (C ++ I) J (both_met vs C I c i) j) e) o
 
-  pub pair_over : (vars : ℕ) → behind_pair tree pair ≤ vars + 1 → list_all (is_over vars) (pair_rows tree conditions order pair) ≡ true
+  pub pair_over : (vars : ℕ) → behind_pair tree pair ≤ vars + 1 → list_all (is_over vars) (pair_rows tree conditions order lasts pair) ≡ true
   pair_over vars room =
       let m = first_of tree in
       let n = second_of tree pair in
       let a = pair.first in
       let b = pair.second in
       let C = conditions_have (param_values tree) conditions in
-      let I = instance_has tree m a in
-      let J = instance_has tree n b in
+      let I = instance_has tree m lasts.0 a in
+      let J = instance_has tree n lasts.1 b in
       let E = same_element (subscripts_of tree m a.around a.what) (subscripts_of tree n b.around b.what) in
       let O = ordered_so m n order in
       let few : length (param_values tree) ≤ vars = omega (arith, room, as_many) in
@@ -274,8 +276,8 @@ module _ (tree : Tree) (conditions : Conditions) (order : Order) (pair : Pair) (
       let room_b : n + unknowns_of tree b ≤ vars + 1 = omega (arith, room) in
       let deep = depth_within order a.around b.around x.loops y.loops x.trips y.trips (trips-length (param_values tree) x.loops a.around x.trips meet.first.trips) (trips-length (param_values tree) y.loops b.around y.trips meet.second.trips) meet.same meet.earlier in
       let c = conditions_over vars (param_values tree) conditions few goods in
-      let i = access_over tree vars m a ranks good few (omega arith) room_a in
-      let j = access_over tree vars n b ranks good' few (omega arith) room_b in
+      let i = access_over tree vars m a ranks good few (omega arith) room_a lasts.0 in
+      let j = access_over tree vars n b ranks good' few (omega arith) room_b lasts.1 in
       let e = element_over vars (subscripts_of tree m a.around a.what) (subscripts_of tree n b.around b.what) (subscripts_over tree vars m a ranks good few (omega arith) room_a) (subscripts_over tree vars n b ranks good' few (omega arith) room_b) in
       let o = order_over vars m n order (omega arith) (omega (arith, room_a, deep.0)) (omega arith) (omega (arith, room_b, deep.1)) in
       lists_over vars (((C ++ I) ++ J) ++ E) O (lists_over vars ((C ++ I) ++ J) E (lists_over vars (C ++ I) J (lists_over vars C I c i) j) e) o

@@ -1,5 +1,5 @@
 -- The systems of a pair's pieces, part by part.
-use Rattle.std.proofs.Common.{◌≡◌, ℕ, zero, suc, ◌+◌, ◌*◌, ◌-◌, ◌<◌, ◌≤◌, negsuc, List, [], ◌∷◌, ◌++◌, length, map, drop, get_or, slice_get, take, Some, refl, ap, ap₂, sym, ◌∙◌, arith}
+use Rattle.std.proofs.Common.{◌≡◌, ℕ, zero, suc, ◌+◌, ◌*◌, ◌-◌, ◌<◌, ◌≤◌, negsuc, List, [], ◌∷◌, ◌++◌, length, map, drop, get_or, Bool, slice_get, take, Some, refl, ap, ap₂, sym, ◌∙◌, arith}
 use Rattle.std.proofs.lemmas.List.{drop_more, length-drop, length-map, map-append, take_all}
 use Rattle.farkas_cert.specs.Inequalities.{Inequalities}
 use Rattle.nest_tree.specs.Tree.{Tree}
@@ -13,7 +13,7 @@ use Rattle.owner_partition.specs.declared.anchor.Anchor.{Anchor}
 use Rattle.sync_plan.specs.declared.plan.Plan.{Plan}
 use Rattle.comm_system.specs.Boundaries.{Side}
 use Rattle.comm_system.specs.Levels.{Order, common, order_at}
-use Rattle.comm_system.specs.Obligations.{Slot, Task, last_of, numbered, numbered_from, owners_of, piece_task, pieces_from}
+use Rattle.comm_system.specs.Obligations.{Slot, Task, lasts_at, last_of, numbered, numbered_from, owners_of, piece_task, pieces_from}
 use Rattle.comm_system.specs.OwnerRows.{Piece, Placed, beside, owner_numbers, owners_have, owners_unknowns, pieces, sign_of}
 use Rattle.comm_system.specs.PairRows.{apart, behind_pair, pair_rows, unknowns_of}
 use Rattle.comm_system.specs.Pairs.{Pair}
@@ -74,21 +74,22 @@ few_made n ps is le =
     omega (arith, few, long)
 
 -- the rows that all pieces share, and the owners' unknowns
-pub shared_system : (tree : Tree) (plan : Plan) (slot : Slot) (producers : List (Anchor × Side)) (pair : Pair) (n : Unknowns) (placed : List Placed) (order : Order) (old middle new : Inequalities) (count : ℕ) →
-    AreUnknowns tree pair n → placed ≡ owners_of tree plan slot producers pair → order ≡ order_at (common slot.first.outer slot.second.outer) slot.level → count ≡ owners_unknowns (owners_of tree plan slot producers pair) →
-    old ≡ record { vars = n.behind + count - 1; rows = [] } → HasMore (pair_rows tree plan.conditions order pair) old middle → HasMore (owners_have plan.workers n.behind placed) middle new →
+pub shared_system : (tree : Tree) (plan : Plan) (slot : Slot) (producers : List (Anchor × Side)) (pair : Pair) (n : Unknowns) (placed : List Placed) (order : Order) (lasts : Bool × Bool) (old middle new : Inequalities) (count : ℕ) →
+    AreUnknowns tree pair n → placed ≡ owners_of tree plan slot producers pair → order ≡ order_at (common slot.first.outer slot.second.outer) slot.level → lasts ≡ lasts_at plan.cut slot pair → count ≡ owners_unknowns (owners_of tree plan slot producers pair) →
+    old ≡ record { vars = n.behind + count - 1; rows = [] } → HasMore (pair_rows tree plan.conditions order lasts pair) old middle → HasMore (owners_have plan.workers n.behind placed) middle new →
     new ≡ system_of (behind_pair tree pair + owners_unknowns (owners_of tree plan slot producers pair) - 1)
-    (pair_rows tree plan.conditions (order_at (common slot.first.outer slot.second.outer) slot.level) pair ++ owners_have plan.workers (behind_pair tree pair) (owners_of tree plan slot producers pair))
-shared_system tree plan slot producers pair n placed order old middle new count are owners ordered counted empty first second =
-    let of_pair = pair_rows tree plan.conditions order pair in
+    (pair_rows tree plan.conditions (order_at (common slot.first.outer slot.second.outer) slot.level) (lasts_at plan.cut slot pair) pair ++ owners_have plan.workers (behind_pair tree pair) (owners_of tree plan slot producers pair))
+shared_system tree plan slot producers pair n placed order lasts old middle new count are owners ordered last counted empty first second =
+    let of_pair = pair_rows tree plan.conditions order lasts pair in
     let of_owners = owners_have plan.workers n.behind placed in
     let all = owners_of tree plan slot producers pair in
     let vars : n.behind + count - 1 ≡ behind_pair tree pair + owners_unknowns all - 1 = let b = are.behind in omega (arith, b, counted) in
     system_first (n.behind + count - 1) (of_pair ++ of_owners) old new empty (more-both of_pair of_owners old middle new first second)
     ∙ ap (λ v. system_of v (of_pair ++ of_owners)) vars
-    ∙ ap (λ o. system_of (behind_pair tree pair + owners_unknowns all - 1) (pair_rows tree plan.conditions o pair ++ of_owners)) ordered
-    ∙ ap (λ m. system_of (behind_pair tree pair + owners_unknowns all - 1) (pair_rows tree plan.conditions (order_at (common slot.first.outer slot.second.outer) slot.level) pair ++ owners_have plan.workers m placed)) are.behind
-    ∙ ap (λ ps. system_of (behind_pair tree pair + owners_unknowns all - 1) (pair_rows tree plan.conditions (order_at (common slot.first.outer slot.second.outer) slot.level) pair ++ owners_have plan.workers (behind_pair tree pair) ps)) owners
+    ∙ ap (λ o. system_of (behind_pair tree pair + owners_unknowns all - 1) (pair_rows tree plan.conditions o lasts pair ++ of_owners)) ordered
+    ∙ ap (λ l. system_of (behind_pair tree pair + owners_unknowns all - 1) (pair_rows tree plan.conditions (order_at (common slot.first.outer slot.second.outer) slot.level) l pair ++ of_owners)) last
+    ∙ ap (λ m. system_of (behind_pair tree pair + owners_unknowns all - 1) (pair_rows tree plan.conditions (order_at (common slot.first.outer slot.second.outer) slot.level) (lasts_at plan.cut slot pair) pair ++ owners_have plan.workers m placed)) are.behind
+    ∙ ap (λ ps. system_of (behind_pair tree pair + owners_unknowns all - 1) (pair_rows tree plan.conditions (order_at (common slot.first.outer slot.second.outer) slot.level) (lasts_at plan.cut slot pair) pair ++ owners_have plan.workers (behind_pair tree pair) ps)) owners
 
 pub shared_numbers : (tree : Tree) (plan : Plan) (slot : Slot) (producers : List (Anchor × Side)) (pair : Pair) (n : Unknowns) (placed : List Placed) → AreUnknowns tree pair n → placed ≡ owners_of tree plan slot producers pair →
     owner_numbers n.behind placed ≡ owner_numbers (behind_pair tree pair) (owners_of tree plan slot producers pair)
@@ -101,7 +102,7 @@ piece_system tree plan slot left right producers pair shared p system is more =
     let q = behind_pair tree pair in
     let owners = owners_of tree plan slot producers pair in
     let vars = q + owners_unknowns owners - 1 in
-    let rows = pair_rows tree plan.conditions (order_at (common slot.first.outer slot.second.outer) slot.level) pair ++ owners_have plan.workers q owners in
+    let rows = pair_rows tree plan.conditions (order_at (common slot.first.outer slot.second.outer) slot.level) (lasts_at plan.cut slot pair) pair ++ owners_have plan.workers q owners in
     system_more vars rows (last_of left right shared.owners.items p) shared.system system is.system more ∙ ap (λ os. system_of vars (rows ++ last_of left right os p)) is.owners
 
 -- the pieces of two functions that agree

@@ -41,14 +41,14 @@ holders_named tree workers pair x y [] (o ∷ os) h = absurd h
 holders_named tree workers pair x y (u ∷ us) [] h = absurd h
 holders_named tree workers pair x y (u ∷ us) (o ∷ os) h = let rest = holders_named tree workers pair x y us os h.1 in ((h.0.named, rest.0), (h.0.holds, rest.1))
 
-module _ (tree : Tree) (conditions : Conditions) (order : Order) (pair : Pair) (x y : Point) (ranks : List ℕ) (meet : Meet tree order pair x y) (goods : AreGoodConditions (length (param_values tree)) conditions) (none : unmet (param_values tree) conditions ≡ None)
+module _ (tree : Tree) (conditions : Conditions) (order : Order) (lasts : Bool × Bool) (pair : Pair) (x y : Point) (ranks : List ℕ) (meet : Meet tree order lasts pair x y) (goods : AreGoodConditions (length (param_values tree)) conditions) (none : unmet (param_values tree) conditions ≡ None)
     (good : IsGoodReference (length (param_values tree)) ranks pair.first) (good' : IsGoodReference (length (param_values tree)) ranks pair.second) where
   -- two trips of a loop
-  pub trips_solved : IsWholeSolution (system_of (behind_pair tree pair - 1) (pair_rows tree conditions order pair)) (values_of tree pair x y [])
+  pub trips_solved : IsWholeSolution (system_of (behind_pair tree pair - 1) (pair_rows tree conditions order lasts pair)) (values_of tree pair x y [])
   trips_solved =
-      let long = values-long tree conditions order pair x y ranks meet goods none good good' [] in
-      solves (behind_pair tree pair - 1) (pair_rows tree conditions order pair) (values_of tree pair x y []) (omega (arith, long)) (pair_over tree conditions order pair x y ranks meet goods none good good' [] (behind_pair tree pair - 1) (omega arith))
-      (pair_met tree conditions order pair x y ranks meet goods none good good' [])
+      let long = values-long tree conditions order lasts pair x y ranks meet goods none good good' [] in
+      solves (behind_pair tree pair - 1) (pair_rows tree conditions order lasts pair) (values_of tree pair x y []) (omega (arith, long)) (pair_over tree conditions order lasts pair x y ranks meet goods none good good' [] (behind_pair tree pair - 1) (omega arith))
+      (pair_met tree conditions order lasts pair x y ranks meet goods none good good' [])
 
   module _ (owners : List ℤ) (workers vars : ℕ) (few : length (param_values tree) ≤ vars) (room : behind_pair tree pair ≤ vars + 1) where
     abbrev vs : List ℤ
@@ -58,14 +58,14 @@ module _ (tree : Tree) (conditions : Conditions) (order : Order) (pair : Pair) (
     one_seated a of_first o named holds = record {
       loops = x.loops;
       trips = x.trips;
-      laid = loops_laid tree vs (first_of tree) pair.first x ranks (constants_known tree conditions order pair x y ranks meet goods none good good' owners) good meet.first (first_lies tree conditions order pair x y ranks meet goods none good good' owners);
+      laid = loops_laid tree vs (first_of tree) pair.first x ranks (constants_known tree conditions order lasts pair x y ranks meet goods none good good' owners) good meet.first (first_lies tree conditions order lasts pair x y ranks meet goods none good good' owners);
       named = named;
       holds = holds;
     }
     one_seated a of_second o named holds = record {
       loops = y.loops;
       trips = y.trips;
-      laid = loops_laid tree vs (second_of tree pair) pair.second y ranks (constants_known tree conditions order pair x y ranks meet goods none good good' owners) good' meet.second (second_lies tree conditions order pair x y ranks meet goods none good good' owners);
+      laid = loops_laid tree vs (second_of tree pair) pair.second y ranks (constants_known tree conditions order lasts pair x y ranks meet goods none good good' owners) good' meet.second (second_lies tree conditions order lasts pair x y ranks meet goods none good good' owners);
       named = named;
       holds = holds;
     }
@@ -93,27 +93,27 @@ module _ (tree : Tree) (conditions : Conditions) (order : Order) (pair : Pair) (
     abbrev owned : List ℤ
     owned = holders_values placed (q ∷ p ∷ os)
 
-    pub owners_solved : IsWholeSolution (system_of (behind_pair tree pair + owners_unknowns placed - 1) (pair_rows tree conditions order pair ++ owners_have workers (behind_pair tree pair) placed ++ last_of left right (owner_numbers (behind_pair tree pair) placed) piece)) (values_of tree pair x y owned)
+    pub owners_solved : IsWholeSolution (system_of (behind_pair tree pair + owners_unknowns placed - 1) (pair_rows tree conditions order lasts pair ++ owners_have workers (behind_pair tree pair) placed ++ last_of left right (owner_numbers (behind_pair tree pair) placed) piece)) (values_of tree pair x y owned)
     owners_solved =
         let vars = behind_pair tree pair + owners_unknowns placed - 1 in
         let n = behind_pair tree pair in
         let params = param_values tree in
         let whole = values_of tree pair x y owned in
-        let few : length params ≤ vars = omega (arith, as_many tree conditions order pair x y ranks meet goods none good good' owned) in
+        let few : length params ≤ vars = omega (arith, as_many tree conditions order lasts pair x y ranks meet goods none good good' owned) in
         let room : n ≤ vars + 1 = omega arith in
         let seated = all_seated owned workers vars few room ((a, of_first) ∷ (b, of_second) ∷ us) (q ∷ p ∷ os) named holders in
-        let lie = owners_lie tree conditions order pair x y ranks meet goods none good good' owned in
-        let constants = constants_known tree conditions order pair x y ranks meet goods none good good' owned in
-        let long = values-long tree conditions order pair x y ranks meet goods none good good' owned in
+        let lie = owners_lie tree conditions order lasts pair x y ranks meet goods none good good' owned in
+        let constants = constants_known tree conditions order lasts pair x y ranks meet goods none good good' owned in
+        let long = values-long tree conditions order lasts pair x y ranks meet goods none good good' owned in
         let many = seated-length whole params workers placed (q ∷ p ∷ os) seated in
-        let P = pair_rows tree conditions order pair in
+        let P = pair_rows tree conditions order lasts pair in
         let O = owners_have workers n placed in
         let L = last_of left right (owner_numbers n placed) piece in
         let known = owners_numbered whole params workers n placed (q ∷ p ∷ os) seated lie in
         let ns = owner_numbers n placed in
-        let met = both_met whole (P ++ O) L (both_met whole P O (pair_met tree conditions order pair x y ranks meet goods none good good' owned) (owners_met whole params workers n placed (q ∷ p ∷ os) constants seated lie))
+        let met = both_met whole (P ++ O) L (both_met whole P O (pair_met tree conditions order lasts pair x y ranks meet goods none good good' owned) (owners_met whole params workers n placed (q ∷ p ∷ os) constants seated lie))
         (last_met whole left right _ _ q.owner p.owner _ os piece known.0 known.1.0 known.1.1 range among) in
-        let over = lists_over vars (P ++ O) L (lists_over vars P O (pair_over tree conditions order pair x y ranks meet goods none good good' owned vars room)
+        let over = lists_over vars (P ++ O) L (lists_over vars P O (pair_over tree conditions order lasts pair x y ranks meet goods none good good' owned vars room)
         (owners_over vars (length params) workers n placed few (all_room owned workers vars few room ((a, of_first) ∷ (b, of_second) ∷ us) named) (omega arith) (omega arith)))
         (last_over vars left right _ _ _ piece (numbers_among vars n placed (omega arith) (omega arith))) in
         solves vars (P ++ O ++ L) whole (omega (arith, long, many)) over met

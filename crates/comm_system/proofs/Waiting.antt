@@ -1,20 +1,17 @@
 -- Of two executions that conflict, the owner of the second waits for that of the first, where no system has a whole solution.
-use Rattle.std.proofs.Common.{◌≡◌, ℕ, suc, ◌+◌, ◌<◌, ◌⊎◌, ◌||◌, true, false, true≢false, Some, List, [], ◌++◌, length, refl, ap, sym, ◌∙◌, subst, inl, inr, arith}
+use Rattle.std.proofs.Common.{◌≡◌, ℕ, suc, ◌+◌, ◌<◌, ◌⊎◌, ◌||◌, Bool, true, false, true≢false, Some, List, [], ◌++◌, length, refl, ap, sym, ◌∙◌, subst, inl, inr, arith}
 use Rattle.std.specs.List.{Contains}
 use Rattle.std.proofs.Math.Bool.{or-true}
 use Rattle.nest_tree.specs.Form.{form_value}
 use Rattle.nest_tree.specs.Tree.{Head, Tree, param_values}
 use Rattle.nest_tree.specs.WellFormed.{IsWellFormed, loops_of, names_only, scope_of}
-use Rattle.nest_model.specs.Accesses.{Conflict, store_of}
-use Rattle.nest_model.specs.Instances.{Instance, is_executed, no_values}
-use Rattle.nest_model.specs.Ranges.{is_instance_inside}
-use Rattle.nest_rows.specs.Nested.{nested_in}
+use Rattle.nest_model.specs.Instances.{no_values}
 use Rattle.nest_rows.proofs.Dots.{numbers}
-use Rattle.nest_rows.proofs.GoodNesting.{IsGoodNested}
 use Rattle.farkas_cert.specs.Inequalities.{HasNoWholeSolution}
 use Rattle.owner_partition.specs.Marks.{enters_outer}
 use Rattle.owner_partition.specs.Phases.{Execution}
 use Rattle.sync_plan.specs.declared.plan.Plan.{Plan}
+use Rattle.sync_plan.specs.Conflicts.{ConflictUnder, seen_store}
 use Rattle.sync_plan.specs.Fit.{IsFit}
 use Rattle.sync_plan.specs.Ordered.{Hop, IsChain, owner_under}
 use Rattle.comm_system.specs.Boundaries.{certain_boundaries, of_first, of_second}
@@ -23,7 +20,8 @@ use Rattle.comm_system.specs.Meetings.{AreSame, IsEarlier, IsHolder, Meet}
 use Rattle.comm_system.specs.Obligations.{Task, anchor_at, tasks_of}
 use Rattle.comm_system.specs.Pairs.{Pair}
 use Rattle.comm_system.specs.References.{StaticPhase, phases_of}
-use Rattle.comm_system.proofs.Accesses.{IsExecutedAt, any_access, nested_good, phase_there, point_at, station_known, store_access}
+use Rattle.comm_system.specs.Shown.{is_private_in}
+use Rattle.comm_system.proofs.Accesses.{IsExecutedAt, phase_there, point_at, station_known}
 use Rattle.comm_system.proofs.Certain.{AreTwo, heads_x, heads_y, long_x, long_y}
 use Rattle.comm_system.proofs.CertainLists.{AreCertain, carried_certain, plain_certain}
 use Rattle.comm_system.proofs.Contexts.{at_first}
@@ -32,6 +30,7 @@ use Rattle.comm_system.proofs.KnownHeads.{heads_among}
 use Rattle.comm_system.proofs.Ordered.{Conflicting, anchor_there, earlier_further, meeting, meeting_pair, order_carried, owner_is, same_further}
 use Rattle.comm_system.proofs.Owners.{holder_of, owner_holds}
 use Rattle.comm_system.proofs.OwnersMet.{holds_below}
+use Rattle.comm_system.proofs.SeenAccesses.{seen_any, seen_stores}
 use Rattle.comm_system.proofs.Slots.{carried_level, plain_level, slot_there}
 use Rattle.comm_system.proofs.StationFacts.{loops_after}
 use Rattle.comm_system.proofs.StationOrder.{comes_at, rises_in}
@@ -40,26 +39,28 @@ use Rattle.comm_system.proofs.Timeline.{Agree, IsCarried, IsPlain, agree_values,
 
 -- ---- the accesses of two instances that conflict
 
-module _ (tree : Tree) (i j : Instance) (s t : StaticPhase) (around around' : List Head) (nested : Contains (nested_in s.outer s.what) (record { what = i.what; around = around })) (nested' : Contains (nested_in t.outer t.what) (record { what = j.what; around = around' }))
-    (good : IsGoodNested (scope_of tree) (record { what = i.what; around = around })) (good' : IsGoodNested (scope_of tree) (record { what = j.what; around = around' })) (executed : is_executed i.what i.loops (param_values tree) ≡ true) (executed' : is_executed j.what j.loops (param_values tree) ≡ true)
-    (inside : is_instance_inside tree i ≡ true) (inside' : is_instance_inside tree j ≡ true) where
-  pub conflicting : Conflict tree i j → Conflicting tree s t around around' i j
+module _ (tree : Tree) (plan : Plan) (formed : IsWellFormed tree) (fits : IsFit tree plan) (x y : Execution) (ex ey : ℕ) (hx : IsExecutedAt tree plan.cut.marks x ex) (hy : IsExecutedAt tree plan.cut.marks y ey) where
+  abbrev Both : ℕ → Type 0
+  Both cell = Conflicting tree plan.cut (record { what = hx.station.visit.what; outer = hx.station.heads }) (record { what = hy.station.visit.what; outer = hy.station.heads }) (hx.station.heads ++ hx.placed.inner.heads) (hy.station.heads ++ hy.placed.inner.heads) x.instance y.instance cell
+
+  pub conflicting : (c : ConflictUnder tree plan x y) →
+      Conflicting tree plan.cut (record { what = hx.station.visit.what; outer = hx.station.heads }) (record { what = hy.station.visit.what; outer = hy.station.heads }) (hx.station.heads ++ hx.placed.inner.heads) (hy.station.heads ++ hy.placed.inner.heads) x.instance y.instance c.cell
   conflicting c = by c.stored
     where
-      by : (store_of tree i ≡ Some c.cell) ⊎ (store_of tree j ≡ Some c.cell) → Conflicting tree s t around around' i j
+      by : (seen_store tree plan x ≡ Some c.cell) ⊎ (seen_store tree plan y ≡ Some c.cell) → Both c.cell
       by (inl is) =
-          let a = store_access tree s around i c.cell nested good executed inside is in
-          let b = any_access tree t around' j c.cell nested' good' executed' inside' c.second in
-          record { cell = c.cell; a = a.0; b = b.0; first = a.1; second = b.1; stored = ap (λ x. x || b.0.stores) a.2 }
+          let a = seen_stores tree plan formed fits x ex hx c.cell is in
+          let b = seen_any tree plan formed fits y ey hy c.cell c.second in
+          record { a = a.0; b = b.0; first = a.1; second = b.1; first_seen = a.2; second_seen = b.2; stored = ap (λ z. z || b.0.stores) a.3 }
       by (inr is) =
-          let a = any_access tree s around i c.cell nested good executed inside c.first in
-          let b = store_access tree t around' j c.cell nested' good' executed' inside' is in
-          record { cell = c.cell; a = a.0; b = b.0; first = a.1; second = b.1; stored = ap (λ x. a.0.stores || x) b.2 ∙ or-true a.0.stores }
+          let a = seen_any tree plan formed fits x ex hx c.cell c.first in
+          let b = seen_stores tree plan formed fits y ey hy c.cell is in
+          record { a = a.0; b = b.0; first = a.1; second = b.1; first_seen = a.2; second_seen = b.2; stored = ap (λ z. a.0.stores || z) b.3 ∙ or-true a.0.stores }
 
 -- ---- in a later phase
 
 module _ (tree : Tree) (plan : Plan) (formed : IsWellFormed tree) (fits : IsFit tree plan) (none : (task : Task) → Contains (tasks_of tree plan) task → HasNoWholeSolution task.system) where
-  module _ (x y : Execution) (ex ey : ℕ) (hx : IsExecutedAt tree plan.cut.marks x ex) (hy : IsExecutedAt tree plan.cut.marks y ey) (less : ex < ey) (conflict : Conflict tree x.instance y.instance) (apart : owner_under tree plan x ≡ owner_under tree plan y → ⊥) where
+  module _ (x y : Execution) (ex ey : ℕ) (hx : IsExecutedAt tree plan.cut.marks x ex) (hy : IsExecutedAt tree plan.cut.marks y ey) (less : ex < ey) (conflict : ConflictUnder tree plan x y) (apart : owner_under tree plan x ≡ owner_under tree plan y → ⊥) where
     two : AreTwo tree plan ex ey hx.station hy.station
     two = record { formed = formed; first = hx.at; second = hy.at }
 
@@ -75,8 +76,8 @@ module _ (tree : Tree) (plan : Plan) (formed : IsWellFormed tree) (fits : IsFit 
     abbrev around_y : List Head
     around_y = hy.station.heads ++ hy.placed.inner.heads
 
-    both : Conflicting tree first_phase second_phase around_x around_y x.instance y.instance
-    both = conflicting tree x.instance y.instance first_phase second_phase around_x around_y hx.placed.nested hy.placed.nested (nested_good tree plan.cut.marks formed x ex hx) (nested_good tree plan.cut.marks formed y ey hy) hx.placed.executed hy.placed.executed hx.inside hy.inside conflict
+    both : Conflicting tree plan.cut first_phase second_phase around_x around_y x.instance y.instance conflict.cell
+    both = conflicting tree plan formed fits x y ex ey hx hy conflict
 
     -- at a level at which the certain boundaries are known
     at_level : (level : ℕ) → AreCertain tree plan ex ey hx.station hy.station two (certain_boundaries (text_among (enters_outer plan.cut.marks) tree.items) hx.station.heads hy.station.heads hx.station.visit.place hy.station.visit.place level) →
@@ -100,8 +101,9 @@ module _ (tree : Tree) (plan : Plan) (formed : IsWellFormed tree) (fits : IsFit 
         let X = point_at x.instance (sx.trips ++ px.inner.trips) c.first.touches.free in
         let Y = point_at y.instance (sy.trips ++ py.inner.trips) c.second.touches.free in
         let pair : Pair = record { first = c.a; second = c.b } in
-        let meet0 = meeting tree first_phase second_phase around_x around_y x.instance y.instance c (sx.trips ++ px.inner.trips) (sy.trips ++ py.inner.trips) order px.trips py.trips same2 early in
-        let meet1 : Meet tree (order_at (common sx.heads sy.heads) level) pair X Y = subst (λ o. Meet tree o pair X Y) is meet0 in
+        let lasts : Bool × Bool = (is_private_in plan.cut first_phase c.a, is_private_in plan.cut second_phase c.b) in
+        let meet0 = meeting tree plan.cut first_phase second_phase around_x around_y x.instance y.instance conflict.cell c (sx.trips ++ px.inner.trips) (sy.trips ++ py.inner.trips) order lasts px.trips py.trips same2 early c.first_seen.last c.second_seen.last in
+        let meet1 : Meet tree (order_at (common sx.heads sy.heads) level) lasts pair X Y = subst (λ o. Meet tree o lasts pair X Y) is meet0 in
         let ax = anchor_at plan sx.visit.place in
         let ay = anchor_at plan sy.visit.place in
         let ox = owner_holds tree plan formed fits ex sx hx.at x.instance px ax (anchor_there tree plan formed fits ex sx hx.at) in
@@ -113,7 +115,7 @@ module _ (tree : Tree) (plan : Plan) (formed : IsWellFormed tree) (fits : IsFit 
         let own_x = owner_is tree plan formed fits x ex sx hx.at hx.place_is in
         let own_y = owner_is tree plan formed fits y ey sy hy.at hy.place_is in
         let slot_in = slot_there (phases_of tree plan.cut.marks) sx.visit.place first_phase sy.visit.place second_phase level kx.low ky.low (phase_there tree plan.cut.marks formed ex sx hx.at) (phase_there tree plan.cut.marks formed ey sy hy.at) among in
-        let chain = waited tree plan ex ey sx sy two fits x.instance y.instance px py pair X Y c.first.around_is c.second.around_is refl refl level (omega (arith, less)) certain slot_in (meeting_pair tree first_phase second_phase around_x around_y x.instance y.instance c) meet1 first second is_first is_second
+        let chain = waited tree plan ex ey sx sy two fits x.instance y.instance px py pair X Y c.first.around_is c.second.around_is refl refl level (omega (arith, less)) certain slot_in (meeting_pair tree plan.cut first_phase second_phase around_x around_y x.instance y.instance conflict.cell c) meet1 first second is_first is_second
         (holds_below ax.dist plan.workers (form_value ax.form x.instance.loops params) first ox.1) (holds_below ay.dist plan.workers (form_value ay.form y.instance.loops params) second oy.1) (λ e. apart (own_x ∙ sym e ∙ sym own_y)) none in
         (chain.0, subst (λ q. IsChain tree plan q (suc ex) chain.0 (owner_under tree plan y) (suc ey)) (sym own_x) (subst (λ p. IsChain tree plan first.owner (suc ex) chain.0 p (suc ey)) (sym own_y) chain.1))
 

@@ -1,4 +1,5 @@
 pub mod References
+pub mod Shown
 pub mod Pairs
 pub mod Levels
 pub mod Boundaries
@@ -9,6 +10,7 @@ pub mod Obligations
 pub mod Meetings
 pub mod Rows
 pub mod Seen
+pub mod KeptViews
 pub mod PhaseViews
 pub mod SlotViews
 pub mod SideViews

@@ -1,5 +1,5 @@
 -- The obligations of a plan: two trips of a Doall loop, then slot by slot two instances of phases s and t at a level.
-use Rattle.std.specs.Prelude.{ℕ, suc, ◌+◌, ◌-◌, ◌==◌, ℤ, pos, neg_ℤ, List, [], ◌∷◌, ◌++◌, length, map, Option, Some, None, slice_get, if◌then◌else◌}
+use Rattle.std.specs.Prelude.{ℕ, suc, ◌+◌, ◌-◌, ◌==◌, ℤ, pos, neg_ℤ, Bool, false, List, [], ◌∷◌, ◌++◌, length, map, Option, Some, None, slice_get, if◌then◌else◌}
 use Rattle.std.specs.List.{flat_map}
 use Rattle.farkas_cert.specs.Inequalities.{Inequalities}
 use Rattle.nest_tree.specs.Tree.{Tree}
@@ -7,6 +7,7 @@ use Rattle.nest_rows.specs.declared.constraint.Constraint.{Constraint}
 use Rattle.nest_rows.specs.Constraints.{system_of}
 use Rattle.owner_partition.specs.declared.anchor.Anchor.{Anchor}
 use Rattle.owner_partition.specs.declared.anchor.Dist.TheVariants.{Cyclic}
+use Rattle.owner_partition.specs.Cuts.{Cutting}
 use Rattle.sync_plan.specs.declared.plan.Kind.{Kind}
 use Rattle.sync_plan.specs.declared.plan.Plan.{Plan}
 use Rattle.sync_plan.specs.declared.plan.Version.{Version}
@@ -15,8 +16,9 @@ use Rattle.comm_system.specs.Boundaries.{Side, of_first, of_second, certain_boun
 use Rattle.comm_system.specs.Levels.{common, levels, order_at, two_trips}
 use Rattle.comm_system.specs.OwnerRows.{Piece, Placed, distance, last_rows, owner_numbers, owners_have, owners_unknowns, pieces, below, above}
 use Rattle.comm_system.specs.PairRows.{behind_pair, first_of, pair_rows, second_of}
-use Rattle.comm_system.specs.Pairs.{Pair, pairs_of}
+use Rattle.comm_system.specs.Pairs.{Pair, pairs_of, pairs_within}
 use Rattle.comm_system.specs.References.{StaticPhase, phases_of, variable_of}
+use Rattle.comm_system.specs.Shown.{is_private_in}
 use Rattle.comm_system.specs.Signatures.{Signature, blocked, waits, signature_of}
 use Rattle.comm_system.specs.declared.obligation.Obligation.{Obligation}
 
@@ -35,10 +37,10 @@ task system pair level piece range = record { system = system; lines = (pair.fir
 -- two trips of a Doall phase access one element
 abbrev pub trips_task : Tree → Plan → StaticPhase → Pair → Task
 trips_task tree plan s pair =
-    task (system_of (behind_pair tree pair - 1) (pair_rows tree plan.conditions (two_trips (length s.outer)) pair)) pair 0 0 (pos 0, pos 0)
+    task (system_of (behind_pair tree pair - 1) (pair_rows tree plan.conditions (two_trips (length s.outer)) (false, false) pair)) pair 0 0 (pos 0, pos 0)
 
 abbrev pub trips_tasks : Tree → Plan → StaticPhase → List Task
-trips_tasks tree plan s = if is_dealt plan.cut.marks s.what then map (trips_task tree plan s) (pairs_of s s) else []
+trips_tasks tree plan s = if is_dealt plan.cut.marks s.what then map (trips_task tree plan s) (pairs_within plan.cut s) else []
 
 -- the anchor of the static phase with this number, from 1
 abbrev or_first : Option Anchor → Anchor
@@ -66,6 +68,10 @@ abbrev pub owners_of : Tree → Plan → Slot → List (Anchor × Side) → Pair
 owners_of tree plan slot producers pair =
     placed_at tree pair (anchor_at plan slot.s, of_first) ∷ placed_at tree pair (anchor_at plan slot.t, of_second) ∷ map (placed_at tree pair) producers
 
+-- whether the accesses of a pair are those of private scalars: these are made in the last trip alone
+abbrev pub lasts_at : Cutting → Slot → Pair → Bool × Bool
+lasts_at cut slot pair = (is_private_in cut slot.first pair.first, is_private_in cut slot.second pair.second)
+
 -- the last rows, by the owners' unknowns
 abbrev pub last_of : ℕ → ℕ → List ℕ → Piece → List Constraint
 last_of left right [] piece = []
@@ -78,7 +84,7 @@ piece_task tree plan slot left right producers pair number piece =
     let order = order_at (common slot.first.outer slot.second.outer) slot.level in
     let q = behind_pair tree pair in
     let owners = owners_of tree plan slot producers pair in
-    task (system_of (q + owners_unknowns owners - 1) (pair_rows tree plan.conditions order pair ++ owners_have plan.workers q owners ++ last_of left right (owner_numbers q owners) piece))
+    task (system_of (q + owners_unknowns owners - 1) (pair_rows tree plan.conditions order (lasts_at plan.cut slot pair) pair ++ owners_have plan.workers q owners ++ last_of left right (owner_numbers q owners) piece))
     pair slot.level number (neg_ℤ (pos (distance below left right)), pos (distance above left right))
 
 abbrev pub pieces_from : (ℕ → Piece → Task) → ℕ → List Piece → List Task
@@ -91,7 +97,7 @@ pair_tasks tree plan slot left right producers pair = pieces_from (piece_task tr
 -- the systems of a slot, of which the kinds show only its signature
 abbrev pub slot_tasks : Tree → Plan → Slot → Signature → List Task
 slot_tasks tree plan slot blocked = []
-slot_tasks tree plan slot (waits left right producers) = flat_map (pair_tasks tree plan slot left right producers) (pairs_of slot.first slot.second)
+slot_tasks tree plan slot (waits left right producers) = flat_map (pair_tasks tree plan slot left right producers) (pairs_of plan.cut slot.first slot.second)
 
 -- the slots in order: the second phase, then the first, then the level
 abbrev pub slots_between : ℕ → StaticPhase → ℕ → StaticPhase → List Slot

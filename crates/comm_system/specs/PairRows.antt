@@ -1,5 +1,5 @@
 -- The rows of two instances that access one element: their loops and comparisons, their subscripts, and their order.
-use Rattle.std.specs.Prelude.{ℕ, zero, suc, ◌+◌, ◌*◌, ℤ, pos, negsuc, ◌-ℤ◌, neg_ℤ, List, [], ◌∷◌, ◌++◌, length, map, if◌then◌else◌}
+use Rattle.std.specs.Prelude.{ℕ, zero, suc, ◌+◌, ◌*◌, ℤ, pos, negsuc, ◌-ℤ◌, neg_ℤ, Bool, true, false, List, [], ◌∷◌, ◌++◌, length, map, if◌then◌else◌}
 use Rattle.nest_tree.specs.Form.{Form}
 use Rattle.nest_tree.specs.Layout.{bounds_of}
 use Rattle.nest_tree.specs.Tree.{Head, Tree, param_values}
@@ -7,7 +7,7 @@ use Rattle.nest_walk.specs.Tables.{Loaded, element, array}
 use Rattle.nest_rows.specs.declared.constraint.Constraint.{Constraint}
 use Rattle.nest_rows.specs.declared.constraint.Sign.{Sign}
 use Rattle.nest_rows.specs.declared.constraint.Sign.TheVariants.{Plus, Minus}
-use Rattle.nest_rows.specs.Groups.{constants_have, guard_has, loops_have}
+use Rattle.nest_rows.specs.Groups.{constants_have, guard_has, loops_have, sign_of}
 use Rattle.nest_rows.specs.Places.{terms_of}
 use Rattle.nest_rows.specs.Signs.{flipped, signed, with_sign}
 use Rattle.sync_plan.specs.declared.plan.ConditionRow.{ConditionRow}
@@ -36,9 +36,27 @@ abbrev pub free_have : ℕ → List (ℤ × ℤ) → List Constraint
 free_have n [] = []
 free_have n ((low, high) ∷ bounds) = record { terms = (n, pos 1) ∷ []; bound = high } ∷ record { terms = (n, negsuc 0) ∷ []; bound = neg_ℤ low } ∷ free_have (suc n) bounds
 
--- an access's instance: its loops, whose first value has this number, its free subscripts, and its comparison
-abbrev pub instance_has : Tree → ℕ → Reference → List Constraint
-instance_has tree first a = loops_have first a.around first a.around ++ free_have (first + 2 * length a.around) (free_bounds tree a.what) ++ guard_has first a.around a.guard
+-- the value of a loop, which has this number, with one step more is past its end: m2 - value, with the sign of the step, is less than the step
+abbrev pub past_next : ℕ → List Head → ℕ → Head → Constraint
+past_next first heads place head = record {
+  terms = (place, signed (flipped (sign_of head.step)) (pos 1)) ∷ with_sign (sign_of head.step) (terms_of first heads head.m2);
+  bound = signed (sign_of head.step) head.step -ℤ pos 1 -ℤ signed (sign_of head.step) head.m2.constant;
+}
+
+-- the innermost of these loops, from the one whose value has this number on, is in its last trip
+abbrev pub innermost_last : ℕ → List Head → ℕ → List Head → List Constraint
+innermost_last first heads place [] = []
+innermost_last first heads place (h ∷ []) = past_next first heads place h ∷ []
+innermost_last first heads place (h ∷ g ∷ rest) = innermost_last first heads (place + 2) (g ∷ rest)
+
+abbrev pub last_has : Bool → ℕ → List Head → List Constraint
+last_has false first heads = []
+last_has true first heads = innermost_last first heads first heads
+
+-- an access's instance: its loops, whose first value has this number, its free subscripts, its comparison, and the innermost loop's last trip where it is made in that alone
+abbrev pub instance_has : Tree → ℕ → Bool → Reference → List Constraint
+instance_has tree first last a =
+    loops_have first a.around first a.around ++ free_have (first + 2 * length a.around) (free_bounds tree a.what) ++ guard_has first a.around a.guard ++ last_has last first a.around
 
 -- a subscript: terms and a constant
 pub record Sum : Type 0 where
@@ -90,10 +108,10 @@ second_of tree pair = first_of tree + unknowns_of tree pair.first
 abbrev pub behind_pair : Tree → Pair → ℕ
 behind_pair tree pair = second_of tree pair + unknowns_of tree pair.second
 
--- all of them
-abbrev pub pair_rows : Tree → Conditions → Order → Pair → List Constraint
-pair_rows tree conditions order pair =
+-- all of them, where each access is made in its innermost loop's last trip alone or not
+abbrev pub pair_rows : Tree → Conditions → Order → Bool × Bool → Pair → List Constraint
+pair_rows tree conditions order lasts pair =
     let m = first_of tree in
     let n = second_of tree pair in
-    conditions_have (param_values tree) conditions ++ instance_has tree m pair.first ++ instance_has tree n pair.second
+    conditions_have (param_values tree) conditions ++ instance_has tree m lasts.0 pair.first ++ instance_has tree n lasts.1 pair.second
     ++ same_element (subscripts_of tree m pair.first.around pair.first.what) (subscripts_of tree n pair.second.around pair.second.what) ++ ordered_so m n order

@@ -1,7 +1,9 @@
 -- Which two accesses conflict, and the pairs of two phases.
 use Rattle.std.specs.Prelude.{◌==◌, Bool, ◌&&◌, ◌||◌, List, map}
 use Rattle.std.specs.List.{filter, flat_map}
+use Rattle.owner_partition.specs.Cuts.{Cutting}
 use Rattle.comm_system.specs.References.{Reference, StaticPhase, references_of, variable_of}
+use Rattle.comm_system.specs.Shown.{shared_of, shown_of}
 
 -- two accesses conflict under a plan: they name the same variable, and one of them stores
 abbrev pub conflict : Reference → Reference → Bool
@@ -13,5 +15,12 @@ pub record Pair : Type 0 where
   pub second : Reference
 
 -- the ordered pairs of conflicting accesses, the first rising, then the second; an access that stores conflicts with itself
-abbrev pub pairs_of : StaticPhase → StaticPhase → List Pair
-pairs_of s t = flat_map (λ a. map (λ b. record { first = a; second = b }) (filter (conflict a) (references_of t))) (references_of s)
+abbrev pub pairs_among : List Reference → List Reference → List Pair
+pairs_among firsts seconds = flat_map (λ a. map (λ b. record { first = a; second = b }) (filter (conflict a) seconds)) firsts
+
+-- those of two phases under a cut, and those of two trips of a phase: there each processor has its own cells of own scalars
+abbrev pub pairs_of : Cutting → StaticPhase → StaticPhase → List Pair
+pairs_of cut s t = pairs_among (shown_of cut s) (shown_of cut t)
+
+abbrev pub pairs_within : Cutting → StaticPhase → List Pair
+pairs_within cut s = pairs_among (shared_of cut s) (references_of s)

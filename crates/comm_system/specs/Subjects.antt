@@ -2,13 +2,14 @@
 use Rattle.std.specs.Prelude.{ℕ, ◌+◌, nat_le, List, [], ◌∷◌, ◌++◌, length, map, if◌then◌else◌}
 use Rattle.std.specs.List.{flat_map}
 use Rattle.nest_tree.specs.Tree.{Tree}
+use Rattle.owner_partition.specs.Cuts.{Cutting}
 use Rattle.owner_partition.specs.declared.anchor.Anchor.{Anchor}
 use Rattle.sync_plan.specs.declared.plan.Plan.{Plan}
 use Rattle.sync_plan.specs.Fit.{is_dealt}
 use Rattle.comm_system.specs.Boundaries.{Side}
 use Rattle.comm_system.specs.Obligations.{Slot, Task, numbered_from, pair_tasks, slot_signature, slots_of, trips_task}
 use Rattle.comm_system.specs.OwnerRows.{pieces}
-use Rattle.comm_system.specs.Pairs.{Pair, pairs_of}
+use Rattle.comm_system.specs.Pairs.{Pair, pairs_of, pairs_within}
 use Rattle.comm_system.specs.References.{StaticPhase, phases_of}
 use Rattle.comm_system.specs.Signatures.{Signature, blocked, waits}
 use Rattle.comm_system.specs.declared.obligation.Obligation.{Obligation}
@@ -29,15 +30,15 @@ count_about (of_slot slot left right producers pair) = length (pieces (length pr
 
 -- the subjects of a Doall phase, and of a slot, of which the kinds show only its signature
 abbrev pub trips_subjects : Plan → StaticPhase → List Subject
-trips_subjects plan s = if is_dealt plan.cut.marks s.what then map (of_trips s) (pairs_of s s) else []
+trips_subjects plan s = if is_dealt plan.cut.marks s.what then map (of_trips s) (pairs_within plan.cut s) else []
 
-abbrev pub slot_subjects : Slot → Signature → List Subject
-slot_subjects slot blocked = []
-slot_subjects slot (waits left right producers) = map (of_slot slot left right producers) (pairs_of slot.first slot.second)
+abbrev pub slot_subjects : Cutting → Slot → Signature → List Subject
+slot_subjects cut slot blocked = []
+slot_subjects cut slot (waits left right producers) = map (of_slot slot left right producers) (pairs_of cut slot.first slot.second)
 
 -- all of a plan with these static phases, and all of a plan
 abbrev pub subjects_among : Plan → List StaticPhase → List Subject
-subjects_among plan phases = flat_map (trips_subjects plan) phases ++ flat_map (λ slot. slot_subjects slot (slot_signature plan.version plan.kinds phases slot)) (slots_of phases)
+subjects_among plan phases = flat_map (trips_subjects plan) phases ++ flat_map (λ slot. slot_subjects plan.cut slot (slot_signature plan.version plan.kinds phases slot)) (slots_of phases)
 
 abbrev pub subjects_of : Tree → Plan → List Subject
 subjects_of tree plan = subjects_among plan (phases_of tree plan.cut.marks)

@@ -6,7 +6,7 @@ use Rattle.owner_partition.specs.declared.anchor.Anchor.{Anchor}
 use Rattle.sync_plan.specs.declared.plan.Plan.{Plan}
 use Rattle.comm_system.specs.Boundaries.{Side}
 use Rattle.comm_system.specs.Levels.{common, order_at}
-use Rattle.comm_system.specs.Obligations.{Slot, Task, last_of, numbered_from, owners_of, pieces_from}
+use Rattle.comm_system.specs.Obligations.{Slot, Task, lasts_at, last_of, numbered_from, owners_of, pieces_from}
 use Rattle.comm_system.specs.OwnerRows.{Piece, owner_numbers, owners_have, owners_unknowns}
 use Rattle.comm_system.specs.PairRows.{behind_pair, first_of, pair_rows, second_of}
 use Rattle.comm_system.specs.Pairs.{Pair}
@@ -25,7 +25,7 @@ pub record AreUnknowns (tree : Tree) (pair : Pair) (n : Unknowns) : Type 0 where
 -- the system of a pair without its last rows, and the owners' unknowns
 pub record IsShared (tree : Tree) (plan : Plan) (slot : Slot) (producers : List (Anchor × Side)) (pair : Pair) (shared : Shared) : Type 0 where
   pub system : shared.system ≡ system_of (behind_pair tree pair + owners_unknowns (owners_of tree plan slot producers pair) - 1)
-      (pair_rows tree plan.conditions (order_at (common slot.first.outer slot.second.outer) slot.level) pair ++ owners_have plan.workers (behind_pair tree pair) (owners_of tree plan slot producers pair))
+      (pair_rows tree plan.conditions (order_at (common slot.first.outer slot.second.outer) slot.level) (lasts_at plan.cut slot pair) pair ++ owners_have plan.workers (behind_pair tree pair) (owners_of tree plan slot producers pair))
   pub owners : shared.owners.items ≡ owner_numbers (behind_pair tree pair) (owners_of tree plan slot producers pair)
 
 -- of systems that are made one at a time, that of this piece: the rows that all share, then its last rows

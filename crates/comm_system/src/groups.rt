@@ -6,8 +6,9 @@ ghost use Rattle.nest_tree.specs.View.{statement_of, tree_of};
 ghost use Rattle.sync_plan.specs.Fit.{is_dealt as is_dealt_in};
 ghost use Rattle.sync_plan.specs.Shape.{wrong_field};
 ghost use Rattle.comm_system.specs.GroupViews.{listed_seen, paired};
+ghost use Rattle.comm_system.specs.KeptViews.{kept_seen};
 ghost use Rattle.comm_system.specs.Obligations.{slot_signature as signature_under};
-ghost use Rattle.comm_system.specs.Pairs.{conflict, pairs_of};
+ghost use Rattle.comm_system.specs.Pairs.{conflict, pairs_within};
 ghost use Rattle.comm_system.specs.PhaseViews.{phase_seen};
 ghost use Rattle.comm_system.specs.References.{phases_of};
 ghost use Rattle.comm_system.specs.Seen.{reference_seen};
@@ -19,6 +20,7 @@ ghost use Rattle.comm_system.specs.SubjectViews.{subject_at, subject_seen};
 
 use crate::conflict::are_conflicting;
 use crate::group::Group;
+use crate::own::{Kept, all, shared, shown};
 use crate::phase::Phase;
 use crate::reference::Reference;
 use crate::signature::{Signature, slot_signature};
@@ -27,7 +29,7 @@ use crate::slot_list::slots;
 use crate::subject::{Scene, Subject};
 use crate::waits::Waits;
 use nest_tree::{Item, Program};
-use owner_partition::Mark;
+use owner_partition::Cut;
 use std::alloc::{AllocError, Global};
 use sync_plan::Plan;
 
@@ -83,15 +85,15 @@ impl<'b, 'a, 'p> Groups<'b, 'a, 'p> {
         most: u64,
         scene: Scene<'_, 'b, 'a, 'p>,
         a: &'b Reference<'a>,
-        seconds: &'b [Reference<'a>],
+        seconds: &[Kept<'b, 'a>],
     ) -> Result<(), AllocError>
-        ensures { OnOk result (listed_seen self.new ≡ with_subjects most (listed_seen self.old) (map (subject_at scene.entry) (map (paired (reference_seen a.entry.now)) (filter (conflict (reference_seen a.entry.now)) (map reference_seen seconds.entry.now))))) }
+        ensures { OnOk result (listed_seen self.new ≡ with_subjects most (listed_seen self.old) (map (subject_at scene.entry) (map (paired (reference_seen a.entry.now)) (filter (conflict (reference_seen a.entry.now)) (map kept_seen seconds.now))))) }
     {
-        for b in seconds {
+        for &b in seconds {
             if self.next > most {
                 return Ok(());
             }
-            self.add_pair(alloc, most, scene, a, b)?;
+            self.add_pair(alloc, most, scene, a, b.reference)?;
         }
         Ok(())
     }
@@ -102,16 +104,16 @@ impl<'b, 'a, 'p> Groups<'b, 'a, 'p> {
         alloc: Global,
         most: u64,
         scene: Scene<'_, 'b, 'a, 'p>,
-        firsts: &'b [Reference<'a>],
-        seconds: &'b [Reference<'a>],
+        firsts: &[Kept<'b, 'a>],
+        seconds: &[Kept<'b, 'a>],
     ) -> Result<(), AllocError>
-        ensures { OnOk result (listed_seen self.new ≡ with_subjects most (listed_seen self.old) (map (subject_at scene.entry) (flat_map (λ a. map (paired a) (filter (conflict a) (map reference_seen seconds.entry.now))) (map reference_seen firsts.entry.now)))) }
+        ensures { OnOk result (listed_seen self.new ≡ with_subjects most (listed_seen self.old) (map (subject_at scene.entry) (flat_map (λ a. map (paired a) (filter (conflict a) (map kept_seen seconds.now))) (map kept_seen firsts.now)))) }
     {
-        for a in firsts {
+        for &a in firsts {
             if self.next > most {
                 return Ok(());
             }
-            self.add_partners(alloc, most, scene, a, seconds)?;
+            self.add_partners(alloc, most, scene, a.reference, seconds)?;
         }
         Ok(())
     }
@@ -129,35 +131,51 @@ impl<'b, 'a, 'p> Groups<'b, 'a, 'p> {
         if !plan.cut.is_dealt(phase.item) {
             return Ok(());
         }
-        self.add_phase(alloc, most, phase)
+        self.add_phase(alloc, &plan.cut, most, phase)
     }
 
     // Two trips of a phase.
     fn add_phase(
         &mut self,
         alloc: Global,
+        cut: &Cut,
         most: u64,
         phase: &'b Phase<'a>,
     ) -> Result<(), AllocError>
-        ensures { OnOk result (listed_seen self.new ≡ with_subjects most (listed_seen self.old) (map (of_trips (phase_seen phase.entry.now)) (pairs_of (phase_seen phase.entry.now) (phase_seen phase.entry.now)))) }
+        ensures { OnOk result (listed_seen self.new ≡ with_subjects most (listed_seen self.old) (map (of_trips (phase_seen phase.entry.now)) (pairs_within cut.now (phase_seen phase.entry.now)))) }
     {
-        let references = phase.references.as_slice();
-        self.add_pairs(alloc, most, Scene::Trips(phase), references, references)
+        let firsts = shared(alloc, cut, phase)?;
+        let seconds = all(alloc, phase)?;
+        self.add_pairs(
+            alloc,
+            most,
+            Scene::Trips(phase),
+            firsts.as_slice(),
+            seconds.as_slice(),
+        )
     }
 
     // A slot with what the second instance waits for.
     fn add_waits(
         &mut self,
         alloc: Global,
+        cut: &Cut,
         most: u64,
         slot: Slot<'b, 'a>,
         waits: &Waits<'p>,
     ) -> Result<(), AllocError>
-        ensures { OnOk result (listed_seen self.new ≡ with_subjects most (listed_seen self.old) (slot_subjects (slot_seen slot.entry) (waits_of waits.now.left waits.now.right (map producer_seen waits.now.producers.items)))) }
+        ensures { OnOk result (listed_seen self.new ≡ with_subjects most (listed_seen self.old) (slot_subjects cut.now (slot_seen slot.entry) (waits_of waits.now.left waits.now.right (map producer_seen waits.now.producers.items)))) }
     {
-        let firsts = slot.first.references.as_slice();
-        let seconds = slot.second.references.as_slice();
-        self.add_pairs(alloc, most, Scene::Slot(slot, waits), firsts, seconds)
+        let (first, second) = (slot.first, slot.second);
+        let firsts = shown(alloc, cut, first)?;
+        let seconds = shown(alloc, cut, second)?;
+        self.add_pairs(
+            alloc,
+            most,
+            Scene::Slot(slot, waits),
+            firsts.as_slice(),
+            seconds.as_slice(),
+        )
     }
 
     // A slot, unless a barrier stands there.
@@ -171,14 +189,14 @@ impl<'b, 'a, 'p> Groups<'b, 'a, 'p> {
     ) -> Result<(), AllocError>
         requires places { IsTrue (list_all has_places_in plan.now.kinds) }
         requires few { length phases.now < 2 ^ 20 }
-        ensures { OnOk result (listed_seen self.new ≡ with_subjects most (listed_seen self.old) (slot_subjects (slot_seen slot.entry) (signature_under plan.entry.now.version plan.entry.now.kinds (map phase_seen phases.now) (slot_seen slot.entry)))) }
+        ensures { OnOk result (listed_seen self.new ≡ with_subjects most (listed_seen self.old) (slot_subjects plan.entry.now.cut (slot_seen slot.entry) (signature_under plan.entry.now.version plan.entry.now.kinds (map phase_seen phases.now) (slot_seen slot.entry)))) }
     {
         if self.next > most {
             return Ok(());
         }
         match slot_signature(alloc, plan.version, plan.kinds.as_slice(), phases, &slot)? {
             Signature::Blocked => Ok(()),
-            Signature::Waits(waits) => self.add_waits(alloc, most, slot, &waits),
+            Signature::Waits(waits) => self.add_waits(alloc, &plan.cut, most, slot, &waits),
         }
     }
 
@@ -209,7 +227,7 @@ impl<'b, 'a, 'p> Groups<'b, 'a, 'p> {
     ) -> Result<(), AllocError>
         requires places { IsTrue (list_all has_places_in plan.now.kinds) }
         requires few { length phases.now < 2 ^ 20 }
-        ensures { OnOk result (listed_seen self.new ≡ with_subjects most (listed_seen self.old) (flat_map (λ slot. slot_subjects slot (signature_under plan.entry.now.version plan.entry.now.kinds (map phase_seen phases.now) slot)) (map slot_seen slots.now))) }
+        ensures { OnOk result (listed_seen self.new ≡ with_subjects most (listed_seen self.old) (flat_map (λ slot. slot_subjects plan.entry.now.cut slot (signature_under plan.entry.now.version plan.entry.now.kinds (map phase_seen phases.now) slot)) (map slot_seen slots.now))) }
     {
         for &slot in slots {
             self.add_slot(alloc, plan, phases, most, slot)?;
@@ -246,17 +264,18 @@ pub fn list_groups<'b, 'a, 'p>(
 /// number.
 pub fn phase_groups<'b, 'a, 'p>(
     alloc: Global,
+    cut: &Cut,
     most: u64,
     phase: &'b Phase<'a>,
     number: u64,
 ) -> Result<Groups<'b, 'a, 'p>, AllocError>
-    ensures { IfOk result (λ found. listed_seen found ≡ with_subjects most (record { groups = []; next = number }) (map (of_trips (phase_seen phase.entry.now)) (pairs_of (phase_seen phase.entry.now) (phase_seen phase.entry.now)))) }
+    ensures { IfOk result (λ found. listed_seen found ≡ with_subjects most (record { groups = []; next = number }) (map (of_trips (phase_seen phase.entry.now)) (pairs_within cut.now (phase_seen phase.entry.now)))) }
 {
     let mut found = Groups {
         items: Vec::new(alloc),
         next: number,
     };
-    found.add_phase(alloc, most, phase)?;
+    found.add_phase(alloc, cut, most, phase)?;
     Ok(found)
 }
 
@@ -264,17 +283,18 @@ pub fn phase_groups<'b, 'a, 'p>(
 /// number.
 pub fn slot_groups<'b, 'a, 'p>(
     alloc: Global,
+    cut: &Cut,
     most: u64,
     slot: Slot<'b, 'a>,
     waits: &Waits<'p>,
     number: u64,
 ) -> Result<Groups<'b, 'a, 'p>, AllocError>
-    ensures { IfOk result (λ found. listed_seen found ≡ with_subjects most (record { groups = []; next = number }) (slot_subjects (slot_seen slot.entry) (waits_of waits.now.left waits.now.right (map producer_seen waits.now.producers.items)))) }
+    ensures { IfOk result (λ found. listed_seen found ≡ with_subjects most (record { groups = []; next = number }) (slot_subjects cut.now (slot_seen slot.entry) (waits_of waits.now.left waits.now.right (map producer_seen waits.now.producers.items)))) }
 {
     let mut found = Groups {
         items: Vec::new(alloc),
         next: number,
     };
-    found.add_waits(alloc, most, slot, waits)?;
+    found.add_waits(alloc, cut, most, slot, waits)?;
     Ok(found)
 }

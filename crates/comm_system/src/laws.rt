@@ -1,6 +1,6 @@
 // Laws: there is nothing to run.
 
-ghost use Rattle.std.specs.Prelude.{◌≡◌, ◌+◌, ◌-◌, ◌≤◌, ℕ, List, [], ◌∷◌, length, map, take};
+ghost use Rattle.std.specs.Prelude.{◌≡◌, ◌+◌, ◌-◌, ◌≤◌, ℕ, List, [], ◌∷◌, false, length, map, take};
 ghost use Rattle.std.specs.List.{AllByRecursion, Contains, flat_map};
 ghost use Rattle.farkas_cert.specs.Inequalities.{HasNoWholeSolution, IsWholeSolution};
 ghost use Rattle.nest_tree.specs.Tree.{Tree};
@@ -14,9 +14,9 @@ ghost use Rattle.sync_plan.specs.Ordered.{IsOrdered};
 ghost use Rattle.comm_system.specs.Boundaries.{Side, certain_boundaries, of_first, of_second};
 ghost use Rattle.comm_system.specs.Levels.{common, order_at, two_trips};
 ghost use Rattle.comm_system.specs.Meetings.{AreHolders, Holder, LiesAmong, LiesBeside, Meet, Point, holders_values, values_of};
-ghost use Rattle.comm_system.specs.Obligations.{Slot, anchor_at, obligations_of, owners_of, piece_task, slot_signature, slot_tasks, trips_task};
+ghost use Rattle.comm_system.specs.Obligations.{Slot, anchor_at, lasts_at, obligations_of, owners_of, piece_task, slot_signature, slot_tasks, trips_task};
 ghost use Rattle.comm_system.specs.OwnerRows.{Piece, distance};
-ghost use Rattle.comm_system.specs.Pairs.{Pair, pairs_of};
+ghost use Rattle.comm_system.specs.Pairs.{Pair, pairs_of, pairs_within};
 ghost use Rattle.comm_system.specs.References.{StaticPhase, phases_of};
 ghost use Rattle.comm_system.specs.Signatures.{kind_at};
 ghost use Rattle.comm_system.specs.Subjects.{groups_of, obligations_in};
@@ -32,7 +32,7 @@ pub fn slots_see_certain_boundaries()
 /// Where the accesses of a pair meet in two trips of a phase, the values there solve the system of
 /// these trips.
 pub fn meeting_trips_solve()
-    ensures { (tree : Tree) (plan : Plan) (s : StaticPhase) (pair : Pair) (x y : Point) → IsWellFormed tree → IsFit tree plan → Contains (phases_of tree plan.cut.marks) s → Contains (pairs_of s s) pair → Meet tree (two_trips (length s.outer)) pair x y →
+    ensures { (tree : Tree) (plan : Plan) (s : StaticPhase) (pair : Pair) (x y : Point) → IsWellFormed tree → IsFit tree plan → Contains (phases_of tree plan.cut.marks) s → Contains (pairs_within plan.cut s) pair → Meet tree (two_trips (length s.outer)) (false, false) pair x y →
         IsWholeSolution (trips_task tree plan s pair).system (values_of tree pair x y []) }
 {}
 
@@ -41,7 +41,7 @@ pub fn meeting_trips_solve()
 /// producer, the values there solve the system of that piece.
 pub fn meeting_owners_solve()
     ensures { (tree : Tree) (plan : Plan) (slot : Slot) (pair : Pair) (x y : Point) (left right : ℕ) (producers : List (Anchor × Side)) (q p : Holder) (os : List Holder) (piece : Piece) (n : ℕ) → IsWellFormed tree → IsFit tree plan →
-        Contains (phases_of tree plan.cut.marks) slot.first → Contains (phases_of tree plan.cut.marks) slot.second → Contains (pairs_of slot.first slot.second) pair → Meet tree (order_at (common slot.first.outer slot.second.outer) slot.level) pair x y →
+        Contains (phases_of tree plan.cut.marks) slot.first → Contains (phases_of tree plan.cut.marks) slot.second → Contains (pairs_of plan.cut slot.first slot.second) pair → Meet tree (order_at (common slot.first.outer slot.second.outer) slot.level) (lasts_at plan.cut slot pair) pair x y →
         AreHolders tree plan.workers pair x y ((anchor_at plan slot.s, of_first) ∷ (anchor_at plan slot.t, of_second) ∷ producers) (q ∷ p ∷ os) → LiesBeside piece.range (distance piece.range left right) q.owner p.owner → LiesAmong q.owner (map (λ (o : Holder). o.owner) os) piece.producers →
         IsWholeSolution (piece_task tree plan slot left right producers pair n piece).system (values_of tree pair x y (holders_values (owners_of tree plan slot producers pair) (q ∷ p ∷ os))) }
 {}

@@ -26,6 +26,7 @@ pub mod in_place;
 pub mod laws;
 pub mod obligation;
 pub mod obligations;
+pub mod own;
 mod owner_rows;
 pub mod pair_systems;
 pub mod phase;

@@ -7,7 +7,7 @@ ghost use Rattle.nest_tree.specs.WellFormed.{IsWellFormed};
 ghost use Rattle.sync_plan.specs.Shape.{wrong_field};
 ghost use Rattle.comm_system.specs.GroupViews.{group_seen};
 ghost use Rattle.comm_system.specs.Obligations.{numbered_from, obligations_of, slot_tasks, trips_task};
-ghost use Rattle.comm_system.specs.Pairs.{pairs_of};
+ghost use Rattle.comm_system.specs.Pairs.{pairs_within};
 ghost use Rattle.comm_system.specs.PhaseViews.{phase_seen};
 ghost use Rattle.comm_system.specs.SideViews.{producer_seen};
 ghost use Rattle.comm_system.specs.Signatures.{waits as waits_of};
@@ -68,9 +68,9 @@ pub fn trips_obligations(
     number: u64,
 ) -> Result<Vec<Obligation>, AllocError>
     requires { wrong_field (tree_of program.now) plan.now ≡ None }
-    ensures { IfOk result (λ found. found.items ≡ numbered_from number (map (trips_task (tree_of program.now) plan.now (phase_seen phase.now)) (pairs_of (phase_seen phase.now) (phase_seen phase.now)))) }
+    ensures { IfOk result (λ found. found.items ≡ numbered_from number (map (trips_task (tree_of program.now) plan.now (phase_seen phase.now)) (pairs_within plan.now.cut (phase_seen phase.now)))) }
 {
-    let groups = phase_groups(alloc, u64::MAX, phase, number)?;
+    let groups = phase_groups(alloc, &plan.cut, u64::MAX, phase, number)?;
     obligations_in_groups(alloc, program, plan, groups.items.as_slice())
 }
 
@@ -87,7 +87,7 @@ pub fn slot_obligations(
     requires { wrong_field (tree_of program.now) plan.now ≡ None }
     ensures { IfOk result (λ found. found.items ≡ numbered_from number (slot_tasks (tree_of program.now) plan.now (slot_seen slot.now) (waits_of waits.now.left waits.now.right (map producer_seen waits.now.producers.items)))) }
 {
-    let groups = slot_groups(alloc, u64::MAX, *slot, waits, number)?;
+    let groups = slot_groups(alloc, &plan.cut, u64::MAX, *slot, waits, number)?;
     obligations_in_groups(alloc, program, plan, groups.items.as_slice())
 }
 

@@ -24,12 +24,13 @@ ghost use Rattle.comm_system.specs.SystemViews.{AreUnknowns, IsShared};
 
 use crate::in_place::PairSystems;
 use crate::obligation::Obligation;
+use crate::own::is_private_in;
 use crate::owner_rows::{Placed, owners_unknowns, push_owners};
 use crate::phase::Phase;
 use crate::pieces::{Direction, Piece};
 use crate::producer::Side;
 use crate::reference::Reference;
-use crate::rows::{Order, apart, push_pair, unknowns};
+use crate::rows::{Instance, Order, apart, push_pair, unknowns};
 use crate::slot::Slot;
 use crate::waits::Waits;
 use farkas_cert::{NarrowSystem, Row, System};
@@ -110,8 +111,16 @@ pub fn trips_obligation(
         program,
         &plan.conditions,
         order,
-        (n.first, a),
-        (n.second, b),
+        Instance {
+            first: n.first,
+            reference: a,
+            last: false,
+        },
+        Instance {
+            first: n.second,
+            reference: b,
+            last: false,
+        },
     )?;
     Ok(Obligation {
         number,
@@ -251,8 +260,16 @@ pub(crate) fn make_shared<'a>(
         program,
         &plan.conditions,
         order,
-        (n.first, a),
-        (n.second, b),
+        Instance {
+            first: n.first,
+            reference: a,
+            last: is_private_in(&plan.cut, slot.first, a),
+        },
+        Instance {
+            first: n.second,
+            reference: b,
+            last: is_private_in(&plan.cut, slot.second, b),
+        },
     )?;
     let owners = push_owners(
         alloc,

@@ -1,21 +1,21 @@
 // The rows of two instances that access one element.
 
-ghost use Rattle.std.specs.Prelude.{◌≡◌, ◌+◌, ◌*◌, ◌++◌, ◌<◌, ◌^◌, [], ◌∷◌, ℕ, pos, IfOk, IfSome, IsTrue, OnOk, length, map};
+ghost use Rattle.std.specs.Prelude.{◌≡◌, ◌+◌, ◌-ℤ◌, ◌*◌, ◌++◌, ◌<◌, ◌^◌, [], ◌∷◌, ℕ, pos, IfOk, IfSome, IsTrue, OnOk, length, map};
 ghost use Rattle.std.specs.List.{list_all};
 ghost use Rattle.nest_tree.specs.Form.{is_small};
 ghost use Rattle.nest_tree.specs.Layout.{bounds_of as bounds_in};
 ghost use Rattle.nest_tree.specs.Tree.{param_values};
-ghost use Rattle.nest_tree.specs.View.{tree_of};
+ghost use Rattle.nest_tree.specs.View.{head_of, tree_of};
 ghost use Rattle.farkas_cert.specs.Combination.{is_narrow};
 ghost use Rattle.nest_rows.specs.Constraints.{is_tame};
-ghost use Rattle.nest_rows.specs.Groups.{equal as equal_of};
+ghost use Rattle.nest_rows.specs.Groups.{equal as equal_of, sign_of as sign_of_step};
 ghost use Rattle.nest_rows.specs.More.{HasMore};
 ghost use Rattle.nest_rows.specs.Views.{heads_of};
-ghost use Rattle.nest_rows.specs.Signs.{with_sign};
+ghost use Rattle.nest_rows.specs.Signs.{signed, with_sign};
 ghost use Rattle.nest_rows.specs.declared.constraint.Sign.TheVariants.{Minus, Plus};
 ghost use Rattle.sync_plan.specs.Shape.{are_good_conditions, is_good_row};
 ghost use Rattle.sync_plan.specs.declared.plan.Version.{Version};
-ghost use Rattle.comm_system.specs.PairRows.{apart as apart_of, behind_pair, conditions_have, first_of, free_bounds as free_bounds_of, free_have, free_sums as free_sums_of, instance_has, no_more as no_more_of, ordered_so, pair_rows, same_element, same_loops, second_of, subscripts_of, sum_of, unknowns_of};
+ghost use Rattle.comm_system.specs.PairRows.{apart as apart_of, behind_pair, conditions_have, first_of, free_bounds as free_bounds_of, free_have, free_sums as free_sums_of, instance_has, last_has, no_more as no_more_of, ordered_so, pair_rows, past_next as past_next_of, same_element, same_loops, second_of, subscripts_of, sum_of, unknowns_of};
 ghost use Rattle.comm_system.specs.Seen.{pair_of, reference_seen, target_seen};
 ghost use Rattle.comm_system.specs.SmallSteps.{are_small_steps};
 ghost use Rattle.comm_system.specs.RowViews.{bounds_have, condition_of, free_at, is_small_sum, order_seen, sum_seen};
@@ -26,7 +26,7 @@ use nest_rows::groups::{bounded, push_constants, push_guard, push_loops};
 use nest_rows::rows::push_row;
 use nest_rows::terms::push_form;
 use nest_rows::{Around, Constraint, Sign};
-use nest_tree::{Affine, Pairs, Program};
+use nest_tree::{Affine, Nest, Pairs, Program};
 use std::alloc::{AllocError, Global};
 use sync_plan::{ConditionRow, Conditions};
 
@@ -217,27 +217,107 @@ fn push_bounds(
     push_row(alloc, system, &bounded(alloc, Sign::Minus, unknown, low)?)
 }
 
-// An access's instance: its loops, whose first value has this number, its free subscripts, and its
-// comparison.
+// An access, the first unknown of whose instance has this number, and whether it is made in its
+// innermost loop's last trip alone.
+#[derive(Clone, Copy)]
+pub(crate) struct Instance<'b, 'a> {
+    pub(crate) first: u32,
+    pub(crate) reference: &'b Reference<'a>,
+    pub(crate) last: bool,
+}
+
+// An access's instance: its loops, whose first value has this number, its free subscripts, its
+// comparison, and the last trip.
 fn push_instance(
     alloc: Global,
     system: &mut NarrowSystem,
     program: &Program,
-    first: u32,
-    reference: &Reference,
+    instance: Instance,
 ) -> Result<(), AllocError>
-    requires room { first + unknowns_of (tree_of program.now) (reference_seen reference.now) < 2 ^ 32 }
-    requires steps { IsTrue (are_small_steps (heads_of reference.now.around.items)) }
-    ensures { OnOk result (HasMore (instance_has (tree_of program.now) first (reference_seen reference.now)) system.old system.new) }
+    requires room { instance.first + unknowns_of (tree_of program.now) (reference_seen instance.reference.now) < 2 ^ 32 }
+    requires steps { IsTrue (are_small_steps (heads_of instance.reference.now.around.items)) }
+    ensures { OnOk result (HasMore (instance_has (tree_of program.now) instance.entry.first instance.entry.last (reference_seen instance.entry.reference.now)) system.old system.new) }
 {
+    let Instance {
+        first,
+        reference,
+        last,
+    } = instance;
     let around = reference.around.as_slice();
     push_loops(alloc, system, first, around)?;
     let free = first + 2 * around.len() as u32;
     push_free(alloc, system, free, free_bounds(program, reference.target))?;
-    match reference.guard {
-        Some(guard) => push_guard(alloc, system, first, around, guard),
+    if let Some(guard) = reference.guard {
+        push_guard(alloc, system, first, around, guard)?;
+    }
+    push_last_trip(alloc, system, first, around, last)
+}
+
+// The innermost of these loops, whose first value has this number, is in its last trip, where an
+// access is made in that alone.
+fn push_last_trip(
+    alloc: Global,
+    system: &mut NarrowSystem,
+    first: u32,
+    around: &[Around],
+    last: bool,
+) -> Result<(), AllocError>
+    requires room { first + 2 * length around.now < 2 ^ 32 }
+    requires steps { IsTrue (are_small_steps (heads_of around.now)) }
+    ensures { OnOk result (HasMore (last_has last first (heads_of around.now)) system.old system.new) }
+{
+    if !last {
+        return Ok(());
+    }
+    match around.split_last() {
+        Some((innermost, outer)) => {
+            let place = first + 2 * outer.len() as u32;
+            let row = past_next(alloc, first, around, place, innermost.nest)?;
+            push_row(alloc, system, &row)
+        }
         None => Ok(()),
     }
+}
+
+// A loop's value, which has this number, is past the loop's end with one step more.
+fn past_next(
+    alloc: Global,
+    first: u32,
+    around: &[Around],
+    place: u32,
+    nest: &Nest,
+) -> Result<Constraint, AllocError>
+    requires room { first + 2 * length around.now < 2 ^ 32 }
+    requires step { IsTrue (is_small nest.now.step) }
+    ensures is { IfOk result (λ c. c ≡ past_next_of first (heads_of around.now) place (head_of nest.now)) }
+    ensures tame { IfOk result (λ c. IsTrue (is_tame c)) }
+{
+    let sign = sign_of(nest.step);
+    let mut terms = Pairs::new(alloc);
+    terms.push(place, sign.flipped().of(1))?;
+    push_form(&mut terms, sign, first, around, &nest.m2)?;
+    Ok(Constraint {
+        terms,
+        bound: past_bound(sign, nest.step, nest.m2.constant()),
+    })
+}
+
+// What is left of a step less one, without the constant of a loop's end.
+fn past_bound(sign: Sign, step: i64, constant: i64) -> i128
+    ensures value { result ≡ signed sign step -ℤ pos 1 -ℤ signed sign constant }
+    ensures narrow { IsTrue (is_narrow result) }
+{
+    match sign {
+        Sign::Plus => i128::from(step) - 1 - i128::from(constant),
+        Sign::Minus => i128::from(constant) - 1 - i128::from(step),
+    }
+}
+
+// The sign that turns a loop's order to a rising one.
+fn sign_of(step: i64) -> Sign
+    ensures { result ≡ sign_of_step step }
+{
+    if step >= 0 { Sign::Plus } else { Sign::Minus }
 }
 
 // The subscripts of an access, dimension by dimension.
@@ -412,25 +492,23 @@ pub(crate) fn push_pair(
     program: &Program,
     conditions: &Conditions,
     order: Order,
-    a: (u32, &Reference),
-    b: (u32, &Reference),
+    a: Instance,
+    b: Instance,
 ) -> Result<(), AllocError>
     requires good { (constants : ℕ) × (version : Version) × IsTrue (are_good_conditions constants version conditions.now) }
-    requires first { a.0 ≡ first_of (tree_of program.now) }
-    requires second { b.0 ≡ second_of (tree_of program.now) (pair_of a.1.now b.1.now) }
-    requires room { behind_pair (tree_of program.now) (pair_of a.1.now b.1.now) < 2 ^ 31 }
-    requires first_steps { IsTrue (are_small_steps (heads_of a.1.now.around.items)) }
-    requires second_steps { IsTrue (are_small_steps (heads_of b.1.now.around.items)) }
+    requires first { a.first ≡ first_of (tree_of program.now) }
+    requires second { b.first ≡ second_of (tree_of program.now) (pair_of a.reference.now b.reference.now) }
+    requires room { behind_pair (tree_of program.now) (pair_of a.reference.now b.reference.now) < 2 ^ 31 }
+    requires first_steps { IsTrue (are_small_steps (heads_of a.reference.now.around.items)) }
+    requires second_steps { IsTrue (are_small_steps (heads_of b.reference.now.around.items)) }
     requires equal { order.equal + 1 < 2 ^ 30 }
-    ensures { OnOk result (HasMore (pair_rows (tree_of program.now) conditions.now (order_seen order) (pair_of a.entry.1.now b.entry.1.now)) system.old system.new) }
+    ensures { OnOk result (HasMore (pair_rows (tree_of program.now) conditions.now (order_seen order) (a.entry.last, b.entry.last) (pair_of a.entry.reference.now b.entry.reference.now)) system.old system.new) }
 {
-    let (m, first) = a;
-    let (n, second) = b;
     push_conditions(alloc, system, program, conditions)?;
-    push_instance(alloc, system, program, m, first)?;
-    push_instance(alloc, system, program, n, second)?;
-    let xs = subscripts(alloc, program, m, first)?;
-    let ys = subscripts(alloc, program, n, second)?;
+    push_instance(alloc, system, program, a)?;
+    push_instance(alloc, system, program, b)?;
+    let xs = subscripts(alloc, program, a.first, a.reference)?;
+    let ys = subscripts(alloc, program, b.first, b.reference)?;
     push_same_element(alloc, system, xs.as_slice(), ys.as_slice())?;
-    push_order(alloc, system, m, n, order)
+    push_order(alloc, system, a.first, b.first, order)
 }

@@ -1,4 +1,6 @@
+pub mod SeenSums
 pub mod Counted
+pub mod StoredFirst
 pub mod Walked
 pub mod Shown
 pub mod Saturated

@@ -2,6 +2,7 @@
 use Rattle.std.specs.Prelude.{ℕ, ◌+◌, ◌*◌, ◌-◌, ◌==◌, Bool, ◌&&◌, ◌||◌, List, length, slice_get, sum_by, if◌then◌else◌}
 use Rattle.std.specs.Option.{is_some}
 use Rattle.nest_tree.specs.Tree.{Head, Statement, Tree}
+use Rattle.owner_partition.specs.Cuts.{Cutting}
 use Rattle.sync_plan.specs.declared.plan.Kind.{Kind}
 use Rattle.sync_plan.specs.declared.plan.Plan.{Plan}
 use Rattle.sync_plan.specs.Fit.{is_dealt}
@@ -11,16 +12,20 @@ use Rattle.comm_system.specs.Levels.{common, levels}
 use Rattle.comm_system.specs.Obligations.{Slot, slot_signature}
 use Rattle.comm_system.specs.OwnerRows.{pieces}
 use Rattle.comm_system.specs.References.{StaticPhase, phases_of}
+use Rattle.comm_system.specs.Shown.{is_among, is_summed, privates_in}
 use Rattle.comm_system.specs.Signatures.{Signature, blocked, waits, or_nothing}
-use Rattle.obligation_numbers.specs.Sums.{access_sum, sum_from}
+use Rattle.obligation_numbers.specs.Sums.{access_sum, shown_sum, sum_from}
 
 -- 1 where two accesses conflict, each by its variable and whether it stores
 abbrev pub conflict_count : ℕ → Bool → ℕ → Bool → ℕ
 conflict_count v stores w stores' = if v == w && (stores || stores') then 1 else 0
 
--- how many ordered pairs of accesses conflict
-abbrev pub pair_count : Statement → Statement → ℕ
-pair_count s t = access_sum (λ v stores. access_sum (conflict_count v stores) t) s
+-- how many ordered pairs of accesses of two phases conflict under a cut, and in two trips of one phase
+abbrev pub pair_count : Cutting → Statement → Statement → ℕ
+pair_count cut s t = shown_sum cut (λ v stores. shown_sum cut (conflict_count v stores) t) s
+
+abbrev pub within_count : Cutting → Statement → ℕ
+within_count cut s = access_sum (λ v stores. if is_among (privates_in cut s) v || is_summed cut s v then 0 else access_sum (conflict_count v stores) s) s
 
 -- on how many sides the boundary in front of a phase is certain
 abbrev pub sides_at : List Head → List Head → ℕ → ℕ → ℕ → ℕ → List Head → ℕ
@@ -49,7 +54,7 @@ piece_count (waits left right producers) = length (pieces (length producers))
 
 -- the systems of a slot, and those of two phases at all levels
 abbrev pub slot_count : Plan → List StaticPhase → Slot → ℕ
-slot_count plan phases slot = pair_count slot.first.what slot.second.what * piece_count (slot_signature plan.version plan.kinds phases slot)
+slot_count plan phases slot = pair_count plan.cut slot.first.what slot.second.what * piece_count (slot_signature plan.version plan.kinds phases slot)
 
 abbrev pub count_between : Plan → List StaticPhase → ℕ → StaticPhase → ℕ → StaticPhase → ℕ
 count_between plan phases t second s first =
@@ -61,7 +66,7 @@ count_before plan phases t second = sum_from (count_between plan phases t second
 
 -- those of two trips of a phase
 abbrev pub trips_count : Plan → ℕ → StaticPhase → ℕ
-trips_count plan n s = if is_dealt plan.cut.marks s.what then pair_count s.what s.what else 0
+trips_count plan n s = if is_dealt plan.cut.marks s.what then within_count plan.cut s.what else 0
 
 -- those of a plan
 abbrev pub count_of : Tree → Plan → ℕ

@@ -8,9 +8,11 @@ ghost use Rattle.nest_tree.specs.Loads.{loads_among, loads_in};
 ghost use Rattle.nest_tree.specs.View.{expression_of, expressions_from, printed_of, statement_of, statements_from};
 ghost use Rattle.nest_walk.specs.Tables.{loaded_in_item};
 ghost use Rattle.comm_system.specs.References.{variable_of};
-ghost use Rattle.obligation_numbers.specs.Sums.{access_sum, access_sums};
+ghost use Rattle.obligation_numbers.specs.Sums.{access_sum, access_sums, shown_sum, without};
 
+use comm_system::own::privates_in;
 use nest_tree::{Expr, Item, PrintItem};
+use owner_partition::Cut;
 
 // What an access weighs, by its variable and whether it stores.
 pub(crate) trait AccessWeight {
@@ -96,6 +98,37 @@ fn arguments_weight<W: AccessWeight>(weight: &W, arguments: &[Expr]) -> u64
     let mut total = 0u64;
     for argument in arguments {
         total = total.saturating_add(expression_weight(weight, argument));
+    }
+    total
+}
+
+// What accesses weigh, but those of some scalars, which weigh nothing.
+#[derive(Drop)]
+struct Without<'x, W> {
+    weight: &'x W,
+    scalars: &'x [u32],
+}
+
+impl<W: AccessWeight> AccessWeight for Without<'_, W> {
+    ghost weight = { λ x. without x.scalars.now (W.weight x.weight.now) };
+
+    fn weigh(&self, variable: u32, stores: bool) -> u64 {
+        if self.scalars.contains(&variable) {
+            0
+        } else {
+            self.weight.weigh(variable, stores)
+        }
+    }
+}
+
+// What the accesses of a phase weigh that others see: of a private scalar one store.
+pub(crate) fn shown_weight<W: AccessWeight>(weight: &W, cut: &Cut, item: &Item) -> u64
+    ensures { result ≡ u64_saturate (shown_sum cut.now (W.weight weight.now) (statement_of item.now)) }
+{
+    let scalars = privates_in(cut, item);
+    let mut total = statement_weight(&Without { weight, scalars }, item);
+    for &scalar in scalars {
+        total = total.saturating_add(weight.weigh(scalar, true));
     }
     total
 }

@@ -16,6 +16,7 @@ use sync_plan::Plan;
 /// How many obligations a plan has; 2^64 - 1 where there are more. It takes no memory.
 pub fn obligation_count(program: &Program, plan: &Plan) -> u64
     requires formed { IsWellFormed (tree_of program.now) }
+    requires shape { wrong_field (tree_of program.now) plan.now ≡ None }
     ensures { result ≡ u64_saturate (length (obligations_of (tree_of program.now) plan.now)) }
 {
     let trips = phases_weight(&Trips { plan }, program, &plan.cut);

@@ -13,7 +13,7 @@ ghost use Rattle.obligation_numbers.specs.SlotViews.{first_of, phases_at, second
 ghost use Rattle.obligation_numbers.specs.Tests.{passes};
 
 use crate::boundaries::{Certain, Place, Test};
-use crate::conflicts::pair_count;
+use crate::conflicts::{pair_count, within_count};
 use crate::phases::{PhaseWeight, phases_weight};
 use crate::scene::{Both, Scene, Second};
 use nest_rows::{Around, common};
@@ -61,7 +61,7 @@ impl Both<'_, '_> {
 
     // How many systems there are at a level of so many pairs.
     fn slot_count(&self, pairs: u64, level: usize) -> u64
-        requires { pairs ≡ u64_saturate (pairs_between (first_of self.now).what (second_of self.now.second).what) }
+        requires { pairs ≡ u64_saturate (pairs_between self.now.second.scene.plan.now.cut (first_of self.now).what (second_of self.now.second).what) }
         ensures { result ≡ u64_saturate (slot_count self.now.second.scene.plan.now (phases_at self.now) (slot_at self.now level)) }
     {
         if pairs == 0 {
@@ -73,7 +73,7 @@ impl Both<'_, '_> {
 
     // Those at the last levels, so many, of these loops.
     fn carried_count(&self, pairs: u64, loops: usize, left: usize) -> u64
-        requires pairs { pairs ≡ u64_saturate (pairs_between (first_of self.now).what (second_of self.now.second).what) }
+        requires pairs { pairs ≡ u64_saturate (pairs_between self.now.second.scene.plan.now.cut (first_of self.now).what (second_of self.now.second).what) }
         requires left { left ≤ loops }
         ensures { result ≡ u64_saturate (sum_by (λ level. slot_count self.now.second.scene.plan.now (phases_at self.now) (slot_at self.now level)) (range_with_len (loops - left + 1) left)) }
     {
@@ -89,7 +89,8 @@ impl Both<'_, '_> {
     fn count(&self) -> u64
         ensures { result ≡ u64_saturate (count_between self.now.second.scene.plan.now (phases_at self.now) self.now.second.t (second_of self.now.second) self.now.s (first_of self.now)) }
     {
-        let pairs = pair_count(self.item, self.second.item);
+        let cut = &self.second.scene.plan.cut;
+        let pairs = pair_count(cut, self.item, self.second.item);
         let loops = common(self.outer, self.second.outer);
         let carried = self.carried_count(pairs, loops, loops);
         if self.s < self.second.t {
@@ -139,7 +140,7 @@ impl PhaseWeight for Trips<'_> {
 
     fn weigh(&self, _number: u32, _outer: &[Around], item: &Item) -> u64 {
         if self.plan.cut.is_dealt(item) {
-            pair_count(item, item)
+            within_count(&self.plan.cut, item)
         } else {
             0
         }

@@ -1,5 +1,5 @@
 -- Programs that agree have the same obligations, where the conditions on their named constants are the same.
-use Rattle.std.proofs.Common.{◌≡◌, ℕ, suc, ◌+◌, ◌-◌, ◌*◌, ℤ, pos, neg_ℤ, Bool, true, false, cond, List, [], ◌∷◌, ◌++◌, length, map, if◌then◌else◌, refl, sym, ap, subst, ◌∙◌}
+use Rattle.std.proofs.Common.{◌≡◌, ℕ, suc, ◌+◌, ◌-◌, ◌*◌, ℤ, pos, neg_ℤ, Bool, true, false, not, cond, List, [], ◌∷◌, ◌++◌, length, map, if◌then◌else◌, refl, sym, ap, subst, ◌∙◌}
 use Rattle.std.specs.List.{AllByRecursion, filter, flat_map}
 use Rattle.std.proofs.lemmas.List.{length-map, map-append}
 use Rattle.nest_tree.specs.declared.tree.Access.{Access}
@@ -13,17 +13,19 @@ use Rattle.nest_rows.specs.Groups.{guard_has, loops_have}
 use Rattle.nest_rows.specs.Nested.{Nested, nested_among, nested_in}
 use Rattle.nest_rows.proofs.Nesting.{all-append, all-weaker}
 use Rattle.owner_partition.specs.declared.anchor.Anchor.{Anchor}
+use Rattle.owner_partition.specs.Cuts.{Cutting}
 use Rattle.owner_partition.specs.Marks.{enters_outer}
 use Rattle.sync_plan.specs.declared.plan.Plan.{Plan}
 use Rattle.sync_plan.specs.Fit.{is_dealt}
 use Rattle.sync_plan.specs.Shape.{wrong_field}
 use Rattle.comm_system.specs.Boundaries.{Side, of_first, of_second}
 use Rattle.comm_system.specs.Levels.{Order, common, levels, order_at, two_trips}
-use Rattle.comm_system.specs.Obligations.{Slot, Task, anchor_at, last_of, numbered_from, obligations_of, owners_of, pair_tasks, piece_task, pieces_from, placed_at, slot_signature, slot_tasks, slots_before, slots_between, slots_from, slots_of, trips_task, trips_tasks}
+use Rattle.comm_system.specs.Obligations.{Slot, Task, anchor_at, last_of, lasts_at, numbered_from, obligations_of, owners_of, pair_tasks, piece_task, pieces_from, placed_at, slot_signature, slot_tasks, slots_before, slots_between, slots_from, slots_of, trips_task, trips_tasks}
 use Rattle.comm_system.specs.OwnerRows.{Piece, Placed, below, above, distance, owner_numbers, owners_have, owners_unknowns, pieces}
-use Rattle.comm_system.specs.PairRows.{Sum, behind_pair, conditions_have, first_of, free_bounds, free_have, free_sums, instance_has, ordered_so, pair_rows, same_element, second_of, subscripts_of, unknowns_of}
-use Rattle.comm_system.specs.Pairs.{Pair, conflict, pairs_of}
+use Rattle.comm_system.specs.PairRows.{Sum, behind_pair, conditions_have, first_of, free_bounds, free_have, free_sums, instance_has, last_has, ordered_so, pair_rows, same_element, second_of, subscripts_of, unknowns_of}
+use Rattle.comm_system.specs.Pairs.{Pair, conflict, pairs_of, pairs_within}
 use Rattle.comm_system.specs.References.{Reference, StaticPhase, phases_among, reference_of, references_in, references_of, variable_of}
+use Rattle.comm_system.specs.Shown.{is_among, is_own_in, privates_in, shared_of, shown_among, shown_of}
 use Rattle.comm_system.specs.Signatures.{Signature, blocked, waits}
 use Rattle.comm_system.proofs.GoodReferences.{AllIn, among_phases}
 
@@ -40,6 +42,22 @@ each_joined F G Q same (x ∷ xs) h = ap (λ ys. ys ++ flat_map F xs) (same x h.
 all_mapped : {X Y : Type 0} (F G : X → Y) → ((x : X) → F x ≡ G x) → (xs : List X) → map F xs ≡ map G xs
 all_mapped F G same [] = refl
 all_mapped F G same (x ∷ xs) = ap (λ y. y ∷ map F xs) (same x) ∙ ap (λ ys. G x ∷ ys) (all_mapped F G same xs)
+
+all_kept : {X : Type 0} (P : X → Type 0) (p : X → Bool) (xs : List X) → AllByRecursion P xs → AllByRecursion P (filter p xs)
+all_kept P p [] h = tt
+all_kept P p (x ∷ xs) h = elim (p x) as (λ b. AllByRecursion P (cond b (x ∷ filter p xs) (filter p xs))) [ true ↦ (h.0, all_kept P p xs h.1) | false ↦ all_kept P p xs h.1 ]
+
+-- of the accesses that others see
+all_shown : (P : Reference → Type 0) (privates taken : List ℕ) (rs : List Reference) → AllByRecursion P rs → AllByRecursion P (shown_among privates taken rs)
+all_shown P privates taken [] h = tt
+all_shown P privates taken (r ∷ rs) h =
+    by (is_among privates (variable_of r.what)) (is_among taken (variable_of r.what)) (all_shown P privates taken rs h.1) (all_shown P privates (taken ++ variable_of r.what ∷ []) rs h.1)
+  where
+    by : (private before : Bool) → AllByRecursion P (shown_among privates taken rs) → AllByRecursion P (shown_among privates (taken ++ variable_of r.what ∷ []) rs) →
+        AllByRecursion P (if private then (if before then shown_among privates taken rs else r ∷ shown_among privates (taken ++ variable_of r.what ∷ []) rs) else r ∷ shown_among privates taken rs)
+    by true true rest more = rest
+    by true false rest more = (h.0, more)
+    by false before rest more = (h.0, rest)
 
 -- ---- arrays that are printed whole have the same bounds in both
 
@@ -116,8 +134,12 @@ module _ (f g : Tree) where
       let later : List Pair = flat_map (λ a. map (λ b. record { first = a; second = b }) (filter (conflict a) bs)) xs in
       all-append PairSame here later (seconds_same a (conflict a) bs h.0 k) (firsts_same xs bs h.1 k)
 
-  pairs_same : (s t : StaticPhase) → PhaseSame s → PhaseSame t → AllByRecursion PairSame (pairs_of s t)
-  pairs_same s t h k = firsts_same (references_of s) (references_of t) h k
+  pairs_same : (cut : Cutting) (s t : StaticPhase) → PhaseSame s → PhaseSame t → AllByRecursion PairSame (pairs_of cut s t)
+  pairs_same cut s t h k =
+      firsts_same (shown_of cut s) (shown_of cut t) (all_shown HasSame (privates_in cut s.what) [] (references_of s) h) (all_shown HasSame (privates_in cut t.what) [] (references_of t) k)
+
+  within_same : (cut : Cutting) (s : StaticPhase) → PhaseSame s → AllByRecursion PairSame (pairs_within cut s)
+  within_same cut s h = firsts_same (shared_of cut s) (references_of s) (all_kept HasSame (λ r. not (is_own_in cut s r)) (references_of s) h) h
 
   abbrev SlotSame : Slot → Type 0
   SlotSame x = PhaseSame x.first × PhaseSame x.second
@@ -150,39 +172,39 @@ module _ (f g : Tree) (plan : Plan) (long : length f.params ≡ length g.params)
   behind : (pair : Pair) → PairSame f g pair → behind_pair f pair ≡ behind_pair g pair
   behind pair h = ap (λ n. n + unknowns_of f pair.second) (second pair h) ∙ ap (λ n. second_of g pair + n) (unknowns pair.second h.1)
 
-  instance : (n : ℕ) (a : Reference) → HasSame f g a → instance_has f n a ≡ instance_has g n a
-  instance n a h = ap (λ bs. loops_have n a.around n a.around ++ free_have (n + 2 * length a.around) bs ++ guard_has n a.around a.guard) h
+  instance : (n : ℕ) (last : Bool) (a : Reference) → HasSame f g a → instance_has f n last a ≡ instance_has g n last a
+  instance n last a h = ap (λ bs. loops_have n a.around n a.around ++ free_have (n + 2 * length a.around) bs ++ guard_has n a.around a.guard ++ last_has last n a.around) h
 
   subscripts : (n : ℕ) (heads : List Head) (l : Loaded) → free_bounds f l ≡ free_bounds g l → subscripts_of f n heads l ≡ subscripts_of g n heads l
   subscripts n heads (element a) h = refl
   subscripts n heads (array v) h = ap (free_sums (n + 2 * length heads)) h
 
-  rows : (order : Order) (pair : Pair) → PairSame f g pair → pair_rows f plan.conditions order pair ≡ pair_rows g plan.conditions order pair
-  rows order pair h =
+  rows : (order : Order) (lasts : Bool × Bool) (pair : Pair) → PairSame f g pair → pair_rows f plan.conditions order lasts pair ≡ pair_rows g plan.conditions order lasts pair
+  rows order lasts pair h =
       let a = pair.first in
       let b = pair.second in
       let m = first_of f in
       let n = second_of f pair in
       let K : List Constraint → List Constraint → List Constraint → List Sum → List Sum → List Constraint = λ cs is js xs ys. cs ++ is ++ js ++ same_element xs ys ++ ordered_so m n order in
       let R : ℕ → ℕ → List Constraint = λ k l.
-      conditions_have (param_values g) plan.conditions ++ instance_has g k a ++ instance_has g l b ++ same_element (subscripts_of g k a.around a.what) (subscripts_of g l b.around b.what) ++ ordered_so k l order in
+      conditions_have (param_values g) plan.conditions ++ instance_has g k lasts.0 a ++ instance_has g l lasts.1 b ++ same_element (subscripts_of g k a.around a.what) (subscripts_of g l b.around b.what) ++ ordered_so k l order in
       let cf = conditions_have (param_values f) plan.conditions in
       let cg = conditions_have (param_values g) plan.conditions in
-      ap (λ z. K z (instance_has f m a) (instance_has f n b) (subscripts_of f m a.around a.what) (subscripts_of f n b.around b.what)) conds
-      ∙ ap (λ z. K cg z (instance_has f n b) (subscripts_of f m a.around a.what) (subscripts_of f n b.around b.what)) (instance m a h.0)
-      ∙ ap (λ z. K cg (instance_has g m a) z (subscripts_of f m a.around a.what) (subscripts_of f n b.around b.what)) (instance n b h.1)
-      ∙ ap (λ z. K cg (instance_has g m a) (instance_has g n b) z (subscripts_of f n b.around b.what)) (subscripts m a.around a.what h.0)
-      ∙ ap (λ z. K cg (instance_has g m a) (instance_has g n b) (subscripts_of g m a.around a.what) z) (subscripts n b.around b.what h.1)
+      ap (λ z. K z (instance_has f m lasts.0 a) (instance_has f n lasts.1 b) (subscripts_of f m a.around a.what) (subscripts_of f n b.around b.what)) conds
+      ∙ ap (λ z. K cg z (instance_has f n lasts.1 b) (subscripts_of f m a.around a.what) (subscripts_of f n b.around b.what)) (instance m lasts.0 a h.0)
+      ∙ ap (λ z. K cg (instance_has g m lasts.0 a) z (subscripts_of f m a.around a.what) (subscripts_of f n b.around b.what)) (instance n lasts.1 b h.1)
+      ∙ ap (λ z. K cg (instance_has g m lasts.0 a) (instance_has g n lasts.1 b) z (subscripts_of f n b.around b.what)) (subscripts m a.around a.what h.0)
+      ∙ ap (λ z. K cg (instance_has g m lasts.0 a) (instance_has g n lasts.1 b) (subscripts_of g m a.around a.what) z) (subscripts n b.around b.what h.1)
       ∙ ap (λ k. R k n) first ∙ ap (R (first_of g)) (second pair h)
 
   trips : (s : StaticPhase) (pair : Pair) → PairSame f g pair → trips_task f plan s pair ≡ trips_task g plan s pair
   trips s pair h =
       let order = two_trips (length s.outer) in
       let K : ℕ → List Constraint → Task = λ q rs. record { system = system_of (q - 1) rs; lines = (pair.first.line, pair.second.line); variable = variable_of pair.first.what; level = 0; piece = 0; range = (pos 0, pos 0) } in
-      ap (λ q. K q (pair_rows f plan.conditions order pair)) (behind pair h) ∙ ap (K (behind_pair g pair)) (rows order pair h)
+      ap (λ q. K q (pair_rows f plan.conditions order (false, false) pair)) (behind pair h) ∙ ap (K (behind_pair g pair)) (rows order (false, false) pair h)
 
   all_trips : (s : StaticPhase) → PhaseSame f g s → trips_tasks f plan s ≡ trips_tasks g plan s
-  all_trips s h = ap (λ ts. if is_dealt plan.cut.marks s.what then ts else []) (each_mapped (trips_task f plan s) (trips_task g plan s) (PairSame f g) (trips s) (pairs_of s s) (pairs_same f g s s h h))
+  all_trips s h = ap (λ ts. if is_dealt plan.cut.marks s.what then ts else []) (each_mapped (trips_task f plan s) (trips_task g plan s) (PairSame f g) (trips s) (pairs_within plan.cut s) (within_same f g plan.cut s h))
 
   module _ (slot : Slot) (left right : ℕ) (producers : List (Anchor × Side)) (pair : Pair) (h : PairSame f g pair) where
     placed : (u : Anchor × Side) → placed_at f pair u ≡ placed_at g pair u
@@ -200,6 +222,7 @@ module _ (f g : Tree) (plan : Plan) (long : length f.params ≡ length g.params)
     piece : (n : ℕ) (p : Piece) → piece_task f plan slot left right producers pair n p ≡ piece_task g plan slot left right producers pair n p
     piece n p =
         let order = order_at (common slot.first.outer slot.second.outer) slot.level in
+        let lasts = lasts_at plan.cut slot pair in
         let K : ℕ → List Constraint → List Placed → Task = λ q rs os. record {
           system = system_of (q + owners_unknowns os - 1) (rs ++ owners_have plan.workers q os ++ last_of left right (owner_numbers q os) p);
           lines = (pair.first.line, pair.second.line);
@@ -208,9 +231,9 @@ module _ (f g : Tree) (plan : Plan) (long : length f.params ≡ length g.params)
           piece = n;
           range = (neg_ℤ (pos (distance below left right)), pos (distance above left right));
         } in
-        ap (λ q. K q (pair_rows f plan.conditions order pair) (owners_of f plan slot producers pair)) (behind pair h)
-        ∙ ap (λ rs. K (behind_pair g pair) rs (owners_of f plan slot producers pair)) (rows order pair h)
-        ∙ ap (K (behind_pair g pair) (pair_rows g plan.conditions order pair)) owners
+        ap (λ q. K q (pair_rows f plan.conditions order lasts pair) (owners_of f plan slot producers pair)) (behind pair h)
+        ∙ ap (λ rs. K (behind_pair g pair) rs (owners_of f plan slot producers pair)) (rows order lasts pair h)
+        ∙ ap (K (behind_pair g pair) (pair_rows g plan.conditions order lasts pair)) owners
 
     all_pieces : (n : ℕ) (ps : List Piece) → pieces_from (piece_task f plan slot left right producers pair) n ps ≡ pieces_from (piece_task g plan slot left right producers pair) n ps
     all_pieces n [] = refl
@@ -221,7 +244,7 @@ module _ (f g : Tree) (plan : Plan) (long : length f.params ≡ length g.params)
   slot_same slot blocked h = refl
   slot_same slot (waits left right producers) h =
       each_joined (pair_tasks f plan slot left right producers) (pair_tasks g plan slot left right producers) (PairSame f g) (λ pair k. all_pieces slot left right producers pair k 1 (pieces (length producers)))
-      (pairs_of slot.first slot.second) (pairs_same f g slot.first slot.second h.0 h.1)
+      (pairs_of plan.cut slot.first slot.second) (pairs_same f g plan.cut slot.first slot.second h.0 h.1)
 
   abbrev tasks_among : Tree → List StaticPhase → List Task
   tasks_among tree phases = flat_map (trips_tasks tree plan) phases ++ flat_map (λ slot. slot_tasks tree plan slot (slot_signature plan.version plan.kinds phases slot)) (slots_of phases)

@@ -24,7 +24,7 @@ use Rattle.sync_plan.specs.Fit.{IsFit}
 use Rattle.sync_plan.specs.Shape.{are_good_conditions}
 use Rattle.comm_system.specs.Boundaries.{Boundary, Side, certain_boundaries}
 use Rattle.comm_system.specs.Levels.{common, order_at}
-use Rattle.comm_system.specs.Obligations.{Slot, Task, last_of, numbered_from, obligations_of, owners_of, pair_tasks, piece_task, pieces_from, slot_signature, slot_tasks, slots_of, tasks_of, trips_tasks}
+use Rattle.comm_system.specs.Obligations.{Slot, Task, last_of, lasts_at, numbered_from, obligations_of, owners_of, pair_tasks, piece_task, pieces_from, slot_signature, slot_tasks, slots_of, tasks_of, trips_tasks}
 use Rattle.comm_system.specs.OwnerRows.{Direction, Piece, beside, distance, owner_numbers, owners_have, owners_unknowns, pieces, above, below}
 use Rattle.comm_system.specs.PairRows.{behind_pair, pair_rows}
 use Rattle.comm_system.specs.Pairs.{Pair, pairs_of}
@@ -98,12 +98,12 @@ module _ (left right more_left more_right : ℕ) (lefts : left ≤ more_left) (r
       let vars = q + owners_unknowns owners - 1 in
       record {
         vars = refl;
-        rows = mapped_tighter vars (pair_rows tree plan.conditions order pair) (owners_have plan.workers q owners) (last_of left right (owner_numbers q owners) piece) (last_of more_left more_right (owner_numbers q owners) piece) (last_tighter vars (owner_numbers q owners) piece);
+        rows = mapped_tighter vars (pair_rows tree plan.conditions order (lasts_at plan.cut slot pair) pair) (owners_have plan.workers q owners) (last_of left right (owner_numbers q owners) piece) (last_of more_left more_right (owner_numbers q owners) piece) (last_tighter vars (owner_numbers q owners) piece);
       }
 
   slot_stricter : (tree : Tree) (plan : Plan) (slot : Slot) (producers : List (Anchor × Side)) → AreStricter (slot_tasks tree plan slot (waits left right producers)) (slot_tasks tree plan slot (waits more_left more_right producers))
   slot_stricter tree plan slot producers =
-      stricter_each (pair_tasks tree plan slot left right producers) (pair_tasks tree plan slot more_left more_right producers) (pairs_of slot.first slot.second)
+      stricter_each (pair_tasks tree plan slot left right producers) (pair_tasks tree plan slot more_left more_right producers) (pairs_of plan.cut slot.first slot.second)
       (λ pair. stricter_pieces (piece_task tree plan slot left right producers pair) (piece_task tree plan slot more_left more_right producers pair) 1 (pieces (length producers)) (λ n p. piece_stricter tree plan slot producers pair n p))
 
 -- ---- of a plan

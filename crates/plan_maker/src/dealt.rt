@@ -65,6 +65,6 @@ fn judge_phase(
     if !plan.cut.is_dealt(phase.item) {
         return Ok(Verdict::Refuted(Vec::new(alloc)));
     }
-    let groups = phase_groups(alloc, u64::MAX, phase, 1)?;
+    let groups = phase_groups(alloc, &plan.cut, u64::MAX, phase, 1)?;
     judge_groups(alloc, program, plan, groups.items.as_slice(), &[], findings)
 }

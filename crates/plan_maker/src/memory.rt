@@ -136,7 +136,7 @@ fn judge_slot(
     requires shape { wrong_field (tree_of program.now) plan.now ≡ None }
     ensures { IfOk result (IsVerdict (slot_asked (tree_of program.now) plan.now (slot_seen slot.now) (waits_seen waits.now))) }
 {
-    let groups = slot_groups(alloc, u64::MAX, *slot, waits, 1)?;
+    let groups = slot_groups(alloc, &plan.cut, u64::MAX, *slot, waits, 1)?;
     let dists = owners_dealt(alloc, plan, slot, waits)?;
     judge_groups(
         alloc,

@@ -115,7 +115,7 @@ impl Ground<'_, '_, '_> {
     ) -> Result<Option<Found>, AllocError>
         ensures { IfOk result (λ found. IfSome found (IsFoundIn (numbered_from 1 (slot_tasks (tree_of self.now.program.now) self.now.plan.now (slot_seen slot.now) (waits_of waits.now.left waits.now.right (map producer_seen waits.now.producers.items)))) wanted.now)) }
     {
-        let groups = slot_groups(alloc, u64::MAX, *slot, waits, 1)?;
+        let groups = slot_groups(alloc, &self.plan.cut, u64::MAX, *slot, waits, 1)?;
         let planned = Planned {
             program: self.program,
             plan: self.plan,

@@ -20,7 +20,7 @@ returns c =
     let phases = map phase_seen c.args.phases.now in
     let start : Listed = record { groups = []; next = 1 } in
     let trips = flat_map (trips_subjects plan) phases in
-    let f : Slot → List Subject = λ slot. slot_subjects slot (slot_signature plan.version plan.kinds phases slot) in
+    let f : Slot → List Subject = λ slot. slot_subjects plan.cut slot (slot_signature plan.version plan.kinds phases slot) in
     let slots : map slot_seen c.as_slice.result.now ≡ slots_of phases = ap (map slot_seen) c.as_slice.ensures.value ∙ c.in_ok-slots.ensures in
     c.in_ok-add_all_slots.ensures ∙ ap (λ ss. with_subjects most (listed_seen c.add_all_trips.new.self) (flat_map f ss)) slots
     ∙ ap (λ l. with_subjects most l (flat_map f (slots_of phases))) (c.in_ok-add_all_trips.ensures ∙ ap (λ gs. with_subjects most (record { groups = map group_seen gs; next = 1 }) trips) c.new.ensures.items)

@@ -9,4 +9,4 @@ use Rattle.comm_system.proofs.groups.slot_groups.Goals as goal
 pub returns : goal.returns
 returns c =
     let held = c.args.waits.now in
-    c.in_ok-add_waits.ensures ∙ ap (λ gs. with_subjects c.args.most (record { groups = map group_seen gs; next = c.args.number }) (slot_subjects (slot_seen c.args.slot) (waits held.left held.right (map producer_seen held.producers.items)))) c.new.ensures.items
+    c.in_ok-add_waits.ensures ∙ ap (λ gs. with_subjects c.args.most (record { groups = map group_seen gs; next = c.args.number }) (slot_subjects c.args.cut.now (slot_seen c.args.slot) (waits held.left held.right (map producer_seen held.producers.items)))) c.new.ensures.items

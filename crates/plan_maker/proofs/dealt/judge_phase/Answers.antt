@@ -5,7 +5,7 @@ use Rattle.nest_tree.specs.View.{tree_of}
 use Rattle.sync_plan.specs.Fit.{is_dealt}
 use Rattle.comm_system.specs.GroupViews.{group_seen, listed_seen}
 use Rattle.comm_system.specs.Obligations.{trips_task}
-use Rattle.comm_system.specs.Pairs.{pairs_of}
+use Rattle.comm_system.specs.Pairs.{pairs_within}
 use Rattle.comm_system.specs.PhaseViews.{phase_seen}
 use Rattle.comm_system.specs.Subjects.{obligations_in}
 use Rattle.comm_system.proofs.GroupLists.{of_phase}
@@ -19,7 +19,7 @@ returns c =
     let tree = tree_of c.args.program.now in
     let plan = c.args.plan.now in
     let s = phase_seen c.args.phase.now in
-    let tasks = map (trips_task tree plan s) (pairs_of s s) in
+    let tasks = map (trips_task tree plan s) (pairs_within plan.cut s) in
     let dealt : is_dealt plan.cut.marks s.what ≡ true = sym c.is_dealt.ensures ∙ c.if-not-is_dealt.false in
     let most : ℕ = 18446744073709551615 in
     let within : c.in_ok-groups.groups.next ≤ most = search rules in

@@ -13,7 +13,7 @@ loop-slot-preserved c =
     let slots = c.args.slots.now in
     let plan = c.args.plan.now in
     let phases = map phase_seen c.args.phases.now in
-    let f : Slot → List Subject = λ slot. slot_subjects slot (slot_signature plan.version plan.kinds phases slot) in
+    let f : Slot → List Subject = λ slot. slot_subjects plan.cut slot (slot_signature plan.version plan.kinds phases slot) in
     let k = c.loop-slot.slot-index in
     let x = c.slot-item.result in
     listed_more c.args.most (listed_seen c.loop-slot.self) (listed_seen c.add_slot.new.self) (with_subjects c.args.most (listed_seen c.args.self.now) (flat_map f (map slot_seen slots))) (flat_map f (map slot_seen (drop k slots))) (f (slot_seen x)) (flat_map f (map slot_seen (drop (k + 1) slots)))

@@ -11,4 +11,4 @@ pub returns-then-self-most : goal.returns-then-self-most
 returns-then-self-most c =
     let plan = c.args.plan.now in
     let slot = slot_seen c.args.slot in
-    all_past c.args.most (listed_seen c.args.self.now) (slot_subjects slot (slot_signature plan.version plan.kinds (map phase_seen c.args.phases.now) slot)) c.if-self-most.true
+    all_past c.args.most (listed_seen c.args.self.now) (slot_subjects plan.cut slot (slot_signature plan.version plan.kinds (map phase_seen c.args.phases.now) slot)) c.if-self-most.true

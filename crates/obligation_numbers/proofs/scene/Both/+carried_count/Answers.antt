@@ -1,4 +1,4 @@
-use Rattle.std.proofs.Common.{◌-◌, ◌<◌, ℕ, arith}
+use Rattle.std.proofs.Common.{◌<◌, ℕ, arith}
 use Rattle.obligation_numbers.specs.Counts.{slot_count}
 use Rattle.obligation_numbers.specs.SlotViews.{phases_at, slot_at}
 use Rattle.obligation_numbers.proofs.Levels.{next_level}

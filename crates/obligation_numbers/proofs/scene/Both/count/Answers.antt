@@ -2,7 +2,7 @@ use Rattle.std.proofs.Common.{◌≡◌, ◌+◌, ◌-◌, ℕ, if◌then◌else
 use Rattle.std.specs.Prelude.{sum_by}
 use Rattle.std.specs.List.{range_with_len}
 use Rattle.std.proofs.lemmas.Bool.{lt-ltb}
-use Rattle.comm_system.specs.Levels.{common, levels}
+use Rattle.comm_system.specs.Levels.{levels}
 use Rattle.obligation_numbers.specs.Counts.{slot_count}
 use Rattle.obligation_numbers.specs.SlotViews.{phases_at, slot_at}
 use Rattle.obligation_numbers.proofs.Levels.{all_levels}

@@ -11,7 +11,7 @@ pub returns-then-pairs-eq0 : goal.returns-then-pairs-eq0
 returns-then-pairs-eq0 c =
     let x = c.args.self.now in
     let plan = x.second.scene.plan.now in
-    let pairs = pair_count (first_of x).what (second_of x.second).what in
+    let pairs = pair_count plan.cut (first_of x).what (second_of x.second).what in
     let pieces = piece_count (slot_signature plan.version plan.kinds (phases_at x) (slot_at x c.args.level)) in
     let none : pairs ≡ 0 = omega (arith, c.requires, c.if-pairs-eq0.true) in
     sym (ap (λ n. u64_saturate (n * pieces)) none ∙ ap u64_saturate (zero-mul pieces))
@@ -19,5 +19,5 @@ returns-then-pairs-eq0 c =
 pub returns-else-pairs-eq0 : goal.returns-else-pairs-eq0
 returns-else-pairs-eq0 c =
     let x = c.args.self.now in
-    let pairs = pair_count (first_of x).what (second_of x.second).what in
+    let pairs = pair_count x.second.scene.plan.now.cut (first_of x).what (second_of x.second).what in
     c.saturating_mul.ensures ∙ ap (λ n. u64_saturate (n * c.piece_count.result)) c.requires ∙ product_saturated pairs c.piece_count.result ∙ ap (λ n. u64_saturate (pairs * n)) c.piece_count.ensures

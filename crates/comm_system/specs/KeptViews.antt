@@ -1,0 +1,7 @@
+-- Accesses that are kept, as plain data.
+use Rattle.comm_system.specs.References.{Reference}
+use Rattle.comm_system.specs.Seen.{reference_seen}
+use Rattle.comm_system.specs.declared.own.Kept.{Kept}
+
+abbrev pub kept_seen : Kept → Reference
+kept_seen k = reference_seen k.reference.now
