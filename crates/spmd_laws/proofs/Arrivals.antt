@@ -9,7 +9,7 @@ use Rattle.std.proofs.lemmas.List.Elements.{All-append, All-cons, All-head, All-
 use Rattle.std.proofs.lemmas.List.Sums.{fold-append}
 use Rattle.std.proofs.lemmas.Option.{slice_get_within}
 use Rattle.sync_plan.proofs.Gets.{get-behind, get-front}
-use Rattle.spmd_model.specs.Timelines.{Act, post, await, load, store, add, print, Job, Moment, Word, boundary, job, acts_from, boundary_acts, job_acts, last_act, moment_acts}
+use Rattle.spmd_model.specs.Timelines.{Act, post, await, load, store, add, print, Job, Moment, Word, counter, signal, boundary, job, acts_from, boundary_acts, job_acts, last_act, moment_acts}
 use Rattle.owner_partition.proofs.Sites.{all_at}
 use Rattle.spmd_laws.specs.Protocols.{arrived, is_arrival}
 use Rattle.spmd_laws.proofs.Lists.{every}
@@ -36,10 +36,11 @@ job_works t j =
 owned_works : (p t : ℕ) (j : Job) → All IsWork (moment_acts p t (job j))
 owned_works p t j = elim (j.owner == p) as (λ b. All IsWork (if b then job_acts t j else [])) [ true ↦ job_works t j | false ↦ All-nil IsWork ]
 
--- how many boundaries there are among moments
+-- how many boundaries on counters there are among moments
 abbrev pub boundaries : List Moment → ℕ
 boundaries [] = 0
-boundaries (boundary w n posts awaits ∷ xs) = 1 + boundaries xs
+boundaries (boundary counter n posts awaits ∷ xs) = 1 + boundaries xs
+boundaries (boundary signal n posts awaits ∷ xs) = boundaries xs
 boundaries (job j ∷ xs) = boundaries xs
 
 module _ (gathers : ℕ → Bool) where
@@ -281,22 +282,33 @@ module _ (gathers : ℕ → Bool) where
 
   -- ---- how many there are
 
-  at_most_one : (p t : ℕ) (w : Word) (n : ℕ) (posts : ℕ → Bool) (awaits : ℕ → List ℕ) → arrivals (moment_acts p t (boundary w n posts awaits)) ≤ 1
-  at_most_one p t w n posts awaits = by (posts p)
+  at_most_one : (p t n : ℕ) (posts : ℕ → Bool) (awaits : ℕ → List ℕ) → arrivals (moment_acts p t (boundary counter n posts awaits)) ≤ 1
+  at_most_one p t n posts awaits = by (posts p)
     where
       few : (b : Bool) → (if b then 1 else 0) ≤ 1
       few true = omega arith
       few false = omega arith
 
-      by : (b : Bool) → arrivals (boundary_acts p w n b (awaits p)) ≤ 1
-      by true = let all = with_post w n (awaits p) in omega (arith, all, few (is_arrival gathers w n))
-      by false = let none = awaits_none w n (awaits p) in omega (arith, none)
+      by : (b : Bool) → arrivals (boundary_acts p counter n b (awaits p)) ≤ 1
+      by true = let all = with_post counter n (awaits p) in omega (arith, all, few (gathers n))
+      by false = let none = awaits_none counter n (awaits p) in omega (arith, none)
+
+  -- signals are no arrivals
+  none_by_signals : (p t n : ℕ) (posts : ℕ → Bool) (awaits : ℕ → List ℕ) → arrivals (moment_acts p t (boundary signal n posts awaits)) ≡ 0
+  none_by_signals p t n posts awaits = by (posts p)
+    where
+      by : (b : Bool) → arrivals (boundary_acts p signal n b (awaits p)) ≡ 0
+      by true = with_post signal n (awaits p)
+      by false = awaits_none signal n (awaits p)
 
   pub few_arrivals : (p place : ℕ) (xs : List Moment) → arrivals (acts_from p place xs) ≤ boundaries xs
   few_arrivals p place [] = omega arith
-  few_arrivals p place (boundary w n posts awaits ∷ xs) =
-      let parts = both (moment_acts p place (boundary w n posts awaits)) (acts_from p (suc place) xs) in
-      omega (arith, parts, at_most_one p place w n posts awaits, few_arrivals p (suc place) xs)
+  few_arrivals p place (boundary counter n posts awaits ∷ xs) =
+      let parts = both (moment_acts p place (boundary counter n posts awaits)) (acts_from p (suc place) xs) in
+      omega (arith, parts, at_most_one p place n posts awaits, few_arrivals p (suc place) xs)
+  few_arrivals p place (boundary signal n posts awaits ∷ xs) =
+      let parts = both (moment_acts p place (boundary signal n posts awaits)) (acts_from p (suc place) xs) in
+      omega (arith, parts, none_by_signals p place n posts awaits, few_arrivals p (suc place) xs)
   few_arrivals p place (job j ∷ xs) =
       let parts = both (moment_acts p place (job j)) (acts_from p (suc place) xs) in
       let none = works_none (moment_acts p place (job j)) (owned_works p place j) in

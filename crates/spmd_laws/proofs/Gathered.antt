@@ -10,7 +10,6 @@ use Rattle.nest_tree.specs.Limits.{IsWithinLimits}
 use Rattle.nest_tree.specs.Tree.{Tree, param_values}
 use Rattle.nest_tree.specs.WellFormed.{IsWellFormed}
 use Rattle.nest_tree.proofs.FirstLimits.{kept}
-use Rattle.nest_model.specs.Instances.{Instance}
 use Rattle.nest_model.specs.Visits.{Visit}
 use Rattle.nest_model.proofs.Stops.{stops-few}
 use Rattle.owner_partition.specs.Marks.{enters_outer}
@@ -22,7 +21,7 @@ use Rattle.sync_plan.specs.Waits.{awaited_behind, does_wait_at, is_awaited_behin
 use Rattle.sync_plan.proofs.ProcessorSets.{any_from}
 use Rattle.spmd_model.specs.Timelines.{Act, post, await, load, store, add, print, Job, Machine, Moment, Word, counter, signal, boundary, job, act_at, acts_of}
 use Rattle.spmd_model.specs.Ordered.{IsSound}
-use Rattle.spmd_model.specs.Lawful.{IsPosted, counted, counter_at}
+use Rattle.spmd_model.specs.Lawful.{counted, counter_at}
 use Rattle.spmd_model.specs.Planned.{boundary_of, job_of, machine_of, timeline_from, timeline_of}
 use Rattle.spmd_model.proofs.Counters.{counter_posted, counter_reaches, lower_in_front}
 use Rattle.spmd_model.proofs.Lists.{one_element, take-behind, take-more}
@@ -32,7 +31,7 @@ use Rattle.spmd_model.proofs.PlannedSound.{boundary_is}
 use Rattle.spmd_laws.specs.Viewed.{barriers_in_front}
 use Rattle.spmd_laws.specs.Protocols.{is_arrival, passed_first, settled, shown, shown_behind}
 use Rattle.sync_plan.specs.Boundaries.{gathers, is_barrier, kind_before}
-use Rattle.spmd_laws.proofs.Arrivals.{Joins, arrivals, await_behind, await_reached, boundaries, few_arrivals, front, post_reached, seen, weights, weights-append}
+use Rattle.spmd_laws.proofs.Arrivals.{Joins, arrivals, await_reached, boundaries, few_arrivals, front, post_reached, weights, weights-append}
 
 -- ---- at a barrier each processor awaits another
 
@@ -64,45 +63,38 @@ barrier_is (Some Both) h = absurd (cc)
 barrier_is (Some Barrier) h = refl
 barrier_is (Some Join) h = absurd (cc)
 
+pub parts_of : (tree : Tree) (plan : Plan) (e n : ℕ) (v : Visit) (posts : ℕ → Bool) (awaits : ℕ → List ℕ) → boundary counter n posts awaits ≡ boundary_of tree plan e v →
+    (n ≡ e - 1) × (posts ≡ (λ q. posts_at tree plan q v.place v.loops)) × (awaits ≡ (λ q. waits_for tree plan q v.place v.loops))
+parts_of tree plan e n v posts awaits same = (cc, cc, cc)
+
+-- at a phase's boundary where its number is gathered each processor posts, and awaits another
+pub joins_boundary : (tree : Tree) (plan : Plan) (p k n : ℕ) (v : Visit) (posts : ℕ → Bool) (awaits : ℕ → List ℕ) → p < plan.workers → slice_get (phases tree plan.cut.marks) k ≡ Some v → boundary counter n posts awaits ≡ boundary_of tree plan (1 + k) v →
+    Joins (gathers tree plan) p (boundary counter n posts awaits)
+joins_boundary tree plan p k n v posts awaits inside at is g =
+    let parts = parts_of tree plan (1 + k) n v posts awaits is in
+    let number : n ≡ k = omega (arith, parts.0) in
+    let both = and_parts (is_barrier (kind_before plan (slice_get (phases tree plan.cut.marks) n))) (nat_lt 1 plan.workers) g in
+    let kind : slice_get plan.kinds (v.place - 1) ≡ Some Barrier =
+    barrier_is (slice_get plan.kinds (v.place - 1)) (sym (ap (λ o. is_barrier (kind_before plan o)) (ap (slice_get (phases tree plan.cut.marks)) number ∙ at)) ∙ both.0) in
+    let o = other_than p plan.workers (ltb-true 1 plan.workers both.1) inside in
+    let waits = passes (does_wait_at Barrier 0 p) 0 plan.workers o.0 (omega arith) (omega (arith, o.1)) (apart_waits p o.0 (λ e. o.2 (sym e))) in
+    let posts_here = any_from (λ q. does_wait_at Barrier 0 q p) 0 plan.workers o.0 (omega arith) (omega (arith, o.1)) (apart_waits o.0 p o.2) in (
+      ap (λ f. f p) parts.1 ∙ ap (λ k. is_awaited_behind k plan.workers v.loops (param_values tree) p) kind ∙ posts_here,
+      (waits.0, waits.1, ap (λ f. f p) parts.2 ∙ ap (λ k. awaited_behind k plan.workers v.loops (param_values tree) p) kind ∙ waits.2),
+    )
+
 joins_at : (tree : Tree) (plan : Plan) (p : ℕ) → p < plan.workers → (t : ℕ) (x : Moment) → slice_get (timeline_of tree plan) t ≡ Some x → Joins (gathers tree plan) p x
 joins_at tree plan p inside t (job j) at = tt
 joins_at tree plan p inside t (boundary signal n posts awaits) at = λ g. absurd (true≢false (sym g))
-joins_at tree plan p inside t (boundary counter n posts awaits) at = λ g. at_barrier g
-  where
-    parts_of : (e : ℕ) (v : Visit) → boundary counter n posts awaits ≡ boundary_of tree plan e v → (n ≡ e - 1) × (posts ≡ (λ q. posts_at tree plan q v.place v.loops)) × (awaits ≡ (λ q. waits_for tree plan q v.place v.loops))
-    parts_of e v same = (cc, cc, cc)
+joins_at tree plan p inside t (boundary counter n posts awaits) at =
+    let b = boundary_is tree plan 1 (phases tree plan.cut.marks) t counter n posts awaits at in joins_boundary tree plan p b.phase n b.visit posts awaits inside b.at b.is
 
-    at_barrier : gathers tree plan n ≡ true → (posts p ≡ true) × ((o : ℕ) × (rest : List ℕ) × (awaits p ≡ o ∷ rest))
-    at_barrier g =
-        let b = boundary_is tree plan 1 (phases tree plan.cut.marks) t counter n posts awaits at in
-        let v = b.visit in
-        let parts = parts_of (1 + b.phase) v b.is in
-        let number : n ≡ b.phase = omega (arith, parts.0) in
-        let both = and_parts (is_barrier (kind_before plan (slice_get (phases tree plan.cut.marks) n))) (nat_lt 1 plan.workers) g in
-        let kind : slice_get plan.kinds (v.place - 1) ≡ Some Barrier =
-        barrier_is (slice_get plan.kinds (v.place - 1)) (sym (ap (λ o. is_barrier (kind_before plan o)) (ap (slice_get (phases tree plan.cut.marks)) number ∙ b.at)) ∙ both.0) in
-        let o = other_than p plan.workers (ltb-true 1 plan.workers both.1) inside in
-        let waits = passes (does_wait_at Barrier 0 p) 0 plan.workers o.0 (omega arith) (omega (arith, o.1)) (apart_waits p o.0 (λ e. o.2 (sym e))) in
-        let posts_here = any_from (λ q. does_wait_at Barrier 0 q p) 0 plan.workers o.0 (omega arith) (omega (arith, o.1)) (apart_waits o.0 p o.2) in (
-          ap (λ f. f p) parts.1 ∙ ap (λ k. is_awaited_behind k plan.workers v.loops (param_values tree) p) kind ∙ posts_here,
-          (waits.0, waits.1, ap (λ f. f p) parts.2 ∙ ap (λ k. awaited_behind k plan.workers v.loops (param_values tree) p) kind ∙ waits.2),
-        )
-
-all_from : {X : Type 0} (P : X → Type 0) (xs : List X) → ((t : ℕ) (x : X) → slice_get xs t ≡ Some x → P x) → All P xs
+pub all_from : {X : Type 0} (P : X → Type 0) (xs : List X) → ((t : ℕ) (x : X) → slice_get xs t ≡ Some x → P x) → All P xs
 all_from P [] h = All-nil P
 all_from P (x ∷ xs) h = All-cons P x xs (h 0 x refl) (all_from P xs (λ t y e. h (suc t) y e))
 
-joins : (tree : Tree) (plan : Plan) (p : ℕ) → p < plan.workers → All (Joins (gathers tree plan) p) (timeline_of tree plan)
+pub joins : (tree : Tree) (plan : Plan) (p : ℕ) → p < plan.workers → All (Joins (gathers tree plan) p) (timeline_of tree plan)
 joins tree plan p inside = all_from (Joins (gathers tree plan) p) (timeline_of tree plan) (joins_at tree plan p inside)
-
--- who has arrived as often as one who awaits has done the post
-pub arrived_posted : (tree : Tree) (plan : Plan) (p q i k n : ℕ) → p < plan.workers → q < plan.workers → act_at (machine_of tree plan) p i ≡ Some (await counter q n) → gathers tree plan n ≡ true →
-    arrivals (gathers tree plan) (take i (acts_of (machine_of tree plan) p)) ≤ arrivals (gathers tree plan) (take k (acts_of (machine_of tree plan) q)) → IsPosted (acts_of (machine_of tree plan) q) counter n k
-arrived_posted tree plan p q i k n inside other e g le = seen (gathers tree plan) p q 0 (timeline_of tree plan) (joins tree plan p inside) (joins tree plan q other) i k counter q n e g le
-
--- an await stands behind an arrival
-pub arrival_awaits : (tree : Tree) (plan : Plan) (p i n : ℕ) → p < plan.workers → act_at (machine_of tree plan) p i ≡ Some (post counter n) → gathers tree plan n ≡ true → (o : ℕ) × (act_at (machine_of tree plan) p (i + 1) ≡ Some (await counter o n))
-arrival_awaits tree plan p i n inside e g = await_behind (gathers tree plan) p 0 (timeline_of tree plan) (joins tree plan p inside) i counter n e g
 
 pub await_settled : (cells : ℕ) (acts : List Act) (i o n : ℕ) → slice_get acts i ≡ Some (await counter o n) → settled cells acts i ≡ i
 await_settled cells acts i o n e =
@@ -112,7 +104,7 @@ await_settled cells acts i o n e =
 
 -- ---- how often a processor arrives
 
-no_boundaries : (f : Instance → Job) (is : List Instance) (xs : List Moment) → boundaries (map (λ i. job (f i)) is ++ xs) ≡ boundaries xs
+pub no_boundaries : {X : Type 0} (f : X → Job) (is : List X) (xs : List Moment) → boundaries (map (λ i. job (f i)) is ++ xs) ≡ boundaries xs
 no_boundaries f [] xs = refl
 no_boundaries f (i ∷ is) xs = no_boundaries f is xs
 
@@ -123,20 +115,25 @@ boundary_each tree plan e (v ∷ vs) =
     let rest = boundary_each tree plan (suc e) vs in
     ap (λ n. 1 + n) (jobs ∙ rest) ∙ omega arith
 
-pub arrivals_few : (tree : Tree) (plan : Plan) (p k : ℕ) → IsWellFormed tree → IsWithinLimits tree → arrivals (gathers tree plan) (take k (acts_of (machine_of tree plan) p)) ≤ 2 ^ 40
-arrivals_few tree plan p k formed limits =
-    let some = front (gathers tree plan) (acts_of (machine_of tree plan) p) k in
-    let all = few_arrivals (gathers tree plan) p 0 (timeline_of tree plan) in
-    let each = boundary_each tree plan 1 (phases tree plan.cut.marks) in
-    let stops : length (phases tree plan.cut.marks) ≤ 2 ^ 40 = most (stops-few tree (enters_outer plan.cut.marks) formed) (kept tree limits).most_worked in
-    omega (arith, some, all, each, stops)
+pub phases_few : (tree : Tree) (plan : Plan) → IsWellFormed tree → IsWithinLimits tree → length (phases tree plan.cut.marks) ≤ 2 ^ 40
+phases_few tree plan formed limits = most (stops-few tree (enters_outer plan.cut.marks) formed) (kept tree limits).most_worked
   where
     most : {a b c : ℕ} → a ≤ b → b ≤ c → a ≤ c
     most le le' = omega (arith, le, le')
 
+-- along a timeline with at most so many boundaries on counters
+pub arrive_few : (m : Machine) (gathered : ℕ → Bool) (most : ℕ) → boundaries m.timeline ≤ most → (p k : ℕ) → arrivals gathered (take k (acts_of m p)) ≤ most
+arrive_few m gathered most few p k =
+    let some = front gathered (acts_of m p) k in
+    let all = few_arrivals gathered p 0 m.timeline in
+    omega (arith, some, all, few)
+
+pub arrivals_few : (tree : Tree) (plan : Plan) (p k : ℕ) → IsWellFormed tree → IsWithinLimits tree → arrivals (gathers tree plan) (take k (acts_of (machine_of tree plan) p)) ≤ 2 ^ 40
+arrivals_few tree plan p k formed limits = arrive_few (machine_of tree plan) (gathers tree plan) (2 ^ 40) (let each = boundary_each tree plan 1 (phases tree plan.cut.marks) in let few = phases_few tree plan formed limits in omega (arith, each, few)) p k
+
 -- ---- which barriers a processor has arrived at
 
-no_weight : (gathered : ℕ → Bool) (f : Instance → Job) (is : List Instance) → weights gathered (map (λ i. job (f i)) is) ≡ 0
+pub no_weight : {X : Type 0} (gathered : ℕ → Bool) (f : X → Job) (is : List X) → weights gathered (map (λ i. job (f i)) is) ≡ 0
 no_weight gathered f [] = refl
 no_weight gathered f (i ∷ is) = zero-add (weights gathered (map (λ k. job (f k)) is)) ∙ no_weight gathered f is
 

@@ -7,3 +7,7 @@ mod Gathered
 mod Held
 mod States
 mod Phases
+mod StyledBarriers
+mod StyledCells
+mod StyledHeld
+mod OwnValues

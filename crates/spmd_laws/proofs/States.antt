@@ -1,28 +1,21 @@
 -- Shared cells as those of a state of the machine, act by act.
-use Rattle.std.proofs.Common.{◌≡◌, ℕ, ◌+◌, ◌-◌, ◌<◌, ℤ, pos, true, true≢false, List, [], ◌++◌, length, replicate, Some, refl, ap, sym, subst, ◌∙◌, ⊎_elim}
+use Rattle.std.proofs.Common.{◌≡◌, ℕ, ◌+◌, ◌-◌, ◌<◌, ℤ, pos, true, true≢false, ◌≤◌, List, ◌++◌, length, replicate, Some, refl, ap, sym, subst, ◌∙◌, ⊎_elim, arith}
 use Rattle.std.specs.Prelude.{slice_set}
 use Rattle.std.proofs.lemmas.Bool.{cases_lt, leb-true}
-use Rattle.std.proofs.lemmas.List.{append-nil, get_or_append_left, length-replicate, length-set, set_past, set-append_left, set-append_right}
-use Rattle.nest_tree.specs.Layout.{cell_count}
-use Rattle.nest_tree.specs.Tree.{Tree}
-use Rattle.nest_tree.specs.WellFormed.{IsWellFormed}
+use Rattle.std.proofs.lemmas.List.{get_or_append_left, length-replicate, replicate-append-replicate, length-set, set_past, set-append_left, set-append_right}
 use Rattle.nest_model.specs.Memory.{cell_value}
-use Rattle.sync_plan.specs.Fit.{IsFit}
-use Rattle.sync_plan.specs.Ordered.{IsOrdered as IsOrderedPlan}
-use Rattle.sync_plan.specs.declared.plan.Plan.{Plan}
 use Rattle.spmd_model.specs.Cells.{plus}
-use Rattle.spmd_model.specs.Timelines.{Act, post, await, load, store, add, print}
+use Rattle.spmd_model.specs.Timelines.{Act, post, await, load, store, add, print, Machine, act_at, acts_of}
+use Rattle.spmd_model.specs.Ordered.{IsOrdered, IsSound}
+use Rattle.spmd_model.specs.Shared.{AreLawful}
 use Rattle.spmd_model.specs.Lawful.{IsLawful, Moves}
-use Rattle.spmd_model.specs.Planned.{machine_of}
 use Rattle.spmd_model.specs.Reached.{IsPossibleAt, memory_by, state_at}
 use Rattle.spmd_model.specs.Sequential.{stored_at}
 use Rattle.spmd_model.specs.States.{State, first_state, stepped}
 use Rattle.spmd_model.proofs.ActLaws as law
-use Rattle.spmd_model.proofs.PlannedSound.{ordered_of, sound_of}
 use Rattle.spmd_model.proofs.StateAt.{first_at, stays_lawful, steps_to}
 use Rattle.spmd_laws.specs.Protocols.{is_passed}
-use Rattle.spmd_laws.specs.Viewed.{AreLawfulUnder, AreOfState, acts_under, protocol_of, stored_under}
-use Rattle.spmd_laws.specs.Protocols as Protocols
+use Rattle.spmd_laws.specs.Viewed.{AreIn}
 
 -- an act leaves the shared cells in front of the own ones
 split_by : (cells own : List ℤ) (v : ℤ) (a : Act) → (after : List ℤ) × (memory_by (cells ++ own) v a ≡ memory_by cells v a ++ after)
@@ -54,36 +47,35 @@ passed_leaves cells v (store t c) passed = set_past cells c v (leb-true (length 
 passed_leaves cells v (add t c) passed = absurd (true≢false (sym passed))
 passed_leaves cells v (print t) passed = refl
 
-module _ (tree : Tree) (plan : Plan) where
-  pub first_of_state : IsWellFormed tree → IsFit tree plan → AreOfState tree plan (replicate (cell_count tree) (pos 0)) (λ p. 0) (first_state (machine_of tree plan))
-  first_of_state formed fits = record {
-    own = [];
-    count = length-replicate (cell_count tree) (pos 0);
-    lawful = subst (λ x. IsLawful (machine_of tree plan) x (λ p. 0)) (sym (append-nil (replicate (cell_count tree) (pos 0)))) (law.first (machine_of tree plan) (λ p. 0) (sound_of tree plan formed fits) (λ p lt. refl));
-    is = first_at (machine_of tree plan) ∙ ap (λ x. state_at (machine_of tree plan) x (λ p. 0)) (sym (append-nil (replicate (cell_count tree) (pos 0))));
-  }
+-- of a machine whose processors share so many cells
+module _ (m : Machine) (shared : ℕ) where
+  pub first_of_state : IsSound m → shared ≤ m.cells → AreIn m shared (replicate shared (pos 0)) (λ p. 0) (first_state m)
+  first_of_state sound le =
+      let zeros : List ℤ = replicate (m.cells - shared) (pos 0) in
+      let all : shared + (m.cells - shared) ≡ m.cells = omega (arith, le) in
+      let whole : replicate m.cells (pos 0) ≡ replicate shared (pos 0) ++ zeros = ap (λ n. replicate n (pos 0)) (sym all) ∙ sym (replicate-append-replicate shared (m.cells - shared) (pos 0)) in
+      record {
+        own = zeros;
+        count = length-replicate shared (pos 0);
+        lawful = subst (λ x. IsLawful m x (λ p. 0)) whole (law.first m (λ p. 0) sound (λ p lt. refl));
+        is = first_at m ∙ ap (λ x. state_at m x (λ p. 0)) whole;
+      }
 
-  pub lawful_of_state : (cells : List ℤ) (at : ℕ → ℕ) (s : State) → AreOfState tree plan cells at s → (protocol_of tree plan).lawful cells at
-  unfolding AreLawfulUnder
+  pub lawful_of_state : (cells : List ℤ) (at : ℕ → ℕ) (s : State) → AreIn m shared cells at s → AreLawful m shared cells at
   lawful_of_state cells at s shows = record { count = shows.count; own = shows.own; lawful = shows.lawful }
 
-  pub state_of_lawful : (cells : List ℤ) (at : ℕ → ℕ) → (protocol_of tree plan).lawful cells at → (s : State) × AreOfState tree plan cells at s
-  unfolding AreLawfulUnder
-  state_of_lawful cells at l = (state_at (machine_of tree plan) (cells ++ l.own) at, record { own = l.own; count = l.count; lawful = l.lawful; is = refl })
+  pub state_of_lawful : (cells : List ℤ) (at : ℕ → ℕ) → AreLawful m shared cells at → (s : State) × AreIn m shared cells at s
+  state_of_lawful cells at l = (state_at m (cells ++ l.own) at, record { own = l.own; count = l.count; lawful = l.lawful; is = refl })
 
-  pub step_of_state : (cells : List ℤ) (at after : ℕ → ℕ) (p : ℕ) (a : Act) (s : State) → IsWellFormed tree → IsFit tree plan → IsOrderedPlan tree plan → p < plan.workers → AreOfState tree plan cells at s → Protocols.act_at (protocol_of tree plan) p (at p) ≡ Some a →
-      IsPossibleAt (protocol_of tree plan).acts at a → Moves at after p (at p + 1) → AreOfState tree plan (memory_by cells ((protocol_of tree plan).stored_at p (at p)) a) after (stepped (machine_of tree plan) s p)
-  unfolding acts_under stored_under
-  step_of_state cells at after p a s formed fits ordered lt shows e possible moves =
-      let m = machine_of tree plan in
+  pub step_of_state : (cells : List ℤ) (at after : ℕ → ℕ) (p : ℕ) (a : Act) (s : State) → IsSound m → IsOrdered m → p < m.workers → AreIn m shared cells at s → act_at m p (at p) ≡ Some a → IsPossibleAt (acts_of m) at a → Moves at after p (at p + 1) →
+      AreIn m shared (memory_by cells (stored_at m p (at p)) a) after (stepped m s p)
+  step_of_state cells at after p a s sound ordered lt shows e possible moves =
       let memory = cells ++ shows.own in
       let v = stored_at m p (at p) in
-      let sound = sound_of tree plan formed fits in
-      let chained = ordered_of tree plan formed fits ordered in
       let split = split_by cells shows.own v a in
       record {
         own = split.0;
         count = size_by cells v a ∙ shows.count;
-        lawful = subst (λ x. IsLawful m x after) split.1 (stays_lawful m memory at after p lt moves sound chained shows.lawful a e possible);
-        is = ap (λ x. stepped m x p) shows.is ∙ steps_to m memory at after p lt moves sound chained shows.lawful a e possible ∙ ap (λ x. state_at m x after) split.1;
+        lawful = subst (λ x. IsLawful m x after) split.1 (stays_lawful m memory at after p lt moves sound ordered shows.lawful a e possible);
+        is = ap (λ x. stepped m x p) shows.is ∙ steps_to m memory at after p lt moves sound ordered shows.lawful a e possible ∙ ap (λ x. state_at m x after) split.1;
       }

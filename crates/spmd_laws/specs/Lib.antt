@@ -1,4 +1,5 @@
 pub mod Protocols
 pub mod Laws
 pub mod Viewed
+pub mod Styled
 pub mod Examples

@@ -6,7 +6,7 @@ use Rattle.nest_tree.specs.Tree.{Tree}
 use Rattle.nest_model.specs.Memory.{last_memory, output_of}
 use Rattle.sync_plan.specs.Boundaries.{gathers}
 use Rattle.sync_plan.specs.declared.plan.Plan.{Plan}
-use Rattle.spmd_model.specs.Timelines.{Act, acts_of}
+use Rattle.spmd_model.specs.Timelines.{Act, Machine, acts_of}
 use Rattle.spmd_model.specs.Sequential.{loaded_at, registers_at, stored_at}
 use Rattle.spmd_model.specs.Lawful.{IsLawful, printed_at}
 use Rattle.spmd_model.specs.Shared.{AreLawful}
@@ -59,9 +59,13 @@ protocol_of tree plan = record {
 
 -- ---- as states of the machine
 
--- cells that all share, at these places, are those of a state of the machine: with some own cells behind them its memory is lawful
-pub record AreOfState (tree : Tree) (plan : Plan) (cells : List ℤ) (at : ℕ → ℕ) (s : State) : Type 0 where
+-- cells that all share, so many, at these places, are those of a state of a machine: with some own cells behind them its memory is lawful
+pub record AreIn (m : Machine) (shared : ℕ) (cells : List ℤ) (at : ℕ → ℕ) (s : State) : Type 0 where
   pub own : List ℤ
-  pub count : length cells ≡ cell_count tree
-  pub lawful : IsLawful (machine_of tree plan) (cells ++ own) at
-  pub is : s ≡ state_at (machine_of tree plan) (cells ++ own) at
+  pub count : length cells ≡ shared
+  pub lawful : IsLawful m (cells ++ own) at
+  pub is : s ≡ state_at m (cells ++ own) at
+
+-- of the plan's machine
+abbrev pub AreOfState : Tree → Plan → List ℤ → (ℕ → ℕ) → State → Type 0
+AreOfState tree plan cells at s = AreIn (machine_of tree plan) (cell_count tree) cells at s

@@ -1,0 +1,28 @@
+-- How the values that contracts see of a table, its seats and its end are stored in proofs.
+use Rattle.std.specs.Prelude.{ℕ, ℤ, List, Option, refl}
+use Rattle.std.specs.Coded.{Coded, code_by, coded×, coded_ℕ, coded_ℤ, coded_list, coded_option}
+use Rattle.atomic_table.specs.Seated.{TableId, table_id_coded}
+use Rattle.nest_tree.specs.contracts.tree.Program as programs
+use Rattle.sync_plan.specs.contracts.plan.Plan as plans
+use Rattle.spmd_model.specs.contracts.style.Style as styles
+use Rattle.cell_table.specs.contracts.view.Stage as stages
+use Rattle.cell_table.specs.declared.view.Stage.{Stage}
+use Rattle.styled_table.specs.Homes.{Home, CellView, MainView, Subject}
+use Rattle.styled_table.specs.Ends.{End}
+
+abbrev pub given_code : Coded (Option Subject)
+given_code = coded_option (coded× programs.the_row.coded (coded× plans.the_row.coded styles.the_row.coded))
+
+abbrev pub home_code : Coded Home
+home_code = code_by (TableId × Option Subject) (coded× table_id_coded given_code) (λ h. (h.table, h.given)) (λ x. record { table = x.0; given = x.1 }) (λ _. refl)
+
+abbrev pub cell_view_code : Coded CellView
+cell_view_code =
+    code_by (Home × (ℕ × (ℕ × ℕ))) (coded× home_code (coded× coded_ℕ (coded× coded_ℕ coded_ℕ))) (λ v. (v.home, (v.processor, (v.position, v.misses))))
+    (λ x. record { home = x.0; processor = x.1.0; position = x.1.1.0; misses = x.1.1.1 }) (λ _. refl)
+
+abbrev pub main_view_code : Coded MainView
+main_view_code = code_by (Home × List Stage) (coded× home_code (coded_list stages.the_row.coded)) (λ v. (v.home, v.stages)) (λ x. record { home = x.0; stages = x.1 }) (λ _. refl)
+
+abbrev pub end_code : Coded End
+end_code = code_by (Option Subject × List ℤ) (coded× given_code (coded_list coded_ℤ)) (λ e. (e.given, e.memory)) (λ x. record { given = x.0; memory = x.1 }) (λ _. refl)

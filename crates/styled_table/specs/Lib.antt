@@ -1,0 +1,6 @@
+pub mod Runs
+pub mod Homes
+pub mod Rule
+pub mod Calls
+pub mod Ends
+pub mod Codes

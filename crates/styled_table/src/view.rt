@@ -1,0 +1,21 @@
+// What the seats of a table know: values that stand in proofs alone.
+
+use cell_table::Role;
+use nest_tree::Program;
+use spmd_model::Style;
+use sync_plan::Plan;
+
+/// What a seat knows: of which program, plan and style it is, and whose. A seat that was joined to
+/// another knows nothing.
+pub enum View {
+    Seated(Program, Plan, Style, Role),
+    Away,
+}
+
+/// The program, the plan and the style for which a table is made.
+#[derive(Drop)]
+pub struct Given<'a> {
+    pub program: &'a Program,
+    pub plan: &'a Plan,
+    pub style: Style,
+}
