@@ -16,6 +16,7 @@ use plan_text::{read_plan, write_plan};
 use range_check::check_ranges;
 use seq_meaning::run_sequential;
 use spmd_machine::Machine;
+use spmd_model::Style;
 use std::alloc::{AllocError, Global};
 
 /// The program of the source that the bytes begin with, all of whose subscripts are in range, and
@@ -116,7 +117,7 @@ fn round_robin(rt: &HostRuntime, program: &Program, text: &[u8]) -> Result<Measu
     requires short { length text.now ≤ MOST_BYTES }
 {
     let plan = read_fitting(rt.alloc(), program, text)?;
-    let mut machine = Machine::new(rt.alloc(), program, &plan)?;
+    let mut machine = Machine::new(rt.alloc(), program, &plan, Style::Arrive)?;
     let begun = now(rt)?;
     machine.round_robin();
     measured(rt, "round robin", &begun, machine.output().as_slice())

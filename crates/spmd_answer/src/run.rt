@@ -22,6 +22,7 @@ use plan_text::write_plan;
 use reason_text::push_reasons;
 use seq_meaning::run_sequential;
 use spmd_machine::Machine;
+use spmd_model::Style;
 use spmd_ports::Gate;
 use spmd_run::run_spmd;
 use std::alloc::{AllocError, Global};
@@ -126,7 +127,7 @@ fn core_output(alloc: Global, program: &Program, plan: &Plan) -> Result<Vec<u8>,
     requires ordered { IsOrdered (tree_of program.now) plan.now }
     ensures { IfOk result (λ text. text.items ≡ output_of (tree_of program.now)) }
 {
-    let mut machine = Machine::new(alloc, program, plan)?;
+    let mut machine = Machine::new(alloc, program, plan, Style::Arrive)?;
     machine.round_robin();
     machine.output().as_slice().to_vec(alloc)
 }

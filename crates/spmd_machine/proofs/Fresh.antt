@@ -1,30 +1,40 @@
--- Processors at their first acts.
-use Rattle.std.proofs.Common.{◌≡◌, ℕ, suc, ◌+◌, ◌<◌, ◌≤◌, ℤ, pos, true, List, [], ◌∷◌, ◌++◌, map, get_or, length, replicate, Some, refl, sym, ◌∙◌, ap, subst, inl, inr, arith, sum_by, length-append, append-nil, drop, take}
+-- Processors at their first turns.
+use Rattle.std.proofs.Common.{◌≡◌, ℕ, suc, ◌+◌, ◌-◌, ◌*◌, ◌<◌, ◌≤◌, ◌&&◌, ℤ, pos, Bool, true, false, List, [], ◌∷◌, ◌++◌, map, get_or, length, replicate, Some, if◌then◌else◌, refl, sym, ◌∙◌, ap, subst, inl, inr, arith, sum_by, length-append, append-nil, drop, take}
 use Rattle.std.specs.Prelude.{slice_get}
 use Rattle.std.specs.List.{flat_map, list_all, range_with_len}
-use Rattle.std.proofs.lemmas.Bool.{cases_lt}
-use Rattle.std.proofs.lemmas.List.{drop_all, get_or_append_left, get_or_at, take_all}
+use Rattle.std.proofs.lemmas.Bool.{and_parts, cases_lt}
+use Rattle.std.proofs.lemmas.List.{drop_all, get_or_append_left, get_or_at, length-replicate, replicate-append-replicate, take_all}
 use Rattle.std.proofs.lemmas.List.Elements.{All-nil}
-use Rattle.std.proofs.lemmas.List.Sums.{sum_by-cons}
+use Rattle.std.proofs.lemmas.List.Sums.{sum_by-append, sum_by-cons}
 use Rattle.nest_tree.specs.Layout.{cell_count}
+use Rattle.nest_tree.specs.Limits.{IsWithinLimits}
 use Rattle.nest_tree.specs.Tree.{Tree}
+use Rattle.nest_tree.specs.WellFormed.{IsWellFormed}
 use Rattle.nest_model.specs.Instances.{instances}
-use Rattle.nest_model.specs.Ranges.{is_instance_inside}
+use Rattle.nest_model.specs.Ranges.{IsInRange, is_instance_inside}
 use Rattle.nest_walk.specs.declared.table.WorkCells.{WorkCells}
 use Rattle.owner_partition.specs.Phases.{phases}
+use Rattle.sync_plan.specs.Fit.{IsFit}
 use Rattle.sync_plan.specs.declared.plan.Plan.{Plan}
-use Rattle.spmd_model.specs.Planned.{machine_of}
+use Rattle.spmd_model.specs.Rounds.{rounds_of}
 use Rattle.spmd_model.specs.States.{State, first_state}
-use Rattle.spmd_machine.specs.Machines.{IsReached}
-use Rattle.spmd_machine.specs.Processors.{IsFresh, IsIdle, IsKept, all_of, left_of, position_of, room_of, state_of}
+use Rattle.spmd_model.specs.Styled.{machine_by}
+use Rattle.spmd_model.specs.Timelines.{counter, signal}
+use Rattle.spmd_model.specs.declared.style.Style.{Style}
+use Rattle.spmd_model.proofs.StyledDeeds.{styled_deeds as acts_do}
+use Rattle.spmd_turns.specs.Loads.{AreWide, widths}
 use Rattle.spmd_turns.specs.Rooms.{longest_output, turn_room}
-use Rattle.spmd_turns.specs.Turns.{is_turn_inside, turn_deeds, turns_from}
-use Rattle.spmd_turns.specs.TurnsLeft.{turns_left}
+use Rattle.spmd_turns.specs.Turns.{Turn, posts, awaits, begins, works, is_turn_inside, turns_from}
+use Rattle.spmd_turns.proofs.PhaseSums.{all_inside, rooms_below}
+use Rattle.styled_turns.specs.StyledTurns.{Standing, StyledTurn, sets, waits, runs, closes, all_rounds, begun, behind, closed, first_round, first_standing, has_signals, is_signalled, places_pending, round_turn, styled, styled_deeds}
+use Rattle.styled_turns.specs.StyledTurns.{rounds_before}
+use Rattle.styled_turns.specs.StyledLeft.{styled_left, styled_plan, styled_processor}
+use Rattle.styled_turns.proofs.TurnsAct.{turns_act}
+use Rattle.spmd_machine.specs.Machines.{IsReached}
+use Rattle.spmd_machine.specs.Processors.{BeginsNext, IsFresh, IsKept, all_of, is_styled_inside, left_of, position_of, room_of, state_of, styled_room}
 use Rattle.spmd_machine.specs.declared.processor.Processor.{Processor}
 use Rattle.spmd_machine.proofs.Kept.{idle_begun, left_idle}
-use Rattle.spmd_turns.proofs.PhaseSums.{all_inside, rooms_below}
-use Rattle.spmd_turns.proofs.TurnDeeds.{turns_do}
-use Rattle.spmd_turns.specs.Loads.{widths, AreWide}
+use Rattle.spmd_machine.proofs.Steps.{same_state}
 
 pub pushed_all : {X : Type 0} (P : ℕ → X → Type 0) (xs ys : List X) (x : X) (n : ℕ) → length xs ≡ n → ys ≡ xs ++ x ∷ [] → ((p : ℕ) (d : X) → p < length xs → P p (get_or xs p d)) → P n x →
     (p : ℕ) (d : X) → p < length ys → P p (get_or ys p d)
@@ -51,49 +61,171 @@ same_sums f g (x ∷ ps) a h =
     let first : f x ≡ g a = h 0 x (omega arith) ∙ ap g (omega arith) in
     omega (arith, sum_by-cons f x ps, sum_by-cons g a (range_with_len (a + 1) (length ps)), first, same_sums f g ps (a + 1) (λ p d lt. h (suc p) d (omega arith) ∙ ap g (omega arith)))
 
-module _ (tree : Tree) (plan : Plan) (size : ℕ) where
-  fresh_left : (p : ℕ) (x : Processor) → IsFresh tree plan size p x → left_of x ≡ all_of tree plan p
+own_zeros : (ps : List Processor) → ((p : ℕ) (d : Processor) → p < length ps → (get_or ps p d).own ≡ replicate 32 (pos 0)) → flat_map (λ (x : Processor). x.own) ps ≡ replicate (32 * length ps) (pos 0)
+own_zeros [] h = let none : 0 ≡ 32 * 0 = omega arith in ap (λ n. replicate n (pos 0)) none
+own_zeros (x ∷ ps) h =
+    let more : 32 + 32 * length ps ≡ 32 * suc (length ps) = omega arith in
+    ap (λ l. l ++ flat_map (λ (z : Processor). z.own) ps) (h 0 x (omega arith)) ∙ ap (λ l. replicate 32 (pos 0) ++ l) (own_zeros ps (λ p d lt. h (suc p) d (omega (arith, lt))))
+    ∙ replicate-append-replicate 32 (32 * length ps) (pos 0) ∙ ap (λ n. replicate n (pos 0)) more
+
+-- ---- what styled turns print and access is what the plain ones do
+
+module _ (style : Style) (tree : Tree) (plan : Plan) (p : ℕ) where
+  map_room : (f : ℕ → StyledTurn) → ((k : ℕ) → styled_room tree (f k) ≡ 0) → (ks : List ℕ) → sum_by (styled_room tree) (map f ks) ≡ 0
+  map_room f none [] = refl
+  map_room f none (k ∷ ks) = omega (arith, sum_by-cons (styled_room tree) (f k) (map f ks), none k, map_room f none ks)
+
+  front_room : (xs ys : List StyledTurn) → sum_by (styled_room tree) xs ≡ 0 → sum_by (styled_room tree) (xs ++ ys) ≡ sum_by (styled_room tree) ys
+  front_room xs ys none = omega (arith, sum_by-append (styled_room tree) xs ys, none)
+
+  one_room : (b : Bool) (t : StyledTurn) → styled_room tree t ≡ 0 → sum_by (styled_room tree) (if b then [] else t ∷ []) ≡ 0
+  one_room true t none = refl
+  one_room false t none = let nothing : sum_by (styled_room tree) [] ≡ 0 = refl in omega (arith, sum_by-cons (styled_room tree) t [], none, nothing)
+
+  word_room : (b : Bool) (n q k : ℕ) → styled_room tree (if b then sets signal n else waits signal q k) ≡ 0
+  word_room true n q k = refl
+  word_room false n q k = refl
+
+  rounds_room : (b : Bool) (barriers : ℕ) → sum_by (styled_room tree) (if b then all_rounds plan.workers p barriers else []) ≡ 0
+  rounds_room true barriers = map_room (round_turn plan.workers p (first_round plan.workers barriers)) (λ k. word_room _ _ _ _) (range_with_len 0 (rounds_of plan.workers * 2))
+  rounds_room false barriers = refl
+
+  styled_rooms : (s : Standing) (ts : List Turn) → sum_by (styled_room tree) (styled style tree plan p s ts) ≡ sum_by (turn_room tree) ts
+  styled_rooms s [] = map_room (closes s.place) (λ k. refl) (places_pending s.pending)
+  styled_rooms s (posts number ∷ rest) =
+      let front = if is_signalled style tree plan number then [] else sets counter number ∷ [] in
+      let later = styled style tree plan p (closed s) rest in
+      let none : turn_room tree (posts number) ≡ 0 = refl in
+      omega (
+        arith,
+        front_room (map (closes s.place) (places_pending s.pending)) (front ++ later) (map_room (closes s.place) (λ k. refl) (places_pending s.pending)),
+        front_room front later (one_room (is_signalled style tree plan number) (sets counter number) refl),
+        styled_rooms (closed s) rest,
+        sum_by-cons (turn_room tree) (posts number) rest,
+        none,
+      )
+  styled_rooms s (awaits on wanted ∷ rest) =
+      let front = if is_signalled style tree plan wanted then [] else waits counter on wanted ∷ [] in
+      let later = styled style tree plan p (closed s) rest in
+      let none : turn_room tree (awaits on wanted) ≡ 0 = refl in
+      omega (
+        arith,
+        front_room (map (closes s.place) (places_pending s.pending)) (front ++ later) (map_room (closes s.place) (λ k. refl) (places_pending s.pending)),
+        front_room front later (one_room (is_signalled style tree plan wanted) (waits counter on wanted) refl),
+        styled_rooms (closed s) rest,
+        sum_by-cons (turn_room tree) (awaits on wanted) rest,
+        none,
+      )
+  styled_rooms s (begins e ∷ rest) =
+      let front = rounds_before style tree plan p s e in
+      let later = styled style tree plan p (begun style tree plan s e) rest in
+      let none : turn_room tree (begins e) ≡ 0 = refl in
+      omega (
+        arith,
+        front_room (map (closes s.place) (places_pending s.pending)) (front ++ later) (map_room (closes s.place) (λ k. refl) (places_pending s.pending)),
+        front_room front later (rounds_room (has_signals style plan (slice_get (phases tree plan.cut.marks) (e - 1))) s.barriers),
+        styled_rooms (begun style tree plan s e) rest,
+        sum_by-cons (turn_room tree) (begins e) rest,
+        none,
+      )
+  styled_rooms s (works i ∷ rest) =
+      let later = styled style tree plan p (behind tree plan s i) rest in
+      let same : styled_room tree (runs s.place i) ≡ turn_room tree (works i) = refl in
+      omega (arith, sum_by-cons (styled_room tree) (runs s.place i) later, sum_by-cons (turn_room tree) (works i) rest, styled_rooms (behind tree plan s i) rest, same)
+
+  map_inside : (f : ℕ → StyledTurn) → ((k : ℕ) → is_styled_inside tree (f k) ≡ true) → (ks : List ℕ) → list_all (is_styled_inside tree) (map f ks) ≡ true
+  map_inside f all [] = refl
+  map_inside f all (k ∷ ks) = ap (λ b. b && list_all (is_styled_inside tree) (map f ks)) (all k) ∙ map_inside f all ks
+
+  front_inside : (xs ys : List StyledTurn) → list_all (is_styled_inside tree) xs ≡ true → list_all (is_styled_inside tree) (xs ++ ys) ≡ list_all (is_styled_inside tree) ys
+  front_inside [] ys all = refl
+  front_inside (x ∷ xs) ys all =
+      let parts = and_parts (is_styled_inside tree x) (list_all (is_styled_inside tree) xs) all in
+      ap (λ b. b && list_all (is_styled_inside tree) (xs ++ ys)) parts.0 ∙ front_inside xs ys parts.1
+
+  one_inside : (b : Bool) (t : StyledTurn) → is_styled_inside tree t ≡ true → list_all (is_styled_inside tree) (if b then [] else t ∷ []) ≡ true
+  one_inside true t is = refl
+  one_inside false t is = ap (λ b. b && true) is
+
+  word_inside : (b : Bool) (n q k : ℕ) → is_styled_inside tree (if b then sets signal n else waits signal q k) ≡ true
+  word_inside true n q k = refl
+  word_inside false n q k = refl
+
+  rounds_inside : (b : Bool) (barriers : ℕ) → list_all (is_styled_inside tree) (if b then all_rounds plan.workers p barriers else []) ≡ true
+  rounds_inside true barriers = map_inside (round_turn plan.workers p (first_round plan.workers barriers)) (λ k. word_inside _ _ _ _) (range_with_len 0 (rounds_of plan.workers * 2))
+  rounds_inside false barriers = refl
+
+  styled_inside : (s : Standing) (ts : List Turn) → list_all (is_styled_inside tree) (styled style tree plan p s ts) ≡ list_all (is_turn_inside tree) ts
+  styled_inside s [] = map_inside (closes s.place) (λ k. refl) (places_pending s.pending)
+  styled_inside s (posts number ∷ rest) =
+      let front = if is_signalled style tree plan number then [] else sets counter number ∷ [] in
+      let later = styled style tree plan p (closed s) rest in
+      front_inside (map (closes s.place) (places_pending s.pending)) (front ++ later) (map_inside (closes s.place) (λ k. refl) (places_pending s.pending))
+      ∙ front_inside front later (one_inside (is_signalled style tree plan number) (sets counter number) refl) ∙ styled_inside (closed s) rest
+  styled_inside s (awaits on wanted ∷ rest) =
+      let front = if is_signalled style tree plan wanted then [] else waits counter on wanted ∷ [] in
+      let later = styled style tree plan p (closed s) rest in
+      front_inside (map (closes s.place) (places_pending s.pending)) (front ++ later) (map_inside (closes s.place) (λ k. refl) (places_pending s.pending))
+      ∙ front_inside front later (one_inside (is_signalled style tree plan wanted) (waits counter on wanted) refl) ∙ styled_inside (closed s) rest
+  styled_inside s (begins e ∷ rest) =
+      let front = rounds_before style tree plan p s e in
+      let later = styled style tree plan p (begun style tree plan s e) rest in
+      front_inside (map (closes s.place) (places_pending s.pending)) (front ++ later) (map_inside (closes s.place) (λ k. refl) (places_pending s.pending))
+      ∙ front_inside front later (rounds_inside (has_signals style plan (slice_get (phases tree plan.cut.marks) (e - 1))) s.barriers) ∙ styled_inside (begun style tree plan s e) rest
+  styled_inside s (works i ∷ rest) = ap (λ b. is_turn_inside tree (works i) && b) (styled_inside (behind tree plan s i) rest)
+
+-- ---- fresh processors
+
+module _ (style : Style) (tree : Tree) (plan : Plan) (size : ℕ) (formed : IsWellFormed tree) (limits : IsWithinLimits tree) (fits : IsFit tree plan) (ranges : IsInRange tree) where
+  fresh_left : (p : ℕ) (x : Processor) → p < plan.workers → IsFresh style tree plan size p x → left_of x ≡ all_of style tree plan p
   unfolding all_of
-  fresh_left p x f =
-      left_idle x (ap length f.registers) ∙ ap (λ (w : Tree). flat_map (turn_deeds w) (turns_left x.turns)) f.program ∙ ap (flat_map (turn_deeds tree)) f.turns ∙ turns_do tree plan p 1 (phases tree plan.cut.marks)
+  fresh_left p x worker f =
+      left_idle x f.idle.none_done ∙ ap (λ (w : Tree). flat_map (styled_deeds w (styled_plan x.turns) (styled_processor x.turns)) (styled_left x.turns)) f.program
+      ∙ ap (λ (q : Plan). flat_map (styled_deeds tree q (styled_processor x.turns)) (styled_left x.turns)) f.plan_is ∙ ap (λ n. flat_map (styled_deeds tree plan n) (styled_left x.turns)) f.processor
+      ∙ ap (flat_map (styled_deeds tree plan p)) f.turns ∙ turns_act style tree plan p formed limits fits ranges worker ∙ acts_do style tree plan p formed fits worker
 
-  fresh_position : (p : ℕ) (x : Processor) → IsFresh tree plan size p x → position_of tree plan x ≡ 0
+  fresh_position : (p : ℕ) (x : Processor) → p < plan.workers → IsFresh style tree plan size p x → position_of style tree plan x ≡ 0
   unfolding position_of
-  fresh_position p x f = let left = fresh_left p x f in omega (arith, ap length left, ap (λ n. length (all_of tree plan n)) f.processor)
+  fresh_position p x worker f = let left = fresh_left p x worker f in omega (arith, ap length left, ap (λ n. length (all_of style tree plan n)) f.processor)
 
-  fresh_room : (p : ℕ) (x : Processor) → IsFresh tree plan size p x → room_of tree x ≡ sum_by (turn_room tree) (turns_from tree plan p 1 (phases tree plan.cut.marks))
+  fresh_room : (p : ℕ) (x : Processor) → IsFresh style tree plan size p x → room_of tree x ≡ sum_by (turn_room tree) (turns_from tree plan p 1 (phases tree plan.cut.marks))
   unfolding room_of
-  fresh_room p x f = ap (sum_by (turn_room tree)) f.turns
+  fresh_room p x f = ap (sum_by (styled_room tree)) f.turns ∙ styled_rooms style tree plan p first_standing (turns_from tree plan p 1 (phases tree plan.cut.marks))
 
-  pub kept_fresh : (entries : List WorkCells) (p : ℕ) (x : Processor) → AreWide entries → list_all (is_instance_inside tree) (instances tree) ≡ true → ((n : ℕ) (cells : WorkCells) → slice_get entries n ≡ Some cells → widths cells.loads.items ≤ size) → IsFresh tree plan size p x →
-      IsKept tree plan entries p x
-  kept_fresh entries p x wide inside most f =
-      let idle : IsIdle (length x.registers.items) x.place.load x.place.element = record { none_done = ap length f.registers; first_load = f.first_load; first_element = f.first_element } in
-      record {
-        sound = f.sound;
-        program = f.program;
-        plan_is = f.plan_is;
-        processor = f.processor;
-        behind = record { front = []; is = sym (fresh_left p x f) };
-        begun = idle_begun entries wide (turns_left x.turns) (length x.registers.items) x.place.load x.place.element idle;
-        inside = ap (list_all (is_turn_inside tree)) f.turns ∙ all_inside tree plan p inside;
-        room = λ n cells at. omega (arith, most n cells at, f.room);
-      }
+  pub kept_fresh : (entries : List WorkCells) (p : ℕ) (x : Processor) → p < plan.workers → AreWide entries → list_all (is_instance_inside tree) (instances tree) ≡ true → ((n : ℕ) (cells : WorkCells) → slice_get entries n ≡ Some cells → widths cells.loads.items ≤ size) → 1 ≤ size → IsFresh style tree plan size p x →
+      IsKept style tree plan entries p x
+  kept_fresh entries p x worker wide inside most some f = record {
+    sound = f.sound;
+    program = f.program;
+    plan_is = f.plan_is;
+    processor = f.processor;
+    style_is = f.style_is;
+    behind = record { front = []; is = sym (fresh_left p x worker f) };
+    instance = subst (BeginsNext x.turns) (sym f.none_begun) tt;
+    begun = idle_begun entries wide (styled_left x.turns) x f.idle;
+    inside = ap (list_all (is_styled_inside tree)) f.turns ∙ styled_inside style tree plan p first_standing (turns_from tree plan p 1 (phases tree plan.cut.marks)) ∙ all_inside tree plan p inside;
+    own_cells = ap length f.own_cells ∙ length-replicate 32 (pos 0);
+    room = λ n cells at. omega (arith, most n cells at, f.room);
+    room_to_close = omega (arith, some, f.room);
+  }
 
-  module _ (ps : List Processor) (count : length ps ≡ plan.workers) (fresh : (p : ℕ) (d : Processor) → p < length ps → IsFresh tree plan size p (get_or ps p d)) where
+  module _ (ps : List Processor) (count : length ps ≡ plan.workers) (fresh : (p : ℕ) (d : Processor) → p < length ps → IsFresh style tree plan size p (get_or ps p d)) where
     pub fresh_rooms : sum_by (room_of tree) ps ≤ longest_output tree
     fresh_rooms =
         let each = same_sums (room_of tree) (λ p. sum_by (turn_room tree) (turns_from tree plan p 1 (phases tree plan.cut.marks))) ps 0
         (λ p d lt. fresh_room p (get_or ps p d) (fresh p d lt) ∙ ap (λ n. sum_by (turn_room tree) (turns_from tree plan n 1 (phases tree plan.cut.marks))) (omega arith)) in
         omega (arith, each, ap (λ n. sum_by (λ p. sum_by (turn_room tree) (turns_from tree plan p 1 (phases tree plan.cut.marks))) (range_with_len 0 n)) count, rooms_below tree plan)
 
-    pub first_is : (memory : List ℤ) (output : List ℕ) → memory ≡ replicate (cell_count tree) (pos 0) → output ≡ [] → state_of tree plan ps memory output ≡ first_state (machine_of tree plan)
+    pub first_is : (memory : List ℤ) (output : List ℕ) → memory ≡ replicate (cell_count tree) (pos 0) → output ≡ [] → state_of style tree plan ps memory output ≡ first_state (machine_by style tree plan)
     first_is memory output zeros none =
-        let positions = map_same (position_of tree plan) ps 0 (λ p d lt. fresh_position p (get_or ps p d) (fresh p d lt)) ∙ ap (λ n. replicate n 0) count in
-        let registers = map_same (λ (x : Processor). x.registers.items) ps [] (λ p d lt. (fresh p d lt).registers) ∙ ap (λ n. replicate n []) count in
-        let counters = map_same (λ (x : Processor). x.counter) ps 0 (λ p d lt. (fresh p d lt).counter) ∙ ap (λ n. replicate n 0) count in
-        let signals : (state_of tree plan ps memory output).signals ≡ (first_state (machine_of tree plan)).signals = map_same (λ (x : Processor). 0) ps 0 (λ p d lt. refl) ∙ ap (λ n. replicate n 0) count in
-        cc
+        let own = own_zeros ps (λ p d lt. (fresh p d lt).own_cells) ∙ ap (λ n. replicate (32 * n) (pos 0)) count in
+        same_state
+        (map_same (position_of style tree plan) ps 0 (λ p d lt. fresh_position p (get_or ps p d) (omega (arith, lt, count)) (fresh p d lt)) ∙ ap (λ n. replicate n 0) count)
+        (map_same (λ (x : Processor). x.registers.items) ps [] (λ p d lt. (fresh p d lt).idle.empty) ∙ ap (λ n. replicate n []) count)
+        (map_same (λ (x : Processor). x.counter) ps 0 (λ p d lt. (fresh p d lt).counter) ∙ ap (λ n. replicate n 0) count)
+        (map_same (λ (x : Processor). x.signal) ps 0 (λ p d lt. (fresh p d lt).signal) ∙ ap (λ n. replicate n 0) count)
+        (ap (λ l. l ++ flat_map (λ (x : Processor). x.own) ps) zeros ∙ ap (λ l. replicate (cell_count tree) (pos 0) ++ l) own ∙ replicate-append-replicate (cell_count tree) (32 * plan.workers) (pos 0))
+        none
 
-pub reached_first : (tree : Tree) (plan : Plan) (s : State) → s ≡ first_state (machine_of tree plan) → IsReached (machine_of tree plan) s
-reached_first tree plan s is = record { schedule = []; workers = All-nil (λ p. p < plan.workers); run = is }
+pub reached_first : (style : Style) (tree : Tree) (plan : Plan) (s : State) → s ≡ first_state (machine_by style tree plan) → IsReached (machine_by style tree plan) s
+reached_first style tree plan s is = record { schedule = []; workers = All-nil (λ p. p < plan.workers); run = is }

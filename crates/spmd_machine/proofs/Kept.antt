@@ -1,5 +1,5 @@
 -- What a processor keeps behind a turn.
-use Rattle.std.proofs.Common.{◌≡◌, ℕ, zero, suc, ◌+◌, ◌-◌, ◌<◌, List, [], ◌∷◌, ◌++◌, length, drop, take, get_or, set, Some, None, refl, sym, ◌∙◌, ap, subst, inl, inr, arith, sum_by}
+use Rattle.std.proofs.Common.{◌≡◌, ℕ, zero, suc, ◌+◌, ◌-◌, ◌<◌, List, [], ◌∷◌, ◌++◌, length, drop, take, get_or, set, Some, None, refl, sym, ◌∙◌, ap, subst, inl, inr, arith, sum_by, vec_capacity}
 use Rattle.std.specs.Prelude.{slice_get}
 use Rattle.std.specs.List.{flat_map, list_all}
 use Rattle.std.proofs.lemmas.Bool.{and_parts, cases_eq}
@@ -9,116 +9,143 @@ use Rattle.nest_tree.specs.Tree.{Tree}
 use Rattle.nest_walk.specs.declared.table.LoadCells.{LoadCells}
 use Rattle.nest_walk.specs.declared.table.WorkCells.{WorkCells}
 use Rattle.sync_plan.specs.declared.plan.Plan.{Plan}
-use Rattle.spmd_model.specs.Timelines.{counter}
-use Rattle.spmd_model.specs.Deeds.{Deed, awaiting}
-use Rattle.spmd_machine.specs.Processors.{IsBegun, IsIdle, IsKept, PassesTurn, all_of, left_of, room_of}
-use Rattle.spmd_turns.proofs.TurnDeeds.{unseen_deeds, unseen_inside, unseen_room}
-use Rattle.spmd_turns.specs.Turns.{begins, without_beginnings, Turn, awaits, is_turn_inside, posts, turn_deeds, works}
-use Rattle.spmd_turns.specs.TurnsLeft.{AreSound, turns_left, turns_plan, turns_processor, turns_tree}
-use Rattle.spmd_machine.specs.declared.processor.Processor.{Processor}
-use Rattle.spmd_turns.specs.declared.turns.Turns.{Turns}
-use Rattle.spmd_machine.proofs.Suffixes.{suffix_at, suffix_rest}
-use Rattle.spmd_turns.specs.Rooms.{turn_room}
+use Rattle.spmd_model.specs.Deeds.{Deed}
+use Rattle.spmd_model.specs.Timelines.{Word}
+use Rattle.spmd_model.specs.declared.style.Style.{Style}
 use Rattle.spmd_turns.specs.Loads.{AreWide, widths}
+use Rattle.styled_turns.specs.StyledTurns.{StyledTurn, sets, waits, runs, closes, styled_deeds}
+use Rattle.styled_turns.specs.StyledLeft.{AreStyled, IsSameRun, styled_left, styled_plan, styled_processor, styled_style, styled_tree}
+use Rattle.styled_turns.specs.declared.turns.StyledTurns.{StyledTurns}
+use Rattle.spmd_machine.specs.Processors.{BeginsNext, IsBegun, IsIdle, IsKept, LooksFrom, PassesTurn, all_of, deeds_left, is_styled_inside, left_of, room_of, styled_room}
+use Rattle.spmd_machine.specs.declared.processor.Processor.{Processor}
+use Rattle.spmd_machine.proofs.Suffixes.{suffix_at, suffix_rest}
 
 no_loads : (loads : List LoadCells) → slice_get loads 0 ≡ None → widths loads ≡ 0
 no_loads [] h = refl
-no_loads (l ∷ loads) h = absurd (let no : Some l ≡ None = h in cc)
+no_loads (l ∷ loads) h = absurd (let clash : Some l ≡ None = h in cc)
 
--- where nothing is loaded, whatever comes next
-pub idle_begun : (entries : List WorkCells) → AreWide entries → (turns : List Turn) (done load element : ℕ) → IsIdle done load element → IsBegun entries turns done load element
-idle_begun entries wide [] done load element idle = idle
-idle_begun entries wide (posts n ∷ rest) done load element idle = idle
-idle_begun entries wide (awaits on n ∷ rest) done load element idle = idle
-idle_begun entries wide (begins e ∷ rest) done load element idle = idle
-idle_begun entries wide (works i ∷ rest) done load element idle = λ cells at. record {
-  counted = let none : widths (take load cells.loads.items) ≡ 0 = ap (λ k. widths (take k cells.loads.items)) idle.first_load in omega (arith, none, idle.first_element, idle.none_done);
-  within = λ l there.
-      let first : slice_get cells.loads.items 0 ≡ Some l = ap (slice_get cells.loads.items) (sym idle.first_load) ∙ there in
-      omega (arith, wide (i.statement - 1) 0 cells l at first, idle.first_element);
-  over = λ none. no_loads cells.loads.items (ap (slice_get cells.loads.items) (sym idle.first_load) ∙ none) ∙ sym idle.none_done;
+-- where nothing is done, whatever comes next
+pub idle_begun : (entries : List WorkCells) → AreWide entries → (turns : List StyledTurn) (x : Processor) → IsIdle x → IsBegun entries turns x
+idle_begun entries wide [] x idle = idle
+idle_begun entries wide (sets word n ∷ rest) x idle = idle
+idle_begun entries wide (waits word on n ∷ rest) x idle = idle
+idle_begun entries wide (runs place i ∷ rest) x idle = λ cells at. record {
+  loading = record {
+    counted = let none : widths (take x.place.load cells.loads.items) ≡ 0 = ap (λ k. widths (take k cells.loads.items)) idle.first_load in omega (arith, none, idle.first_element, idle.none_done);
+    within = λ l there.
+        let first : slice_get cells.loads.items 0 ≡ Some l = ap (slice_get cells.loads.items) (sym idle.first_load) ∙ there in
+        omega (arith, wide (i.statement - 1) 0 cells l at first, idle.first_element);
+    over = λ none. no_loads cells.loads.items (ap (slice_get cells.loads.items) (sym idle.first_load) ∙ none) ∙ sym idle.none_done;
+  };
+  count = ap length idle.empty ∙ sym idle.none_done;
 }
+idle_begun entries wide (closes place k ∷ rest) x idle = record { first_load = idle.first_load; first_element = idle.first_element; stage = inl (idle.none_done, idle.empty) }
 
--- where a phase begins nothing is loaded
-begun_unseen : (entries : List WorkCells) → AreWide entries → (turns : List Turn) (done load element : ℕ) → IsBegun entries turns done load element → IsBegun entries (without_beginnings turns) done load element
-begun_unseen entries wide [] done load element h = h
-begun_unseen entries wide (posts n ∷ rest) done load element h = h
-begun_unseen entries wide (awaits on n ∷ rest) done load element h = h
-begun_unseen entries wide (begins e ∷ rest) done load element idle = idle_begun entries wide (without_beginnings rest) done load element idle
-begun_unseen entries wide (works i ∷ rest) done load element h = h
-
--- the deeds that are left where nothing is loaded
-pub left_idle : (x : Processor) → length x.registers.items ≡ 0 → left_of x ≡ flat_map (turn_deeds (turns_tree x.turns)) (turns_left x.turns)
+-- the deeds that are left where nothing is done of the first turn
+pub left_idle : (x : Processor) → x.done ≡ 0 → left_of x ≡ deeds_left x.turns
 unfolding left_of
-left_idle x none = ap (λ n. drop n (flat_map (turn_deeds (turns_tree x.turns)) (turns_left x.turns))) none
+left_idle x none = ap (λ n. drop n (deeds_left x.turns)) none
 
--- the room of turns that stay, and where phases begin unseen
-pub looked_room : (tree : Tree) (x y : Processor) → turns_left y.turns ≡ without_beginnings (turns_left x.turns) → room_of tree y ≡ room_of tree x
+-- cursors of one run do the same in a turn
+pub same_deeds : (c t : StyledTurns) (ts : List StyledTurn) → styled_tree t ≡ styled_tree c → styled_plan t ≡ styled_plan c → styled_processor t ≡ styled_processor c →
+    flat_map (styled_deeds (styled_tree t) (styled_plan t) (styled_processor t)) ts ≡ flat_map (styled_deeds (styled_tree c) (styled_plan c) (styled_processor c)) ts
+same_deeds c t ts program plan_is processor =
+    ap (λ (w : Tree). flat_map (styled_deeds w (styled_plan t) (styled_processor t)) ts) program ∙ ap (λ (q : Plan). flat_map (styled_deeds (styled_tree c) q (styled_processor t)) ts) plan_is
+    ∙ ap (λ n. flat_map (styled_deeds (styled_tree c) (styled_plan c) n) ts) processor
+
+-- the room of turns that stay
+pub same_room : (tree : Tree) (x y : Processor) → styled_left y.turns ≡ styled_left x.turns → room_of tree y ≡ room_of tree x
 unfolding room_of
-looked_room tree x y turns = ap (sum_by (turn_room tree)) turns ∙ unseen_room tree (turns_left x.turns)
+same_room tree x y turns = ap (sum_by (styled_room tree)) turns
 
-pub same_room : (tree : Tree) (x y : Processor) → turns_left y.turns ≡ turns_left x.turns → room_of tree y ≡ room_of tree x
-unfolding room_of
-same_room tree x y turns = ap (sum_by (turn_room tree)) turns
-
-module _ (tree : Tree) (plan : Plan) (entries : List WorkCells) (p : ℕ) (x : Processor) (kept : IsKept tree plan entries p x) where
-  pub passed_kept : AreWide entries → (y : Processor) (t : Turn) (d : Deed) → PassesTurn x y t → left_of x ≡ d ∷ left_of y → IsKept tree plan entries p y
-  passed_kept wide y t d passes left = record {
+module _ (style : Style) (tree : Tree) (plan : Plan) (entries : List WorkCells) (p : ℕ) (x : Processor) (kept : IsKept style tree plan entries p x) where
+  pub passed_kept : AreWide entries → (y : Processor) (t : StyledTurn) (d : Deed) → PassesTurn x y t → length y.own ≡ 32 → left_of x ≡ d ∷ left_of y → IsKept style tree plan entries p y
+  passed_kept wide y t d passes own left = record {
     sound = passes.sound;
     program = passes.program ∙ kept.program;
     plan_is = passes.plan_is ∙ kept.plan_is;
     processor = passes.processor ∙ kept.processor;
-    behind = suffix_rest (all_of tree plan p) (left_of x) (left_of y) d kept.behind left;
-    begun = idle_begun entries wide (turns_left y.turns) (length y.registers.items) y.place.load y.place.element passes.idle;
-    inside = (and_parts (is_turn_inside tree t) (list_all (is_turn_inside tree) (turns_left y.turns)) (sym (ap (list_all (is_turn_inside tree)) passes.turns) ∙ kept.inside)).1;
+    style_is = passes.style_is ∙ kept.style_is;
+    behind = suffix_rest (all_of style tree plan p) (left_of x) (left_of y) d kept.behind left;
+    instance = subst (BeginsNext y.turns) (sym passes.none_begun) tt;
+    begun = idle_begun entries wide (styled_left y.turns) y passes.idle;
+    inside = (and_parts (is_styled_inside tree t) (list_all (is_styled_inside tree) (styled_left y.turns)) (sym (ap (list_all (is_styled_inside tree)) passes.turns) ∙ kept.inside)).1;
+    own_cells = own;
     room = λ n cells at. omega (arith, kept.room n cells at, passes.room);
+    room_to_close = omega (arith, kept.room_to_close, passes.room);
   }
 
   -- the cursor has looked for what comes next
-  pub looked_left : (t : Turns) → turns_tree t ≡ turns_tree x.turns → turns_left t ≡ without_beginnings (turns_left x.turns) → left_of (record x { turns = t }) ≡ left_of x
+  looked_left : (t : StyledTurns) → IsSameRun x.turns t → styled_left t ≡ styled_left x.turns → left_of (record x { turns = t }) ≡ left_of x
   unfolding left_of
-  looked_left t program turns =
-      ap (λ (w : Tree). drop (length x.registers.items) (flat_map (turn_deeds w) (turns_left t))) program ∙ ap (λ ts. drop (length x.registers.items) (flat_map (turn_deeds (turns_tree x.turns)) ts)) turns
-      ∙ ap (drop (length x.registers.items)) (unseen_deeds (turns_tree x.turns) (turns_left x.turns))
+  looked_left t same turns =
+      ap (λ ts. drop x.done (flat_map (styled_deeds (styled_tree t) (styled_plan t) (styled_processor t)) ts)) turns ∙ ap (drop x.done) (same_deeds x.turns t (styled_left x.turns) same.program same.plan same.processor)
 
-  pub looked_kept : AreWide entries → (t : Turns) → AreSound t → turns_tree t ≡ turns_tree x.turns → turns_plan t ≡ turns_plan x.turns → turns_processor t ≡ turns_processor x.turns → turns_left t ≡ without_beginnings (turns_left x.turns) → IsKept tree plan entries p (record x { turns = t })
-  looked_kept wide t sound program plan_is processor turns = record {
+  looked_kept : (t : StyledTurns) → AreStyled t → BeginsNext t x.begun → IsSameRun x.turns t → styled_left t ≡ styled_left x.turns → IsKept style tree plan entries p (record x { turns = t })
+  looked_kept t sound instance same turns = record {
     sound = sound;
-    program = program ∙ kept.program;
-    plan_is = plan_is ∙ kept.plan_is;
-    processor = processor ∙ kept.processor;
-    behind = suffix_at (all_of tree plan p) (left_of x) (left_of (record x { turns = t })) (looked_left t program turns) kept.behind;
-    begun = subst (λ ts. IsBegun entries ts (length x.registers.items) x.place.load x.place.element) (sym turns) (begun_unseen entries wide (turns_left x.turns) (length x.registers.items) x.place.load x.place.element kept.begun);
-    inside = ap (list_all (is_turn_inside tree)) turns ∙ unseen_inside tree (turns_left x.turns) ∙ kept.inside;
+    program = same.program ∙ kept.program;
+    plan_is = same.plan ∙ kept.plan_is;
+    processor = same.processor ∙ kept.processor;
+    style_is = same.style ∙ kept.style_is;
+    behind = suffix_at (all_of style tree plan p) (left_of x) (left_of (record x { turns = t })) (looked_left t same turns) kept.behind;
+    instance = instance;
+    begun = begun_on (styled_left x.turns) (styled_left t) turns kept.begun;
+    inside = ap (list_all (is_styled_inside tree)) turns ∙ kept.inside;
+    own_cells = kept.own_cells;
     room = kept.room;
+    room_to_close = kept.room_to_close;
   }
+    where
+      begun_on : (old new : List StyledTurn) → new ≡ old → IsBegun entries old x → IsBegun entries new (record x { turns = t })
+      begun_on [] new is h = subst (λ ts. IsBegun entries ts (record x { turns = t })) (sym is) (record { none_done = h.none_done; empty = h.empty; first_load = h.first_load; first_element = h.first_element })
+      begun_on (sets word n ∷ rest) new is h = subst (λ ts. IsBegun entries ts (record x { turns = t })) (sym is) (record { none_done = h.none_done; empty = h.empty; first_load = h.first_load; first_element = h.first_element })
+      begun_on (waits word on n ∷ rest) new is h = subst (λ ts. IsBegun entries ts (record x { turns = t })) (sym is) (record { none_done = h.none_done; empty = h.empty; first_load = h.first_load; first_element = h.first_element })
+      begun_on (runs place i ∷ rest) new is h = subst (λ ts. IsBegun entries ts (record x { turns = t })) (sym is) (λ cells at. record { loading = (h cells at).loading; count = (h cells at).count })
+      begun_on (closes place k ∷ rest) new is h = subst (λ ts. IsBegun entries ts (record x { turns = t })) (sym is) (record { first_load = h.first_load; first_element = h.first_element; stage = h.stage })
 
-  -- a turn of one deed, with nothing loaded before
-  pub left_turn : (y : Processor) (t : Turn) (d : Deed) → PassesTurn x y t → turn_deeds (turns_tree x.turns) t ≡ d ∷ [] → length x.registers.items ≡ 0 → left_of x ≡ d ∷ left_of y
+  pub look_left : (y : Processor) → LooksFrom x y → left_of y ≡ left_of x
+  look_left y l = ap left_of l.others ∙ looked_left y.turns l.same l.left
+
+  pub look_kept : (y : Processor) → LooksFrom x y → IsKept style tree plan entries p y
+  look_kept y l = subst (IsKept style tree plan entries p) (sym l.others) (looked_kept y.turns l.sound (subst (BeginsNext y.turns) (ap (λ (z : Processor). z.begun) l.others) l.instance) l.same l.left)
+
+  -- a turn of one deed, of which nothing was done
+  pub left_turn : (y : Processor) (t : StyledTurn) (d : Deed) → PassesTurn x y t → styled_deeds (styled_tree x.turns) (styled_plan x.turns) (styled_processor x.turns) t ≡ d ∷ [] → x.done ≡ 0 → left_of x ≡ d ∷ left_of y
   left_turn y t d passes is none =
-      left_idle x none ∙ ap (flat_map (turn_deeds (turns_tree x.turns))) passes.turns
-      ∙ ap (λ l. l ++ flat_map (turn_deeds (turns_tree x.turns)) (turns_left y.turns)) is
-      ∙ ap (λ (w : Tree). d ∷ flat_map (turn_deeds w) (turns_left y.turns)) (sym passes.program)
-      ∙ ap (λ l. d ∷ l) (sym (left_idle y passes.idle.none_done))
+      let f = styled_deeds (styled_tree x.turns) (styled_plan x.turns) (styled_processor x.turns) in
+      left_idle x none ∙ ap (flat_map f) passes.turns ∙ ap (λ l. l ++ flat_map f (styled_left y.turns)) is
+      ∙ ap (λ l. d ∷ l) (sym (left_idle y passes.idle.none_done ∙ same_deeds x.turns y.turns (styled_left y.turns) passes.program passes.plan_is passes.processor))
 
-  pub room_passed : (y : Processor) (t : Turn) → turns_left x.turns ≡ t ∷ turns_left y.turns → room_of tree x ≡ turn_room tree t + room_of tree y
+  pub room_passed : (y : Processor) (t : StyledTurn) → styled_left x.turns ≡ t ∷ styled_left y.turns → room_of tree x ≡ styled_room tree t + room_of tree y
   unfolding room_of
-  room_passed y t turns = ap (sum_by (turn_room tree)) turns ∙ sum_by-cons (turn_room tree) t (turns_left y.turns)
+  room_passed y t turns = ap (sum_by (styled_room tree)) turns ∙ sum_by-cons (styled_room tree) t (styled_left y.turns)
 
-  -- in front of a boundary's turn nothing is loaded
-  pub post_idle : (number : ℕ) (rest : List Turn) → turns_left x.turns ≡ posts number ∷ rest → IsIdle (length x.registers.items) x.place.load x.place.element
-  post_idle number rest is = subst (λ ts. IsBegun entries ts (length x.registers.items) x.place.load x.place.element) is kept.begun
+  -- in front of a word that is set or awaited nothing is done
+  pub set_idle : (word : Word) (number : ℕ) (rest : List StyledTurn) → styled_left x.turns ≡ sets word number ∷ rest → IsIdle x
+  set_idle word number rest is = subst (λ ts. IsBegun entries ts x) is kept.begun
 
-  pub await_idle : (on wanted : ℕ) (rest : List Turn) → turns_left x.turns ≡ awaits on wanted ∷ rest → IsIdle (length x.registers.items) x.place.load x.place.element
-  await_idle on wanted rest is = subst (λ ts. IsBegun entries ts (length x.registers.items) x.place.load x.place.element) is kept.begun
+  pub wait_idle : (word : Word) (on wanted : ℕ) (rest : List StyledTurn) → styled_left x.turns ≡ waits word on wanted ∷ rest → IsIdle x
+  wait_idle word on wanted rest is = subst (λ ts. IsBegun entries ts x) is kept.begun
 
-  pub await_left : (on wanted : ℕ) (rest : List Turn) → turns_left x.turns ≡ awaits on wanted ∷ rest → left_of x ≡ awaiting counter on wanted ∷ flat_map (turn_deeds (turns_tree x.turns)) rest
-  await_left on wanted rest is = left_idle x (await_idle on wanted rest is).none_done ∙ ap (flat_map (turn_deeds (turns_tree x.turns))) is
+  pub end_left : styled_left x.turns ≡ [] → left_of x ≡ []
+  end_left is =
+      let idle : IsIdle x = subst (λ ts. IsBegun entries ts x) is kept.begun in
+      left_idle x idle.none_done ∙ ap (flat_map (styled_deeds (styled_tree x.turns) (styled_plan x.turns) (styled_processor x.turns))) is
 
-  pub end_idle : turns_left x.turns ≡ [] → left_of x ≡ []
-  end_idle is =
-      let idle : IsIdle (length x.registers.items) x.place.load x.place.element = subst (λ ts. IsBegun entries ts (length x.registers.items) x.place.load x.place.element) is kept.begun in
-      left_idle x idle.none_done ∙ ap (flat_map (turn_deeds (turns_tree x.turns))) is
+-- past a turn from a processor that stood there too
+pub passed_from : (x z y : Processor) (t : StyledTurn) → z.turns ≡ x.turns → vec_capacity z.registers ≡ vec_capacity x.registers → PassesTurn z y t → PassesTurn x y t
+passed_from x z y t turns capacity q = record {
+  sound = q.sound;
+  program = q.program ∙ ap styled_tree turns;
+  plan_is = q.plan_is ∙ ap styled_plan turns;
+  processor = q.processor ∙ ap styled_processor turns;
+  style_is = q.style_is ∙ ap styled_style turns;
+  turns = sym (ap styled_left turns) ∙ q.turns;
+  none_begun = q.none_begun;
+  idle = q.idle;
+  room = omega (arith, q.room, capacity);
+}
 
 -- the first of a list is one element
 pub first_is : {X : Type 0} (xs : List X) (x y : X) (rest rest' : List X) → xs ≡ x ∷ rest → xs ≡ y ∷ rest' → (x ≡ y) × (rest ≡ rest')

@@ -1,14 +1,16 @@
 -- The store or the PRINT of an instance whose loads are done.
-use Rattle.std.proofs.Common.{false, ◌≡◌, ℕ, suc, ◌+◌, ◌-◌, ◌<◌, ◌≤◌, ℤ, true, List, [], ◌∷◌, ◌++◌, length, map, set, get_or, Vec, Global, Option, Some, None, refl, sym, ◌∙◌, ap, arith, length-set, sum_by}
+use Rattle.std.proofs.Common.{false, ◌≡◌, ℕ, ◌+◌, ◌-◌, ◌<◌, ◌≤◌, ℤ, true, List, [], ◌∷◌, ◌++◌, length, map, set, get_or, Vec, Global, Option, Some, None, refl, sym, ◌∙◌, ap, arith, length-set, sum_by}
 use Rattle.std.specs.Prelude.{slice_get}
 use Rattle.std.specs.List.{list_all}
-use Rattle.std.specs.Option.{option_to_list}
+use Rattle.std.specs.Option.{option_map, option_to_list}
+use Rattle.nest_tree.specs.Layout.{cell_count}
+use Rattle.sync_plan.specs.Own.{own_cell, own_of}
 use Rattle.std.specs.Vec.{with_item}
 use Rattle.std.proofs.lemmas.List.{length-map}
 use Rattle.std.proofs.lemmas.List.Sums.{get_or-le-sum_by, sum_by-cons}
 use Rattle.std.proofs.lemmas.Option.{slice_get-get_or}
 use Rattle.nest_tree.specs.Loads.{loads_in}
-use Rattle.nest_tree.specs.Tree.{Assignment, Printing, Work, assign, print, Tree, param_values}
+use Rattle.nest_tree.specs.Tree.{Assignment, Printing, Statement, Work, assign, print, work, Tree, param_values}
 use Rattle.nest_tree.specs.View.{expression_of, printed_of, statement_of}
 use Rattle.nest_tree.specs.WellFormed.{is_good_item, is_good_work, is_number_of, loops_of, scope_of}
 use Rattle.nest_tree.specs.declared.tree.Access.{Access}
@@ -36,24 +38,21 @@ use Rattle.seq_meaning.specs.Room.{Written, longest_items, longest_line}
 use Rattle.seq_meaning.proofs.Found.{Found}
 use Rattle.seq_meaning.proofs.RunSteps.{assign_same, assign_valued, items_loads-length, numbered_more, placed-good, same_work, store_within, texts_same, texts_there}
 use Rattle.spmd_model.specs.Deeds.{last_deed, printing, storing}
-use Rattle.spmd_machine.specs.Machines.{ComesNext, IsReady, LoadsNext, StepsTo, plan_in, tree_in}
-use Rattle.spmd_machine.specs.Processors.{IsKept, PassesTurn, left_of, room_of}
-use Rattle.spmd_turns.specs.Turns.{Turn, works}
-use Rattle.spmd_turns.specs.TurnsLeft.{turns_left, turns_path}
+use Rattle.spmd_machine.specs.Machines.{ComesNext, IsReady, LoadsNext, StepsTo, plan_in, style_in, tree_in}
+use Rattle.spmd_machine.specs.Processors.{IsKept, PassesTurn, left_of, memory_of, room_of, styled_room}
+use Rattle.styled_turns.specs.StyledTurns.{StyledTurn, runs}
+use Rattle.styled_turns.specs.StyledLeft.{styled_left, styled_path}
 use Rattle.spmd_machine.specs.declared.answer.StepAnswer.TheVariants.{Stepped}
 use Rattle.spmd_machine.specs.declared.machine.Machine.{Machine}
 use Rattle.spmd_machine.specs.declared.processor.Processor.{Processor}
-use Rattle.spmd_turns.specs.declared.turns.Next.TheVariants.{Work as Working}
+use Rattle.styled_turns.specs.declared.turns.StyledNext.TheVariants.{Work as Working}
 use Rattle.spmd_machine.proofs.Kept.{first_is, passed_kept, picked, room_passed}
-use Rattle.spmd_machine.proofs.LoadSteps.{high, inst, kept, loads_here, low, rest, turns_are}
-use Rattle.spmd_machine.proofs.Ready.{kept_here, steps}
-use Rattle.spmd_machine.proofs.Steps.{registers_read, same_counters}
-use Rattle.spmd_turns.specs.Rooms.{turn_room}
+use Rattle.spmd_machine.proofs.LoadSteps.{few_here, have_own, high, inst, kept, loads_here, low, rest, turns_are}
+use Rattle.spmd_machine.proofs.Ready.{kept_here, steps, worker_here}
+use Rattle.spmd_machine.proofs.OwnAccess.{Stores, access_set, to_own, to_shared}
+use Rattle.spmd_machine.proofs.OwnMemory.{same_memory}
+use Rattle.spmd_machine.proofs.Steps.{registers_read, same_counters, same_signals}
 use Rattle.spmd_machine.proofs.Works as here
-
-nothing_in : {X : Type 0} (xs : List X) → length xs ≡ 0 → xs ≡ []
-nothing_in [] h = refl
-nothing_in (x ∷ xs) h = absurd (let no : suc (length xs) ≡ 0 = h in omega arith)
 
 one_in : (o : Option ℕ) (n : ℕ) → n ∷ [] ≡ option_to_list o → o ≡ Some n
 one_in None n h = cc
@@ -64,16 +63,22 @@ module _ (m : Machine) (ready : IsReady m) (p : ℕ) (x : Processor) (lt : p < l
   tree = tree_in m
 
   abbrev rounds : List Round
-  rounds = rounds_of (turns_path x.turns)
+  rounds = rounds_of (styled_path x.turns)
 
-  own : IsKept (tree_in m) (plan_in m) (entries m.table) p x
+  own : IsKept (style_in m) (tree_in m) (plan_in m) (entries m.table) p x
   own = kept m ready p x lt read stop next
 
   abbrev i : Instance
   i = (inst m ready p x lt read stop next).instance
 
-  turns_is : turns_left x.turns ≡ works i ∷ rest m ready p x lt read stop next
+  turns_is : styled_left x.turns ≡ runs x.turns.place i ∷ rest m ready p x lt read stop next
   turns_is = turns_are m ready p x lt read stop next
+
+  abbrev at_own : ℕ → ℕ
+  at_own c = own_cell (own_of tree (plan_in m) x.turns.place) p c
+
+  worker : p < (plan_in m).workers
+  worker = worker_here m ready p x x lt read
 
   pub placed : IsPlacedWork tree rounds stop.first (statement_of stop.item.now)
   placed = here.placed m ready p x own stop (inst m ready p x lt read stop next) (rest m ready p x lt read stop next) turns_is
@@ -82,12 +87,16 @@ module _ (m : Machine) (ready : IsReady m) (p : ℕ) (x : Processor) (lt : p < l
   unfolding placed
   instance_is = here.instance_is m ready p x own stop (inst m ready p x lt read stop next) (rest m ready p x lt read stop next) turns_is
 
+  -- it is a piece of work
+  pub no_other : (s : Statement) → statement_of stop.item.now ≡ s → ((w : Work) → s ≡ work w → ⊥) → ⊥
+  no_other s is none = none placed.what (sym is ∙ placed.is)
+
   -- the loops' values can be written by number
   pub numbers_there : (n : ℕ) → n ≡ length m.loops.items → list_all (λ (r : Round). is_number_of n r.number) rounds ≡ true
   numbers_there n same = numbered_more (loops_of tree.items) n rounds (omega (arith, same, ready.loops)) placed.numbered
 
   good : is_good_work (scope_of tree) (numbers_of rounds) placed.what ≡ true
-  good = placed-good tree (turns_path x.turns) stop.first (statement_of stop.item.now) placed ready.formed
+  good = placed-good tree (styled_path x.turns) stop.first (statement_of stop.item.now) placed ready.formed
 
   -- the table has its cells
   pub cells_there : (cells : WorkCells) × (slice_get (entries m.table) (stop.first - 1) ≡ Some cells)
@@ -97,18 +106,35 @@ module _ (m : Machine) (ready : IsReady m) (p : ℕ) (x : Processor) (lt : p < l
       (cells, slice_get-get_or (entries m.table) (stop.first - 1) cells below ∙ ap (λ c. Some c) (sym is))
 
   module _ (cells : WorkCells) (at : slice_get (entries m.table) (stop.first - 1) ≡ Some cells) (loaded : LoadsNext m p stop None) where
-    over : slice_get (loads_of tree (inst m ready p x lt read stop next).instance) (length x.registers.items) ≡ None
+    over : slice_get (loads_of tree (inst m ready p x lt read stop next).instance) x.done ≡ None
     over = loads_here m ready p x lt read stop next None loaded
 
     count : length (loads_of tree i) ≡ length x.registers.items
-    count = here.loads_done m ready p x own stop (inst m ready p x lt read stop next) (rest m ready p x lt read stop next) turns_is cells at over
+    count = here.loads_done m ready p x own stop (inst m ready p x lt read stop next) (rest m ready p x lt read stop next) turns_is cells at over ∙ sym (here.loaded_count m ready p x own stop (inst m ready p x lt read stop next) (rest m ready p x lt read stop next) turns_is cells at)
 
-    found : Found tree (turns_path x.turns) placed.numbered placed.what cells
+    found : Found tree (styled_path x.turns) placed.numbered placed.what cells
     unfolding placed
     found = here.found m ready p x own stop (inst m ready p x lt read stop next) (rest m ready p x lt read stop next) turns_is cells at
 
-    left_is : (y : Processor) (t : Turn) → PassesTurn x y t → left_of x ≡ last_deed (store_of tree i) false (assigned_value tree i) (line_of tree i) ∷ left_of y
-    left_is y t passes = here.left_last m ready p x own stop (inst m ready p x lt read stop next) (rest m ready p x lt read stop next) turns_is cells at over y t passes.program passes.turns passes.idle.none_done
+    left_is : (y : Processor) (t : StyledTurn) → PassesTurn x y t → left_of x ≡ last_deed (option_map at_own (store_of tree i)) false (assigned_value tree i) (line_of tree i) ∷ left_of y
+    left_is y t passes = here.left_last m ready p x own stop (inst m ready p x lt read stop next) (rest m ready p x lt read stop next) turns_is cells at over y t passes.program passes.plan_is passes.processor passes.turns passes.idle.none_done
+
+    table_store : (o : Option CellForm) → cells.store ≡ o → map (λ f. cell_at f (by_depth rounds)) (option_to_list o) ≡ option_to_list (store_of tree i)
+    table_store o is = ap (λ q. map (λ f. cell_at f (by_depth rounds)) (option_to_list q)) (sym is) ∙ found.store ∙ ap (λ (j : Instance). option_to_list (store_of tree j)) (sym instance_is)
+
+    -- the cell that it stores to is that of the table
+    pub table_stores : (f : CellForm) → cells.store ≡ Some f → (k : ℕ) (values : List ℤ) → k ≡ cell_at f values → values ≡ by_depth rounds → store_of tree i ≡ Some k
+    table_stores f stored k values k_is depth = one_in (store_of tree i) k (ap (λ n. n ∷ []) (k_is ∙ ap (cell_at f) depth) ∙ table_store (Some f) stored)
+
+    pub table_below : (f : CellForm) → cells.store ≡ Some f → (k : ℕ) (values : List ℤ) → k ≡ cell_at f values → values ≡ by_depth rounds → k < cell_count tree
+    table_below f stored k values k_is depth = omega (arith, store_within tree (styled_path x.turns) stop.first (statement_of stop.item.now) placed cells found f values m.memory.items k stored k_is depth ready.cells, ready.cells)
+
+    pub table_none : cells.store ≡ None → store_of tree i ≡ None
+    table_none none = by (store_of tree i) (table_store None none)
+      where
+        by : (o : Option ℕ) → [] ≡ option_to_list o → o ≡ None
+        by None h = refl
+        by (Some k) h = absurd (let clash : [] ≡ option_to_list (Some k) = h in cc)
 
     -- ---- an assignment
     module _ (e : Expr) (target : Access) (guard : Option Guard) (line : ℕ) (statement : stop.item.now ≡ Assign target e guard line) where
@@ -145,36 +171,46 @@ module _ (m : Machine) (ready : IsReady m) (p : ℕ) (x : Processor) (lt : p < l
       stores : store_of tree i ≡ Some (access_cell tree (here.loops m ready p x own stop (inst m ready p x lt read stop next) (rest m ready p x lt read stop next) turns_is) target)
       stores = ap (store_of tree) instance_is ∙ ap (work_store tree (here.loops m ready p x own stop (inst m ready p x lt read stop next) (rest m ready p x lt read stop next) turns_is)) assigns
 
-      stored_by : (o : Option CellForm) → cells.store ≡ o → map (λ f. cell_at f (by_depth rounds)) (option_to_list o) ≡ option_to_list (store_of tree i)
-      stored_by o is = ap (λ q. map (λ f. cell_at f (by_depth rounds)) (option_to_list q)) (sym is) ∙ found.store ∙ ap (λ (j : Instance). option_to_list (store_of tree j)) (sym instance_is)
-
       pub some_store : cells.store ≡ None → ⊥
-      some_store none = let clash : [] ≡ option_to_list (Some (access_cell tree (here.loops m ready p x own stop (inst m ready p x lt read stop next) (rest m ready p x lt read stop next) turns_is) target)) = stored_by None none ∙ ap option_to_list stores in cc
+      some_store none = let clash : [] ≡ option_to_list (Some (access_cell tree (here.loops m ready p x own stop (inst m ready p x lt read stop next) (rest m ready p x lt read stop next) turns_is) target)) = table_store None none ∙ ap option_to_list stores in cc
 
       module _ (f : CellForm) (stored : cells.store ≡ Some f) (k : ℕ) (values : List ℤ) (k_is : k ≡ cell_at f values) (depth : values ≡ by_depth rounds) where
         store_is : store_of tree i ≡ Some k
-        store_is = one_in (store_of tree i) k (ap (λ n. n ∷ []) (k_is ∙ ap (cell_at f) depth) ∙ stored_by (Some f) stored)
+        store_is = table_stores f stored k values k_is depth
 
-        pub store_below : k < length m.memory.items
-        store_below = store_within tree (turns_path x.turns) stop.first (statement_of stop.item.now) placed cells found f values m.memory.items k stored k_is depth ready.cells
+        pub store_below : k < cell_count tree
+        store_below = table_below f stored k values k_is depth
 
-        pub store_steps : (y : Processor) (t : Turn) (v : ℤ) (ls ps given : List ℤ) (loops : Vec ℤ Global) → PassesTurn x y t → y.counter ≡ x.counter →
+        same_size : (y : Processor) (after : List ℤ) (v : ℤ) (slot : Option ℕ) → Stores x y m.memory.items after k v slot → length after ≡ length m.memory.items
+        same_size y after v None (to_shared owns is) = ap (λ (l : List ℤ). length l) is ∙ length-set m.memory.items k v
+        same_size y after v (Some n) (to_own owns is) = ap (λ (l : List ℤ). length l) is
+
+        own_size : (y : Processor) (after : List ℤ) (v : ℤ) (slot : Option ℕ) → Stores x y m.memory.items after k v slot → length y.own ≡ 32
+        own_size y after v None (to_shared owns is) = ap (λ (l : List ℤ). length l) owns ∙ own.own_cells
+        own_size y after v (Some n) (to_own owns is) = ap (λ (l : List ℤ). length l) owns ∙ length-set x.own n v ∙ own.own_cells
+
+        pub store_steps : (y : Processor) (t : StyledTurn) (v : ℤ) (ls ps given : List ℤ) (loops memory : Vec ℤ Global) (slot : Option ℕ) → PassesTurn x y t → y.counter ≡ x.counter → y.signal ≡ x.signal →
+            (own_of tree (plan_in m) x.turns.place).slot k ≡ slot → Stores x y m.memory.items memory.items k v slot →
             v ≡ value_of (expression_of e) ls ps given → ls ≡ with_rounds m.loops.items rounds → ps ≡ m.params.items → given ≡ x.registers.items → loops.items ≡ with_rounds m.loops.items rounds →
-            StepsTo m (record m { processors = with_item m.processors p y; loops = loops; memory = with_item m.memory k v }) p Stepped
-        store_steps y t v ls ps given loops passes counter is written params same loops_are =
-            let left = left_is y t passes ∙ ap (λ o. last_deed o false (assigned_value tree i) (line_of tree i) ∷ left_of y) store_is in
-            let room = room_passed tree (plan_in m) (entries m.table) p x own y t passes.turns in
-            steps m ready p x y lt read loops (with_item m.memory k v) m.output (storing k (assigned_value tree i)) (passed_kept tree (plan_in m) (entries m.table) p x own ready.wide y t (storing k (assigned_value tree i)) passes left)
-            (ap (λ (l : List ℤ). length l) loops_are ∙ with_rounds-length m.loops.items rounds) (length-set m.memory.items k v) (omega (arith, room)) (omega arith)
+            StepsTo m (record m { processors = with_item m.processors p y; loops = loops; memory = memory }) p Stepped
+        store_steps y t v ls ps given loops memory slot passes counter signal at_slot stored_to is written params same loops_are =
+            let deed = storing (at_own k) (assigned_value tree i) in
+            let left = left_is y t passes ∙ ap (λ o. last_deed (option_map at_own o) false (assigned_value tree i) (line_of tree i) ∷ left_of y) store_is in
+            let room = room_passed (style_in m) tree (plan_in m) (entries m.table) p x own y t passes.turns in
+            let k_here = kept_here m ready p x y lt read in
+            let value = store_value v ls ps given is written params same
+            ∙ ap (assigned_value tree i) (sym (registers_read (style_in m) tree (plan_in m) ready.formed ready.fits (entries m.table) m.processors.items m.memory.items m.output.bytes p worker x lt read k_here)) in
+            let memory_after = access_set tree (plan_in m) x.turns.place (few_here m ready p x lt read stop next) m.processors.items m.memory.items ready.cells (have_own m ready) p x lt read k slot v y memory.items store_below at_slot stored_to in
+            steps m ready p x y lt read loops memory m.output deed (passed_kept (style_in m) tree (plan_in m) (entries m.table) p x own ready.wide y t deed passes (own_size y memory.items v slot stored_to) left)
+            (ap (λ (l : List ℤ). length l) loops_are ∙ with_rounds-length m.loops.items rounds) (same_size y memory.items v slot stored_to) (omega (arith, room)) (omega arith)
             (record {
               left = left;
               processor = passes.processor ∙ own.processor;
               can = refl;
-              registers = ap (set (map (λ (z : Processor). z.registers.items) m.processors.items) p) (nothing_in y.registers.items passes.idle.none_done);
-              counters = same_counters tree (plan_in m) ready.formed ready.fits (entries m.table) m.processors.items m.memory.items m.output.bytes p x lt read (kept_here m ready p x y lt read) y counter;
-              signals = refl;
-              memory_is = ap (set m.memory.items k) (store_value v ls ps given is written params same
-                  ∙ ap (assigned_value tree i) (sym (registers_read tree (plan_in m) ready.formed ready.fits (entries m.table) m.processors.items m.memory.items m.output.bytes p x lt read (kept_here m ready p x y lt read))));
+              registers = ap (set (map (λ (z : Processor). z.registers.items) m.processors.items) p) passes.idle.empty;
+              counters = same_counters (style_in m) tree (plan_in m) ready.formed ready.fits (entries m.table) m.processors.items m.memory.items m.output.bytes p worker x lt read k_here y counter;
+              signals = same_signals (style_in m) tree (plan_in m) ready.formed ready.fits (entries m.table) m.processors.items m.memory.items m.output.bytes p worker x lt read k_here y signal;
+              memory_is = memory_after ∙ ap (set (memory_of m.processors.items m.memory.items) (at_own k)) value;
               output_is = refl;
             })
 
@@ -205,9 +241,9 @@ module _ (m : Machine) (ready : IsReady m) (p : ℕ) (x : Processor) (lt : p < l
       longest : longest_line tree i.what ≡ longest_items tree (map printed_of items) + 1
       longest = ap (λ (j : Instance). longest_line tree j.what) instance_is ∙ ap (longest_line tree) prints
 
-      room_here : room_of tree x ≡ turn_room tree (works i) + sum_by (turn_room tree) (rest m ready p x lt read stop next)
+      room_here : room_of tree x ≡ styled_room tree (runs x.turns.place i) + sum_by (styled_room tree) (rest m ready p x lt read stop next)
       unfolding room_of
-      room_here = ap (sum_by (turn_room tree)) turns_is ∙ sum_by-cons (turn_room tree) (works i) (rest m ready p x lt read stop next)
+      room_here = ap (sum_by (styled_room tree)) turns_is ∙ sum_by-cons (styled_room tree) (runs x.turns.place i) (rest m ready p x lt read stop next)
 
       -- there is room for the line
       pub print_fits : length m.output.bytes + (longest_items tree (map printed_of items) + 1) ≤ m.output.room
@@ -224,25 +260,25 @@ module _ (m : Machine) (ready : IsReady m) (p : ℕ) (x : Processor) (lt : p < l
           ∙ ap (λ t. t ++ 10 ∷ []) (texts_same tree rounds placed.numbered m.loops.items ready.loops (map printed_of items) x.registers.items good_there)
           ∙ ap (λ w. printed_text tree values w x.registers.items) (sym prints) ∙ ap (λ (j : Instance). line_of tree j x.registers.items) (sym instance_is)
 
-      pub print_steps : (y : Processor) (t : Turn) (ls given : List ℤ) (loops : Vec ℤ Global) (output : Written) → PassesTurn x y t → y.counter ≡ x.counter →
+      pub print_steps : (y : Processor) (t : StyledTurn) (ls given : List ℤ) (loops : Vec ℤ Global) (output : Written) → PassesTurn x y t → y.counter ≡ x.counter → y.signal ≡ x.signal → y.own ≡ x.own →
           ls ≡ with_rounds m.loops.items rounds → given ≡ x.registers.items → loops.items ≡ with_rounds m.loops.items rounds →
           output.bytes ≡ m.output.bytes ++ (items_text tree ls (map printed_of items) given ++ 10 ∷ []) → length output.bytes ≤ length m.output.bytes + (longest_items tree (map printed_of items) + 1) → m.output.room ≤ output.room →
           StepsTo m (record m { processors = with_item m.processors p y; loops = loops; output = output }) p Stepped
-      print_steps y t ls given loops output passes counter written same loops_are said grown capacity =
-          let left = left_is y t passes ∙ ap (λ o. last_deed o false (assigned_value tree i) (line_of tree i) ∷ left_of y) no_store in
-          let turn = first_is (turns_left x.turns) (works i) t (rest m ready p x lt read stop next) (turns_left y.turns) turns_is passes.turns in
-          let turns = passes.turns ∙ ap (λ u. u ∷ turns_left y.turns) (sym turn.0) in
-          let room = room_passed tree (plan_in m) (entries m.table) p x own y (works i) turns in
-          steps m ready p x y lt read loops m.memory output (printing (line_of tree i)) (passed_kept tree (plan_in m) (entries m.table) p x own ready.wide y t (printing (line_of tree i)) passes left)
+      print_steps y t ls given loops output passes counter signal same_own written same loops_are said grown capacity =
+          let left = left_is y t passes ∙ ap (λ o. last_deed (option_map at_own o) false (assigned_value tree i) (line_of tree i) ∷ left_of y) no_store in
+          let turn = first_is (styled_left x.turns) (runs x.turns.place i) t (rest m ready p x lt read stop next) (styled_left y.turns) turns_is passes.turns in
+          let turns = passes.turns ∙ ap (λ u. u ∷ styled_left y.turns) (sym turn.0) in
+          let room = room_passed (style_in m) tree (plan_in m) (entries m.table) p x own y (runs x.turns.place i) turns in
+          steps m ready p x y lt read loops m.memory output (printing (line_of tree i)) (passed_kept (style_in m) tree (plan_in m) (entries m.table) p x own ready.wide y t (printing (line_of tree i)) passes (ap length same_own ∙ own.own_cells) left)
           (ap (λ (l : List ℤ). length l) loops_are ∙ with_rounds-length m.loops.items rounds) refl (omega (arith, room, longest, grown)) capacity
           (record {
             left = left;
             processor = passes.processor ∙ own.processor;
             can = refl;
-            registers = ap (set (map (λ (z : Processor). z.registers.items) m.processors.items) p) (nothing_in y.registers.items passes.idle.none_done);
-            counters = same_counters tree (plan_in m) ready.formed ready.fits (entries m.table) m.processors.items m.memory.items m.output.bytes p x lt read (kept_here m ready p x y lt read) y counter;
-            signals = refl;
-            memory_is = refl;
+            registers = ap (set (map (λ (z : Processor). z.registers.items) m.processors.items) p) passes.idle.empty;
+            counters = same_counters (style_in m) tree (plan_in m) ready.formed ready.fits (entries m.table) m.processors.items m.memory.items m.output.bytes p worker x lt read (kept_here m ready p x y lt read) y counter;
+            signals = same_signals (style_in m) tree (plan_in m) ready.formed ready.fits (entries m.table) m.processors.items m.memory.items m.output.bytes p worker x lt read (kept_here m ready p x y lt read) y signal;
+            memory_is = same_memory m.processors.items m.memory.items p x lt read y same_own;
             output_is = said ∙ ap (λ l. m.output.bytes ++ l) (line_is ls given written same
-                ∙ ap (line_of tree i) (sym (registers_read tree (plan_in m) ready.formed ready.fits (entries m.table) m.processors.items m.memory.items m.output.bytes p x lt read (kept_here m ready p x y lt read))));
+                ∙ ap (line_of tree i) (sym (registers_read (style_in m) tree (plan_in m) ready.formed ready.fits (entries m.table) m.processors.items m.memory.items m.output.bytes p worker x lt read (kept_here m ready p x y lt read))));
           })

@@ -1,29 +1,32 @@
 -- What a machine shows, what it keeps, and what a step of it is.
-use Rattle.std.specs.Prelude.{ℕ, ◌+◌, ◌≡◌, ◌≤◌, ◌<◌, All, List, [], length, Option, Some, None, false, nat_le, slice_get, slice_index, slice_index_or, sum_by, if◌then◌else◌}
+use Rattle.std.specs.Prelude.{ℕ, ◌+◌, ◌≡◌, ◌≤◌, ◌<◌, All, List, length, Option, Some, None, nat_le, slice_get, slice_index, slice_index_or, sum_by, if◌then◌else◌}
 use Rattle.nest_tree.specs.Layout.{cell_count}
 use Rattle.nest_tree.specs.Tree.{Tree, param_values}
 use Rattle.nest_tree.specs.View.{tree_of}
 use Rattle.nest_tree.specs.WellFormed.{IsWellFormed, loops_of}
 use Rattle.nest_model.specs.Accesses.{loads_of}
+use Rattle.nest_model.specs.Ranges.{IsInRange}
 use Rattle.nest_walk.specs.Tables.{IsCellTable, entries}
 use Rattle.nest_walk.specs.declared.cursor.Stop.{Stop}
 use Rattle.nest_walk.specs.declared.table.LoadCells.{LoadCells}
 use Rattle.nest_walk.specs.declared.table.WorkCells.{WorkCells}
 use Rattle.sync_plan.specs.Fit.{IsFit}
 use Rattle.sync_plan.specs.declared.plan.Plan.{Plan}
-use Rattle.spmd_model.specs.Planned.{machine_of}
+use Rattle.spmd_model.specs.Quiet.{quiet_next}
 use Rattle.spmd_model.specs.States.{State, next_act, run_of, stepped, words_of}
+use Rattle.spmd_model.specs.Styled.{machine_by}
 use Rattle.spmd_model.specs.Timelines as Timelines
 use Rattle.spmd_model.specs.Timelines.{Act, post, await, load, store, add, print}
+use Rattle.spmd_model.specs.declared.style.Style.{Style}
 use Rattle.spmd_machine.specs.Processors.{IsKept, room_of, state_of}
-use Rattle.spmd_turns.specs.TurnsLeft.{IsInstance, IsNext, at_turn, turns_left, turns_rounds, turns_tree}
+use Rattle.spmd_turns.specs.Loads.{width}
+use Rattle.spmd_turns.specs.TurnsLeft.{IsInstance, turns_tree}
+use Rattle.styled_turns.specs.StyledLeft.{IsStyledNext, styled_rounds}
+use Rattle.styled_turns.specs.declared.turns.StyledNext.{StyledNext}
 use Rattle.spmd_machine.specs.declared.answer.StepAnswer.{StepAnswer}
 use Rattle.spmd_machine.specs.declared.answer.StepAnswer.TheVariants.{Stepped, Blocked, Ended}
 use Rattle.spmd_machine.specs.declared.machine.Machine.{Machine}
 use Rattle.spmd_machine.specs.declared.processor.Processor.{Processor}
-use Rattle.spmd_turns.specs.declared.turns.Next.{Next}
-use Rattle.spmd_turns.specs.declared.turns.Turns.{Turns}
-use Rattle.spmd_turns.specs.Loads.{width}
 
 abbrev pub tree_in : Machine → Tree
 tree_in m = tree_of m.program.now
@@ -31,13 +34,19 @@ tree_in m = tree_of m.program.now
 abbrev pub plan_in : Machine → Plan
 plan_in m = m.plan.now
 
--- the definition's machine of the program under the plan
+abbrev pub style_in : Machine → Style
+style_in m = m.style
+
+-- the definition's machine of the program under the plan in the style, and how many cells all share
 abbrev pub model_of : Machine → Timelines.Machine
-model_of m = machine_of (tree_in m) (plan_in m)
+model_of m = machine_by (style_in m) (tree_in m) (plan_in m)
+
+abbrev pub shared_in : Machine → ℕ
+shared_in m = cell_count (tree_in m)
 
 -- the state that a machine shows
 unfoldable pub shown : Machine → State
-shown m = state_of (tree_in m) (plan_in m) m.processors.items m.memory.items m.output.bytes
+shown m = state_of (style_in m) (tree_in m) (plan_in m) m.processors.items m.memory.items m.output.bytes
 
 -- what a step answers where this is the processor's next act
 abbrev pub answer_at : State → Option Act → StepAnswer
@@ -52,7 +61,7 @@ answer_at s (Some (print place)) = Stepped
 abbrev pub step_answer : Timelines.Machine → State → ℕ → StepAnswer
 step_answer m s p = answer_at s (next_act m s p)
 
--- some schedule leads to a state
+-- some schedule of single acts leads to a state
 pub record IsReached (m : Timelines.Machine) (s : State) : Type 0 where
   pub schedule : List ℕ
   pub workers : All (λ p. p < m.workers) schedule
@@ -61,6 +70,7 @@ pub record IsReached (m : Timelines.Machine) (s : State) : Type 0 where
 -- a machine is in a state that some schedule leads to, and its parts are those of its program and its plan, which fits it
 pub record IsReady (m : Machine) : Type 0 where
   pub formed : IsWellFormed (tree_in m)
+  pub ranges : IsInRange (tree_in m)
   pub fits : IsFit (tree_in m) (plan_in m)
   pub table : IsCellTable (tree_in m) m.table
   pub wide : (n k : ℕ) (cells : WorkCells) (l : LoadCells) → slice_get (entries m.table) n ≡ Some cells → slice_get cells.loads.items k ≡ Some l → 0 < width l
@@ -68,30 +78,39 @@ pub record IsReady (m : Machine) : Type 0 where
   pub loops : loops_of (tree_in m).items ≤ length m.loops.items
   pub cells : length m.memory.items ≡ cell_count (tree_in m)
   pub count : length m.processors.items ≡ (plan_in m).workers
-  pub kept : (p : ℕ) (d : Processor) → p < length m.processors.items → IsKept (tree_in m) (plan_in m) (entries m.table) p (slice_index_or m.processors.items p d)
+  pub kept : (p : ℕ) (d : Processor) → p < length m.processors.items → IsKept (style_in m) (tree_in m) (plan_in m) (entries m.table) p (slice_index_or m.processors.items p d)
   pub room : length m.output.bytes + sum_by (room_of (tree_in m)) m.processors.items ≤ m.output.room
   pub reached : IsReached (model_of m) (shown m)
 
--- what comes next of a cursor that has looked for it
-pub record IsAtNext (c : Turns) (found : Next) : Type 0 where
-  pub next : IsNext c found
-  pub end : at_turn c ≡ false → turns_left c ≡ []
-
 -- this comes next of processor p
-abbrev pub ComesNext : Machine → ℕ → Next → Type 0
-ComesNext m p next = (d : Processor) → IsAtNext (slice_index_or m.processors.items p d).turns next
+abbrev pub ComesNext : Machine → ℕ → StyledNext → Type 0
+ComesNext m p next = (d : Processor) → IsStyledNext (slice_index_or m.processors.items p d).turns next
 
--- the instance at a stop that comes next of a processor loads this cell next, or nothing more
+-- so many acts are done of what comes next of processor p
+abbrev pub HasDone : Machine → ℕ → ℕ → Type 0
+HasDone m p n = (d : Processor) → (slice_index_or m.processors.items p d).done ≡ n
+
+-- the instance at a stop that comes next of a processor loads this of the cells that all share next, or nothing more
 abbrev pub LoadsIn : Processor → Stop → Option ℕ → Type 0
-LoadsIn x stop cell = (comes : IsInstance (turns_tree x.turns) (turns_rounds x.turns) stop) → slice_get (loads_of (turns_tree x.turns) comes.instance) (length x.registers.items) ≡ cell
+LoadsIn x stop cell = (comes : IsInstance (turns_tree x.turns.turns) (styled_rounds x.turns) stop) → slice_get (loads_of (turns_tree x.turns.turns) comes.instance) x.done ≡ cell
 
 abbrev pub LoadsNext : Machine → ℕ → Stop → Option ℕ → Type 0
 LoadsNext m p stop cell = (d : Processor) → LoadsIn (slice_index_or m.processors.items p d) stop cell
 
--- a machine behind a step of processor p, with what it answers
-pub record StepsTo (old new : Machine) (p : ℕ) (said : StepAnswer) : Type 0 where
-  pub ready : IsReady new
+-- of the same program and plan, in the same style
+pub record IsSameMachine (old new : Machine) : Type 0 where
   pub program : tree_in new ≡ tree_in old
   pub plan : plan_in new ≡ plan_in old
+  pub style : style_in new ≡ style_in old
+  pub count : length new.processors.items ≡ length old.processors.items
+
+-- a machine behind an act of processor p, with what it answers
+pub record StepsTo (old new : Machine) (p : ℕ) (said : StepAnswer) : Type 0 where
+  pub ready : IsReady new
+  pub same : IsSameMachine old new
   pub state : shown new ≡ stepped (model_of old) (shown old) p
   pub answer : said ≡ step_answer (model_of old) (shown old) p
+
+-- no act on its own cells stands next of a processor
+abbrev pub IsSettled : Machine → ℕ → Type 0
+IsSettled m p = quiet_next (model_of m) (shared_in m) (shown m) p ≡ 0

@@ -12,55 +12,70 @@ use crate::answer::StepAnswer;
 use crate::processor::Processor;
 use nest_tree::{Expr, Item, PrintItem, Program};
 use nest_walk::{CellTable, Stop};
+use own_cells::{OWN_PLACES, is_sum_place};
 use seq_meaning::{Given, Output, eval};
-use spmd_turns::{LoadPlace, Next, Turns, longest_output, most_loads, open_printing};
+use spmd_model::Style;
+use spmd_turns::{LoadPlace, longest_output, most_loads, open_printing};
 use std::alloc::{AllocError, Global};
+use styled_turns::{StyledNext, StyledTurns};
 use sync_plan::Plan;
 
 // The most statements that a program has, and so the most loops.
 const MOST_STATEMENTS: usize = 400;
 
-/// The pure machine of a program under a plan that fits it.
+/// The pure machine of a program under a plan that fits it, where barriers are passed in a style.
 #[derive(Drop)]
 pub struct Machine<'a> {
     program: &'a Program,
     plan: &'a Plan,
+    style: Style,
     // The cells of all accesses.
     table: CellTable,
     // The values of the named constants, and those of loops, by number.
     params: Vec<i64>,
     loops: Vec<i64>,
     processors: Vec<Processor<'a>>,
+    // The cells that all share.
     memory: Vec<i64>,
     output: Output,
 }
 
 impl<'a> Machine<'a> {
-    ghost use Rattle.std.specs.Prelude.{Option, Vec};
+    ghost use Rattle.std.specs.Prelude.{Option, Vec, Bool, nat_lt, take};
     ghost use Rattle.std.specs.Global.{Global};
     ghost use Rattle.nest_tree.specs.declared.tree.Access.{Access};
     ghost use Rattle.nest_tree.specs.declared.tree.Guard.{Guard};
     ghost use Rattle.nest_tree.specs.declared.tree.PrintItem.{PrintItem};
     ghost use Rattle.std.specs.Prelude.{All, List, None, Some, true, false, ◌++◌};
-    ghost use Rattle.nest_model.specs.Memory.{cell_value, last_memory, memory_before, output_of};
+    ghost use Rattle.nest_model.specs.Memory.{cell_value, last_memory, output_of};
     ghost use Rattle.sync_plan.specs.Ordered.{IsOrdered};
-    ghost use Rattle.spmd_model.specs.Planned.{jobs_in_front};
-    ghost use Rattle.spmd_model.specs.States.{IsEnded, first_state, next_act, stepped};
-    ghost use Rattle.spmd_model.specs.Timelines.{load};
-    ghost use Rattle.spmd_machine.specs.Promises.{acts_to_go, can_step, one_round, rounds};
-    ghost use Rattle.spmd_turns.specs.TurnsLeft.{IsAct};
-    ghost use Rattle.spmd_machine.specs.Machines.{ComesNext, IsReady, LoadsNext, StepsTo, model_of, plan_in, shown, step_answer, tree_in};
+    ghost use Rattle.spmd_model.specs.Quiet.{first_turn, past_quiet, quiet_next, turned};
+    ghost use Rattle.spmd_model.specs.Sequential.{memory_at};
+    ghost use Rattle.spmd_model.specs.States.{IsEnded, next_act, stepped};
+    ghost use Rattle.std.specs.Prelude.{slice_get};
+    ghost use Rattle.spmd_model.specs.Styled.{timeline_by};
+    ghost use Rattle.spmd_model.specs.Timelines.{Job, job, load};
+    ghost use Rattle.spmd_machine.specs.Promises.{FindsSequential, acts_to_go, can_step, one_round, rounds};
+    ghost use Rattle.spmd_machine.specs.Machines.{ComesNext, HasDone, IsReady, IsSameMachine, IsSettled, LoadsNext, StepsTo, model_of, plan_in, shared_in, shown, step_answer, style_in, tree_in};
 
-    /// The first state: nothing is done, and all is 0 or empty. What a run can need is reserved.
-    pub fn new(alloc: Global, program: &'a Program, plan: &'a Plan) -> Result<Self, AllocError>
+    /// The first state: nothing is done but what each processor begins with on its own cells, and
+    /// all is 0 or empty. What a run can need is reserved.
+    pub fn new(
+        alloc: Global,
+        program: &'a Program,
+        plan: &'a Plan,
+        style: Style,
+    ) -> Result<Self, AllocError>
         requires formed { IsWellFormed (tree_of program.now) }
         requires limits { IsWithinLimits (tree_of program.now) }
         requires ranges { IsInRange (tree_of program.now) }
         requires fits { IsFit (tree_of program.now) plan.now }
         ensures ready { IfOk result (λ m. IsReady m) }
-        ensures first { IfOk result (λ m. shown m ≡ first_state (model_of m)) }
+        ensures first { IfOk result (λ m. shown m ≡ first_turn (model_of m) (shared_in m)) }
+        ensures settled { IfOk result (λ m. (p : ℕ) → p < plan.now.workers → IsSettled m p) }
         ensures program { IfOk result (λ m. tree_in m ≡ tree_of program.now) }
         ensures plan { IfOk result (λ m. plan_in m ≡ plan.now) }
+        ensures style { IfOk result (λ m. style_in m ≡ style) }
     {
         let table = CellTable::new(alloc, program)?;
         let mut params = Vec::with_capacity(alloc, program.params.len())?;
@@ -71,101 +86,213 @@ impl<'a> Machine<'a> {
         let mut closed = vec![in alloc; true; MOST_STATEMENTS]?;
         open_printing(&program.items, &mut closed);
         let room = longest_output(program, &closed).ok_or(AllocError)?;
-        Ok(Machine {
+        let mut machine = Machine {
             program,
             plan,
+            style,
             table,
             params,
             loops: vec![in alloc; 0; MOST_STATEMENTS]?,
-            processors: processors_of(alloc, program, plan, registers)?,
+            processors: processors_of(alloc, program, plan, style, registers.max(1))?,
             memory: vec![in alloc; 0; program.cell_count() as usize]?,
             output: Output::with_room(alloc, room)?,
-        })
+        };
+        machine.settle_all();
+        Ok(machine)
     }
 
-    /// One step of processor `p`: it does its next act, where it has one and it is possible.
-    /// Under an ordered plan a load that comes next finds what the sequential program's memory has
-    /// there in front of its instance.
+    // Each processor does what it begins with on its own cells.
+    fn settle_all(&mut self)
+        requires ready { IsReady self.old }
+        ensures ready { IsReady self.new }
+        ensures state { shown self.new ≡ fold (past_quiet (model_of self.old) (shared_in self.old)) (shown self.old) (one_round (model_of self.old)) }
+        ensures same { IsSameMachine self.old self.new }
+    {
+        for p in 0..self.plan.workers {
+            self.settle(p as usize);
+        }
+    }
+
+    /// One step of processor `p`: it does its next act, where it has one and it is possible, and then
+    /// the acts on its own cells that come next. Under an ordered plan a load that comes next finds
+    /// what the sequential run along the timeline has there; and one of an instance, but of a sum
+    /// scalar of its phase, what the sequential program has there in front of that instance.
     pub fn step(&mut self, p: u32) -> StepAnswer
         requires ready { IsReady self.old }
         requires worker { p < (plan_in self.old).workers }
         ensures ready { IsReady self.new }
-        ensures step { shown self.new ≡ stepped (model_of self.old) (shown self.old) p }
+        ensures step { shown self.new ≡ turned (model_of self.old) (shared_in self.old) (shown self.old) p }
         ensures answer { result ≡ step_answer (model_of self.old) (shown self.old) p }
-        ensures load { IsOrdered (tree_in self.old) (plan_in self.old) → (place cell : ℕ) → next_act (model_of self.old) (shown self.old) p ≡ Some (load place cell) → cell_value (shown self.old).memory cell ≡ cell_value (memory_before (tree_in self.old) (jobs_in_front (tree_in self.old) (plan_in self.old) place)) cell }
-        ensures program { tree_in self.new ≡ tree_in self.old }
-        ensures plan { plan_in self.new ≡ plan_in self.old }
+        ensures load { IsOrdered (tree_in self.old) (plan_in self.old) → (place cell : ℕ) → next_act (model_of self.old) (shown self.old) p ≡ Some (load place cell) → cell_value (shown self.old).memory cell ≡ cell_value (memory_at (model_of self.old) place) cell }
+        ensures sequential { IsOrdered (tree_in self.old) (plan_in self.old) → (place : ℕ) → (j : Job) → slice_get (timeline_by (style_in self.old) (tree_in self.old) (plan_in self.old)) place ≡ Some (job j)
+            → j.counts ≡ 1 → j.owner ≡ p → FindsSequential (style_in self.old) (tree_in self.old) (plan_in self.old) (shown self.old) p place j }
+        ensures same { IsSameMachine self.old self.new }
     {
-        self.act(p as usize)
+        let answer = self.act(p as usize);
+        self.settle(p as usize);
+        answer
     }
 
-    // The act that comes next.
-    fn act(&mut self, p: usize) -> StepAnswer
+    // Past the acts on its own cells of a processor that come next, which only a plan with own scalars
+    // has.
+    #[inline(always)]
+    fn settle(&mut self, p: usize)
         requires ready { IsReady self.old }
-        requires worker { p < (plan_in self.old).workers }
+        requires worker { p < length self.old.processors.items }
         ensures ready { IsReady self.new }
-        ensures step { shown self.new ≡ stepped (model_of self.old) (shown self.old) p }
-        ensures answer { result ≡ step_answer (model_of self.old) (shown self.old) p }
-        ensures program { tree_in self.new ≡ tree_in self.old }
-        ensures plan { plan_in self.new ≡ plan_in self.old }
+        ensures state { shown self.new ≡ past_quiet (model_of self.old) (shared_in self.old) (shown self.old) p }
+        ensures same { IsSameMachine self.old self.new }
     {
-        match self.peek(p) {
-            Next::Post(number) => self.post(p, number),
-            Next::Await { on, wanted } => self.await_counter(p, on, wanted),
-            Next::Work(stop) => self.work(p, stop),
-            Next::Phase(_) => unreachable!(),
-            Next::End => StepAnswer::Ended,
+        if self.processors[p].turns.has_own() {
+            self.settle_own(p);
         }
     }
 
-    // The act or the instance that comes next.
-    fn peek(&mut self, p: usize) -> Next<'a>
+    // The same, whatever the plan.
+    fn settle_own(&mut self, p: usize)
+        requires ready { IsReady self.old }
+        requires worker { p < length self.old.processors.items }
+        ensures ready { IsReady self.new }
+        ensures state { shown self.new ≡ past_quiet (model_of self.old) (shared_in self.old) (shown self.old) p }
+        ensures same { IsSameMachine self.old self.new }
+    {
+        while self.is_quiet(p) {
+            self.act(p);
+        }
+    }
+
+    // Whether an act on its own cells comes next of a processor.
+    fn is_quiet(&mut self, p: usize) -> bool
+        requires ready { IsReady self.old }
+        requires worker { p < length self.old.processors.items }
+        ensures ready { IsReady self.new }
+        ensures state { shown self.new ≡ shown self.old }
+        ensures quiet { result ≡ nat_lt 0 (quiet_next (model_of self.old) (shared_in self.old) (shown self.old) p) }
+        ensures same { IsSameMachine self.old self.new }
+    {
+        match self.peek(p) {
+            StyledNext::Work(stop) => self.is_work_quiet(p, stop),
+            StyledNext::Close(_) => self.processors[p].done != 1,
+            StyledNext::Post(_) | StyledNext::Await { .. } => false,
+            StyledNext::Signal(_) | StyledNext::AwaitSignal { .. } => false,
+            StyledNext::End => false,
+        }
+    }
+
+    // The same at an instance.
+    fn is_work_quiet(&self, p: usize, stop: Stop<'a>) -> bool
+        requires ready { IsReady self.now }
+        requires worker { p < length self.now.processors.items }
+        requires next { ComesNext self.now p (StyledNext.Work stop) }
+        ensures { result ≡ nat_lt 0 (quiet_next (model_of self.now) (shared_in self.now) (shown self.now) p) }
+    {
+        let processor = &self.processors[p];
+        let path = processor.turns.path();
+        if let Some(cell) = processor.place.cell(&self.table, stop, path) {
+            return processor.place_of(cell).is_some();
+        }
+        match &self.table.work(stop.first).store {
+            Some(form) => {
+                let cell = form.at(path.values());
+                processor.place_of(cell).is_some()
+            }
+            None => false,
+        }
+    }
+
+    // The act that comes next.
+    #[inline(always)]
+    fn act(&mut self, p: usize) -> StepAnswer
+        requires ready { IsReady self.old }
+        requires worker { p < length self.old.processors.items }
+        ensures { StepsTo self.old self.new p result }
+    {
+        match self.peek(p) {
+            StyledNext::Post(number) => self.post(p, number),
+            StyledNext::Await { on, wanted } => self.await_counter(p, on, wanted),
+            StyledNext::Signal(number) => self.signal(p, number),
+            StyledNext::AwaitSignal { on, wanted } => self.await_signal(p, on, wanted),
+            StyledNext::Work(stop) => self.work(p, stop),
+            StyledNext::Close(place) => self.close(p, place),
+            StyledNext::End => StepAnswer::Ended,
+        }
+    }
+
+    // What comes next.
+    #[inline(always)]
+    fn peek(&mut self, p: usize) -> StyledNext<'a>
         requires ready { IsReady self.old }
         requires worker { p < length self.old.processors.items }
         ensures ready { IsReady self.new }
         ensures next { ComesNext self.new p result }
-        ensures act { IsAct result }
-        ensures count { length self.new.processors.items ≡ length self.old.processors.items }
         ensures state { shown self.new ≡ shown self.old }
-        ensures program { tree_in self.new ≡ tree_in self.old }
-        ensures plan { plan_in self.new ≡ plan_in self.old }
+        ensures same { IsSameMachine self.old self.new }
     {
-        self.processors[p].turns.peek_act()
+        self.processors[p].peek()
     }
 
     // A post.
     fn post(&mut self, p: usize, number: u64) -> StepAnswer
         requires ready { IsReady self.old }
         requires worker { p < length self.old.processors.items }
-        requires next { ComesNext self.old p (Next.Post number) }
+        requires next { ComesNext self.old p (StyledNext.Post number) }
         ensures { StepsTo self.old self.new p result }
     {
         let processor = &mut self.processors[p];
         processor.counter = number;
-        processor.turns.pass();
+        processor.finish(StyledNext::Post(number));
         StepAnswer::Stepped
     }
 
-    // An await, where it is possible.
+    // A signal.
+    fn signal(&mut self, p: usize, number: u64) -> StepAnswer
+        requires ready { IsReady self.old }
+        requires worker { p < length self.old.processors.items }
+        requires next { ComesNext self.old p (StyledNext.Signal number) }
+        ensures { StepsTo self.old self.new p result }
+    {
+        let processor = &mut self.processors[p];
+        processor.signal = number;
+        processor.finish(StyledNext::Signal(number));
+        StepAnswer::Stepped
+    }
+
+    // An await of a counter, where it is possible.
     fn await_counter(&mut self, p: usize, on: u32, wanted: u64) -> StepAnswer
         requires ready { IsReady self.old }
         requires worker { p < length self.old.processors.items }
-        requires next { ComesNext self.old p (Next.Await on wanted) }
+        requires next { ComesNext self.old p (StyledNext.Await on wanted) }
         ensures { StepsTo self.old self.new p result }
     {
         let seen = self.processors[on as usize].counter;
         if seen < wanted {
             return StepAnswer::Blocked { on, wanted, seen };
         }
-        self.processors[p].turns.pass();
+        self.processors[p].finish(StyledNext::Await { on, wanted });
+        StepAnswer::Stepped
+    }
+
+    // An await of a signal, where it is possible.
+    fn await_signal(&mut self, p: usize, on: u32, wanted: u64) -> StepAnswer
+        requires ready { IsReady self.old }
+        requires worker { p < length self.old.processors.items }
+        requires next { ComesNext self.old p (StyledNext.AwaitSignal on wanted) }
+        ensures { StepsTo self.old self.new p result }
+    {
+        let seen = self.processors[on as usize].signal;
+        if seen < wanted {
+            return StepAnswer::Blocked { on, wanted, seen };
+        }
+        self.processors[p].finish(StyledNext::AwaitSignal { on, wanted });
         StepAnswer::Stepped
     }
 
     // A load, a store or a PRINT of the instance at this stop.
+    #[inline(always)]
     fn work(&mut self, p: usize, stop: Stop<'a>) -> StepAnswer
         requires ready { IsReady self.old }
         requires worker { p < length self.old.processors.items }
-        requires next { ComesNext self.old p (Next.Work stop) }
+        requires next { ComesNext self.old p (StyledNext.Work stop) }
         ensures { StepsTo self.old self.new p result }
     {
         let processor = &self.processors[p];
@@ -180,26 +307,33 @@ impl<'a> Machine<'a> {
         }
     }
 
-    // A load of this cell.
+    // A load of this cell, or of the processor's own one in its place.
+    #[inline(always)]
     fn load(&mut self, p: usize, stop: Stop<'a>, cell: usize) -> StepAnswer
         requires ready { IsReady self.old }
         requires worker { p < length self.old.processors.items }
-        requires next { ComesNext self.old p (Next.Work stop) }
+        requires next { ComesNext self.old p (StyledNext.Work stop) }
         requires left { LoadsNext self.old p stop (Some cell) }
         ensures { StepsTo self.old self.new p result }
     {
-        let value = self.memory[cell];
         let processor = &mut self.processors[p];
+        let value = match processor.place_of(cell) {
+            Some(place) => processor.own[place],
+            None => self.memory[cell],
+        };
         processor.registers.push(value).unwrap();
+        processor.begun = Some(stop);
         processor.place.advance(&self.table, stop);
+        processor.done += 1;
         StepAnswer::Stepped
     }
 
-    // The store of an assignment whose loads are done.
+    // The store of an assignment whose loads are done, to its cell or the processor's own one.
+    #[inline(always)]
     fn store(&mut self, p: usize, stop: Stop<'a>, e: &Expr) -> StepAnswer
         requires ready { IsReady self.old }
         requires worker { p < length self.old.processors.items }
-        requires next { ComesNext self.old p (Next.Work stop) }
+        requires next { ComesNext self.old p (StyledNext.Work stop) }
         requires loaded { LoadsNext self.old p stop None }
         requires statement { (target : Access) × (guard : Option Guard) × (line : ℕ) × (stop.item.now ≡ Item.Assign target e.now guard line) }
         ensures { StepsTo self.old self.new p result }
@@ -210,10 +344,14 @@ impl<'a> Machine<'a> {
         };
         let processor = &mut self.processors[p];
         let path = processor.turns.path();
+        let cell = form.at(path.values());
         path.write_to(&mut self.loops);
         let value = eval(e, &self.loops, &self.params, &processor.registers);
-        self.memory[form.at(path.values())] = value;
-        processor.finish();
+        match processor.place_of(cell) {
+            Some(place) => processor.own[place] = value,
+            None => self.memory[cell] = value,
+        }
+        processor.finish(StyledNext::Work(stop));
         StepAnswer::Stepped
     }
 
@@ -221,7 +359,7 @@ impl<'a> Machine<'a> {
     fn print(&mut self, p: usize, stop: Stop<'a>, items: &[PrintItem]) -> StepAnswer
         requires ready { IsReady self.old }
         requires worker { p < length self.old.processors.items }
-        requires next { ComesNext self.old p (Next.Work stop) }
+        requires next { ComesNext self.old p (StyledNext.Work stop) }
         requires loaded { LoadsNext self.old p stop None }
         requires statement { (listed : Vec PrintItem Global) × (line : ℕ) × (stop.item.now ≡ Item.Print listed line) × (items.now ≡ listed.items) }
         ensures { StepsTo self.old self.new p result }
@@ -234,7 +372,73 @@ impl<'a> Machine<'a> {
             loaded: &processor.registers,
         };
         self.output.push_line(self.program, items, &given).unwrap();
-        processor.finish();
+        processor.finish(StyledNext::Work(stop));
+        StepAnswer::Stepped
+    }
+
+    // An act of a closing: the load of the own cell; its value to the shared one; and behind an
+    // addition 0 to the own cell.
+    fn close(&mut self, p: usize, place: usize) -> StepAnswer
+        requires ready { IsReady self.old }
+        requires worker { p < length self.old.processors.items }
+        requires next { ComesNext self.old p (StyledNext.Close place) }
+        ensures { StepsTo self.old self.new p result }
+    {
+        let done = self.processors[p].done;
+        if done == 0 {
+            self.load_total(p, place)
+        } else if done == 1 {
+            self.give_total(p, place)
+        } else {
+            self.clear_total(p, place)
+        }
+    }
+
+    fn load_total(&mut self, p: usize, place: usize) -> StepAnswer
+        requires ready { IsReady self.old }
+        requires worker { p < length self.old.processors.items }
+        requires next { ComesNext self.old p (StyledNext.Close place) }
+        requires none { HasDone self.old p 0 }
+        ensures { StepsTo self.old self.new p result }
+    {
+        let processor = &mut self.processors[p];
+        let value = processor.own[place];
+        processor.registers.push(value).unwrap();
+        processor.done = 1;
+        StepAnswer::Stepped
+    }
+
+    fn give_total(&mut self, p: usize, place: usize) -> StepAnswer
+        requires ready { IsReady self.old }
+        requires worker { p < length self.old.processors.items }
+        requires next { ComesNext self.old p (StyledNext.Close place) }
+        requires loaded { HasDone self.old p 1 }
+        ensures { StepsTo self.old self.new p result }
+    {
+        let processor = &mut self.processors[p];
+        let value = processor.registers[0];
+        let cell = processor.turns.own_cells().cell(place) as usize;
+        if is_sum_place(place) {
+            self.memory[cell] = self.memory[cell].wrapping_add(value);
+            processor.registers.clear();
+            processor.done = 2;
+        } else {
+            self.memory[cell] = value;
+            processor.finish(StyledNext::Close(place));
+        }
+        StepAnswer::Stepped
+    }
+
+    fn clear_total(&mut self, p: usize, place: usize) -> StepAnswer
+        requires ready { IsReady self.old }
+        requires worker { p < length self.old.processors.items }
+        requires next { ComesNext self.old p (StyledNext.Close place) }
+        requires added { HasDone self.old p 2 }
+        ensures { StepsTo self.old self.new p result }
+    {
+        let processor = &mut self.processors[p];
+        processor.own[place] = 0;
+        processor.finish(StyledNext::Close(place));
         StepAnswer::Stepped
     }
 
@@ -243,9 +447,8 @@ impl<'a> Machine<'a> {
         requires ready { IsReady self.old }
         requires workers { All (λ p. p < (plan_in self.old).workers) schedule.now }
         ensures ready { IsReady self.new }
-        ensures run { shown self.new ≡ fold (stepped (model_of self.old)) (shown self.old) schedule.now }
-        ensures program { tree_in self.new ≡ tree_in self.old }
-        ensures plan { plan_in self.new ≡ plan_in self.old }
+        ensures run { shown self.new ≡ fold (turned (model_of self.old) (shared_in self.old)) (shown self.old) schedule.now }
+        ensures same { IsSameMachine self.old self.new }
     {
         for p in schedule {
             self.step(*p);
@@ -256,12 +459,11 @@ impl<'a> Machine<'a> {
     pub fn round_robin(&mut self)
         requires ready { IsReady self.old }
         ensures ready { IsReady self.new }
-        ensures rounds { (count : ℕ) × (shown self.new ≡ fold (stepped (model_of self.old)) (shown self.old) (rounds (model_of self.old) count)) }
+        ensures rounds { (count : ℕ) × (shown self.new ≡ fold (turned (model_of self.old) (shared_in self.old)) (shown self.old) (rounds (model_of self.old) count)) }
         ensures ended { IsEnded (model_of self.old) (shown self.new) }
-        ensures memory { IsOrdered (tree_in self.old) (plan_in self.old) → (shown self.new).memory ≡ last_memory (tree_in self.old) }
+        ensures memory { IsOrdered (tree_in self.old) (plan_in self.old) → take (shared_in self.old) (shown self.new).memory ≡ last_memory (tree_in self.old) }
         ensures output { IsOrdered (tree_in self.old) (plan_in self.old) → (shown self.new).output ≡ output_of (tree_in self.old) }
-        ensures program { tree_in self.new ≡ tree_in self.old }
-        ensures plan { plan_in self.new ≡ plan_in self.old }
+        ensures same { IsSameMachine self.old self.new }
     {
         while self.round() {}
     }
@@ -270,11 +472,10 @@ impl<'a> Machine<'a> {
     fn round(&mut self) -> bool
         requires ready { IsReady self.old }
         ensures ready { IsReady self.new }
-        ensures run { shown self.new ≡ fold (stepped (model_of self.old)) (shown self.old) (one_round (model_of self.old)) }
+        ensures run { shown self.new ≡ fold (turned (model_of self.old) (shared_in self.old)) (shown self.old) (one_round (model_of self.old)) }
         ensures nearer { result ≡ true → acts_to_go (model_of self.old) (shown self.new) < acts_to_go (model_of self.old) (shown self.old) }
         ensures still { result ≡ false → (p : ℕ) → p < (plan_in self.old).workers → can_step (model_of self.old) (shown self.new) p ≡ false }
-        ensures program { tree_in self.new ≡ tree_in self.old }
-        ensures plan { plan_in self.new ≡ plan_in self.old }
+        ensures same { IsSameMachine self.old self.new }
     {
         let mut has_stepped = false;
         for p in 0..self.plan.workers {
@@ -285,10 +486,10 @@ impl<'a> Machine<'a> {
         has_stepped
     }
 
-    /// The memory, cell by cell.
+    /// The memory, cell by cell, of the cells that all share.
     pub fn memory(&self) -> &[i64]
         requires ready { IsReady self.now }
-        ensures shown { result.now ≡ (shown self.now).memory }
+        ensures shown { result.now ≡ take (shared_in self.now) (shown self.now).memory }
         ensures last { IsOrdered (tree_in self.now) (plan_in self.now) → IsEnded (model_of self.now) (shown self.now) → result.now ≡ last_memory (tree_in self.now) }
     {
         self.memory.as_slice()
@@ -310,21 +511,26 @@ fn processors_of<'a>(
     alloc: Global,
     program: &'a Program,
     plan: &'a Plan,
+    style: Style,
     room: usize,
 ) -> Result<Vec<Processor<'a>>, AllocError>
     requires formed { IsWellFormed (tree_of program.now) }
     requires limits { IsWithinLimits (tree_of program.now) }
     requires fits { IsFit (tree_of program.now) plan.now }
     ensures count { IfOk result (λ v. length v.items ≡ plan.now.workers) }
-    ensures fresh { IfOk result (λ v. AreFresh (tree_of program.now) plan.now room v.items) }
+    ensures fresh { IfOk result (λ v. AreFresh style (tree_of program.now) plan.now room v.items) }
 {
     let mut processors = Vec::new(alloc);
     for p in 0..plan.workers {
         processors.push(Processor {
-            turns: Turns::new(program, plan, p),
+            turns: StyledTurns::new(program, plan, style, p),
             registers: Vec::with_capacity(alloc, room)?,
+            begun: None,
             place: LoadPlace::first(),
+            done: 0,
             counter: 0,
+            signal: 0,
+            own: [0; OWN_PLACES],
         })?;
     }
     Ok(processors)

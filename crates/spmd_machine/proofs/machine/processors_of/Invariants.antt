@@ -6,5 +6,5 @@ use Rattle.spmd_machine.proofs.machine.processors_of.Given as goal
 abbrev pub invariant-loop-p : goal.invariant-loop-p
 invariant-loop-p l = record {
   count : length l.processors.items ≡ l.p;
-  fresh : AreFresh (tree_of l.program) l.plan l.room l.processors.items;
+  fresh : AreFresh l.style (tree_of l.program) l.plan l.room l.processors.items;
 }

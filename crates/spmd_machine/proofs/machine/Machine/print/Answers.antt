@@ -9,6 +9,8 @@ use Rattle.nest_walk.specs.Paths.{Round}
 use Rattle.nest_walk.specs.RoundsOf.{rounds_of}
 use Rattle.seq_meaning.proofs.RunSteps.{written_back}
 use Rattle.spmd_machine.proofs.LastSteps.{cells_there, numbers_there, print_fits, print_loads, print_steps, print_texts}
+use Rattle.spmd_machine.proofs.Ready.{kept_here, next_here}
+use Rattle.styled_turns.specs.declared.turns.StyledNext.TheVariants.{Work}
 use Rattle.spmd_machine.proofs.machine.Machine.print.Goals as goal
 
 pub write_to-requires : goal.write_to-requires
@@ -57,4 +59,14 @@ returns c =
     let (t, passes) = c.finish.ensures.passes in
     let said = subst (λ r. OnOk r (c.push_line.new.self.bytes ≡ m.output.bytes ++ (items_text (tree_of m.program.now) c.deref.result.now (map printed_of c.args.items.now) c.deref-3.result.now ++ 10 ∷ []))) c.unwrap.ensures c.push_line.ensures.line in
     print_steps m c.requires.ready c.args.p x c.requires.worker read c.args.stop c.requires.next there.0 there.1 c.requires.loaded listed line c.args.items.now statement items_are
-    c.finish.new.self t c.deref.result.now c.deref-3.result.now (with_items m.loops c.write_to.new.loops) c.push_line.new.self passes c.finish.ensures.counter (c.deref.ensures.value ∙ written) c.deref-3.ensures.value written said c.push_line.ensures.grown c.push_line.ensures.room
+    c.finish.new.self t c.deref.result.now c.deref-3.result.now (with_items m.loops c.write_to.new.loops) c.push_line.new.self passes c.finish.ensures.counter c.finish.ensures.signal c.finish.ensures.own_cells (c.deref.ensures.value ∙ written) c.deref-3.ensures.value written said c.push_line.ensures.grown c.push_line.ensures.room
+
+pub finish-requires-clause-sound : goal.finish-requires-clause-sound
+finish-requires-clause-sound c =
+    let x = c.index_mut-processor.result.now in
+    (kept_here c.args.self.now c.requires.ready c.args.p x x c.requires.worker c.index_mut-processor.ensures.value).sound
+
+pub finish-requires-clause-next : goal.finish-requires-clause-next
+finish-requires-clause-next c =
+    let x = c.index_mut-processor.result.now in
+    next_here c.args.self.now c.requires.ready c.args.p x x c.requires.worker c.index_mut-processor.ensures.value (Work c.args.stop) c.requires.next

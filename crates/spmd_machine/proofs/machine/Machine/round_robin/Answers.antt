@@ -1,9 +1,9 @@
-use Rattle.std.proofs.Common.{◌≡◌, ℕ, ◌+◌, ◌<◌, false, ◌∙◌, fold}
-use Rattle.spmd_model.specs.States.{stepped}
-use Rattle.spmd_model.proofs.PlannedSound.{sound_of}
-use Rattle.spmd_machine.specs.Machines.{IsReached, model_of, plan_in, shown, tree_in}
+use Rattle.std.proofs.Common.{◌≡◌, ℕ, ◌+◌, ◌<◌, false, fold}
+use Rattle.spmd_model.specs.Quiet.{turned}
+use Rattle.spmd_model.proofs.StyledOrder.{sound_by}
+use Rattle.spmd_machine.specs.Machines.{IsReached, model_of, plan_in, shared_in, shown, style_in, tree_in}
 use Rattle.spmd_machine.specs.Promises.{can_step, one_round}
-use Rattle.spmd_machine.proofs.Ready.{along}
+use Rattle.spmd_machine.proofs.Ready.{along, along_shared, same_then}
 use Rattle.spmd_machine.proofs.Rounds.{rounds_more, ended_still}
 use Rattle.spmd_machine.proofs.Sequential.{has_come, memory_at_end, output_at_end}
 use Rattle.spmd_machine.proofs.machine.Machine.round_robin.Goals as goal
@@ -13,12 +13,11 @@ loop-preserved c =
     let first = c.args.self.now in
     let m = c.loop.self in
     let inv = c.loop.invariant in
-    let run = along (λ w. shown c.round.new.self ≡ fold (stepped w) (shown m) (one_round w)) first m inv.program inv.plan c.round.ensures.run in
+    let run = along_shared (λ w shared. shown c.round.new.self ≡ fold (turned w shared) (shown m) (one_round w)) first m inv.same c.round.ensures.run in
     record {
       ready = c.round.ensures.ready;
-      program = c.round.ensures.program ∙ inv.program;
-      plan = c.round.ensures.plan ∙ inv.plan;
-      run = (inv.run.0 + 1, rounds_more (model_of first) (shown first) (shown m) (shown c.round.new.self) inv.run.0 inv.run.1 run);
+      same = same_then first m c.round.new.self inv.same c.round.ensures.same;
+      run = (inv.run.0 + 1, rounds_more (model_of first) (shared_in first) (shown first) (shown m) (shown c.round.new.self) inv.run.0 inv.run.1 run);
     }
 
 pub returns-clause-rounds : goal.returns-clause-rounds
@@ -26,8 +25,8 @@ returns-clause-rounds c =
     let first = c.args.self.now in
     let m = c.loop.self in
     let inv = c.loop.invariant in
-    let run = along (λ w. shown c.round.new.self ≡ fold (stepped w) (shown m) (one_round w)) first m inv.program inv.plan c.round.ensures.run in
-    (inv.run.0 + 1, rounds_more (model_of first) (shown first) (shown m) (shown c.round.new.self) inv.run.0 inv.run.1 run)
+    let run = along_shared (λ w shared. shown c.round.new.self ≡ fold (turned w shared) (shown m) (one_round w)) first m inv.same c.round.ensures.run in
+    (inv.run.0 + 1, rounds_more (model_of first) (shared_in first) (shown first) (shown m) (shown c.round.new.self) inv.run.0 inv.run.1 run)
 
 pub returns-clause-ended : goal.returns-clause-ended
 returns-clause-ended c =
@@ -36,24 +35,28 @@ returns-clause-ended c =
     let n = c.round.new.self in
     let inv = c.loop.invariant in
     let ready = c.requires.ready in
-    let reached = along (λ w. IsReached w (shown n)) first n (c.round.ensures.program ∙ inv.program) (c.round.ensures.plan ∙ inv.plan) c.round.ensures.ready.reached in
-    ended_still (model_of first) (shown n) (sound_of (tree_in first) (plan_in first) ready.formed ready.fits) (has_come (tree_in first) (plan_in first) ready.formed ready.fits (shown n) reached)
-    (along (λ w. (p : ℕ) → p < w.workers → can_step w (shown n) p ≡ false) first m inv.program inv.plan (c.round.ensures.still c.loop-test.false))
+    let same = same_then first m n inv.same c.round.ensures.same in
+    let reached = along (λ w. IsReached w (shown n)) first n same c.round.ensures.ready.reached in
+    ended_still (model_of first) (shown n) (sound_by (style_in first) (tree_in first) (plan_in first) ready.formed ready.fits) (has_come (style_in first) (tree_in first) (plan_in first) ready.formed ready.fits (shown n) reached)
+    (along (λ w. (p : ℕ) → p < w.workers → can_step w (shown n) p ≡ false) first m inv.same (c.round.ensures.still c.loop-test.false))
 
 pub returns-clause-memory : goal.returns-clause-memory
 returns-clause-memory c = λ ordered.
     let first = c.args.self.now in
     let n = c.round.new.self in
-    let inv = c.loop.invariant in
     let ready = c.requires.ready in
-    let reached = along (λ w. IsReached w (shown n)) first n (c.round.ensures.program ∙ inv.program) (c.round.ensures.plan ∙ inv.plan) c.round.ensures.ready.reached in
-    memory_at_end (tree_in first) (plan_in first) ready.formed ready.fits (shown n) reached ordered (returns-clause-ended c)
+    let same = same_then first c.loop.self n c.loop.invariant.same c.round.ensures.same in
+    let reached = along (λ w. IsReached w (shown n)) first n same c.round.ensures.ready.reached in
+    memory_at_end (style_in first) (tree_in first) (plan_in first) ready.formed ready.fits (shown n) reached ready.ranges ordered (returns-clause-ended c)
 
 pub returns-clause-output : goal.returns-clause-output
 returns-clause-output c = λ ordered.
     let first = c.args.self.now in
     let n = c.round.new.self in
-    let inv = c.loop.invariant in
     let ready = c.requires.ready in
-    let reached = along (λ w. IsReached w (shown n)) first n (c.round.ensures.program ∙ inv.program) (c.round.ensures.plan ∙ inv.plan) c.round.ensures.ready.reached in
-    output_at_end (tree_in first) (plan_in first) ready.formed ready.fits (shown n) reached ordered (returns-clause-ended c)
+    let same = same_then first c.loop.self n c.loop.invariant.same c.round.ensures.same in
+    let reached = along (λ w. IsReached w (shown n)) first n same c.round.ensures.ready.reached in
+    output_at_end (style_in first) (tree_in first) (plan_in first) ready.formed ready.fits (shown n) reached ready.ranges ordered (returns-clause-ended c)
+
+pub returns-clause-same : goal.returns-clause-same
+returns-clause-same c = same_then c.args.self.now c.loop.self c.round.new.self c.loop.invariant.same c.round.ensures.same

@@ -1,6 +1,8 @@
-use Rattle.std.proofs.Common.{length, subst}
+use Rattle.std.proofs.Common.{ap, inl, inr, subst}
+use Rattle.nest_tree.specs.View.{statement_of}
 use Rattle.spmd_turns.specs.TurnsLeft.{turns_tree}
 use Rattle.spmd_machine.specs.Machines.{LoadsNext}
+use Rattle.spmd_machine.proofs.LastSteps.{no_other}
 use Rattle.spmd_machine.proofs.LoadSteps.{at_load, inst, loads_next}
 use Rattle.spmd_machine.proofs.machine.Machine.work.Goals as goal
 
@@ -9,7 +11,7 @@ cell-requires c =
     let m = c.args.self.now in
     let x = c.index-processor.result.now in
     let read = c.index-processor.ensures in
-    (turns_tree x.turns, length x.registers.items, at_load m c.requires.ready c.args.p x c.requires.worker read c.args.stop c.requires.next c.path-path.result.now c.path-path.ensures (inst m c.requires.ready c.args.p x c.requires.worker read c.args.stop c.requires.next))
+    (turns_tree x.turns.turns, x.done, at_load m c.requires.ready c.args.p x c.requires.worker read c.args.stop c.requires.next c.path-path.result.now c.path-path.ensures (inst m c.requires.ready c.args.p x c.requires.worker read c.args.stop c.requires.next))
 
 pub load-requires-clause-left : goal.load-requires-clause-left
 load-requires-clause-left c =
@@ -28,3 +30,12 @@ print-requires-clause-loaded c =
     let m = c.args.self.now in
     let next = loads_next m c.requires.ready c.args.p c.index-processor.result.now c.requires.worker c.index-processor.ensures c.args.stop c.requires.next c.path-path.result.now c.path-path.ensures c.cell.result c.cell.ensures in
     subst (LoadsNext m c.args.p c.args.stop) c.in_default.is next
+
+pub unreachable-requires : goal.unreachable-requires
+unreachable-requires c =
+    let m = c.args.self.now in
+    let x = c.index-processor.result.now in
+    elim c.in-Loop.is [
+      | inl (nest, is) ↦ no_other m c.requires.ready c.args.p x c.requires.worker c.index-processor.ensures c.args.stop c.requires.next _ (ap statement_of is) (λ w clash. cc)
+      | inr (line, is) ↦ no_other m c.requires.ready c.args.p x c.requires.worker c.index-processor.ensures c.args.stop c.requires.next _ (ap statement_of is) (λ w clash. cc)
+    ]

@@ -1,0 +1,20 @@
+use Rattle.std.proofs.Common.{subst, sym, ◌∙◌, arith}
+use Rattle.sync_plan.specs.Own.{own_loop}
+use Rattle.own_cells.specs.OwnCells.{AreOwnCells}
+use Rattle.styled_turns.specs.StyledLeft.{styled_plan, styled_tree}
+use Rattle.styled_turns.proofs.KnownOwn.{none_at}
+use Rattle.spmd_machine.proofs.LoudDeeds.{slot_none}
+use Rattle.spmd_machine.proofs.processor.Processor.place_of.Goals as goal
+
+pub overflow_cast-cell : goal.overflow_cast-cell
+overflow_cast-cell c = omega (arith, c.requires.cell, c.requires.sound.few_cells)
+
+pub returns-then-has_own : goal.returns-then-has_own
+returns-then-has_own c =
+    let t = c.args.self.now.turns in
+    c.place_of.ensures (styled_tree t) (styled_plan t) t.place (subst (AreOwnCells (styled_tree t) (own_loop (styled_tree t) (styled_plan t) t.place)) (sym c.own_cells.ensures) c.requires.sound.own.cells)
+
+pub returns-else-has_own : goal.returns-else-has_own
+returns-else-has_own c =
+    let t = c.args.self.now.turns in
+    sym (slot_none (styled_tree t) (styled_plan t) t.place c.args.cell (none_at (styled_tree t) (styled_plan t) t.place (sym c.has_own.ensures ∙ c.if-has_own.false)))
