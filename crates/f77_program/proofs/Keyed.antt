@@ -1,11 +1,12 @@
 -- Short names by their keys.
-use Rattle.std.proofs.Common.{◌≡◌, ◌≢◌, ℕ, zero, suc, ◌+◌, ◌*◌, ◌^◌, ◌≤◌, ◌<◌, nat_lt, nat_le, Bool, true, false, ◌&&◌, List, [], ◌∷◌, length, drop, cond, if◌then◌else◌, Option, Some, None, refl, sym, ap, ◌∙◌, arith}
+use Rattle.std.proofs.Common.{◌≡◌, ◌≢◌, ℕ, zero, suc, ◌+◌, ◌*◌, ◌^◌, ◌≤◌, ◌<◌, nat_lt, nat_le, Bool, true, false, ◌&&◌, List, [], ◌∷◌, length, drop, if◌then◌else◌, Option, Some, None, refl, sym, ap, ◌∙◌, arith}
 use Rattle.std.proofs.lemmas.Bool.{and_parts}
 use Rattle.std.proofs.lemmas.Bool.Decides.{nat_tests}
 use Rattle.std.proofs.lemmas.Map.Lookups.{exact_unsigned}
-use Rattle.std.specs.BTreeMap.{BTreeMap, get, is_at}
+use Rattle.std.specs.BTreeMap.{BTreeMap, get}
 use Rattle.std.specs.Global.{Vec}
 use Rattle.std.specs.List.{list_all}
+use Rattle.std.specs.Option.{option_or}
 use Rattle.std.specs.Ordering.{nat_cmp, is_eq}
 use Rattle.std.specs.Str.{bytes_eq}
 use Rattle.std.specs.declared.cmp.Ordering.{Ordering}
@@ -13,7 +14,7 @@ use Rattle.std.specs.declared.cmp.Ordering.TheVariants.{Less, Equal, Greater}
 use Rattle.f77_forms.proofs.Told.{same_bytes}
 use Rattle.f77_scene.specs.Scene.{Name}
 use Rattle.f77_program.specs.Numbered.{is_short, key_of, number_apart}
-use Rattle.f77_program.proofs.Mapped.{differ}
+use Rattle.f77_program.proofs.Mapped.{differ, without}
 
 -- ---- keys
 
@@ -79,10 +80,10 @@ abbrev under : BTreeMap ℕ ℕ → BTreeMap (Vec ℕ) ℕ → Name → Option �
 under short others n = if is_short n then get nat_cmp short (key_of n) else number_apart others n
 
 pub low_short : (n : Name) → is_short n ≡ true → are_low n ≡ true
-low_short n h = (and_parts (nat_le (length n) 8) (are_low n) h).1
+low_short n h = (and_parts (nat_le (length n) 18) (are_low n) h).1
 
-pub few_short : (n : Name) → is_short n ≡ true → length n ≤ 8
-few_short n h = (let few : nat_le (length n) 8 ≡ true = (and_parts (nat_le (length n) 8) (are_low n) h).0 in grind (arith, nat_tests))
+pub few_short : (n : Name) → is_short n ≡ true → length n ≤ 18
+few_short n h = (let few : nat_le (length n) 18 ≡ true = (and_parts (nat_le (length n) 18) (are_low n) h).0 in grind (arith, nat_tests))
 
 -- a short name is no other
 apart : (q n : Name) (s t : Bool) → is_short q ≡ s → is_short n ≡ t → s ≢ t → bytes_eq q n ≡ false
@@ -92,23 +93,12 @@ apart q n s t f g ne = by_test (bytes_eq q n) refl
     by_test true e = absurd (ne (sym f ∙ ap is_short (same_bytes q n e) ∙ g))
     by_test false e = refl
 
-pub short_more : (old new : BTreeMap ℕ ℕ) (others : BTreeMap (Vec ℕ) ℕ) (n : Name) (k : ℕ) → is_short n ≡ true → ((q : ℕ) → get nat_cmp new q ≡ cond (is_at (nat_cmp (key_of n)) q) (Some k) (get nat_cmp old q))
-    → (q : Name) → under new others q ≡ (if bytes_eq q n then Some k else under old others q)
+pub short_more : (old new : BTreeMap ℕ ℕ) (others : BTreeMap (Vec ℕ) ℕ) (n : Name) (k : ℕ) → is_short n ≡ true
+    → ((key : ℕ) → get nat_cmp new key ≡ option_or (get nat_cmp old key) (if is_eq (nat_cmp (key_of n) key) then Some k else None))
+    → (q : Name) → under new others q ≡ option_or (under old others q) (if bytes_eq q n then Some k else None)
 short_more old new others n k h made q = by_short (is_short q) refl
   where
-    picks : (b : Bool) → cond b (Some k) (get nat_cmp old (key_of q)) ≡ (if b then Some k else get nat_cmp old (key_of q))
-    picks true = refl
-    picks false = refl
-
-    by_short : (s : Bool) → is_short q ≡ s → under new others q ≡ (if bytes_eq q n then Some k else under old others q)
+    by_short : (s : Bool) → is_short q ≡ s → under new others q ≡ option_or (under old others q) (if bytes_eq q n then Some k else None)
     by_short true e =
-        rw e (made (key_of q) ∙ ap (λ b. cond b (Some k) (get nat_cmp old (key_of q))) (key_test n q (low_short n h) (low_short q e)) ∙ picks (bytes_eq q n))
-    by_short false e = rw e (rw (apart q n false true e h (λ z. cc)) refl)
-
-pub others_more : (short : BTreeMap ℕ ℕ) (old new : BTreeMap (Vec ℕ) ℕ) (n : Name) (k : ℕ) → is_short n ≡ false → ((q : Name) → number_apart new q ≡ (if bytes_eq q n then Some k else number_apart old q))
-    → (q : Name) → under short new q ≡ (if bytes_eq q n then Some k else under short old q)
-others_more short old new n k h made q = by_short (is_short q) refl
-  where
-    by_short : (s : Bool) → is_short q ≡ s → under short new q ≡ (if bytes_eq q n then Some k else under short old q)
-    by_short true e = rw e (rw (apart q n true false e h (λ z. cc)) refl)
-    by_short false e = rw e (made q)
+        rw e (made (key_of q) ∙ ap (λ b. option_or (get nat_cmp old (key_of q)) (if b then Some k else None)) (key_test n q (low_short n h) (low_short q e)))
+    by_short false e = rw e (rw (apart q n false true e h (λ z. cc)) (without (number_apart others q)))

@@ -6,7 +6,7 @@ use Rattle.std.specs.BTreeMap.{is_at, insert_entry}
 use Rattle.std.specs.Cmp.Lexicographic.{slice_cmp}
 use Rattle.std.specs.Global.{Vec}
 use Rattle.std.specs.Map.{lookup}
-use Rattle.std.specs.Option.{option_map, option_or}
+use Rattle.std.specs.Option.{is_some, option_map, option_or}
 use Rattle.std.specs.Ordering.{nat_cmp, is_eq}
 use Rattle.std.specs.Str.{bytes_eq}
 use Rattle.std.specs.declared.cmp.Ordering.{Ordering}
@@ -79,6 +79,37 @@ lookup-inserted {X} (e ∷ es) key n name h = by_order (slice_cmp nat_cmp key.it
         let absent : looked_up key.items es ≡ None = sym (ap (λ o. cond (is_eq o) (Some e.1) (looked_up key.items es)) c) ∙ h in
         rw c (inserted_behind name key.items e.0.items n e.1 (looked_up name (insert_entry key_cmp es key n)) (looked_up name es) c (rest absent))
 
+-- ---- a number for what has none
+
+pub without : {X : Type 0} (o : Option X) → o ≡ option_or o None
+without None = refl
+without (Some x) = refl
+
+pub missing : (o : Option ℕ) → is_some o ≡ false → o ≡ None
+missing None h = refl
+missing (Some k) h = absurd cc
+
+-- what has one keeps it
+pub kept : (found : Name → Option ℕ) (n : Name) (k : ℕ) (q : Name) → is_some (found n) ≡ true → found q ≡ option_or (found q) (if bytes_eq q n then Some k else None)
+kept found n k q there = by_test (bytes_eq q n) refl
+  where
+    same : (o : Option ℕ) → is_some o ≡ true → o ≡ option_or o (Some k)
+    same None h = absurd cc
+    same (Some x) h = refl
+
+    by_test : (b : Bool) → bytes_eq q n ≡ b → found q ≡ option_or (found q) (if bytes_eq q n then Some k else None)
+    by_test true e = rw e (same (found q) (ap (λ m. is_some (found m)) (same_bytes q n e) ∙ there))
+    by_test false e = rw e (without (found q))
+
+pub gained : (found : Name → Option ℕ) (n : Name) (k : ℕ) (q : Name) → found n ≡ None → (if bytes_eq q n then Some k else found q) ≡ option_or (found q) (if bytes_eq q n then Some k else None)
+gained found n k q none = by_test (bytes_eq q n) refl
+  where
+    by_test : (b : Bool) → bytes_eq q n ≡ b → (if bytes_eq q n then Some k else found q) ≡ option_or (found q) (if bytes_eq q n then Some k else None)
+    by_test true e =
+        let missing : found q ≡ None = ap found (same_bytes q n e) ∙ none in
+        rw e (rw missing refl)
+    by_test false e = rw e (without (found q))
+
 -- ---- one more name
 
 pub numbered-cons : (m : Name) (names : List Name) (q : Name) → numbered (m ∷ names) q ≡ (if bytes_eq m q then Some 1 else option_map suc (numbered names q))
@@ -107,29 +138,8 @@ numbered-more (m ∷ names) n q =
     joined None false true = ap (λ k. Some k) (omega arith)
     joined None false false = refl
 
-pub AreNumbered-again : (numbers : Numbers) (names : List Name) (n : Name) (k : ℕ) → AreNumbered numbers names → number_under numbers n ≡ Some k → AreNumbered numbers (names ++ n ∷ [])
-AreNumbered-again numbers names n k good there q = good q ∙ by_test (bytes_eq n q) refl ∙ sym (numbered-more names n q)
-  where
-    by_test : (b : Bool) → bytes_eq n q ≡ b → numbered names q ≡ option_or (numbered names q) (if bytes_eq n q then Some (length names + 1) else None)
-    by_test true e =
-        let found : numbered names q ≡ Some k = ap (numbered names) (sym (same_bytes n q e)) ∙ sym (good n) ∙ there in
-        rw found refl
-    by_test false e = rw e (same (numbered names q))
-      where
-        same : (o : Option ℕ) → o ≡ option_or o None
-        same None = refl
-        same (Some x) = refl
-
-pub AreNumbered-more : (old new : Numbers) (names : List Name) (n : Name) → AreNumbered old names → number_under old n ≡ None
-    → ((q : Name) → number_under new q ≡ (if bytes_eq q n then Some (length names + 1) else number_under old q)) → AreNumbered new (names ++ n ∷ [])
-AreNumbered-more old new names n good none made q = made q ∙ by_test (bytes_eq q n) refl ∙ sym (numbered-more names n q)
-  where
-    by_test : (b : Bool) → bytes_eq q n ≡ b → (if bytes_eq q n then Some (length names + 1) else number_under old q) ≡ option_or (numbered names q) (if bytes_eq n q then Some (length names + 1) else None)
-    by_test true e =
-        let missing : numbered names q ≡ None = ap (numbered names) (same_bytes q n e) ∙ sym (good n) ∙ none in
-        rw e (rw missing (rw (flipped n q ∙ e) refl))
-    by_test false e = rw e (rw (flipped n q ∙ e) (good q ∙ same (numbered names q)))
-      where
-        same : (o : Option ℕ) → o ≡ option_or o None
-        same None = refl
-        same (Some x) = refl
+pub AreNumbered-more : (old new : Numbers) (names : List Name) (n : Name) → AreNumbered old names
+    → ((q : Name) → number_under new q ≡ option_or (number_under old q) (if bytes_eq q n then Some (length names + 1) else None)) → AreNumbered new (names ++ n ∷ [])
+AreNumbered-more old new names n good made q =
+    made q ∙ ap (λ o. option_or o (if bytes_eq q n then Some (length names + 1) else None)) (good q)
+    ∙ ap (λ b. option_or (numbered names q) (if b then Some (length names + 1) else None)) (flipped q n) ∙ sym (numbered-more names n q)

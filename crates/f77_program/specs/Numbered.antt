@@ -15,9 +15,9 @@ texts_of names = map (λ n. n.items) names
 abbrev pub numbered : List Name → Name → Option ℕ
 numbered names n = if is_among names n then Some (number_among names n) else None
 
--- at most eight characters, each below 128
+-- at most 18 characters, each below 128
 abbrev pub is_short : Name → Bool
-is_short n = nat_le (length n) 8 && list_all (λ c. nat_lt c 128) n
+is_short n = nat_le (length n) 18 && list_all (λ c. nat_lt c 128) n
 
 -- a number that no other short name has
 abbrev pub key_of : Name → ℕ

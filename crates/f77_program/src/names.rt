@@ -72,9 +72,6 @@ impl Names {
             return Err(AllocError);
         }
         self.names.push(Vec::from_slice(alloc, name)?)?;
-        if self.numbers.number(name).is_some() {
-            return Ok(());
-        }
         let number = self.names.len() as u32;
         match self.numbers.put(alloc, name, number) {
             Ok(()) => Ok(()),

@@ -1,6 +1,6 @@
 // The tree of the statements so far.
 
-ghost use Rattle.std.specs.Prelude.{◌≡◌, ◌<◌, ◌^◌, ◌++◌, [], ◌∷◌, map, length, IfOk, OnOk};
+ghost use Rattle.std.specs.Prelude.{◌≡◌, ◌<◌, ◌^◌, [], ◌∷◌, map, length, IfOk, OnOk};
 ghost use Rattle.nest_tree.specs.View.{statement_of};
 ghost use Rattle.f77_forms.specs.View as forms;
 ghost use Rattle.f77_program.specs.Reaches.{reach_of};

@@ -1,7 +1,6 @@
 // The first fault of statements, and what is known behind them.
 
-ghost use Rattle.std.specs.Prelude.{◌≡◌, ◌<◌, ◌^◌, None, map, length, IfOk, IfErr, OnOk};
-ghost use Rattle.f77_forms.specs.View as view;
+ghost use Rattle.std.specs.Prelude.{◌≡◌, ◌<◌, None, map, IfOk, IfErr, OnOk};
 ghost use Rattle.f77_program.specs.Refusals.{fault_of};
 ghost use Rattle.f77_program.specs.Wholes.{given_of};
 ghost use Rattle.f77_scene.specs.Reading as reading;

@@ -12,7 +12,7 @@ use f77_forms::Expression;
 use f77_program::linear::Linear;
 use f77_program::measures::measure;
 use f77_program::{Known, Measure, parts_of};
-use nest_tree::{Affine, Subscripts};
+use nest_tree::{Affine, Listed};
 use std::alloc::{AllocError, Global};
 
 /// The form that an affine expression stands for.
@@ -31,11 +31,11 @@ pub fn forms_of(
     alloc: Global,
     known: &Known,
     expressions: &[Expression],
-) -> Result<Subscripts, AllocError>
+) -> Result<Listed<Affine>, AllocError>
     requires { reach_of known.now (map expression_of expressions.now) ≡ Within }
     ensures { IfOk result (λ fs. fs ≡ map (affine.form_of known.now) (map expression_of expressions.now)) }
 {
-    let mut forms = Subscripts::new(alloc);
+    let mut forms = Listed::new(alloc);
     for e in expressions {
         forms.push(form_of(alloc, known, e)?)?;
     }
@@ -43,11 +43,11 @@ pub fn forms_of(
 }
 
 /// The forms of subscripts that come to these, the first one last.
-pub fn forms_in(alloc: Global, measures: &[Measure]) -> Result<Subscripts, AllocError>
+pub fn forms_in(alloc: Global, measures: &[Measure]) -> Result<Listed<Affine>, AllocError>
     requires { linear_reaches (reverse measures.now) ≡ Within }
     ensures { IfOk result (λ fs. fs ≡ map spec.form_at (reverse measures.now)) }
 {
-    let mut forms = Subscripts::new(alloc);
+    let mut forms = Listed::new(alloc);
     for place in (0..measures.len()).rev() {
         forms.push(form_in(alloc, &measures[place])?)?;
     }

@@ -2,8 +2,6 @@
 
 ghost use Rattle.std.specs.Prelude.{◌≡◌, ◌<◌, ◌++◌, [], ◌∷◌, Option, Some, None, map, length, IfOk, OnOk};
 ghost use Rattle.std.specs.List.{flat_map};
-ghost use Rattle.std.specs.Option.{option_map};
-ghost use Rattle.nest_tree.specs.Tree as tree;
 ghost use Rattle.nest_tree.specs.View.{printed_of, statement_of};
 ghost use Rattle.f77_forms.specs.View as forms;
 ghost use Rattle.f77_program.specs.Reaches.{reach_of};

@@ -1,6 +1,6 @@
 // How arrays are distributed.
 
-ghost use Rattle.std.specs.Prelude.{◌≡◌, ◌≤◌, ◌<◌, ◌+◌, ◌++◌, [], ◌∷◌, map, length, reverse, IfOk, OnOk};
+ghost use Rattle.std.specs.Prelude.{◌≡◌, ◌<◌, ◌+◌, map, reverse, IfOk};
 ghost use Rattle.f77_lines.specs.Listing.{entry_of};
 ghost use Rattle.f77_scene.specs.Directives as directives;
 ghost use Rattle.f77_scene.specs.Reading.{directives_of};

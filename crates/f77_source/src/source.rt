@@ -1,7 +1,6 @@
 // The statements of a source with their forms, and the settings.
 
 ghost use Rattle.std.specs.Prelude.{◌≡◌, ◌++◌, [], ◌∷◌, map, IfOk, OnOk, IsTrue};
-ghost use Rattle.std.specs.List.{flat_map};
 ghost use Rattle.f77_forms.specs.View as view;
 ghost use Rattle.f77_lines.specs.Listing.{entry_of};
 ghost use Rattle.f77_program.specs.Wholes.{given_of, settings_of};

@@ -20,7 +20,7 @@ use f77_forms::{Operator, Sign};
 use f77_program::measures::apply;
 use f77_program::stack::{popped, push, taken};
 use f77_program::{Known, Measure, Names, parts_of};
-use nest_tree::{Access, Expr, Subscripts};
+use nest_tree::{Access, Affine, Expr, Listed};
 use std::alloc::{AllocError, Global};
 
 /// The tree of an expression whose subscripts are affine. Its parts are gone over from the last to
@@ -103,12 +103,12 @@ fn name_tree(alloc: Global, known: &Known, variables: &Names, name: &[u8]) -> Ex
     }
     match known.constant_number(name) {
         Some(number) => Expr::Param(number),
-        None => Expr::Load(access(variables, name, Subscripts::new(alloc))),
+        None => Expr::Load(access(variables, name, Listed::new(alloc))),
     }
 }
 
 /// A scalar, or an element of an array.
-pub fn access(variables: &Names, name: &[u8], subscripts: Subscripts) -> Access
+pub fn access(variables: &Names, name: &[u8], subscripts: Listed<Affine>) -> Access
     requires { length variables.now < 4294967295 }
     ensures { result ≡ record { variable = number_among variables.now name.now; subscripts = subscripts } }
 {

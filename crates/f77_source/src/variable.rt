@@ -2,7 +2,6 @@
 
 ghost use Rattle.std.specs.Prelude.{◌≡◌, ◌<◌, length, map, reverse, IfOk};
 ghost use Rattle.nest_tree.specs.View.{declaration_of};
-ghost use Rattle.f77_program.specs.Numbered.{texts_of};
 ghost use Rattle.f77_scene.specs.Reading as reading;
 ghost use Rattle.f77_scene.specs.Scene.{bounds_named};
 ghost use Rattle.f77_source.specs.Arrays as spec;

@@ -210,8 +210,9 @@ fn exact_sum(start: i128, pairs: &[(u32, i64)], values: &[i64]) -> i128
     sum
 }
 
-// The sum of a start and of coefficients times the values of named constants by number.
-fn constant_sum(start: i128, pairs: &[(u32, i64)], constants: &[Parameter]) -> i128
+/// The sum of a start, within 2^126, and of coefficients times the values of named constants by
+/// number. The numbers rise, and each coefficient is within plus or minus 2147483647.
+pub fn constant_sum(start: i128, pairs: &[(u32, i64)], constants: &[Parameter]) -> i128
     requires rising { IsTrue (rises_above 0 pairs.now) }
     requires given { IsTrue (reach_within (length constants.now) pairs.now) }
     requires start { unsigned_abs start ≤ 2 ^ 126 }
@@ -258,8 +259,8 @@ fn multiple(coefficient: i64, ends: (i64, i64)) -> (i128, i128)
     }
 }
 
-// A coefficient times a value.
-fn product(coefficient: i64, value: i64) -> i128
+/// A coefficient, within plus or minus 2147483647, times a value.
+pub fn product(coefficient: i64, value: i64) -> i128
     requires { IsTrue (is_small coefficient) }
     ensures value { result ≡ coefficient *ℤ value }
     ensures near { unsigned_abs result ≤ 2 ^ 94 }

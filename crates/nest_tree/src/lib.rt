@@ -11,12 +11,13 @@ pub mod form;
 pub mod items;
 pub mod layout;
 pub mod limits;
+pub mod listed;
 pub mod tree;
 
-pub use form::{Affine, Pairs};
+pub use form::{Affine, Pairs, constant_sum, product};
 pub use layout::Layout;
 pub use limits::{Limit, program_limits};
+pub use listed::Listed;
 pub use tree::{
-    Access, Compare, Expr, Guard, Item, Nest, Parameter, PrintItem, Program, Spread, Subscripts,
-    Variable,
+    Access, Compare, Expr, Guard, Item, Nest, Parameter, PrintItem, Program, Spread, Variable,
 };

@@ -300,7 +300,7 @@ fn nest_work(
     ensures work { IfOk result (λ w. w ≡ capped (work_in (map (λ p. p.value) constants.now) ends.old width (loop_of nest.now))) }
     ensures kept { IfOk result (λ _. ends.new ≡ ends.old) }
 {
-    let interval = head_interval(nest, ends, constants)?;
+    let interval = nest.interval(ends, constants)?;
     if interval.0 > interval.1 {
         return Ok(width);
     }
@@ -313,24 +313,27 @@ fn nest_work(
     Ok(capped_sum(width, body))
 }
 
-// The interval of a loop, or the limit that its bounds pass.
-fn head_interval(
-    nest: &Nest,
-    ends: &[(i64, i64)],
-    constants: &[Parameter],
-) -> Result<(i64, i64), Limit>
-    requires { IsTrue (are_given (length ends.now) (length constants.now) ((head_of nest.now).m1 ∷ (head_of nest.now).m2 ∷ [])) }
-    ensures wide { result_err result ≡ wide_at (head_of nest.now).line (wide_forms (map (λ p. p.value) constants.now) ends.now ((head_of nest.now).m1 ∷ (head_of nest.now).m2 ∷ [])) }
-    ensures interval { IfOk result (λ i. i ≡ head_interval (map (λ p. p.value) constants.now) ends.now (head_of nest.now)) }
-    ensures low { IfOk result (λ i. IsTrue (is_small i.0)) }
-    ensures high { IfOk result (λ i. IsTrue (is_small i.1)) }
-{
-    let first = on_line(nest.line, small_interval(&nest.m1, ends, constants))?;
-    let last = on_line(nest.line, small_interval(&nest.m2, ends, constants))?;
-    if nest.step >= 0 {
-        Ok((first.0, last.1))
-    } else {
-        Ok((last.0, first.1))
+impl Nest {
+    /// The interval from the least to the greatest value of the loop, where the loops round it have
+    /// these intervals, by number from 1; or the limit that its bounds pass.
+    pub fn interval(
+        &self,
+        ends: &[(i64, i64)],
+        constants: &[Parameter],
+    ) -> Result<(i64, i64), Limit>
+        requires { IsTrue (are_given (length ends.now) (length constants.now) ((head_of self.now).m1 ∷ (head_of self.now).m2 ∷ [])) }
+        ensures wide { result_err result ≡ wide_at (head_of self.now).line (wide_forms (map (λ p. p.value) constants.now) ends.now ((head_of self.now).m1 ∷ (head_of self.now).m2 ∷ [])) }
+        ensures interval { IfOk result (λ i. i ≡ head_interval (map (λ p. p.value) constants.now) ends.now (head_of self.now)) }
+        ensures low { IfOk result (λ i. IsTrue (is_small i.0)) }
+        ensures high { IfOk result (λ i. IsTrue (is_small i.1)) }
+    {
+        let first = on_line(self.line, small_interval(&self.m1, ends, constants))?;
+        let last = on_line(self.line, small_interval(&self.m2, ends, constants))?;
+        if self.step >= 0 {
+            Ok((first.0, last.1))
+        } else {
+            Ok((last.0, first.1))
+        }
     }
 }
 

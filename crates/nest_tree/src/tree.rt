@@ -1,58 +1,16 @@
 // The tree of a program.
 
-ghost use Rattle.std.specs.Prelude.{◌≡◌, ◌++◌, [], ◌∷◌, OnOk, OnErr};
+ghost use Rattle.std.specs.Prelude.{◌≡◌};
 
 use crate::form::Affine;
-use std::alloc::{AllocError, Global};
-use std::marker::Model;
-
-/// The subscripts of an array element, from the first dimension; none for a scalar. Contracts see the list of forms.
-#[derive(Drop)]
-pub struct Subscripts {
-    forms: Vec<Affine>,
-}
-
-impl Model for Subscripts {
-    ghost use Rattle.std.specs.Prelude.{List};
-    ghost use Rattle.nest_tree.specs.Form.{Form};
-
-    ghost Value = { List Form };
-
-    ghost view = { λ s. s.forms.items };
-}
-
-impl Subscripts {
-    /// No subscript, as a scalar has.
-    pub fn new(alloc: Global) -> Self
-        ensures { result ≡ [] }
-    {
-        Subscripts {
-            forms: Vec::new(alloc),
-        }
-    }
-
-    /// The forms, in order.
-    pub fn as_slice(&self) -> &[Affine]
-        ensures { result.now ≡ self.now }
-    {
-        self.forms.as_slice()
-    }
-
-    /// One more subscript. Where memory runs out nothing has changed.
-    pub fn push(&mut self, form: Affine) -> Result<(), AllocError>
-        ensures ok { OnOk result (self.new ≡ self.old ++ form ∷ []) }
-        ensures err { OnErr result (self.new ≡ self.old) }
-    {
-        self.forms.push(form)?;
-        Ok(())
-    }
-}
+use crate::listed::Listed;
 
 /// An access to a variable (a number from 1): to a scalar, or to an array's element.
 #[derive(Drop)]
 pub struct Access {
     pub variable: u32,
-    pub subscripts: Subscripts,
+    /// From the first dimension; none for a scalar.
+    pub subscripts: Listed<Affine>,
 }
 
 /// An expression of whole numbers of 64 bits.

@@ -1,6 +1,6 @@
 // Cells as forms of the loops' values by depth.
 
-ghost use Rattle.std.specs.Prelude.{◌≡◌, ◌<◌, ◌-◌, ◌+ℤ◌, ◌-ℤ◌, ◌*ℤ◌, IsTrue, length, map, pos};
+ghost use Rattle.std.specs.Prelude.{◌≡◌, ◌-◌, ◌+ℤ◌, ◌-ℤ◌, ◌*ℤ◌, IsTrue, length, map, pos};
 ghost use Rattle.std.specs.List.{list_all};
 ghost use Rattle.nest_tree.specs.Limits.{IsWithinLimits};
 ghost use Rattle.nest_tree.specs.Values.{wrapped};

@@ -1,6 +1,6 @@
 // The value of a form on a path.
 
-ghost use Rattle.std.specs.Prelude.{◌≡◌, ◌-◌, ℤ, pos, ◌+ℤ◌, ◌*ℤ◌, map, slice_index_or};
+ghost use Rattle.std.specs.Prelude.{◌≡◌, ◌-◌, ℤ, ◌+ℤ◌, ◌*ℤ◌, map};
 ghost use Rattle.nest_tree.specs.Form.{IsForm, dot, numbered};
 ghost use Rattle.nest_tree.specs.Values.{wrapped};
 ghost use Rattle.nest_tree.specs.declared.tree.Parameter.{Parameter};

@@ -8,7 +8,7 @@ ghost use Rattle.nest_tree.specs.View.{tree_of, statement_of, statements_from};
 ghost use Rattle.nest_tree.specs.WellFormed.{IsWellFormed};
 ghost use Rattle.nest_model.specs.Instances.{Instance, head_trips, instances, instances_in, instances_of, with_loop};
 ghost use Rattle.nest_model.specs.Visits.{every, instances_at};
-ghost use Rattle.nest_walk.specs.Cursors.{is_reached, loops_in, rounds_in, tree_in, visit_at};
+ghost use Rattle.nest_walk.specs.Cursors.{is_reached, loops_in, visit_at};
 ghost use Rattle.nest_walk.specs.Executed.{is_executed_at};
 ghost use Rattle.nest_walk.specs.Frames.{head_of};
 ghost use Rattle.nest_walk.specs.Places.{numbers_of};

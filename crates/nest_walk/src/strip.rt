@@ -36,7 +36,6 @@ pub struct Strip<'a> {
 }
 
 impl<'a> Strip<'a> {
-    ghost use Rattle.std.specs.Prelude.{ℤ};
     ghost use Rattle.nest_tree.specs.Tree.{param_values};
     ghost use Rattle.nest_model.specs.Instances.{Instance};
     ghost use Rattle.nest_model.specs.Visits.{instances_at};

@@ -7,7 +7,7 @@ ghost use Rattle.nest_walk.specs.Walks.{enters_but};
 ghost use Rattle.owner_partition.specs.Cuts.{plain_cut, privates_of};
 ghost use Rattle.owner_partition.specs.Marks.{is_closed, is_dealt, is_doall, is_sum_mark, mark_of};
 
-use nest_tree::Item;
+use nest_tree::{Item, Listed};
 use std::alloc::{AllocError, Global};
 use std::marker::Model;
 
@@ -60,35 +60,8 @@ impl Mark {
 }
 
 /// The private scalars of a loop, of which each processor has a cell of its own there: numbers of
-/// variables, from 1. Contracts see the list of them.
-#[derive(Drop)]
-pub struct Privates {
-    numbers: Vec<u32>,
-}
-
-impl Model for Privates {
-    ghost use Rattle.std.specs.Prelude.{List, ℕ};
-
-    ghost Value = { List ℕ };
-
-    ghost view = { λ p. p.numbers.items };
-}
-
-impl Privates {
-    /// The scalars of a vector. It takes no memory.
-    pub fn from_vec(numbers: Vec<u32>) -> Self
-        ensures { result ≡ numbers.items }
-    {
-        Privates { numbers }
-    }
-
-    /// The scalars, in order.
-    pub fn as_slice(&self) -> &[u32]
-        ensures { result.now ≡ self.now }
-    {
-        self.numbers.as_slice()
-    }
-}
+/// variables, from 1.
+pub type Privates = Listed<u32>;
 
 /// Which loops are what: the marks of a program's loops and their private scalars, by their numbers
 /// from 1. Contracts see the two lists.
@@ -204,7 +177,7 @@ fn no_privates(alloc: Global, count: usize) -> Result<Vec<Privates>, AllocError>
 {
     let mut lists = Vec::with_capacity(alloc, count)?;
     'fill: while lists.len() < count {
-        lists.push(Privates::from_vec(Vec::new(alloc)))?;
+        lists.push(Listed::from_vec(Vec::new(alloc)))?;
     }
     Ok(lists)
 }

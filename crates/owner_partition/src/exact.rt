@@ -1,12 +1,12 @@
 // The value of a form on a path, however far it is from 0.
 
-ghost use Rattle.std.specs.Prelude.{◌≡◌, ◌+◌, ◌-◌, ◌*◌, ◌^◌, ◌≤◌, ◌+ℤ◌, ◌*ℤ◌, IsTrue, length, map, unsigned_abs};
-ghost use Rattle.nest_tree.specs.Form.{IsForm, dot, is_small, reach_within, rises_above};
+ghost use Rattle.std.specs.Prelude.{◌≡◌, ◌+◌, ◌-◌, ◌^◌, ◌≤◌, ◌+ℤ◌, IsTrue, length, map, unsigned_abs};
+ghost use Rattle.nest_tree.specs.Form.{IsForm, reach_within, rises_above};
 ghost use Rattle.nest_tree.specs.declared.tree.Parameter.{Parameter};
 ghost use Rattle.nest_walk.specs.Paths.{dot_among, form_among};
 ghost use Rattle.nest_walk.specs.RoundsOf.{rounds_of};
 
-use nest_tree::{Affine, Parameter};
+use nest_tree::{Affine, Parameter, constant_sum, product};
 use nest_walk::Path;
 
 // The value of a form where the loops of a path and the named constants have their values; a loop
@@ -18,7 +18,7 @@ pub(crate) fn exact_on(form: &Affine, path: &Path, constants: &[Parameter]) -> i
     ensures near { unsigned_abs result ≤ 2 ^ 127 - 2 ^ 94 }
 {
     let varying = loops_sum(i128::from(form.constant()), form.loops(), path);
-    constants_sum(varying, form.params(), constants)
+    constant_sum(varying, form.params(), constants)
 }
 
 // The sum of a start and of coefficients times loops' values.
@@ -33,28 +33,4 @@ fn loops_sum(start: i128, pairs: &[(u32, i64)], path: &Path) -> i128
         sum += product(coefficient, path.value_of(number));
     }
     sum
-}
-
-// The sum of a start and of coefficients times named constants.
-fn constants_sum(start: i128, pairs: &[(u32, i64)], constants: &[Parameter]) -> i128
-    requires rising { IsTrue (rises_above 0 pairs.now) }
-    requires given { IsTrue (reach_within (length constants.now) pairs.now) }
-    requires start { unsigned_abs start ≤ 2 ^ 126 }
-    ensures value { result ≡ start +ℤ dot pairs.now (map (λ (p : Parameter). p.value) constants.now) }
-    ensures near { unsigned_abs result ≤ 2 ^ 127 - 2 ^ 94 }
-{
-    let mut sum = start;
-    for &(number, coefficient) in pairs {
-        sum += product(coefficient, constants[number as usize - 1].value);
-    }
-    sum
-}
-
-// A coefficient times a value.
-fn product(coefficient: i64, value: i64) -> i128
-    requires { IsTrue (is_small coefficient) }
-    ensures value { result ≡ coefficient *ℤ value }
-    ensures near { unsigned_abs result ≤ 2 ^ 94 }
-{
-    i128::from(coefficient) * i128::from(value)
 }

@@ -2,7 +2,6 @@
 
 ghost use Rattle.std.specs.Prelude.{◌≡◌, ◌==◌, ◌*◌, ◌<◌, ◌≤◌, ◌^◌, ℕ, ℤ, pos, ◌≤ℤ◌, ◌+◌, ◌≢◌, ◌+ℤ◌, ◌-ℤ◌, ◌*ℤ◌, ◌↔◌, unsigned_abs};
 ghost use Rattle.std.specs.Int.{IsGcd, div_ceil};
-ghost use Rattle.std.specs.List.{filter, range_with_len};
 ghost use Rattle.owner_partition.specs.OwnTrips.{AreBetween, IsInBlock, IsInTurn, IsOwnRange, IsSame, IsSolved, own_numbers, strided};
 ghost use Rattle.owner_partition.specs.declared.anchor.Dist.TheVariants.{Block};
 

@@ -3,7 +3,7 @@
 ghost use Rattle.std.specs.Prelude.{◌≡◌, ◌-◌, ◌<◌, ◌^◌, IsTrue, Some, None, ◌∷◌, [], if◌then◌else◌, length, map};
 ghost use Rattle.std.specs.List.{list_all};
 ghost use Rattle.std.specs.Result.{result_err};
-ghost use Rattle.nest_tree.specs.Form.{is_given, is_small, reach_within, rises_above};
+ghost use Rattle.nest_tree.specs.Form.{is_given, reach_within, rises_above};
 ghost use Rattle.nest_tree.specs.Given.{are_all_given, are_given, is_all_given};
 ghost use Rattle.nest_tree.specs.Intervals.{head_interval};
 ghost use Rattle.nest_tree.specs.Limits.{IsWithinLimits, no_ends, wide_forms, wide_in, wide_of};
@@ -12,11 +12,11 @@ ghost use Rattle.nest_tree.specs.WellFormed.{IsWellFormed, loops_of};
 ghost use Rattle.nest_model.specs.Visits.{stops_in, stops_of};
 ghost use Rattle.nest_walk.specs.Walks.{enters_but};
 ghost use Rattle.owner_partition.specs.Owners.{reaches};
-ghost use Rattle.owner_partition.specs.Placement.{ends_among, ends_in, is_anchor_given, misplaced, misplaced_within, names_empty, phase_ends, unplaced};
+ghost use Rattle.owner_partition.specs.Placement.{ends_among, ends_in, is_anchor_given, misplaced, misplaced_within, names_empty, unplaced};
 
 use crate::anchor::{Anchor, Dist};
 use crate::cut::{Cut, is_closed_at, phases_in};
-use nest_tree::{Affine, Item, Nest, Parameter, Program};
+use nest_tree::{Item, Nest, Parameter, Program};
 
 /// A block anchor that leaves its blocks: the static phase that it stands at, numbered from 1 in
 /// text order, and the interval of its form.
@@ -154,7 +154,7 @@ fn seek_inside(
     ensures ends { ends_in (map (λ p. p.value) constants.now) (enters_but closed.now) ends.old (loop_of nest.now) place ≡ (if result then Some ends.new else None) }
     ensures long { length ends.new ≡ length ends.old }
 {
-    let interval = head_interval(nest, ends, constants);
+    let interval = narrow_interval(nest, ends, constants);
     if is_closed_at(closed, nest.number) {
         ends[nest.number as usize - 1] = interval;
         return true; // the loop of the phase
@@ -167,27 +167,15 @@ fn seek_inside(
 }
 
 // The interval of a loop whose bounds have small ones.
-fn head_interval(nest: &Nest, ends: &[(i64, i64)], constants: &[Parameter]) -> (i64, i64)
+fn narrow_interval(nest: &Nest, ends: &[(i64, i64)], constants: &[Parameter]) -> (i64, i64)
     requires given { IsTrue (are_given (length ends.now) (length constants.now) ((head_of nest.now).m1 ∷ (head_of nest.now).m2 ∷ [])) }
     requires narrow { wide_forms (map (λ p. p.value) constants.now) ends.now ((head_of nest.now).m1 ∷ (head_of nest.now).m2 ∷ []) ≡ None }
     ensures { result ≡ head_interval (map (λ p. p.value) constants.now) ends.now (head_of nest.now) }
 {
-    let first = narrow(nest.m1.interval_among(ends, constants));
-    let last = narrow(nest.m2.interval_among(ends, constants));
-    if nest.step >= 0 {
-        (first.0, last.1)
-    } else {
-        (last.0, first.1)
+    match nest.interval(ends, constants) {
+        Ok(interval) => interval,
+        Err(_) => unreachable!(),
     }
-}
-
-// The interval with its ends in 64 bits.
-fn narrow(interval: (i128, i128)) -> (i64, i64)
-    requires low { IsTrue (is_small interval.0) }
-    requires high { IsTrue (is_small interval.1) }
-    ensures { result ≡ interval }
-{
-    (interval.0 as i64, interval.1 as i64)
 }
 
 // Whether the anchor of this static phase passes, where the loops have these intervals.

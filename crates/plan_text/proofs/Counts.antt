@@ -12,13 +12,14 @@ use Rattle.owner_partition.proofs.Sites.{placed_counts}
 use Rattle.owner_partition.specs.Marks.{enters_outer}
 use Rattle.owner_partition.specs.declared.cut.Mark.{Mark}
 use Rattle.plan_text.proofs.Written.{zipped-length}
-use Rattle.plan_text.specs.PlanText.{HasCounts, HasText, cut_loops, is_32, is_loop_shown, is_phase_shown, zipped}
+use Rattle.plan_text.specs.PlanText.{HasCounts, HasText, are_conditions_shown, cut_loops, is_32, is_loop_shown, is_phase_shown, zipped}
 use Rattle.sync_plan.proofs.Fits.{fit_parts}
 use Rattle.sync_plan.specs.Fit.{IsFit}
 use Rattle.sync_plan.specs.Shape.{static_phases}
 use Rattle.sync_plan.specs.declared.plan.Conditions.TheVariants.{Values}
 use Rattle.sync_plan.specs.declared.plan.Plan.{Plan}
-use Rattle.sync_plan.specs.declared.plan.Version.TheVariants.{Two}
+use Rattle.sync_plan.specs.declared.plan.Version.{Version}
+use Rattle.sync_plan.specs.declared.plan.Version.TheVariants.{One, Two, Three, Four, Five}
 
 -- a plan that has a text has the counts that its text shows
 pub counts_of_text : (plan : Plan) → HasText plan → HasCounts plan
@@ -49,11 +50,19 @@ mutual
 phases_few : (tree : Tree) (marks : List Mark) → IsWellFormed tree → length (static_phases tree marks) < 2 ^ 32
 phases_few tree marks formed = omega (arith, placed_counts (enters_outer marks) [] tree.items, stops_of-few (enters_outer marks) tree.items, few_statements tree formed)
 
-pub counts_of_fit : (tree : Tree) (plan : Plan) → IsWellFormed tree → plan.version ≡ Two → plan.conditions ≡ Values → IsFit tree plan → HasCounts plan
-counts_of_fit tree plan formed two values fits =
+-- values of the named constants are shown in each version
+values-shown : (version : Version) → are_conditions_shown version Values ≡ true
+values-shown One = refl
+values-shown Two = refl
+values-shown Three = refl
+values-shown Four = refl
+values-shown Five = refl
+
+pub counts_of_fit : (tree : Tree) (plan : Plan) → IsWellFormed tree → plan.conditions ≡ Values → IsFit tree plan → HasCounts plan
+counts_of_fit tree plan formed values fits =
     let parts = fit_parts tree plan fits in
     record {
-      conditions = rw (two, values) refl;
+      conditions = ap (are_conditions_shown plan.version) values ∙ values-shown plan.version;
       lists = parts.marks ∙ sym parts.privates;
       loops = below (length plan.cut.marks) (omega (arith, parts.marks, loops-few tree formed));
       pairs = parts.kinds ∙ sym parts.anchors;

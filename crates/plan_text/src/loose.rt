@@ -1,14 +1,14 @@
 // What a line would say if it were a line of a plan's text. It is one where it is the line of what
 // it says: who reads it compares the two, so nothing else of its form is looked at here.
 
-ghost use Rattle.std.specs.Prelude.{◌≡◌, ◌==◌, ◌+◌, ◌-◌, ◌%◌, ◌^◌, [], map, drop, IfOk, position, length, true, ◌<◌};
+ghost use Rattle.std.specs.Prelude.{◌≡◌, ◌==◌, ◌+◌, ◌-◌, ◌%◌, [], map, drop, IfOk, position, true, ◌<◌};
 ghost use Rattle.std.specs.List.{after_first, before_first};
 ghost use Rattle.std.specs.Str.{bytes_eq};
 ghost use Rattle.nest_tree.specs.Form.{is_small, rises_above};
 ghost use Rattle.plan_text.specs.Loose as spec;
 
 use farkas_cert::{Step, Terms};
-use nest_tree::{Affine, Pairs};
+use nest_tree::{Affine, Listed, Pairs};
 use owner_partition::{Anchor, Dist, Mark, Privates};
 use std::alloc::{AllocError, Global};
 use sync_plan::{ConditionRow, Kind};
@@ -236,7 +236,7 @@ fn privates_of(alloc: Global, words: &[&[u8]]) -> Result<Privates, AllocError>
     for word in words {
         numbers.push(private_of(word))?;
     }
-    Ok(Privates::from_vec(numbers))
+    Ok(Listed::from_vec(numbers))
 }
 
 fn private_of(word: &[u8]) -> u32

@@ -1,7 +1,6 @@
 // The text of a plan, read.
 
-ghost use Rattle.std.specs.Prelude.{◌≡◌, ◌+◌, ◌∷◌, ◌++◌, ◌≤◌, ◌&&◌, IfOk, IfErr, length, codes, true};
-ghost use Rattle.std.specs.List.{list_all};
+ghost use Rattle.std.specs.Prelude.{◌≡◌, ◌+◌, ◌∷◌, ◌++◌, ◌≤◌, IfOk, IfErr, length, codes, true};
 ghost use Rattle.plan_text.specs.Loose.{end_line, is_where_shown, where_line};
 ghost use Rattle.plan_text.specs.Parts.{firsts, plan_of, seconds};
 ghost use Rattle.plan_text.specs.PlanText as spec;
@@ -16,9 +15,10 @@ use crate::loose::{number_32, word_at, words_of};
 use crate::part::{read_certificates, read_loops, read_phases, read_rows};
 use crate::syntax::PlanSyntax;
 use farkas_cert::Certificate;
+use nest_tree::Listed;
 use owner_partition::{Anchor, Cut, Mark, Privates};
 use std::alloc::{AllocError, Global};
-use sync_plan::{Anchors, Certificates, ConditionRows, Conditions, Kind, Kinds, Plan, Version};
+use sync_plan::{Conditions, Kind, Plan, Version};
 
 // The line of the version.
 fn read_version(lines: &mut Lines) -> Result<Version, PlanSyntax>
@@ -94,7 +94,7 @@ fn read_rows_where(alloc: Global, lines: &mut Lines) -> Result<Conditions, PlanS
         Err(refusal) => return Err(refusal),
     };
     match read_rows(alloc, lines, count) {
-        Ok(rows) => Ok(Conditions::Rows(ConditionRows::from_vec(rows))),
+        Ok(rows) => Ok(Conditions::Rows(Listed::from_vec(rows))),
         Err(refusal) => Err(refusal),
     }
 }
@@ -253,9 +253,9 @@ fn made(alloc: Global, parts: Parts) -> Result<Plan, AllocError>
         conditions,
         workers,
         cut: Cut::new(alloc, marks, privates)?,
-        anchors: Anchors::from_vec(anchors),
-        kinds: Kinds::from_vec(kinds),
-        certificates: Certificates::from_vec(certificates),
+        anchors: Listed::from_vec(anchors),
+        kinds: Listed::from_vec(kinds),
+        certificates: Listed::from_vec(certificates),
     })
 }
 

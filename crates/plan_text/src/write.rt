@@ -1,8 +1,8 @@
 // The text of a plan, written.
 
-ghost use Rattle.std.specs.Prelude.{◌≡◌, ◌<◌, ◌^◌, ◌++◌, ◌∷◌, [], IfOk, OnOk, length, true, codes};
+ghost use Rattle.std.specs.Prelude.{◌≡◌, ◌<◌, ◌^◌, ◌++◌, IfOk, OnOk, length, true, codes};
 ghost use Rattle.plan_text.specs.PlanText as spec;
-ghost use Rattle.plan_text.specs.Words.{loop_line, phase_line, row_line, step_line};
+ghost use Rattle.plan_text.specs.Words.{loop_line, phase_line, row_line};
 
 use crate::line::{put_cert, put_count, put_loop, put_phase, put_row, put_step, put_version};
 use farkas_cert::{Certificate, Step};

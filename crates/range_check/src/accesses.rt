@@ -1,6 +1,6 @@
 // The accesses of a piece of work.
 
-ghost use Rattle.std.specs.Prelude.{◌≡◌, ◌++◌, [], ◌∷◌, IfOk, OnOk, map};
+ghost use Rattle.std.specs.Prelude.{◌≡◌, ◌++◌, IfOk, OnOk, map};
 ghost use Rattle.std.specs.List.{flat_map};
 ghost use Rattle.nest_tree.specs.Loads.{loads_among, loads_in, loads_in_item};
 ghost use Rattle.nest_tree.specs.Tree.{Work, work};

@@ -1,6 +1,6 @@
 // Whether certificates keep a subscript within its bounds.
 
-ghost use Rattle.std.specs.Prelude.{◌≡◌, ◌⊎◌, ◌+◌, ◌*◌, ◌-◌, ◌<◌, ◌≤◌, ◌^◌, IfOk, IfNone, IfSome, IsTrue, length, pos, slice_index_or, true};
+ghost use Rattle.std.specs.Prelude.{◌≡◌, ◌⊎◌, ◌-◌, ◌<◌, ◌≤◌, IfOk, IfNone, IfSome, IsTrue, length, pos, slice_index_or};
 ghost use Rattle.std.specs.List.{list_all};
 ghost use Rattle.farkas_cert.specs.Good.{IsGood};
 ghost use Rattle.fm_elim.specs.Answers.{NamesEachOnce};

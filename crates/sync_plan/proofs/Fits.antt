@@ -1,56 +1,27 @@
 -- What a plan that fits a well-formed program has.
-use Rattle.std.proofs.Common.{◌≡◌, ℕ, zero, suc, ◌+◌, ◌≤◌, Bool, true, false, ◌&&◌, ◌==◌, not, nat_le, nat_lt, List, [], ◌∷◌, length, Option, Some, None, IsTrue, refl, sym, ap, ◌∙◌, arith}
+use Rattle.std.proofs.Common.{◌≡◌, ℕ, zero, suc, ◌≤◌, Bool, true, false, ◌&&◌, ◌==◌, not, nat_le, List, [], ◌∷◌, length, Option, Some, None, IsTrue, refl, sym, ap, ◌∙◌, arith}
 use Rattle.std.specs.Prelude.{if◌then◌else◌, slice_get}
 use Rattle.std.specs.List.{list_all}
 use Rattle.std.specs.Option.{option_map_or}
-use Rattle.std.proofs.lemmas.Bool.{and_parts, and_from, eqb-true, leb-true}
-use Rattle.std.proofs.lemmas.Bool.Decides.{nat_tests}
-use Rattle.std.proofs.lemmas.List.Folds.{list_all-append}
+use Rattle.std.proofs.lemmas.Bool.{and_parts, eqb-true, leb-true}
 use Rattle.nest_tree.specs.Form.{is_given}
-use Rattle.nest_tree.specs.Tree.{Statement, Statements, do_loop, work, continue, done, next, Tree}
-use Rattle.nest_tree.specs.WellFormed.{IsWellFormed, Scope, scope_of, are_good_statements, is_good_head, is_good_statement, loops_in, loops_of, names_only}
-use Rattle.nest_tree.proofs.Cells.{well_formed_parts}
+use Rattle.nest_tree.specs.Tree.{Tree}
+use Rattle.nest_tree.specs.WellFormed.{IsWellFormed, loops_of, names_only}
 use Rattle.nest_tree.proofs.Good.{form-given}
 use Rattle.nest_tree.proofs.FirstLimits.{neither}
-use Rattle.nest_walk.specs.Texts.{Placed, placed_in, placed_of}
+use Rattle.nest_walk.specs.Texts.{Placed}
 use Rattle.owner_partition.specs.declared.anchor.Anchor.{Anchor}
-use Rattle.owner_partition.specs.Marks.{enters_outer}
 use Rattle.sync_plan.specs.declared.plan.Kind.{Kind}
 use Rattle.sync_plan.specs.declared.plan.Plan.{Plan}
 use Rattle.owner_partition.specs.Placement.{unplaced}
 use Rattle.sync_plan.specs.Fit.{IsFit, Misfit, shape, placement, print_place, as_misfit, misplaced_print, placed_anchors}
 use Rattle.sync_plan.specs.Kinds.{anchor_in}
+use Rattle.sync_plan.proofs.NamedLoops.{around_within, is_within, text_within, up_to}
 use Rattle.sync_plan.specs.Shape.{are_good_anchors, are_good_conditions, are_good_kinds, are_marked_well, has_places, have_good_privates, have_good_sums, is_good_anchor, is_good_kind, is_privately_good, static_phases, wrong_field}
 
 -- the loops round a place have numbers up to this one
 abbrev all_within : ℕ → List ℕ → Bool
 all_within n around = list_all (λ l. nat_le l n) around
-
-abbrev is_within : ℕ → Placed → Bool
-is_within n s = all_within n s.around
-
--- the loops round the stops of a well-formed text are the program's
-module _ (enters : ℕ → Bool) (scope : Scope) (n : ℕ) where
-  mutual
-    placed_in-within : (around : List ℕ) (first : ℕ) (s : Statement) → is_good_statement scope around first s ≡ true → first + loops_in s ≤ n + 1 → all_within n around ≡ true → list_all (is_within n) (placed_in enters around s) ≡ true
-    placed_in-within around first (do_loop head body) good few within =
-        let parts = and_parts (head.number == first && nat_lt (length around) 6 && is_good_head scope around head) (are_good_statements scope (head.number ∷ around) (first + 1) body) good in
-        let number = (and_parts (head.number == first) (nat_lt (length around) 6) (and_parts (head.number == first && nat_lt (length around) 6) (is_good_head scope around head) parts.0).0).0 in
-        let low : head.number ≤ n = omega (arith, eqb-true head.number first number) in
-        let here : nat_le head.number n ≡ true = grind (arith, nat_tests) in
-        let inside = placed_of-within (head.number ∷ around) (first + 1) body parts.1 (omega arith) (and_from (nat_le head.number n) (all_within n around) here within) in
-        elim (enters head.number) as (λ b. list_all (is_within n) (if b then placed_of enters (head.number ∷ around) body else record { what = do_loop head body; around = around } ∷ []) ≡ true)
-        [ true ↦ inside | false ↦ and_from (all_within n around) true within refl ]
-    placed_in-within around first (work w) good few within = and_from (all_within n around) true within refl
-    placed_in-within around first (continue line) good few within = refl
-
-    placed_of-within : (around : List ℕ) (first : ℕ) (ss : Statements) → are_good_statements scope around first ss ≡ true → first + loops_of ss ≤ n + 1 → all_within n around ≡ true → list_all (is_within n) (placed_of enters around ss) ≡ true
-    placed_of-within around first done good few within = refl
-    placed_of-within around first (next s rest) good few within =
-        let parts = and_parts (is_good_statement scope around first s) (are_good_statements scope around (first + loops_in s) rest) good in
-        list_all-append (is_within n) (placed_in enters around s) (placed_of enters around rest)
-        ∙ and_from (list_all (is_within n) (placed_in enters around s)) (list_all (is_within n) (placed_of enters around rest))
-        (placed_in-within around first s parts.0 (omega arith) within) (placed_of-within around (first + loops_in s) rest parts.1 (omega arith) within)
 
 -- a field that isn't wrong
 pub field_right : (b : Bool) (n : ℕ) (rest : Option ℕ) → (if not b then Some n else rest) ≡ None → (b ≡ true) × (rest ≡ None)
@@ -120,7 +91,7 @@ kind_given n constants text [] i kind within good long at = absurd (let no : Non
 kind_given n constants [] (k ∷ kinds) i kind within good long at = absurd (omega (arith, long))
 kind_given n constants (s ∷ text) (k ∷ kinds) zero kind within good long at = record {
   around = s.around;
-  within = (and_parts (is_within n s) (list_all (is_within n) text) within).0;
+  within = up_to n s.around (around_within n s.what s.around (and_parts (is_within n s) (list_all (is_within n) text) within).0);
   good = (let same : k ≡ kind = cc in ap (is_good_kind constants s.around) (sym same) ∙ (and_parts (is_good_kind constants s.around k) (are_good_kinds constants text kinds) good).0);
 }
 kind_given n constants (s ∷ text) (k ∷ kinds) (suc i) kind within good long at =
@@ -136,8 +107,7 @@ producer_given tree plan i kind a formed fits at is =
     let n = loops_of tree.items in
     let constants = length tree.params in
     let parts = fit_parts tree plan fits in
-    let within = placed_of-within (enters_outer plan.cut.marks) (scope_of tree) n [] 1 tree.items (well_formed_parts tree formed).statements (omega arith) refl in
-    let given = kind_given n constants (static_phases tree plan.cut.marks) plan.kinds i kind within parts.good_kinds parts.kinds at in
+    let given = kind_given n constants (static_phases tree plan.cut.marks) plan.kinds i kind (text_within tree plan.cut.marks formed) parts.good_kinds parts.kinds at in
     let good : is_good_anchor constants given.around a ≡ true = sym (ap (λ o. option_map_or (is_good_anchor constants given.around) o true) is) ∙ given.good in
     let named = and_parts (names_only constants given.around a.form) (has_places a.dist) good in
     record { given = form-given n constants given.around a.form given.within named.0; places = named.1 }

@@ -1,6 +1,7 @@
 pub mod ProcessorSets
 pub mod KindBits
 pub mod PointForms
+pub mod NamedLoops
 pub mod Fits
 pub mod PhaseValues
 pub mod Gets

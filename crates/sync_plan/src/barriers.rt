@@ -6,8 +6,9 @@ ghost use Rattle.owner_partition.specs.Marks.{is_sum_mark};
 ghost use Rattle.sync_plan.specs.Barriers.{barrier_plan, least_version as least_for};
 ghost use Rattle.sync_plan.specs.declared.plan.Kind.TheVariants.{Barrier};
 
-use crate::plan::{Anchors, Certificates, Conditions, Kind, Kinds, Plan, Version};
+use crate::plan::{Conditions, Kind, Plan, Version};
 use farkas_cert::Certificate;
+use nest_tree::Listed;
 use owner_partition::{Anchor, Cut, Mark, Privates};
 use std::alloc::{AllocError, Global};
 
@@ -29,9 +30,9 @@ pub fn all_barrier(
         conditions: Conditions::Values,
         workers,
         cut,
-        anchors: Anchors::from_vec(anchors),
-        kinds: Kinds::from_vec(kinds),
-        certificates: Certificates::from_vec(certificates),
+        anchors: Listed::from_vec(anchors),
+        kinds: Listed::from_vec(kinds),
+        certificates: Listed::from_vec(certificates),
     })
 }
 

@@ -14,7 +14,5 @@ pub mod waiting;
 
 pub use barriers::all_barrier;
 pub use laws::{barriers_order_phases, outer_values_give_loops, owners_are_processors};
-pub use plan::{
-    Anchors, Certificates, ConditionRow, ConditionRows, Conditions, Kind, Kinds, Plan, Version,
-};
+pub use plan::{ConditionRow, Conditions, Kind, Plan, Version};
 pub use waiting::{awaited, is_awaited, posts, waits};

@@ -3,10 +3,9 @@
 ghost use Rattle.std.specs.Prelude.{◌≡◌};
 
 use farkas_cert::Certificate;
-use nest_tree::Pairs;
+use nest_tree::{Listed, Pairs};
 use owner_partition::{Anchor, Cut};
 use std::alloc::{AllocError, Global};
-use std::marker::Model;
 
 /// The version of a plan and of its text. A later one has all forms of the earlier ones.
 #[derive(Clone, Copy, Debug, PartialEq, Eq, PartialOrd, Ord)]
@@ -112,169 +111,13 @@ pub struct ConditionRow {
     pub bound: i64,
 }
 
-/// Rows of conditions, numbered from 1. Contracts see the list of them.
-#[derive(Drop)]
-pub struct ConditionRows {
-    items: Vec<ConditionRow>,
-}
-
-impl Model for ConditionRows {
-    ghost use Rattle.std.specs.Prelude.{List};
-    ghost use Rattle.sync_plan.specs.declared.plan.ConditionRow.{ConditionRow};
-
-    ghost Value = { List ConditionRow };
-
-    ghost view = { λ l. l.items.items };
-}
-
-impl ConditionRows {
-    /// The rows of a vector. It takes no memory.
-    pub fn from_vec(items: Vec<ConditionRow>) -> Self
-        ensures { result ≡ items.items }
-    {
-        ConditionRows { items }
-    }
-
-    /// The vector of the rows. It takes no memory.
-    pub fn into_vec(self) -> Vec<ConditionRow>
-        ensures { result.items ≡ self }
-    {
-        let ConditionRows { items } = self;
-        items
-    }
-
-    /// The rows, in order.
-    pub fn as_slice(&self) -> &[ConditionRow]
-        ensures { result.now ≡ self.now }
-    {
-        self.items.as_slice()
-    }
-}
-
 /// For which values of the named constants a plan is checked.
 #[derive(Drop)]
 pub enum Conditions {
     /// For those that the program has.
     Values,
     /// For all that meet these rows.
-    Rows(ConditionRows),
-}
-
-/// The anchors of a plan's static phases, which are numbered from 1 in text order. Contracts see the list of them.
-#[derive(Drop)]
-pub struct Anchors {
-    items: Vec<Anchor>,
-}
-
-impl Model for Anchors {
-    ghost use Rattle.std.specs.Prelude.{List};
-    ghost use Rattle.owner_partition.specs.declared.anchor.Anchor.{Anchor};
-
-    ghost Value = { List Anchor };
-
-    ghost view = { λ l. l.items.items };
-}
-
-impl Anchors {
-    /// The anchors of a vector. It takes no memory.
-    pub fn from_vec(items: Vec<Anchor>) -> Self
-        ensures { result ≡ items.items }
-    {
-        Anchors { items }
-    }
-
-    /// The vector of the anchors. It takes no memory.
-    pub fn into_vec(self) -> Vec<Anchor>
-        ensures { result.items ≡ self }
-    {
-        let Anchors { items } = self;
-        items
-    }
-
-    /// The anchors, in order.
-    pub fn as_slice(&self) -> &[Anchor]
-        ensures { result.now ≡ self.now }
-    {
-        self.items.as_slice()
-    }
-}
-
-/// The kinds in front of a plan's static phases. Contracts see the list of them.
-#[derive(Drop)]
-pub struct Kinds {
-    items: Vec<Kind>,
-}
-
-impl Model for Kinds {
-    ghost use Rattle.std.specs.Prelude.{List};
-    ghost use Rattle.sync_plan.specs.declared.plan.Kind.{Kind};
-
-    ghost Value = { List Kind };
-
-    ghost view = { λ l. l.items.items };
-}
-
-impl Kinds {
-    /// The kinds of a vector. It takes no memory.
-    pub fn from_vec(items: Vec<Kind>) -> Self
-        ensures { result ≡ items.items }
-    {
-        Kinds { items }
-    }
-
-    /// The vector of the kinds. It takes no memory.
-    pub fn into_vec(self) -> Vec<Kind>
-        ensures { result.items ≡ self }
-    {
-        let Kinds { items } = self;
-        items
-    }
-
-    /// The kinds, in order.
-    pub fn as_slice(&self) -> &[Kind]
-        ensures { result.now ≡ self.now }
-    {
-        self.items.as_slice()
-    }
-}
-
-/// The certificates of a plan, numbered from 1 as its obligations are. Contracts see the list of them.
-#[derive(Drop)]
-pub struct Certificates {
-    items: Vec<Certificate>,
-}
-
-impl Model for Certificates {
-    ghost use Rattle.std.specs.Prelude.{List};
-    ghost use Rattle.farkas_cert.specs.declared.certificate.Certificate.{Certificate};
-
-    ghost Value = { List Certificate };
-
-    ghost view = { λ l. l.items.items };
-}
-
-impl Certificates {
-    /// The certificates of a vector. It takes no memory.
-    pub fn from_vec(items: Vec<Certificate>) -> Self
-        ensures { result ≡ items.items }
-    {
-        Certificates { items }
-    }
-
-    /// The vector of the certificates. It takes no memory.
-    pub fn into_vec(self) -> Vec<Certificate>
-        ensures { result.items ≡ self }
-    {
-        let Certificates { items } = self;
-        items
-    }
-
-    /// The certificates, in order.
-    pub fn as_slice(&self) -> &[Certificate]
-        ensures { result.now ≡ self.now }
-    {
-        self.items.as_slice()
-    }
+    Rows(Listed<ConditionRow>),
 }
 
 /// The plan of a parallel run: how many workers there are, which loops are what, who owns what in
@@ -286,9 +129,12 @@ pub struct Plan {
     /// The number of processors, 1 to 64 in a plan of a fitting shape.
     pub workers: u32,
     pub cut: Cut,
-    pub anchors: Anchors,
-    pub kinds: Kinds,
-    pub certificates: Certificates,
+    /// Of the static phases, which are numbered from 1 in text order.
+    pub anchors: Listed<Anchor>,
+    /// In front of the static phases.
+    pub kinds: Listed<Kind>,
+    /// Numbered from 1 as the obligations are.
+    pub certificates: Listed<Certificate>,
 }
 
 impl Plan {
