@@ -146,22 +146,41 @@ impl Valuation<'_> {
             Expr::LoopValue(l) => self.loops[*l as usize - 1],
             Expr::Param(p) => self.params[*p as usize - 1],
             Expr::Load(_) => self.source.next(at),
-            Expr::Neg(a) => negated(self.value(a, at)),
+            Expr::Neg(a) => negated(self.operand(a, at)),
             Expr::Add(a, b) => {
-                let x = self.value(a, at);
-                sum(x, self.value(b, at))
+                let x = self.operand(a, at);
+                sum(x, self.operand(b, at))
             }
             Expr::Sub(a, b) => {
-                let x = self.value(a, at);
-                difference(x, self.value(b, at))
+                let x = self.operand(a, at);
+                difference(x, self.operand(b, at))
             }
             Expr::Mul(a, b) => {
-                let x = self.value(a, at);
-                product(x, self.value(b, at))
+                let x = self.operand(a, at);
+                product(x, self.operand(b, at))
             }
-            Expr::Div(a, divisor) => truncated_quotient(self.value(a, at), *divisor),
+            Expr::Div(a, divisor) => truncated_quotient(self.operand(a, at), *divisor),
             Expr::Min(arguments) => self.least(arguments, at),
             Expr::Max(arguments) => self.greatest(arguments, at),
+        }
+    }
+
+    // The value of an operand, which costs no call where it has none of its own.
+    #[cycle(value)]
+    #[inline(always)]
+    fn operand(&self, e: &Expr, at: &mut usize) -> i64
+        requires valued { IsTrue (has_value (length self.now.loops.now) (length self.now.params.now) (expression_of e.now)) }
+        requires there { IsTrue (are_there self.now.source) }
+        requires loads { length (loads_in (expression_of e.now)) ≤ length (drop at.old (found_in self.now.source)) }
+        ensures value { result ≡ value_of (expression_of e.now) self.now.loops.now self.now.params.now (drop at.old (found_in self.now.source)) }
+        ensures rest { drop at.new (found_in self.now.source) ≡ drop (length (loads_in (expression_of e.now))) (drop at.old (found_in self.now.source)) }
+    {
+        match e {
+            Expr::Number(n) => *n,
+            Expr::LoopValue(l) => self.loops[*l as usize - 1],
+            Expr::Param(p) => self.params[*p as usize - 1],
+            Expr::Load(_) => self.source.next(at),
+            _ => self.value(e, at),
         }
     }
 

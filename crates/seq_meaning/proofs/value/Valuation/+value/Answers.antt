@@ -13,36 +13,36 @@ use Rattle.seq_meaning.specs.Sources.{found_in}
 use Rattle.seq_meaning.proofs.value.Valuation.+value.Goals as goal
 use Rattle.nest_tree.specs.Loads.{loads_in}
 
-pub value-value-requires-in-Add : goal.value-value-requires-in-Add
-value-value-requires-in-Add t c =
+pub value-operand-requires-in-Add : goal.value-operand-requires-in-Add
+value-operand-requires-in-Add t c =
     let v = rw c.in-Add.is at c.requires.valued in
     let l = rw c.in-Add.is at c.requires.loads in (
       search (rules, the_lemmas),
       (
         rw c.deref-in-Add-2.ensures (and_parts _ _ v).1,
-        (c.requires.there, rw (c.deref-in-Add-2.ensures, c.value-x.ensures.rest, c.deref-in-Add.ensures) (omega (arith, length-drop {A = ℤ}, length-append {A = Access}))),
+        (c.requires.there, rw (c.deref-in-Add-2.ensures, c.operand-x.ensures.rest, c.deref-in-Add.ensures) (omega (arith, length-drop {A = ℤ}, length-append {A = Access}))),
       ),
     )
 
-pub value-value-requires-in-Sub : goal.value-value-requires-in-Sub
-value-value-requires-in-Sub t c =
+pub value-operand-requires-in-Sub : goal.value-operand-requires-in-Sub
+value-operand-requires-in-Sub t c =
     let v = rw c.in-Sub.is at c.requires.valued in
     let l = rw c.in-Sub.is at c.requires.loads in (
       search (rules, the_lemmas),
       (
         rw c.deref-in-Sub-2.ensures (and_parts _ _ v).1,
-        (c.requires.there, rw (c.deref-in-Sub-2.ensures, c.value-x-in-Sub.ensures.rest, c.deref-in-Sub.ensures) (omega (arith, length-drop {A = ℤ}, length-append {A = Access}))),
+        (c.requires.there, rw (c.deref-in-Sub-2.ensures, c.operand-x-in-Sub.ensures.rest, c.deref-in-Sub.ensures) (omega (arith, length-drop {A = ℤ}, length-append {A = Access}))),
       ),
     )
 
-pub value-value-requires-in-Mul : goal.value-value-requires-in-Mul
-value-value-requires-in-Mul t c =
+pub value-operand-requires-in-Mul : goal.value-operand-requires-in-Mul
+value-operand-requires-in-Mul t c =
     let v = rw c.in-Mul.is at c.requires.valued in
     let l = rw c.in-Mul.is at c.requires.loads in (
       search (rules, the_lemmas),
       (
         rw c.deref-in-Mul-2.ensures (and_parts _ _ v).1,
-        (c.requires.there, rw (c.deref-in-Mul-2.ensures, c.value-x-in-Mul.ensures.rest, c.deref-in-Mul.ensures) (omega (arith, length-drop {A = ℤ}, length-append {A = Access}))),
+        (c.requires.there, rw (c.deref-in-Mul-2.ensures, c.operand-x-in-Mul.ensures.rest, c.deref-in-Mul.ensures) (omega (arith, length-drop {A = ℤ}, length-append {A = Access}))),
       ),
     )
 
