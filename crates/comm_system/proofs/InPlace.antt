@@ -1,7 +1,8 @@
 -- The systems of a pair that are made one at a time.
 use Rattle.std.proofs.Common.{◌≡◌, ℕ, zero, suc, ◌+◌, ◌≤◌, ℤ, pos, neg_ℤ, List, [], ◌∷◌, ◌++◌, Some, None, slice_get, length, map, take, ap, sym, ◌∙◌, arith}
+use Rattle.std.specs.List.{AllByRecursion}
 use Rattle.std.proofs.Math.Seq.{take-append_seam, take-length}
-use Rattle.std.proofs.lemmas.List.{length-take-le}
+use Rattle.std.proofs.lemmas.List.{length-take-le, take_all}
 use Rattle.farkas_cert.specs.Inequalities.{Inequalities}
 use Rattle.nest_tree.specs.Tree.{Tree}
 use Rattle.nest_rows.specs.Constraints.{row_of}
@@ -10,16 +11,17 @@ use Rattle.nest_rows.specs.declared.constraint.Constraint.{Constraint}
 use Rattle.owner_partition.specs.declared.anchor.Anchor.{Anchor}
 use Rattle.sync_plan.specs.declared.plan.Plan.{Plan}
 use Rattle.comm_system.specs.Boundaries.{Side}
-use Rattle.comm_system.specs.Obligations.{Slot, Task, last_of, piece_task}
+use Rattle.comm_system.specs.Obligations.{Slot, Task, last_of, numbered, numbered_from, piece_task, pieces_from}
 use Rattle.comm_system.specs.OwnerRows.{Piece, above, below, distance}
 use Rattle.comm_system.specs.Pairs.{Pair}
 use Rattle.comm_system.specs.References.{variable_of}
-use Rattle.comm_system.specs.SystemViews.{IsShared}
+use Rattle.comm_system.specs.SystemViews.{Begins, IsShared}
+use Rattle.comm_system.specs.declared.obligation.Obligation.{Obligation}
 use Rattle.comm_system.specs.declared.pair_systems.Shared.{Shared}
 use Rattle.comm_system.proofs.SystemParts.{piece_system}
 
 -- the first so many rows, and others behind them: their first so many
-first_again : {X : Type 0} (n : ℕ) (xs more : List X) → n ≤ length xs → take n (take n xs ++ more) ≡ take n xs
+pub first_again : {X : Type 0} (n : ℕ) (xs more : List X) → n ≤ length xs → take n (take n xs ++ more) ≡ take n xs
 first_again n xs more le =
     let long : length (take n xs) ≡ n = length-take-le n xs le in
     ap (λ k. take k (take n xs ++ more)) (sym long) ∙ take-append_seam (take n xs) more
@@ -58,3 +60,24 @@ pub take_got : {X : Type 0} (xs : List X) (k : ℕ) (x : X) → slice_get xs k �
 take_got [] k x at = absurd (let no : None ≡ Some x = at in cc)
 take_got (y ∷ xs) zero x at = let same : y ≡ x = cc in ap (λ z. z ∷ []) same
 take_got (y ∷ xs) (suc k) x at = let e : suc k + 1 ≡ suc (k + 1) = omega arith in ap (λ j. take j (y ∷ xs)) e ∙ ap (λ zs. y ∷ zs) (take_got xs k x at)
+
+-- each of the obligations has what each of them has
+pub all_made : (P : Obligation → Type 0) (f : ℕ → Piece → Task) → ((number n : ℕ) (q : Piece) → P (numbered number (f n q))) → (number n : ℕ) (qs : List Piece) → AllByRecursion P (numbered_from number (pieces_from f n qs))
+all_made P f each number n [] = tt
+all_made P f each number n (q ∷ qs) = (each number n q, all_made P f each (suc number) (suc n) qs)
+
+-- of a system that was cut to its first rows, got others and is cut again
+pub rows_twice : (n : ℕ) (s cut new : Inequalities) (more : List Constraint) → cut ≡ record { vars = s.vars; rows = take n s.rows } → HasMore more cut new → new ≡ record { vars = s.vars; rows = take n s.rows ++ map (row_of s.vars) more }
+rows_twice n s cut new more is e = e ∙ ap (λ (x : Inequalities). record { vars = x.vars; rows = x.rows ++ map (row_of x.vars) more }) is
+
+pub twice_cut : (n : ℕ) (s cut new again : Inequalities) → n ≤ length s.rows → cut ≡ record { vars = s.vars; rows = take n s.rows } → Begins cut new → again ≡ record { vars = new.vars; rows = take n new.rows } → again ≡ record { vars = s.vars; rows = take n s.rows }
+twice_cut n s cut new again le is (more, e) last =
+    let whole = rows_twice n s cut new more is e in
+    last ∙ ap (λ (x : Inequalities). record { vars = x.vars; rows = take n x.rows }) whole ∙ ap (λ rs. record { vars = s.vars; rows = rs }) (first_again n s.rows (map (row_of s.vars) more) le)
+
+-- cut to them, it has the same first rows
+pub cut_same : (n : ℕ) (s cut : Inequalities) (last : List Constraint) → n ≤ length s.rows → cut ≡ record { vars = s.vars; rows = take n s.rows } → with_last n cut last ≡ with_last n s last
+cut_same n s cut last le is =
+    let long : length (take n s.rows) ≡ n = length-take-le n s.rows le in
+    let again : take n (take n s.rows) ≡ take n s.rows = take_all n (take n s.rows) (omega (arith, long)) in
+    ap (λ (x : Inequalities). with_last n x last) is ∙ ap (λ rs. record { vars = s.vars; rows = rs ++ map (row_of s.vars) last }) again

@@ -78,6 +78,21 @@ last_of left right [] piece = []
 last_of left right (q ∷ []) piece = []
 last_of left right (q ∷ p ∷ os) piece = last_rows left right q p os piece
 
+-- the difference of the owners: the greatest below those that are waited for, and the least above
+abbrev pub range_of : ℕ → ℕ → ℤ × ℤ
+range_of left right = (neg_ℤ (pos (distance below left right)), pos (distance above left right))
+
+-- what all pieces of a pair share: the rows before the last ones; and that as a task of no piece
+abbrev pub shared_system : Tree → Plan → Slot → List (Anchor × Side) → Pair → Inequalities
+shared_system tree plan slot producers pair =
+    let order = order_at (common slot.first.outer slot.second.outer) slot.level in
+    let q = behind_pair tree pair in
+    let owners = owners_of tree plan slot producers pair in
+    system_of (q + owners_unknowns owners - 1) (pair_rows tree plan.conditions order (lasts_at plan.cut slot pair) pair ++ owners_have plan.workers q owners)
+
+abbrev pub shared_task : Tree → Plan → Slot → ℕ → ℕ → List (Anchor × Side) → Pair → Task
+shared_task tree plan slot left right producers pair = task (shared_system tree plan slot producers pair) pair slot.level 0 (range_of left right)
+
 -- a piece of a pair, with its number
 abbrev pub piece_task : Tree → Plan → Slot → ℕ → ℕ → List (Anchor × Side) → Pair → ℕ → Piece → Task
 piece_task tree plan slot left right producers pair number piece =
@@ -85,7 +100,7 @@ piece_task tree plan slot left right producers pair number piece =
     let q = behind_pair tree pair in
     let owners = owners_of tree plan slot producers pair in
     task (system_of (q + owners_unknowns owners - 1) (pair_rows tree plan.conditions order (lasts_at plan.cut slot pair) pair ++ owners_have plan.workers q owners ++ last_of left right (owner_numbers q owners) piece))
-    pair slot.level number (neg_ℤ (pos (distance below left right)), pos (distance above left right))
+    pair slot.level number (range_of left right)
 
 abbrev pub pieces_from : (ℕ → Piece → Task) → ℕ → List Piece → List Task
 pieces_from f n [] = []

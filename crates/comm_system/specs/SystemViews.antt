@@ -1,14 +1,16 @@
 -- Where the unknowns of a pair of accesses stand, and the rows that all pieces of a pair have.
-use Rattle.std.specs.Prelude.{ℕ, ◌+◌, ◌-◌, ◌<◌, ◌^◌, ◌≡◌, List, ◌++◌, map, take}
+use Rattle.std.specs.Prelude.{ℕ, ◌<◌, ◌^◌, ◌≡◌, List, ◌++◌, map, take}
+use Rattle.farkas_cert.specs.Inequalities.{Inequalities}
 use Rattle.nest_tree.specs.Tree.{Tree}
-use Rattle.nest_rows.specs.Constraints.{row_of, system_of}
+use Rattle.nest_rows.specs.Constraints.{row_of}
+use Rattle.nest_rows.specs.More.{HasMore}
+use Rattle.nest_rows.specs.declared.constraint.Constraint.{Constraint}
 use Rattle.owner_partition.specs.declared.anchor.Anchor.{Anchor}
 use Rattle.sync_plan.specs.declared.plan.Plan.{Plan}
 use Rattle.comm_system.specs.Boundaries.{Side}
-use Rattle.comm_system.specs.Levels.{common, order_at}
-use Rattle.comm_system.specs.Obligations.{Slot, Task, lasts_at, last_of, numbered_from, owners_of, pieces_from}
-use Rattle.comm_system.specs.OwnerRows.{Piece, owner_numbers, owners_have, owners_unknowns}
-use Rattle.comm_system.specs.PairRows.{behind_pair, first_of, pair_rows, second_of}
+use Rattle.comm_system.specs.Obligations.{Slot, Task, last_of, numbered_from, owners_of, pieces_from, shared_system}
+use Rattle.comm_system.specs.OwnerRows.{Piece, owner_numbers}
+use Rattle.comm_system.specs.PairRows.{behind_pair, first_of, second_of}
 use Rattle.comm_system.specs.Pairs.{Pair}
 use Rattle.comm_system.specs.PieceViews.{piece_seen}
 use Rattle.comm_system.specs.declared.obligation.Obligation.{Obligation}
@@ -22,10 +24,13 @@ pub record AreUnknowns (tree : Tree) (pair : Pair) (n : Unknowns) : Type 0 where
   pub behind : n.behind ≡ behind_pair tree pair
   pub few : n.behind < 2 ^ 31
 
+-- some rows stand behind those of a system
+abbrev pub Begins : Inequalities → Inequalities → Type 0
+Begins old new = (more : List Constraint) × HasMore more old new
+
 -- the system of a pair without its last rows, and the owners' unknowns
 pub record IsShared (tree : Tree) (plan : Plan) (slot : Slot) (producers : List (Anchor × Side)) (pair : Pair) (shared : Shared) : Type 0 where
-  pub system : shared.system ≡ system_of (behind_pair tree pair + owners_unknowns (owners_of tree plan slot producers pair) - 1)
-      (pair_rows tree plan.conditions (order_at (common slot.first.outer slot.second.outer) slot.level) (lasts_at plan.cut slot pair) pair ++ owners_have plan.workers (behind_pair tree pair) (owners_of tree plan slot producers pair))
+  pub system : shared.system ≡ shared_system tree plan slot producers pair
   pub owners : shared.owners.items ≡ owner_numbers (behind_pair tree pair) (owners_of tree plan slot producers pair)
 
 -- of systems that are made one at a time, that of this piece: the rows that all share, then its last rows
@@ -40,3 +45,9 @@ obligations_seen p = numbered_from p.number (pieces_from (task_at p) 1 (map piec
 
 abbrev pub last_made : PairSystems → Obligation
 last_made p = p.obligation
+
+-- what stands there while none of them does: it has the number of the first, no piece, and the rows that all share
+abbrev pub none_made : PairSystems → Obligation
+none_made p =
+    let o = p.obligation in
+    record { number = p.number; system = record { vars = o.system.vars; rows = take p.shared o.system.rows }; lines = o.lines; variable = o.variable; level = o.level; piece = 0; range = o.range }

@@ -4,8 +4,9 @@ ghost use Rattle.std.specs.Prelude.{◌≡◌, ◌+◌, ◌*◌, ◌++◌, ◌<�
 ghost use Rattle.comm_system.specs.Certain.{certain_of, certain_on};
 ghost use Rattle.comm_system.specs.PhaseViews.{phase_seen};
 ghost use Rattle.comm_system.specs.SideViews.{boundary_seen, side_seen};
-ghost use Rattle.comm_system.specs.SlotViews.{slot_seen};
+ghost use Rattle.comm_system.specs.SlotViews.{level_seen, slot_seen};
 
+use crate::level::Level;
 use crate::phase::Phase;
 use crate::producer::Side;
 use crate::slot::Slot;
@@ -31,25 +32,26 @@ pub fn certain_boundaries(
     ensures few { IfOk result (λ found. length found.items ≤ 2 * length phases.now) }
 {
     let mut found = Vec::new(alloc);
-    push_certain(phases, slot, Side::First, &mut found)?;
-    push_certain(phases, slot, Side::Second, &mut found)?;
+    let level = slot.in_text();
+    push_certain(phases, level, Side::First, &mut found)?;
+    push_certain(phases, level, Side::Second, &mut found)?;
     Ok(found)
 }
 
 // Those on one side, behind the others.
 fn push_certain(
     phases: &[Phase],
-    slot: &Slot,
+    level: Level,
     side: Side,
     found: &mut Vec<Boundary>,
 ) -> Result<(), AllocError>
     requires { length phases.now < 2 ^ 20 }
-    ensures found { OnOk result (map boundary_seen found.new.items ≡ map boundary_seen found.old.items ++ certain_on (side_seen side) (slot_seen slot.now) (map phase_seen phases.now)) }
+    ensures found { OnOk result (map boundary_seen found.new.items ≡ map boundary_seen found.old.items ++ certain_on (side_seen side) (level_seen level.entry) (map phase_seen phases.now)) }
     ensures few { OnOk result (length found.new.items ≤ length found.old.items + length phases.now) }
 {
     for (index, phase) in phases.iter().enumerate() {
         let number = index as u32 + 1;
-        if slot.is_certain(side, number, phase.outer.as_slice()) {
+        if level.is_certain(side, number, phase.outer.as_slice()) {
             found.push(Boundary {
                 phase: number,
                 side,

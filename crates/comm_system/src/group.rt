@@ -4,8 +4,9 @@ ghost use Rattle.std.specs.Prelude.{◌+◌, ◌<◌, ◌^◌};
 ghost use Rattle.comm_system.specs.Subjects.{count_about};
 ghost use Rattle.comm_system.specs.SubjectViews.{subject_seen};
 
+use crate::in_place::pair_obligations;
 use crate::obligation::Obligation;
-use crate::pair_systems::{pair_obligations, trips_obligation};
+use crate::pair_systems::trips_obligation;
 use crate::subject::Subject;
 use nest_tree::Program;
 use std::alloc::{AllocError, Global};

@@ -1,6 +1,6 @@
 // The groups of a plan.
 
-ghost use Rattle.std.specs.Prelude.{◌≡◌, ◌<◌, ◌^◌, [], ◌∷◌, IfOk, IsTrue, None, OnOk, length, map};
+ghost use Rattle.std.specs.Prelude.{◌≡◌, ◌+◌, ◌<◌, ◌≤◌, ◌^◌, [], ◌∷◌, IfErr, IfOk, IsTrue, None, OnOk, length, map};
 ghost use Rattle.std.specs.List.{filter, flat_map, list_all};
 ghost use Rattle.nest_tree.specs.View.{statement_of, tree_of};
 ghost use Rattle.sync_plan.specs.Fit.{is_dealt as is_dealt_in};
@@ -15,7 +15,7 @@ ghost use Rattle.comm_system.specs.Seen.{reference_seen};
 ghost use Rattle.comm_system.specs.Signatures.{has_places_in, waits as waits_of};
 ghost use Rattle.comm_system.specs.SideViews.{producer_seen};
 ghost use Rattle.comm_system.specs.SlotViews.{slot_seen};
-ghost use Rattle.comm_system.specs.Subjects.{groups_of, of_trips, slot_subjects, trips_subjects, with_subject, with_subjects};
+ghost use Rattle.comm_system.specs.Subjects.{count_about, groups_of, of_trips, slot_subjects, trips_subjects, with_subject, with_subjects};
 ghost use Rattle.comm_system.specs.SubjectViews.{subject_at, subject_seen};
 
 use crate::conflict::are_conflicting;
@@ -41,8 +41,18 @@ pub struct Groups<'b, 'a, 'p> {
 }
 
 impl<'b, 'a, 'p> Groups<'b, 'a, 'p> {
-    // One subject more, unless the systems before it pass a number. So many systems that their
-    // numbers pass 64 bits have no room.
+    // The number behind the systems of one subject more. Where it passes 64 bits there is no room.
+    fn behind(&self, subject: &Subject) -> Result<u64, AllocError>
+        ensures number { IfOk result (λ next. next ≡ self.now.next + count_about (subject_seen subject.now)) }
+        ensures only { IfErr result (λ _. 2 ^ 64 ≤ self.now.next + count_about (subject_seen subject.now)) }
+    {
+        match self.next.checked_add(subject.count()) {
+            Some(next) => Ok(next),
+            None => Err(AllocError),
+        }
+    }
+
+    // One subject more, unless the systems before it pass a number.
     fn add(&mut self, most: u64, subject: Subject<'b, 'a, 'p>) -> Result<(), AllocError>
         ensures { OnOk result (listed_seen self.new ≡ with_subject most (listed_seen self.old) (subject_seen subject.entry)) }
     {
@@ -50,14 +60,10 @@ impl<'b, 'a, 'p> Groups<'b, 'a, 'p> {
             return Ok(());
         }
         let number = self.next;
-        match number.checked_add(subject.count()) {
-            Some(next) => {
-                self.items.push(Group { number, subject })?;
-                self.next = next;
-                Ok(())
-            }
-            None => Err(AllocError),
-        }
+        let next = self.behind(&subject)?;
+        self.items.push(Group { number, subject })?;
+        self.next = next;
+        Ok(())
     }
 
     // A pair of accesses, if they conflict.

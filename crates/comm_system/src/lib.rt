@@ -4,11 +4,12 @@
 //!
 //! - [`obligation`]: an obligation with what it speaks of.
 //! - [`phases`], [`phase`], [`reference`]: the static phases with their accesses.
-//! - [`slot`], [`slot_list`], [`boundary`], [`signature`], [`waits`], [`producer`]: two phases at a level, the
-//!   boundaries that are certain there, and what they see of a plan's kinds.
-//! - [`pair_systems`], [`group`], [`groups`]: the obligations of a pair of accesses, of a phase, of a slot, of a
-//!   plan; and in groups, each of which can be made without the others.
-//! - [`in_place`]: the obligations of a pair one at a time, in the same memory.
+//! - [`level`], [`slot`], [`slot_list`], [`boundary`], [`signature`], [`waits`], [`producer`]: two
+//!   phases at a level, the boundaries that are certain there, and what they see of a plan's kinds.
+//! - [`pair_systems`], [`in_place`]: the obligation of a pair of accesses in two trips of a phase;
+//!   those in two phases one at a time, in the same memory.
+//! - [`group`], [`groups`], [`obligations`]: the obligations of a plan, and in groups, each of which
+//!   can be made without the others.
 //! - [`laws`]: which slots a kind's change changes; what solves the systems, and that
 //!   where nothing does, the plan is ordered.
 //!
@@ -24,6 +25,7 @@ pub mod group;
 pub mod groups;
 pub mod in_place;
 pub mod laws;
+pub mod level;
 pub mod obligation;
 pub mod obligations;
 pub mod own;

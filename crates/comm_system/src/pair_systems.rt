@@ -1,6 +1,6 @@
-// The systems of a pair of accesses.
+// The system of a pair of accesses in two trips of a phase, and the parts of those in two phases.
 
-ghost use Rattle.std.specs.Prelude.{◌≡◌, ◌+◌, ◌*◌, ◌-◌, ◌<◌, ◌≤◌, ◌^◌, ◌++◌, [], ◌∷◌, IfOk, IsTrue, None, OnOk, length, map, neg_ℤ, pos};
+ghost use Rattle.std.specs.Prelude.{◌≡◌, ◌+◌, ◌*◌, ◌-◌, ◌<◌, ◌≤◌, ◌^◌, ◌++◌, ◌⊎◌, [], ◌∷◌, IfErr, IfOk, IsTrue, None, OnErr, OnOk, length, map, neg_ℤ, pos};
 ghost use Rattle.std.specs.List.{list_all};
 ghost use Rattle.nest_tree.specs.Form.{is_small};
 ghost use Rattle.nest_tree.specs.Tree.{Tree};
@@ -10,9 +10,10 @@ ghost use Rattle.nest_rows.specs.More.{HasMore};
 ghost use Rattle.owner_partition.specs.declared.anchor.Dist.TheVariants.{Cyclic};
 ghost use Rattle.sync_plan.specs.Shape.{has_places, wrong_field};
 ghost use Rattle.comm_system.specs.Levels.{common as in_common, order_at, two_trips as two_trips_of};
-ghost use Rattle.comm_system.specs.Obligations.{anchor_at as anchor_under, last_of, numbered, numbered_from, owners_of, pair_tasks, placed_at, trips_task};
+ghost use Rattle.comm_system.specs.Obligations.{anchor_at as anchor_under, last_of, numbered, owners_of, placed_at, range_of, trips_task};
 ghost use Rattle.comm_system.specs.Boundaries.{of_first, of_second};
-ghost use Rattle.comm_system.specs.OwnerRows.{above, below, beside, distance as distance_of, pieces as pieces_of};
+ghost use Rattle.comm_system.specs.OwnerRows.{beside, distance as distance_of};
+ghost use Rattle.comm_system.specs.PairRows.{behind_pair};
 ghost use Rattle.comm_system.specs.OwnerViews.{fits_owner, placed_seen};
 ghost use Rattle.comm_system.specs.PhaseViews.{phase_seen};
 ghost use Rattle.comm_system.specs.PieceViews.{direction_seen, piece_seen};
@@ -20,9 +21,8 @@ ghost use Rattle.comm_system.specs.RowViews.{order_seen};
 ghost use Rattle.comm_system.specs.Seen.{pair_of};
 ghost use Rattle.comm_system.specs.SideViews.{producer_seen, side_seen};
 ghost use Rattle.comm_system.specs.SlotViews.{slot_seen};
-ghost use Rattle.comm_system.specs.SystemViews.{AreUnknowns, IsShared};
+ghost use Rattle.comm_system.specs.SystemViews.{AreUnknowns, Begins, IsShared};
 
-use crate::in_place::PairSystems;
 use crate::obligation::Obligation;
 use crate::own::is_private_in;
 use crate::owner_rows::{Placed, owners_unknowns, push_owners};
@@ -34,8 +34,8 @@ use crate::rows::{Instance, Order, apart, push_pair, unknowns};
 use crate::slot::Slot;
 use crate::waits::Waits;
 use farkas_cert::{NarrowSystem, Row, System};
+use nest_rows::Constraint;
 use nest_rows::rows::row;
-use nest_rows::{Constraint, common};
 use nest_tree::{Affine, Pairs, Program};
 use owner_partition::{Anchor, Dist};
 use std::alloc::{AllocError, Global};
@@ -49,11 +49,12 @@ pub(crate) struct Unknowns {
     behind: u32,
 }
 
-// So many unknowns that their numbers pass 31 bits have no room.
+// 2^29 unknowns and more may have no room; want of memory is no other one.
 fn unknowns_of_pair(program: &Program, a: &Reference, b: &Reference) -> Result<Unknowns, AllocError>
     ensures are { IfOk result (λ n. AreUnknowns (tree_of program.now) (pair_of a.now b.now) n) }
     ensures first { IfOk result (λ n. n.first + 2 * length a.now.around.items < 2 ^ 31) }
     ensures second { IfOk result (λ n. n.second + 2 * length b.now.around.items < 2 ^ 31) }
+    ensures only { IfErr result (λ _. 2 ^ 29 ≤ behind_pair (tree_of program.now) (pair_of a.now b.now)) }
 {
     let constants = program.params.len();
     if constants >= 536_870_912 {
@@ -74,11 +75,11 @@ fn unknowns_of_pair(program: &Program, a: &Reference, b: &Reference) -> Result<U
     }
 }
 
-// Two trips of a loop inside so many Outer loops. So many that their number passes 29 bits have no
-// room.
+// Two trips of a loop inside so many Outer loops. 2^29 and more have no room.
 fn two_trips(outer: usize) -> Result<Order, AllocError>
     ensures order { IfOk result (λ o. order_seen o ≡ two_trips_of outer) }
     ensures few { IfOk result (λ o. o.equal < 2 ^ 29) }
+    ensures only { IfErr result (λ _. 2 ^ 29 ≤ outer) }
 {
     if outer >= 536_870_912 {
         return Err(AllocError);
@@ -133,19 +134,20 @@ pub fn trips_obligation(
     })
 }
 
-// How the loops round the phases of a slot stand. So many that their number passes 29 bits have no
-// room.
+// How the loops round the phases of a slot stand. 2^29 and more, or a level of 2^29 and more, have
+// no room.
 fn order(slot: &Slot) -> Result<Order, AllocError>
     ensures order { IfOk result (λ o. order_seen o ≡ order_at (in_common (phase_seen slot.now.first.now).outer (phase_seen slot.now.second.now).outer) slot.now.level) }
     ensures few { IfOk result (λ o. o.equal < 2 ^ 29) }
+    ensures only { IfErr result (λ _. (2 ^ 29 ≤ in_common (phase_seen slot.now.first.now).outer (phase_seen slot.now.second.now).outer) ⊎ (2 ^ 29 ≤ slot.now.level)) }
 {
-    let loops = common(slot.first.outer.as_slice(), slot.second.outer.as_slice());
-    if loops >= 536_870_912 || slot.level >= 536_870_912 {
+    let loops = slot.common()?;
+    if slot.level >= 536_870_912 {
         return Err(AllocError);
     }
     if slot.level == 0 {
         Ok(Order {
-            equal: loops as u32,
+            equal: loops,
             earlier: false,
         })
     } else {
@@ -281,10 +283,11 @@ pub(crate) fn make_shared<'a>(
     Ok(Shared { system, owners })
 }
 
-// One row more.
+// One row more. Where memory runs out nothing has changed.
 fn push_row(alloc: Global, system: &mut System, constraint: &Constraint) -> Result<(), AllocError>
     requires { IsTrue (is_tame constraint.now) }
-    ensures { OnOk result (HasMore (constraint.now ∷ []) system.old system.new) }
+    ensures ok { OnOk result (HasMore (constraint.now ∷ []) system.old system.new) }
+    ensures err { OnErr result (system.new ≡ system.old) }
 {
     let vars = system.vars();
     system.push(row(alloc, vars, constraint)?)
@@ -303,7 +306,7 @@ fn distance(range: Direction, waits: &Waits) -> u32
 
 // The greatest difference of the owners below those that are waited for, and the least above.
 pub(crate) fn range(waits: &Waits) -> (i32, i32)
-    ensures { result ≡ (neg_ℤ (pos (distance_of below waits.now.left waits.now.right)), pos (distance_of above waits.now.left waits.now.right)) }
+    ensures { result ≡ range_of waits.now.left waits.now.right }
 {
     let low = distance(Direction::Below, waits) as i32;
     let high = distance(Direction::Above, waits) as i32;
@@ -317,7 +320,7 @@ fn farthest(range: Direction, waits: &Waits) -> i64
     -i64::from(distance(range, waits))
 }
 
-// The last rows of a piece, behind the others.
+// The last rows of a piece, behind the others; where memory runs out some of them.
 pub(crate) fn push_last(
     alloc: Global,
     system: &mut System,
@@ -325,7 +328,8 @@ pub(crate) fn push_last(
     owners: &[u32],
     piece: &Piece,
 ) -> Result<(), AllocError>
-    ensures { OnOk result (HasMore (last_of waits.now.left waits.now.right owners.now (piece_seen piece.now)) system.old system.new) }
+    ensures ok { OnOk result (HasMore (last_of waits.now.left waits.now.right owners.now (piece_seen piece.now)) system.old system.new) }
+    ensures err { OnErr result (Begins system.old system.new) }
 {
     if owners.len() < 2 {
         return Ok(());
@@ -346,7 +350,8 @@ fn push_beside(
     others: &[u32],
     sides: &[Direction],
 ) -> Result<(), AllocError>
-    ensures { OnOk result (HasMore (beside q others.now (map direction_seen sides.now)) system.old system.new) }
+    ensures ok { OnOk result (HasMore (beside q others.now (map direction_seen sides.now)) system.old system.new) }
+    ensures err { OnErr result (Begins system.old system.new) }
 {
     for (index, &other) in others.iter().enumerate() {
         if index >= sides.len() {
@@ -356,44 +361,4 @@ fn push_beside(
         push_row(alloc, system, &row)?;
     }
     Ok(())
-}
-
-// A copy of an obligation.
-fn copy_of(alloc: Global, obligation: &Obligation) -> Result<Obligation, AllocError>
-    ensures { IfOk result (λ copy. copy ≡ obligation.now) }
-{
-    Ok(Obligation {
-        number: obligation.number,
-        system: obligation.system.copy(alloc)?,
-        lines: obligation.lines,
-        variable: obligation.variable,
-        level: obligation.level,
-        piece: obligation.piece,
-        range: obligation.range,
-    })
-}
-
-/// The obligations of two accesses in the phases of a slot, from this number on. Of the plan's
-/// kinds they see these waits alone.
-pub fn pair_obligations<'a>(
-    alloc: Global,
-    program: &Program,
-    plan: &Plan,
-    slot: &Slot,
-    waits: &Waits,
-    a: &Reference<'a>,
-    b: &Reference<'a>,
-    number: u64,
-) -> Result<Vec<Obligation>, AllocError>
-    requires shape { wrong_field (tree_of program.now) plan.now ≡ None }
-    requires room { number + length (pieces_of (length waits.now.producers.items)) < 2 ^ 64 }
-    ensures { IfOk result (λ found. found.items ≡ numbered_from number (pair_tasks (tree_of program.now) plan.now (slot_seen slot.now) waits.now.left waits.now.right (map producer_seen waits.now.producers.items) (pair_of a.now b.now))) }
-{
-    let mut systems = PairSystems::new(alloc, program, plan, slot, waits, a, b, number)?;
-    let mut found = Vec::with_capacity(alloc, systems.count())?;
-    for index in 0..systems.count() {
-        systems.make(alloc, index)?;
-        found.push(copy_of(alloc, systems.obligation())?)?;
-    }
-    Ok(found)
 }

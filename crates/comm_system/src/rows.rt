@@ -1,6 +1,6 @@
 // The rows of two instances that access one element.
 
-ghost use Rattle.std.specs.Prelude.{◌≡◌, ◌+◌, ◌-ℤ◌, ◌*◌, ◌++◌, ◌<◌, ◌^◌, [], ◌∷◌, ℕ, pos, IfOk, IfSome, IsTrue, OnOk, length, map};
+ghost use Rattle.std.specs.Prelude.{◌≡◌, ◌+◌, ◌-ℤ◌, ◌*◌, ◌++◌, ◌<◌, ◌≤◌, ◌^◌, [], ◌∷◌, ℕ, pos, IfOk, IfSome, IsTrue, MatchOption, OnOk, length, map};
 ghost use Rattle.std.specs.List.{list_all};
 ghost use Rattle.nest_tree.specs.Form.{is_small};
 ghost use Rattle.nest_tree.specs.Layout.{bounds_of as bounds_in};
@@ -175,13 +175,14 @@ fn free_bounds<'a>(program: &'a Program, target: Target) -> &'a [(i64, i64)]
 // How many unknowns an access has: the value and the trip of each loop, and its free subscripts.
 // None where they are 2^29 and more.
 pub(crate) fn unknowns(program: &Program, reference: &Reference) -> Option<u32>
-    ensures count { IfSome result (λ n. n ≡ unknowns_of (tree_of program.now) (reference_seen reference.now)) }
+    ensures count { MatchOption result (2 ^ 29 ≤ unknowns_of (tree_of program.now) (reference_seen reference.now)) (λ n. n ≡ unknowns_of (tree_of program.now) (reference_seen reference.now)) }
     ensures few { IfSome result (λ n. n < 2 ^ 29) }
 {
     let loops = reference.around.len();
     let free = free_bounds(program, reference.target).len();
-    if loops < 134_217_728 && free < 268_435_456 {
-        Some(2 * loops as u32 + free as u32)
+    let count = loops.saturating_mul(2).saturating_add(free);
+    if count < 536_870_912 {
+        Some(count as u32)
     } else {
         None
     }

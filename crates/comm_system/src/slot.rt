@@ -1,16 +1,14 @@
 // Slots: two static phases and a level.
 
-ghost use Rattle.std.specs.Prelude.{◌≡◌, ◌≤◌, drop, length};
-ghost use Rattle.comm_system.specs.Boundaries.{is_before_second as stands_before_second, is_behind_first as stands_behind_first};
-ghost use Rattle.comm_system.specs.Certain.{is_certain as stands_certain};
-ghost use Rattle.comm_system.specs.SideViews.{side_seen};
+ghost use Rattle.std.specs.Prelude.{◌≡◌, ◌<◌, ◌≤◌, ◌^◌, IfErr, IfOk};
+ghost use Rattle.comm_system.specs.Levels.{common as common_of};
 ghost use Rattle.comm_system.specs.PhaseViews.{phase_seen};
-ghost use Rattle.comm_system.specs.SlotViews.{slot_seen};
-ghost use Rattle.nest_rows.specs.Views.{heads_of};
+ghost use Rattle.comm_system.specs.SlotViews.{level_seen, slot_seen};
 
+use crate::level::Level;
 use crate::phase::Phase;
-use crate::producer::Side;
-use nest_rows::{Around, is_prefix};
+use nest_rows::common;
+use std::alloc::AllocError;
 
 /// Two static phases by their numbers, from 1, and a level: the common loop, from 1, that is at an
 /// earlier trip for the first; 0 where all common loops are equal.
@@ -23,38 +21,31 @@ pub struct Slot<'b, 'a> {
     pub level: u32,
 }
 
-impl Slot<'_, '_> {
-    // Whether the boundary in front of this phase is certain on this side.
-    pub(crate) fn is_certain(&self, side: Side, phase: u32, outer: &[Around]) -> bool
-        ensures { result ≡ stands_certain (side_seen side) (slot_seen self.now) phase (heads_of outer.now) }
+impl<'a> Slot<'_, 'a> {
+    // How many loops the two phases have in common. 2^29 and more have no room.
+    pub(crate) fn common(&self) -> Result<u32, AllocError>
+        ensures count { IfOk result (λ n. n ≡ common_of (phase_seen self.now.first.now).outer (phase_seen self.now.second.now).outer) }
+        ensures few { IfOk result (λ n. n < 2 ^ 29) }
+        ensures only { IfErr result (λ _. 2 ^ 29 ≤ common_of (phase_seen self.now.first.now).outer (phase_seen self.now.second.now).outer) }
     {
-        match side {
-            Side::First => self.is_behind_first(phase, outer),
-            Side::Second => self.is_before_second(phase, outer),
+        let loops = common(self.first.outer.as_slice(), self.second.outer.as_slice());
+        if loops < 536_870_912 {
+            Ok(loops as u32)
+        } else {
+            Err(AllocError)
         }
     }
 
-    // Whether the boundary in front of this phase is certain behind the first instance.
-    fn is_behind_first(&self, phase: u32, outer: &[Around]) -> bool
-        ensures { result ≡ stands_behind_first (phase_seen self.now.first.now).outer self.now.s self.now.t self.now.level phase (heads_of outer.now) }
+    // The two phases in the text, at the level.
+    pub(crate) fn in_text(&self) -> Level<'_, 'a>
+        ensures { level_seen result ≡ slot_seen self.now }
     {
-        let inside = if self.level == 0 {
-            phase <= self.t
-        } else {
-            self.level as usize <= outer.len()
-        };
-        self.s < phase && inside && is_prefix(outer, self.first.outer.as_slice())
-    }
-
-    // Whether it is certain in front of the second.
-    fn is_before_second(&self, phase: u32, outer: &[Around]) -> bool
-        ensures { result ≡ stands_before_second (phase_seen self.now.first.now).outer (phase_seen self.now.second.now).outer self.now.s self.now.t self.now.level phase (heads_of outer.now) }
-    {
-        let inside = if self.level == 0 {
-            self.s < phase && !is_prefix(outer, self.first.outer.as_slice())
-        } else {
-            self.level as usize <= outer.len()
-        };
-        phase <= self.t && inside && is_prefix(outer, self.second.outer.as_slice())
+        Level {
+            s: self.s,
+            first: self.first.site(),
+            t: self.t,
+            second: self.second.site(),
+            level: self.level as usize,
+        }
     }
 }

@@ -8,11 +8,10 @@ ghost use Rattle.comm_system.specs.SlotViews.{at_level, slot_seen};
 
 use crate::phase::Phase;
 use crate::slot::Slot;
-use nest_rows::common;
 use std::alloc::{AllocError, Global};
 
 /// The slots of these static phases, in order: the second phase, the first, the level. Two phases
-/// with 2^32 - 1 loops in common have more levels than there is room for.
+/// with 2^29 loops in common have more levels than there is room for.
 pub fn slots<'b, 'a>(
     alloc: Global,
     phases: &'b [Phase<'a>],
@@ -58,11 +57,7 @@ fn push_between<'b, 'a>(slot: Slot<'b, 'a>, found: &mut Vec<Slot<'b, 'a>>) -> Re
     requires { slot.level ≡ 0 }
     ensures { OnOk result (map slot_seen found.new.items ≡ map slot_seen found.old.items ++ slots_between slot.entry.s (phase_seen slot.entry.first.now) slot.entry.t (phase_seen slot.entry.second.now)) }
 {
-    let loops = common(slot.first.outer.as_slice(), slot.second.outer.as_slice());
-    if loops >= 4_294_967_295 {
-        return Err(AllocError);
-    }
-    push_carried(slot, loops as u32, found)?;
+    push_carried(slot, slot.common()?, found)?;
     if slot.s < slot.t {
         found.push(slot)?;
     }
@@ -75,7 +70,7 @@ fn push_carried<'b, 'a>(
     loops: u32,
     found: &mut Vec<Slot<'b, 'a>>,
 ) -> Result<(), AllocError>
-    requires { loops < 2 ^ 32 - 1 }
+    requires { loops < 2 ^ 29 }
     ensures { OnOk result (map slot_seen found.new.items ≡ map slot_seen found.old.items ++ map (at_level (slot_seen slot.entry)) (range_with_len 1 loops)) }
 {
     for index in 0..loops {

@@ -2,6 +2,7 @@
 
 use crate::page::Page;
 use comm_system::Obligation;
+use plan_maker::tries::Tried;
 use plan_text::put_kind;
 use reason_witness::account::{About, Reason, Why};
 use reason_witness::found::{Finding, Found};
@@ -55,6 +56,15 @@ fn kind_value(alloc: Global, kind: &Kind) -> Result<Value, AllocError> {
     name_value(alloc, words.as_slice().trim_ascii())
 }
 
+// With which cells of its own each processor was to run a loop, where with any.
+fn tried_word(tried: Tried) -> Option<&'static [u8]> {
+    match tried {
+        Tried::Doall => None,
+        Tried::Private => Some(b"private".as_slice()),
+        Tried::Sum => Some(b"sum".as_slice()),
+    }
+}
+
 impl Page<'_> {
     /// The text, with a line's end. An error says that memory ran out.
     pub(crate) fn json(&self, alloc: Global) -> Result<Vec<u8>, AllocError> {
@@ -97,6 +107,26 @@ impl Page<'_> {
         Ok(Value::Array(list))
     }
 
+    // A loop by its number, from 1.
+    fn put_loop(
+        &self,
+        alloc: Global,
+        map: &mut Map<String, Value>,
+        number: u32,
+    ) -> Result<(), AllocError> {
+        enter(map, alloc, "loop", Value::from(number))?;
+        if let Some(it) = self.loop_at(number) {
+            enter(map, alloc, "line", Value::from(it.line))?;
+            enter(
+                map,
+                alloc,
+                "variable",
+                name_value(alloc, it.variable.as_slice())?,
+            )?;
+        }
+        Ok(())
+    }
+
     // What a reason is for.
     fn put_about(
         &self,
@@ -105,18 +135,12 @@ impl Page<'_> {
         about: &About,
     ) -> Result<(), AllocError> {
         match about {
-            About::Loop(number) => {
-                enter(map, alloc, "loop", Value::from(*number))?;
-                if let Some(it) = self.loop_at(*number) {
-                    enter(map, alloc, "line", Value::from(it.line))?;
-                    enter(
-                        map,
-                        alloc,
-                        "variable",
-                        name_value(alloc, it.variable.as_slice())?,
-                    )?;
+            About::Loop(number, tried) => {
+                self.put_loop(alloc, map, *number)?;
+                match tried_word(*tried) {
+                    Some(word) => enter(map, alloc, "tried", name_value(alloc, word)?),
+                    None => Ok(()),
                 }
-                Ok(())
             }
             About::Weaker(phase, kind) => {
                 enter(map, alloc, "phase", Value::from(*phase))?;
@@ -225,7 +249,7 @@ impl Page<'_> {
         let mut list = Vec::new(alloc);
         for (number, value) in &touch.loops {
             let mut map = Map::new(alloc);
-            self.put_about(alloc, &mut map, &About::Loop(*number))?;
+            self.put_loop(alloc, &mut map, *number)?;
             enter(&mut map, alloc, "value", number_value(alloc, *value)?)?;
             list.push(Value::Object(map))?;
         }

@@ -3,6 +3,7 @@
 use crate::page::Page;
 use comm_system::Obligation;
 use plan_maker::cause::Word;
+use plan_maker::tries::Tried;
 use plan_text::put_kind;
 use reason_witness::account::{About, Reason, Why};
 use reason_witness::found::{Finding, Found, Wanted};
@@ -48,6 +49,15 @@ fn push_waits(text: &mut Vec<u8>, kinds: &[Kind]) -> Result<(), AllocError> {
     }
     push_part(text, b"; waits for neighbours: ", i128::from(neighbours))?;
     push_part(text, b", for one processor: ", i128::from(producers))
+}
+
+// With which cells of its own each processor was to run a loop.
+fn tried_words(tried: Tried) -> &'static [u8] {
+    match tried {
+        Tried::Doall => b"",
+        Tried::Private => b" with private scalars",
+        Tried::Sum => b" with sums",
+    }
 }
 
 impl Page<'_> {
@@ -96,7 +106,7 @@ impl Page<'_> {
     fn push_serial_loops(&self, text: &mut Vec<u8>) -> Result<(), AllocError> {
         let mut word = b"; loops not dealt out: ".as_slice();
         for reason in &self.account.reasons {
-            if let About::Loop(number) = &reason.about {
+            if let About::Loop(number, Tried::Doall) = &reason.about {
                 push_words(text, word)?;
                 self.push_loop(text, *number)?;
                 match &reason.why {
@@ -140,11 +150,13 @@ impl Page<'_> {
     // A reason, on a line of its own behind its head.
     fn push_reason(&self, text: &mut Vec<u8>, reason: &Reason) -> Result<(), AllocError> {
         match &reason.about {
-            About::Loop(number) => {
+            About::Loop(number, tried) => {
                 push_part(text, b"LOOP ", i128::from(*number))?;
                 push_words(text, b", ")?;
                 self.push_loop(text, *number)?;
-                push_words(text, b", is not dealt out:\n    ")?;
+                push_words(text, b", is not dealt out")?;
+                push_words(text, tried_words(*tried))?;
+                push_words(text, b":\n    ")?;
             }
             About::Weaker(_, kind) => {
                 push_words(text, b"    not")?;

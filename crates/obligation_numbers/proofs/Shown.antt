@@ -64,7 +64,7 @@ certain_counted test kinds phases x =
     ∙ ap (λ n. n + sum_by (one_where test kinds) (boundaries_where second of_second 1 phases)) (boundaries_summed (one_where test kinds) first of_first 1 phases)
     ∙ ap (λ n. sum_from (at of_first first) 1 phases + n) (boundaries_summed (one_where test kinds) second of_second 1 phases)
     ∙ terms_added (at of_first first) (at of_second second) 1 phases
-    ∙ terms_same (λ k p. at of_first first k p + at of_second second k p) (sides_where test kinds x.first.outer x.second.outer x.s x.t x.level)
+    ∙ terms_same (λ k p. at of_first first k p + at of_second second k p) (sides_where test kinds x)
     (λ k p. both_sides (test (kind_at kinds (record { phase = k; side = of_first }))) (first k p.outer) (second k p.outer)) 1 phases
 
 any_counted : {X : Type 0} (p : X → Bool) (xs : List X) → list_any p xs ≡ nat_lt 0 (sum_by (λ x. if p x then 1 else 0) xs)

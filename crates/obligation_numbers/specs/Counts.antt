@@ -7,7 +7,8 @@ use Rattle.sync_plan.specs.declared.plan.Kind.{Kind}
 use Rattle.sync_plan.specs.declared.plan.Plan.{Plan}
 use Rattle.sync_plan.specs.Fit.{is_dealt}
 use Rattle.sync_plan.specs.Kinds.{anchor_in}
-use Rattle.comm_system.specs.Boundaries.{is_before_second, is_behind_first}
+use Rattle.comm_system.specs.Boundaries.{of_first, of_second}
+use Rattle.comm_system.specs.Certain.{is_certain}
 use Rattle.comm_system.specs.Levels.{common, levels}
 use Rattle.comm_system.specs.Obligations.{Slot, slot_signature}
 use Rattle.comm_system.specs.OwnerRows.{pieces}
@@ -28,9 +29,8 @@ abbrev pub within_count : Cutting → Statement → ℕ
 within_count cut s = access_sum (λ v stores. if is_among (privates_in cut s) v || is_summed cut s v then 0 else access_sum (conflict_count v stores) s) s
 
 -- on how many sides the boundary in front of a phase is certain
-abbrev pub sides_at : List Head → List Head → ℕ → ℕ → ℕ → ℕ → List Head → ℕ
-sides_at around around' s t level u outer =
-    (if is_behind_first around s t level u outer then 1 else 0) + (if is_before_second around around' s t level u outer then 1 else 0)
+abbrev pub sides_at : Slot → ℕ → List Head → ℕ
+sides_at x u outer = (if is_certain of_first x u outer then 1 else 0) + (if is_certain of_second x u outer then 1 else 0)
 
 abbrev pub is_producer : Kind → Bool
 is_producer kind = is_some (anchor_in kind)
@@ -40,12 +40,12 @@ abbrev pub kind_before : List Kind → ℕ → Kind
 kind_before kinds u = or_nothing (slice_get kinds (u - 1))
 
 -- on how many sides it is certain where its kind passes a test
-abbrev pub sides_where : (Kind → Bool) → List Kind → List Head → List Head → ℕ → ℕ → ℕ → ℕ → StaticPhase → ℕ
-sides_where test kinds around around' s t level u p = if test (kind_before kinds u) then sides_at around around' s t level u p.outer else 0
+abbrev pub sides_where : (Kind → Bool) → List Kind → Slot → ℕ → StaticPhase → ℕ
+sides_where test kinds x u p = if test (kind_before kinds u) then sides_at x u p.outer else 0
 
 -- all of a slot
 abbrev pub certain_count : (Kind → Bool) → List Kind → List StaticPhase → Slot → ℕ
-certain_count test kinds phases x = sum_from (sides_where test kinds x.first.outer x.second.outer x.s x.t x.level) 1 phases
+certain_count test kinds phases x = sum_from (sides_where test kinds x) 1 phases
 
 -- how many pieces each pair has under a signature
 abbrev pub piece_count : Signature → ℕ

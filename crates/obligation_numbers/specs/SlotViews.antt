@@ -1,17 +1,17 @@
 -- Two phases as plain data.
 use Rattle.std.specs.Prelude.{ℕ, List}
-use Rattle.nest_tree.specs.View.{statement_of, tree_of}
-use Rattle.nest_rows.specs.Views.{heads_of}
+use Rattle.nest_tree.specs.View.{tree_of}
 use Rattle.comm_system.specs.Obligations.{Slot}
+use Rattle.comm_system.specs.PhaseViews.{site_seen}
 use Rattle.comm_system.specs.References.{StaticPhase, phases_of}
 use Rattle.obligation_numbers.specs.declared.scene.Both.{Both}
 use Rattle.obligation_numbers.specs.declared.scene.Second.{Second}
 
 abbrev pub second_of : Second → StaticPhase
-second_of x = record { what = statement_of x.item.now; outer = heads_of x.outer.now }
+second_of x = site_seen x.site
 
 abbrev pub first_of : Both → StaticPhase
-first_of x = record { what = statement_of x.item.now; outer = heads_of x.outer.now }
+first_of x = site_seen x.site
 
 -- all of the program
 abbrev pub phases_at : Both → List StaticPhase

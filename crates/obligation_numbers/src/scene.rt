@@ -3,8 +3,8 @@
 ghost use Rattle.nest_tree.specs.View.{tree_of};
 ghost use Rattle.nest_tree.specs.WellFormed.{IsWellFormed};
 
-use nest_rows::Around;
-use nest_tree::{Item, Program};
+use comm_system::level::{Level, Site};
+use nest_tree::Program;
 use sync_plan::Plan;
 
 // A program with a plan.
@@ -15,13 +15,12 @@ pub(crate) struct Scene<'x> {
     ghost formed: { IsWellFormed (tree_of program.now) },
 }
 
-// A static phase, by its number, with the Outer loops round it.
+// A static phase, by its number.
 #[derive(Clone, Copy)]
 pub(crate) struct Second<'x, 'a> {
     pub(crate) scene: Scene<'x>,
     pub(crate) t: u32,
-    pub(crate) outer: &'x [Around<'a>],
-    pub(crate) item: &'x Item,
+    pub(crate) site: Site<'x, 'a>,
 }
 
 // A first phase with a second one.
@@ -29,6 +28,24 @@ pub(crate) struct Second<'x, 'a> {
 pub(crate) struct Both<'x, 'a> {
     pub(crate) second: Second<'x, 'a>,
     pub(crate) s: u32,
-    pub(crate) outer: &'x [Around<'a>],
-    pub(crate) item: &'x Item,
+    pub(crate) site: Site<'x, 'a>,
+}
+
+impl<'x, 'a> Both<'x, 'a> {
+    ghost use Rattle.std.specs.Prelude.{◌≡◌};
+    ghost use Rattle.comm_system.specs.SlotViews.{level_seen};
+    ghost use Rattle.obligation_numbers.specs.SlotViews.{slot_at};
+
+    // The two at a level.
+    pub(crate) fn at(&self, level: usize) -> Level<'x, 'a>
+        ensures { level_seen result ≡ slot_at self.now level }
+    {
+        Level {
+            s: self.s,
+            first: self.site,
+            t: self.second.t,
+            second: self.second.site,
+            level,
+        }
+    }
 }

@@ -3,22 +3,20 @@
 ghost use Rattle.std.specs.Prelude.{◌≡◌, ◌+◌, ◌-◌, ◌≤◌, sum_by};
 ghost use Rattle.std.specs.Io.Iter.{u64_saturate};
 ghost use Rattle.std.specs.List.{range_with_len};
-ghost use Rattle.nest_tree.specs.View.{statement_of, tree_of};
-ghost use Rattle.nest_rows.specs.Views.{heads_of};
+ghost use Rattle.nest_tree.specs.View.{tree_of};
 ghost use Rattle.comm_system.specs.Obligations.{slot_signature};
 ghost use Rattle.comm_system.specs.References.{phases_of};
-ghost use Rattle.sync_plan.specs.Fit.{is_dealt as is_dealt_in};
 ghost use Rattle.obligation_numbers.specs.Counts.{certain_count, count_before, count_between, pair_count as pairs_between, piece_count, slot_count, trips_count};
 ghost use Rattle.obligation_numbers.specs.SlotViews.{first_of, phases_at, second_of, slot_at};
 ghost use Rattle.obligation_numbers.specs.Tests.{passes};
 
-use crate::boundaries::{Certain, Place, Test};
+use crate::boundaries::{Certain, Test};
 use crate::conflicts::{pair_count, within_count};
 use crate::phases::{PhaseWeight, phases_weight};
 use crate::scene::{Both, Scene, Second};
+use comm_system::level::Site;
 use nest_rows::{Around, common};
 use nest_tree::Item;
-use owner_partition::Mark;
 use sync_plan::Plan;
 
 impl Both<'_, '_> {
@@ -27,13 +25,7 @@ impl Both<'_, '_> {
         ensures { result ≡ u64_saturate (certain_count (passes test) self.now.second.scene.plan.now.kinds (phases_at self.now) (slot_at self.now level)) }
     {
         let certain = Certain {
-            place: Place {
-                s: self.s,
-                first: self.outer,
-                t: self.second.t,
-                second: self.second.outer,
-                level,
-            },
+            level: self.at(level),
             kinds: self.second.scene.plan.kinds.as_slice(),
             test,
         };
@@ -90,8 +82,8 @@ impl Both<'_, '_> {
         ensures { result ≡ u64_saturate (count_between self.now.second.scene.plan.now (phases_at self.now) self.now.second.t (second_of self.now.second) self.now.s (first_of self.now)) }
     {
         let cut = &self.second.scene.plan.cut;
-        let pairs = pair_count(cut, self.item, self.second.item);
-        let loops = common(self.outer, self.second.outer);
+        let pairs = pair_count(cut, self.site.item, self.second.site.item);
+        let loops = common(self.site.outer, self.second.site.outer);
         let carried = self.carried_count(pairs, loops, loops);
         if self.s < self.second.t {
             carried.saturating_add(self.slot_count(pairs, 0))
@@ -108,8 +100,7 @@ impl PhaseWeight for Second<'_, '_> {
         let both = Both {
             second: *self,
             s: number,
-            outer,
-            item,
+            site: Site { item, outer },
         };
         both.count()
     }
@@ -122,8 +113,7 @@ impl PhaseWeight for Scene<'_> {
         let second = Second {
             scene: *self,
             t: number,
-            outer,
-            item,
+            site: Site { item, outer },
         };
         phases_weight(&second, self.program, &self.plan.cut)
     }

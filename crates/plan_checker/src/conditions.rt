@@ -1,15 +1,15 @@
 // The conditions of a plan on the named constants.
 
-ghost use Rattle.std.specs.Prelude.{◌≡◌, ◌^◌, ◌≤◌, ◌+ℤ◌, ◌*ℤ◌, IsTrue, length, map, unsigned_abs};
+ghost use Rattle.std.specs.Prelude.{◌≡◌, IsTrue, length, map};
 ghost use Rattle.std.specs.List.{list_all};
-ghost use Rattle.nest_tree.specs.Form.{dot, is_small, reach_within, rises_above};
+ghost use Rattle.nest_tree.specs.Form.{is_small, rises_above};
 ghost use Rattle.nest_tree.specs.declared.tree.Parameter.{Parameter};
 ghost use Rattle.sync_plan.specs.Fit.{meets, unmet, unmet_among};
 ghost use Rattle.sync_plan.specs.declared.plan.Version.TheVariants.{Three};
 ghost use Rattle.sync_plan.specs.Shape.{are_good_conditions, is_good_row};
 
 use crate::anchors::are_numbers_of;
-use nest_tree::Parameter;
+use nest_tree::{Parameter, constant_sum};
 use sync_plan::{ConditionRow, Conditions, Version};
 
 /// Whether conditions may stand in this version, and their rows name only named constants of which
@@ -93,27 +93,5 @@ fn meets(constants: &[Parameter], row: &ConditionRow) -> bool
     requires { IsTrue (is_good_row (length constants.now) row.now) }
     ensures { result ≡ meets (map (λ (p : Parameter). p.value) constants.now) row.now }
 {
-    sum_of(row.coefs.as_slice(), constants) <= i128::from(row.bound)
-}
-
-// Coefficients times the values of named constants, added up.
-fn sum_of(pairs: &[(u32, i64)], constants: &[Parameter]) -> i128
-    requires rising { IsTrue (rises_above 0 pairs.now) }
-    requires given { IsTrue (reach_within (length constants.now) pairs.now) }
-    ensures { result ≡ dot pairs.now (map (λ (p : Parameter). p.value) constants.now) }
-{
-    let mut sum = 0;
-    for &(number, coefficient) in pairs {
-        sum += product(coefficient, constants[number as usize - 1].value);
-    }
-    sum
-}
-
-// A coefficient times a value.
-fn product(coefficient: i64, value: i64) -> i128
-    requires { IsTrue (is_small coefficient) }
-    ensures value { result ≡ coefficient *ℤ value }
-    ensures near { unsigned_abs result ≤ 2 ^ 94 }
-{
-    i128::from(coefficient) * i128::from(value)
+    constant_sum(0, row.coefs.as_slice(), constants) <= i128::from(row.bound)
 }

@@ -1,6 +1,6 @@
 // Why there is no program or no plan, and how the process ends then.
 
-ghost use Rattle.std.specs.Prelude.{◌≡◌, ◌⊎◌};
+ghost use Rattle.std.specs.Prelude.{◌≡◌, ◌⊎◌, OnErr, OnOk};
 ghost use Rattle.f77_lines.specs.declared.refusal.LineRefusal.TheVariants as line_refusals;
 ghost use Rattle.f77_program.specs.declared.refusal.Refusal.TheVariants as refusals;
 ghost use Rattle.plan_checker.specs.declared.refusal.PlanRefusal.TheVariants as misfits;
@@ -45,8 +45,12 @@ pub enum Stop {
     NoMemory,
 }
 
-/// The status of the process where a write went so: this one where it went well.
-pub fn code_of_write(written: io::Result<()>, code: u8) -> u8 {
+/// The status of the process where a write went so: this one where it went well, else that of a
+/// fault of writing or of want of memory.
+pub fn code_of_write(written: io::Result<()>, code: u8) -> u8
+    ensures ok { OnOk written (result ≡ code) }
+    ensures err { OnErr written ((result ≡ code_of stops.NoMemory) ⊎ (result ≡ code_of stops.WriteFault)) }
+{
     match written {
         Ok(()) => code,
         Err(error) => Stop::from_fault(error, Stop::WriteFault).code(),

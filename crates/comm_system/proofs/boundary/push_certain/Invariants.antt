@@ -3,12 +3,12 @@ use Rattle.comm_system.specs.Boundaries.{boundaries_where}
 use Rattle.comm_system.specs.Certain.{certain_on, is_certain}
 use Rattle.comm_system.specs.PhaseViews.{phase_seen}
 use Rattle.comm_system.specs.SideViews.{boundary_seen, side_seen}
-use Rattle.comm_system.specs.SlotViews.{slot_seen}
+use Rattle.comm_system.specs.SlotViews.{level_seen}
 use Rattle.comm_system.proofs.boundary.push_certain.Given as goal
 
 abbrev pub invariant-loop-index : goal.invariant-loop-index
 invariant-loop-index l = record {
-  found : map boundary_seen l.found.items ++ boundaries_where (is_certain (side_seen l.side) (slot_seen l.slot)) (side_seen l.side) (l.index + 1) (map phase_seen (drop l.index l.phases))
-      ≡ map boundary_seen l.initial.found.items ++ certain_on (side_seen l.side) (slot_seen l.slot) (map phase_seen l.phases);
+  found : map boundary_seen l.found.items ++ boundaries_where (is_certain (side_seen l.side) (level_seen l.level)) (side_seen l.side) (l.index + 1) (map phase_seen (drop l.index l.phases))
+      ≡ map boundary_seen l.initial.found.items ++ certain_on (side_seen l.side) (level_seen l.level) (map phase_seen l.phases);
   few : length l.found.items ≤ length l.initial.found.items + l.index;
 }

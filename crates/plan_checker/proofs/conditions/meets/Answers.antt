@@ -3,5 +3,5 @@ use Rattle.nest_tree.specs.Form.{reach_within}
 use Rattle.plan_checker.proofs.Given.{row_parts}
 use Rattle.plan_checker.proofs.conditions.meets.Goals as goal
 
-pub sum_of-requires-clause-given : goal.sum_of-requires-clause-given
-sum_of-requires-clause-given c = subst (λ ps. IsTrue (reach_within (length c.args.constants.now) ps)) (sym c.as_slice.ensures) (row_parts (length c.args.constants.now) c.args.row.now c.requires).given
+pub constant_sum-requires-clause-given : goal.constant_sum-requires-clause-given
+constant_sum-requires-clause-given c = subst (λ ps. IsTrue (reach_within (length c.args.constants.now) ps)) (sym c.as_slice.ensures) (row_parts (length c.args.constants.now) c.args.row.now c.requires).given

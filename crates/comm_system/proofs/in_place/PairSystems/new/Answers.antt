@@ -25,8 +25,8 @@ invariant_of-result c =
       room = omega (arith, long, c.requires.room);
     }
 
-pub returns : goal.returns
-returns c =
+pub returns-clause-obligations : goal.returns-clause-obligations
+returns-clause-obligations c =
     let tree = tree_of c.args.program.now in
     let plan = c.args.plan.now in
     let slot = slot_seen c.args.slot.now in

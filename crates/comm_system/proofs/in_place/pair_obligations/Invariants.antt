@@ -1,6 +1,6 @@
 use Rattle.std.proofs.Common.{◌≡◌, take}
 use Rattle.comm_system.specs.SystemViews.{obligations_seen}
-use Rattle.comm_system.proofs.pair_systems.pair_obligations.Given as goal
+use Rattle.comm_system.proofs.in_place.pair_obligations.Given as goal
 
 abbrev pub invariant-loop-index : goal.invariant-loop-index
 invariant-loop-index l = record {

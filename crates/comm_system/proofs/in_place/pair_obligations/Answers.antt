@@ -2,7 +2,7 @@ use Rattle.std.proofs.Common.{◌≡◌, ◌++◌, ◌∷◌, [], Some, slice_ge
 use Rattle.std.proofs.lemmas.List.{take_all}
 use Rattle.comm_system.specs.SystemViews.{last_made, obligations_seen}
 use Rattle.comm_system.proofs.InPlace.{take_got}
-use Rattle.comm_system.proofs.pair_systems.pair_obligations.Goals as goal
+use Rattle.comm_system.proofs.in_place.pair_obligations.Goals as goal
 
 pub loop-index-init : goal.loop-index-init
 loop-index-init c = record { same = refl; found = c.in_ok-found.ensures.items }
@@ -28,4 +28,4 @@ pub returns : goal.returns
 returns c =
     let os = obligations_seen c.in_ok-systems.systems in
     let k = c.loop-index.index in
-    c.loop-index.invariant.found ∙ take_all k os (omega (arith, c.loop-index-test.false, c.count-index-end.ensures)) ∙ c.in_ok-systems.ensures
+    c.loop-index.invariant.found ∙ take_all k os (omega (arith, c.loop-index-test.false, c.count-index-end.ensures)) ∙ c.in_ok-systems.ensures.obligations

@@ -1,0 +1,67 @@
+// Static phases in the text, and two of them at a level.
+
+ghost use Rattle.std.specs.Prelude.{◌≡◌, ◌≤◌, length};
+ghost use Rattle.comm_system.specs.Boundaries.{is_before_second as stands_before_second, is_behind_first as stands_behind_first};
+ghost use Rattle.comm_system.specs.Certain.{is_certain as stands_certain};
+ghost use Rattle.comm_system.specs.SideViews.{side_seen};
+ghost use Rattle.comm_system.specs.SlotViews.{level_seen};
+ghost use Rattle.nest_rows.specs.Views.{heads_of};
+
+use crate::producer::Side;
+use nest_rows::{Around, is_prefix};
+use nest_tree::Item;
+
+/// Where a static phase stands: its statement, and the Outer loops round it, from the outermost.
+#[derive(Clone, Copy)]
+pub struct Site<'x, 'a> {
+    pub item: &'x Item,
+    pub outer: &'x [Around<'a>],
+}
+
+/// Two static phases by their numbers, from 1, and a level: the common loop, from 1, that is at an
+/// earlier trip for the first; 0 where all common loops are equal.
+#[derive(Clone, Copy)]
+pub struct Level<'x, 'a> {
+    pub s: u32,
+    pub first: Site<'x, 'a>,
+    pub t: u32,
+    pub second: Site<'x, 'a>,
+    pub level: usize,
+}
+
+impl Level<'_, '_> {
+    /// Whether the boundary in front of the phase with this number, from 1, and these Outer loops
+    /// is certain there: behind the first instance, or in front of the second.
+    pub fn is_certain(&self, side: Side, phase: u32, outer: &[Around]) -> bool
+        ensures { result ≡ stands_certain (side_seen side) (level_seen self.now) phase (heads_of outer.now) }
+    {
+        match side {
+            Side::First => self.is_behind_first(phase, outer),
+            Side::Second => self.is_before_second(phase, outer),
+        }
+    }
+
+    // Whether it is certain behind the first instance.
+    fn is_behind_first(&self, phase: u32, outer: &[Around]) -> bool
+        ensures { result ≡ stands_behind_first (heads_of self.now.first.outer.now) self.now.s self.now.t self.now.level phase (heads_of outer.now) }
+    {
+        let inside = if self.level == 0 {
+            phase <= self.t
+        } else {
+            self.level <= outer.len()
+        };
+        self.s < phase && inside && is_prefix(outer, self.first.outer)
+    }
+
+    // Whether it is certain in front of the second.
+    fn is_before_second(&self, phase: u32, outer: &[Around]) -> bool
+        ensures { result ≡ stands_before_second (heads_of self.now.first.outer.now) (heads_of self.now.second.outer.now) self.now.s self.now.t self.now.level phase (heads_of outer.now) }
+    {
+        let inside = if self.level == 0 {
+            self.s < phase && !is_prefix(outer, self.first.outer)
+        } else {
+            self.level <= outer.len()
+        };
+        phase <= self.t && inside && is_prefix(outer, self.second.outer)
+    }
+}
