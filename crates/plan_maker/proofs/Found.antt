@@ -7,9 +7,9 @@ use Rattle.nest_tree.specs.Tree.{Statement, Statements, assign, continue, do_loo
 use Rattle.owner_partition.specs.declared.anchor.Anchor.{Anchor}
 use Rattle.owner_partition.specs.declared.cut.Mark.{Mark}
 use Rattle.sync_plan.specs.Shape.{is_good_anchor}
-use Rattle.plan_maker.specs.declared.seat.Seat.{Seat}
+use Rattle.plan_maker.specs.declared.scope.Scope.{Scope}
 use Rattle.plan_maker.specs.Anchors.{element_anchor, if_one_good, stored_among, stored_anchor}
-use Rattle.plan_maker.specs.Seats.{constants_at, found_anchor, good_element_anchor, good_own_anchor, loops_at, own_value}
+use Rattle.plan_maker.specs.Scopes.{constants_at, found_anchor, good_element_anchor, good_own_anchor, loops_at, own_value}
 use Rattle.nest_tree.specs.View.{tree_of}
 
 pub mapped_get : {X Y : Type 0} (f : X → Y) (xs : List X) (k : ℕ) (o : Option X) → o ≡ slice_get xs k → (x : X) → o ≡ Some x → slice_get (map f xs) k ≡ Some (f x)
@@ -50,8 +50,8 @@ module _ (f : Access → Option Anchor) (P : Anchor → Type 0) (all : (x : Acce
     among_good (next s rest) a e = either P (stored_anchor f s) (stored_among f rest) a (stored_good s) (among_good rest) e
 
 -- one that is found is good
-pub found_good : (seat : Seat) (marks : List Mark) (u : ℕ) (s : Statement) (a : Anchor) → found_anchor seat marks u s ≡ Some a → is_good_anchor (constants_at seat) (loops_at seat) a ≡ true
-found_good seat marks u s a e =
-    either (λ b. is_good_anchor (constants_at seat) (loops_at seat) b ≡ true) (stored_anchor (good_element_anchor seat) s) (good_own_anchor seat marks u) a
-    (stored_good (good_element_anchor seat) (λ b. is_good_anchor (constants_at seat) (loops_at seat) b ≡ true) (λ x b h. if_good_good (constants_at seat) (loops_at seat) (element_anchor (tree_of seat.program.now) seat.workers x) b h) s)
-    (λ b h. if_good_good (constants_at seat) (loops_at seat) (own_value seat marks u seat.own) b h) e
+pub found_good : (scope : Scope) (marks : List Mark) (u : ℕ) (s : Statement) (a : Anchor) → found_anchor scope marks u s ≡ Some a → is_good_anchor (constants_at scope) (loops_at scope) a ≡ true
+found_good scope marks u s a e =
+    either (λ b. is_good_anchor (constants_at scope) (loops_at scope) b ≡ true) (stored_anchor (good_element_anchor scope) s) (good_own_anchor scope marks u) a
+    (stored_good (good_element_anchor scope) (λ b. is_good_anchor (constants_at scope) (loops_at scope) b ≡ true) (λ x b h. if_good_good (constants_at scope) (loops_at scope) (element_anchor (tree_of scope.program.now) scope.workers x) b h) s)
+    (λ b h. if_good_good (constants_at scope) (loops_at scope) (own_value scope marks u scope.own) b h) e

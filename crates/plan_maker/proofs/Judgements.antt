@@ -12,31 +12,30 @@ use Rattle.comm_system.specs.declared.obligation.Obligation.{Obligation}
 use Rattle.plan_maker.specs.declared.cause.Cause.{Cause}
 use Rattle.plan_maker.specs.declared.cause.Word.{Word}
 use Rattle.plan_maker.specs.declared.cause.Word.TheVariants.{Open, Wide, Many}
-use Rattle.plan_maker.specs.declared.decided.Found.TheVariants as found
-use Rattle.plan_maker.specs.declared.judge.Judgement.TheVariants.{Kept}
+use Rattle.plan_maker.specs.declared.verdict.Verdict.TheVariants.{Kept}
 use Rattle.plan_maker.specs.Beginnings.{IsLevelOf}
 use Rattle.plan_maker.specs.Found.{IsFound}
 use Rattle.plan_maker.specs.Judged.{IsJudgement, asked_about, cause_for}
 use Rattle.plan_maker.specs.Orders.{elimination_order}
 
 module _ (system : Inequalities) (order : List ℕ) where
-  pub found_open : IsKept system order answers.Open → IsFound system order (found.Kept Open)
+  pub found_open : IsKept system order answers.Open → IsFound system order (Kept Open)
   found_open h = inl (answers.Open, h, refl)
 
-  pub found_wide : (k : ℕ) (upper lower : Row) → IsKept system order (answers.Wide k upper lower) → IsFound system order (found.Kept Wide)
+  pub found_wide : (k : ℕ) (upper lower : Row) → IsKept system order (answers.Wide k upper lower) → IsFound system order (Kept Wide)
   found_wide k upper lower h = inl (answers.Wide k upper lower, h, refl)
 
-  pub found_many : (k count : ℕ) → IsKept system order (answers.Many k count) → IsFound system order (found.Kept Many)
+  pub found_many : (k count : ℕ) → IsKept system order (answers.Many k count) → IsFound system order (Kept Many)
   found_many k count h = inl (answers.Many k count, h, refl)
 
-  pub found_witness : (x : List ℤ) → IsWholeSolution system x → IsFound system order (found.Kept Open)
+  pub found_witness : (x : List ℤ) → IsWholeSolution system x → IsFound system order (Kept Open)
   found_witness x h = inr (x, h, refl)
 
 -- what is decided of a level's system in its order is decided of the same ones
 pub level_decided : (s : Inequalities) (o : List ℕ) (l : Level) (answer : Answer) → IsLevelOf s o l → IsDecided (system_of l) (order_of l) answer → IsDecided s o answer
 level_decided s o l answer level h = subst (λ x. IsDecided x o answer) level.system (subst (λ x. IsDecided (system_of l) x answer) level.order h)
 
-pub kept_so : (dists : List Dist) (o : Obligation) (word : Word) (cause : Cause) → IsFound o.system (elimination_order o.system.vars dists) (found.Kept word) → cause ≡ cause_for o word → IsJudgement (asked_about dists o) (Kept cause)
+pub kept_so : (dists : List Dist) (o : Obligation) (word : Word) (cause : Cause) → IsFound o.system (elimination_order o.system.vars dists) (Kept word) → cause ≡ cause_for o word → IsJudgement (asked_about dists o) (Kept cause)
 kept_so dists o word cause h e =
     let said : IsJudgement (asked_about dists o) (Kept (cause_for o word)) = record { kept = h; lines = refl; variable = refl; level = refl; piece = refl } in
     subst (λ c. IsJudgement (asked_about dists o) (Kept c)) (sym e) said

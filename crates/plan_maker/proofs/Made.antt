@@ -1,40 +1,39 @@
 -- The plan that is made.
-use Rattle.std.proofs.Common.{◌≡◌, ℕ, zero, suc, ◌-◌, ◌<◌, ◌++◌, true, false, List, [], ◌∷◌, length, map, get_or, refl, ap, ap₂, sym, ◌∙◌, subst, inl, inr, arith}
-use Rattle.std.specs.Prelude.{slice_get, Some, slice_set}
-use Rattle.std.specs.List.{AllZip, flat_map}
+use Rattle.std.proofs.Common.{◌≡◌, ℕ, zero, suc, ◌-◌, ◌<◌, ◌++◌, true, List, [], ◌∷◌, length, map, get_or, refl, ap, ap₂, sym, ◌∙◌, subst, arith}
+use Rattle.std.specs.Prelude.{slice_get, Some, None, slice_set}
+use Rattle.std.specs.List.{AllZip, flat_map, list_all}
 use Rattle.std.proofs.lemmas.List.{map-append}
 use Rattle.farkas_cert.specs.declared.certificate.Certificate.{Certificate}
 use Rattle.nest_tree.specs.Tree.{Tree}
 use Rattle.nest_tree.specs.WellFormed.{loops_of}
 use Rattle.owner_partition.specs.declared.anchor.Dist.{Dist}
-use Rattle.owner_partition.specs.Cuts.{Cutting, plain_cut}
+use Rattle.owner_partition.specs.Cuts.{Cutting}
 use Rattle.sync_plan.specs.Barriers.{barrier_plan}
 use Rattle.sync_plan.specs.Fit.{IsFit}
 use Rattle.sync_plan.specs.declared.plan.Kind.{Kind}
 use Rattle.sync_plan.specs.declared.plan.Plan.{Plan}
-use Rattle.sync_plan.specs.declared.plan.Version.TheVariants.{Two}
 use Rattle.comm_system.specs.Obligations.{Slot, Task, numbered_from, slot_signature, slot_tasks, slots_of, tasks_of, trips_tasks}
 use Rattle.comm_system.specs.References.{StaticPhase, phases_of}
 use Rattle.comm_system.specs.Signatures.{Signature, blocked, waits}
 use Rattle.plan_checker.specs.Accepted.{AreCertified}
 use Rattle.plan_checker.proofs.Blocked.{barriers_accepted}
-use Rattle.plan_maker.specs.declared.loops.LoopVerdict.{LoopVerdict}
-use Rattle.plan_maker.specs.declared.loops.LoopVerdict.TheVariants.{Free, Barred}
+use Rattle.plan_maker.specs.declared.cause.Cause.{Cause}
+use Rattle.plan_maker.specs.declared.verdict.Verdict.TheVariants.{Refuted, Kept}
 use Rattle.plan_maker.specs.declared.maker.Weakest.{Weakest}
-use Rattle.plan_maker.specs.declared.reasons.Bar.{Bar}
-use Rattle.plan_maker.specs.declared.reasons.Bar.TheVariants.{Print, Meeting}
 use Rattle.plan_maker.specs.declared.reasons.PhaseReason.{PhaseReason}
 use Rattle.plan_maker.specs.declared.reasons.Reasons.{Reasons}
 use Rattle.plan_maker.specs.Anchors.{maker_anchors}
-use Rattle.plan_maker.specs.Asked.{AreRefuted, Asked, IsCause, all_asked, all_trips_asked, asked, owners_dealt, slot_asked, trips_asked}
-use Rattle.plan_maker.specs.Bars.{IsBar, IsLoopReason, open_loops}
+use Rattle.plan_maker.specs.Asked.{AreRefuted, Asked, IsCause, all_trips_asked, asked, owners_dealt, slot_asked, trips_asked}
+use Rattle.plan_maker.specs.Bars.{IsChosen, IsLoopReason, IsReasonedCut, all_attempts, open_loops}
 use Rattle.plan_maker.specs.Candidates.{kinds_taken, weaker_from}
-use Rattle.plan_maker.specs.Cut.{IsBarred, IsReasonedCut}
-use Rattle.plan_maker.specs.Loops.{AreLoopVerdicts, IsLoopVerdict, is_barred}
-use Rattle.plan_maker.specs.Made.{IsBarrierPlan, IsMade, IsPhaseReason, with_found}
-use Rattle.plan_maker.specs.Marks.{flagged, marks_of}
-use Rattle.plan_maker.specs.Weakest.{IsWeakReason, IsWeakest, asked_under, candidates_in}
-use Rattle.plan_maker.proofs.Plain.{version_two}
+use Rattle.plan_maker.specs.Cut.{cut_of}
+use Rattle.plan_maker.specs.Loops.{AreLoopVerdicts, IsLoopVerdict, LoopVerdict, tried_in}
+use Rattle.plan_maker.specs.Made.{IsBarrierPlan, IsMade, with_found}
+use Rattle.plan_maker.specs.Numbers.{is_certificate_shown}
+use Rattle.plan_maker.specs.PhaseCauses.{IsPhaseCause}
+use Rattle.plan_maker.specs.Trials.{asked_of_slot, slots_asked}
+use Rattle.plan_maker.specs.Tries.{tried_at}
+use Rattle.plan_maker.specs.Weakest.{IsPhaseReason, IsWeakest, asked_under, candidates_in}
 use Rattle.plan_maker.proofs.Verdicts.{trips_same}
 use Rattle.plan_maker.proofs.Weakest.{zip_weaker}
 
@@ -56,9 +55,15 @@ certified-numbered n [] (c ∷ cs) h = absurd h
 certified-numbered n (q ∷ qs) [] h = absurd h
 certified-numbered n (q ∷ qs) (c ∷ cs) h = (h.0, certified-numbered (suc n) qs cs h.1)
 
-module _ (tree : Tree) (base : Plan) (kinds : List Kind) (certificates : List Certificate) (two : base.version ≡ Two) where
+module _ (tree : Tree) (base : Plan) (kinds : List Kind) (certificates : List Certificate) where
   abbrev found : Plan
   found = with_found base kinds certificates
+
+  abbrev all-slots : List Slot
+  all-slots = slots_of (phases_of tree base.cut.marks)
+
+  abbrev signature : List Kind → Slot → Signature
+  signature ks slot = slot_signature base.version ks (phases_of tree base.cut.marks) slot
 
   trips-tasks : (s : StaticPhase) → map (λ (q : Asked). q.task) (trips_asked tree base s) ≡ trips_tasks tree found s
   trips-tasks s = tasks_asked [] (trips_tasks tree base s)
@@ -71,92 +76,99 @@ module _ (tree : Tree) (base : Plan) (kinds : List Kind) (certificates : List Ce
   all-tasks =
       let phases = phases_of tree base.cut.marks in
       let trips = map-flat (λ (q : Asked). q.task) (trips_asked tree base) (trips_tasks tree found) trips-tasks phases in
-      let slots = map-flat (λ (q : Asked). q.task) (λ slot. slot_asked tree base slot (slot_signature Two kinds phases slot)) (λ slot. slot_tasks tree found slot (slot_signature base.version kinds phases slot))
-      (λ slot. slot-tasks slot (slot_signature Two kinds phases slot) ∙ ap (λ v. slot_tasks tree found slot (slot_signature v kinds phases slot)) (sym two)) (slots_of phases) in
-      map-append (λ (q : Asked). q.task) (flat_map (trips_asked tree base) phases) (flat_map (λ slot. slot_asked tree base slot (slot_signature Two kinds phases slot)) (slots_of phases)) ∙ ap₂ (λ a b. a ++ b) trips slots
-
-  slot-same : (ks : List Kind) (slot : Slot) (sig : Signature) → slot_asked tree base slot sig ≡ slot_asked tree (record found { kinds = ks }) slot sig
-  slot-same ks slot blocked = refl
-  slot-same ks slot (waits left right producers) = refl
-
-  -- what is asked of the plan with other kinds
-  all-asked : (ks : List Kind) → asked_under tree base ks ≡ all_asked tree (record found { kinds = ks })
-  all-asked ks =
-      let phases = phases_of tree base.cut.marks in
-      ap₂ (λ a b. a ++ b) (trips_same tree base (record found { kinds = ks }) refl refl phases)
-      (flat-same (λ slot. slot_asked tree base slot (slot_signature Two ks phases slot)) (λ slot. slot_asked tree (record found { kinds = ks }) slot (slot_signature base.version ks phases slot))
-      (λ slot. slot-same ks slot (slot_signature Two ks phases slot) ∙ ap (λ v. slot_asked tree (record found { kinds = ks }) slot (slot_signature v ks phases slot)) (sym two)) (slots_of phases))
+      let slots = map-flat (λ (q : Asked). q.task) (asked_of_slot tree base kinds) (λ slot. slot_tasks tree found slot (signature kinds slot)) (λ slot. slot-tasks slot (signature kinds slot)) all-slots in
+      map-append (λ (q : Asked). q.task) (all_trips_asked tree base) (slots_asked tree base kinds all-slots) ∙ ap₂ (λ a b. a ++ b) trips slots
 
   pub certified : AreRefuted (asked_under tree base kinds) certificates → AreCertified (numbered_from 1 (tasks_of tree found)) certificates
   certified h = subst (λ ks. AreCertified (numbered_from 1 ks) certificates) all-tasks (certified-numbered 1 (asked_under tree base kinds) certificates h)
 
-  pub phase_reasons : (taken : List ℕ) (rs : List PhaseReason) → AllZip (IsWeakReason tree base taken) (weaker_from 0 taken) rs → AllZip (IsPhaseReason tree found (candidates_in tree base) taken) (weaker_from 0 taken) rs
+  -- nothing that is asked depends on the kinds and the certificates that the plan has
+  slot-same : (slot : Slot) (sig : Signature) → slot_asked tree base slot sig ≡ slot_asked tree found slot sig
+  slot-same slot blocked = refl
+  slot-same slot (waits left right producers) = refl
+
+  slots-same : (ks : List Kind) (slots : List Slot) → slots_asked tree base ks slots ≡ slots_asked tree found ks slots
+  slots-same ks slots = flat-same (asked_of_slot tree base ks) (asked_of_slot tree found ks) (λ slot. slot-same slot (signature ks slot)) slots
+
+  cause-same : (ks : List Kind) (u : ℕ) (cause : Cause) → IsPhaseCause tree base ks u (all_trips_asked tree base) all-slots cause → IsPhaseCause tree found ks u (all_trips_asked tree found) all-slots cause
+  cause-same ks u cause h =
+      let before = ap₂ (λ a b. a ++ b) (trips_same tree base found refl refl (phases_of tree base.cut.marks)) (slots-same ks h.before) in
+      record {
+        before = h.before;
+        slot = h.slot;
+        behind = h.behind;
+        split = h.split;
+        certain = h.certain;
+        certificates = h.certificates;
+        refuted = subst (λ qs. AreRefuted qs h.certificates) before h.refuted;
+        kept = subst (λ qs. IsCause qs cause) (slot-same h.slot (signature ks h.slot)) h.kept;
+      }
+
+  pub phase_reasons : (taken : List ℕ) (rs : List PhaseReason) → AllZip (IsPhaseReason tree base taken) (weaker_from 0 taken) rs → AllZip (IsPhaseReason tree found taken) (weaker_from 0 taken) rs
   phase_reasons taken rs h =
-      zip_weaker (IsWeakReason tree base taken) (IsPhaseReason tree found (candidates_in tree base) taken) (weaker_from 0 taken) rs
-      (λ c r w. record { phase = w.phase; kind = w.kind; cause = subst (λ qs. IsCause qs r.cause) (all-asked (kinds_taken (candidates_in tree base) (slice_set taken c.phase c.place))) w.cause }) h
+      zip_weaker (IsPhaseReason tree base taken) (IsPhaseReason tree found taken) (weaker_from 0 taken) rs
+      (λ c r w. record { phase = w.phase; kind = w.kind; cause = cause-same (kinds_taken (candidates_in tree base) (slice_set taken c.phase c.place)) (suc c.phase) r.cause w.cause }) h
 
 -- the whole
 pub made_is : (tree : Tree) (workers : ℕ) (cut : Cutting) (base : Plan) (w : Weakest) (plan : Plan) (reasons : Reasons) → base ≡ barrier_plan cut (maker_anchors tree cut.marks workers) workers [] → plan ≡ with_found base w.kinds.items w.certificates.items →
-    IsFit tree plan → IsWeakest tree base w → IsReasonedCut tree cut → AllZip (IsLoopReason tree) (open_loops 1 cut.marks) reasons.loops.items → reasons.phases.items ≡ w.reasons.items → IsMade tree workers plan reasons
-made_is tree workers cut base w plan reasons base-is plan-is fit weak reasoned loops phases =
+    IsFit tree plan → IsWeakest tree base w → list_all is_certificate_shown w.certificates.items ≡ true → IsReasonedCut tree cut → AllZip (IsLoopReason tree) (all_attempts tree (open_loops 1 cut.marks)) reasons.loops.items → reasons.phases.items ≡ w.reasons.items → IsMade tree workers plan reasons
+made_is tree workers cut base w plan reasons base-is plan-is fit weak numbers reasoned loops phases =
     let anchors = maker_anchors tree cut.marks workers in
-    let two = version_two tree cut reasoned in
     let kinds = w.kinds.items in
     let certificates = w.certificates.items in
     let start = barrier_plan cut anchors workers [] in
     let whole : plan ≡ with_found start kinds certificates = plan-is ∙ ap (λ b. with_found b kinds certificates) base-is in
     let here = subst (λ b. IsWeakest tree b w) base-is weak in
     let made : IsMade tree workers (with_found start kinds certificates) reasons = record {
-      version = two;
+      version = refl;
       conditions = refl;
       workers_are = refl;
-      accepted = record { fits = subst (IsFit tree) whole fit; certified = certified tree start kinds certificates two here.certified };
+      accepted = record { fits = subst (IsFit tree) whole fit; certified = certified tree start kinds certificates here.certified };
+      numbers = numbers;
       cut = reasoned;
       loops = loops;
       anchors = refl;
       taken = here.taken;
+      places = here.places;
       kinds = here.kinds;
-      phases = subst (λ rs. AllZip (IsPhaseReason tree (with_found start kinds certificates) (candidates_in tree start) here.taken) (weaker_from 0 here.taken) rs) (sym phases) (phase_reasons tree start kinds certificates two here.taken w.reasons.items here.reasons);
+      phases = subst (λ rs. AllZip (IsPhaseReason tree (with_found start kinds certificates) here.taken) (weaker_from 0 here.taken) rs) (sym phases) (phase_reasons tree start kinds certificates here.taken w.reasons.items here.reasons);
     } in
     subst (λ p. IsMade tree workers p reasons) (sym whole) made
 
--- a flag says that a loop is barred where its verdict does
-bar_of : (tree : Tree) (n : ℕ) (bar : Bar) → IsBar tree n bar → IsBarred tree n
-bar_of tree n Print h = inl h
-bar_of tree n (Meeting cause) h = inr (cause, h.1)
+-- a loop may be dealt out as its verdict says
+tried-there : (vs : List LoopVerdict) (k : ℕ) → k < length vs → (v : LoopVerdict) × (slice_get vs k ≡ Some v) × (get_or (map tried_in vs) k None ≡ tried_in v)
+tried-there [] k lt = absurd (omega (arith, lt))
+tried-there (v ∷ vs) zero lt = (v, refl, refl)
+tried-there (v ∷ vs) (suc k) lt = tried-there vs k (omega (arith, lt))
 
-flag_at : (vs : List LoopVerdict) (k : ℕ) → k < length vs → (v : LoopVerdict) × (slice_get vs k ≡ Some v) × (get_or (map is_barred vs) k true ≡ is_barred v)
-flag_at [] k lt = absurd (omega (arith, lt))
-flag_at (v ∷ vs) zero lt = (v, refl, refl)
-flag_at (v ∷ vs) (suc k) lt = flag_at vs k (omega (arith, lt))
+chosen-by : (tree : Tree) (n : ℕ) (v : LoopVerdict) → IsLoopVerdict tree n v → IsChosen tree n (tried_in v)
+chosen-by tree n (Refuted dealt) h = h.0
+chosen-by tree n (Kept reasons) h = (reasons.items, h)
 
-barred_by : (tree : Tree) (n : ℕ) (v : LoopVerdict) → IsLoopVerdict tree n v → is_barred v ≡ true → IsBarred tree n
-barred_by tree n Free h e = absurd (let no : false ≡ true = e in cc)
-barred_by tree n (Barred bar) h e = bar_of tree n bar h
-
-pub reasoned : (tree : Tree) (vs : List LoopVerdict) (cut : Cutting) → length vs ≡ loops_of tree.items → AreLoopVerdicts tree vs → cut ≡ plain_cut (marks_of (flagged (map is_barred vs)) tree.items) → IsReasonedCut tree cut
+pub reasoned : (tree : Tree) (vs : List LoopVerdict) (cut : Cutting) → length vs ≡ loops_of tree.items → AreLoopVerdicts tree vs → cut ≡ cut_of (tried_at (map tried_in vs)) tree → IsReasonedCut tree cut
 reasoned tree vs cut long all is = record {
-  barred = flagged (map is_barred vs);
-  plain = is;
-  why = λ n from to flag.
-      let there = flag_at vs (n - 1) (omega (arith, long, from, to)) in
-      barred_by tree n there.0 (all n there.0 from there.1) (sym there.2 ∙ flag);
+  dealt = tried_at (map tried_in vs);
+  cut_is = is;
+  why = λ n from to.
+      let there = tried-there vs (n - 1) (omega (arith, long, from, to)) in
+      subst (IsChosen tree n) (sym there.2) (chosen-by tree n there.0 (all n there.0 from there.1));
 }
 
 -- the same with a barrier in front of each phase
 pub barriers_are : (tree : Tree) (workers : ℕ) (cut : Cutting) (base plan : Plan) (certificates : List Certificate) → base ≡ barrier_plan cut (maker_anchors tree cut.marks workers) workers [] → plan ≡ barrier_plan base.cut base.anchors workers certificates →
-    IsFit tree base → AreRefuted (all_trips_asked tree base) certificates → IsReasonedCut tree cut → IsBarrierPlan tree workers plan
-barriers_are tree workers cut base plan certificates base-is plan-is fit refuted reasoned =
+    IsFit tree base → AreRefuted (all_trips_asked tree base) certificates → list_all is_certificate_shown certificates ≡ true → IsReasonedCut tree cut → IsBarrierPlan tree workers plan
+barriers_are tree workers cut base plan certificates base-is plan-is fit refuted numbers reasoned =
     let anchors = maker_anchors tree cut.marks workers in
     let start = barrier_plan cut anchors workers [] in
     let here = subst (λ b. AreRefuted (all_trips_asked tree b) certificates) base-is refuted in
     let tasks = map-flat (λ (q : Asked). q.task) (trips_asked tree start) (trips_tasks tree start) (λ s. tasks_asked [] (trips_tasks tree start s)) (phases_of tree cut.marks) in
     let good = subst (λ ks. AreCertified (numbered_from 1 ks) certificates) tasks (certified-numbered 1 (all_trips_asked tree start) certificates here) in
     let made : IsBarrierPlan tree workers (barrier_plan cut anchors workers certificates) = record {
-      version = version_two tree cut reasoned;
+      version = refl;
       conditions = refl;
       workers_are = refl;
       accepted = barriers_accepted tree cut anchors workers certificates (subst (IsFit tree) base-is fit) good;
+      numbers = numbers;
       cut = reasoned;
       anchors = refl;
       kinds = refl;

@@ -1,15 +1,17 @@
--- The marks of a program's loops: there is one for each, and a loop whose mark is Outer or Single is barred.
-use Rattle.std.proofs.Common.{◌≡◌, ℕ, zero, suc, ◌+◌, ◌-◌, ◌≤◌, ◌++◌, ◌==◌, ◌⊎◌, Bool, true, false, not, List, [], ◌∷◌, length, length-append, map, get_or, if◌then◌else◌, refl, ap, ap₂, sym, ◌∙◌, inl, inr, arith}
-use Rattle.std.specs.Prelude.{Some, slice_get, unwrap_or}
+-- The marks of a program's loops: there is one for each, and a loop whose mark is Outer or Single may not be dealt out.
+use Rattle.std.proofs.Common.{◌≡◌, ℕ, zero, suc, ◌+◌, ◌-◌, ◌≤◌, ◌++◌, ◌==◌, ◌⊎◌, Bool, true, false, List, [], ◌∷◌, length, length-append, map, get_or, refl, ap, ap₂, sym, ◌∙◌, inl, inr, arith}
+use Rattle.std.specs.Prelude.{Option, Some, None, slice_get, unwrap_or}
 use Rattle.std.proofs.lemmas.Bool.{and_parts, eqb-true}
 use Rattle.nest_tree.specs.Tree.{Statement, Statements, do_loop, work, continue, done, next, Tree}
 use Rattle.nest_tree.specs.WellFormed.{IsWellFormed, Scope, are_good_statements, is_good_head, is_good_statement, loops_in, loops_of, scope_of}
 use Rattle.owner_partition.specs.declared.cut.Mark.{Mark}
-use Rattle.owner_partition.specs.declared.cut.Mark.TheVariants.{Outer, Doall, Single, Inner}
-use Rattle.plan_maker.specs.declared.loops.LoopVerdict.{LoopVerdict}
+use Rattle.owner_partition.specs.declared.cut.Mark.TheVariants.{Inner}
+use Rattle.plan_maker.specs.declared.tries.Tried.{Tried}
+use Rattle.plan_maker.specs.declared.tries.Tried.TheVariants as tries
 use Rattle.plan_maker.specs.Bars.{is_open}
-use Rattle.plan_maker.specs.Loops.{AreOpenBarred, is_barred}
-use Rattle.plan_maker.specs.Marks.{flagged, have_free, inner_in, inner_of, marks_in, marks_of}
+use Rattle.plan_maker.specs.Loops.{AreOpenBarred, LoopVerdict, tried_in}
+use Rattle.plan_maker.specs.Marks.{have_free, inner_in, inner_of, marks_by, marks_in, marks_of}
+use Rattle.plan_maker.specs.Tries.{tried_at, tried_mark}
 
 mutual
   inner-count_in : (s : Statement) → length (inner_in s) ≡ loops_in s
@@ -51,65 +53,68 @@ mutual
 not-closed : (m : Mark) (P : Type 0) → is_open m ≡ false → is_open m ≡ true → P
 not-closed m P closed opened = absurd (let no : false ≡ true = sym closed ∙ opened in cc)
 
-module _ (barred : ℕ → Bool) where
-  abbrev loop-marks : Bool → Bool → Statements → List Mark
-  loop-marks b free body = if not b then Doall ∷ inner_of body else if free then Outer ∷ marks_of barred body else Single ∷ inner_of body
+-- a loop that is dealt out is neither
+dealt-closed : (t : Tried) → is_open (tried_mark t) ≡ false
+dealt-closed tries.Doall = refl
+dealt-closed tries.Private = refl
+dealt-closed tries.Sum = refl
 
-  loop-count : (b free : Bool) (body : Statements) → length (marks_of barred body) ≡ loops_of body → length (loop-marks b free body) ≡ 1 + loops_of body
-  loop-count false free body h = omega (arith, inner-count body)
-  loop-count true true body h = omega (arith, h)
-  loop-count true false body h = omega (arith, inner-count body)
+module _ (dealt : ℕ → Option Tried) where
+  loop-count : (o : Option Tried) (free : Bool) (body : Statements) → length (marks_of dealt body) ≡ loops_of body → length (marks_by o free body (marks_of dealt body)) ≡ 1 + loops_of body
+  loop-count (Some t) free body h = omega (arith, inner-count body)
+  loop-count None true body h = omega (arith, h)
+  loop-count None false body h = omega (arith, inner-count body)
 
   -- of a loop, where its number is this one, and what is known of those inside
-  open-loop : (n first : ℕ) (b free : Bool) (body : Statements) (k : ℕ) (m : Mark) → n ≡ first → barred n ≡ b → ((j : ℕ) → slice_get (marks_of barred body) j ≡ Some m → barred (first + 1 + j) ≡ true) → slice_get (loop-marks b free body) k ≡ Some m → is_open m ≡ true → barred (first + k) ≡ true
-  open-loop n first false free body zero m same e inside h opened = not-closed m (barred (first + 0) ≡ true) (sym (first-is Doall m h)) opened
-  open-loop n first false free body (suc k) m same e inside h opened = not-closed m (barred (first + suc k) ≡ true) (inner-closed body k m h) opened
-  open-loop n first true free body zero m same e inside h opened = let number : first + 0 ≡ n = omega (arith, same) in ap barred number ∙ e
-  open-loop n first true true body (suc k) m same e inside h opened = let number : first + suc k ≡ first + 1 + k = omega arith in ap barred number ∙ inside k h
-  open-loop n first true false body (suc k) m same e inside h opened = not-closed m (barred (first + suc k) ≡ true) (inner-closed body k m h) opened
+  open-loop : (n first : ℕ) (o : Option Tried) (free : Bool) (body : Statements) (k : ℕ) (m : Mark) → n ≡ first → dealt n ≡ o → ((j : ℕ) → slice_get (marks_of dealt body) j ≡ Some m → dealt (first + 1 + j) ≡ None) → slice_get (marks_by o free body (marks_of dealt body)) k ≡ Some m → is_open m ≡ true → dealt (first + k) ≡ None
+  open-loop n first (Some t) free body zero m same e inside h opened = not-closed m (dealt (first + 0) ≡ None) (sym (first-is (tried_mark t) m h) ∙ dealt-closed t) opened
+  open-loop n first (Some t) free body (suc k) m same e inside h opened = not-closed m (dealt (first + suc k) ≡ None) (inner-closed body k m h) opened
+  open-loop n first None free body zero m same e inside h opened = let number : first + 0 ≡ n = omega (arith, same) in ap dealt number ∙ e
+  open-loop n first None true body (suc k) m same e inside h opened = let number : first + suc k ≡ first + 1 + k = omega arith in ap dealt number ∙ inside k h
+  open-loop n first None false body (suc k) m same e inside h opened = not-closed m (dealt (first + suc k) ≡ None) (inner-closed body k m h) opened
 
   mutual
-    marks-count_in : (s : Statement) → length (marks_in barred s) ≡ loops_in s
-    marks-count_in (do_loop head body) = loop-count (barred head.number) (have_free barred body) body (marks_count body)
+    marks-count_in : (s : Statement) → length (marks_in dealt s) ≡ loops_in s
+    marks-count_in (do_loop head body) = loop-count (dealt head.number) (have_free dealt body) body (marks_count body)
     marks-count_in (work w) = refl
     marks-count_in (continue line) = refl
 
-    pub marks_count : (ss : Statements) → length (marks_of barred ss) ≡ loops_of ss
+    pub marks_count : (ss : Statements) → length (marks_of dealt ss) ≡ loops_of ss
     marks_count done = refl
-    marks_count (next s rest) = length-append (marks_in barred s) (marks_of barred rest) ∙ ap₂ (λ m n. m + n) (marks-count_in s) (marks_count rest)
+    marks_count (next s rest) = length-append (marks_in dealt s) (marks_of dealt rest) ∙ ap₂ (λ m n. m + n) (marks-count_in s) (marks_count rest)
 
   mutual
-    open_in : (scope : Scope) (around : List ℕ) (first : ℕ) (s : Statement) (k : ℕ) (m : Mark) → is_good_statement scope around first s ≡ true → slice_get (marks_in barred s) k ≡ Some m → is_open m ≡ true → barred (first + k) ≡ true
+    open_in : (scope : Scope) (around : List ℕ) (first : ℕ) (s : Statement) (k : ℕ) (m : Mark) → is_good_statement scope around first s ≡ true → slice_get (marks_in dealt s) k ≡ Some m → is_open m ≡ true → dealt (first + k) ≡ None
     open_in scope around first (do_loop head body) k m good at opened =
         let parts = and_parts _ (are_good_statements scope (head.number ∷ around) (first + 1) body) good in
         let headed = and_parts _ (is_good_head scope around head) parts.0 in
         let numbered = and_parts (head.number == first) _ headed.0 in
-        open-loop head.number first (barred head.number) (have_free barred body) body k m (eqb-true head.number first numbered.0) refl
+        open-loop head.number first (dealt head.number) (have_free dealt body) body k m (eqb-true head.number first numbered.0) refl
         (λ j h. open_of scope (head.number ∷ around) (first + 1) body j m parts.1 h opened) at opened
     open_in scope around first (work w) k m good at opened = absurd (cc)
     open_in scope around first (continue line) k m good at opened = absurd (cc)
 
-    open_of : (scope : Scope) (around : List ℕ) (first : ℕ) (ss : Statements) (k : ℕ) (m : Mark) → are_good_statements scope around first ss ≡ true → slice_get (marks_of barred ss) k ≡ Some m → is_open m ≡ true → barred (first + k) ≡ true
+    open_of : (scope : Scope) (around : List ℕ) (first : ℕ) (ss : Statements) (k : ℕ) (m : Mark) → are_good_statements scope around first ss ≡ true → slice_get (marks_of dealt ss) k ≡ Some m → is_open m ≡ true → dealt (first + k) ≡ None
     open_of scope around first done k m good at opened = absurd (cc)
     open_of scope around first (next s rest) k m good at opened =
         let parts = and_parts (is_good_statement scope around first s) _ good in
         let count = marks-count_in s in
-        elim (get-append (marks_in barred s) (marks_of barred rest) k m at) [
+        elim (get-append (marks_in dealt s) (marks_of dealt rest) k m at) [
           | inl here ↦ open_in scope around first s k m parts.0 here opened
           | inr there ↦
-              let n : first + k ≡ first + loops_in s + (k - length (marks_in barred s)) = omega (arith, count, there.0) in
-              ap barred n ∙ open_of scope around (first + loops_in s) rest (k - length (marks_in barred s)) m parts.1 there.1 opened
+              let n : first + k ≡ first + loops_in s + (k - length (marks_in dealt s)) = omega (arith, count, there.0) in
+              ap dealt n ∙ open_of scope around (first + loops_in s) rest (k - length (marks_in dealt s)) m parts.1 there.1 opened
         ]
 
-flag-is : (vs : List LoopVerdict) (k : ℕ) (v : LoopVerdict) → slice_get vs k ≡ Some v → is_barred v ≡ get_or (map is_barred vs) k true
-flag-is [] k v h = absurd (cc)
-flag-is (w ∷ vs) zero v h = ap (λ o. is_barred (unwrap_or o v)) (sym h)
-flag-is (w ∷ vs) (suc k) v h = flag-is vs k v h
+tried-is : (vs : List LoopVerdict) (k : ℕ) (v : LoopVerdict) → slice_get vs k ≡ Some v → tried_in v ≡ get_or (map tried_in vs) k None
+tried-is [] k v h = absurd (cc)
+tried-is (w ∷ vs) zero v h = ap (λ o. tried_in (unwrap_or o v)) (sym h)
+tried-is (w ∷ vs) (suc k) v h = tried-is vs k v h
 
-pub open_are_barred : (tree : Tree) (vs : List LoopVerdict) (marks : List Mark) → IsWellFormed tree → marks ≡ marks_of (flagged (map is_barred vs)) tree.items → AreOpenBarred marks vs
+pub open_are_barred : (tree : Tree) (vs : List LoopVerdict) (marks : List Mark) → IsWellFormed tree → marks ≡ marks_of (tried_at (map tried_in vs)) tree.items → AreOpenBarred marks vs
 open_are_barred tree vs marks formed is k m v at there opened =
-    let f = flagged (map is_barred vs) in
+    let f = tried_at (map tried_in vs) in
     let good = and_parts _ (are_good_statements (scope_of tree) [] 1 tree.items) formed in
-    let flag = open_of f (scope_of tree) [] 1 tree.items k m good.1 (ap (λ ms. slice_get ms k) (sym is) ∙ at) opened in
+    let none = open_of f (scope_of tree) [] 1 tree.items k m good.1 (ap (λ ms. slice_get ms k) (sym is) ∙ at) opened in
     let n : k ≡ 1 + k - 1 = omega arith in
-    flag-is vs k v there ∙ ap (λ j. get_or (map is_barred vs) j true) n ∙ flag
+    tried-is vs k v there ∙ ap (λ j. get_or (map tried_in vs) j None) n ∙ none

@@ -1,20 +1,17 @@
 -- Slots without accesses that conflict: nothing is asked of them.
 use Rattle.std.proofs.Common.{◌≡◌, ℕ, ◌||◌, ◌++◌, Bool, true, false, List, [], ◌∷◌, map, refl, ap, sym, ◌∙◌, if◌then◌else◌}
 use Rattle.std.specs.List.{filter, flat_map, list_any}
-use Rattle.std.proofs.lemmas.Grind.{flat_map-append}
-use Rattle.std.proofs.lemmas.List.{append-nil, map-append}
 use Rattle.nest_tree.specs.Tree.{Tree}
 use Rattle.owner_partition.specs.Cuts.{Cutting}
 use Rattle.sync_plan.specs.declared.plan.Kind.{Kind}
 use Rattle.sync_plan.specs.declared.plan.Plan.{Plan}
-use Rattle.comm_system.specs.Obligations.{Slot, pair_tasks}
+use Rattle.comm_system.specs.Obligations.{Slot, pair_tasks, slot_signature}
 use Rattle.comm_system.specs.Pairs.{Pair, conflict, pairs_of}
-use Rattle.comm_system.specs.References.{Reference, StaticPhase, references_of, variable_of}
+use Rattle.comm_system.specs.References.{Reference, StaticPhase, phases_of, references_of, variable_of}
 use Rattle.comm_system.specs.Shown.{is_among, privates_in, shown_among, shown_of}
 use Rattle.comm_system.specs.Signatures.{Signature, blocked, waits}
-use Rattle.comm_system.specs.SlotViews.{slot_seen}
-use Rattle.comm_system.specs.declared.slot.Slot.{Slot as Held}
 use Rattle.plan_maker.specs.Asked.{asked, owners_dealt, slot_asked}
+use Rattle.plan_maker.specs.Meeting.{meets}
 use Rattle.plan_maker.specs.Trials.{asked_of_slot, slots_asked}
 
 none-left : (p : Reference → Bool) (xs : List Reference) → list_any p xs ≡ false → filter p xs ≡ []
@@ -67,15 +64,42 @@ no-shown-pairs cut s t h =
     no-pairs (shown_of cut s) (shown_of cut t)
     (none-weaker (with-any (references_of t)) (with-any (shown_of cut t)) (λ a. none-shown (conflict a) (privates_in cut t.what) [] (references_of t)) (shown_of cut s) firsts)
 
-pub unasked : (tree : Tree) (plan : Plan) (slot : Slot) (g : Signature) (ss ts : List Reference) → ss ≡ references_of slot.first → ts ≡ references_of slot.second → list_any (λ a. list_any (conflict a) ts) ss ≡ false → slot_asked tree plan slot g ≡ []
-unasked tree plan slot blocked ss ts first second h = refl
-unasked tree plan slot (waits left right producers) ss ts first second h =
-    let met = λ (xs ys : List Reference). list_any (λ a. list_any (conflict a) ys) xs in
-    let none = no-shown-pairs plan.cut slot.first slot.second (ap (met (references_of slot.first)) (sym second) ∙ ap (λ xs. met xs ts) (sym first) ∙ h) in
+pub unasked : (tree : Tree) (plan : Plan) (slot : Slot) (g : Signature) → meets slot ≡ false → slot_asked tree plan slot g ≡ []
+unasked tree plan slot blocked h = refl
+unasked tree plan slot (waits left right producers) h =
+    let none : pairs_of plan.cut slot.first slot.second ≡ [] = no-shown-pairs plan.cut slot.first slot.second h in
     ap (λ ps. map (asked (owners_dealt plan slot producers)) (flat_map (pair_tasks tree plan slot left right producers) ps)) none
 
--- one slot more
-pub met_more : (tree : Tree) (plan : Plan) (kinds : List Kind) (phases : List StaticPhase) (met : List Held) (slot : Held) → slots_asked tree plan kinds phases (map slot_seen (met ++ slot ∷ [])) ≡ slots_asked tree plan kinds phases (map slot_seen met) ++ asked_of_slot tree plan kinds phases (slot_seen slot)
-met_more tree plan kinds phases met slot =
-    let f = asked_of_slot tree plan kinds phases in
-    ap (flat_map f) (map-append slot_seen met (slot ∷ [])) ∙ flat_map-append f (map slot_seen met) (slot_seen slot ∷ []) ∙ ap (λ qs. flat_map f (map slot_seen met) ++ qs) (append-nil (f (slot_seen slot)))
+-- so those that have such are asked about the same as all
+pub meeting_asked : (tree : Tree) (plan : Plan) (kinds : List Kind) (slots : List Slot) → slots_asked tree plan kinds (filter meets slots) ≡ slots_asked tree plan kinds slots
+meeting_asked tree plan kinds [] = refl
+meeting_asked tree plan kinds (x ∷ slots) = by (meets x) refl (meeting_asked tree plan kinds slots)
+  where
+    by : (b : Bool) → meets x ≡ b → slots_asked tree plan kinds (filter meets slots) ≡ slots_asked tree plan kinds slots →
+        slots_asked tree plan kinds (if b then x ∷ filter meets slots else filter meets slots) ≡ asked_of_slot tree plan kinds x ++ slots_asked tree plan kinds slots
+    by true is rest = ap (λ qs. asked_of_slot tree plan kinds x ++ qs) rest
+    by false is rest = rest ∙ sym (ap (λ qs. qs ++ slots_asked tree plan kinds slots) (unasked tree plan x (slot_signature plan.version kinds (phases_of tree plan.cut.marks) x) is))
+
+-- a slot among those that have such, among all
+abbrev pub Among : (slots before : List Slot) (slot : Slot) → Type 0
+Among slots before slot = (front : List Slot) × (back : List Slot) × (slots ≡ front ++ slot ∷ back) × (filter meets front ≡ before)
+
+pub meeting_among : (slots before behind : List Slot) (slot : Slot) → filter meets slots ≡ before ++ slot ∷ behind → Among slots before slot
+meeting_among [] [] behind slot is = absurd (let no : [] ≡ slot ∷ behind = is in cc)
+meeting_among [] (b ∷ before) behind slot is = absurd (let no : [] ≡ b ∷ (before ++ slot ∷ behind) = is in cc)
+meeting_among (x ∷ slots) before behind slot is = by (meets x) refl is before refl (λ bs found. meeting_among slots bs behind slot found)
+  where
+    more : (bs : List Slot) (b : Bool) → meets x ≡ b → Among slots bs slot → (if b then x ∷ bs else bs) ≡ before → Among (x ∷ slots) before slot
+    more bs b at inner whole = (x ∷ inner.0, inner.1, ap (λ ys. x ∷ ys) inner.2, ap (λ (c : Bool). if c then x ∷ filter meets inner.0 else filter meets inner.0) at ∙ ap (λ ys. if b then x ∷ ys else ys) inner.3 ∙ whole)
+
+    by : (b : Bool) → meets x ≡ b → (if b then x ∷ filter meets slots else filter meets slots) ≡ before ++ slot ∷ behind → (bs : List Slot) → bs ≡ before → ((cs : List Slot) → filter meets slots ≡ cs ++ slot ∷ behind → Among slots cs slot) → Among (x ∷ slots) before slot
+    by true at found [] same inner =
+        let here : x ∷ filter meets slots ≡ slot ∷ behind = found ∙ ap (λ ys. ys ++ slot ∷ behind) (sym same) in
+        let slot-is : x ≡ slot = cc in
+        ([], slots, ap (λ y. y ∷ slots) slot-is, same)
+    by true at found (b ∷ bs) same inner =
+        let here : x ∷ filter meets slots ≡ b ∷ (bs ++ slot ∷ behind) = found ∙ ap (λ ys. ys ++ slot ∷ behind) (sym same) in
+        let first : x ≡ b = cc in
+        let rest : filter meets slots ≡ bs ++ slot ∷ behind = cc in
+        more bs true at (inner bs rest) (ap (λ y. y ∷ bs) first ∙ same)
+    by false at found bs same inner = more before false at (inner before found) refl

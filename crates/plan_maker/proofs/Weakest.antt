@@ -1,30 +1,27 @@
 -- The weakest kinds that were found.
-use Rattle.std.proofs.Common.{◌≡◌, ℕ, ◌+◌, ◌<◌, ◌++◌, List, [], ◌∷◌, length, map, take, ap, sym, ◌∙◌, subst, arith}
+use Rattle.std.proofs.Common.{◌≡◌, ℕ, suc, ◌++◌, List, [], ◌∷◌, ap, sym, ◌∙◌, subst}
 use Rattle.std.specs.Prelude.{slice_set}
-use Rattle.std.specs.List.{All, AllZip}
+use Rattle.std.specs.List.{AllZip, filter}
 use Rattle.farkas_cert.specs.declared.certificate.Certificate.{Certificate}
 use Rattle.nest_tree.specs.Tree.{Tree}
 use Rattle.nest_tree.specs.View.{tree_of}
 use Rattle.sync_plan.specs.declared.plan.Kind.{Kind}
 use Rattle.sync_plan.specs.declared.plan.Plan.{Plan}
-use Rattle.comm_system.specs.Obligations.{slots_of}
-use Rattle.comm_system.specs.PhaseViews.{phase_seen}
-use Rattle.comm_system.specs.References.{phases_of}
-use Rattle.comm_system.specs.SlotViews.{slot_seen}
-use Rattle.comm_system.specs.declared.slot.Slot.{Slot as Held}
-use Rattle.comm_system.proofs.Lists.{some_there}
+use Rattle.comm_system.specs.Obligations.{Slot, slots_of}
+use Rattle.plan_maker.specs.declared.cause.Cause.{Cause}
 use Rattle.plan_maker.specs.declared.maker.Weakest.{Weakest}
-use Rattle.plan_maker.specs.declared.memory.Memory.{Memory}
 use Rattle.plan_maker.specs.declared.reasons.PhaseReason.{PhaseReason}
-use Rattle.plan_maker.specs.declared.trial.Ground.{Ground}
-use Rattle.plan_maker.specs.Asked.{AreRefuted, IsCause, all_trips_asked}
-use Rattle.plan_maker.specs.Candidates.{Choice, candidate, kinds_taken, weaker_from}
-use Rattle.plan_maker.specs.Grounds.{IsTrialReason}
-use Rattle.plan_maker.specs.Memories.{IsEntry, IsMemory}
-use Rattle.plan_maker.specs.Trials.{AreMemories, HasMoreCertificates, slots_asked}
-use Rattle.plan_maker.specs.Weakest.{IsWeakReason, IsWeakest, asked_under, candidates_in}
-use Rattle.plan_maker.proofs.Memories.{zip_more}
-use Rattle.plan_maker.proofs.Questions.{cause-behind, refuted-append}
+use Rattle.plan_maker.specs.declared.problem.Problem.{Problem}
+use Rattle.plan_maker.specs.declared.search.Search.{Search}
+use Rattle.plan_maker.specs.Asked.{AreRefuted, all_trips_asked}
+use Rattle.plan_maker.specs.Candidates.{ArePlaces, Choice, candidate, kinds_taken, weaker_from}
+use Rattle.plan_maker.specs.Meeting.{meets}
+use Rattle.plan_maker.specs.PhaseCauses.{IsPhaseCause}
+use Rattle.plan_maker.specs.Searches.{HasCertificates, IsSearch, IsTrialReason, kinds_in, kinds_with, phases_in, slots_in}
+use Rattle.plan_maker.specs.Trials.{slots_asked}
+use Rattle.plan_maker.specs.Weakest.{IsPhaseReason, IsWeakest, asked_under, candidates_in}
+use Rattle.plan_maker.proofs.Meeting.{meeting_among, meeting_asked}
+use Rattle.plan_maker.proofs.Questions.{refuted-append}
 
 pub zip_weaker : {A B : Type 0} (R S : A → B → Type 0) (xs : List A) (ys : List B) → ((x : A) (y : B) → R x y → S x y) → AllZip R xs ys → AllZip S xs ys
 zip_weaker R S [] [] f h = tt
@@ -32,40 +29,62 @@ zip_weaker R S [] (y ∷ ys) f h = absurd h
 zip_weaker R S (x ∷ xs) [] f h = absurd h
 zip_weaker R S (x ∷ xs) (y ∷ ys) f h = (f x y h.0, zip_weaker R S xs ys f h.1)
 
-all_none : {X : Type 0} (P : X → Type 0) (xs : List X) → xs ≡ [] → All P xs
-all_none P xs e = subst (All P) (sym e) (λ k d lt. absurd (omega (arith, lt)))
+-- the first system that is kept, of the slots with accesses that conflict, is the first of all, behind those of two trips
+phase-cause : (tree : Tree) (plan : Plan) (kinds : List Kind) (u : ℕ) (trips : List Certificate) (slots : List Slot) (cause : Cause) → AreRefuted (all_trips_asked tree plan) trips → IsPhaseCause tree plan kinds u [] (filter meets slots) cause →
+    IsPhaseCause tree plan kinds u (all_trips_asked tree plan) slots cause
+phase-cause tree plan kinds u trips slots cause refuted h =
+    let among = meeting_among slots h.before h.behind h.slot h.split in
+    let front = among.0 in
+    let asked : slots_asked tree plan kinds h.before ≡ slots_asked tree plan kinds front = ap (slots_asked tree plan kinds) (sym among.3) ∙ meeting_asked tree plan kinds front in
+    record {
+      before = front;
+      slot = h.slot;
+      behind = among.1;
+      split = among.2;
+      certain = h.certain;
+      certificates = trips ++ h.certificates;
+      refuted = refuted-append (all_trips_asked tree plan) (slots_asked tree plan kinds front) trips h.certificates refuted (subst (λ qs. AreRefuted qs h.certificates) asked h.refuted);
+      kept = h.kept;
+    }
 
--- one memory without a verdict more
-pub memories_more : (tree : Tree) (plan : Plan) (slots : List Held) (memories : List Memory) (k : ℕ) (m : Memory) → k < length slots → m.entries.items ≡ [] → AreMemories tree plan (map slot_seen (take k slots)) memories →
-    AreMemories tree plan (map slot_seen (take (k + 1) slots)) (memories ++ m ∷ [])
-memories_more tree plan slots memories k m lt none inv =
-    let there = some_there slots k lt in
-    let new : IsMemory tree plan (slot_seen there.0) m = all_none (IsEntry tree plan (slot_seen there.0)) m.entries.items none in
-    zip_more (IsMemory tree plan) slot_seen slots memories k there.0 m there.1 inv new
+-- what a search ends with
+module _ (s : Search) (trips : List Certificate) where
+  abbrev tree : Tree
+  tree = tree_of s.problem.program.now
 
-module _ (g : Ground) (trips : List Certificate) (candidates : List (List Kind)) (taken : List ℕ) where
-  pub weakest_is : (w : Weakest) → AreRefuted (all_trips_asked (tree_of g.program.now) g.plan.now) trips → map phase_seen g.phases.now ≡ phases_of (tree_of g.program.now) g.plan.now.cut.marks →
-      ((ks : List Kind) → slots_asked (tree_of g.program.now) g.plan.now ks (phases_of (tree_of g.program.now) g.plan.now.cut.marks) (map slot_seen g.slots.now) ≡ slots_asked (tree_of g.program.now) g.plan.now ks (phases_of (tree_of g.program.now) g.plan.now.cut.marks) (slots_of (phases_of (tree_of g.program.now) g.plan.now.cut.marks))) → candidates ≡ candidates_in (tree_of g.program.now) g.plan.now → w.kinds.items ≡ kinds_taken candidates taken →
-      HasMoreCertificates (slots_asked (tree_of g.program.now) g.plan.now w.kinds.items (map phase_seen g.phases.now) (map slot_seen g.slots.now)) trips w.certificates.items →
-      AllZip (IsTrialReason g candidates taken) (weaker_from 0 taken) w.reasons.items → IsWeakest (tree_of g.program.now) g.plan.now w
-  weakest_is w refuted phases slots cands kinds more reasons =
-      let tree = tree_of g.program.now in
-      let plan = g.plan.now in
-      let under : (ks : List Kind) → slots_asked tree plan ks (map phase_seen g.phases.now) (map slot_seen g.slots.now) ≡ slots_asked tree plan ks (phases_of tree plan.cut.marks) (slots_of (phases_of tree plan.cut.marks)) =
-      λ ks. ap (λ ps. slots_asked tree plan ks ps (map slot_seen g.slots.now)) phases ∙ slots ks in
-      let all = refuted-append (all_trips_asked tree plan) (slots_asked tree plan w.kinds.items (phases_of tree plan.cut.marks) (slots_of (phases_of tree plan.cut.marks))) trips more.more refuted (subst (λ qs. AreRefuted qs more.more) (under w.kinds.items) more.refuted) in
-      let weak : (c : Choice) (r : PhaseReason) → IsTrialReason g candidates taken c r → IsWeakReason tree plan taken c r =
-      λ c r h.
-      let ks = kinds_taken candidates (slice_set taken c.phase c.place) in
-      let behind = cause-behind (all_trips_asked tree plan) (slots_asked tree plan ks (phases_of tree plan.cut.marks) (slots_of (phases_of tree plan.cut.marks))) trips r.cause refuted (subst (λ qs. IsCause qs r.cause) (under ks) h.cause) in
-      record {
-        phase = h.phase;
-        kind = h.kind ∙ ap (λ cs. candidate cs c) cands;
-        cause = subst (λ cs. IsCause (asked_under tree plan (kinds_taken cs (slice_set taken c.phase c.place))) r.cause) cands behind;
-      } in
-      record {
-        taken = taken;
-        kinds = kinds ∙ ap (λ cs. kinds_taken cs taken) cands;
-        certified = subst (AreRefuted (asked_under tree plan w.kinds.items)) (sym more.behind) all;
-        reasons = zip_weaker (IsTrialReason g candidates taken) (IsWeakReason tree plan taken) (weaker_from 0 taken) w.reasons.items weak reasons;
-      }
+  abbrev plan : Plan
+  plan = s.problem.plan.now
+
+  module _ (search : IsSearch s) (refuted : AreRefuted (all_trips_asked tree plan) trips) (slots : slots_in s ≡ filter meets (slots_of (phases_in s.problem))) where
+    weak : (c : Choice) (r : PhaseReason) → IsTrialReason s c r → IsPhaseReason tree plan s.taken.items c r
+    weak c r h =
+        let kinds : kinds_with s c ≡ kinds_taken (candidates_in tree plan) (slice_set s.taken.items c.phase c.place) = ap (λ cs. kinds_taken cs (slice_set s.taken.items c.phase c.place)) search.candidates in
+        let here = subst (λ xs. IsPhaseCause tree plan (kinds_with s c) (suc c.phase) [] xs r.cause) slots h.cause in
+        record {
+          phase = h.phase;
+          kind = h.kind ∙ ap (λ cs. candidate cs c) search.candidates;
+          cause = phase-cause tree plan (kinds_taken (candidates_in tree plan) (slice_set s.taken.items c.phase c.place)) (suc c.phase) trips (slots_of (phases_in s.problem)) r.cause refuted
+              (subst (λ ks. IsPhaseCause tree plan ks (suc c.phase) [] (filter meets (slots_of (phases_in s.problem))) r.cause) kinds here);
+        }
+
+    pub weakest_is : (w : Weakest) → w.kinds.items ≡ kinds_in s → HasCertificates s trips w.certificates.items → AllZip (IsTrialReason s) (weaker_from 0 s.taken.items) w.reasons.items → IsWeakest tree plan w
+    weakest_is w kinds more reasons =
+        let all = slots_of (phases_in s.problem) in
+        let asked : slots_asked tree plan (kinds_in s) (slots_in s) ≡ slots_asked tree plan w.kinds.items all =
+        ap (slots_asked tree plan (kinds_in s)) slots ∙ meeting_asked tree plan (kinds_in s) all ∙ ap (λ ks. slots_asked tree plan ks all) (sym kinds) in
+        let whole = refuted-append (all_trips_asked tree plan) (slots_asked tree plan w.kinds.items all) trips more.more refuted (subst (λ qs. AreRefuted qs more.more) asked more.refuted) in
+        record {
+          taken = s.taken.items;
+          places = subst (λ cs. ArePlaces cs s.taken.items) search.candidates search.places;
+          kinds = kinds ∙ ap (λ cs. kinds_taken cs s.taken.items) search.candidates;
+          certified = subst (AreRefuted (asked_under tree plan w.kinds.items)) (sym more.behind) whole;
+          reasons = zip_weaker (IsTrialReason s) (IsPhaseReason tree plan s.taken.items) (weaker_from 0 s.taken.items) w.reasons.items weak reasons;
+        }
+
+-- of the problem that it began with
+pub weakest_for : (p : Problem) (s : Search) (trips : List Certificate) → s.problem ≡ p → IsSearch s → AreRefuted (all_trips_asked (tree_of p.program.now) p.plan.now) trips → slots_in s ≡ filter meets (slots_of (phases_in p)) →
+    (w : Weakest) → w.kinds.items ≡ kinds_in s → HasCertificates s trips w.certificates.items → AllZip (IsTrialReason s) (weaker_from 0 s.taken.items) w.reasons.items → IsWeakest (tree_of p.program.now) p.plan.now w
+weakest_for p s trips e search refuted slots w kinds more reasons =
+    let here = subst (λ (q : Problem). AreRefuted (all_trips_asked (tree_of q.program.now) q.plan.now) trips) (sym e) refuted in
+    let there = subst (λ (q : Problem). slots_in s ≡ filter meets (slots_of (phases_in q))) (sym e) slots in
+    subst (λ (q : Problem). IsWeakest (tree_of q.program.now) q.plan.now w) e (weakest_is s trips search here there w kinds more reasons)

@@ -1,5 +1,5 @@
 -- What elimination is asked of a plan: its systems one behind another, each with the order in which its unknowns are removed; and what is known of the answers.
-use Rattle.std.specs.Prelude.{ℕ, ℤ, ◌≡◌, ◌⊎◌, List, [], ◌∷◌, ◌++◌, map, take, slice_get, Option, Some, None}
+use Rattle.std.specs.Prelude.{ℕ, ℤ, ◌≡◌, ◌⊎◌, List, [], ◌∷◌, map, take, slice_get, Option, Some, None}
 use Rattle.std.specs.List.{AllZip, flat_map}
 use Rattle.farkas_cert.specs.declared.certificate.Certificate.{Certificate}
 use Rattle.farkas_cert.specs.Good.{IsGood}
@@ -12,7 +12,7 @@ use Rattle.owner_partition.specs.declared.anchor.Anchor.{Anchor}
 use Rattle.owner_partition.specs.declared.anchor.Dist.{Dist}
 use Rattle.sync_plan.specs.declared.plan.Plan.{Plan}
 use Rattle.comm_system.specs.Boundaries.{Side}
-use Rattle.comm_system.specs.Obligations.{Slot, Task, anchor_at, slot_signature, slot_tasks, slots_of, trips_tasks}
+use Rattle.comm_system.specs.Obligations.{Slot, Task, anchor_at, slot_tasks, trips_tasks}
 use Rattle.comm_system.specs.References.{StaticPhase, phases_of}
 use Rattle.comm_system.specs.Signatures.{Signature, blocked, waits}
 use Rattle.plan_maker.specs.declared.cause.Cause.{Cause}
@@ -42,17 +42,9 @@ abbrev pub slot_asked : Tree → Plan → Slot → Signature → List Asked
 slot_asked tree plan slot blocked = []
 slot_asked tree plan slot (waits left right producers) = map (asked (owners_dealt plan slot producers)) (slot_tasks tree plan slot (waits left right producers))
 
--- of a plan
+-- of two trips of all Doall phases of a plan
 abbrev pub all_trips_asked : Tree → Plan → List Asked
 all_trips_asked tree plan = flat_map (trips_asked tree plan) (phases_of tree plan.cut.marks)
-
-abbrev pub all_slots_asked : Tree → Plan → List Asked
-all_slots_asked tree plan =
-    let phases = phases_of tree plan.cut.marks in
-    flat_map (λ slot. slot_asked tree plan slot (slot_signature plan.version plan.kinds phases slot)) (slots_of phases)
-
-abbrev pub all_asked : Tree → Plan → List Asked
-all_asked tree plan = all_trips_asked tree plan ++ all_slots_asked tree plan
 
 -- each of them has a good certificate
 abbrev pub AreRefuted : List Asked → List Certificate → Type 0

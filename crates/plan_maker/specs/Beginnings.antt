@@ -9,7 +9,7 @@ use Rattle.fm_elim.specs.Advances.{IsLevel, gone_of, order_of, system_of}
 use Rattle.fm_elim.specs.Answers.{NamesEachOnce}
 use Rattle.fm_elim.specs.Pairs.{coef_of}
 use Rattle.plan_maker.specs.declared.beginnings.Beginning.{Beginning}
-use Rattle.plan_maker.specs.declared.beginnings.Front.{Front}
+use Rattle.plan_maker.specs.declared.beginnings.Prefix.{Prefix}
 
 -- the row has none of these unknowns
 abbrev pub IsWithout : List ℕ → Row → Type 0
@@ -22,7 +22,7 @@ pub record IsLevelOf (s : Inequalities) (o : List ℕ) (l : Level) : Type 0 wher
   pub order : order_of l ≡ o
 
 -- elimination can be asked of its rows
-pub record IsFront (f : Front) : Type 0 where
+pub record IsPrefix (f : Prefix) : Type 0 where
   pub once : NamesEachOnce f.rows.vars f.order.items
   pub narrow : AreNarrow f.rows.rows
 

@@ -1,6 +1,6 @@
 -- What may stand in front of a phase of a made plan, from the weakest on.
-use Rattle.std.specs.Prelude.{ℕ, suc, not, ◌&&◌, List, [], ◌∷◌, ◌++◌, map, Option, Some, None, slice_get, if◌then◌else◌}
-use Rattle.std.specs.List.{list_any, range_with_len}
+use Rattle.std.specs.Prelude.{ℕ, suc, ◌-◌, ◌<◌, length, not, ◌&&◌, List, [], ◌∷◌, ◌++◌, map, Option, Some, None, slice_get, if◌then◌else◌}
+use Rattle.std.specs.List.{AllZip, list_any, range_with_len}
 use Rattle.nest_tree.specs.Tree.{Tree}
 use Rattle.owner_partition.specs.declared.anchor.Anchor.{Anchor}
 use Rattle.owner_partition.specs.declared.cut.Mark.{Mark}
@@ -44,6 +44,14 @@ abbrev pub kinds_taken : List (List Kind) → List ℕ → List Kind
 kinds_taken [] taken = []
 kinds_taken (ks ∷ candidates) [] = []
 kinds_taken (ks ∷ candidates) (i ∷ taken) = or_barrier (slice_get ks i) ∷ kinds_taken candidates taken
+
+-- the place of the last candidate of each phase
+abbrev pub last_places : List (List Kind) → List ℕ
+last_places candidates = map (λ ks. length ks - 1) candidates
+
+-- a place for each phase, and each is that of a candidate
+abbrev pub ArePlaces : List (List Kind) → List ℕ → Type 0
+ArePlaces candidates taken = AllZip (λ ks i. i < length ks) candidates taken
 
 -- a candidate by its phase, from 0, and its place among those of the phase
 pub record Choice : Type 0 where

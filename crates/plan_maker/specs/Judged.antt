@@ -1,4 +1,5 @@
 -- Verdicts on systems one behind another.
+use Rattle.std.specs.Global.{Vec}
 use Rattle.std.specs.Prelude.{List, map, Option, Some, None}
 use Rattle.owner_partition.specs.declared.anchor.Dist.{Dist}
 use Rattle.nest_tree.specs.Tree.{Tree}
@@ -8,13 +9,11 @@ use Rattle.comm_system.specs.Subjects.{Group, obligations_in}
 use Rattle.comm_system.specs.declared.obligation.Obligation.{Obligation}
 use Rattle.farkas_cert.specs.Good.{IsGood}
 use Rattle.plan_maker.specs.Asked.{AreRefuted, Asked, IsCause, IsSaid, asked}
-use Rattle.plan_maker.specs.declared.judge.Judgement.{Judgement}
-use Rattle.plan_maker.specs.declared.judge.Judgement.TheVariants as one
 use Rattle.farkas_cert.specs.declared.certificate.Certificate.{Certificate}
 use Rattle.plan_maker.specs.declared.cause.Cause.{Cause}
 use Rattle.plan_maker.specs.declared.cause.Word.{Word}
-use Rattle.plan_maker.specs.declared.judge.Verdict.{Verdict}
-use Rattle.plan_maker.specs.declared.judge.Verdict.TheVariants.{Refuted, Kept}
+use Rattle.plan_maker.specs.declared.verdict.Verdict.{Verdict}
+use Rattle.plan_maker.specs.declared.verdict.Verdict.TheVariants.{Refuted, Kept}
 
 -- an obligation without its number
 abbrev pub task_of : Obligation → Task
@@ -32,20 +31,23 @@ abbrev pub cause_for : Obligation → Word → Cause
 cause_for o word = record { lines = o.lines; variable = o.variable; level = o.level; piece = o.piece; word = word }
 
 -- each is refuted, or this is the first that is kept
-abbrev pub IsVerdict : List Asked → Verdict → Type 0
+abbrev pub Judged : Type 0
+Judged = Verdict (Vec Certificate) Cause
+
+abbrev pub IsVerdict : List Asked → Judged → Type 0
 IsVerdict questions (Refuted certificates) = AreRefuted questions certificates.items
 IsVerdict questions (Kept cause) = IsCause questions cause
 
 -- of one system
-abbrev pub IsJudgement : Asked → Judgement → Type 0
-IsJudgement q (one.Refuted certificate) = IsGood q.task.system certificate
-IsJudgement q (one.Kept cause) = IsSaid q cause
+abbrev pub IsJudgement : Asked → Verdict Certificate Cause → Type 0
+IsJudgement q (Refuted certificate) = IsGood q.task.system certificate
+IsJudgement q (Kept cause) = IsSaid q cause
 
-abbrev pub cause_in : Verdict → Option Cause
+-- the certificates, and the first that is kept
+abbrev pub certificates_in : Judged → Option (Vec Certificate)
+certificates_in (Refuted certificates) = Some certificates
+certificates_in (Kept cause) = None
+
+abbrev pub cause_in : Judged → Option Cause
 cause_in (Refuted certificates) = None
 cause_in (Kept cause) = Some cause
-
--- the same without the certificates
-abbrev pub IsOutcome : List Asked → Option Cause → Type 0
-IsOutcome questions None = (certificates : List Certificate) × AreRefuted questions certificates
-IsOutcome questions (Some cause) = IsCause questions cause

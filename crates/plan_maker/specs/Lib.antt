@@ -1,6 +1,8 @@
 pub mod Anchors
-pub mod Seats
+pub mod Scopes
+pub mod Tries
 pub mod Marks
+pub mod Privates
 pub mod Orders
 pub mod Asked
 pub mod Judged
@@ -8,11 +10,13 @@ pub mod Cut
 pub mod Bars
 pub mod Loops
 pub mod Candidates
-pub mod Memories
+pub mod Meeting
+pub mod Caches
 pub mod Trials
-pub mod Grounds
+pub mod PhaseCauses
 pub mod Weakest
-pub mod Settled
+pub mod Searches
+pub mod Numbers
 pub mod Made
 pub mod Found
 pub mod Beginnings

@@ -1,19 +1,30 @@
 -- Verdicts on loops.
-use Rattle.std.specs.Prelude.{ℕ, ◌-◌, ◌≤◌, ◌≡◌, Bool, true, false, ⊤, List, Some, slice_get}
+use Rattle.std.specs.Global.{Vec}
+use Rattle.std.specs.Prelude.{ℕ, ◌-◌, ◌≤◌, ◌≡◌, true, List, Option, Some, None, slice_get}
+use Rattle.std.specs.List.{AllZip}
 use Rattle.nest_tree.specs.Tree.{Tree}
 use Rattle.owner_partition.specs.declared.cut.Mark.{Mark}
-use Rattle.plan_maker.specs.declared.loops.LoopVerdict.{LoopVerdict}
-use Rattle.plan_maker.specs.declared.loops.LoopVerdict.TheVariants.{Free, Barred}
-use Rattle.plan_maker.specs.Bars.{IsBar, is_open}
+use Rattle.plan_maker.specs.declared.loops.Dealt.{Dealt}
+use Rattle.plan_maker.specs.declared.reasons.LoopReason.{LoopReason}
+use Rattle.plan_maker.specs.declared.tries.Tried.{Tried}
+use Rattle.plan_maker.specs.declared.verdict.Verdict.{Verdict}
+use Rattle.plan_maker.specs.declared.verdict.Verdict.TheVariants.{Refuted, Kept}
+use Rattle.plan_maker.specs.Asked.{AreRefuted}
+use Rattle.plan_maker.specs.Bars.{IsFirst, IsLoopReason, attempts_of, is_open}
+use Rattle.plan_maker.specs.Cut.{loop_asked}
 
--- where a loop is barred, the reason is true of it
+abbrev pub LoopVerdict : Type 0
+LoopVerdict = Verdict Dealt (Vec LoopReason)
+
+-- a loop may be dealt out by a try, those before it fail, and the systems of two trips of it are refuted; or each of its tries fails, for these reasons
 abbrev pub IsLoopVerdict : Tree → ℕ → LoopVerdict → Type 0
-IsLoopVerdict tree n Free = ⊤
-IsLoopVerdict tree n (Barred bar) = IsBar tree n bar
+IsLoopVerdict tree n (Refuted dealt) = IsFirst tree n dealt.tried × AreRefuted (loop_asked tree n dealt.tried) dealt.certificates.items
+IsLoopVerdict tree n (Kept reasons) = AllZip (IsLoopReason tree) (attempts_of tree n) reasons.items
 
-abbrev pub is_barred : LoopVerdict → Bool
-is_barred Free = false
-is_barred (Barred bar) = true
+-- the try by which a loop may be dealt out
+abbrev pub tried_in : LoopVerdict → Option Tried
+tried_in (Refuted dealt) = Some dealt.tried
+tried_in (Kept reasons) = None
 
 -- the verdicts on loops by their numbers, from 1
 abbrev pub AreLoopVerdicts : Tree → List LoopVerdict → Type 0
@@ -21,4 +32,4 @@ AreLoopVerdicts tree verdicts = (n : ℕ) (v : LoopVerdict) → 1 ≤ n → slic
 
 -- each loop whose mark is Outer or Single is barred
 abbrev pub AreOpenBarred : List Mark → List LoopVerdict → Type 0
-AreOpenBarred marks verdicts = (k : ℕ) (m : Mark) (v : LoopVerdict) → slice_get marks k ≡ Some m → slice_get verdicts k ≡ Some v → is_open m ≡ true → is_barred v ≡ true
+AreOpenBarred marks verdicts = (k : ℕ) (m : Mark) (v : LoopVerdict) → slice_get marks k ≡ Some m → slice_get verdicts k ≡ Some v → is_open m ≡ true → tried_in v ≡ None

@@ -1,6 +1,6 @@
 // The anchors of the static phases.
 
-ghost use Rattle.std.specs.Prelude.{◌≡◌, ◌≤◌, ◌<◌, ◌^◌, ◌-◌, IfOk, IfSome, IsTrue, Some, slice_get, length};
+ghost use Rattle.std.specs.Prelude.{◌≡◌, ◌≤◌, ◌<◌, ◌-◌, IfOk, IfSome, IsTrue, Some, slice_get, length};
 ghost use Rattle.nest_tree.specs.Limits.{IsWithinLimits};
 ghost use Rattle.nest_tree.specs.View.{declaration_of, statement_of, statements_from, tree_of};
 ghost use Rattle.nest_tree.specs.WellFormed.{IsWellFormed, loops_of};
@@ -10,10 +10,10 @@ ghost use Rattle.owner_partition.specs.Placement.{phase_ends};
 ghost use Rattle.owner_partition.specs.StaticPhases.{loops_round};
 ghost use Rattle.nest_tree.specs.Form.{is_given};
 ghost use Rattle.plan_maker.specs.Anchors.{along, along_axis, if_good, if_one_good, less, maker_anchors, phase_anchor, placed_anchor, span_of, stored_among, stored_anchor, value_of};
-ghost use Rattle.plan_maker.specs.Seats.{constants_at, found_anchor, good_element_anchor, good_own_anchor, loops_at};
+ghost use Rattle.plan_maker.specs.Scopes.{constants_at, found_anchor, good_element_anchor, good_own_anchor, loops_at};
 
 use crate::places::{dealt_as, extent, first_processor, in_blocks, item_at, less};
-use crate::seat::Seat;
+use crate::scope::Scope;
 use nest_tree::{Access, Affine, Item, Pairs, Program, Spread, Variable};
 use owner_partition::{Anchor, Cut, Dist, StaticPhase, check_anchor};
 use plan_checker::own_loop;
@@ -60,13 +60,13 @@ fn phase_anchor(
     if phase.item.has_print() {
         return Ok(first_processor(alloc));
     }
-    let seat = Seat {
+    let scope = Scope {
         program,
         phase,
         own: own_loop(cut, phase.item),
         workers,
     };
-    match found_anchor(alloc, seat, cut, number)? {
+    match found_anchor(alloc, scope, cut, number)? {
         Some(anchor) => Ok(placed(program, cut, workers, number, anchor)),
         None => Ok(first_processor(alloc)),
     }
@@ -75,20 +75,20 @@ fn phase_anchor(
 // The first good anchor of what a phase stores, and then of its own loop's value.
 fn found_anchor(
     alloc: Global,
-    seat: Seat,
+    scope: Scope,
     cut: &Cut,
     number: u32,
 ) -> Result<Option<Anchor>, AllocError>
-    requires formed { IsWellFormed (tree_of seat.program.now) }
-    requires limits { IsWithinLimits (tree_of seat.program.now) }
-    requires some { 1 ≤ seat.workers }
-    requires own { IfSome seat.own (λ n. (1 ≤ n) × (n ≤ loops_of (tree_of seat.program.now).items)) }
-    ensures { IfOk result (λ o. o ≡ found_anchor seat.entry cut.now.marks number (statement_of seat.entry.phase.now.item.now)) }
+    requires formed { IsWellFormed (tree_of scope.program.now) }
+    requires limits { IsWithinLimits (tree_of scope.program.now) }
+    requires some { 1 ≤ scope.workers }
+    requires own { IfSome scope.own (λ n. (1 ≤ n) × (n ≤ loops_of (tree_of scope.program.now).items)) }
+    ensures { IfOk result (λ o. o ≡ found_anchor scope.entry cut.now.marks number (statement_of scope.entry.phase.now.item.now)) }
 {
-    if let Some(anchor) = stored_anchor(alloc, seat, seat.phase.item)? {
+    if let Some(anchor) = stored_anchor(alloc, scope, scope.phase.item)? {
         return Ok(Some(anchor));
     }
-    own_anchor(alloc, seat, cut, number)
+    own_anchor(alloc, scope, cut, number)
 }
 
 // The anchor, or the same places in turn where blocks of them would be left.
@@ -109,12 +109,12 @@ fn placed(program: &Program, cut: &Cut, workers: u32, number: u32, anchor: Ancho
 
 // The first good anchor of what these statements store.
 #[cycle(stored)]
-fn stored_among(alloc: Global, seat: Seat, items: &[Item]) -> Result<Option<Anchor>, AllocError>
-    requires { 1 ≤ seat.workers }
-    ensures { IfOk result (λ o. o ≡ stored_among (good_element_anchor seat.entry) (statements_from items.now)) }
+fn stored_among(alloc: Global, scope: Scope, items: &[Item]) -> Result<Option<Anchor>, AllocError>
+    requires { 1 ≤ scope.workers }
+    ensures { IfOk result (λ o. o ≡ stored_among (good_element_anchor scope.entry) (statements_from items.now)) }
 {
     for item in items {
-        if let Some(anchor) = stored_anchor(alloc, seat, item)? {
+        if let Some(anchor) = stored_anchor(alloc, scope, item)? {
             return Ok(Some(anchor));
         }
     }
@@ -122,25 +122,29 @@ fn stored_among(alloc: Global, seat: Seat, items: &[Item]) -> Result<Option<Anch
 }
 
 #[cycle(stored)]
-fn stored_anchor(alloc: Global, seat: Seat, item: &Item) -> Result<Option<Anchor>, AllocError>
-    requires { 1 ≤ seat.workers }
-    ensures { IfOk result (λ o. o ≡ stored_anchor (good_element_anchor seat.entry) (statement_of item.now)) }
+fn stored_anchor(alloc: Global, scope: Scope, item: &Item) -> Result<Option<Anchor>, AllocError>
+    requires { 1 ≤ scope.workers }
+    ensures { IfOk result (λ o. o ≡ stored_anchor (good_element_anchor scope.entry) (statement_of item.now)) }
 {
     match item {
-        Item::Loop(nest) => stored_among(alloc, seat, &nest.items),
-        Item::Assign(target, ..) => element_anchor(alloc, seat, target),
+        Item::Loop(nest) => stored_among(alloc, scope, &nest.items),
+        Item::Assign(target, ..) => element_anchor(alloc, scope, target),
         Item::Print(..) | Item::Continue(_) => Ok(None),
     }
 }
 
 // The place of an element along its array's distributed dimension, if it is a good anchor.
-fn element_anchor(alloc: Global, seat: Seat, access: &Access) -> Result<Option<Anchor>, AllocError>
-    requires { 1 ≤ seat.workers }
-    ensures { IfOk result (λ o. o ≡ good_element_anchor seat.entry access.now) }
+fn element_anchor(
+    alloc: Global,
+    scope: Scope,
+    access: &Access,
+) -> Result<Option<Anchor>, AllocError>
+    requires { 1 ≤ scope.workers }
+    ensures { IfOk result (λ o. o ≡ good_element_anchor scope.entry access.now) }
 {
     let number = (access.variable as usize).saturating_sub(1);
-    match item_at(seat.program.variables.as_slice(), number) {
-        Some(variable) => { variable_anchor(alloc, seat, variable, access.subscripts.as_slice()) }
+    match item_at(scope.program.variables.as_slice(), number) {
+        Some(variable) => { variable_anchor(alloc, scope, variable, access.subscripts.as_slice()) }
         None => Ok(None),
     }
 }
@@ -148,19 +152,19 @@ fn element_anchor(alloc: Global, seat: Seat, access: &Access) -> Result<Option<A
 // The same for an element of this variable.
 fn variable_anchor(
     alloc: Global,
-    seat: Seat,
+    scope: Scope,
     variable: &Variable,
     subscripts: &[Affine],
 ) -> Result<Option<Anchor>, AllocError>
-    requires { 1 ≤ seat.workers }
-    ensures { IfOk result (λ o. o ≡ if_one_good (constants_at seat.entry) (loops_at seat.entry) (along_axis seat.entry.workers subscripts.now (Some (declaration_of variable.now)))) }
+    requires { 1 ≤ scope.workers }
+    ensures { IfOk result (λ o. o ≡ if_one_good (constants_at scope.entry) (loops_at scope.entry) (along_axis scope.entry.workers subscripts.now (Some (declaration_of variable.now)))) }
 {
     let axis = (variable.axis as usize).saturating_sub(1);
     let Some(subscript) = item_at(subscripts, axis) else {
         return Ok(None);
     };
     match item_at(variable.bounds.as_slice(), axis) {
-        Some(&bounds) => along_anchor(alloc, seat, variable.spread, subscript, bounds),
+        Some(&bounds) => along_anchor(alloc, scope, variable.spread, subscript, bounds),
         None => Ok(None),
     }
 }
@@ -169,37 +173,37 @@ fn variable_anchor(
 // memory had run out; no bounds of 64 bits have so many.
 fn along_anchor(
     alloc: Global,
-    seat: Seat,
+    scope: Scope,
     spread: Spread,
     subscript: &Affine,
     bounds: (i64, i64),
 ) -> Result<Option<Anchor>, AllocError>
-    requires { 1 ≤ seat.workers }
-    ensures { IfOk result (λ o. o ≡ if_one_good (constants_at seat.entry) (loops_at seat.entry) (along seat.entry.workers spread (Some subscript.now) (Some bounds))) }
+    requires { 1 ≤ scope.workers }
+    ensures { IfOk result (λ o. o ≡ if_one_good (constants_at scope.entry) (loops_at scope.entry) (along scope.entry.workers spread (Some subscript.now) (Some bounds))) }
 {
     let low = i128::from(bounds.0);
     let Some(places) = extent(low, i128::from(bounds.1)) else {
         return Err(AllocError);
     };
-    let dist = dealt_as(spread, seat.workers, places);
-    good_anchor(alloc, seat, subscript, low, dist)
+    let dist = dealt_as(spread, scope.workers, places);
+    good_anchor(alloc, scope, subscript, low, dist)
 }
 
 // The anchor of a form less a number, if it is a good one.
 fn good_anchor(
     alloc: Global,
-    seat: Seat,
+    scope: Scope,
     form: &Affine,
     low: i128,
     dist: Dist,
 ) -> Result<Option<Anchor>, AllocError>
-    ensures { IfOk result (λ o. o ≡ if_good (constants_at seat.entry) (loops_at seat.entry) (record { form = less form.now low; dist = dist })) }
+    ensures { IfOk result (λ o. o ≡ if_good (constants_at scope.entry) (loops_at scope.entry) (record { form = less form.now low; dist = dist })) }
 {
     let Some(form) = less(alloc, form, low)? else {
         return Ok(None);
     };
     let anchor = Anchor { form, dist };
-    if seat.is_good_anchor(&anchor) {
+    if scope.is_good_anchor(&anchor) {
         Ok(Some(anchor))
     } else {
         Ok(None)
@@ -209,22 +213,22 @@ fn good_anchor(
 // The value of a Doall loop, if it is a good anchor.
 fn own_anchor(
     alloc: Global,
-    seat: Seat,
+    scope: Scope,
     cut: &Cut,
     number: u32,
 ) -> Result<Option<Anchor>, AllocError>
-    requires formed { IsWellFormed (tree_of seat.program.now) }
-    requires limits { IsWithinLimits (tree_of seat.program.now) }
-    requires some { 1 ≤ seat.workers }
-    requires own { IfSome seat.own (λ n. (1 ≤ n) × (n ≤ loops_of (tree_of seat.program.now).items)) }
-    ensures { IfOk result (λ o. o ≡ good_own_anchor seat.entry cut.now.marks number) }
+    requires formed { IsWellFormed (tree_of scope.program.now) }
+    requires limits { IsWithinLimits (tree_of scope.program.now) }
+    requires some { 1 ≤ scope.workers }
+    requires own { IfSome scope.own (λ n. (1 ≤ n) × (n ≤ loops_of (tree_of scope.program.now).items)) }
+    ensures { IfOk result (λ o. o ≡ good_own_anchor scope.entry cut.now.marks number) }
 {
-    let Some(own) = seat.own else {
+    let Some(own) = scope.own else {
         return Ok(None);
     };
     let value = loop_value(alloc, own)?;
-    let (low, width) = span_of(alloc, seat.program, cut, number, own)?;
-    good_anchor(alloc, seat, &value, low, in_blocks(seat.workers, width))
+    let (low, width) = span_of(alloc, scope.program, cut, number, own)?;
+    good_anchor(alloc, scope, &value, low, in_blocks(scope.workers, width))
 }
 
 // The form of a loop's value.

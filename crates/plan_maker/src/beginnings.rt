@@ -6,7 +6,7 @@ ghost use Rattle.farkas_cert.specs.Narrow.{AreNarrow};
 ghost use Rattle.fm_elim.specs.Advances.{IsExtension, gone_of};
 ghost use Rattle.fm_elim.specs.Answers.{NamesEachOnce};
 ghost use Rattle.fm_elim.specs.Pairs.{coef_of};
-ghost use Rattle.plan_maker.specs.Beginnings.{IsBeginning, IsFront, IsLevelOf, IsWithout};
+ghost use Rattle.plan_maker.specs.Beginnings.{IsBeginning, IsPrefix, IsLevelOf, IsWithout};
 
 use crate::decided::can_ask;
 use crate::orders::{elimination_order, unknown_count};
@@ -20,7 +20,7 @@ const REST: usize = 19_900;
 
 /// The first rows of a system, and the order in which its unknowns are removed.
 #[derive(Drop)]
-pub(crate) struct Front {
+pub(crate) struct Prefix {
     rows: System,
     order: Vec<u32>,
     // How many unknowns are removed before the owners.
@@ -148,7 +148,7 @@ fn level_without<'a>(
     Ok(Some((level, count)))
 }
 
-impl Front {
+impl Prefix {
     /// Of a system whose owners are dealt so the rows up to the last that has another unknown; None
     /// where elimination can't be asked of it.
     pub(crate) fn of(
@@ -156,7 +156,7 @@ impl Front {
         system: &System,
         dists: &[Dist],
     ) -> Result<Option<Self>, AllocError>
-        ensures { IfOk result (λ found. IfSome found IsFront) }
+        ensures { IfOk result (λ found. IfSome found IsPrefix) }
     {
         if !can_ask(system, dists) {
             return Ok(None);
@@ -165,7 +165,7 @@ impl Front {
         let order = elimination_order(alloc, system.vars(), dists)?;
         let count = count_with(system.rows(), &order.as_slice()[..others]);
         let rows = first_rows(alloc, system, count)?;
-        Ok(Some(Front {
+        Ok(Some(Prefix {
             rows,
             order,
             others,
@@ -175,7 +175,7 @@ impl Front {
     /// The level without the unknowns that are removed before the owners, or a long one before it,
     /// if elimination comes so far.
     pub(crate) fn begin(&self, alloc: Global) -> Result<Option<Beginning<'_>>, AllocError>
-        requires { IsFront self.now }
+        requires { IsPrefix self.now }
         ensures { IfOk result (λ found. IfSome found IsBeginning) }
     {
         let order = self.order.as_slice();

@@ -7,14 +7,15 @@ ghost use Rattle.sync_plan.specs.declared.plan.Kind.TheVariants.{Producer};
 ghost use Rattle.sync_plan.specs.Fit.{is_dealt};
 ghost use Rattle.comm_system.specs.Boundaries.{is_prefix as are_first_of};
 ghost use Rattle.comm_system.specs.PhaseViews.{phase_seen};
-ghost use Rattle.plan_maker.specs.Candidates.{candidate as candidate_of, candidates_at, each_once, kinds_taken, or_barrier, single_anchors, single_more};
+ghost use Rattle.plan_maker.specs.Candidates.{candidate as candidate_of, candidates_at, each_once, kinds_taken, last_places, or_barrier, single_anchors, single_more};
 
 use crate::places::item_at;
 use comm_system::phase::Phase;
 use nest_rows::is_prefix;
+use nest_tree::Listed;
 use owner_partition::{Anchor, Cut};
 use std::alloc::{AllocError, Global};
-use sync_plan::{Kind, Kinds};
+use sync_plan::Kind;
 
 // Whether an anchor is among these.
 fn is_among(anchor: &Anchor, anchors: &[Anchor]) -> bool
@@ -23,8 +24,9 @@ fn is_among(anchor: &Anchor, anchors: &[Anchor]) -> bool
     anchors.iter().any(|one| anchor.is_same(one))
 }
 
-// Whether a phase isn't dealt out and its Outer loops are the first of those round another.
-fn can_produce(cut: &Cut, one: &Phase, phase: &Phase) -> bool
+/// Whether a phase isn't dealt out and its Outer loops are the first of those round another, which
+/// may then wait for its owner alone.
+pub fn can_produce(cut: &Cut, one: &Phase, phase: &Phase) -> bool
     ensures { result ≡ (not (is_dealt cut.now.marks (phase_seen one.now).what) && are_first_of (phase_seen one.now).outer (phase_seen phase.now).outer) }
 {
     !cut.is_dealt(one.item) && is_prefix(one.outer.as_slice(), phase.outer.as_slice())
@@ -106,15 +108,29 @@ pub(crate) fn all_candidates(
     cut: &Cut,
     phases: &[Phase],
     anchors: &[Anchor],
-) -> Result<Vec<Kinds>, AllocError>
+) -> Result<Vec<Listed<Kind>>, AllocError>
     ensures { IfOk result (λ all. all.items ≡ map (candidates_at cut.now.marks (map phase_seen phases.now) anchors.now) (map phase_seen phases.now)) }
 {
     let mut all = Vec::new(alloc);
     for phase in phases {
         let kinds = candidates_at(alloc, cut, phases, anchors, phase)?;
-        all.push(Kinds::from_vec(kinds))?;
+        all.push(Listed::from_vec(kinds))?;
     }
     Ok(all)
+}
+
+/// Of each phase the place of its last candidate, which is a barrier.
+pub(crate) fn last_places(
+    alloc: Global,
+    candidates: &[Listed<Kind>],
+) -> Result<Vec<usize>, AllocError>
+    ensures { IfOk result (λ places. places.items ≡ last_places candidates.now) }
+{
+    let mut places = Vec::new(alloc);
+    for kinds in candidates {
+        places.push(kinds.as_slice().len().saturating_sub(1))?;
+    }
+    Ok(places)
 }
 
 // The candidate at this place; a barrier where there is none.
@@ -130,7 +146,7 @@ fn kind_at(alloc: Global, candidates: &[Kind], place: usize) -> Result<Kind, All
 /// The candidate of a phase at a place; a barrier where there is none.
 pub(crate) fn candidate(
     alloc: Global,
-    candidates: &[Kinds],
+    candidates: &[Listed<Kind>],
     phase: usize,
     place: usize,
 ) -> Result<Kind, AllocError>
@@ -145,7 +161,7 @@ pub(crate) fn candidate(
 /// The kinds that are taken, each by its place among the candidates.
 pub(crate) fn kinds_taken(
     alloc: Global,
-    candidates: &[Kinds],
+    candidates: &[Listed<Kind>],
     taken: &[usize],
 ) -> Result<Vec<Kind>, AllocError>
     ensures { IfOk result (λ kinds. kinds.items ≡ kinds_taken candidates.now taken.now) }

@@ -12,6 +12,7 @@ ghost use Rattle.plan_maker.specs.Orders.{elimination_order as order_of_owners, 
 use crate::beginnings::{Beginning, is_short};
 use crate::cause::Word;
 use crate::orders::{elimination_order, unknown_count};
+use crate::verdict::Verdict;
 use farkas_cert::narrow::are_narrow_rows;
 use farkas_cert::{Certificate, System};
 use fm_elim::{Advance, Answer, Level, NoMemory};
@@ -19,14 +20,8 @@ use owner_partition::Dist;
 use quick_elim::{Budget, Settled, settle};
 use std::alloc::{AllocError, Global};
 
-/// What is found of a system.
-#[derive(Drop)]
-pub(crate) enum Found {
-    /// It has no whole solution: this certificate is good for it.
-    Refuted(Certificate),
-    /// It is kept, with this word.
-    Kept(Word),
-}
+/// What is found of a system: a certificate that is good for it, or the word by which it is kept.
+pub(crate) type Found = Verdict<Certificate, Word>;
 
 /// Whether elimination can be asked of a system: its numbers are narrow, and the owners' unknowns are
 /// among its own, of which there are fewer than 2 ^ 32 - 1. Each system of a plan is so.
@@ -35,6 +30,7 @@ pub(crate) fn can_ask(system: &System, dists: &[Dist]) -> bool
     ensures owners { IsTrue result → unknowns_of dists.now ≤ system.now.vars }
     ensures room { IsTrue result → system.now.vars < 2 ^ 32 - 1 }
     ensures few { IsTrue result → length dists.now < 2 ^ 20 }
+    ensures asks { length dists.now < 2 ^ 20 → unknowns_of dists.now ≤ system.now.vars → system.now.vars < 2 ^ 32 - 1 → AreNarrow system.now.rows → IsTrue result }
 {
     dists.len() < 1 << 20
         && unknown_count(dists) <= system.vars()
@@ -81,8 +77,8 @@ fn quick_look(alloc: Global, system: &System) -> Result<Option<Found>, NoMemory>
     ensures { (order : List ℕ) → IfOk result (λ found. IfSome found (IsFound system.now order)) }
 {
     match settle(alloc, system, &Budget::default()) {
-        Ok(Settled::Refuted(certificate)) => Ok(Some(Found::Refuted(certificate))),
-        Ok(Settled::Solved(_)) => Ok(Some(Found::Kept(Word::Open))),
+        Ok(Settled::Refuted(certificate)) => Ok(Some(Verdict::Refuted(certificate))),
+        Ok(Settled::Solved(_)) => Ok(Some(Verdict::Kept(Word::Open))),
         Ok(Settled::Unknown) => Ok(None),
         Err(_) => Err(NoMemory),
     }
@@ -94,10 +90,10 @@ fn found_by(answer: Answer) -> Found
     ensures { (system : Inequalities) (order : List ℕ) → IsDecided system order answer → IsFound system order result }
 {
     match answer {
-        Answer::Infeasible(certificate) => Found::Refuted(certificate),
-        Answer::Open => Found::Kept(Word::Open),
-        Answer::Wide { .. } => Found::Kept(Word::Wide),
-        Answer::Many { .. } => Found::Kept(Word::Many),
+        Answer::Infeasible(certificate) => Verdict::Refuted(certificate),
+        Answer::Open => Verdict::Kept(Word::Open),
+        Answer::Wide { .. } => Verdict::Kept(Word::Wide),
+        Answer::Many { .. } => Verdict::Kept(Word::Many),
     }
 }
 
@@ -119,10 +115,10 @@ fn find_behind(alloc: Global, system: &System, answer: Answer) -> Result<Found, 
     ensures { (order : List ℕ) → IsDecided system.now order answer → IfOk result (IsFound system.now order) }
 {
     match found_by(answer) {
-        Found::Refuted(certificate) => Ok(Found::Refuted(certificate)),
-        Found::Kept(word) => match quick_look(alloc, system)? {
+        Verdict::Refuted(certificate) => Ok(Verdict::Refuted(certificate)),
+        Verdict::Kept(word) => match quick_look(alloc, system)? {
             Some(found) => Ok(found),
-            None => Ok(Found::Kept(word)),
+            None => Ok(Verdict::Kept(word)),
         },
     }
 }

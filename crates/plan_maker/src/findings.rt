@@ -9,6 +9,7 @@ ghost use Rattle.plan_maker.specs.Orders.{elimination_order as order_of};
 use crate::beginnings::Beginning;
 use crate::decided::{Found, find};
 use crate::places::item_at;
+use crate::verdict::Verdict;
 use farkas_cert::{CertRefusal, Certificate, Row, System, check_cert};
 use owner_partition::Dist;
 use std::alloc::{AllocError, Global};
@@ -158,7 +159,7 @@ fn find_anew(
     ensures { IfOk result (IsFound system.now (order_of system.now.vars dists.now)) }
 {
     let found = find(alloc, system, dists, beginning)?;
-    if let Found::Refuted(certificate) = &found {
+    if let Verdict::Refuted(certificate) = &found {
         let certificate = certificate.copy(alloc)?;
         chain.push(Known { hash, certificate })?;
     }
@@ -211,7 +212,7 @@ impl Findings {
         }
         let chain = &mut self.chains[place];
         if let Some(certificate) = recall(alloc, chain.as_slice(), hash, system)? {
-            return Ok(Found::Refuted(certificate));
+            return Ok(Verdict::Refuted(certificate));
         }
         find_anew(alloc, chain, hash, system, dists, beginning)
     }

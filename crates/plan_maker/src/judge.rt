@@ -4,68 +4,47 @@ ghost use Rattle.std.specs.Prelude.{◌≡◌, [], ◌∷◌, IfOk, IfSome, List
 ghost use Rattle.std.specs.List.{flat_map};
 ghost use Rattle.nest_tree.specs.View.{tree_of};
 ghost use Rattle.owner_partition.specs.declared.anchor.Dist.{Dist as Dealt};
-ghost use Rattle.sync_plan.specs.Shape.{wrong_field};
 ghost use Rattle.comm_system.specs.GroupViews.{group_seen};
 ghost use Rattle.comm_system.specs.SystemViews.{obligations_seen};
 ghost use Rattle.plan_maker.specs.Asked.{AreRefuted};
-ghost use Rattle.plan_maker.specs.Beginnings.{IsBeginning, IsFront};
-ghost use Rattle.plan_maker.specs.Judged.{IsJudgement, IsVerdict, asked_about, asked_in, cause_for};
+ghost use Rattle.plan_maker.specs.Beginnings.{IsBeginning, IsPrefix};
+ghost use Rattle.plan_maker.specs.Judged.{IsJudgement, IsVerdict, asked_about, asked_in, cause_for, cause_in, certificates_in};
 
-use crate::beginnings::{Beginning, Front};
+use crate::beginnings::{Beginning, Prefix};
 use crate::cause::{Cause, Word};
-use crate::decided::Found;
 use crate::findings::{Findings, SharedRows};
+use crate::problem::Problem;
+use crate::verdict::Verdict;
 use comm_system::Obligation;
 use comm_system::group::Group;
 use comm_system::in_place::PairSystems;
 use comm_system::pair_systems::trips_obligation;
 use comm_system::subject::Subject;
 use farkas_cert::Certificate;
-use nest_tree::Program;
 use owner_partition::Dist;
 use std::alloc::{AllocError, Global};
-use sync_plan::Plan;
 
-/// What is known of systems one behind another.
-#[derive(Drop)]
-pub(crate) enum Verdict {
-    /// None of them has a whole solution: a certificate for each.
-    Refuted(Vec<Certificate>),
-    /// The first that is kept.
-    Kept(Cause),
-}
+/// What is known of systems one behind another: a certificate for each, or the first that is kept.
+pub(crate) type Judged = Verdict<Vec<Certificate>, Cause>;
 
-impl Verdict {
-    ghost use Rattle.std.specs.Prelude.{IfSome, List};
-    ghost use Rattle.plan_maker.specs.Asked.{AreRefuted, Asked};
-    ghost use Rattle.plan_maker.specs.Judged.{cause_in};
-
-    /// The certificates, where each is refuted.
-    pub(crate) fn into_certificates(self) -> Option<Vec<Certificate>>
-        ensures { (questions : List Asked) → IsVerdict questions self → IfSome result (λ cs. AreRefuted questions cs.items) }
-    {
-        match self {
-            Verdict::Refuted(certificates) => Some(certificates),
-            Verdict::Kept(_) => None,
-        }
-    }
-
-    /// The first that is kept, if any.
-    pub(crate) fn cause(&self) -> Option<Cause>
-        ensures { result ≡ cause_in self.now }
-    {
-        match self {
-            Verdict::Refuted(_) => None,
-            Verdict::Kept(cause) => Some(*cause),
-        }
+/// The certificates, where each is refuted.
+pub(crate) fn into_certificates(verdict: Judged) -> Option<Vec<Certificate>>
+    ensures { result ≡ certificates_in verdict }
+{
+    match verdict {
+        Verdict::Refuted(certificates) => Some(certificates),
+        Verdict::Kept(_) => None,
     }
 }
 
-// What is known of one system.
-#[derive(Drop)]
-enum Judgement {
-    Refuted(Certificate),
-    Kept(Cause),
+/// The first that is kept, if any.
+pub(crate) fn cause_of(verdict: &Judged) -> Option<Cause>
+    ensures { result ≡ cause_in verdict.now }
+{
+    match verdict {
+        Verdict::Refuted(_) => None,
+        Verdict::Kept(cause) => Some(*cause),
+    }
 }
 
 // What is said of an obligation that is kept with this answer.
@@ -90,13 +69,13 @@ fn judge_one(
     dists: &[Dist],
     beginning: Option<&Beginning>,
     findings: &mut Findings,
-) -> Result<Judgement, AllocError>
+) -> Result<Verdict<Certificate, Cause>, AllocError>
     requires { IfSome beginning (λ b. IsBeginning b.now) }
     ensures { IfOk result (IsJudgement (asked_about dists.now obligation.now)) }
 {
     match findings.find(alloc, &obligation.system, shared, dists, beginning)? {
-        Found::Refuted(certificate) => Ok(Judgement::Refuted(certificate)),
-        Found::Kept(word) => Ok(Judgement::Kept(cause_for(obligation, word))),
+        Verdict::Refuted(certificate) => Ok(Verdict::Refuted(certificate)),
+        Verdict::Kept(word) => Ok(Verdict::Kept(cause_for(obligation, word))),
     }
 }
 
@@ -131,7 +110,7 @@ fn judge_from(
     dists: &[Dist],
     beginning: Option<&Beginning>,
     findings: &mut Findings,
-) -> Result<Verdict, AllocError>
+) -> Result<Judged, AllocError>
     requires beginning { IfSome beginning (λ b. IsBeginning b.now) }
     requires known { AreRefuted (map (asked_about dists.now) (take (length known.items) (obligations_seen systems.old))) known.items }
     ensures { IfOk result (IsVerdict (map (asked_about dists.now) (obligations_seen systems.old))) }
@@ -147,8 +126,8 @@ fn judge_from(
             beginning,
             findings,
         )? {
-            Judgement::Refuted(certificate) => certificates.push(certificate)?,
-            Judgement::Kept(cause) => return Ok(Verdict::Kept(cause)),
+            Verdict::Refuted(certificate) => certificates.push(certificate)?,
+            Verdict::Kept(cause) => return Ok(Verdict::Kept(cause)),
         }
     }
     Ok(Verdict::Refuted(certificates))
@@ -156,28 +135,28 @@ fn judge_from(
 
 // The first rows of a pair's obligation that was made last, where at least two are left from this
 // index on.
-fn front_of(
+fn prefix_of(
     alloc: Global,
     systems: &PairSystems,
     index: usize,
     dists: &[Dist],
-) -> Result<Option<Front>, AllocError>
-    ensures { IfOk result (λ found. IfSome found IsFront) }
+) -> Result<Option<Prefix>, AllocError>
+    ensures { IfOk result (λ found. IfSome found IsPrefix) }
 {
     if index.saturating_add(1) < systems.count() {
-        Front::of(alloc, &systems.obligation().system, dists)
+        Prefix::of(alloc, &systems.obligation().system, dists)
     } else {
         Ok(None)
     }
 }
 
 // The beginning with these rows, if elimination comes so far.
-fn beginning_of(alloc: Global, front: &Option<Front>) -> Result<Option<Beginning<'_>>, AllocError>
-    requires { IfSome front.now IsFront }
+fn beginning_of(alloc: Global, prefix: &Option<Prefix>) -> Result<Option<Beginning<'_>>, AllocError>
+    requires { IfSome prefix.now IsPrefix }
     ensures { IfOk result (λ found. IfSome found IsBeginning) }
 {
-    match front {
-        Some(front) => front.begin(alloc),
+    match prefix {
+        Some(prefix) => prefix.begin(alloc),
         None => Ok(None),
     }
 }
@@ -188,13 +167,13 @@ fn judge_pair(
     systems: &mut PairSystems,
     dists: &[Dist],
     findings: &mut Findings,
-) -> Result<Verdict, AllocError>
+) -> Result<Judged, AllocError>
     ensures { IfOk result (IsVerdict (map (asked_about dists.now) (obligations_seen systems.old))) }
 {
     let shared = SharedRows::of(&systems.obligation().system, systems.shared());
     let known = known_first(alloc, systems, shared, findings)?;
-    let front = front_of(alloc, systems, known.len(), dists)?;
-    match beginning_of(alloc, &front)? {
+    let prefix = prefix_of(alloc, systems, known.len(), dists)?;
+    match beginning_of(alloc, &prefix)? {
         Some(beginning) => {
             let beginning = Some(&beginning);
             judge_from(alloc, systems, shared, known, dists, beginning, findings)
@@ -209,33 +188,32 @@ fn judge_single(
     obligation: &Obligation,
     dists: &[Dist],
     findings: &mut Findings,
-) -> Result<Verdict, AllocError>
+) -> Result<Judged, AllocError>
     ensures { IfOk result (IsVerdict (asked_about dists.now obligation.now ∷ [])) }
 {
     let shared = SharedRows::of(&obligation.system, 0);
     match judge_one(alloc, obligation, shared, dists, None, findings)? {
-        Judgement::Refuted(certificate) => {
+        Verdict::Refuted(certificate) => {
             let mut certificates = Vec::new(alloc);
             certificates.push(certificate)?;
             Ok(Verdict::Refuted(certificates))
         }
-        Judgement::Kept(cause) => Ok(Verdict::Kept(cause)),
+        Verdict::Kept(cause) => Ok(Verdict::Kept(cause)),
     }
 }
 
 // What is known of the obligations of a pair of accesses.
 fn judge_group(
     alloc: Global,
-    program: &Program,
-    plan: &Plan,
+    problem: Problem,
     group: &Group,
     dists: &[Dist],
     findings: &mut Findings,
-) -> Result<Verdict, AllocError>
-    requires { wrong_field (tree_of program.now) plan.now ≡ None }
-    ensures { IfOk result (IsVerdict (asked_in (tree_of program.now) plan.now dists.now (group_seen group.now))) }
+) -> Result<Judged, AllocError>
+    ensures { IfOk result (IsVerdict (asked_in (tree_of problem.entry.program.now) problem.entry.plan.now dists.now (group_seen group.now))) }
 {
     let number = group.number;
+    let (program, plan) = (problem.program, problem.plan);
     match &group.subject {
         Subject::Trips(phase, a, b) => {
             let obligation = trips_obligation(alloc, program, plan, phase, a, b, number)?;
@@ -252,18 +230,16 @@ fn judge_group(
 /// so. Those behind the first that is kept aren't made.
 pub(crate) fn judge_groups(
     alloc: Global,
-    program: &Program,
-    plan: &Plan,
+    problem: Problem,
     groups: &[Group],
     dists: &[Dist],
     findings: &mut Findings,
-) -> Result<Verdict, AllocError>
-    requires { wrong_field (tree_of program.now) plan.now ≡ None }
-    ensures { IfOk result (IsVerdict (flat_map (asked_in (tree_of program.now) plan.now dists.now) (map group_seen groups.now))) }
+) -> Result<Judged, AllocError>
+    ensures { IfOk result (IsVerdict (flat_map (asked_in (tree_of problem.entry.program.now) problem.entry.plan.now dists.now) (map group_seen groups.now))) }
 {
     let mut certificates = Vec::new(alloc);
     for group in groups {
-        match judge_group(alloc, program, plan, group, dists, findings)? {
+        match judge_group(alloc, problem, group, dists, findings)? {
             Verdict::Refuted(mut more) => certificates.append(&mut more)?,
             Verdict::Kept(cause) => return Ok(Verdict::Kept(cause)),
         }

@@ -4,30 +4,37 @@
 //! - [`make`]: the plan with its reasons.
 //! - [`reasons`], [`cause`]: why loops aren't dealt out, and why nothing weaker stands in front of a
 //!   phase.
-//! - [`marks`]: the marks of loops, by which of them may not be dealt out.
+//! - [`tries`], [`cut`]: how a loop may be dealt out, and the cut of a program by how its loops are.
+//! - [`candidates`]: which phases another may wait for.
 //! - [`anchors`]: the anchors of the static phases under a cut.
 #![tactic(auto)]
 
 pub mod anchors;
 mod beginnings;
-mod candidates;
+mod cache;
+pub mod candidates;
 pub mod cause;
+pub mod cut;
 mod dealt;
 mod decided;
 mod findings;
 mod judge;
 mod loops;
 mod maker;
-pub mod marks;
-mod memory;
+mod marks;
+mod nests;
+mod numbers;
 mod orders;
 mod partners;
-mod passes;
 mod places;
+mod privates;
+mod problem;
 pub mod reasons;
-mod seat;
-mod trial;
+mod scope;
+mod search;
+pub mod tries;
+mod verdict;
 
 pub use anchors::anchors_of;
+pub use cut::{cut_of, cut_of_try};
 pub use maker::{make, make_barrier};
-pub use marks::push_marks;

@@ -1,37 +1,46 @@
-// Which loops are what.
+// How loops may be dealt out.
 
-ghost use Rattle.std.specs.Prelude.{◌≡◌, ◌-◌, ◌≤◌, ◌++◌, ◌<◌, ◌^◌, IfOk, OnOk, Some, length, map, slice_get, true};
+ghost use Rattle.std.specs.Prelude.{◌≡◌, ◌≤◌, ◌<◌, ℕ, IfOk, None, OnOk, Some, false, length, map, slice_get, true};
 ghost use Rattle.std.specs.List.{AllZip};
-ghost use Rattle.owner_partition.specs.Cuts.{plain_cut};
 ghost use Rattle.nest_tree.specs.Limits.{IsWithinLimits};
 ghost use Rattle.nest_tree.specs.Tree.{Tree};
-ghost use Rattle.nest_tree.specs.View.{statement_of, statements_from, tree_of};
+ghost use Rattle.nest_tree.specs.View.{tree_of};
 ghost use Rattle.nest_tree.specs.WellFormed.{IsWellFormed, loops_of};
 ghost use Rattle.sync_plan.specs.declared.plan.Conditions.TheVariants.{Values};
 ghost use Rattle.sync_plan.specs.Fit.{IsFit};
-ghost use Rattle.plan_maker.specs.Cut.{alone as alone_marks, alone_among, alone_in, alone_loop};
-ghost use Rattle.plan_maker.specs.Loops.{AreLoopVerdicts, AreOpenBarred, IsLoopVerdict, is_barred};
-ghost use Rattle.plan_maker.specs.Bars.{HasLoopReasons, IsLoopReason, is_open, open_loop, open_loops};
+ghost use Rattle.plan_maker.specs.Bars.{HasLoopReasons, IsLoopReason, all_attempts, is_open, loop_prints, open_loop, open_loops};
+ghost use Rattle.plan_maker.specs.Cut.{cut_asked};
+ghost use Rattle.plan_maker.specs.Judged.{IsVerdict};
+ghost use Rattle.plan_maker.specs.Loops.{AreLoopVerdicts, AreOpenBarred, IsLoopVerdict, tried_in};
+ghost use Rattle.plan_maker.specs.Tries.{body_among, nest_body};
 
-use crate::dealt::{does_dealt_print, judge_trips};
+use crate::cut::cut_of_try;
+use crate::dealt::judge_trips;
 use crate::findings::Findings;
-use crate::judge::Verdict;
-use crate::marks::push_closed;
+use crate::judge::Judged;
+use crate::nests::{have_print, nest_of};
 use crate::places::first_processors;
+use crate::problem::Problem;
 use crate::reasons::{Bar, LoopReason};
+use crate::tries::{Tried, tries_of};
+use crate::verdict::Verdict;
 use comm_system::phases::phases;
-use nest_tree::{Item, Program};
+use farkas_cert::Certificate;
+use nest_tree::{Nest, Program};
 use owner_partition::{Cut, Mark, StaticPhase};
 use plan_checker::check_fit;
 use std::alloc::{AllocError, Global};
 use sync_plan::{Plan, all_barrier};
 
-/// Whether a loop may be dealt out.
-#[derive(Clone, Copy, Debug, PartialEq, Eq)]
-pub(crate) enum LoopVerdict {
-    Free,
-    Barred(Bar),
+/// A try by which a loop may be dealt out, with certificates of two trips of it.
+#[derive(Drop)]
+pub(crate) struct Dealt {
+    tried: Tried,
+    certificates: Vec<Certificate>,
 }
+
+/// How a loop may be dealt out, or why it may not by each of its tries.
+pub(crate) type LoopVerdict = Verdict<Dealt, Vec<LoopReason>>;
 
 /// Verdicts on a program's loops, by number.
 pub(crate) fn judge_loops(
@@ -51,7 +60,7 @@ pub(crate) fn judge_loops(
     Ok(verdicts)
 }
 
-// The verdict on a loop, all loops round it taken as Outer.
+// The verdict on the loop with this number, from 1.
 fn judge_loop(
     alloc: Global,
     program: &Program,
@@ -60,31 +69,82 @@ fn judge_loop(
 ) -> Result<LoopVerdict, AllocError>
     requires formed { IsWellFormed (tree_of program.now) }
     requires limits { IsWithinLimits (tree_of program.now) }
+    requires some { 1 ≤ number }
+    requires there { number ≤ loops_of (tree_of program.now).items }
     ensures { IfOk result (IsLoopVerdict (tree_of program.now) number) }
 {
-    let cut = alone(alloc, program, number)?;
-    let phases = phases(alloc, program, &cut)?;
-    if does_dealt_print(&cut, phases.as_slice()) {
-        return Ok(LoopVerdict::Barred(Bar::Print));
+    let nest = nest_of(program, number);
+    if !have_print(&nest.items) {
+        return judge_tries(alloc, program, nest, findings);
     }
-    let plan = serial(alloc, program, cut)?;
-    match judge_trips(alloc, program, &plan, phases.as_slice(), findings)? {
-        Verdict::Refuted(_) => Ok(LoopVerdict::Free),
-        Verdict::Kept(cause) => Ok(LoopVerdict::Barred(Bar::Meeting(cause))),
-    }
+    let mut reasons = Vec::new(alloc);
+    reasons.push(LoopReason {
+        number,
+        tried: Tried::Doall,
+        bar: Bar::Print,
+    })?;
+    Ok(Verdict::Kept(reasons))
 }
 
-// A cut in which this loop alone is dealt out.
-fn alone(alloc: Global, program: &Program, number: u32) -> Result<Cut, AllocError>
-    ensures { IfOk result (λ cut. cut ≡ plain_cut (alone_marks (tree_of program.now) number)) }
+// The verdict on a loop without PRINT: the first try that doesn't fail counts.
+fn judge_tries(
+    alloc: Global,
+    program: &Program,
+    nest: &Nest,
+    findings: &mut Findings,
+) -> Result<LoopVerdict, AllocError>
+    requires formed { IsWellFormed (tree_of program.now) }
+    requires limits { IsWithinLimits (tree_of program.now) }
+    requires body { body_among nest.now.number (tree_of program.now).items ≡ Some (nest_body nest.now) }
+    requires silent { loop_prints (tree_of program.now) nest.now.number ≡ false }
+    ensures { IfOk result (IsLoopVerdict (tree_of program.now) nest.now.number) }
 {
-    let mut marks = Vec::new(alloc);
-    push_alone_among(&mut marks, number, &program.items)?;
-    Cut::plain(alloc, marks)
+    let number = nest.number;
+    let tries = tries_of(alloc, nest)?;
+    let mut reasons = Vec::new(alloc);
+    for &tried in tries.as_slice() {
+        let cut = cut_of_try(alloc, program, number, tried)?;
+        match judge_cut(alloc, program, cut, findings)? {
+            Verdict::Refuted(certificates) => {
+                return Ok(Verdict::Refuted(Dealt {
+                    tried,
+                    certificates,
+                }));
+            }
+            Verdict::Kept(cause) => reasons.push(LoopReason {
+                number,
+                tried,
+                bar: Bar::Meeting(cause),
+            })?,
+        }
+    }
+    Ok(Verdict::Kept(reasons))
+}
+
+// What is known of two trips of the loops that a cut deals out.
+fn judge_cut(
+    alloc: Global,
+    program: &Program,
+    cut: Cut,
+    findings: &mut Findings,
+) -> Result<Judged, AllocError>
+    requires formed { IsWellFormed (tree_of program.now) }
+    requires limits { IsWithinLimits (tree_of program.now) }
+    ensures { IfOk result (IsVerdict (cut_asked (tree_of program.now) cut)) }
+{
+    let phases = phases(alloc, program, &cut)?;
+    let plan = serial(alloc, program, cut)?;
+    let plan = &plan;
+    judge_trips(
+        alloc,
+        Problem { program, plan },
+        phases.as_slice(),
+        findings,
+    )
 }
 
 // A plan with this cut in which processor 0 does all. Where it doesn't fit it is as if memory had
-// run out; it fits where no PRINT stands in a Doall loop.
+// run out; it fits where no PRINT stands in a loop that is dealt out.
 fn serial(alloc: Global, program: &Program, cut: Cut) -> Result<Plan, AllocError>
     requires formed { IsWellFormed (tree_of program.now) }
     requires limits { IsWithinLimits (tree_of program.now) }
@@ -110,57 +170,21 @@ pub(crate) fn fitting(program: &Program, plan: Plan) -> Result<Plan, AllocError>
     }
 }
 
-// The marks where one loop is Doall, those inside it Inner, and all others Outer.
-#[cycle(alone)]
-fn push_alone_among(marks: &mut Vec<Mark>, number: u32, items: &[Item]) -> Result<(), AllocError>
-    ensures { OnOk result (marks.new.items ≡ marks.old.items ++ alone_among number (statements_from items.now)) }
+/// Of each loop, by which try it may be dealt out.
+pub(crate) fn dealt_loops(
+    alloc: Global,
+    verdicts: &[LoopVerdict],
+) -> Result<Vec<Option<Tried>>, AllocError>
+    ensures { IfOk result (λ tries. tries.items ≡ map tried_in verdicts.now) }
 {
-    for item in items {
-        push_alone(marks, number, item)?;
-    }
-    Ok(())
-}
-
-#[cycle(alone)]
-fn push_alone(marks: &mut Vec<Mark>, number: u32, item: &Item) -> Result<(), AllocError>
-    ensures { OnOk result (marks.new.items ≡ marks.old.items ++ alone_in number (statement_of item.now)) }
-{
-    match item {
-        Item::Loop(nest) => push_alone_loop(marks, number, nest.number, &nest.items),
-        Item::Assign(..) | Item::Print(..) | Item::Continue(_) => Ok(()),
-    }
-}
-
-// The marks of the loop with this number of its own and this body.
-#[cycle(alone)]
-fn push_alone_loop(
-    marks: &mut Vec<Mark>,
-    number: u32,
-    own: u32,
-    items: &[Item],
-) -> Result<(), AllocError>
-    ensures { OnOk result (marks.new.items ≡ marks.old.items ++ alone_loop number own (statements_from items.now)) }
-{
-    if own == number {
-        push_closed(marks, Mark::Doall, items)
-    } else {
-        marks.push(Mark::Outer)?;
-        push_alone_among(marks, number, items)
-    }
-}
-
-/// Of each loop, whether it is barred.
-pub(crate) fn barred_loops(alloc: Global, verdicts: &[LoopVerdict]) -> Result<Vec<bool>, AllocError>
-    ensures { IfOk result (λ barred. barred.items ≡ map is_barred verdicts.now) }
-{
-    let mut barred = Vec::new(alloc);
+    let mut tries = Vec::new(alloc);
     for verdict in verdicts {
-        barred.push(match verdict {
-            LoopVerdict::Free => false,
-            LoopVerdict::Barred(_) => true,
+        tries.push(match verdict {
+            Verdict::Refuted(dealt) => Some(dealt.tried),
+            Verdict::Kept(_) => None,
         })?;
     }
-    Ok(barred)
+    Ok(tries)
 }
 
 // Whether a loop with this mark is Outer or Single.
@@ -182,28 +206,27 @@ fn mark_in(marks: &[Mark], place: usize) -> Mark
 }
 
 // The verdict at this place, from 0.
-fn verdict_in(verdicts: &[LoopVerdict], place: usize) -> LoopVerdict
+fn verdict_in(verdicts: &[LoopVerdict], place: usize) -> &LoopVerdict
     requires { place < length verdicts.now }
-    ensures { slice_get verdicts.now place ≡ Some result }
+    ensures { slice_get verdicts.now place ≡ Some result.now }
 {
-    verdicts[place]
+    &verdicts[place]
 }
 
-// The reason of a loop with this verdict, behind the others, where it is Outer or Single.
-fn push_reason(
+// The reasons of a loop with this verdict, behind the others, where it is Outer or Single.
+fn push_reasons(
     reasons: &mut Vec<LoopReason>,
     mark: Mark,
-    verdict: LoopVerdict,
-    number: u32,
+    verdict: &LoopVerdict,
 ) -> Result<(), AllocError>
-    requires { is_open mark ≡ true → is_barred verdict ≡ true }
-    ensures { (tree : Tree) → IsLoopVerdict tree number verdict → OnOk result (HasLoopReasons tree (open_loop number mark) reasons.old.items reasons.new.items) }
+    requires { is_open mark ≡ true → tried_in verdict.now ≡ None }
+    ensures { (tree : Tree) (number : ℕ) → IsLoopVerdict tree number verdict.now → OnOk result (HasLoopReasons tree (all_attempts tree (open_loop number mark)) reasons.old.items reasons.new.items) }
 {
     if !is_open(mark) {
         return Ok(());
     }
-    if let LoopVerdict::Barred(bar) = verdict {
-        reasons.push(LoopReason { number, bar })?;
+    if let Verdict::Kept(more) = verdict {
+        reasons.extend_from_slice(more.as_slice())?;
     }
     Ok(())
 }
@@ -214,16 +237,15 @@ pub(crate) fn loop_reasons(
     marks: &[Mark],
     verdicts: &[LoopVerdict],
 ) -> Result<Vec<LoopReason>, AllocError>
-    requires few { length marks.now < 2 ^ 32 - 1 }
     requires long { length verdicts.now ≡ length marks.now }
     requires barred { AreOpenBarred marks.now verdicts.now }
-    ensures { (tree : Tree) → AreLoopVerdicts tree verdicts.now → IfOk result (λ reasons. AllZip (IsLoopReason tree) (open_loops 1 marks.now) reasons.items) }
+    ensures { (tree : Tree) → AreLoopVerdicts tree verdicts.now → IfOk result (λ reasons. AllZip (IsLoopReason tree) (all_attempts tree (open_loops 1 marks.now)) reasons.items) }
 {
     let mut reasons = Vec::new(alloc);
     for place in 0..marks.len() {
         let mark = mark_in(marks, place);
         let verdict = verdict_in(verdicts, place);
-        push_reason(&mut reasons, mark, verdict, place as u32 + 1)?;
+        push_reasons(&mut reasons, mark, verdict)?;
     }
     Ok(reasons)
 }

@@ -1,9 +1,11 @@
-// The marks of loops, by which of them are barred.
+// The marks of loops, by how these are dealt out.
 
-ghost use Rattle.std.specs.Prelude.{◌≡◌, ◌++◌, ◌∷◌, ◌||◌, not, OnOk};
+ghost use Rattle.std.specs.Prelude.{◌≡◌, ◌++◌, ◌∷◌, ◌||◌, is_some, OnOk};
 ghost use Rattle.nest_tree.specs.View.{statement_of, statements_from};
-ghost use Rattle.plan_maker.specs.Marks.{flagged, has_free, have_free, inner_in, inner_of, loop_marks, marks_in, marks_of};
+ghost use Rattle.plan_maker.specs.Marks.{has_free, have_free, inner_in, inner_of, loop_marks, marks_in, marks_of};
+ghost use Rattle.plan_maker.specs.Tries.{tried_at};
 
+use crate::tries::{Tried, tried_at};
 use nest_tree::Item;
 use owner_partition::Mark;
 use std::alloc::AllocError;
@@ -32,25 +34,13 @@ fn push_inner_in(marks: &mut Vec<Mark>, item: &Item) -> Result<(), AllocError>
     }
 }
 
-// Whether the loop with this number is barred.
-fn is_barred(barred: &[bool], number: u32) -> bool
-    ensures { result ≡ flagged barred.now number }
-{
-    let place = (number as usize).saturating_sub(1);
-    if place < barred.len() {
-        barred[place]
-    } else {
-        true
-    }
-}
-
-// Whether a loop that isn't barred stands in these statements.
+// Whether a loop that may be dealt out stands in these statements.
 #[cycle(free)]
-fn have_free(barred: &[bool], items: &[Item]) -> bool
-    ensures { result ≡ have_free (flagged barred.now) (statements_from items.now) }
+fn have_free(tries: &[Option<Tried>], items: &[Item]) -> bool
+    ensures { result ≡ have_free (tried_at tries.now) (statements_from items.now) }
 {
     for item in items {
-        if has_free(barred, item) {
+        if has_free(tries, item) {
             return true;
         }
     }
@@ -58,53 +48,53 @@ fn have_free(barred: &[bool], items: &[Item]) -> bool
 }
 
 #[cycle(free)]
-fn has_free(barred: &[bool], item: &Item) -> bool
-    ensures { result ≡ has_free (flagged barred.now) (statement_of item.now) }
+fn has_free(tries: &[Option<Tried>], item: &Item) -> bool
+    ensures { result ≡ has_free (tried_at tries.now) (statement_of item.now) }
 {
     match item {
-        Item::Loop(nest) => is_free(barred, nest.number, &nest.items),
+        Item::Loop(nest) => is_free(tries, nest.number, &nest.items),
         Item::Assign(..) | Item::Print(..) | Item::Continue(_) => false,
     }
 }
 
-// Whether the loop with this number and body isn't barred, or one inside it.
+// Whether the loop with this number and body may be dealt out, or one inside it.
 #[cycle(free)]
-fn is_free(barred: &[bool], number: u32, items: &[Item]) -> bool
-    ensures { result ≡ (not (flagged barred.now number) || have_free (flagged barred.now) (statements_from items.now)) }
+fn is_free(tries: &[Option<Tried>], number: u32, items: &[Item]) -> bool
+    ensures { result ≡ (is_some (tried_at tries.now number) || have_free (tried_at tries.now) (statements_from items.now)) }
 {
-    !is_barred(barred, number) || have_free(barred, items)
+    tried_at(tries, number).is_some() || have_free(tries, items)
 }
 
-/// The marks of a loop that is a phase, and of the loops in its body.
-pub(crate) fn push_closed(
-    marks: &mut Vec<Mark>,
-    mark: Mark,
-    items: &[Item],
-) -> Result<(), AllocError>
+// The marks of a loop that is a phase, and of the loops in its body.
+fn push_closed(marks: &mut Vec<Mark>, mark: Mark, items: &[Item]) -> Result<(), AllocError>
     ensures { OnOk result (marks.new.items ≡ marks.old.items ++ mark ∷ inner_of (statements_from items.now)) }
 {
     marks.push(mark)?;
     push_inner(marks, items)
 }
 
-/// The marks of the loops in these statements, behind the others, where those with a flag, by
-/// number from 1, are barred.
+/// The marks of the loops in these statements, behind the others, where these say how loops may be
+/// dealt out, by number from 1.
 #[cycle(marks)]
-pub fn push_marks(marks: &mut Vec<Mark>, barred: &[bool], items: &[Item]) -> Result<(), AllocError>
-    ensures { OnOk result (marks.new.items ≡ marks.old.items ++ marks_of (flagged barred.now) (statements_from items.now)) }
+pub(crate) fn push_marks(
+    marks: &mut Vec<Mark>,
+    tries: &[Option<Tried>],
+    items: &[Item],
+) -> Result<(), AllocError>
+    ensures { OnOk result (marks.new.items ≡ marks.old.items ++ marks_of (tried_at tries.now) (statements_from items.now)) }
 {
     for item in items {
-        push_mark(marks, barred, item)?;
+        push_mark(marks, tries, item)?;
     }
     Ok(())
 }
 
 #[cycle(marks)]
-fn push_mark(marks: &mut Vec<Mark>, barred: &[bool], item: &Item) -> Result<(), AllocError>
-    ensures { OnOk result (marks.new.items ≡ marks.old.items ++ marks_in (flagged barred.now) (statement_of item.now)) }
+fn push_mark(marks: &mut Vec<Mark>, tries: &[Option<Tried>], item: &Item) -> Result<(), AllocError>
+    ensures { OnOk result (marks.new.items ≡ marks.old.items ++ marks_in (tried_at tries.now) (statement_of item.now)) }
 {
     match item {
-        Item::Loop(nest) => push_loop(marks, barred, nest.number, &nest.items),
+        Item::Loop(nest) => push_loop(marks, tries, nest.number, &nest.items),
         Item::Assign(..) | Item::Print(..) | Item::Continue(_) => Ok(()),
     }
 }
@@ -113,17 +103,17 @@ fn push_mark(marks: &mut Vec<Mark>, barred: &[bool], item: &Item) -> Result<(), 
 #[cycle(marks)]
 fn push_loop(
     marks: &mut Vec<Mark>,
-    barred: &[bool],
+    tries: &[Option<Tried>],
     number: u32,
     items: &[Item],
 ) -> Result<(), AllocError>
-    ensures { OnOk result (marks.new.items ≡ marks.old.items ++ loop_marks (flagged barred.now) number (statements_from items.now)) }
+    ensures { OnOk result (marks.new.items ≡ marks.old.items ++ loop_marks (tried_at tries.now) number (statements_from items.now)) }
 {
-    if !is_barred(barred, number) {
-        push_closed(marks, Mark::Doall, items)
-    } else if have_free(barred, items) {
+    if let Some(tried) = tried_at(tries, number) {
+        push_closed(marks, tried.mark(), items)
+    } else if have_free(tries, items) {
         marks.push(Mark::Outer)?;
-        push_marks(marks, barred, items)
+        push_marks(marks, tries, items)
     } else {
         push_closed(marks, Mark::Single, items)
     }

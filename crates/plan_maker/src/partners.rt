@@ -1,20 +1,15 @@
 // Slots with accesses that conflict.
 
-ghost use Rattle.std.specs.Prelude.{◌≡◌, ◌++◌, IfOk, List, OnOk, map};
+ghost use Rattle.std.specs.Prelude.{◌≡◌, map};
 ghost use Rattle.std.specs.List.{list_any};
-ghost use Rattle.nest_tree.specs.Tree.{Tree};
-ghost use Rattle.sync_plan.specs.declared.plan.Kind.{Kind as HeldKind};
-ghost use Rattle.sync_plan.specs.declared.plan.Plan.{Plan as HeldPlan};
 ghost use Rattle.comm_system.specs.Pairs.{conflict};
-ghost use Rattle.comm_system.specs.References.{StaticPhase};
 ghost use Rattle.comm_system.specs.Seen.{reference_seen};
 ghost use Rattle.comm_system.specs.SlotViews.{slot_seen};
-ghost use Rattle.plan_maker.specs.Trials.{asked_of_slot, slots_asked};
+ghost use Rattle.plan_maker.specs.Meeting.{meets as slot_meets};
 
 use comm_system::conflict::are_conflicting;
 use comm_system::reference::Reference;
 use comm_system::slot::Slot;
-use std::alloc::{AllocError, Global};
 
 // Whether an access conflicts with one of these.
 fn has_partner(a: &Reference, others: &[Reference]) -> bool
@@ -40,28 +35,10 @@ fn have_partners(firsts: &[Reference], seconds: &[Reference]) -> bool
     false
 }
 
-// A slot behind the others, if it has accesses that conflict.
-fn push_meeting<'b, 'a>(met: &mut Vec<Slot<'b, 'a>>, slot: Slot<'b, 'a>) -> Result<(), AllocError>
-    ensures { (tree : Tree) (plan : HeldPlan) (kinds : List HeldKind) (phases : List StaticPhase) → OnOk result (slots_asked tree plan kinds phases (map slot_seen met.new.items) ≡ slots_asked tree plan kinds phases (map slot_seen met.old.items) ++ asked_of_slot tree plan kinds phases (slot_seen slot.entry)) }
+/// Whether a slot has accesses that conflict. Nothing is asked of the others, whatever the kinds.
+pub(crate) fn meets(slot: &Slot) -> bool
+    ensures { result ≡ slot_meets (slot_seen slot.now) }
 {
     let (first, second) = (slot.first, slot.second);
-    if !have_partners(first.references.as_slice(), second.references.as_slice()) {
-        return Ok(());
-    }
-    met.push(slot)?;
-    Ok(())
-}
-
-/// The slots with accesses that conflict. Nothing is asked of the others, whatever the kinds.
-pub(crate) fn meeting_slots<'b, 'a>(
-    alloc: Global,
-    slots: &[Slot<'b, 'a>],
-) -> Result<Vec<Slot<'b, 'a>>, AllocError>
-    ensures { (tree : Tree) (plan : HeldPlan) (kinds : List HeldKind) (phases : List StaticPhase) → IfOk result (λ met. slots_asked tree plan kinds phases (map slot_seen met.items) ≡ slots_asked tree plan kinds phases (map slot_seen slots.now)) }
-{
-    let mut met = Vec::new(alloc);
-    for slot in slots {
-        push_meeting(&mut met, *slot)?;
-    }
-    Ok(met)
+    have_partners(first.references.as_slice(), second.references.as_slice())
 }

@@ -1,11 +1,11 @@
 // Places along a distributed dimension, and how they are dealt.
 
-ghost use Rattle.std.specs.Prelude.{◌≡◌, ◌≤◌, ◌++◌, ◌-ℤ◌, ◌∷◌, [], IfOk, IfSome, IsTrue, if◌then◌else◌, Some, None, pos, negsuc, slice_get};
+ghost use Rattle.std.specs.Prelude.{◌≡◌, ◌≤◌, ◌-ℤ◌, IfOk, IfSome, IsTrue, if◌then◌else◌, Some, None, slice_get};
 ghost use Rattle.std.specs.Option.{option_copied};
 ghost use Rattle.nest_tree.specs.Form.{is_form, is_small};
 ghost use Rattle.nest_tree.specs.Layout.{count_of, extent};
 ghost use Rattle.nest_tree.specs.WellFormed.{is_value};
-ghost use Rattle.plan_maker.specs.Anchors.{block_for, dealt_as, in_blocks, less, first_processor};
+ghost use Rattle.plan_maker.specs.Anchors.{dealt_as, in_blocks, less, first_processor};
 
 use nest_tree::{Affine, Pairs, Spread};
 use owner_partition::{Anchor, Dist};

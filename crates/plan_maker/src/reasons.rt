@@ -1,9 +1,10 @@
 // Why loops aren't dealt out, and why no weaker kind stands in front of a phase.
 
 use crate::cause::Cause;
+use crate::tries::Tried;
 use sync_plan::Kind;
 
-/// Why a loop isn't dealt out.
+/// Why a loop isn't dealt out by a try.
 #[derive(Clone, Copy, Debug, PartialEq, Eq)]
 pub enum Bar {
     /// A PRINT stands in it.
@@ -12,10 +13,11 @@ pub enum Bar {
     Meeting(Cause),
 }
 
-/// A loop that is Outer or Single, by its number from 1.
+/// A loop that is Outer or Single, by its number from 1, and why it isn't dealt out by this try.
 #[derive(Clone, Copy, Debug, PartialEq, Eq)]
 pub struct LoopReason {
     pub number: u32,
+    pub tried: Tried,
     pub bar: Bar,
 }
 
@@ -28,8 +30,9 @@ pub struct PhaseReason {
     pub cause: Cause,
 }
 
-/// The reasons of a plan: one for each loop that is Outer or Single, rising; then one for each
-/// static phase and each candidate that is weaker than its kind, from the weakest on.
+/// The reasons of a plan: of each loop that is Outer or Single, rising, one for each try in order;
+/// then one for each static phase and each candidate that is weaker than its kind, from the weakest
+/// on.
 #[derive(Drop)]
 pub struct Reasons {
     pub loops: Vec<LoopReason>,

@@ -12,6 +12,8 @@ use Rattle.plan_maker.specs.declared.reasons.Bar.TheVariants.{Print, Meeting}
 use Rattle.plan_maker.specs.declared.reasons.LoopReason.{LoopReason}
 use Rattle.plan_maker.specs.declared.reasons.PhaseReason.{PhaseReason}
 use Rattle.plan_maker.specs.declared.reasons.Reasons.{Reasons}
+use Rattle.plan_maker.specs.declared.tries.Tried.{Tried}
+use Rattle.plan_maker.specs.declared.tries.Tried.TheVariants.{Doall, Private, Sum}
 
 -- the name of a variable by its number from 1; an empty one where there is no such variable
 abbrev pub declared_name : Option Declaration → List ℕ
@@ -38,13 +40,19 @@ place_words c = codes "LEVEL" ∷ decimal c.level ∷ codes "PIECE" ∷ decimal 
 abbrev pub why_words : Tree → Cause → List (List ℕ)
 why_words tree c = accesses_words tree c ++ place_words c
 
--- why a loop isn't dealt out
+-- how it was tried to deal a loop out
+abbrev pub tried_word : Tried → List ℕ
+tried_word Doall = codes "DOALL"
+tried_word Private = codes "PRIVATE"
+tried_word Sum = codes "SUM"
+
+-- why a try fails
 abbrev pub bar_words : Tree → Bar → List (List ℕ)
 bar_words tree Print = codes "PRINT" ∷ []
 bar_words tree (Meeting c) = accesses_words tree c ++ answer_word c.word ∷ []
 
 abbrev pub loop_line : Tree → LoopReason → List ℕ
-loop_line tree r = line_of (codes "LOOP" ∷ decimal r.number ∷ codes "NOT" ∷ codes "DOALL" ∷ bar_words tree r.bar)
+loop_line tree r = line_of (codes "LOOP" ∷ decimal r.number ∷ codes "NOT" ∷ tried_word r.tried ∷ bar_words tree r.bar)
 
 -- why a weaker kind doesn't stand in front of a phase
 abbrev pub phase_line : Tree → PhaseReason → List ℕ

@@ -10,6 +10,7 @@ ghost use Rattle.reason_text.specs.ReasonText as spec;
 use nest_tree::Program;
 use plan_maker::cause::{Cause, Word};
 use plan_maker::reasons::{Bar, LoopReason, PhaseReason, Reasons};
+use plan_maker::tries::Tried;
 use plan_text::{put_kind, put_natural, put_word};
 use std::alloc::AllocError;
 
@@ -62,13 +63,14 @@ fn push_loop(text: &mut Vec<u8>, program: &Program, reason: LoopReason) -> Resul
 {
     text.extend_from_slice(b"LOOP")?;
     push_number(text, reason.number)?;
-    text.extend_from_slice(b" NOT DOALL")?;
+    text.extend_from_slice(b" NOT")?;
+    put_word(text, tried_word(reason.tried))?;
     push_bar(text, program, reason.bar)?;
     text.push(b'\n')?;
     Ok(())
 }
 
-// The words, each with a blank in front, of why a loop isn't dealt out.
+// The words, each with a blank in front, of why a try fails.
 fn push_bar(text: &mut Vec<u8>, program: &Program, bar: Bar) -> Result<(), AllocError>
     ensures { OnOk result (text.new.items ≡ text.old.items ++ spaced (spec.bar_words (tree_of program.now) bar)) }
 {
@@ -141,6 +143,17 @@ fn name_of(program: &Program, variable: u32) -> &[u8]
         program.variables[place].name.as_slice()
     } else {
         b""
+    }
+}
+
+// How it was tried to deal a loop out.
+fn tried_word(tried: Tried) -> &'static [u8]
+    ensures { result.now ≡ spec.tried_word tried }
+{
+    match tried {
+        Tried::Doall => b"DOALL",
+        Tried::Private => b"PRIVATE",
+        Tried::Sum => b"SUM",
     }
 }
 

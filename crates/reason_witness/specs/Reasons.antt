@@ -37,9 +37,9 @@ IsWhyUnder all wanted Print = ⊤
 IsWhyUnder all wanted Certified = ⊤
 IsWhyUnder all wanted Unfit = ⊤
 
--- The obligation that is told: for a loop of the plan in which it alone is dealt out; for a weaker kind of the plan with that kind; for a plan that is refused its own with this number.
+-- The obligation that is told: for a loop and a try of the plan in which it alone is dealt out so; for a weaker kind of the plan with that kind; for a plan that is refused its own with this number.
 abbrev pub IsWhy : Tree → Plan → About → Wanted → Why → Type 0
-IsWhy tree plan (Loop n) wanted why = IsWhyIn (obligations_of tree (alone_plan tree n)) wanted why
+IsWhy tree plan (Loop n t) wanted why = IsWhyIn (obligations_of tree (alone_plan tree n t)) wanted why
 IsWhy tree plan (Weaker t kind) wanted why = IsWhyUnder (tasks_of tree (with_kind plan t kind)) wanted why
 IsWhy tree plan (Refused n) wanted why = IsWhyIn (obligations_of tree plan) (Number n) why
 

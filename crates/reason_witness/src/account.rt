@@ -8,8 +8,7 @@ ghost use Rattle.nest_tree.specs.WellFormed.{IsWellFormed};
 ghost use Rattle.sync_plan.specs.Fit.{IsFit};
 ghost use Rattle.comm_system.specs.Obligations.{obligations_of};
 ghost use Rattle.reason_witness.specs.Reasons.{AreReasons, IsMadePlan, IsReason, IsWhyIn, why_of};
-ghost use Rattle.owner_partition.specs.Cuts.{plain_cut};
-ghost use Rattle.reason_witness.specs.Plans.{AreSlotsOf, alone_marks, alone_plan};
+ghost use Rattle.reason_witness.specs.Plans.{AreSlotsOf, alone_plan};
 
 use crate::candidates::weaker_kinds;
 use crate::found::{Found, Planned, Wanted};
@@ -19,18 +18,19 @@ use comm_system::phase::Phase;
 use comm_system::phases::phases;
 use comm_system::slot_list::slots;
 use nest_tree::Program;
-use owner_partition::{Cut, Mark};
+use owner_partition::Mark;
 use plan_checker::{PlanRefusal, check_fit};
 use plan_maker::reasons::{Bar, PhaseReason, Reasons};
-use plan_maker::{anchors_of, make, push_marks};
+use plan_maker::tries::Tried;
+use plan_maker::{anchors_of, cut_of_try, make};
 use std::alloc::{AllocError, Global};
 use sync_plan::{Kind, Plan, all_barrier};
 
 /// What a reason is for.
 #[derive(Drop)]
 pub enum About {
-    /// That the loop with this number, from 1, isn't dealt out.
-    Loop(u32),
+    /// That the loop with this number, from 1, isn't dealt out by this try.
+    Loop(u32, Tried),
     /// That this kind doesn't stand in front of the static phase with this number, from 1.
     Weaker(u32, Kind),
     /// That the plan is refused for the obligation with this number, from 1.
@@ -65,16 +65,17 @@ pub struct Account {
     pub reasons: Vec<Reason>,
 }
 
-// A loop that isn't dealt out, by its number from 1, and what is looked for.
+// A loop that isn't dealt out by a try, by its number from 1, and what is looked for.
 #[derive(Clone, Copy)]
 struct Serial {
     number: u32,
+    tried: Tried,
     wanted: Wanted,
 }
 
 // A weaker kind in front of a static phase, by its number from 1, and what is looked for.
 #[derive(Drop)]
-struct Tried {
+struct Candidate {
     phase: u32,
     kind: Kind,
     wanted: Wanted,
@@ -84,7 +85,7 @@ struct Tried {
 #[derive(Drop)]
 struct Asked {
     loops: Vec<Serial>,
-    phases: Vec<Tried>,
+    phases: Vec<Candidate>,
 }
 
 impl Asked {
@@ -98,6 +99,7 @@ impl Asked {
             };
             loops.push(Serial {
                 number: reason.number,
+                tried: reason.tried,
                 wanted,
             })?;
         }
@@ -105,7 +107,7 @@ impl Asked {
         for reason in reasons.phases {
             let PhaseReason { phase, kind, cause } = reason;
             let wanted = Wanted::Named(cause);
-            phases.push(Tried {
+            phases.push(Candidate {
                 phase,
                 kind,
                 wanted,
@@ -114,7 +116,7 @@ impl Asked {
         Ok(Asked { loops, phases })
     }
 
-    // Of a plan that is given all loops that aren't dealt out, and all weaker kinds.
+    // Of a plan that is given all loops that aren't dealt out, as Doall ones, and all weaker kinds.
     fn of_given(alloc: Global, plan: &Plan, phases: &[Phase]) -> Result<Asked, AllocError> {
         let wanted = Wanted::First;
         let mut loops = Vec::new(alloc);
@@ -122,7 +124,11 @@ impl Asked {
         for mark in plan.cut.as_slice() {
             number = number.saturating_add(1);
             if matches!(mark, Mark::Outer | Mark::Single) {
-                loops.push(Serial { number, wanted })?;
+                loops.push(Serial {
+                    number,
+                    tried: Tried::Doall,
+                    wanted,
+                })?;
             }
         }
         let mut tried = Vec::new(alloc);
@@ -130,7 +136,7 @@ impl Asked {
         for place in 0..phases.len() {
             phase = phase.saturating_add(1);
             for kind in weaker_kinds(alloc, plan, phases, place)? {
-                tried.push(Tried {
+                tried.push(Candidate {
                     phase,
                     kind,
                     wanted,
@@ -153,41 +159,29 @@ fn why_of(found: Option<Found>) -> Why
     }
 }
 
-// The cut in which a loop alone is dealt out. The loop is numbered from 1.
-fn cut_of_loop(alloc: Global, program: &Program, number: u32) -> Result<Cut, AllocError>
-    ensures { IfOk result (λ cut. cut ≡ plain_cut (alone_marks (tree_of program.now) number)) }
-{
-    let before = (number as usize).saturating_sub(1);
-    let mut barred = vec![in alloc; true; before]?;
-    barred.push(false)?;
-    let mut marks = Vec::new(alloc);
-    push_marks(&mut marks, barred.as_slice(), &program.items)?;
-    Cut::plain(alloc, marks)
-}
-
-// The plan with this cut, for one processor.
-fn plan_of_loop(alloc: Global, program: &Program, number: u32) -> Result<Plan, AllocError>
+// The plan in which a loop alone is dealt out by a try, for one processor. The loop is numbered from 1.
+fn plan_of_try(
+    alloc: Global,
+    program: &Program,
+    number: u32,
+    tried: Tried,
+) -> Result<Plan, AllocError>
     requires formed { IsWellFormed (tree_of program.now) }
     requires limits { IsWithinLimits (tree_of program.now) }
-    ensures { IfOk result (λ plan. plan ≡ alone_plan (tree_of program.now) number) }
+    ensures { IfOk result (λ plan. plan ≡ alone_plan (tree_of program.now) number tried) }
 {
-    let cut = cut_of_loop(alloc, program, number)?;
+    let cut = cut_of_try(alloc, program, number, tried)?;
     let anchors = anchors_of(alloc, program, &cut, 1)?;
     all_barrier(alloc, cut, anchors, 1, Vec::new(alloc))
 }
 
 // Of the obligations of two trips of a loop the one that is looked for, or that a PRINT stands in it.
-fn why_serial(
-    alloc: Global,
-    program: &Program,
-    number: u32,
-    wanted: &Wanted,
-) -> Result<Why, AllocError>
+fn why_serial(alloc: Global, program: &Program, serial: Serial) -> Result<Why, AllocError>
     requires formed { IsWellFormed (tree_of program.now) }
     requires limits { IsWithinLimits (tree_of program.now) }
-    ensures { IfOk result (IsWhyIn (obligations_of (tree_of program.now) (alone_plan (tree_of program.now) number)) wanted.now) }
+    ensures { IfOk result (IsWhyIn (obligations_of (tree_of program.now) (alone_plan (tree_of program.now) serial.number serial.tried)) serial.wanted) }
 {
-    let plan = plan_of_loop(alloc, program, number)?;
+    let plan = plan_of_try(alloc, program, serial.number, serial.tried)?;
     match check_fit(program, &plan) {
         Ok(()) => {
             let planned = Planned {
@@ -196,7 +190,7 @@ fn why_serial(
                 known: &[],
                 first_pair: 0,
             };
-            Ok(why_of(planned.found(alloc, wanted)?))
+            Ok(why_of(planned.found(alloc, &serial.wanted)?))
         }
         Err(PlanRefusal::PrintPlace(_)) => Ok(Why::Print),
         Err(_) => Ok(Why::Unfit),
@@ -240,13 +234,13 @@ fn first_pair(reasons: &[Reason], wanted: &Wanted) -> u64 {
 
 impl Ground<'_, '_, '_> {
     // Why a loop isn't dealt out.
-    fn loop_reason(&self, alloc: Global, number: u32, wanted: Wanted) -> Result<Reason, AllocError>
+    fn loop_reason(&self, alloc: Global, serial: Serial) -> Result<Reason, AllocError>
         ensures { IfOk result (IsReason (tree_of self.now.program.now) self.now.plan.now) }
     {
-        let why = why_serial(alloc, self.program, number, &wanted)?;
+        let why = why_serial(alloc, self.program, serial)?;
         Ok(Reason {
-            about: About::Loop(number),
-            wanted,
+            about: About::Loop(serial.number, serial.tried),
+            wanted: serial.wanted,
             why,
         })
     }
@@ -282,7 +276,7 @@ impl Ground<'_, '_, '_> {
         ensures { OnOk result (All (IsReason (tree_of self.now.program.now) self.now.plan.now) reasons.new.items) }
     {
         for serial in loops {
-            let reason = self.loop_reason(alloc, serial.number, serial.wanted)?;
+            let reason = self.loop_reason(alloc, *serial)?;
             reasons.push(reason)?;
         }
         Ok(())
@@ -292,19 +286,19 @@ impl Ground<'_, '_, '_> {
     fn push_phases(
         &self,
         alloc: Global,
-        phases: Vec<Tried>,
+        phases: Vec<Candidate>,
         reasons: &mut Vec<Reason>,
     ) -> Result<(), AllocError>
         requires slots { AreSlotsOf (tree_of self.now.program.now) self.now.plan.now self.now.phases.now self.now.slots.now }
         requires reasons { All (IsReason (tree_of self.now.program.now) self.now.plan.now) reasons.old.items }
         ensures { OnOk result (All (IsReason (tree_of self.now.program.now) self.now.plan.now) reasons.new.items) }
     {
-        for tried in phases {
-            let Tried {
+        for candidate in phases {
+            let Candidate {
                 phase,
                 kind,
                 wanted,
-            } = tried;
+            } = candidate;
             let known = last_of(reasons.as_slice(), phase);
             let ground = Ground {
                 program: self.program,

@@ -1,8 +1,8 @@
 // What may stand in front of a phase in place of a stronger wait.
 
 use comm_system::phase::Phase;
-use nest_rows::is_prefix;
-use owner_partition::{Anchor, Cut};
+use owner_partition::Anchor;
+use plan_maker::candidates::can_produce;
 use std::alloc::{AllocError, Global};
 use sync_plan::{Kind, Plan};
 
@@ -24,11 +24,6 @@ fn is_among(anchor: &Anchor, kinds: &[Kind]) -> bool {
         Some(other) => anchor.is_same(other),
         None => false,
     })
-}
-
-// Whether a phase isn't dealt out and its Outer loops are the first of those round another.
-fn can_produce(cut: &Cut, one: &Phase, phase: &Phase) -> bool {
-    !cut.is_dealt(one.item) && is_prefix(one.outer.as_slice(), phase.outer.as_slice())
 }
 
 // A kind behind the others, where it is weaker than this one.

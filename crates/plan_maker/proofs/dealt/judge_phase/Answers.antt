@@ -11,13 +11,13 @@ use Rattle.comm_system.specs.Subjects.{obligations_in}
 use Rattle.comm_system.proofs.GroupLists.{of_phase}
 use Rattle.plan_maker.specs.Asked.{asked}
 use Rattle.plan_maker.specs.Judged.{IsVerdict, asked_about}
-use Rattle.plan_maker.proofs.Numbers.{asked_flat, asked_numbered}
+use Rattle.plan_maker.proofs.Numbered.{asked_flat, asked_numbered}
 use Rattle.plan_maker.proofs.dealt.judge_phase.Goals as goal
 
 pub returns : goal.returns
 returns c =
-    let tree = tree_of c.args.program.now in
-    let plan = c.args.plan.now in
+    let tree = tree_of c.args.problem.program.now in
+    let plan = c.args.problem.plan.now in
     let s = phase_seen c.args.phase.now in
     let tasks = map (trips_task tree plan s) (pairs_within plan.cut s) in
     let dealt : is_dealt plan.cut.marks s.what ≡ true = sym c.is_dealt.ensures ∙ c.if-not-is_dealt.false in

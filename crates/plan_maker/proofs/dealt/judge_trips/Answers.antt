@@ -17,8 +17,8 @@ ask tree plan p = trips_asked tree plan (phase_seen p)
 
 pub returns-in-Kept : goal.returns-in-Kept
 returns-in-Kept c =
-    let tree = tree_of c.args.program.now in
-    let plan = c.args.plan.now in
+    let tree = tree_of c.args.problem.program.now in
+    let plan = c.args.problem.plan.now in
     let i = c.loop-phase.phase-index in
     let x = c.phase-item.result in
     let here = subst (IsVerdict (ask tree plan x)) c.in-Kept.is c.in_ok-more.ensures in
@@ -27,8 +27,8 @@ returns-in-Kept c =
 
 pub loop-phase-preserved : goal.loop-phase-preserved
 loop-phase-preserved c =
-    let tree = tree_of c.args.program.now in
-    let plan = c.args.plan.now in
+    let tree = tree_of c.args.problem.program.now in
+    let plan = c.args.problem.plan.now in
     let i = c.loop-phase.phase-index in
     let x = c.phase-item.result in
     let here = subst (IsVerdict (ask tree plan x)) c.in-Refuted.is c.in_ok-more.ensures in
@@ -37,7 +37,7 @@ loop-phase-preserved c =
 
 pub returns : goal.returns
 returns c =
-    let tree = tree_of c.args.program.now in
-    let plan = c.args.plan.now in
+    let tree = tree_of c.args.problem.program.now in
+    let plan = c.args.problem.plan.now in
     let i = c.loop-phase.phase-index in
     subst (λ qs. AreRefuted qs c.loop-phase.certificates.items) (ap (flat_map (ask tree plan)) (take_all i c.args.phases.now c.loop-phase-test.false) ∙ sym (flat_map-map (trips_asked tree plan) phase_seen c.args.phases.now)) c.loop-phase.invariant

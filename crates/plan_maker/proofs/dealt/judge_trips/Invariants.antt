@@ -7,4 +7,4 @@ use Rattle.plan_maker.specs.Asked.{AreRefuted, trips_asked}
 use Rattle.plan_maker.proofs.dealt.judge_trips.Given as goal
 
 abbrev pub invariant-loop-phase : goal.invariant-loop-phase
-invariant-loop-phase l = AreRefuted (flat_map (λ (p : Phase). trips_asked (tree_of l.program) l.plan (phase_seen p)) (take l.phase-index l.phases)) l.certificates.items
+invariant-loop-phase l = AreRefuted (flat_map (λ (p : Phase). trips_asked (tree_of l.problem.program.now) l.problem.plan.now (phase_seen p)) (take l.phase-index l.phases)) l.certificates.items

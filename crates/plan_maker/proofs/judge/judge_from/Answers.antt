@@ -5,8 +5,10 @@ use Rattle.comm_system.specs.declared.obligation.Obligation.{Obligation}
 use Rattle.comm_system.specs.SystemViews.{last_made, obligations_seen}
 use Rattle.plan_maker.specs.Asked.{AreRefuted}
 use Rattle.plan_maker.specs.Judged.{IsJudgement, asked_about}
-use Rattle.plan_maker.specs.declared.judge.Judgement.{Judgement}
-use Rattle.plan_maker.specs.declared.judge.Judgement.TheVariants as one
+use Rattle.farkas_cert.specs.declared.certificate.Certificate.{Certificate}
+use Rattle.plan_maker.specs.declared.cause.Cause.{Cause}
+use Rattle.plan_maker.specs.declared.verdict.Verdict.{Verdict}
+use Rattle.plan_maker.specs.declared.verdict.Verdict.TheVariants.{Refuted, Kept}
 use Rattle.plan_maker.proofs.Questions.{map_kept, map_more}
 use Rattle.plan_maker.proofs.judge.judge_from.Goals as goal
 
@@ -27,8 +29,8 @@ returns-in-Kept c =
     let at : slice_get os i ≡ Some o = ap (λ xs. slice_get xs i) (sym same) ∙ c.in_ok-make.ensures.made in
     let here : o ≡ get_or os i o = sym (get_or_from_slice_get os i o o at) in
     let inside : i < length os = omega (arith, c.loop-index-test.true, c.count-index-end.ensures) in
-    let judged = subst (λ (j : Judgement). IsJudgement (ask c.obligation.result.now) j) c.in-Kept.is c.in_ok-certificate.ensures in
-    let said = subst (λ (x : Obligation). IsJudgement (ask x) (one.Kept c.in-Kept.cause)) c.obligation.ensures judged in
+    let judged = subst (λ (j : Verdict Certificate Cause). IsJudgement (ask c.obligation.result.now) j) c.in-Kept.is c.in_ok-certificate.ensures in
+    let said = subst (λ (x : Obligation). IsJudgement (ask x) (Kept c.in-Kept.cause)) c.obligation.ensures judged in
     map_kept ask os i o inside here c.loop-index.certificates.items c.in-Kept.cause c.loop-index.invariant.refuted said
 
 pub loop-index-preserved : goal.loop-index-preserved
@@ -41,8 +43,8 @@ loop-index-preserved c =
     let at : slice_get os i ≡ Some o = ap (λ xs. slice_get xs i) (sym same) ∙ c.in_ok-make.ensures.made in
     let here : o ≡ get_or os i o = sym (get_or_from_slice_get os i o o at) in
     let inside : i < length os = omega (arith, c.loop-index-test.true, c.count-index-end.ensures) in
-    let judged = subst (λ (j : Judgement). IsJudgement (ask c.obligation.result.now) j) c.in-Refuted.is c.in_ok-certificate.ensures in
-    let good = subst (λ (x : Obligation). IsJudgement (ask x) (one.Refuted c.in-Refuted.certificate)) c.obligation.ensures judged in
+    let judged = subst (λ (j : Verdict Certificate Cause). IsJudgement (ask c.obligation.result.now) j) c.in-Refuted.is c.in_ok-certificate.ensures in
+    let good = subst (λ (x : Obligation). IsJudgement (ask x) (Refuted c.in-Refuted.certificate)) c.obligation.ensures judged in
     record {
       same = same;
       refuted = subst (AreRefuted (map ask (take (i + 1) os))) (sym c.in_ok-push-in-Refuted.ensures.items) (map_more ask os i o inside here c.loop-index.certificates.items c.in-Refuted.certificate c.loop-index.invariant.refuted good);

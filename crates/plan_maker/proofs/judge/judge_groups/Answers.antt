@@ -18,8 +18,8 @@ ask tree plan dists g = asked_in tree plan dists (group_seen g)
 
 pub returns-in-Kept : goal.returns-in-Kept
 returns-in-Kept c =
-    let tree = tree_of c.args.program.now in
-    let plan = c.args.plan.now in
+    let tree = tree_of c.args.problem.program.now in
+    let plan = c.args.problem.plan.now in
     let dists = c.args.dists.now in
     let i = c.loop-group.group-index in
     let x = c.group-item.result in
@@ -29,8 +29,8 @@ returns-in-Kept c =
 
 pub loop-group-preserved : goal.loop-group-preserved
 loop-group-preserved c =
-    let tree = tree_of c.args.program.now in
-    let plan = c.args.plan.now in
+    let tree = tree_of c.args.problem.program.now in
+    let plan = c.args.problem.plan.now in
     let dists = c.args.dists.now in
     let i = c.loop-group.group-index in
     let x = c.group-item.result in
@@ -40,8 +40,8 @@ loop-group-preserved c =
 
 pub returns : goal.returns
 returns c =
-    let tree = tree_of c.args.program.now in
-    let plan = c.args.plan.now in
+    let tree = tree_of c.args.problem.program.now in
+    let plan = c.args.problem.plan.now in
     let dists = c.args.dists.now in
     let i = c.loop-group.group-index in
     subst (λ qs. AreRefuted qs c.loop-group.certificates.items) (ap (flat_map (ask tree plan dists)) (take_all i c.args.groups.now c.loop-group-test.false) ∙ sym (flat_map-map (asked_in tree plan dists) group_seen c.args.groups.now)) c.loop-group.invariant

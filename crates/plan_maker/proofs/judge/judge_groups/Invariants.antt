@@ -8,4 +8,4 @@ use Rattle.plan_maker.specs.Judged.{asked_in}
 use Rattle.plan_maker.proofs.judge.judge_groups.Given as goal
 
 abbrev pub invariant-loop-group : goal.invariant-loop-group
-invariant-loop-group l = AreRefuted (flat_map (λ (g : Group). asked_in (tree_of l.program) l.plan l.dists (group_seen g)) (take l.group-index l.groups)) l.certificates.items
+invariant-loop-group l = AreRefuted (flat_map (λ (g : Group). asked_in (tree_of l.problem.program.now) l.problem.plan.now l.dists (group_seen g)) (take l.group-index l.groups)) l.certificates.items

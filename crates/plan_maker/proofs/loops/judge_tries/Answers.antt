@@ -1,0 +1,22 @@
+use Rattle.std.proofs.Common.{◌+◌, map, take, sym, subst}
+use Rattle.std.specs.List.{AllZip}
+use Rattle.nest_tree.specs.View.{tree_of}
+use Rattle.owner_partition.specs.Cuts.{Cutting}
+use Rattle.plan_maker.specs.Asked.{IsCause}
+use Rattle.plan_maker.specs.Bars.{IsLoopReason, attempt}
+use Rattle.plan_maker.specs.Cut.{cut_asked}
+use Rattle.plan_maker.specs.Judged.{IsVerdict}
+use Rattle.plan_maker.proofs.Attempts.{fails_more}
+use Rattle.plan_maker.proofs.Lists.{get_here}
+use Rattle.plan_maker.proofs.loops.judge_tries.Goals as goal
+
+pub loop-tried-preserved : goal.loop-tried-preserved
+loop-tried-preserved c =
+    let tree = tree_of c.args.program.now in
+    let n = c.args.nest.now.number in
+    let ts = c.as_slice-tried-items.result.now in
+    let k = c.loop-tried.tried-index in
+    let verdict = subst (IsVerdict (cut_asked tree c.in_ok-cut.cut)) c.in-Kept.is c.in_ok-certificates.ensures in
+    let kept = subst (λ (u : Cutting). IsCause (cut_asked tree u) c.in-Kept.cause) c.in_ok-cut.ensures verdict in
+    subst (λ rs. AllZip (IsLoopReason tree) (map (attempt n) (take (k + 1) ts)) rs) (sym c.in_ok-push-in-Kept.ensures.items)
+    (fails_more tree n ts k _ c.loop-tried.reasons.items c.in-Kept.cause (get_here ts k _ c.loop-tried-test.true) c.requires.silent c.loop-tried.invariant kept)
