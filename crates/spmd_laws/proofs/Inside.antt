@@ -1,77 +1,37 @@
 -- The acts of a program in range under a plan load and store cells that are there.
-use Rattle.std.proofs.Common.{◌≡◌, ◌==◌, ℕ, suc, ◌+◌, ◌<◌, ◌&&◌, ℤ, Bool, true, false, List, [], ◌∷◌, ◌++◌, map, Option, Some, None, refl, sym, subst, ◌∙◌, if◌then◌else◌}
-use Rattle.std.specs.List.{All, list_all}
+use Rattle.std.proofs.Common.{◌≡◌, ◌==◌, ℕ, suc, ◌+◌, ◌<◌, Bool, true, false, List, [], ◌∷◌, ◌++◌, map, Option, Some, None, refl, sym, subst, if◌then◌else◌}
+use Rattle.std.specs.List.{All}
 use Rattle.std.specs.Option.{option_to_list}
-use Rattle.std.proofs.lemmas.Bool.{and_parts, lt-leb}
-use Rattle.std.proofs.lemmas.List.Elements.{All-append, All-cons, All-head, All-map, All-nil, All-tail}
-use Rattle.std.proofs.lemmas.List.Folds.{list_all-append}
+use Rattle.std.proofs.lemmas.Bool.{lt-leb}
+use Rattle.std.proofs.lemmas.List.Elements.{All-append, All-cons, All-head, All-map, All-nil, All-tail, All-weaker}
 use Rattle.nest_tree.specs.Layout.{cell_count}
-use Rattle.nest_tree.specs.Loads.{loads_in}
-use Rattle.nest_tree.specs.Tree.{Statement, Statements, Work, assign, print, do_loop, work, continue, done, next, Tree, param_values}
-use Rattle.nest_tree.specs.WellFormed.{IsWellFormed, are_good_statements, is_good_access, is_good_expression, is_good_guard, is_good_statement, is_good_work, loops_in, scope_of}
+use Rattle.nest_tree.specs.Tree.{Tree, param_values}
+use Rattle.nest_tree.specs.WellFormed.{IsWellFormed}
 use Rattle.nest_tree.proofs.Cells.{well_formed_parts}
-use Rattle.nest_tree.proofs.Good.{good_loop}
-use Rattle.nest_model.specs.Accesses.{cells_of, access_cell, work_loads, work_store}
-use Rattle.nest_model.specs.Instances.{Instance, head_trips, instances, instances_in, instances_of, is_executed, no_values, with_loop, works_in}
-use Rattle.nest_model.specs.Ranges.{IsInRange, accesses_of, is_access_inside, is_instance_inside}
+use Rattle.nest_model.specs.Accesses.{cells_of}
+use Rattle.nest_model.specs.Instances.{Instance, instances, no_values}
+use Rattle.nest_model.specs.Ranges.{IsInRange, is_instance_inside}
 use Rattle.nest_model.specs.Visits.{Visit}
 use Rattle.owner_partition.specs.Phases.{Execution, executions, executions_from, phase_instances, phases}
 use Rattle.owner_partition.proofs.Instances.{all_executed}
 use Rattle.sync_plan.specs.declared.plan.Plan.{Plan}
-use Rattle.owner_partition.proofs.Sites.{All-flat_map, all_at}
+use Rattle.owner_partition.proofs.Sites.{all_at}
 use Rattle.spmd_model.specs.Timelines as timeline
 use Rattle.spmd_model.specs.Timelines.{Act, post, await, load, store, add, Job, Word, Moment, boundary, job, acts_from, boundary_acts, job_acts, last_act, moment_acts}
 use Rattle.spmd_model.specs.Planned.{boundary_of, job_of, jobs_of, machine_of, timeline_from, timeline_of}
 use Rattle.spmd_model.specs.Quiet.{is_quiet}
+use Rattle.spmd_model.proofs.CellsThere.{AreThere, IsGoodWork, cells_there, good_in}
 use Rattle.spmd_laws.specs.Protocols as Protocols
 use Rattle.spmd_laws.specs.Viewed.{acts_under, protocol_of}
 use Rattle.spmd_laws.proofs.Lists.{every, passed}
-use Rattle.spmd_laws.proofs.Loads.{access_there, expression_there, items_there}
 
 -- ---- instances
 
-abbrev AreThere : Tree → List ℕ → Type 0
-AreThere tree cells = All (λ c. c < cell_count tree) cells
-
-work_there : (tree : Tree) (around : List ℕ) (loops : List ℤ) (w : Work) → IsWellFormed tree → is_good_work (scope_of tree) around w ≡ true → list_all (is_access_inside tree loops) (accesses_of w) ≡ true → AreThere tree (work_loads tree loops w ++ option_to_list (work_store tree loops w))
-work_there tree around loops (assign a) formed good inside =
-    let scope = scope_of tree in
-    let g = and_parts (is_good_access scope around a.target && is_good_expression scope around a.value) (is_good_guard scope around a.guard) good in
-    let parts = and_parts (is_good_access scope around a.target) (is_good_expression scope around a.value) g.0 in
-    let i = and_parts (list_all (is_access_inside tree loops) (loads_in a.value)) (is_access_inside tree loops a.target && true) (sym (list_all-append (is_access_inside tree loops) (loads_in a.value) (a.target ∷ [])) ∙ inside) in
-    let target = (and_parts (is_access_inside tree loops a.target) true i.1).0 in
-    All-append (λ c. c < cell_count tree) (map (access_cell tree loops) (loads_in a.value)) (access_cell tree loops a.target ∷ []) (expression_there tree formed around loops a.value parts.1 i.0)
-    (All-cons (λ c. c < cell_count tree) (access_cell tree loops a.target) [] (access_there tree formed around loops a.target parts.0 target) (All-nil (λ c. c < cell_count tree)))
-work_there tree around loops (print p) formed good inside =
-    All-append (λ c. c < cell_count tree) (work_loads tree loops (print p)) [] (items_there tree formed around loops p.items good inside) (All-nil (λ c. c < cell_count tree))
-
--- an instance in range has cells that are there
-abbrev IsFine : Tree → Instance → Type 0
-IsFine tree i = is_instance_inside tree i ≡ true → AreThere tree (cells_of tree i)
-
-module _ (tree : Tree) (formed : IsWellFormed tree) where
-  mutual
-    fine_of : (s : Statement) (around : List ℕ) (n first : ℕ) (loops : List ℤ) → is_good_statement (scope_of tree) around n s ≡ true → All (IsFine tree) (instances_of (param_values tree) s first loops)
-    fine_of (do_loop head body) around n first loops good =
-        let inside : ℤ → List Instance = λ v. instances_in (param_values tree) body first (with_loop loops head.number v) in
-        let g = (good_loop (scope_of tree) around n head body good).inside in
-        All-flat_map (IsFine tree) inside (head_trips (param_values tree) head loops) (every (λ v. All (IsFine tree) (inside v)) (λ v. fine_in body (head.number ∷ around) (n + 1) first (with_loop loops head.number v) g) (head_trips (param_values tree) head loops))
-    fine_of (work w) around n first loops good =
-        let here : Instance = record { statement = first; what = w; loops = loops } in
-        elim (is_executed w loops (param_values tree)) as (λ b. All (IsFine tree) (if b then here ∷ [] else [])) [
-          | true ↦ All-cons (IsFine tree) here [] (work_there tree around loops w formed good) (All-nil (IsFine tree))
-          | false ↦ All-nil (IsFine tree)
-        ]
-    fine_of (continue line) around n first loops good = All-nil (IsFine tree)
-
-    fine_in : (ss : Statements) (around : List ℕ) (n first : ℕ) (loops : List ℤ) → are_good_statements (scope_of tree) around n ss ≡ true → All (IsFine tree) (instances_in (param_values tree) ss first loops)
-    fine_in done around n first loops good = All-nil (IsFine tree)
-    fine_in (next s rest) around n first loops good =
-        let g = and_parts (is_good_statement (scope_of tree) around n s) (are_good_statements (scope_of tree) around (n + loops_in s) rest) good in
-        All-append (IsFine tree) (instances_of (param_values tree) s first loops) (instances_in (param_values tree) rest (first + works_in s) loops) (fine_of s around n first loops g.0) (fine_in rest around (n + loops_in s) (first + works_in s) loops g.1)
-
 instances_there : (tree : Tree) → IsWellFormed tree → IsInRange tree → All (λ i. AreThere tree (cells_of tree i)) (instances tree)
-instances_there tree formed ranges = passed (is_instance_inside tree) (λ i. AreThere tree (cells_of tree i)) (instances tree) (fine_in tree formed tree.items [] 1 1 (no_values tree) (well_formed_parts tree formed).statements) ranges
+instances_there tree formed ranges =
+    let good = good_in tree (param_values tree) tree.items [] 1 1 (no_values tree) (well_formed_parts tree formed).statements in
+    let fine = All-weaker (IsGoodWork tree) (λ i. is_instance_inside tree i ≡ true → AreThere tree (cells_of tree i)) (λ i g. cells_there tree i formed g) (instances tree) good in
+    passed (is_instance_inside tree) (λ i. AreThere tree (cells_of tree i)) (instances tree) fine ranges
 
 -- ---- moments
 

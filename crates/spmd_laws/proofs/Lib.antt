@@ -1,5 +1,4 @@
 mod Lists
-mod Loads
 mod Inside
 mod Passed
 mod Arrivals

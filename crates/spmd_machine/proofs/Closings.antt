@@ -20,15 +20,15 @@ use Rattle.styled_turns.specs.StyledTurns.{StyledTurn, closes, close_deeds, scal
 use Rattle.styled_turns.specs.StyledLeft.{AreStyled, ShowsClosing, styled_left, styled_plan, styled_processor, styled_style, styled_tree}
 use Rattle.styled_turns.specs.declared.turns.StyledNext.TheVariants.{Close}
 use Rattle.styled_turns.specs.declared.turns.StyledTurns.{StyledTurns}
+use Rattle.styled_turns.proofs.OwnPlaces.{scalar_below, shared_there}
 use Rattle.spmd_machine.specs.Machines.{ComesNext, IsReady, StepsTo, model_of, plan_in, shared_in, shown, style_in, tree_in}
-use Rattle.spmd_machine.specs.Processors.{BeginsNext, IsBegun, IsClosing, IsKept, PassesTurn, all_of, deeds_left, is_styled_inside, left_of, memory_of}
+use Rattle.spmd_machine.specs.Processors.{IsFoundNext, IsBegun, IsClosing, IsKept, PassesTurn, all_of, deeds_left, is_styled_inside, left_of, memory_of}
 use Rattle.spmd_machine.specs.declared.answer.StepAnswer.TheVariants.{Stepped}
 use Rattle.spmd_machine.specs.declared.machine.Machine.{Machine}
 use Rattle.spmd_machine.specs.declared.processor.Processor.{Processor}
 use Rattle.spmd_machine.proofs.Kept.{first_is, passed_kept, room_passed, same_room}
 use Rattle.spmd_machine.proofs.LoadSteps.{have_own}
 use Rattle.spmd_machine.proofs.OwnMemory.{own_set, own_value, same_memory, shared_put, shared_value}
-use Rattle.spmd_machine.proofs.OwnPlaces.{scalar_below, shared_there}
 use Rattle.spmd_machine.proofs.Quiets.{quiet_is}
 use Rattle.spmd_machine.proofs.Ready.{kept_here, next_here, steps, worker_here}
 use Rattle.spmd_machine.proofs.Steps.{registers_read, same_counters, same_signals}
@@ -173,7 +173,7 @@ module _ (m : Machine) (ready : IsReady m) (p : ℕ) (x : Processor) (lt : p < l
   -- a processor behind an act of it
   pub record StaysAt (y : Processor) (n : ℕ) : Type 0 where
     pub turns : y.turns ≡ x.turns
-    pub instance : y.begun ≡ x.begun
+    pub instance : y.found ≡ x.found
     pub done : y.done ≡ n
     pub closing : IsClosing k y
     pub capacity : vec_capacity x.registers ≤ vec_capacity y.registers
@@ -191,7 +191,7 @@ module _ (m : Machine) (ready : IsReady m) (p : ℕ) (x : Processor) (lt : p < l
         processor = ap styled_processor s.turns ∙ kept.processor;
         style_is = ap styled_style s.turns ∙ kept.style_is;
         behind = suffix_rest (all_of (style_in m) (tree_in m) (plan_in m) p) (left_of x) (left_of y) d kept.behind left;
-        instance = subst (λ c. BeginsNext c y.begun) (sym s.turns) (subst (BeginsNext x.turns) (sym s.instance) kept.instance);
+        instance = subst (λ c. IsFoundNext c y.found) (sym s.turns) (subst (IsFoundNext x.turns) (sym s.instance) kept.instance);
         begun = subst (λ ts. IsBegun (entries m.table) ts y) (sym (turns ∙ turns_are)) s.closing;
         inside = ap (list_all (is_styled_inside (tree_in m))) turns ∙ kept.inside;
         own_cells = ap length s.own_cells ∙ kept.own_cells;

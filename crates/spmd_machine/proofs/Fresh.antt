@@ -31,7 +31,7 @@ use Rattle.styled_turns.specs.StyledTurns.{rounds_before}
 use Rattle.styled_turns.specs.StyledLeft.{styled_left, styled_plan, styled_processor}
 use Rattle.styled_turns.proofs.TurnsAct.{turns_act}
 use Rattle.spmd_machine.specs.Machines.{IsReached}
-use Rattle.spmd_machine.specs.Processors.{BeginsNext, IsFresh, IsKept, all_of, is_styled_inside, left_of, position_of, room_of, state_of, styled_room}
+use Rattle.spmd_machine.specs.Processors.{IsFoundNext, IsFresh, IsKept, all_of, is_styled_inside, left_of, position_of, room_of, state_of, styled_room}
 use Rattle.spmd_machine.specs.declared.processor.Processor.{Processor}
 use Rattle.spmd_machine.proofs.Kept.{idle_begun, left_idle}
 use Rattle.spmd_machine.proofs.Steps.{same_state}
@@ -201,7 +201,7 @@ module _ (style : Style) (tree : Tree) (plan : Plan) (size : ℕ) (formed : IsWe
     processor = f.processor;
     style_is = f.style_is;
     behind = record { front = []; is = sym (fresh_left p x worker f) };
-    instance = subst (BeginsNext x.turns) (sym f.none_begun) tt;
+    instance = subst (IsFoundNext x.turns) (sym f.none_found) tt;
     begun = idle_begun entries wide (styled_left x.turns) x f.idle;
     inside = ap (list_all (is_styled_inside tree)) f.turns ∙ styled_inside style tree plan p first_standing (turns_from tree plan p 1 (phases tree plan.cut.marks)) ∙ all_inside tree plan p inside;
     own_cells = ap length f.own_cells ∙ length-replicate 32 (pos 0);

@@ -1,11 +1,12 @@
 -- What a processor keeps behind a turn.
-use Rattle.std.proofs.Common.{◌≡◌, ℕ, zero, suc, ◌+◌, ◌-◌, ◌<◌, List, [], ◌∷◌, ◌++◌, length, drop, take, get_or, set, Some, None, refl, sym, ◌∙◌, ap, subst, inl, inr, arith, sum_by, vec_capacity}
+use Rattle.std.proofs.Common.{◌≡◌, ℕ, zero, suc, ◌+◌, ◌-◌, ◌<◌, List, [], ◌∷◌, ◌++◌, length, drop, take, get_or, set, Option, Some, None, refl, sym, ◌∙◌, ap, subst, inl, inr, arith, sum_by, vec_capacity}
 use Rattle.std.specs.Prelude.{slice_get}
 use Rattle.std.specs.List.{flat_map, list_all}
 use Rattle.std.proofs.lemmas.Bool.{and_parts, cases_eq}
 use Rattle.std.proofs.lemmas.List.{get_or-set_other, get_or-set_same, length-set}
 use Rattle.std.proofs.lemmas.List.Sums.{sum_by-cons}
 use Rattle.nest_tree.specs.Tree.{Tree}
+use Rattle.nest_walk.specs.declared.cursor.Stop.{Stop}
 use Rattle.nest_walk.specs.declared.table.LoadCells.{LoadCells}
 use Rattle.nest_walk.specs.declared.table.WorkCells.{WorkCells}
 use Rattle.sync_plan.specs.declared.plan.Plan.{Plan}
@@ -16,7 +17,7 @@ use Rattle.spmd_turns.specs.Loads.{AreWide, widths}
 use Rattle.styled_turns.specs.StyledTurns.{StyledTurn, sets, waits, runs, closes, styled_deeds}
 use Rattle.styled_turns.specs.StyledLeft.{AreStyled, IsSameRun, styled_left, styled_plan, styled_processor, styled_style, styled_tree}
 use Rattle.styled_turns.specs.declared.turns.StyledTurns.{StyledTurns}
-use Rattle.spmd_machine.specs.Processors.{BeginsNext, IsBegun, IsIdle, IsKept, LooksFrom, PassesTurn, all_of, deeds_left, is_styled_inside, left_of, room_of, styled_room}
+use Rattle.spmd_machine.specs.Processors.{IsFoundNext, IsBegun, IsIdle, IsKept, LooksFrom, PassesTurn, all_of, deeds_left, is_styled_inside, left_of, room_of, styled_room}
 use Rattle.spmd_machine.specs.declared.processor.Processor.{Processor}
 use Rattle.spmd_machine.proofs.Suffixes.{suffix_at, suffix_rest}
 
@@ -67,7 +68,7 @@ module _ (style : Style) (tree : Tree) (plan : Plan) (entries : List WorkCells) 
     processor = passes.processor ∙ kept.processor;
     style_is = passes.style_is ∙ kept.style_is;
     behind = suffix_rest (all_of style tree plan p) (left_of x) (left_of y) d kept.behind left;
-    instance = subst (BeginsNext y.turns) (sym passes.none_begun) tt;
+    instance = subst (IsFoundNext y.turns) (sym passes.none_found) tt;
     begun = idle_begun entries wide (styled_left y.turns) y passes.idle;
     inside = (and_parts (is_styled_inside tree t) (list_all (is_styled_inside tree) (styled_left y.turns)) (sym (ap (list_all (is_styled_inside tree)) passes.turns) ∙ kept.inside)).1;
     own_cells = own;
@@ -76,19 +77,19 @@ module _ (style : Style) (tree : Tree) (plan : Plan) (entries : List WorkCells) 
   }
 
   -- the cursor has looked for what comes next
-  looked_left : (t : StyledTurns) → IsSameRun x.turns t → styled_left t ≡ styled_left x.turns → left_of (record x { turns = t }) ≡ left_of x
+  looked_left : (t : StyledTurns) (found : Option Stop) → IsSameRun x.turns t → styled_left t ≡ styled_left x.turns → left_of (record x { turns = t; found = found }) ≡ left_of x
   unfolding left_of
-  looked_left t same turns =
+  looked_left t found same turns =
       ap (λ ts. drop x.done (flat_map (styled_deeds (styled_tree t) (styled_plan t) (styled_processor t)) ts)) turns ∙ ap (drop x.done) (same_deeds x.turns t (styled_left x.turns) same.program same.plan same.processor)
 
-  looked_kept : (t : StyledTurns) → AreStyled t → BeginsNext t x.begun → IsSameRun x.turns t → styled_left t ≡ styled_left x.turns → IsKept style tree plan entries p (record x { turns = t })
-  looked_kept t sound instance same turns = record {
+  looked_kept : (t : StyledTurns) (found : Option Stop) → AreStyled t → IsFoundNext t found → IsSameRun x.turns t → styled_left t ≡ styled_left x.turns → IsKept style tree plan entries p (record x { turns = t; found = found })
+  looked_kept t found sound instance same turns = record {
     sound = sound;
     program = same.program ∙ kept.program;
     plan_is = same.plan ∙ kept.plan_is;
     processor = same.processor ∙ kept.processor;
     style_is = same.style ∙ kept.style_is;
-    behind = suffix_at (all_of style tree plan p) (left_of x) (left_of (record x { turns = t })) (looked_left t same turns) kept.behind;
+    behind = suffix_at (all_of style tree plan p) (left_of x) (left_of (record x { turns = t; found = found })) (looked_left t found same turns) kept.behind;
     instance = instance;
     begun = begun_on (styled_left x.turns) (styled_left t) turns kept.begun;
     inside = ap (list_all (is_styled_inside tree)) turns ∙ kept.inside;
@@ -97,18 +98,18 @@ module _ (style : Style) (tree : Tree) (plan : Plan) (entries : List WorkCells) 
     room_to_close = kept.room_to_close;
   }
     where
-      begun_on : (old new : List StyledTurn) → new ≡ old → IsBegun entries old x → IsBegun entries new (record x { turns = t })
-      begun_on [] new is h = subst (λ ts. IsBegun entries ts (record x { turns = t })) (sym is) (record { none_done = h.none_done; empty = h.empty; first_load = h.first_load; first_element = h.first_element })
-      begun_on (sets word n ∷ rest) new is h = subst (λ ts. IsBegun entries ts (record x { turns = t })) (sym is) (record { none_done = h.none_done; empty = h.empty; first_load = h.first_load; first_element = h.first_element })
-      begun_on (waits word on n ∷ rest) new is h = subst (λ ts. IsBegun entries ts (record x { turns = t })) (sym is) (record { none_done = h.none_done; empty = h.empty; first_load = h.first_load; first_element = h.first_element })
-      begun_on (runs place i ∷ rest) new is h = subst (λ ts. IsBegun entries ts (record x { turns = t })) (sym is) (λ cells at. record { loading = (h cells at).loading; count = (h cells at).count })
-      begun_on (closes place k ∷ rest) new is h = subst (λ ts. IsBegun entries ts (record x { turns = t })) (sym is) (record { first_load = h.first_load; first_element = h.first_element; stage = h.stage })
+      begun_on : (old new : List StyledTurn) → new ≡ old → IsBegun entries old x → IsBegun entries new (record x { turns = t; found = found })
+      begun_on [] new is h = subst (λ ts. IsBegun entries ts (record x { turns = t; found = found })) (sym is) (record { none_done = h.none_done; empty = h.empty; first_load = h.first_load; first_element = h.first_element })
+      begun_on (sets word n ∷ rest) new is h = subst (λ ts. IsBegun entries ts (record x { turns = t; found = found })) (sym is) (record { none_done = h.none_done; empty = h.empty; first_load = h.first_load; first_element = h.first_element })
+      begun_on (waits word on n ∷ rest) new is h = subst (λ ts. IsBegun entries ts (record x { turns = t; found = found })) (sym is) (record { none_done = h.none_done; empty = h.empty; first_load = h.first_load; first_element = h.first_element })
+      begun_on (runs place i ∷ rest) new is h = subst (λ ts. IsBegun entries ts (record x { turns = t; found = found })) (sym is) (λ cells at. record { loading = (h cells at).loading; count = (h cells at).count })
+      begun_on (closes place k ∷ rest) new is h = subst (λ ts. IsBegun entries ts (record x { turns = t; found = found })) (sym is) (record { first_load = h.first_load; first_element = h.first_element; stage = h.stage })
 
   pub look_left : (y : Processor) → LooksFrom x y → left_of y ≡ left_of x
-  look_left y l = ap left_of l.others ∙ looked_left y.turns l.same l.left
+  look_left y l = ap left_of l.others ∙ looked_left y.turns y.found l.same l.left
 
   pub look_kept : (y : Processor) → LooksFrom x y → IsKept style tree plan entries p y
-  look_kept y l = subst (IsKept style tree plan entries p) (sym l.others) (looked_kept y.turns l.sound (subst (BeginsNext y.turns) (ap (λ (z : Processor). z.begun) l.others) l.instance) l.same l.left)
+  look_kept y l = subst (IsKept style tree plan entries p) (sym l.others) (looked_kept y.turns y.found l.sound l.instance l.same l.left)
 
   -- a turn of one deed, of which nothing was done
   pub left_turn : (y : Processor) (t : StyledTurn) (d : Deed) → PassesTurn x y t → styled_deeds (styled_tree x.turns) (styled_plan x.turns) (styled_processor x.turns) t ≡ d ∷ [] → x.done ≡ 0 → left_of x ≡ d ∷ left_of y
@@ -142,7 +143,7 @@ passed_from x z y t turns capacity q = record {
   processor = q.processor ∙ ap styled_processor turns;
   style_is = q.style_is ∙ ap styled_style turns;
   turns = sym (ap styled_left turns) ∙ q.turns;
-  none_begun = q.none_begun;
+  none_found = q.none_found;
   idle = q.idle;
   room = omega (arith, q.room, capacity);
 }

@@ -129,12 +129,16 @@ module _ (m : Machine) (ready : IsReady m) (p : ℕ) (x : Processor) (lt : p < l
     pub table_below : (f : CellForm) → cells.store ≡ Some f → (k : ℕ) (values : List ℤ) → k ≡ cell_at f values → values ≡ by_depth rounds → k < cell_count tree
     table_below f stored k values k_is depth = omega (arith, store_within tree (styled_path x.turns) stop.first (statement_of stop.item.now) placed cells found f values m.memory.items k stored k_is depth ready.cells, ready.cells)
 
-    pub table_none : cells.store ≡ None → store_of tree i ≡ None
-    table_none none = by (store_of tree i) (table_store None none)
+    -- a cell that it stores to is one of the program
+    pub stored_below : (k : ℕ) → store_of tree i ≡ Some k → k < cell_count tree
+    stored_below k stores = by cells.store refl
       where
-        by : (o : Option ℕ) → [] ≡ option_to_list o → o ≡ None
-        by None h = refl
-        by (Some k) h = absurd (let clash : [] ≡ option_to_list (Some k) = h in cc)
+        by : (o : Option CellForm) → cells.store ≡ o → k < cell_count tree
+        by None is = absurd (let clash : [] ≡ option_to_list (Some k) = table_store None is ∙ ap option_to_list stores in cc)
+        by (Some f) is =
+            let one : cell_at f (by_depth rounds) ∷ [] ≡ k ∷ [] = table_store (Some f) is ∙ ap option_to_list stores in
+            let same : cell_at f (by_depth rounds) ≡ k = cc in
+            table_below f is k (by_depth rounds) (sym same) refl
 
     -- ---- an assignment
     module _ (e : Expr) (target : Access) (guard : Option Guard) (line : ℕ) (statement : stop.item.now ≡ Assign target e guard line) where
@@ -174,13 +178,7 @@ module _ (m : Machine) (ready : IsReady m) (p : ℕ) (x : Processor) (lt : p < l
       pub some_store : cells.store ≡ None → ⊥
       some_store none = let clash : [] ≡ option_to_list (Some (access_cell tree (here.loops m ready p x own stop (inst m ready p x lt read stop next) (rest m ready p x lt read stop next) turns_is) target)) = table_store None none ∙ ap option_to_list stores in cc
 
-      module _ (f : CellForm) (stored : cells.store ≡ Some f) (k : ℕ) (values : List ℤ) (k_is : k ≡ cell_at f values) (depth : values ≡ by_depth rounds) where
-        store_is : store_of tree i ≡ Some k
-        store_is = table_stores f stored k values k_is depth
-
-        pub store_below : k < cell_count tree
-        store_below = table_below f stored k values k_is depth
-
+      module _ (k : ℕ) (store_is : store_of tree i ≡ Some k) where
         same_size : (y : Processor) (after : List ℤ) (v : ℤ) (slot : Option ℕ) → Stores x y m.memory.items after k v slot → length after ≡ length m.memory.items
         same_size y after v None (to_shared owns is) = ap (λ (l : List ℤ). length l) is ∙ length-set m.memory.items k v
         same_size y after v (Some n) (to_own owns is) = ap (λ (l : List ℤ). length l) is
@@ -200,7 +198,7 @@ module _ (m : Machine) (ready : IsReady m) (p : ℕ) (x : Processor) (lt : p < l
             let k_here = kept_here m ready p x y lt read in
             let value = store_value v ls ps given is written params same
             ∙ ap (assigned_value tree i) (sym (registers_read (style_in m) tree (plan_in m) ready.formed ready.fits (entries m.table) m.processors.items m.memory.items m.output.bytes p worker x lt read k_here)) in
-            let memory_after = access_set tree (plan_in m) x.turns.place (few_here m ready p x lt read stop next) m.processors.items m.memory.items ready.cells (have_own m ready) p x lt read k slot v y memory.items store_below at_slot stored_to in
+            let memory_after = access_set tree (plan_in m) x.turns.place (few_here m ready p x lt read stop next) m.processors.items m.memory.items ready.cells (have_own m ready) p x lt read k slot v y memory.items (stored_below k store_is) at_slot stored_to in
             steps m ready p x y lt read loops memory m.output deed (passed_kept (style_in m) tree (plan_in m) (entries m.table) p x own ready.wide y t deed passes (own_size y memory.items v slot stored_to) left)
             (ap (λ (l : List ℤ). length l) loops_are ∙ with_rounds-length m.loops.items rounds) (same_size y memory.items v slot stored_to) (omega (arith, room)) (omega arith)
             (record {
@@ -251,7 +249,7 @@ module _ (m : Machine) (ready : IsReady m) (p : ℕ) (x : Processor) (lt : p < l
           let mine = get_or-le-sum_by (room_of tree) m.processors.items p x lt in
           omega (arith, room_here, longest, ap (room_of tree) read, mine, ready.room)
 
-      no_store : store_of tree i ≡ None
+      pub no_store : store_of tree i ≡ None
       no_store = ap (store_of tree) instance_is ∙ ap (work_store tree values) prints
 
       line_is : (ls given : List ℤ) → ls ≡ with_rounds m.loops.items rounds → given ≡ x.registers.items → items_text tree ls (map printed_of items) given ++ 10 ∷ [] ≡ line_of tree i x.registers.items

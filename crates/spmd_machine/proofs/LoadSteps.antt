@@ -8,7 +8,7 @@ use Rattle.nest_tree.specs.Layout.{cell_count}
 use Rattle.nest_tree.specs.Tree.{Tree, param_values}
 use Rattle.nest_tree.specs.View.{statement_of}
 use Rattle.nest_tree.specs.WellFormed.{IsWellFormed}
-use Rattle.nest_model.specs.Accesses.{loads_of}
+use Rattle.nest_model.specs.Accesses.{loads_of, store_of}
 use Rattle.nest_model.specs.Instances.{Instance}
 use Rattle.nest_model.specs.Memory.{cell_value}
 use Rattle.nest_model.specs.Ranges.{is_instance_inside}
@@ -32,11 +32,12 @@ use Rattle.spmd_turns.specs.TurnsLeft.{IsInstance, turns_tree}
 use Rattle.styled_turns.specs.StyledTurns.{StyledTurn, runs}
 use Rattle.styled_turns.specs.StyledLeft.{AreStyled, styled_left, styled_plan, styled_processor, styled_rounds, styled_style, styled_tree}
 use Rattle.styled_turns.specs.declared.turns.StyledNext.TheVariants.{Work}
-use Rattle.spmd_machine.specs.Machines.{ComesNext, IsReady, LoadsIn, LoadsNext, StepsTo, plan_in, style_in, tree_in}
-use Rattle.spmd_machine.specs.Processors.{BeginsNext, IsBegun, IsKept, all_of, is_styled_inside, left_of, memory_of, room_of}
+use Rattle.spmd_machine.specs.Machines.{ComesNext, IsReady, IsSpot, LoadsIn, LoadsNext, StepsTo, StoresIn, StoresNext, plan_in, style_in, tree_in}
+use Rattle.spmd_machine.specs.Processors.{IsFoundNext, IsBegun, IsKept, all_of, is_styled_inside, left_of, memory_of, room_of}
 use Rattle.spmd_machine.specs.declared.answer.StepAnswer.TheVariants.{Stepped}
 use Rattle.spmd_machine.specs.declared.machine.Machine.{Machine}
 use Rattle.spmd_machine.specs.declared.processor.Processor.{Processor}
+use Rattle.spmd_machine.specs.declared.processor.Spot.{Spot}
 use Rattle.spmd_machine.proofs.Kept.{same_room}
 use Rattle.spmd_machine.proofs.OwnAccess.{access_read, read_by}
 use Rattle.spmd_machine.proofs.OwnMemory.{HaveOwn, same_memory}
@@ -81,6 +82,24 @@ module _ (m : Machine) (ready : IsReady m) (p : ℕ) (x : Processor) (lt : p < l
   slot_is c o found =
       ap (λ (w : Tree). (own_of w (plan_in m) x.turns.place).slot c) (sym kept.program) ∙ ap (λ (q : Plan). (own_of (styled_tree x.turns) q x.turns.place).slot c) (sym kept.plan_is)
       ∙ sym found
+
+  -- a spot that the processor finds is where its access of that cell goes
+  pub spot_next : (s : Spot) (c : ℕ) → s.cell ≡ c → s.own ≡ (own_of (styled_tree x.turns) (styled_plan x.turns) x.turns.place).slot c → IsSpot m p s
+  spot_next s c same found d =
+      subst (λ (z : Processor). (own_of (tree_in m) (plan_in m) z.turns.place).slot s.cell ≡ s.own) (read ∙ get_or_default m.processors.items p x d lt)
+      (ap (λ n. (own_of (tree_in m) (plan_in m) x.turns.place).slot n) same ∙ slot_is c s.own found)
+
+  pub slot_here : (s : Spot) → IsSpot m p s → (own_of (tree_in m) (plan_in m) x.turns.place).slot s.cell ≡ s.own
+  slot_here s is = subst (λ (z : Processor). (own_of (tree_in m) (plan_in m) z.turns.place).slot s.cell ≡ s.own) (sym read) (is x)
+
+  -- what its instance stores to
+  pub stores_next : (c : ℕ) → store_of (tree_in m) inst.instance ≡ Some c → StoresNext m p stop c
+  stores_next c stores d =
+      subst (λ (z : Processor). StoresIn (tree_in m) z stop c) (read ∙ get_or_default m.processors.items p x d lt)
+      (λ comes. let both : comes.instance ∷ [] ≡ inst.instance ∷ [] = sym comes.is ∙ inst.is in let same : comes.instance ≡ inst.instance = cc in ap (store_of (tree_in m)) same ∙ stores)
+
+  pub stores_here : (c : ℕ) → StoresNext m p stop c → store_of (tree_in m) inst.instance ≡ Some c
+  stores_here c stores = subst (λ (z : Processor). StoresIn (tree_in m) z stop c) (sym read) (stores x) inst
 
   -- a cell of the program is one of the cursor's
   pub cell_here : (c : ℕ) → c < cell_count (tree_in m) → c < cell_count (styled_tree x.turns)
@@ -144,7 +163,7 @@ module _ (m : Machine) (ready : IsReady m) (p : ℕ) (x : Processor) (lt : p < l
     -- a processor behind the load of what its access reads
     pub record Loaded (y : Processor) (slot : Option ℕ) : Type 0 where
       pub turns : y.turns ≡ x.turns
-      pub instance : BeginsNext y.turns y.begun
+      pub instance : IsFoundNext y.turns y.found
       pub pushed : y.registers.items ≡ x.registers.items ++ read_by x m.memory.items cell slot ∷ []
       pub capacity : vec_capacity x.registers ≤ vec_capacity y.registers
       pub done : y.done ≡ suc x.done

@@ -1,13 +1,31 @@
 -- A machine whose processor does the acts on its own cells that stand next.
-use Rattle.std.proofs.Common.{◌≡◌, ℕ, ◌<◌, nat_lt, true, false, fold, length, refl, sym, ◌∙◌, ap, arith}
+use Rattle.std.proofs.Common.{◌≡◌, ℕ, ◌<◌, nat_lt, Bool, true, false, true≢false, fold, length, refl, sym, ◌∙◌, ap, arith}
 use Rattle.spmd_model.specs.Quiet.{first_turn, past_quiet, quiet_next, turned}
 use Rattle.spmd_model.specs.States.{first_state, stepped}
-use Rattle.spmd_machine.specs.Machines.{IsSameMachine, StepsTo, model_of, shared_in, shown}
+use Rattle.spmd_machine.specs.Machines.{GoesQuietly, IsSameMachine, StepsTo, model_of, shared_in, shown}
 use Rattle.spmd_machine.specs.Promises.{one_round}
 use Rattle.spmd_machine.specs.declared.answer.StepAnswer.{StepAnswer}
 use Rattle.spmd_machine.specs.declared.machine.Machine.{Machine}
 use Rattle.spmd_machine.proofs.Ready.{along_shared, model_is, same_then, shared_is, shown_count, steps_from}
 use Rattle.spmd_machine.proofs.Settles.{quiet_falls, quiet_goes, quiet_none}
+
+pub same_self : (m : Machine) → IsSameMachine m m
+same_self m = record { program = refl; plan = refl; style = refl; count = refl }
+
+-- ---- the act that comes next, done where this says so
+
+pub acted : (m n : Machine) (p : ℕ) (b : Bool) → b ≡ true → GoesQuietly m n p b → (said : StepAnswer) × StepsTo m n p said
+acted m n p true is goes = goes
+acted m n p false is goes = absurd (true≢false (sym is))
+
+pub stayed : (m n : Machine) (p : ℕ) (b : Bool) → b ≡ false → GoesQuietly m n p b → shown n ≡ shown m
+stayed m n p true is goes = absurd (true≢false is)
+stayed m n p false is goes = goes
+
+-- the same behind a look
+pub goes_from : (m n o : Machine) (p : ℕ) (b : Bool) → IsSameMachine m n → shown n ≡ shown m → GoesQuietly n o p b → GoesQuietly m o p b
+goes_from m n o p true same state goes = (goes.0, steps_from m n o p goes.0 same state goes.1)
+goes_from m n o p false same state goes = goes ∙ state
 
 -- one of them is done, behind a look at it
 module _ (first m n o : Machine) (p : ℕ) (said : StepAnswer) (before : IsSameMachine first m) (lt : p < length m.processors.items) (looked : IsSameMachine m n) (same : shown n ≡ shown m) (step : StepsTo n o p said) (some : nat_lt 0 (quiet_next (model_of m) (shared_in m) (shown m) p) ≡ true) where

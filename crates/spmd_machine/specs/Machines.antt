@@ -1,16 +1,17 @@
 -- What a machine shows, what it keeps, and what a step of it is.
-use Rattle.std.specs.Prelude.{ℕ, ◌+◌, ◌≡◌, ◌≤◌, ◌<◌, All, List, length, Option, Some, None, nat_le, slice_get, slice_index, slice_index_or, sum_by, if◌then◌else◌}
+use Rattle.std.specs.Prelude.{ℕ, ◌+◌, ◌≡◌, ◌≤◌, ◌<◌, All, Bool, true, false, List, length, Option, Some, None, nat_le, slice_get, slice_index, slice_index_or, sum_by, if◌then◌else◌}
 use Rattle.nest_tree.specs.Layout.{cell_count}
 use Rattle.nest_tree.specs.Tree.{Tree, param_values}
 use Rattle.nest_tree.specs.View.{tree_of}
 use Rattle.nest_tree.specs.WellFormed.{IsWellFormed, loops_of}
-use Rattle.nest_model.specs.Accesses.{loads_of}
+use Rattle.nest_model.specs.Accesses.{loads_of, store_of}
 use Rattle.nest_model.specs.Ranges.{IsInRange}
 use Rattle.nest_walk.specs.Tables.{IsCellTable, entries}
 use Rattle.nest_walk.specs.declared.cursor.Stop.{Stop}
 use Rattle.nest_walk.specs.declared.table.LoadCells.{LoadCells}
 use Rattle.nest_walk.specs.declared.table.WorkCells.{WorkCells}
 use Rattle.sync_plan.specs.Fit.{IsFit}
+use Rattle.sync_plan.specs.Own.{own_of}
 use Rattle.sync_plan.specs.declared.plan.Plan.{Plan}
 use Rattle.spmd_model.specs.Quiet.{quiet_next}
 use Rattle.spmd_model.specs.States.{State, next_act, run_of, stepped, words_of}
@@ -27,6 +28,7 @@ use Rattle.spmd_machine.specs.declared.answer.StepAnswer.{StepAnswer}
 use Rattle.spmd_machine.specs.declared.answer.StepAnswer.TheVariants.{Stepped, Blocked, Ended}
 use Rattle.spmd_machine.specs.declared.machine.Machine.{Machine}
 use Rattle.spmd_machine.specs.declared.processor.Processor.{Processor}
+use Rattle.spmd_machine.specs.declared.processor.Spot.{Spot}
 
 abbrev pub tree_in : Machine → Tree
 tree_in m = tree_of m.program.now
@@ -97,6 +99,17 @@ LoadsIn x stop cell = (comes : IsInstance (turns_tree x.turns.turns) (styled_rou
 abbrev pub LoadsNext : Machine → ℕ → Stop → Option ℕ → Type 0
 LoadsNext m p stop cell = (d : Processor) → LoadsIn (slice_index_or m.processors.items p d) stop cell
 
+-- the instance at a stop that comes next of processor p stores to this of the cells that all share
+abbrev pub StoresIn : Tree → Processor → Stop → ℕ → Type 0
+StoresIn tree x stop cell = (comes : IsInstance (turns_tree x.turns.turns) (styled_rounds x.turns) stop) → store_of tree comes.instance ≡ Some cell
+
+abbrev pub StoresNext : Machine → ℕ → Stop → ℕ → Type 0
+StoresNext m p stop cell = (d : Processor) → StoresIn (tree_in m) (slice_index_or m.processors.items p d) stop cell
+
+-- an access of a cell by processor p goes to this spot: to its own cell where it is that of an own scalar of its phase
+abbrev pub IsSpot : Machine → ℕ → Spot → Type 0
+IsSpot m p spot = (d : Processor) → (own_of (tree_in m) (plan_in m) (slice_index_or m.processors.items p d).turns.place).slot spot.cell ≡ spot.own
+
 -- of the same program and plan, in the same style
 pub record IsSameMachine (old new : Machine) : Type 0 where
   pub program : tree_in new ≡ tree_in old
@@ -110,6 +123,11 @@ pub record StepsTo (old new : Machine) (p : ℕ) (said : StepAnswer) : Type 0 wh
   pub same : IsSameMachine old new
   pub state : shown new ≡ stepped (model_of old) (shown old) p
   pub answer : said ≡ step_answer (model_of old) (shown old) p
+
+-- the act of processor p that comes next is done where this says so, else nothing is
+abbrev pub GoesQuietly : Machine → Machine → ℕ → Bool → Type 0
+GoesQuietly old new p true = (said : StepAnswer) × StepsTo old new p said
+GoesQuietly old new p false = shown new ≡ shown old
 
 -- no act on its own cells stands next of a processor
 abbrev pub IsSettled : Machine → ℕ → Type 0

@@ -91,9 +91,9 @@ is_styled_inside tree (closes place k) = true
 unfoldable pub room_of : Tree → Processor → ℕ
 room_of tree x = sum_by (styled_room tree) (styled_left x.turns)
 
--- an instance that has begun comes next
-abbrev pub BeginsNext : StyledTurns → Option Stop → Type 0
-BeginsNext turns instance = IfSome instance (λ stop. IsStyledNext turns (Work stop))
+-- an instance that was found to come next does so
+abbrev pub IsFoundNext : StyledTurns → Option Stop → Type 0
+IsFoundNext turns instance = IfSome instance (λ stop. IsStyledNext turns (Work stop))
 
 -- a list ends with another
 pub record Suffix {X : Type 0} (all left : List X) : Type 0 where
@@ -108,7 +108,7 @@ pub record IsKept (style : Style) (tree : Tree) (plan : Plan) (entries : List Wo
   pub processor : styled_processor x.turns ≡ p
   pub style_is : styled_style x.turns ≡ style
   pub behind : Suffix (all_of style tree plan p) (left_of x)
-  pub instance : BeginsNext x.turns x.begun
+  pub instance : IsFoundNext x.turns x.found
   pub begun : IsBegun entries (styled_left x.turns) x
   pub inside : list_all (is_styled_inside tree) (styled_left x.turns) ≡ true
   pub own_cells : length x.own ≡ 32
@@ -118,10 +118,10 @@ pub record IsKept (style : Style) (tree : Tree) (plan : Plan) (entries : List Wo
 -- behind a look at what comes next: the same is left, and all else is as it was
 pub record LooksFrom (x y : Processor) : Type 0 where
   pub sound : AreStyled y.turns
-  pub instance : BeginsNext y.turns y.begun
+  pub instance : IsFoundNext y.turns y.found
   pub left : styled_left y.turns ≡ styled_left x.turns
   pub same : IsSameRun x.turns y.turns
-  pub others : y ≡ record x { turns = y.turns }
+  pub others : y ≡ record x { turns = y.turns; found = y.found }
 
 -- past a turn to the next, with nothing of that done
 pub record PassesTurn (x y : Processor) (t : StyledTurn) : Type 0 where
@@ -131,7 +131,7 @@ pub record PassesTurn (x y : Processor) (t : StyledTurn) : Type 0 where
   pub processor : styled_processor y.turns ≡ styled_processor x.turns
   pub style_is : styled_style y.turns ≡ styled_style x.turns
   pub turns : styled_left x.turns ≡ t ∷ styled_left y.turns
-  pub none_begun : y.begun ≡ None
+  pub none_found : y.found ≡ None
   pub idle : IsIdle y
   pub room : vec_capacity x.registers ≤ vec_capacity y.registers
 
@@ -143,7 +143,7 @@ pub record IsFresh (style : Style) (tree : Tree) (plan : Plan) (size p : ℕ) (x
   pub processor : styled_processor x.turns ≡ p
   pub style_is : styled_style x.turns ≡ style
   pub turns : styled_left x.turns ≡ styled style tree plan p first_standing (turns_from tree plan p 1 (phases tree plan.cut.marks))
-  pub none_begun : x.begun ≡ None
+  pub none_found : x.found ≡ None
   pub idle : IsIdle x
   pub counter : x.counter ≡ 0
   pub signal : x.signal ≡ 0

@@ -9,7 +9,7 @@ ghost use Rattle.sync_plan.specs.Fit.{IsFit};
 ghost use Rattle.spmd_machine.specs.Processors.{AreFresh};
 
 use crate::answer::StepAnswer;
-use crate::processor::Processor;
+use crate::processor::{Processor, Spot};
 use nest_tree::{Expr, Item, PrintItem, Program};
 use nest_walk::{CellTable, Stop};
 use own_cells::{OWN_PLACES, is_sum_place};
@@ -44,6 +44,7 @@ impl<'a> Machine<'a> {
     ghost use Rattle.std.specs.Prelude.{Option, Vec, Bool, nat_lt, take};
     ghost use Rattle.std.specs.Global.{Global};
     ghost use Rattle.nest_tree.specs.declared.tree.Access.{Access};
+    ghost use Rattle.nest_tree.specs.declared.tree.Expr.{Expr};
     ghost use Rattle.nest_tree.specs.declared.tree.Guard.{Guard};
     ghost use Rattle.nest_tree.specs.declared.tree.PrintItem.{PrintItem};
     ghost use Rattle.std.specs.Prelude.{All, List, None, Some, true, false, ◌++◌};
@@ -56,7 +57,7 @@ impl<'a> Machine<'a> {
     ghost use Rattle.spmd_model.specs.Styled.{timeline_by};
     ghost use Rattle.spmd_model.specs.Timelines.{Job, job, load};
     ghost use Rattle.spmd_machine.specs.Promises.{FindsSequential, acts_to_go, can_step, one_round, rounds};
-    ghost use Rattle.spmd_machine.specs.Machines.{ComesNext, HasDone, IsReady, IsSameMachine, IsSettled, LoadsNext, StepsTo, model_of, plan_in, shared_in, shown, step_answer, style_in, tree_in};
+    ghost use Rattle.spmd_machine.specs.Machines.{ComesNext, GoesQuietly, HasDone, IsReady, IsSameMachine, IsSettled, IsSpot, LoadsNext, StepsTo, StoresNext, model_of, plan_in, shared_in, shown, step_answer, style_in, tree_in};
 
     /// The first state: nothing is done but what each processor begins with on its own cells, and
     /// all is 0 or empty. What a run can need is reserved.
@@ -156,23 +157,21 @@ impl<'a> Machine<'a> {
         ensures state { shown self.new ≡ past_quiet (model_of self.old) (shared_in self.old) (shown self.old) p }
         ensures same { IsSameMachine self.old self.new }
     {
-        while self.is_quiet(p) {
-            self.act(p);
-        }
+        while self.act_quietly(p) {}
     }
 
-    // Whether an act on its own cells comes next of a processor.
-    fn is_quiet(&mut self, p: usize) -> bool
+    // The act that comes next of a processor, where it is on its own cells; whether it is.
+    fn act_quietly(&mut self, p: usize) -> bool
         requires ready { IsReady self.old }
         requires worker { p < length self.old.processors.items }
         ensures ready { IsReady self.new }
-        ensures state { shown self.new ≡ shown self.old }
         ensures quiet { result ≡ nat_lt 0 (quiet_next (model_of self.old) (shared_in self.old) (shown self.old) p) }
+        ensures acts { GoesQuietly self.old self.new p result }
         ensures same { IsSameMachine self.old self.new }
     {
         match self.peek(p) {
-            StyledNext::Work(stop) => self.is_work_quiet(p, stop),
-            StyledNext::Close(_) => self.processors[p].done != 1,
+            StyledNext::Work(stop) => self.work_quietly(p, stop),
+            StyledNext::Close(place) => self.close_quietly(p, place),
             StyledNext::Post(_) | StyledNext::Await { .. } => false,
             StyledNext::Signal(_) | StyledNext::AwaitSignal { .. } => false,
             StyledNext::End => false,
@@ -180,24 +179,114 @@ impl<'a> Machine<'a> {
     }
 
     // The same at an instance.
-    fn is_work_quiet(&self, p: usize, stop: Stop<'a>) -> bool
-        requires ready { IsReady self.now }
-        requires worker { p < length self.now.processors.items }
-        requires next { ComesNext self.now p (StyledNext.Work stop) }
-        ensures { result ≡ nat_lt 0 (quiet_next (model_of self.now) (shared_in self.now) (shown self.now) p) }
+    fn work_quietly(&mut self, p: usize, stop: Stop<'a>) -> bool
+        requires ready { IsReady self.old }
+        requires worker { p < length self.old.processors.items }
+        requires next { ComesNext self.old p (StyledNext.Work stop) }
+        ensures ready { IsReady self.new }
+        ensures quiet { result ≡ nat_lt 0 (quiet_next (model_of self.old) (shared_in self.old) (shown self.old) p) }
+        ensures acts { GoesQuietly self.old self.new p result }
+        ensures same { IsSameMachine self.old self.new }
     {
         let processor = &self.processors[p];
         let path = processor.turns.path();
-        if let Some(cell) = processor.place.cell(&self.table, stop, path) {
-            return processor.place_of(cell).is_some();
+        match processor.place.cell(&self.table, stop, path) {
+            Some(cell) => self.load_quietly(p, stop, cell),
+            None => self.store_quietly(p, stop),
         }
-        match &self.table.work(stop.first).store {
-            Some(form) => {
-                let cell = form.at(path.values());
-                processor.place_of(cell).is_some()
-            }
-            None => false,
+    }
+
+    // The same where a load of this cell is left.
+    fn load_quietly(&mut self, p: usize, stop: Stop<'a>, cell: usize) -> bool
+        requires ready { IsReady self.old }
+        requires worker { p < length self.old.processors.items }
+        requires next { ComesNext self.old p (StyledNext.Work stop) }
+        requires left { LoadsNext self.old p stop (Some cell) }
+        ensures ready { IsReady self.new }
+        ensures quiet { result ≡ nat_lt 0 (quiet_next (model_of self.old) (shared_in self.old) (shown self.old) p) }
+        ensures acts { GoesQuietly self.old self.new p result }
+        ensures same { IsSameMachine self.old self.new }
+    {
+        let spot = self.processors[p].spot(cell);
+        if spot.own.is_some() {
+            self.load(p, stop, spot);
+            return true;
         }
+        false
+    }
+
+    // And where all loads are done.
+    fn store_quietly(&mut self, p: usize, stop: Stop<'a>) -> bool
+        requires ready { IsReady self.old }
+        requires worker { p < length self.old.processors.items }
+        requires next { ComesNext self.old p (StyledNext.Work stop) }
+        requires loaded { LoadsNext self.old p stop None }
+        ensures ready { IsReady self.new }
+        ensures quiet { result ≡ nat_lt 0 (quiet_next (model_of self.old) (shared_in self.old) (shown self.old) p) }
+        ensures acts { GoesQuietly self.old self.new p result }
+        ensures same { IsSameMachine self.old self.new }
+    {
+        match stop.item {
+            Item::Assign(_, e, _, _) => self.assign_quietly(p, stop, e),
+            Item::Print(..) => false,
+            Item::Loop(_) | Item::Continue(_) => unreachable!(),
+        }
+    }
+
+    // The same at an assignment.
+    fn assign_quietly(&mut self, p: usize, stop: Stop<'a>, e: &Expr) -> bool
+        requires ready { IsReady self.old }
+        requires worker { p < length self.old.processors.items }
+        requires next { ComesNext self.old p (StyledNext.Work stop) }
+        requires loaded { LoadsNext self.old p stop None }
+        requires statement { (target : Access) × (guard : Option Guard) × (line : ℕ) × (stop.item.now ≡ Item.Assign target e.now guard line) }
+        ensures ready { IsReady self.new }
+        ensures quiet { result ≡ nat_lt 0 (quiet_next (model_of self.old) (shared_in self.old) (shown self.old) p) }
+        ensures acts { GoesQuietly self.old self.new p result }
+        ensures same { IsSameMachine self.old self.new }
+    {
+        let spot = self.store_spot(p, stop);
+        if spot.own.is_some() {
+            self.store(p, stop, e, spot);
+            return true;
+        }
+        false
+    }
+
+    // Where the store of an assignment whose loads are done goes.
+    #[inline(always)]
+    fn store_spot(&self, p: usize, stop: Stop<'a>) -> Spot
+        requires ready { IsReady self.now }
+        requires worker { p < length self.now.processors.items }
+        requires next { ComesNext self.now p (StyledNext.Work stop) }
+        requires loaded { LoadsNext self.now p stop None }
+        requires statement { (target : Access) × (e : Expr) × (guard : Option Guard) × (line : ℕ) × (stop.item.now ≡ Item.Assign target e guard line) }
+        ensures stores { StoresNext self.now p stop.entry result.cell }
+        ensures own { IsSpot self.now p result }
+    {
+        let Some(form) = &self.table.work(stop.first).store else {
+            unreachable!()
+        };
+        let processor = &self.processors[p];
+        let path = processor.turns.path();
+        processor.spot(form.at(path.values()))
+    }
+
+    // The act of a closing that comes next, where it is on its own cell; whether it is.
+    fn close_quietly(&mut self, p: usize, place: usize) -> bool
+        requires ready { IsReady self.old }
+        requires worker { p < length self.old.processors.items }
+        requires next { ComesNext self.old p (StyledNext.Close place) }
+        ensures ready { IsReady self.new }
+        ensures quiet { result ≡ nat_lt 0 (quiet_next (model_of self.old) (shared_in self.old) (shown self.old) p) }
+        ensures acts { GoesQuietly self.old self.new p result }
+        ensures same { IsSameMachine self.old self.new }
+    {
+        if self.processors[p].done == 1 {
+            return false;
+        }
+        self.close(p, place);
+        true
     }
 
     // The act that comes next.
@@ -298,31 +387,48 @@ impl<'a> Machine<'a> {
         let processor = &self.processors[p];
         let path = processor.turns.path();
         if let Some(cell) = processor.place.cell(&self.table, stop, path) {
-            return self.load(p, stop, cell);
+            let spot = processor.spot(cell);
+            return self.load(p, stop, spot);
         }
+        self.last_act(p, stop)
+    }
+
+    // The store or the PRINT of an instance whose loads are done.
+    #[inline(always)]
+    fn last_act(&mut self, p: usize, stop: Stop<'a>) -> StepAnswer
+        requires ready { IsReady self.old }
+        requires worker { p < length self.old.processors.items }
+        requires next { ComesNext self.old p (StyledNext.Work stop) }
+        requires loaded { LoadsNext self.old p stop None }
+        ensures { StepsTo self.old self.new p result }
+    {
         match stop.item {
-            Item::Assign(_, e, _, _) => self.store(p, stop, e),
+            Item::Assign(_, e, _, _) => {
+                let spot = self.store_spot(p, stop);
+                self.store(p, stop, e, spot)
+            }
             Item::Print(items, _) => self.print(p, stop, items),
             Item::Loop(_) | Item::Continue(_) => unreachable!(),
         }
     }
 
-    // A load of this cell, or of the processor's own one in its place.
+    // A load of the cell of this spot, or of the processor's own one in its place.
     #[inline(always)]
-    fn load(&mut self, p: usize, stop: Stop<'a>, cell: usize) -> StepAnswer
+    fn load(&mut self, p: usize, stop: Stop<'a>, spot: Spot) -> StepAnswer
         requires ready { IsReady self.old }
         requires worker { p < length self.old.processors.items }
         requires next { ComesNext self.old p (StyledNext.Work stop) }
-        requires left { LoadsNext self.old p stop (Some cell) }
+        requires left { LoadsNext self.old p stop (Some spot.cell) }
+        requires own { IsSpot self.old p spot }
         ensures { StepsTo self.old self.new p result }
     {
         let processor = &mut self.processors[p];
-        let value = match processor.place_of(cell) {
+        let value = match spot.own {
             Some(place) => processor.own[place],
-            None => self.memory[cell],
+            None => self.memory[spot.cell],
         };
         processor.registers.push(value).unwrap();
-        processor.begun = Some(stop);
+        processor.found = Some(stop);
         processor.place.advance(&self.table, stop);
         processor.done += 1;
         StepAnswer::Stepped
@@ -330,26 +436,22 @@ impl<'a> Machine<'a> {
 
     // The store of an assignment whose loads are done, to its cell or the processor's own one.
     #[inline(always)]
-    fn store(&mut self, p: usize, stop: Stop<'a>, e: &Expr) -> StepAnswer
+    fn store(&mut self, p: usize, stop: Stop<'a>, e: &Expr, spot: Spot) -> StepAnswer
         requires ready { IsReady self.old }
         requires worker { p < length self.old.processors.items }
         requires next { ComesNext self.old p (StyledNext.Work stop) }
         requires loaded { LoadsNext self.old p stop None }
         requires statement { (target : Access) × (guard : Option Guard) × (line : ℕ) × (stop.item.now ≡ Item.Assign target e.now guard line) }
+        requires stores { StoresNext self.old p stop spot.cell }
+        requires own { IsSpot self.old p spot }
         ensures { StepsTo self.old self.new p result }
     {
-        let cells = self.table.work(stop.first);
-        let Some(form) = &cells.store else {
-            unreachable!()
-        };
         let processor = &mut self.processors[p];
-        let path = processor.turns.path();
-        let cell = form.at(path.values());
-        path.write_to(&mut self.loops);
+        processor.turns.path().write_to(&mut self.loops);
         let value = eval(e, &self.loops, &self.params, &processor.registers);
-        match processor.place_of(cell) {
+        match spot.own {
             Some(place) => processor.own[place] = value,
-            None => self.memory[cell] = value,
+            None => self.memory[spot.cell] = value,
         }
         processor.finish(StyledNext::Work(stop));
         StepAnswer::Stepped
@@ -525,7 +627,7 @@ fn processors_of<'a>(
         processors.push(Processor {
             turns: StyledTurns::new(program, plan, style, p),
             registers: Vec::with_capacity(alloc, room)?,
-            begun: None,
+            found: None,
             place: LoadPlace::first(),
             done: 0,
             counter: 0,

@@ -1,7 +1,6 @@
 -- What a cursor shows, by what stands first, and that it stays sound past it.
-use Rattle.std.proofs.Common.{◌≡◌, ◌==◌, ℕ, suc, ◌+◌, ◌/◌, ◌%◌, ◌<◌, Bool, true, false, List, [], ◌∷◌, ◌++◌, length, if◌then◌else◌, refl, ap, sym, subst, ◌∙◌, inl, inr, arith}
+use Rattle.std.proofs.Common.{◌≡◌, ◌==◌, ℕ, suc, ◌+◌, ◌/◌, ◌%◌, ◌<◌, Bool, true, false, true≢false, List, [], ◌∷◌, ◌++◌, length, if◌then◌else◌, refl, ap, sym, subst, ◌∙◌, arith}
 use Rattle.std.specs.Prelude.{slice_index_or, slice_set}
-use Rattle.std.proofs.lemmas.Bool.{cases_Bool}
 use Rattle.nest_tree.specs.Tree.{Tree}
 use Rattle.nest_model.specs.Instances.{Instance}
 use Rattle.nest_walk.specs.declared.cursor.Stop.{Stop}
@@ -12,13 +11,14 @@ use Rattle.sync_plan.specs.declared.plan.Plan.{Plan}
 use Rattle.spmd_model.specs.Rounds.{awaited_in_round}
 use Rattle.spmd_model.specs.Timelines.{counter, signal}
 use Rattle.spmd_model.specs.declared.style.Style.{Style}
+use Rattle.spmd_model.specs.declared.style.Style.TheVariants.{Arrive}
 use Rattle.spmd_turns.specs.Turns.{Turn, posts, awaits, begins, works, without_beginnings}
-use Rattle.spmd_turns.specs.TurnsLeft.{AreSound, IsNext, at_turn, turns_left, turns_plan, turns_processor, turns_tree}
+use Rattle.spmd_turns.specs.TurnsLeft.{AreSound, IsNext, turns_left, turns_plan, turns_processor, turns_tree}
 use Rattle.spmd_turns.specs.declared.turns.Next.{Next}
 use Rattle.spmd_turns.specs.declared.turns.Next.TheVariants.{Post, Await, Phase, Work, End}
 use Rattle.spmd_turns.specs.declared.turns.Turns.{Turns}
 use Rattle.styled_turns.specs.StyledTurns.{StyledTurn, sets, waits, closed, is_signalled, is_watched, no_phase, none_pending, places_pending, round_turn, styled}
-use Rattle.styled_turns.specs.StyledLeft.{AreStyled, IsBehindInstances, IsOpen, in_rounds, pends, turns, IsOwnPlace, IsSomeTurn, ShowsClosing, rounds_left, standing, styled_left, styled_plan, styled_processor, styled_tree}
+use Rattle.styled_turns.specs.StyledLeft.{AreStyled, IsBehindInstances, IsOpen, in_rounds, pends, turns, IsOwnPlace, IsSilent, IsSomeTurn, ShowsClosing, rounds_left, standing, styled_left, styled_plan, styled_processor, styled_tree}
 use Rattle.styled_turns.specs.declared.turns.StyledTurns.{StyledTurns}
 use Rattle.styled_turns.proofs.Steps.{moved, numbered_tail, still_among}
 use Rattle.styled_turns.proofs.StyledLists.{await_first, by_counters, next_round, post_first, unseen}
@@ -52,13 +52,6 @@ plainly c s none =
     record { rounds = u.no_round; none = ap places_pending u.none; off = λ number. by_counters c.style (styled_tree c) (styled_plan c) number (sym s.watched ∙ none) }
 
 -- ---- plain turns
-
--- something comes next
-pub at_some : (t : Turns) (u : Turn) (rest : List Turn) → (at_turn t ≡ false → turns_left t ≡ []) → turns_left t ≡ u ∷ rest → at_turn t ≡ true
-at_some t u rest end is = elim (cases_Bool (at_turn t)) [
-  | inl yes_it_is ↦ yes_it_is
-  | inr off ↦ absurd (let clash : [] ≡ u ∷ rest = sym (end off) ∙ is in cc)
-]
 
 pub behind_instances : (t : Turns) (n : Next) → IsNext t n → ((stop : Stop) → n ≡ Work stop → ⊥) → IsBehindInstances (turns_left t)
 behind_instances t (Post number) next other = subst IsBehindInstances (sym next.1) tt
@@ -117,6 +110,7 @@ stepped_sound c s lt = record {
   first_low = s.first_low;
   phases = s.phases;
   unwatched = λ w. absurd (omega (arith, lt, (s.unwatched w).no_round));
+  arrives = λ w. absurd (omega (arith, lt, s.arrives w));
 }
 
 pub closed_sound : (c : StyledTurns) (k : ℕ) → AreStyled c → length c.pending ≡ 32 → ShowsClosing c k → AreStyled (record c { pending = slice_set c.pending k false })
@@ -133,3 +127,21 @@ worked_sound c t bs i u rest s sound tree plan processor is passed among none =
   where
     other : (k : ℕ) → u ≡ begins k → ⊥
     other k at = absurd (let clash : works i ∷ rest ≡ begins k ∷ turns_left t = sym is ∙ passed ∙ ap (λ v. v ∷ turns_left t) at in cc)
+
+-- ---- by counters
+
+-- only that a phase begins is nothing
+pub silent_begins : (c : StyledTurns) (n : Next) → IsSilent c n → c.style ≡ Arrive → ((e : ℕ) → n ≡ Phase e → ⊥) → ⊥
+silent_begins c (Post number) s is other = true≢false (sym s.turn ∙ ap (λ t. is_signalled t (styled_tree c) (styled_plan c) number) is)
+silent_begins c (Await on wanted) s is other = true≢false (sym s.turn ∙ ap (λ t. is_signalled t (styled_tree c) (styled_plan c) wanted) is)
+silent_begins c (Phase e) s is other = other e refl
+silent_begins c (Work stop) s is other = s.turn
+silent_begins c End s is other = s.turn
+
+-- past that
+pub begins_plainly : (t after : Turns) (n : Next) (e : ℕ) → IsNext t n → n ≡ Phase e → (u : Turn) × (turns_left t ≡ u ∷ turns_left after) → turns_left t ≡ begins e ∷ turns_left after
+begins_plainly t after n e next is passed =
+    let (rest, first) = subst (IsNext t) is next in
+    let both : begins e ∷ rest ≡ passed.0 ∷ turns_left after = sym first ∙ passed.1 in
+    let same : rest ≡ turns_left after = cc in
+    first ∙ ap (λ r. begins e ∷ r) same

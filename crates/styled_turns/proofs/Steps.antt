@@ -44,6 +44,7 @@ moved c t bs s sound tree plan processor among numbered none = record {
   first_low = s.first_low;
   phases = λ w. record { walked = (s.phases w).walked; entered = (s.phases w).entered; behind = (s.phases w).behind; numbered = numbered w; few_barriers = (s.phases w).few_barriers };
   unwatched = λ w. record { no_place = (s.unwatched w).no_place; none = none w; no_round = (s.unwatched w).no_round };
+  arrives = s.arrives;
 }
 
 pub none_among : {P : Type 0} (k : ℕ) → slice_index_or none_pending k false ≡ true → P

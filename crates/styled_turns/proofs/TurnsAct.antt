@@ -1,5 +1,5 @@
 -- The styled turns of a processor do what its acts do along the timeline.
-use Rattle.std.proofs.Common.{◌≡◌, ◌==◌, ◌&&◌, ◌||◌, ℕ, ◌+◌, ◌-◌, ◌<◌, ◌≤◌, nat_lt, Bool, true, false, List, [], ◌∷◌, ◌++◌, length, map, Option, Some, None, if◌then◌else◌, refl, ap, sym, ◌∙◌, arith}
+use Rattle.std.proofs.Common.{◌≡◌, ◌==◌, ◌&&◌, ◌||◌, ℕ, zero, suc, drop, ◌+◌, ◌-◌, ◌<◌, ◌≤◌, nat_lt, Bool, true, false, List, [], ◌∷◌, ◌++◌, length, map, Option, Some, None, if◌then◌else◌, refl, ap, sym, ◌∙◌, arith}
 use Rattle.std.specs.Prelude.{position, slice_get}
 use Rattle.std.specs.List.{flat_map, list_any}
 use Rattle.std.specs.Option.{option_map, option_or}
@@ -117,6 +117,9 @@ module _ (tree : Tree) (plan : Plan) (p k : ℕ) (v : Visit) (formed : IsWellFor
 
 -- ---- where no phase is watched
 
+abbrev unseen_standing : ℕ → Standing
+unseen_standing barriers = record { place = no_phase; pending = none_pending; barriers = barriers }
+
 no_slot : (tree : Tree) (plan : Plan) (place p c : ℕ) → HasNoOwn tree plan place → own_cell (own_of tree plan place) p c ≡ c
 no_slot tree plan place p c none =
     ap (at_slot (own_of tree plan place) p c) (
@@ -132,37 +135,56 @@ same_store : (f : ℕ → ℕ) (o : Option ℕ) → ((c : ℕ) → f c ≡ c) �
 same_store f None same = refl
 same_store f (Some c) same = ap Some (same c)
 
-same_deeds : (tree : Tree) (plan : Plan) (place p : ℕ) (i : Instance) → HasNoOwn tree plan place → own_deeds tree (own_of tree plan place) p i ≡ instance_deeds tree i
+pub same_deeds : (tree : Tree) (plan : Plan) (place p : ℕ) (i : Instance) → HasNoOwn tree plan place → own_deeds tree (own_of tree plan place) p i ≡ instance_deeds tree i
 same_deeds tree plan place p i none =
     let f = own_cell (own_of tree plan place) p in
     ap (λ cs. map loading cs ++ last_deed (option_map f (store_of tree i)) false (assigned_value tree i) (line_of tree i) ∷ []) (same_cells f (loads_of tree i) (λ c. no_slot tree plan place p c none))
     ∙ ap (λ o. map loading (loads_of tree i) ++ last_deed o false (assigned_value tree i) (line_of tree i) ∷ []) (same_store f (store_of tree i) (λ c. no_slot tree plan place p c none))
 
-plainly : (tree : Tree) (plan : Plan) (p : ℕ) → is_watched Arrive plan ≡ false → (ts : List Turn) → doing tree plan p (styled Arrive tree plan p first_standing ts) ≡ flat_map (turn_deeds tree) ts
-plainly tree plan p none [] = refl
-plainly tree plan p none (posts number ∷ rest) = ap (λ l. posting counter number ∷ l) (plainly tree plan p none rest)
-plainly tree plan p none (awaits on wanted ∷ rest) = ap (λ l. awaiting counter on wanted ∷ l) (plainly tree plan p none rest)
-plainly tree plan p none (begins e ∷ rest) =
-    ap (λ b. doing tree plan p ((if b then all_rounds plan.workers p 0 else []) ++ styled Arrive tree plan p (begun Arrive tree plan first_standing e) rest)) (no_signals plan (slice_get (phases tree plan.cut.marks) (e - 1)))
-    ∙ ap (λ s. doing tree plan p (styled Arrive tree plan p s rest)) (plainly_begun Arrive tree plan 0 e none) ∙ plainly tree plan p none rest
-plainly tree plan p none (works i ∷ rest) =
+plainly : (tree : Tree) (plan : Plan) (p barriers : ℕ) → is_watched Arrive plan ≡ false → (ts : List Turn) → doing tree plan p (styled Arrive tree plan p (unseen_standing barriers) ts) ≡ flat_map (turn_deeds tree) ts
+plainly tree plan p barriers none [] = refl
+plainly tree plan p barriers none (posts number ∷ rest) = ap (λ l. posting counter number ∷ l) (plainly tree plan p barriers none rest)
+plainly tree plan p barriers none (awaits on wanted ∷ rest) = ap (λ l. awaiting counter on wanted ∷ l) (plainly tree plan p barriers none rest)
+plainly tree plan p barriers none (begins e ∷ rest) =
+    ap (λ b. doing tree plan p ((if b then all_rounds plan.workers p barriers else []) ++ styled Arrive tree plan p (begun Arrive tree plan (unseen_standing barriers) e) rest)) (no_signals plan (slice_get (phases tree plan.cut.marks) (e - 1)))
+    ∙ ap (λ s. doing tree plan p (styled Arrive tree plan p s rest)) (plainly_begun Arrive tree plan barriers e none) ∙ plainly tree plan p barriers none rest
+plainly tree plan p barriers none (works i ∷ rest) =
     let own = none_at tree plan no_phase (unwatched_none Arrive plan none) in
     ap (λ l. own_deeds tree (own_of tree plan no_phase) p i ++ l)
-    (ap (λ bs. doing tree plan p (styled Arrive tree plan p (record { place = no_phase; pending = bs; barriers = 0 }) rest)) (nothing_marked tree plan first_standing i own) ∙ plainly tree plan p none rest)
+    (ap (λ bs. doing tree plan p (styled Arrive tree plan p (record { place = no_phase; pending = bs; barriers = barriers }) rest)) (nothing_marked tree plan (unseen_standing barriers) i own) ∙ plainly tree plan p barriers none rest)
     ∙ ap (λ l. l ++ flat_map (turn_deeds tree) rest) (same_deeds tree plan no_phase p i own)
+
+-- ---- turns behind so many phases
+
+pub turns_behind_act : (style : Style) (tree : Tree) (plan : Plan) (p : ℕ) → IsWellFormed tree → IsWithinLimits tree → IsFit tree plan → IsInRange tree → p < plan.workers → (n : ℕ) (s : Standing) →
+    (is_watched style plan ≡ false → (s.place ≡ no_phase) × (s.pending ≡ none_pending)) →
+    doing tree plan p (styled style tree plan p s (turns_from tree plan p (suc n) (drop n (phases tree plan.cut.marks)))) ≡ doing tree plan p (closings s) ++ deeds_by style tree plan p (suc n) s.barriers (drop n (phases tree plan.cut.marks))
+turns_behind_act style tree plan p formed limits fits ranges worker n s unseen = by (is_watched style plan) refl
+  where
+    get_drop : (vs : List Visit) (a k : ℕ) → slice_get (drop a vs) k ≡ slice_get vs (a + k)
+    get_drop [] zero k = refl
+    get_drop [] (suc a) k = refl
+    get_drop (x ∷ vs) zero k = let same : k ≡ 0 + k = omega arith in ap (slice_get (x ∷ vs)) same
+    get_drop (x ∷ vs) (suc a) k = let next : suc (a + k) ≡ suc a + k = omega arith in get_drop vs a k ∙ ap (slice_get (x ∷ vs)) next
+
+    by : (b : Bool) → is_watched style plan ≡ b → doing tree plan p (styled style tree plan p s (turns_from tree plan p (suc n) (drop n (phases tree plan.cut.marks)))) ≡ doing tree plan p (closings s) ++ deeds_by style tree plan p (suc n) s.barriers (drop n (phases tree plan.cut.marks))
+    by true watched =
+        by_phases style tree plan p worker watched (λ k v barriers at. phase_closes tree plan p k v formed fits limits ranges at barriers) (suc n) (drop n (phases tree plan.cut.marks)) s.place s.barriers s.pending
+        (λ k v at. let index : suc n + k - 1 ≡ n + k = omega arith in ap (slice_get (phases tree plan.cut.marks)) index ∙ sym (get_drop (phases tree plan.cut.marks) n k) ∙ at)
+    by false none =
+        let is = arrives style plan none in
+        let off : is_watched Arrive plan ≡ false = ap (λ t. is_watched t plan) (sym is) ∙ none in
+        let u = unseen none in
+        let vs = drop n (phases tree plan.cut.marks) in
+        let ts = turns_from tree plan p (suc n) vs in
+        let s_is : s ≡ unseen_standing s.barriers = λ i. record { place = u.0 i; pending = u.1 i; barriers = s.barriers } in
+        let shut : doing tree plan p (closings s) ≡ [] = ap (λ (z : Standing). doing tree plan p (closings z)) s_is in
+        ap (λ t. doing tree plan p (styled t tree plan p s ts)) is ∙ ap (λ (z : Standing). doing tree plan p (styled Arrive tree plan p z ts)) s_is ∙ plainly tree plan p s.barriers off ts ∙ turns_do tree plan p (suc n) vs
+        ∙ sym (plain_deeds tree plan p (suc n) s.barriers vs (λ place. none_at tree plan place (unwatched_none Arrive plan off))) ∙ ap (λ t. deeds_by t tree plan p (suc n) s.barriers vs) (sym is)
+        ∙ ap (λ l. l ++ deeds_by style tree plan p (suc n) s.barriers vs) (sym shut)
 
 -- ---- all turns
 
 pub turns_act : (style : Style) (tree : Tree) (plan : Plan) (p : ℕ) → IsWellFormed tree → IsWithinLimits tree → IsFit tree plan → IsInRange tree → p < plan.workers →
     doing tree plan p (styled style tree plan p first_standing (turns_from tree plan p 1 (phases tree plan.cut.marks))) ≡ map (deed_of (machine_by style tree plan)) (acts_of (machine_by style tree plan) p)
-turns_act style tree plan p formed limits fits ranges worker = by (is_watched style plan) refl ∙ sym (styled_deeds style tree plan p formed fits worker)
-  where
-    by : (b : Bool) → is_watched style plan ≡ b → doing tree plan p (styled style tree plan p first_standing (turns_from tree plan p 1 (phases tree plan.cut.marks))) ≡ deeds_by style tree plan p 1 0 (phases tree plan.cut.marks)
-    by true watched =
-        by_phases style tree plan p worker watched (λ k v barriers at. phase_closes tree plan p k v formed fits limits ranges at barriers) 1 (phases tree plan.cut.marks) no_phase 0 none_pending
-        (λ k v at. let index : 1 + k - 1 ≡ k = omega arith in ap (slice_get (phases tree plan.cut.marks)) index ∙ at)
-    by false none =
-        let is = arrives style plan none in
-        let off : is_watched Arrive plan ≡ false = ap (λ s. is_watched s plan) (sym is) ∙ none in
-        ap (λ s. doing tree plan p (styled s tree plan p first_standing (turns_from tree plan p 1 (phases tree plan.cut.marks)))) is ∙ plainly tree plan p off (turns_from tree plan p 1 (phases tree plan.cut.marks)) ∙ turns_do tree plan p 1 (phases tree plan.cut.marks)
-        ∙ sym (plain_deeds tree plan p 1 0 (phases tree plan.cut.marks) (λ place. none_at tree plan place (unwatched_none Arrive plan off))) ∙ ap (λ s. deeds_by s tree plan p 1 0 (phases tree plan.cut.marks)) (sym is)
+turns_act style tree plan p formed limits fits ranges worker = turns_behind_act style tree plan p formed limits fits ranges worker 0 first_standing (λ none. (refl, refl)) ∙ sym (styled_deeds style tree plan p formed fits worker)

@@ -25,14 +25,17 @@ use Rattle.own_cells.specs.declared.cells.OwnCells.{OwnCells}
 use Rattle.spmd_model.specs.Rounds.{rounds_of}
 use Rattle.spmd_model.specs.Timelines.{counter, signal}
 use Rattle.spmd_model.specs.declared.style.Style.{Style}
+use Rattle.spmd_model.specs.declared.style.Style.TheVariants.{Arrive}
 use Rattle.spmd_turns.specs.Turns.{Turn, posts, awaits, begins, works}
 use Rattle.spmd_turns.specs.TurnsLeft.{AreSound, IsInstance, IsNext, at_turn, turns_left, turns_path, turns_plan, turns_processor, turns_rounds, turns_tree}
 use Rattle.spmd_turns.specs.declared.turns.Next.{Next}
-use Rattle.styled_turns.specs.StyledTurns.{StyledTurn, sets, waits, runs, closes, Standing, ends_phase, has_own, is_signalled, is_watched, mark_first, no_phase, none_pending, places_pending, round_turn, styled}
+use Rattle.styled_turns.specs.StyledTurns.{StyledTurn, sets, waits, runs, closes, Standing, beginnings, ends_phase, has_own, is_signalled, is_watched, mark_first, no_phase, none_pending, places_pending, round_turn, styled}
 use Rattle.styled_turns.specs.declared.turns.StyledNext.{StyledNext}
 use Rattle.styled_turns.specs.declared.turns.StyledNext.TheVariants.{Post, Await, Signal, AwaitSignal, Work, Close, End}
+use Rattle.styled_turns.specs.declared.turns.NextOrPhase.{NextOrPhase}
 use Rattle.styled_turns.specs.declared.turns.StyledTurns.{StyledTurns}
 use Rattle.spmd_turns.specs.declared.turns.Next.TheVariants as Plain
+use Rattle.styled_turns.specs.declared.turns.NextOrPhase.TheVariants as Coming
 
 abbrev pub styled_tree : StyledTurns → Tree
 styled_tree c = tree_of c.program.now
@@ -68,6 +71,10 @@ rounds_left workers p first step steps = map (round_turn workers p first) (range
 -- what is left
 abbrev pub styled_left : StyledTurns → List StyledTurn
 styled_left c = rounds_left (styled_plan c).workers (styled_processor c) c.first c.step c.steps ++ styled c.style (styled_tree c) (styled_plan c) (styled_processor c) (standing c) (turns_left c.turns)
+
+-- the phases that have still to begin
+abbrev pub beginnings_left : StyledTurns → List ℕ
+beginnings_left c = beginnings (turns_left c.turns)
 
 -- the static phase with a place is this loop
 abbrev pub IsPlaced : Option Placed → Nest → Type 0
@@ -124,6 +131,8 @@ pub record AreStyled (c : StyledTurns) : Type 0 where
   pub first_low : c.first ≤ most_work * 6 + 1
   pub phases : c.is_watched ≡ true → WatchesPhases (styled_tree c) (styled_plan c) c.phases c.barriers (turns_left c.turns)
   pub unwatched : c.is_watched ≡ false → WatchesNone c.place c.pending c.step c.steps
+  -- by counters there are no rounds
+  pub arrives : c.style ≡ Arrive → c.step ≡ c.steps
 
 -- of the same run
 pub record IsSameRun (old new : StyledTurns) : Type 0 where
@@ -172,6 +181,47 @@ IsStyledNext c (AwaitSignal on wanted) = ComesFirst c (waits signal on wanted) �
 IsStyledNext c (Work stop) = (at : IsInstance (turns_tree c.turns) (styled_rounds c) stop) × ComesFirst c (runs c.place at.instance) × ShowsPlain c (Plain.Work stop)
 IsStyledNext c (Close k) = ComesFirst c (closes c.place k) × ShowsClosing c k
 IsStyledNext c End = styled_left c ≡ []
+
+-- a post or an await of a counter with this number comes next
+abbrev pub IsAtCounter : StyledTurns → ℕ → Type 0
+IsAtCounter c number = IsStyledNext c (Post number) ⊎ ((on : ℕ) × IsStyledNext c (Await on number))
+
+-- the phase with this number begins next
+pub record BeginsNext (c : StyledTurns) (e : ℕ) : Type 0 where
+  pub rounds : c.step ≡ c.steps
+  pub none : places_pending c.pending ≡ []
+  pub rest : List Turn
+  pub is : turns_left c.turns ≡ begins e ∷ rest
+
+-- the next phase has begun, or none has and what comes next is known
+abbrev pub IsNextOrPhase : StyledTurns → StyledTurns → NextOrPhase → Type 0
+IsNextOrPhase old new (Coming.Phase e) = beginnings_left old ≡ e ∷ beginnings_left new
+IsNextOrPhase old new (Coming.Turn next) = IsStyledNext new next × (beginnings_left new ≡ beginnings_left old)
+
+-- at the end no plain turn is left either
+abbrev pub EndsPlainly : StyledTurns → StyledNext → Type 0
+EndsPlainly c (Post number) = Unit {0}
+EndsPlainly c (Await on wanted) = Unit {0}
+EndsPlainly c (Signal number) = Unit {0}
+EndsPlainly c (AwaitSignal on wanted) = Unit {0}
+EndsPlainly c (Work stop) = Unit {0}
+EndsPlainly c (Close k) = Unit {0}
+EndsPlainly c End = turns_left c.turns ≡ []
+
+-- by counters: of the plain turns a phase that has begun goes, in front of which nothing pends, and none behind a look at what comes next
+abbrev pub LooksPlainly : StyledTurns → StyledTurns → NextOrPhase → Type 0
+LooksPlainly old new (Coming.Phase e) = (places_pending old.pending ≡ []) × (turns_left old.turns ≡ begins e ∷ turns_left new.turns)
+LooksPlainly old new (Coming.Turn next) = (turns_left new.turns ≡ turns_left old.turns) × EndsPlainly new next
+
+-- behind what came next the first plain turn has gone: a closing and half a round are none
+abbrev pub PassesPlainly : StyledTurns → StyledTurns → StyledNext → Type 0
+PassesPlainly old new (Post number) = (t : Turn) × (turns_left old.turns ≡ t ∷ turns_left new.turns)
+PassesPlainly old new (Await on wanted) = (t : Turn) × (turns_left old.turns ≡ t ∷ turns_left new.turns)
+PassesPlainly old new (Signal number) = turns_left new.turns ≡ turns_left old.turns
+PassesPlainly old new (AwaitSignal on wanted) = turns_left new.turns ≡ turns_left old.turns
+PassesPlainly old new (Work stop) = (t : Turn) × (turns_left old.turns ≡ t ∷ turns_left new.turns)
+PassesPlainly old new (Close k) = turns_left new.turns ≡ turns_left old.turns
+PassesPlainly old new End = turns_left new.turns ≡ turns_left old.turns
 
 -- the end is not what comes next
 abbrev pub IsTurn : StyledNext → Type 0

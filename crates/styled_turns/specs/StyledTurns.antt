@@ -167,3 +167,11 @@ styled style tree plan p s (posts number ∷ rest) = closings s ++ ((if is_signa
 styled style tree plan p s (awaits on wanted ∷ rest) = closings s ++ ((if is_signalled style tree plan wanted then [] else waits counter on wanted ∷ []) ++ styled style tree plan p (closed s) rest)
 styled style tree plan p s (begins e ∷ rest) = closings s ++ (rounds_before style tree plan p s e ++ styled style tree plan p (begun style tree plan s e) rest)
 styled style tree plan p s (works i ∷ rest) = runs s.place i ∷ styled style tree plan p (behind tree plan s i) rest
+
+-- the phases that begin among plain turns, by their numbers
+abbrev pub beginnings : List Turn → List ℕ
+beginnings [] = []
+beginnings (posts number ∷ rest) = beginnings rest
+beginnings (awaits on wanted ∷ rest) = beginnings rest
+beginnings (begins e ∷ rest) = e ∷ beginnings rest
+beginnings (works i ∷ rest) = beginnings rest

@@ -11,4 +11,4 @@ mod pending;
 pub mod rounds;
 pub mod turns;
 
-pub use turns::{StyledNext, StyledTurns};
+pub use turns::{NextOrPhase, StyledNext, StyledTurns};

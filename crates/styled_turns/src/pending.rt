@@ -19,32 +19,23 @@ pub(crate) fn first_pending(pending: &[bool; OWN_PLACES]) -> Option<usize>
 }
 
 // This place is marked too, if there is one.
-pub(crate) fn with_place(pending: [bool; OWN_PLACES], place: Option<usize>) -> [bool; OWN_PLACES]
+pub(crate) fn mark_place(pending: &mut [bool; OWN_PLACES], place: Option<usize>)
     requires { IfSome place (λ k. k < 32) }
-    ensures { result ≡ mark_place pending place }
+    ensures { pending.new ≡ mark_place pending.old place }
 {
-    let mut marked = pending;
     if let Some(place) = place {
-        marked[place] = true;
+        pending[place] = true;
     }
-    marked
 }
 
 // The first so many places are marked too, where this says so.
-pub(crate) fn with_first(
-    pending: [bool; OWN_PLACES],
-    count: usize,
-    is_so: bool,
-) -> [bool; OWN_PLACES]
+pub(crate) fn mark_first(pending: &mut [bool; OWN_PLACES], count: usize, is_so: bool)
     requires { count ≤ 32 }
-    ensures { result ≡ mark_first pending count is_so }
+    ensures { pending.new ≡ mark_first pending.old count is_so }
 {
-    if !is_so {
-        return pending;
+    if is_so {
+        for place in 0..count {
+            pending[place] = true;
+        }
     }
-    let mut marked = pending;
-    for place in 0..count {
-        marked[place] = true;
-    }
-    marked
 }

@@ -19,10 +19,10 @@ ghost use Rattle.styled_turns.specs.StyledTurns.{gathered, has_own, has_signals_
 ghost use Rattle.sync_plan.specs.declared.plan.Plan.{Plan};
 ghost use Rattle.styled_turns.specs.StyledLeft.{IsPlaced};
 
-use crate::pending::{first_pending, with_first, with_place};
+use crate::pending::{first_pending, mark_first, mark_place};
 use crate::rounds::{awaited_in_round, rounds_of};
 use nest_tree::{Item, Nest, Program};
-use nest_walk::{Path, Stop};
+use nest_walk::{Path, Stop, Strip};
 use own_cells::{OWN_PLACES, OwnCells, is_final};
 use owner_partition::{Mark, PhaseCursor, Privates, StaticPhase};
 use spmd_model::Style;
@@ -46,6 +46,16 @@ pub enum StyledNext<'a> {
     Close(usize),
     /// Nothing is left.
     End,
+}
+
+/// What a worker comes to.
+#[derive(Clone, Copy)]
+pub enum NextOrPhase<'a> {
+    /// A phase begins, with this number, from 1, of which the processor may own no instance. The
+    /// rounds of a barrier by signals in front of its instances come behind.
+    Phase(u64),
+    /// This comes next.
+    Turn(StyledNext<'a>),
 }
 
 // No static phase has this place.
@@ -82,11 +92,16 @@ pub struct StyledTurns<'a> {
 }
 
 impl<'a> StyledTurns<'a> {
-    ghost use Rattle.std.specs.Prelude.{◌∷◌, true, false};
-    ghost use Rattle.spmd_turns.specs.Turns.{boundary_at};
+    ghost use Rattle.std.specs.Prelude.{◌∷◌, ◌++◌, suc, true, false, map, IfSome};
+    ghost use Rattle.std.specs.List.{range_with_len};
+    ghost use Rattle.nest_walk.specs.Strips.{strip_left, strip_tree};
+    ghost use Rattle.spmd_model.specs.StyledDeeds.{HasNoOwn};
+    ghost use Rattle.spmd_model.specs.Timelines.{counter};
+    ghost use Rattle.spmd_model.specs.declared.style.Style.TheVariants.{Arrive};
+    ghost use Rattle.spmd_turns.specs.Turns.{Turn, boundary_at, works};
     ghost use Rattle.spmd_turns.specs.TurnsLeft.{IsInstance, turns_boundary, turns_left, turns_plan, turns_tree};
-    ghost use Rattle.styled_turns.specs.StyledTurns.{StyledTurn, behind, first_standing, is_signalled, styled};
-    ghost use Rattle.styled_turns.specs.StyledLeft.{AreStyled, EndsAlike, HasLooked, IsBeforeBeginning, IsBeforeCounter, IsCounterOf, IsOpen, IsSameRun, IsSilent, IsStyledNext, IsTurn, standing, styled_left, styled_own, styled_plan, styled_processor, styled_rounds, styled_style, styled_tree};
+    ghost use Rattle.styled_turns.specs.StyledTurns.{StyledTurn, runs, waits, behind, first_standing, is_signalled, styled};
+    ghost use Rattle.styled_turns.specs.StyledLeft.{AreStyled, BeginsNext, EndsAlike, EndsPlainly, HasLooked, IsAtCounter, IsBeforeBeginning, IsBeforeCounter, IsCounterOf, IsNextOrPhase, IsOpen, IsSameRun, IsSilent, IsStyledNext, IsTurn, LooksPlainly, PassesPlainly, beginnings_left, standing, styled_left, styled_own, styled_place, styled_plan, styled_processor, styled_rounds, styled_style, styled_tree};
 
     /// All turns of a processor.
     pub fn new(program: &'a Program, plan: &'a Plan, style: Style, processor: u32) -> Self
@@ -100,6 +115,8 @@ impl<'a> StyledTurns<'a> {
         ensures plan { styled_plan result ≡ plan.now }
         ensures processor { styled_processor result ≡ processor }
         ensures style { styled_style result ≡ style }
+        ensures begins { beginnings_left result ≡ range_with_len 1 (length (phases_of (tree_of program.now) plan.now.cut.marks)) }
+        ensures plain { turns_left result.turns ≡ turns_from (tree_of program.now) plan.now processor 1 (phases_of (tree_of program.now) plan.now.cut.marks) }
     {
         let steps = rounds_of(plan.workers) * 2;
         let has_own = has_own(plan);
@@ -145,6 +162,31 @@ impl<'a> StyledTurns<'a> {
         self.has_own
     }
 
+    /// How many processors there are.
+    pub fn workers(&self) -> u32
+        ensures { result ≡ (styled_plan self.now).workers }
+    {
+        self.plan.workers
+    }
+
+    /// How the boundary is passed whose post or await of a counter comes next.
+    pub fn boundary(&self) -> Boundary
+        requires { AreStyled self.now }
+        ensures { (number : ℕ) → IsAtCounter self.now number → result ≡ boundary_at (styled_tree self.now) (styled_plan self.now) number }
+    {
+        self.turns.boundary()
+    }
+
+    /// The phase, from 1, in front of which the boundary stands whose post or await of a counter
+    /// comes next.
+    pub fn phase(&self) -> u64
+        requires sound { AreStyled self.now }
+        requires next { (number : ℕ) × IsAtCounter self.now number }
+        ensures { (number : ℕ) → IsAtCounter self.now number → result ≡ suc number }
+    {
+        self.turns.phase()
+    }
+
     /// What comes next. Nothing of what is left changes.
     pub fn peek(&mut self) -> StyledNext<'a>
         requires { AreStyled self.old }
@@ -160,7 +202,63 @@ impl<'a> StyledTurns<'a> {
         }
     }
 
+    /// What comes next, or the phase that begins in front of it, which is told once. Nothing of what
+    /// is left changes.
+    pub fn peek_or_begin(&mut self) -> NextOrPhase<'a>
+        requires { AreStyled self.old }
+        ensures sound { AreStyled self.new }
+        ensures left { styled_left self.new ≡ styled_left self.old }
+        ensures next { IsNextOrPhase self.old self.new result }
+        ensures plain { styled_style self.old ≡ Arrive → LooksPlainly self.old self.new result }
+        ensures same { IsSameRun self.old self.new }
+    {
+        if self.is_watched {
+            self.begin_watched()
+        } else {
+            self.begin_plain()
+        }
+    }
+
     // The same where no phase has own scalars, and barriers are passed by counters.
+    fn begin_plain(&mut self) -> NextOrPhase<'a>
+        requires sound { AreStyled self.old }
+        requires plain { self.old.is_watched ≡ false }
+        ensures sound { AreStyled self.new }
+        ensures left { styled_left self.new ≡ styled_left self.old }
+        ensures next { IsNextOrPhase self.old self.new result }
+        ensures plain { styled_style self.old ≡ Arrive → LooksPlainly self.old self.new result }
+        ensures same { IsSameRun self.old self.new }
+    {
+        let next = self.look();
+        if let Next::Phase(phase) = next {
+            self.turns.pass();
+            return NextOrPhase::Phase(phase);
+        }
+        NextOrPhase::Turn(self.shown(next))
+    }
+
+    // And where each phase is looked at as it begins.
+    fn begin_watched(&mut self) -> NextOrPhase<'a>
+        requires sound { AreStyled self.old }
+        requires watched { self.old.is_watched ≡ true }
+        ensures sound { AreStyled self.new }
+        ensures left { styled_left self.new ≡ styled_left self.old }
+        ensures next { IsNextOrPhase self.old self.new result }
+        ensures plain { styled_style self.old ≡ Arrive → LooksPlainly self.old self.new result }
+        ensures same { IsSameRun self.old self.new }
+    {
+        let mut next = self.look();
+        while self.is_silent(next) {
+            self.pass_silent(next);
+            if let Next::Phase(phase) = next {
+                return NextOrPhase::Phase(phase);
+            }
+            next = self.look();
+        }
+        NextOrPhase::Turn(self.shown(next))
+    }
+
+    // What comes next where no phase has own scalars, and barriers are passed by counters.
     fn peek_plain(&mut self) -> StyledNext<'a>
         requires sound { AreStyled self.old }
         requires plain { self.old.is_watched ≡ false }
@@ -202,6 +300,7 @@ impl<'a> StyledTurns<'a> {
         ensures looked { HasLooked self.new result }
         ensures left { styled_left self.new ≡ styled_left self.old }
         ensures plain { turns_left self.new.turns ≡ turns_left self.old.turns }
+        ensures pending { self.new.pending ≡ self.old.pending }
         ensures watched { self.new.is_watched ≡ self.old.is_watched }
         ensures same { IsSameRun self.old self.new }
     {
@@ -216,6 +315,9 @@ impl<'a> StyledTurns<'a> {
         ensures silent { result ≡ true → IsSilent self.now next.entry }
         ensures open { result ≡ false → IsOpen self.now next.entry }
     {
+        if let Next::Work(_) = next {
+            return false;
+        }
         if self.step < self.steps || first_pending(&self.pending).is_some() {
             return false;
         }
@@ -245,6 +347,7 @@ impl<'a> StyledTurns<'a> {
         requires silent { IsSilent self.old next }
         ensures sound { AreStyled self.new }
         ensures left { styled_left self.new ≡ styled_left self.old }
+        ensures plain { (t : Turn) × (turns_left self.old.turns ≡ t ∷ turns_left self.new.turns) }
         ensures nearer { length (turns_left self.new.turns) < length (turns_left self.old.turns) }
         ensures watched { self.new.is_watched ≡ true }
         ensures same { IsSameRun self.old self.new }
@@ -262,6 +365,7 @@ impl<'a> StyledTurns<'a> {
         ensures sound { AreStyled self.new }
         ensures silent { (number : ℕ) → IsCounterOf (turns_left self.old.turns) number → is_signalled self.old.style (styled_tree self.old) (styled_plan self.old) number ≡ true → styled_left self.new ≡ styled_left self.old }
         ensures passed { (number : ℕ) → IsCounterOf (turns_left self.old.turns) number → is_signalled self.old.style (styled_tree self.old) (styled_plan self.old) number ≡ false → (t : StyledTurn) × (styled_left self.old ≡ t ∷ styled_left self.new) }
+        ensures plain { (t : Turn) × (turns_left self.old.turns ≡ t ∷ turns_left self.new.turns) }
         ensures nearer { length (turns_left self.new.turns) < length (turns_left self.old.turns) }
         ensures watched { self.new.is_watched ≡ self.old.is_watched }
         ensures same { IsSameRun self.old self.new }
@@ -277,6 +381,7 @@ impl<'a> StyledTurns<'a> {
         requires begins { IsBeforeBeginning self.old }
         ensures sound { AreStyled self.new }
         ensures left { styled_left self.new ≡ styled_left self.old }
+        ensures plain { (t : Turn) × (turns_left self.old.turns ≡ t ∷ turns_left self.new.turns) }
         ensures nearer { length (turns_left self.new.turns) < length (turns_left self.old.turns) }
         ensures watched { self.new.is_watched ≡ true }
         ensures same { IsSameRun self.old self.new }
@@ -301,7 +406,8 @@ impl<'a> StyledTurns<'a> {
         requires sound { AreStyled self.now }
         requires looked { HasLooked self.now next }
         requires open { IsOpen self.now next }
-        ensures { IsStyledNext self.now result }
+        ensures next { IsStyledNext self.now result }
+        ensures end { EndsPlainly self.now result }
     {
         if self.step < self.steps {
             return self.round();
@@ -324,7 +430,8 @@ impl<'a> StyledTurns<'a> {
     fn round(&self) -> StyledNext<'a>
         requires sound { AreStyled self.now }
         requires some { self.now.step < self.now.steps }
-        ensures { IsStyledNext self.now result }
+        ensures next { IsStyledNext self.now result }
+        ensures end { EndsPlainly self.now result }
     {
         let round = self.step / 2;
         let number = self.first + u64::from(round);
@@ -345,6 +452,8 @@ impl<'a> StyledTurns<'a> {
         requires some { IsTurn next }
         ensures sound { AreStyled self.new }
         ensures passed { (t : StyledTurn) × (styled_left self.old ≡ t ∷ styled_left self.new) }
+        ensures begins { beginnings_left self.new ≡ beginnings_left self.old }
+        ensures plain { PassesPlainly self.old self.new next.entry }
         ensures same { IsSameRun self.old self.new }
     {
         match next {
@@ -356,30 +465,69 @@ impl<'a> StyledTurns<'a> {
         }
     }
 
+    /// Past all awaits of counters at a boundary at once, where one of them comes next: the phase
+    /// begins next.
+    pub fn pass_awaits(&mut self)
+        requires sound { AreStyled self.old }
+        requires next { (on wanted : ℕ) × IsStyledNext self.old (StyledNext.Await on wanted) }
+        ensures sound { AreStyled self.new }
+        ensures passed { (number : ℕ) × (awaited : List ℕ) × (styled_left self.old ≡ map (λ q. waits counter q number) awaited ++ styled_left self.new) }
+        ensures phase { (on wanted : ℕ) → IsStyledNext self.old (StyledNext.Await on wanted) → BeginsNext self.new (suc wanted) }
+        ensures begins { beginnings_left self.new ≡ beginnings_left self.old }
+        ensures same { IsSameRun self.old self.new }
+    {
+        self.turns.pass_awaits();
+        self.pending = [false; OWN_PLACES];
+    }
+
+    /// The trips that are left of a loop round one assignment, in a phase without own scalars, where
+    /// the next turn is the first of them and hasn't been looked at: a strip's instances come next,
+    /// and what is behind them is left.
+    #[inline(always)]
+    pub fn strip(&mut self) -> Option<Strip<'a>>
+        requires { AreStyled self.old }
+        ensures sound { AreStyled self.new }
+        ensures left { MatchOption result (styled_left self.new ≡ styled_left self.old) (λ s. styled_left self.old ≡ map (runs (styled_place self.old)) (strip_left s) ++ styled_left self.new) }
+        ensures some { IfSome result (λ s. 0 < length (strip_left s)) }
+        ensures own { IfSome result (λ s. HasNoOwn (styled_tree self.old) (styled_plan self.old) (styled_place self.old)) }
+        ensures tree { IfSome result (λ s. strip_tree s ≡ styled_tree self.new) }
+        ensures begins { beginnings_left self.new ≡ beginnings_left self.old }
+        ensures plain { MatchOption result (turns_left self.new.turns ≡ turns_left self.old.turns) (λ s. turns_left self.old.turns ≡ map works (strip_left s) ++ turns_left self.new.turns) }
+        ensures same { IsSameRun self.old self.new }
+    {
+        if self.step < self.steps || !self.own.is_empty() {
+            return None;
+        }
+        self.turns.strip()
+    }
+
     // Past an instance, which leaves own scalars to be closed.
     fn leave(&mut self, stop: Stop<'a>)
         requires sound { AreStyled self.old }
         requires next { IsStyledNext self.old (StyledNext.Work stop) }
         ensures sound { AreStyled self.new }
         ensures passed { (t : StyledTurn) × (styled_left self.old ≡ t ∷ styled_left self.new) }
+        ensures plain { (t : Turn) × (turns_left self.old.turns ≡ t ∷ turns_left self.new.turns) }
         ensures same { IsSameRun self.old self.new }
     {
-        if self.has_own {
-            self.pending = self.marked(stop);
-            self.turns.pass();
-        } else {
-            self.turns.pass();
-        }
+        self.mark(stop);
+        self.turns.pass();
     }
 
-    // What is to be closed behind the instance that comes next.
-    fn marked(&self, stop: Stop<'a>) -> [bool; OWN_PLACES]
-        requires sound { AreStyled self.now }
-        requires next { IsStyledNext self.now (StyledNext.Work stop) }
-        ensures { (at : IsInstance (turns_tree self.now.turns) (styled_rounds self.now) stop.entry) → result ≡ (behind (styled_tree self.now) (styled_plan self.now) (standing self.now) at.instance).pending }
+    // Marks what is to be closed behind the instance that comes next.
+    fn mark(&mut self, stop: Stop<'a>)
+        requires sound { AreStyled self.old }
+        requires next { IsStyledNext self.old (StyledNext.Work stop) }
+        ensures marked { (at : IsInstance (turns_tree self.old.turns) (styled_rounds self.old) stop.entry) → self.new.pending ≡ (behind (styled_tree self.old) (styled_plan self.old) (standing self.old) at.instance).pending }
+        ensures same { self.new ≡ record self.old { pending = self.new.pending } }
     {
-        let pending = with_place(self.pending, self.own.assigned_by(stop.item));
-        with_first(pending, self.own.privates(), self.is_in_last_trip(stop))
+        if !self.has_own {
+            return;
+        }
+        let place = self.own.assigned_by(stop.item);
+        let is_last = self.is_in_last_trip(stop);
+        mark_place(&mut self.pending, place);
+        mark_first(&mut self.pending, self.own.privates(), is_last);
     }
 
     // Whether the instance that comes next is one of its loop's last trip, where that has private

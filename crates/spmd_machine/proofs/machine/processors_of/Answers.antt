@@ -7,7 +7,7 @@ use Rattle.spmd_machine.proofs.machine.processors_of.Goals as goal
 
 pub loop-p-preserved : goal.loop-p-preserved
 loop-p-preserved c =
-    let x : Processor = record { turns = c.new.result; begun = None; registers = c.in_ok-with_capacity.field-0; place = c.first.result; done = 0; counter = 0; signal = 0; own = replicate 32 (pos 0) } in
+    let x : Processor = record { turns = c.new.result; found = None; registers = c.in_ok-with_capacity.field-0; place = c.first.result; done = 0; counter = 0; signal = 0; own = replicate 32 (pos 0) } in
     let fresh : IsFresh c.args.style (tree_of c.args.program.now) c.args.plan.now c.args.room c.loop-p.p x = record {
       sound = c.new.ensures.sound;
       program = c.new.ensures.program;
@@ -15,7 +15,7 @@ loop-p-preserved c =
       processor = c.new.ensures.processor;
       style_is = c.new.ensures.style;
       turns = c.new.ensures.turns;
-      none_begun = refl;
+      none_found = refl;
       idle = record { none_done = refl; empty = c.in_ok-with_capacity.ensures.items; first_load = c.first.ensures.load; first_element = c.first.ensures.element };
       counter = refl;
       signal = refl;

@@ -72,7 +72,7 @@ returns-then-is_sum_place c =
     let ready = c.requires.ready in
     let x = c.index_mut-processor.result.now in
     let read = c.index_mut-processor.ensures.value in
-    let y : Processor = record { turns = x.turns; begun = x.begun; registers = c.clear.new.self; place = x.place; done = 2; counter = x.counter; signal = x.signal; own = x.own } in
+    let y : Processor = record { turns = x.turns; found = x.found; registers = c.clear.new.self; place = x.place; done = 2; counter = x.counter; signal = x.signal; own = x.own } in
     let one = ap (λ (z : Processor). z.done) read ∙ c.requires.loaded x in
     let begun = closing_begun m ready c.args.p x c.requires.worker read c.args.place c.requires.next in
     let big : 16 ≤ c.args.place = leb-true 16 c.args.place (sym c.is_sum_place.ensures ∙ c.if-is_sum_place.true) in

@@ -22,7 +22,7 @@ returns c =
     let ready = c.requires.ready in
     let x = c.index_mut-processor.result.now in
     let read = c.index_mut-processor.ensures.value in
-    let y : Processor = record { turns = x.turns; begun = x.begun; registers = c.push.new.self; place = x.place; done = 1; counter = x.counter; signal = x.signal; own = x.own } in
+    let y : Processor = record { turns = x.turns; found = x.found; registers = c.push.new.self; place = x.place; done = 1; counter = x.counter; signal = x.signal; own = x.own } in
     let none = ap (λ (z : Processor). z.done) read ∙ c.requires.none x in
     let empty = none_loaded m ready c.args.p x c.requires.worker read c.args.place c.requires.next none in
     let begun = closing_begun m ready c.args.p x c.requires.worker read c.args.place c.requires.next in

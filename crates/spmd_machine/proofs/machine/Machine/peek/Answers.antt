@@ -11,8 +11,8 @@ use Rattle.spmd_machine.proofs.machine.Machine.peek.Goals as goal
 pub peek-requires-clause-sound : goal.peek-requires-clause-sound
 peek-requires-clause-sound c = (kept_here c.args.self.now c.requires.ready c.args.p c.index_mut.result.now c.index_mut.result.now c.requires.worker c.index_mut.ensures.value).sound
 
-pub peek-requires-clause-begun : goal.peek-requires-clause-begun
-peek-requires-clause-begun c = (kept_here c.args.self.now c.requires.ready c.args.p c.index_mut.result.now c.index_mut.result.now c.requires.worker c.index_mut.ensures.value).instance
+pub peek-requires-clause-found : goal.peek-requires-clause-found
+peek-requires-clause-found c = (kept_here c.args.self.now c.requires.ready c.args.p c.index_mut.result.now c.index_mut.result.now c.requires.worker c.index_mut.ensures.value).instance
 
 pub returns-clause-ready : goal.returns-clause-ready
 returns-clause-ready c =

@@ -3,12 +3,12 @@ use Rattle.spmd_model.specs.Quiet.{past_quiet, quiet_next}
 use Rattle.spmd_machine.specs.Machines.{IsReady, IsSameMachine, model_of, shared_in, shown}
 use Rattle.spmd_machine.proofs.machine.Machine.settle_own.Given as goal
 
-abbrev pub invariant-loop-self : goal.invariant-loop-self
-invariant-loop-self l = record {
+abbrev pub invariant-loop : goal.invariant-loop
+invariant-loop l = record {
   ready : IsReady l.self;
   same : IsSameMachine l.initial.self l.self;
   state : past_quiet (model_of l.initial.self) (shared_in l.initial.self) (shown l.self) l.p ≡ past_quiet (model_of l.initial.self) (shared_in l.initial.self) (shown l.initial.self) l.p;
 }
 
-abbrev pub decreases-loop-self : goal.decreases-loop-self
-decreases-loop-self l = quiet_next (model_of l.self) (shared_in l.self) (shown l.self) l.p
+abbrev pub decreases-loop : goal.decreases-loop
+decreases-loop l = quiet_next (model_of l.self) (shared_in l.self) (shown l.self) l.p

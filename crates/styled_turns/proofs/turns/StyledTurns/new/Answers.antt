@@ -6,8 +6,9 @@ use Rattle.owner_partition.specs.PhasesLeft.{phases_passed}
 use Rattle.own_cells.specs.OwnCells.{cells_of}
 use Rattle.spmd_turns.specs.Turns.{turns_from}
 use Rattle.spmd_turns.specs.TurnsLeft.{turns_left}
-use Rattle.styled_turns.specs.StyledTurns.{first_standing, no_phase, styled}
+use Rattle.styled_turns.specs.StyledTurns.{beginnings, first_standing, no_phase, styled}
 use Rattle.styled_turns.specs.StyledLeft.{AreNumbered}
+use Rattle.styled_turns.proofs.Beginnings.{all_begin}
 use Rattle.styled_turns.proofs.KnownOwn.{few_none, none_past, past_phases}
 use Rattle.styled_turns.proofs.Steps.{none_among}
 use Rattle.styled_turns.proofs.StyledLists.{no_rounds, numbered_from}
@@ -48,6 +49,7 @@ returns-clause-sound c =
         few_barriers = omega arith;
       };
       unwatched = λ w. record { no_place = refl; none = refl; no_round = refl };
+      arrives = λ w. refl;
     }
 
 pub returns-clause-turns : goal.returns-clause-turns
@@ -56,3 +58,9 @@ returns-clause-turns c =
     let turns = styled c.args.style (tree_of c.args.program.now) plan c.args.processor first_standing in
     let steps = c.rounds_of-steps.result * 2 in
     ap (λ l. l ++ turns (turns_left c.new.result)) (no_rounds plan.workers c.args.processor 1 steps steps refl) ∙ ap turns c.new.ensures.turns
+
+pub returns-clause-begins : goal.returns-clause-begins
+returns-clause-begins c =
+    let tree = tree_of c.args.program.now in
+    let marks = c.args.plan.now.cut.marks in
+    ap beginnings c.new.ensures.turns ∙ all_begin tree c.args.plan.now c.args.processor 1 (phases tree marks)

@@ -112,6 +112,9 @@ returns-clause-sound c =
         few_barriers = omega (arith, p.few_barriers, more, c.from-2.ensures, one_bit c.has_signals-by_signals.result);
       };
       unwatched = λ w. absurd (true≢false (sym c.requires.watched ∙ w));
+      arrives = λ w.
+          let off : c.has_signals-by_signals.result ≡ false = c.has_signals-by_signals.ensures ∙ ap (λ t. has_signals_at t (styled_plan s) c.in-Some.phase.place) w in
+          step ∙ ap (λ b. if b then 0 else s.steps) off;
     }
   where
     low_step : (b : Bool) (steps step : ℕ) → step ≡ (if b then 0 else steps) → step ≤ steps

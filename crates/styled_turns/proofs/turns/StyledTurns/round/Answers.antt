@@ -5,15 +5,15 @@ use Rattle.styled_turns.specs.StyledLeft.{styled_left, styled_plan, styled_proce
 use Rattle.styled_turns.proofs.Shown.{await_turn, round_passed, signal_turn}
 use Rattle.styled_turns.proofs.turns.StyledTurns.round.Goals as goal
 
-pub returns-then-self-eq0 : goal.returns-then-self-eq0
-returns-then-self-eq0 c =
+pub returns-then-self-eq0-clause-next : goal.returns-then-self-eq0-clause-next
+returns-then-self-eq0-clause-next c =
     let s = c.args.self.now in
     let even : s.step % 2 ≡ 0 = omega (arith, c.if-self-eq0.true) in
     let later = styled_left (record s { step = s.step + 1 }) in
     ((later, round_passed s c.requires.some ∙ ap (λ t. t ∷ later) (signal_turn (styled_plan s).workers (styled_processor s) s.first s.step even) ∙ ap (λ n. sets signal (s.first + n) ∷ later) (sym c.from.ensures)), c.requires.some)
 
-pub returns-else-self-eq0 : goal.returns-else-self-eq0
-returns-else-self-eq0 c =
+pub returns-else-self-eq0-clause-next : goal.returns-else-self-eq0-clause-next
+returns-else-self-eq0-clause-next c =
     let s = c.args.self.now in
     let odd : s.step % 2 ≡ 1 = omega (arith, c.if-self-eq0.false) in
     let later = styled_left (record s { step = s.step + 1 }) in (

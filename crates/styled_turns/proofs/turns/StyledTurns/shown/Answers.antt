@@ -13,23 +13,23 @@ none_pends : (c : StyledTurns) (o : Option ℕ) → MatchOption o (places_pendin
 none_pends c None first other = first
 none_pends c (Some k) first other = absurd (other k refl)
 
-pub returns-in-Work : goal.returns-in-Work
-returns-in-Work c =
+pub returns-in-Work-clause-next : goal.returns-in-Work-clause-next
+returns-in-Work-clause-next c =
     let s = c.args.self.now in
     let rounds : s.step ≡ s.steps = omega (arith, c.requires.sound.within, c.if-self.false) in
     let n = subst (IsNext s.turns) c.in-Work.is c.requires.looked.next in
     (n.0, (_, work_first s rounds n.0.instance n.1 n.2), record { next = n; end = c.requires.looked.end; rounds = rounds })
 
-pub returns-in-Some : goal.returns-in-Some
-returns-in-Some c =
+pub returns-in-Some-clause-next : goal.returns-in-Some-clause-next
+returns-in-Some-clause-next c =
     let s = c.args.self.now in
     let rounds : s.step ≡ s.steps = omega (arith, c.requires.sound.within, c.if-self.false) in
     let behind = behind_instances s.turns c.args.next c.requires.looked.next c.in_default.not-Work in
     let k = c.in-Some.place in
     (closing_comes s k (places_pending (slice_set s.pending k false)) rounds behind c.in-Some.ensures.first, record { rounds = rounds; behind = behind; small = c.in-Some.ensures.small; pending = c.in-Some.ensures.first })
 
-pub returns-in-Post : goal.returns-in-Post
-returns-in-Post c =
+pub returns-in-Post-clause-next : goal.returns-in-Post-clause-next
+returns-in-Post-clause-next c =
     let s = c.args.self.now in
     let rounds : s.step ≡ s.steps = omega (arith, c.requires.sound.within, c.if-self.false) in
     let none = none_pends s c.first_pending.result c.first_pending.ensures.first c.in_default-first_pending.not-Some in
@@ -37,8 +37,8 @@ returns-in-Post c =
     let n = subst (IsNext s.turns) c.in-Post.is c.requires.looked.next in
     (post_comes s c.in-Post.number n.0 rounds none off n.1, record { shows = record { next = n; end = c.requires.looked.end; rounds = rounds }; none = none; by_counters = off })
 
-pub returns-in-Await : goal.returns-in-Await
-returns-in-Await c =
+pub returns-in-Await-clause-next : goal.returns-in-Await-clause-next
+returns-in-Await-clause-next c =
     let s = c.args.self.now in
     let rounds : s.step ≡ s.steps = omega (arith, c.requires.sound.within, c.if-self.false) in
     let none = none_pends s c.first_pending.result c.first_pending.ensures.first c.in_default-first_pending.not-Some in
