@@ -1,17 +1,14 @@
 -- A processor that goes on alone, over its own stores.
-use Rattle.std.proofs.Common.{◌≡◌, ℕ, ◌+◌, ◌<◌, ℤ, List, [], ◌∷◌, ◌++◌, length, set, Some, refl, sym, ◌∙◌, ap, subst, arith}
-use Rattle.nest_tree.specs.Layout.{cell_count}
-use Rattle.nest_tree.specs.Tree.{Tree}
+use Rattle.std.proofs.Common.{◌≡◌, ℕ, ◌+◌, ◌<◌, ℤ, true, List, [], set, Some, sym, ◌∙◌, ap, subst, arith}
 use Rattle.nest_model.specs.Memory.{cell_value}
-use Rattle.sync_plan.specs.declared.plan.Plan.{Plan}
 use Rattle.spmd_model.specs.Lawful.{Moves}
-use Rattle.spmd_model.specs.Timelines.{load, print, store}
+use Rattle.spmd_model.specs.Quiet.{is_quiet}
+use Rattle.spmd_model.specs.Timelines.{Act, load, print, store}
 use Rattle.spmd_laws.specs.Laws.{Laws}
 use Rattle.spmd_laws.specs.Protocols.{Protocol, act_at}
-use Rattle.spmd_laws.specs.Viewed.{protocol_of}
-use Rattle.fork_join.specs.Joins.{Goes, IsAlone, begun}
-use Rattle.fork_join.specs.Overlays.{AreIndexed, laid_in}
-use Rattle.fork_join.proofs.Crossing.{onwards, put, put_moves, stays}
+use Rattle.fork_join.specs.Joins.{Goes, put}
+use Rattle.fork_join.specs.Overlays.{laid_in}
+use Rattle.fork_join.proofs.Crossing.{onwards, put_moves, stays}
 
 module _ (m : Protocol) (laws : Laws m) (p from : ℕ) (inside : p < m.workers) where
   pub goes_none : Goes m p from [] from
@@ -32,6 +29,10 @@ module _ (m : Protocol) (laws : Laws m) (p from : ℕ) (inside : p < m.workers) 
     pub goes_print : (place : ℕ) → act_at m p n ≡ Some (print place) → Goes m p from stores (n + 1)
     goes_print place act memory at after lawful is moves =
         laws.by_print (laid_in stores memory) (put at p n) after p place inside (goes memory at (put at p n) lawful is (put_moves at p n)) (ap (act_at m p) (there at) ∙ act) (further at after moves)
+
+    pub goes_quiet : (a : Act) → act_at m p n ≡ Some a → is_quiet m.cells a ≡ true → Goes m p from stores (n + 1)
+    goes_quiet a act quiet memory at after lawful is moves =
+        laws.by_quiet (laid_in stores memory) (put at p n) after p a inside (goes memory at (put at p n) lawful is (put_moves at p n)) (ap (act_at m p) (there at) ∙ act) quiet (further at after moves)
 
     pub goes_store : (new : List (ℕ × ℤ)) (place cell : ℕ) (v : ℤ) → act_at m p n ≡ Some (store place cell) → cell < m.cells → v ≡ m.stored_at p n → ((memory : List ℤ) → laid_in new memory ≡ set (laid_in stores memory) cell v) → Goes m p from new (n + 1)
     goes_store new place cell v act small value laid memory at after lawful is moves =

@@ -1,7 +1,6 @@
 -- What workers keep may go to other threads.
 use denote.Ref.{NamedLft}
-use denote.Param.Send.{AllSend, IsSend, IsSync, array_send, recorded_send, struct_send, sendable}
-use Rattle.std.proofs.Common.{[], ◌∷◌}
+use denote.Param.Send.{IsSend, IsSync, array_send, recorded_send, struct_send, sendable}
 use denote.Struct.Declared.{shape}
 use Rattle.std.proofs.Crossing.{crosses}
 use Rattle.nest_tree.specs.contracts.tree.Expr as Expr
@@ -20,7 +19,7 @@ use Rattle.nest_walk.proofs.trips.Trips.TheSendSync as trips
 use Rattle.nest_walk.proofs.path.Path.TheSendSync as path
 use Rattle.sync_plan.proofs.plan.Plan.TheSendSync as plan
 use Rattle.nest_walk.specs.contracts.cursor.Stop as Stop
-use Rattle.nest_walk.specs.contracts.cursor.Cursor as Cursor
+use Rattle.nest_walk.specs.contracts.cursor.Cursor as Walks
 use Rattle.nest_walk.specs.contracts.frame.Part as Part
 use Rattle.nest_walk.specs.contracts.frame.Frame as Frame
 use Rattle.nest_walk.specs.contracts.frame.Frames as Frames
@@ -31,6 +30,10 @@ use Rattle.sync_plan.specs.contracts.plan.Plan as Plan
 use Rattle.spmd_turns.specs.contracts.turns.Turns as Turns
 use Rattle.spmd_turns.specs.contracts.execute.Executor as Executor
 use Rattle.spmd_turns.proofs.progress.Progress.TheSendSync as progress
+use Rattle.own_cells.proofs.cells.OwnCells.TheSendSync as own_cells
+use Rattle.spmd_model.proofs.style.Style.TheSendSync as style
+use Rattle.styled_turns.specs.contracts.turns.StyledTurns as StyledTurns
+use Rattle.fork_join.specs.contracts.cursor.Cursor as Cursors
 use Rattle.fork_join.specs.contracts.stores.Stores as Stores
 use Rattle.fork_join.specs.contracts.worker.Worker as Worker
 use denote.Struct.Struct.{Struct}
@@ -74,15 +77,15 @@ Frames-field-send a = struct_send (shape (Frames.the_type a)) (array_send (Frame
 Part-field-send : (a : NamedLft) → IsSend (Part.the_field a).row
 Part-field-send a = let i = Item-sync in search (sendable, crosses) depth 20
 
-Cursor-field-send : (a : NamedLft) → IsSend (Cursor.the_field a).row
-Cursor-field-send a =
-    struct_send (shape (Cursor.the_type a)) (search (sendable, crosses, Program-sync) depth 20, (search (sendable, crosses) depth 20, (path.the_field_send, (Frames-field-send a, (Part-field-send a, tt)))))
+Walk-field-send : (a : NamedLft) → IsSend (Walks.the_field a).row
+Walk-field-send a =
+    struct_send (shape (Walks.the_type a)) (search (sendable, crosses, Program-sync) depth 20, (search (sendable, crosses) depth 20, (path.the_field_send, (Frames-field-send a, (Part-field-send a, tt)))))
 
 Instances-field-send : (a : NamedLft) → IsSend (Instances.the_field a).row
-Instances-field-send a = struct_send (shape (Instances.the_type a)) (Cursor-field-send a, tt)
+Instances-field-send a = struct_send (shape (Instances.the_type a)) (Walk-field-send a, tt)
 
 PhaseCursor-field-send : (a : NamedLft) → IsSend (PhaseCursor.the_field a).row
-PhaseCursor-field-send a = struct_send (shape (PhaseCursor.the_type a)) (Cursor-field-send a, (search (sendable, crosses) depth 20, (search (sendable, crosses, Stop-send) depth 20, tt)))
+PhaseCursor-field-send a = struct_send (shape (PhaseCursor.the_type a)) (Walk-field-send a, (search (sendable, crosses) depth 20, (search (sendable, crosses, Stop-send) depth 20, tt)))
 
 pub Turns-field-send : (a : NamedLft) → IsSend (Turns.the_field a).row
 Turns-field-send a =
@@ -106,6 +109,47 @@ Turns-field-send a =
 pub Executor-field-send : (a : NamedLft) → IsSend (Executor.the_field a).row
 Executor-field-send a = let p = Program-sync in let t = CellTable-sync in search (sendable, crosses) depth 20
 
+pub StyledTurns-field-send : (a : NamedLft) → IsSend (StyledTurns.the_field a).row
+StyledTurns-field-send a =
+    let n = Nest-sync in
+    struct_send (shape (StyledTurns.the_type a)) (
+      search (sendable, crosses, Program-sync) depth 20,
+      (
+        search (sendable, crosses, Plan-sync) depth 20,
+        (
+          search (sendable, crosses) depth 20,
+          (
+            style.the_field_send,
+            (
+              Turns-field-send a,
+              (
+                search (sendable, crosses) depth 20,
+                (
+                  search (sendable, crosses) depth 20,
+                  (
+                    PhaseCursor-field-send a,
+                    (
+                      search (sendable, crosses) depth 20,
+                      (
+                        own_cells.the_field_send,
+                        (
+                          search (sendable, crosses) depth 20,
+                          (search (sendable, crosses) depth 20, (search (sendable, crosses) depth 20, (search (sendable, crosses) depth 20, (search (sendable, crosses) depth 20, (search (sendable, crosses) depth 20, tt))))),
+                        ),
+                      ),
+                    ),
+                  ),
+                ),
+              ),
+            ),
+          ),
+        ),
+      ),
+    )
+
+Cursor-field-send : (a : NamedLft) → IsSend (Cursors.the_field a).row
+Cursor-field-send a = struct_send (shape (Cursors.the_type a)) (StyledTurns-field-send a, (search (sendable, crosses) depth 20, tt))
+
 Stores-field-send : IsSend (Stores.the_field).row
 Stores-field-send = search (sendable, crosses) depth 20
 
@@ -120,10 +164,10 @@ Worker-field-send a =
           (
             search (sendable, crosses) depth 20,
             (
-              Turns-field-send a,
+              Cursor-field-send a,
               (
                 Executor-field-send a,
-                (Stores-field-send, (search (sendable, crosses, progress.the_send) depth 20, tt)),
+                (Stores-field-send, (search (sendable, crosses) depth 20, (search (sendable, crosses, progress.the_send) depth 20, tt))),
               ),
             ),
           ),

@@ -1,5 +1,5 @@
 -- All processors past a boundary.
-use Rattle.std.proofs.Common.{◌≡◌, ◌≢◌, ℕ, zero, suc, ◌+◌, ◌-◌, ◌<◌, ◌≤◌, Bool, true, false, cond, eqb, ltb, ℤ, List, [], ◌∷◌, ◌++◌, append_assoc, length, length-append, map, drop, Some, if◌then◌else◌, refl, sym, ◌∙◌, ap, subst, inl, inr, arith}
+use Rattle.std.proofs.Common.{◌≡◌, ℕ, zero, suc, ◌+◌, ◌-◌, ◌<◌, ◌≤◌, Bool, true, false, cond, ltb, ℤ, List, [], ◌∷◌, ◌++◌, append_assoc, length, length-append, map, drop, Some, if◌then◌else◌, refl, sym, ◌∙◌, ap, subst, inl, inr, arith}
 use Rattle.std.specs.Prelude.{slice_get}
 use Rattle.std.specs.List.{Contains, flat_map}
 use Rattle.std.proofs.Math.Seq.{drop-append_seam}
@@ -11,20 +11,18 @@ use Rattle.owner_partition.specs.Phases.{phases}
 use Rattle.sync_plan.specs.declared.plan.Plan.{Plan}
 use Rattle.sync_plan.specs.Waits.{posts_at, waits_for}
 use Rattle.sync_plan.proofs.Gets.{get-behind}
-use Rattle.spmd_model.specs.Deeds.{Deed, awaiting, boundary_deeds, deeds_from, instance_deeds, owned_by, phase_deeds, posting}
+use Rattle.sync_plan.specs.Own.{own_of}
+use Rattle.spmd_model.specs.Deeds.{Deed, awaiting, boundary_deeds, owned_by, posting}
+use Rattle.spmd_model.specs.StyledDeeds.{closing_deeds, deeds_by, own_deeds, part_deeds}
+use Rattle.spmd_model.specs.declared.style.Style.TheVariants.{Arrive}
 use Rattle.spmd_model.specs.Lawful.{IsPosted, Moves}
 use Rattle.spmd_model.specs.Timelines.{await, counter, post}
 use Rattle.spmd_model.proofs.PlannedSound.{awaited_posts}
-use Rattle.spmd_laws.specs.Laws.{Laws}
 use Rattle.spmd_laws.specs.Protocols.{Protocol, act_at}
-use Rattle.spmd_laws.specs.Viewed.{protocol_of}
-use Rattle.fork_join.specs.Joins.{IsSafe, all_deeds, begun, begun_from, deeds_begun, deeds_behind, in_front}
+use Rattle.fork_join.specs.Joins.{IsSafe, all_deeds, begun, begun_from, deeds_begun, deeds_behind, in_front, mixed, protocol, put}
 use Rattle.fork_join.proofs.Acts.{await_there, post_there}
 
 -- ---- places that differ at one processor
-
-abbrev pub put : (ℕ → ℕ) → ℕ → ℕ → ℕ → ℕ
-put at p n q = cond (eqb q p) n (at q)
 
 pub put_moves : (at : ℕ → ℕ) (p n : ℕ) → Moves at (put at p n) p n
 put_moves at p n = record {
@@ -50,10 +48,6 @@ onwards at after p n k moves = record {
 }
 
 -- ---- one processor after another
-
--- those below j have come to the second places
-abbrev pub mixed : (from to : ℕ → ℕ) → ℕ → ℕ → ℕ
-mixed from to j q = cond (ltb q j) (to q) (from q)
 
 pub mixed_below : (from to : ℕ → ℕ) (j q : ℕ) → q < j → mixed from to j q ≡ to q
 mixed_below from to j q lt = ap (λ b. cond b (to q) (from q)) (lt-ltb q j lt)
@@ -100,20 +94,20 @@ left_get all front left i d is at =
     ap (slice_get all) n ∙ ap (λ l. slice_get l (length front + i)) is ∙ get-behind front left i ∙ at
 
 module _ (tree : Tree) (plan : Plan) (p : ℕ) where
-  pub split_at : (e n : ℕ) (vs : List Visit) → (front : List Deed) × (deeds_from tree plan p e vs ≡ front ++ deeds_from tree plan p (e + n) (drop n vs))
-  split_at e zero vs = ([], let k : e ≡ e + 0 = omega arith in ap (λ x. deeds_from tree plan p x vs) k)
+  pub split_at : (e n : ℕ) (vs : List Visit) → (front : List Deed) × (deeds_by Arrive tree plan p e 0 vs ≡ front ++ deeds_by Arrive tree plan p (e + n) 0 (drop n vs))
+  split_at e zero vs = ([], let k : e ≡ e + 0 = omega arith in ap (λ x. deeds_by Arrive tree plan p x 0 vs) k)
   split_at e (suc n) [] = ([], refl)
   split_at e (suc n) (v ∷ vs) =
       let r = split_at (suc e) n vs in let k : suc e + n ≡ e + suc n = omega arith in (
-        phase_deeds tree plan p e v ++ r.0,
-        ap (λ l. phase_deeds tree plan p e v ++ l) r.1 ∙ sym (append_assoc (phase_deeds tree plan p e v) r.0 (deeds_from tree plan p (suc e + n) (drop n vs)))
-            ∙ ap (λ x. (phase_deeds tree plan p e v ++ r.0) ++ deeds_from tree plan p x (drop n vs)) k,
+        part_deeds Arrive tree plan p e 0 v ++ r.0,
+        ap (λ l. part_deeds Arrive tree plan p e 0 v ++ l) r.1 ∙ sym (append_assoc (part_deeds Arrive tree plan p e 0 v) r.0 (deeds_by Arrive tree plan p (suc e + n) 0 (drop n vs)))
+            ∙ ap (λ x. (part_deeds Arrive tree plan p e 0 v ++ r.0) ++ deeds_by Arrive tree plan p x 0 (drop n vs)) k,
       )
 
   pub behind_ends : (n : ℕ) → (front : List Deed) × (all_deeds tree plan p ≡ front ++ deeds_behind tree plan n p)
   unfolding all_deeds
   behind_ends n = let r = split_at 1 n (phases tree plan.cut.marks) in let k : 1 + n ≡ suc n = omega arith in
-      (r.0, r.1 ∙ ap (λ x. r.0 ++ deeds_from tree plan p x (drop n (phases tree plan.cut.marks))) k)
+      (r.0, r.1 ∙ ap (λ x. r.0 ++ deeds_by Arrive tree plan p x 0 (drop n (phases tree plan.cut.marks))) k)
 
   pub in_front_is : (n : ℕ) → p < plan.workers → in_front tree plan n p ≡ length (all_deeds tree plan p) - length (deeds_behind tree plan n p)
   unfolding in_front
@@ -150,7 +144,7 @@ post_count b = cond b 1 0
 
 module _ (tree : Tree) (plan : Plan) (safe : IsSafe tree plan) (n : ℕ) (v : Visit) (rest : List Visit) (stands : drop n (phases tree plan.cut.marks) ≡ v ∷ rest) where
   abbrev m : Protocol
-  m = protocol_of tree plan
+  m = protocol tree plan
 
   abbrev number : ℕ
   number = suc n - 1
@@ -163,9 +157,9 @@ module _ (tree : Tree) (plan : Plan) (safe : IsSafe tree plan) (n : ℕ) (v : Vi
 
   pub behind_is : (q : ℕ) → deeds_behind tree plan n q ≡ boundary_deeds counter (suc n - 1) (posts_at tree plan q v.place v.loops) (waits_for tree plan q v.place v.loops) ++ deeds_begun tree plan n q
   behind_is q =
-      let own = flat_map (instance_deeds tree) (owned_by tree (slice_get plan.anchors (v.place - 1)) plan.workers q v) in
-      ap (deeds_from tree plan q (suc n)) stands
-      ∙ append_assoc (boundary_deeds counter (suc n - 1) (posts_at tree plan q v.place v.loops) (waits_for tree plan q v.place v.loops)) own (deeds_from tree plan q (suc (suc n)) rest)
+      let own = flat_map (own_deeds tree (own_of tree plan v.place) q) (owned_by tree (slice_get plan.anchors (v.place - 1)) plan.workers q v) ++ closing_deeds tree plan q v in
+      ap (deeds_by Arrive tree plan q (suc n) 0) stands
+      ∙ append_assoc (boundary_deeds counter (suc n - 1) (posts_at tree plan q v.place v.loops) (waits_for tree plan q v.place v.loops)) own (deeds_by Arrive tree plan q (suc (suc n)) 0 rest)
       ∙ ap (λ vs. boundary_deeds counter (suc n - 1) (posts_at tree plan q v.place v.loops) (waits_for tree plan q v.place v.loops) ++ begun_from tree plan q (suc n) vs) (sym stands)
 
   pub begun_ends : (q : ℕ) → (front : List Deed) × (all_deeds tree plan q ≡ front ++ deeds_begun tree plan n q)
@@ -194,7 +188,7 @@ module _ (tree : Tree) (plan : Plan) (safe : IsSafe tree plan) (n : ℕ) (v : Vi
       ap (λ l. slice_get l 0) (behind_is q) ∙ ap (λ b. slice_get (((if b then posting counter number ∷ [] else []) ++ map (λ o. awaiting counter o number) (whom q)) ++ deeds_begun tree plan n q) 0) posts in
       let there = left_get (all_deeds tree plan q) r.0 (deeds_behind tree plan n q) 0 (posting counter number) r.1 first in
       let k : length (all_deeds tree plan q) - length (deeds_behind tree plan n q) + 0 ≡ in_front tree plan n q = omega (arith, in_front_is tree plan q n lt) in
-      post_there tree plan safe q (in_front tree plan n q) counter number (subst (λ x. slice_get (all_deeds tree plan q) x ≡ Some (posting counter number)) k there)
+      post_there tree plan safe q (in_front tree plan n q) lt counter number (subst (λ x. slice_get (all_deeds tree plan q) x ≡ Some (posting counter number)) k there)
 
   post_step : (cells : List ℤ) (at after : ℕ → ℕ) (q : ℕ) → q < plan.workers → m.lawful cells at → at q ≡ in_front tree plan n q → ((r : ℕ) → in_front tree plan n r ≤ at r) → Moves at after q (posted q) → m.lawful cells after
   post_step cells at after q lt lawful is least moves = elim (cases_Bool (does q)) [
@@ -252,7 +246,7 @@ module _ (tree : Tree) (plan : Plan) (safe : IsSafe tree plan) (n : ℕ) (v : Vi
       let tail = deeds_begun tree plan n q in
       let there : slice_get (all_deeds tree plan q) (posted q + i) ≡ Some (awaiting counter w.0 number) =
       ap (λ k. slice_get (all_deeds tree plan q) (k + i)) (sym r.2) ∙ ap (λ l. slice_get l (length r.0 + i)) r.1 ∙ get-behind r.0 (map (λ o. awaiting counter o number) (whom q) ++ tail) i ∙ w.2 (λ o. awaiting counter o number) tail in
-      (w.0, w.1, await_there tree plan safe q (posted q + i) counter w.0 number there)
+      (w.0, w.1, await_there tree plan safe q (posted q + i) lt counter w.0 number there)
 
   await_step : (cells : List ℤ) (at after : ℕ → ℕ) (q : ℕ) → q < plan.workers → m.lawful cells at → at q ≡ posted q → ((r : ℕ) → posted r ≤ at r) → Moves at after q (begun tree plan n q) → m.lawful cells after
   await_step cells at after q lt lawful is least moves = go (length (whom q)) (omega arith) after (subst (Moves at after q) (begun_is_posted q lt) moves)

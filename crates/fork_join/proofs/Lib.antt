@@ -2,9 +2,17 @@ pub mod Laying
 pub mod Acts
 pub mod Crossing
 pub mod Alone
+pub mod Holding
 pub mod Seeing
+pub mod SeenDeeds
+pub mod OwnSeeing
 pub mod Turning
+pub mod Shutting
 pub mod Walking
+pub mod Executing
+pub mod Beginning
+pub mod Closing
+pub mod Closes
 pub mod Working
 pub mod Crosses
 pub mod Running

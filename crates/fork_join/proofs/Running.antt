@@ -1,6 +1,6 @@
 -- The phases of a run, one behind another.
 use mathlib.Core.Logic.{∥∥₁_elim, ∥∥₁_map}
-use Rattle.std.proofs.Common.{◌≡◌, ℕ, zero, suc, ◌+◌, ◌-◌, ◌<◌, ◌≤◌, ℤ, pos, List, [], ◌∷◌, ◌++◌, append-nil, drop, get_or, length, length-append, length-drop, length-set, map, replicate, set, Some, false, take, refl, sym, ◌∙◌, ap, subst, inl, inr, arith}
+use Rattle.std.proofs.Common.{◌≡◌, ℕ, suc, ◌+◌, ◌<◌, ◌≤◌, ℤ, pos, List, [], ◌∷◌, ◌++◌, append-nil, drop, get_or, length, length-append, length-drop, length-set, replicate, set, Some, take, sym, ◌∙◌, ap, subst, inl, inr, arith}
 use Rattle.std.specs.Prelude.{slice_get}
 use Rattle.std.proofs.Props.{props}
 use Rattle.std.proofs.lemmas.Bool.{cases_eq, cases_lt}
@@ -13,16 +13,19 @@ use Rattle.sync_plan.specs.declared.plan.Plan.{Plan}
 use Rattle.nest_tree.specs.WellFormed.{IsWellFormed}
 use Rattle.nest_model.specs.Ranges.{IsInRange}
 use Rattle.sync_plan.specs.Fit.{IsFit}
+use Rattle.nest_tree.specs.Limits.{IsWithinLimits}
 use Rattle.spmd_laws.specs.Laws.{Laws}
-use Rattle.spmd_laws.specs.Protocols.{act_at}
-use Rattle.spmd_laws.specs.Viewed.{acts_under, printed_under, protocol_of}
-use Rattle.spmd_model.specs.Deeds.{Deed, deed_of, deeds_from, printing, storing}
-use Rattle.spmd_model.specs.Planned.{machine_of}
-use Rattle.spmd_model.specs.Quiet.{is_quiet}
-use Rattle.spmd_model.specs.Timelines.{Act, acts_of}
-use Rattle.fork_join.specs.Joins.{Goes, IsSafe, all_deeds, begun, deeds_behind, in_front}
+use Rattle.spmd_laws.specs.Protocols.{act_at, held_at}
+use Rattle.spmd_laws.specs.Styled.{acts_by, printed_by}
+use Rattle.spmd_model.specs.Deeds.{Deed, adding, deed_of, printing, storing}
+use Rattle.spmd_model.specs.Styled.{machine_by}
+use Rattle.spmd_model.specs.StyledDeeds.{deeds_by}
+use Rattle.spmd_model.specs.Timelines.{Act, acts_of, load}
+use Rattle.spmd_model.specs.declared.style.Style.TheVariants.{Arrive}
+use Rattle.spmd_model.proofs.StyledDeeds.{styled_deeds}
+use Rattle.fork_join.specs.Joins.{Goes, IsSafe, all_deeds, begun, deeds_behind, in_front, joined, protocol, put}
 use Rattle.fork_join.specs.Overlays.{laid_in}
-use Rattle.fork_join.proofs.Crossing.{begun_none, cross, in_front_is, in_front_none, mixed, mixed_below, mixed_moves, mixed_past, same_at}
+use Rattle.fork_join.proofs.Crossing.{begun_none, cross, in_front_is, in_front_none, mixed_below, mixed_moves, mixed_past, put_moves, same_at}
 use Rattle.fork_join.proofs.Turning.{phase_there}
 
 -- what is written through a slice of a whole list is that list then
@@ -48,7 +51,7 @@ ints : (xs ys : List ℤ) → IsProp (xs ≡ ys)
 ints xs ys = Prim.hlevel props
 
 module _ (tree : Tree) (plan : Plan) (safe : IsSafe tree plan) where
-  pub sized : (cells : List ℤ) (at : ℕ → ℕ) → ∥ (protocol_of tree plan).lawful cells at ∥₁ → length cells ≡ cell_count tree
+  pub sized : (cells : List ℤ) (at : ℕ → ℕ) → ∥ (protocol tree plan).lawful cells at ∥₁ → length cells ≡ cell_count tree
   sized cells at t = ∥∥₁_elim t (same_size (length cells) (cell_count tree)) (λ lawful. safe.laws.size cells at lawful)
 
   -- at first
@@ -56,27 +59,35 @@ module _ (tree : Tree) (plan : Plan) (safe : IsSafe tree plan) where
   unfolding all_deeds
   first_place q lt = omega (arith, in_front_is tree plan q 0 lt)
 
-  pub lawful_first : (memory : List ℤ) → memory ≡ replicate (cell_count tree) (pos 0) → ∥ (protocol_of tree plan).lawful memory (in_front tree plan 0) ∥₁
-  lawful_first memory is = ∣ subst (λ (cells : List ℤ). (protocol_of tree plan).lawful cells (in_front tree plan 0)) (sym is) (safe.laws.first (in_front tree plan 0) first_place) ∣₁
+  pub lawful_first : (memory : List ℤ) → memory ≡ replicate (cell_count tree) (pos 0) → ∥ (protocol tree plan).lawful memory (in_front tree plan 0) ∥₁
+  lawful_first memory is = ∣ subst (λ (cells : List ℤ). (protocol tree plan).lawful cells (in_front tree plan 0)) (sym is) (safe.laws.first (in_front tree plan 0) first_place) ∣₁
 
   -- past the boundary of a phase
-  pub lawful_begun : (n : ℕ) (memory : List ℤ) → n < length (phases tree plan.cut.marks) → ∥ (protocol_of tree plan).lawful memory (in_front tree plan n) ∥₁ → ∥ (protocol_of tree plan).lawful memory (begun tree plan n) ∥₁
+  pub lawful_begun : (n : ℕ) (memory : List ℤ) → n < length (phases tree plan.cut.marks) → ∥ (protocol tree plan).lawful memory (in_front tree plan n) ∥₁ → ∥ (protocol tree plan).lawful memory (begun tree plan n) ∥₁
   lawful_begun n memory lt t = let v = phase_there n (phases tree plan.cut.marks) lt in ∥∥₁_map t (cross tree plan safe n v.0 v.1 v.2 memory)
 
-  -- the stores of the first j workers are laid in
+  -- the first j workers are through the phase
   abbrev pub Laid : ℕ → ℕ → List ℤ → Type 0
-  Laid n j memory = ∥ (protocol_of tree plan).lawful memory (mixed (begun tree plan n) (in_front tree plan (suc n)) j) ∥₁
+  Laid n j memory = ∥ (protocol tree plan).lawful memory (joined tree plan n j) ∥₁
 
-  pub laid_first : (n : ℕ) (memory : List ℤ) → ∥ (protocol_of tree plan).lawful memory (begun tree plan n) ∥₁ → Laid n 0 memory
-  laid_first n memory t = ∥∥₁_map t (same_at (protocol_of tree plan) memory (begun tree plan n) (mixed (begun tree plan n) (in_front tree plan (suc n)) 0) (λ q. sym (mixed_past (begun tree plan n) (in_front tree plan (suc n)) 0 q (omega arith))))
+  pub laid_first : (n : ℕ) (memory : List ℤ) → ∥ (protocol tree plan).lawful memory (begun tree plan n) ∥₁ → Laid n 0 memory
+  laid_first n memory t = ∥∥₁_map t (same_at (protocol tree plan) memory (begun tree plan n) (joined tree plan n 0) (λ q. sym (mixed_past (begun tree plan n) (in_front tree plan (suc n)) 0 q (omega arith))))
 
-  pub laid_more : (n j : ℕ) (memory new : List ℤ) (stores : List (ℕ × ℤ)) → Laid n j memory → ∥ Goes (protocol_of tree plan) j (begun tree plan n j) stores (in_front tree plan (suc n) j) ∥₁ → new ≡ laid_in stores memory → Laid n (suc j) new
-  laid_more n j memory new stores t goes is = ∥∥₁_elim goes squash₁ (λ g. ∥∥₁_map t (λ lawful.
-      subst (λ (cells : List ℤ). (protocol_of tree plan).lawful cells (mixed (begun tree plan n) (in_front tree plan (suc n)) (suc j))) (sym is)
-      (g memory (mixed (begun tree plan n) (in_front tree plan (suc n)) j) (mixed (begun tree plan n) (in_front tree plan (suc n)) (suc j)) lawful (mixed_past (begun tree plan n) (in_front tree plan (suc n)) j j (omega arith)) (mixed_moves (begun tree plan n) (in_front tree plan (suc n)) j))))
+  -- the stores of one more are laid in
+  pub laid_stores : (n j done : ℕ) (memory new : List ℤ) (stores : List (ℕ × ℤ)) → Laid n j memory → ∥ Goes (protocol tree plan) j (begun tree plan n j) stores done ∥₁ → new ≡ laid_in stores memory → ∥ (protocol tree plan).lawful new (put (joined tree plan n j) j done) ∥₁
+  laid_stores n j done memory new stores t goes is = ∥∥₁_elim goes squash₁ (λ g. ∥∥₁_map t (λ lawful.
+      subst (λ (cells : List ℤ). (protocol tree plan).lawful cells (put (joined tree plan n j) j done)) (sym is)
+      (g memory (joined tree plan n j) (put (joined tree plan n j) j done) lawful (mixed_past (begun tree plan n) (in_front tree plan (suc n)) j j (omega arith)) (put_moves (joined tree plan n j) j done))))
 
-  pub laid_all : (n j : ℕ) (memory : List ℤ) → plan.workers ≤ j → Laid n j memory → ∥ (protocol_of tree plan).lawful memory (in_front tree plan (suc n)) ∥₁
-  laid_all n j memory all t = ∥∥₁_map t (same_at (protocol_of tree plan) memory (mixed (begun tree plan n) (in_front tree plan (suc n)) j) (in_front tree plan (suc n)) (λ q. elim (cases_lt q j) [
+  -- and it is through the phase
+  pub laid_more : (n j done : ℕ) (memory : List ℤ) → done ≡ in_front tree plan (suc n) j → ∥ (protocol tree plan).lawful memory (put (joined tree plan n j) j done) ∥₁ → Laid n (suc j) memory
+  laid_more n j done memory is t = ∥∥₁_map t (same_at (protocol tree plan) memory (put (joined tree plan n j) j done) (joined tree plan n (suc j)) (λ q. elim (cases_eq q j) [
+    | inl e ↦ ap (put (joined tree plan n j) j done) e ∙ (put_moves (joined tree plan n j) j done).here ∙ is ∙ sym (mixed_moves (begun tree plan n) (in_front tree plan (suc n)) j).here ∙ sym (ap (joined tree plan n (suc j)) e)
+    | inr ne ↦ (put_moves (joined tree plan n j) j done).others q ne ∙ sym ((mixed_moves (begun tree plan n) (in_front tree plan (suc n)) j).others q ne)
+  ]))
+
+  pub laid_all : (n j : ℕ) (memory : List ℤ) → plan.workers ≤ j → Laid n j memory → ∥ (protocol tree plan).lawful memory (in_front tree plan (suc n)) ∥₁
+  laid_all n j memory all t = ∥∥₁_map t (same_at (protocol tree plan) memory (joined tree plan n j) (in_front tree plan (suc n)) (λ q. elim (cases_lt q j) [
     | inl lt ↦ mixed_below (begun tree plan n) (in_front tree plan (suc n)) j q lt
     | inr le ↦ mixed_past (begun tree plan n) (in_front tree plan (suc n)) j q le ∙ begun_none tree plan q n (omega (arith, all, le)) ∙ sym (in_front_none tree plan q (suc n) (omega (arith, all, le)))
   ]))
@@ -84,17 +95,17 @@ module _ (tree : Tree) (plan : Plan) (safe : IsSafe tree plan) where
   -- behind all phases
   last_place : (n q : ℕ) → q < plan.workers → drop n (phases tree plan.cut.marks) ≡ [] → in_front tree plan n q ≡ length (all_deeds tree plan q)
   last_place n q lt none =
-      let nothing : deeds_behind tree plan n q ≡ [] = ap (deeds_from tree plan q (suc n)) none in
+      let nothing : deeds_behind tree plan n q ≡ [] = ap (deeds_by Arrive tree plan q (suc n) 0) none in
       omega (arith, in_front_is tree plan q n lt, ap length nothing)
 
-  pub last_is : (n : ℕ) (memory : List ℤ) → drop n (phases tree plan.cut.marks) ≡ [] → ∥ (protocol_of tree plan).lawful memory (in_front tree plan n) ∥₁ → memory ≡ last_memory tree
+  pub last_is : (n : ℕ) (memory : List ℤ) → drop n (phases tree plan.cut.marks) ≡ [] → ∥ (protocol tree plan).lawful memory (in_front tree plan n) ∥₁ → memory ≡ last_memory tree
   unfolding all_deeds
   last_is n memory none t = ∥∥₁_elim t (ints memory (last_memory tree)) (λ lawful.
-      safe.laws.ended memory (in_front tree plan n) lawful (λ q lt. last_place n q lt none ∙ sym (safe.counted q)))
+      safe.laws.ended memory (in_front tree plan n) lawful (λ q lt. last_place n q lt none ∙ sym (safe.counted q lt)))
 
-  pub output_is : (n : ℕ) → 0 < plan.workers → drop n (phases tree plan.cut.marks) ≡ [] → printed_under tree plan 0 (in_front tree plan n 0) ≡ output_of tree
+  pub output_is : (n : ℕ) → 0 < plan.workers → drop n (phases tree plan.cut.marks) ≡ [] → printed_by Arrive tree plan 0 (in_front tree plan n 0) ≡ output_of tree
   unfolding all_deeds
-  output_is n some none = ap (printed_under tree plan 0) (last_place n 0 some none ∙ sym (safe.counted 0)) ∙ safe.laws.printed_whole
+  output_is n some none = ap (printed_by Arrive tree plan 0) (last_place n 0 some none ∙ sym (safe.counted 0 some)) ∙ safe.laws.printed_whole
 
 pub nothing_left : {X : Type 0} (n : ℕ) (xs : List X) → drop n xs ≡ [] → n ≤ length xs → n ≡ length xs
 nothing_left n xs none within = omega (arith, ap length none, length-drop n xs, within)
@@ -117,21 +128,23 @@ module _ {W : Type 0} (P Q : ℕ → W → Type 0) (ws : List W) (j : ℕ) (new 
       let long = length-set ws j new in
       subst (Q q) (sym (get_or-set_other ws j q new d ne)) (all q d (omega (arith, le)) (omega (arith, lt, long)))
 
-pub safe_of : (tree : Tree) (plan : Plan) → Laws (protocol_of tree plan) → IsWellFormed tree → IsInRange tree → IsFit tree plan
-    → ((p n : ℕ) (d : Deed) → slice_get (deeds_from tree plan p 1 (phases tree plan.cut.marks)) n ≡ Some d → (a : Act) × (act_at (protocol_of tree plan) p n ≡ Some a) × (deed_of (machine_of tree plan) a ≡ d))
-    → ((p n : ℕ) (a : Act) → act_at (protocol_of tree plan) p n ≡ Some a → is_quiet (cell_count tree) a ≡ false)
-    → ((p n cell : ℕ) (value : List ℤ → ℤ) → slice_get (deeds_from tree plan p 1 (phases tree plan.cut.marks)) n ≡ Some (storing cell value) → (protocol_of tree plan).stored_at p n ≡ value ((protocol_of tree plan).registers_at p n))
-    → ((p n : ℕ) (line : List ℤ → List ℕ) → slice_get (deeds_from tree plan p 1 (phases tree plan.cut.marks)) n ≡ Some (printing line) → (protocol_of tree plan).printed_at p (n + 1) ≡ (protocol_of tree plan).printed_at p n ++ line ((protocol_of tree plan).registers_at p n))
-    → ((p : ℕ) → map (deed_of (machine_of tree plan)) (acts_of (machine_of tree plan) p) ≡ deeds_from tree plan p 1 (phases tree plan.cut.marks)) → IsSafe tree plan
-unfolding acts_under
-safe_of tree plan laws formed ranges fits acts shared stored printed does = record {
+pub safe_of : (tree : Tree) (plan : Plan) → Laws (protocol tree plan) → IsWellFormed tree → IsWithinLimits tree → IsInRange tree → IsFit tree plan
+    → ((p n : ℕ) (d : Deed) → p < plan.workers → slice_get (deeds_by Arrive tree plan p 1 0 (phases tree plan.cut.marks)) n ≡ Some d → (a : Act) × (act_at (protocol tree plan) p n ≡ Some a) × (deed_of (machine_by Arrive tree plan) a ≡ d))
+    → ((p n cell : ℕ) (value : List ℤ → ℤ) → p < plan.workers → slice_get (deeds_by Arrive tree plan p 1 0 (phases tree plan.cut.marks)) n ≡ Some (storing cell value) → (protocol tree plan).stored_at p n ≡ value ((protocol tree plan).registers_at p n))
+    → ((p n cell : ℕ) (value : List ℤ → ℤ) → p < plan.workers → slice_get (deeds_by Arrive tree plan p 1 0 (phases tree plan.cut.marks)) n ≡ Some (adding cell value) → (protocol tree plan).stored_at p n ≡ value ((protocol tree plan).registers_at p n))
+    → ((p n : ℕ) (line : List ℤ → List ℕ) → p < plan.workers → slice_get (deeds_by Arrive tree plan p 1 0 (phases tree plan.cut.marks)) n ≡ Some (printing line) → (protocol tree plan).printed_at p (n + 1) ≡ (protocol tree plan).printed_at p n ++ line ((protocol tree plan).registers_at p n))
+    → ((p n place cell : ℕ) → cell_count tree ≤ cell → act_at (protocol tree plan) p n ≡ Some (load place cell) → (protocol tree plan).loaded_at p n ≡ held_at (protocol tree plan) p cell n) → IsSafe tree plan
+unfolding acts_by
+safe_of tree plan laws formed limits ranges fits acts stored added printed own = record {
   laws = laws;
   formed = formed;
+  limits = limits;
   ranges = ranges;
   fits = fits;
   acts = acts;
-  shared = shared;
   stored = stored;
-  counted = λ p. sym (length-map (acts_of (machine_of tree plan) p) (deed_of (machine_of tree plan))) ∙ ap length (does p);
+  added = added;
   printed = printed;
+  own = own;
+  counted = λ p below. sym (length-map (acts_of (machine_by Arrive tree plan) p) (deed_of (machine_by Arrive tree plan))) ∙ ap length (styled_deeds Arrive tree plan p formed fits below);
 }

@@ -1,42 +1,35 @@
 -- A worker's turns, one behind another.
-use Rattle.std.proofs.Common.{◌≡◌, ℕ, zero, suc, ◌+◌, ◌-◌, ◌<◌, ◌≤◌, Bool, true, false, if◌then◌else◌, List, [], ◌∷◌, ◌++◌, append_assoc, drop, length, length-drop, map, Some, refl, sym, ◌∙◌, ap, subst, ◌⊎◌, inl, inr, arith, sum_by}
+use Rattle.std.proofs.Common.{◌≡◌, ℕ, zero, suc, ◌+◌, ◌-◌, ◌<◌, ◌≤◌, Bool, true, false, List, [], ◌∷◌, ◌++◌, append_assoc, drop, length, length-drop, map, refl, sym, ◌∙◌, ap, subst, ◌⊎◌, inl, inr, arith}
 use Rattle.std.specs.Prelude.{slice_get}
 use Rattle.std.specs.List.{flat_map, list_all}
 use Rattle.std.proofs.lemmas.Bool.{and_parts}
+use Rattle.std.proofs.lemmas.List.Elements.{All-tail}
 use Rattle.std.proofs.lemmas.List.Sums.{sum_by-cons}
 use Rattle.nest_tree.specs.Tree.{Tree}
-use Rattle.nest_model.specs.Instances.{Instance}
 use Rattle.nest_model.specs.Visits.{Visit}
 use Rattle.owner_partition.specs.Phases.{phases}
 use Rattle.sync_plan.specs.declared.plan.Plan.{Plan}
 use Rattle.sync_plan.specs.Waits.{posts_at, waits_for}
-use Rattle.spmd_model.specs.Deeds.{Deed, awaiting, owned_by, posting}
+use Rattle.spmd_model.specs.Deeds.{Deed, awaiting, boundary_deeds, owned_by, posting}
 use Rattle.spmd_model.specs.Timelines.{await, counter, post}
-use Rattle.spmd_laws.specs.Viewed.{printed_under, protocol_of, registers_under}
-use Rattle.spmd_turns.specs.Executors.{executor_output, executor_room}
+use Rattle.spmd_model.specs.declared.style.Style.TheVariants.{Arrive}
+use Rattle.spmd_laws.specs.Styled.{printed_by, registers_by}
 use Rattle.spmd_turns.specs.Rooms.{turn_room}
 use Rattle.spmd_turns.specs.Turns.{Turn, awaits, begins, boundary_turns, is_turn_inside, posts, turn_deeds, turns_from, works}
-use Rattle.nest_walk.specs.declared.cursor.Stop.{Stop}
-use Rattle.spmd_turns.specs.TurnsLeft.{AreSound, IsInstance, IsNext, turns_left, turns_plan, turns_processor, turns_rounds, turns_tree}
-use Rattle.spmd_turns.specs.declared.turns.Next.{Next}
-use Rattle.spmd_turns.specs.declared.turns.Next.TheVariants.{Post, Await, Phase, Work, End}
+use Rattle.spmd_turns.specs.TurnsLeft.{turns_left}
 use Rattle.spmd_turns.specs.declared.execute.Executor.{Executor}
-use Rattle.spmd_turns.specs.declared.turns.Turns.{Turns}
+use Rattle.styled_turns.specs.StyledTurns.{StyledTurn, styled_deeds}
+use Rattle.styled_turns.specs.StyledTurns as Styled
+use Rattle.styled_turns.specs.StyledLeft.{IsStyledNext, PassesPlainly, styled_left}
+use Rattle.styled_turns.specs.declared.turns.StyledNext.{StyledNext}
+use Rattle.styled_turns.specs.declared.turns.StyledNext.TheVariants.{Post, Await}
+use Rattle.styled_turns.specs.declared.turns.StyledTurns.{StyledTurns}
+use Rattle.fork_join.specs.Cursors.{IsCursor, IsSameCursor, cursor_left, cursor_turns}
 use Rattle.fork_join.specs.Joins.{IsSafe, all_deeds}
-use Rattle.fork_join.specs.Workers.{Runs, turns_begun, turns_begun_from, turns_behind}
+use Rattle.fork_join.specs.Workers.{AreWaiting, IsTurnThere, IsWaiting, Runs, turns_begun, turns_begun_from, turns_behind}
+use Rattle.fork_join.specs.declared.cursor.Cursor.{Cursor}
 use Rattle.fork_join.proofs.Acts.{await_there, post_there}
 use Rattle.fork_join.proofs.Seeing.{next_drop, next_get}
-
--- a post or an await
-abbrev pub IsWaiting : Turn → Type 0
-IsWaiting (posts number) = Unit {0}
-IsWaiting (awaits on wanted) = Unit {0}
-IsWaiting (begins e) = ⊥
-IsWaiting (works i) = ⊥
-
-abbrev pub AreWaiting : List Turn → Type 0
-AreWaiting [] = Unit {0}
-AreWaiting (t ∷ ts) = IsWaiting t × AreWaiting ts
 
 waiting_map : (k : ℕ) (qs : List ℕ) → AreWaiting (map (λ q. awaits q k) qs)
 waiting_map k [] = tt
@@ -68,18 +61,28 @@ pub no_end : (bs rest : List Turn) (e : ℕ) → bs ++ begins e ∷ rest ≡ [] 
 no_end [] rest e is = cc
 no_end (b ∷ bs) rest e is = cc
 
+-- what the turns at a boundary do
+waits_do : (tree : Tree) (k : ℕ) (qs : List ℕ) → flat_map (turn_deeds tree) (map (λ q. awaits q k) qs) ≡ map (λ q. awaiting counter q k) qs
+waits_do tree k [] = refl
+waits_do tree k (q ∷ qs) = ap (λ l. awaiting counter q k ∷ l) (waits_do tree k qs)
+
+pub boundary_does : (tree : Tree) (k : ℕ) (does : Bool) (qs : List ℕ) → flat_map (turn_deeds tree) (boundary_turns k does qs) ≡ boundary_deeds counter k does qs
+boundary_does tree k true qs = ap (λ l. posting counter k ∷ l) (waits_do tree k qs)
+boundary_does tree k false qs = waits_do tree k qs
+
 -- ---- a cursor that has looked, or gone on
 
 module _ (tree : Tree) (plan : Plan) (p : ℕ) where
-  pub looked : (left : List Turn) (done : ℕ) (c d : Turns) (x : Executor) → Runs tree plan p left done c x → AreSound d → turns_left d ≡ turns_left c → turns_tree d ≡ turns_tree c → turns_plan d ≡ turns_plan c → turns_processor d ≡ turns_processor c → Runs tree plan p left done d x
-  looked left done c d x r sound same t q k = record {
+  pub looked : (left : List Turn) (done : ℕ) (c d : Cursor) (x : Executor) → Runs tree plan p left done c x → IsCursor d → cursor_left d ≡ cursor_left c → cursor_turns d ≡ cursor_turns c → IsSameCursor c d → Runs tree plan p left done d x
+  looked left done c d x r sound same turns run = record {
     sound = sound;
-    program = t ∙ r.program;
-    plan_is = q ∙ r.plan_is;
-    processor = k ∙ r.processor;
+    program = run.program ∙ r.program;
+    plan_is = run.plan ∙ r.plan_is;
+    processor = run.processor ∙ r.processor;
     turns = same ∙ r.turns;
     inside = r.inside;
-    deeds = r.deeds;
+    there = r.there;
+    deeds = r.deeds ∙ ap (flat_map (styled_deeds tree plan p)) (sym turns);
     within = r.within;
     idle = r.idle;
     can = r.can;
@@ -90,15 +93,16 @@ module _ (tree : Tree) (plan : Plan) (p : ℕ) where
   }
 
   -- past the beginning of a phase
-  pub begun_runs : (rest : List Turn) (e done : ℕ) (c d : Turns) (x : Executor) → Runs tree plan p (begins e ∷ rest) done c x → AreSound d → (t : Turn) × (turns_left c ≡ t ∷ turns_left d) → turns_tree d ≡ turns_tree c → turns_plan d ≡ turns_plan c → turns_processor d ≡ turns_processor c → Runs tree plan p rest done d x
-  begun_runs rest e done c d x r sound went t q k = record {
+  pub begun_runs : (rest : List Turn) (e done : ℕ) (c d : Cursor) (x : Executor) → Runs tree plan p (begins e ∷ rest) done c x → IsCursor d → (t : Turn) × (cursor_left c ≡ t ∷ cursor_left d) → cursor_turns d ≡ cursor_turns c → IsSameCursor c d → Runs tree plan p rest done d x
+  begun_runs rest e done c d x r sound went turns run = record {
     sound = sound;
-    program = t ∙ r.program;
-    plan_is = q ∙ r.plan_is;
-    processor = k ∙ r.processor;
-    turns = tails went.0 (begins e) (turns_left d) rest (sym went.1 ∙ r.turns);
+    program = run.program ∙ r.program;
+    plan_is = run.plan ∙ r.plan_is;
+    processor = run.processor ∙ r.processor;
+    turns = tails went.0 (begins e) (cursor_left d) rest (sym went.1 ∙ r.turns);
     inside = (and_parts true (list_all (is_turn_inside tree) rest) r.inside).1;
-    deeds = r.deeds;
+    there = All-tail (IsTurnThere tree) (begins e) rest r.there;
+    deeds = r.deeds ∙ ap (flat_map (styled_deeds tree plan p)) (sym turns);
     within = r.within;
     idle = r.idle;
     can = r.can;
@@ -109,13 +113,13 @@ module _ (tree : Tree) (plan : Plan) (p : ℕ) where
   }
 
   -- past a post or an await
-  module _ (safe : IsSafe tree plan) where
-    one_deed : (rest : List Turn) (done : ℕ) (t : Turn) → IsWaiting t → drop done (all_deeds tree plan p) ≡ flat_map (turn_deeds tree) (t ∷ rest)
-        → (drop (done + 1) (all_deeds tree plan p) ≡ flat_map (turn_deeds tree) rest) × (done + 1 ≤ length (all_deeds tree plan p)) × (registers_under tree plan p (done + 1) ≡ registers_under tree plan p done) × (printed_under tree plan p (done + 1) ≡ printed_under tree plan p done) × (turn_room tree t ≡ 0)
+  module _ (safe : IsSafe tree plan) (below : p < plan.workers) where
+    one_deed : (rest : List Deed) (done : ℕ) (t : Turn) → IsWaiting t → drop done (all_deeds tree plan p) ≡ turn_deeds tree t ++ rest
+        → (drop (done + 1) (all_deeds tree plan p) ≡ rest) × (done + 1 ≤ length (all_deeds tree plan p)) × (registers_by Arrive tree plan p (done + 1) ≡ registers_by Arrive tree plan p done) × (printed_by Arrive tree plan p (done + 1) ≡ printed_by Arrive tree plan p done) × (turn_room tree t ≡ 0)
     one_deed rest done (posts number) waits is =
         let all = all_deeds tree plan p in
-        let act = post_there tree plan safe p done counter number (next_get all done (posting counter number) (flat_map (turn_deeds tree) rest) is) in (
-          next_drop all done (posting counter number) (flat_map (turn_deeds tree) rest) is,
+        let act = post_there tree plan safe p done below counter number (next_get all done (posting counter number) rest is) in (
+          next_drop all done (posting counter number) rest is,
           omega (arith, ap length is, length-drop done all),
           safe.laws.post_leaves counter p done number act,
           safe.laws.printed_leaves p done (post counter number) act refl,
@@ -123,8 +127,8 @@ module _ (tree : Tree) (plan : Plan) (p : ℕ) where
         )
     one_deed rest done (awaits on wanted) waits is =
         let all = all_deeds tree plan p in
-        let act = await_there tree plan safe p done counter on wanted (next_get all done (awaiting counter on wanted) (flat_map (turn_deeds tree) rest) is) in (
-          next_drop all done (awaiting counter on wanted) (flat_map (turn_deeds tree) rest) is,
+        let act = await_there tree plan safe p done below counter on wanted (next_get all done (awaiting counter on wanted) rest is) in (
+          next_drop all done (awaiting counter on wanted) rest is,
           omega (arith, ap length is, length-drop done all),
           safe.laws.await_leaves counter p done on wanted act,
           safe.laws.printed_leaves p done (await counter on wanted) act refl,
@@ -133,17 +137,19 @@ module _ (tree : Tree) (plan : Plan) (p : ℕ) where
     one_deed rest done (begins e) waits is = absurd waits
     one_deed rest done (works i) waits is = absurd waits
 
-    pub waited_runs : (rest : List Turn) (s : Turn) (done after : ℕ) (c d : Turns) (x : Executor) → IsWaiting s → after ≡ done + 1 → Runs tree plan p (s ∷ rest) done c x → AreSound d → (t : Turn) × (turns_left c ≡ t ∷ turns_left d) → turns_tree d ≡ turns_tree c → turns_plan d ≡ turns_plan c →
-        turns_processor d ≡ turns_processor c → Runs tree plan p rest after d x
-    waited_runs rest s done after c d x waits next r sound went t q k =
-        let one = one_deed rest done s waits r.deeds in
+    pub waited_runs : (rest : List Turn) (s : Turn) (u : StyledTurn) (done after : ℕ) (c d : Cursor) (x : Executor) → IsWaiting s → styled_deeds tree plan p u ≡ turn_deeds tree s → after ≡ done + 1 → Runs tree plan p (s ∷ rest) done c x → IsCursor d →
+        cursor_left c ≡ s ∷ cursor_left d → cursor_turns c ≡ u ∷ cursor_turns d → IsSameCursor c d → Runs tree plan p rest after d x
+    waited_runs rest s u done after c d x waits does next r sound went turns run =
+        let doing = flat_map (styled_deeds tree plan p) in
+        let one = one_deed (doing (cursor_turns d)) done s waits (r.deeds ∙ ap doing turns ∙ ap (λ l. l ++ doing (cursor_turns d)) does) in
         subst (λ n. Runs tree plan p rest n d x) (sym next) (record {
           sound = sound;
-          program = t ∙ r.program;
-          plan_is = q ∙ r.plan_is;
-          processor = k ∙ r.processor;
-          turns = tails went.0 s (turns_left d) rest (sym went.1 ∙ r.turns);
+          program = run.program ∙ r.program;
+          plan_is = run.plan ∙ r.plan_is;
+          processor = run.processor ∙ r.processor;
+          turns = tails s s (cursor_left d) rest (sym went ∙ r.turns);
           inside = (and_parts (is_turn_inside tree s) (list_all (is_turn_inside tree) rest) r.inside).1;
+          there = All-tail (IsTurnThere tree) s rest r.there;
           deeds = one.0;
           within = one.1;
           idle = one.2 ∙ r.idle;
@@ -154,6 +160,7 @@ module _ (tree : Tree) (plan : Plan) (p : ℕ) where
           room = λ first. let most = r.room first in let none = one.4 in omega (arith, most, none, sum_by-cons (turn_room tree) s rest);
         })
 
+module _ (tree : Tree) (plan : Plan) (p : ℕ) where
   -- the turns of a phase, its boundary first
   pub phase_begins : (n : ℕ) (v : Visit) (rest : List Visit) → drop n (phases tree plan.cut.marks) ≡ v ∷ rest → turns_behind tree plan n p ≡ boundary_turns (suc n - 1) (posts_at tree plan p v.place v.loops) (waits_for tree plan p v.place v.loops) ++ begins (suc n) ∷ turns_begun tree plan n p
   phase_begins n v rest stands =
@@ -176,24 +183,42 @@ phase_next_drop (suc n) (y ∷ ys) x rest is = phase_next_drop n ys x rest is
 
 -- ---- what a cursor says that comes next
 
-pub waiting_next : (c : Turns) (next : Next) → IsNext c next → ((x : ℕ) × (next ≡ Post x)) ⊎ ((x : ℕ) × (y : ℕ) × (next ≡ Await x y)) → (t : Turn) × (rest : List Turn) × IsWaiting t × (turns_left c ≡ t ∷ rest)
-waiting_next c next is (inl (x, e)) = let h = subst (IsNext c) e is in (posts x, h.0, tt, h.1)
-waiting_next c next is (inr (x, y, e)) = let h = subst (IsNext c) e is in (awaits x y, h.0, tt, h.1)
+-- a post or an await comes next, of plain turns and of those that are left to do, and both do the same
+pub record WaitsNext (tree : Tree) (plan : Plan) (p : ℕ) (c : StyledTurns) (next : StyledNext) : Type 0 where
+  pub plain : Turn
+  pub waits : IsWaiting plain
+  pub rest : List Turn
+  pub left : turns_left c.turns ≡ plain ∷ rest
+  pub turn : StyledTurn
+  pub later : List StyledTurn
+  pub turns : styled_left c ≡ turn ∷ later
+  pub does : styled_deeds tree plan p turn ≡ turn_deeds tree plain
+  pub passes : (d : StyledTurns) → PassesPlainly c d next → (t : Turn) × (turns_left c.turns ≡ t ∷ turns_left d.turns)
 
-pub phase_next : (c : Turns) (next : Next) (e : ℕ) → IsNext c next → next ≡ Phase e → (rest : List Turn) × (turns_left c ≡ begins e ∷ rest)
-phase_next c next e is same = subst (IsNext c) same is
-
-pub work_next : (c : Turns) (next : Next) (s : Stop) → IsNext c next → next ≡ Work s → (at : IsInstance (turns_tree c) (turns_rounds c) s) × (rest : List Turn) × (turns_left c ≡ works at.instance ∷ rest)
-work_next c next s is same = subst (IsNext c) same is
-
-pub neither_next : (c : Turns) (next : Next) (bs rest : List Turn) (e : ℕ) → IsNext c next → ((s : Stop) × (next ≡ Work s)) ⊎ (next ≡ End) → turns_left c ≡ bs ++ begins e ∷ rest → AreWaiting bs → ⊥
-neither_next c next bs rest e is (inl (s, same)) left waits = let w = work_next c next s is same in no_work bs rest e w.0.instance w.1 (sym left ∙ w.2) waits
-neither_next c next bs rest e is (inr same) left waits = no_end bs rest e (sym left ∙ subst (IsNext c) same is)
-
--- only an instance comes where instances are left
-pub work_only : (c : Turns) (next : Next) → IsNext c next → ((s : Stop) → next ≡ Work s → ⊥) → (i : Instance) (rest : List Turn) → turns_left c ≡ works i ∷ rest → ⊥
-work_only c (Post k) is none i rest e = let clash : posts k ∷ is.0 ≡ works i ∷ rest = sym is.1 ∙ e in cc
-work_only c (Await on k) is none i rest e = let clash : awaits on k ∷ is.0 ≡ works i ∷ rest = sym is.1 ∙ e in cc
-work_only c (Phase k) is none i rest e = let clash : begins k ∷ is.0 ≡ works i ∷ rest = sym is.1 ∙ e in cc
-work_only c (Work s) is none i rest e = none s refl
-work_only c End is none i rest e = let clash : [] ≡ works i ∷ rest = sym is ∙ e in cc
+pub waits_next : (tree : Tree) (plan : Plan) (p : ℕ) (c : StyledTurns) (next : StyledNext) → IsStyledNext c next → ((x : ℕ) × (next ≡ Post x)) ⊎ ((x : ℕ) × (y : ℕ) × (next ≡ Await x y)) → WaitsNext tree plan p c next
+waits_next tree plan p c next is (inl (x, e)) =
+    let h = subst (IsStyledNext c) e is in
+    record {
+      plain = posts x;
+      waits = tt;
+      rest = h.1.shows.next.0;
+      left = h.1.shows.next.1;
+      turn = Styled.sets counter x;
+      later = h.0.0;
+      turns = h.0.1;
+      does = refl;
+      passes = λ d went. subst (PassesPlainly c d) e went;
+    }
+waits_next tree plan p c next is (inr (x, y, e)) =
+    let h = subst (IsStyledNext c) e is in
+    record {
+      plain = awaits x y;
+      waits = tt;
+      rest = h.1.shows.next.0;
+      left = h.1.shows.next.1;
+      turn = Styled.waits counter x y;
+      later = h.0.0;
+      turns = h.0.1;
+      does = refl;
+      passes = λ d went. subst (PassesPlainly c d) e went;
+    }

@@ -1,25 +1,29 @@
 -- Where a worker stands.
 use Rattle.std.specs.Prelude.{ℕ, suc, ◌+◌, ◌-◌, ◌≡◌, ◌≤◌, ◌<◌, true, ℤ, List, [], ◌∷◌, ◌++◌, drop, length, map, slice_get, slice_index_or, sum_by}
-use Rattle.std.specs.List.{flat_map, list_all}
+use Rattle.std.specs.List.{All, flat_map, list_all}
 use Rattle.nest_tree.specs.Layout.{cell_count}
 use Rattle.nest_tree.specs.Tree.{Tree}
 use Rattle.nest_tree.specs.View.{tree_of}
+use Rattle.nest_model.specs.Accesses.{cells_of as cells_in}
 use Rattle.nest_model.specs.Instances.{Instance}
 use Rattle.nest_model.specs.Visits.{Visit}
 use Rattle.owner_partition.specs.Phases.{phases}
 use Rattle.sync_plan.specs.declared.plan.Plan.{Plan}
 use Rattle.spmd_model.specs.Deeds.{owned_by}
-use Rattle.spmd_laws.specs.Viewed.{printed_under, protocol_of, registers_under}
+use Rattle.spmd_model.specs.declared.style.Style.TheVariants.{Arrive}
+use Rattle.spmd_laws.specs.Styled.{printed_by, registers_by}
 use Rattle.spmd_turns.specs.Executors.{CanExecute, executor_output, executor_room, executor_tree}
 use Rattle.spmd_turns.specs.Rooms.{turn_room}
-use Rattle.spmd_turns.specs.Turns.{Turn, is_turn_inside, turn_deeds, turns_from, works}
-use Rattle.spmd_turns.specs.TurnsLeft.{AreSound, turns_left, turns_plan, turns_processor, turns_tree}
+use Rattle.spmd_turns.specs.Turns.{Turn, posts, awaits, begins, is_turn_inside, turn_deeds, turns_from, works}
 use Rattle.spmd_turns.specs.declared.execute.Executor.{Executor}
-use Rattle.spmd_turns.specs.declared.turns.Turns.{Turns}
+use Rattle.styled_turns.specs.StyledTurns.{StyledTurn, styled_deeds}
+use Rattle.styled_turns.specs.StyledLeft.{AreStyled}
 use Rattle.crossbeam_utils.specs.declared.cache_padded.CachePadded.{CachePadded}
 use Rattle.crossbeam_utils.specs.Padded.{padded_value}
-use Rattle.fork_join.specs.Joins.{Goes, all_deeds, begun, in_front}
+use Rattle.fork_join.specs.Cursors.{IsCursor, IsShut, cursor_left, cursor_plan, cursor_processor, cursor_tree, cursor_turns}
+use Rattle.fork_join.specs.Joins.{Goes, HoldsOwn, all_deeds, begun, deeds_begun, joined, protocol, put}
 use Rattle.fork_join.specs.StoreLists.{AreKept, cells_of, entries_of}
+use Rattle.fork_join.specs.declared.cursor.Cursor.{Cursor}
 use Rattle.fork_join.specs.declared.overlay.Overlay.{Overlay}
 use Rattle.fork_join.specs.declared.worker.Worker.{Worker}
 
@@ -35,24 +39,43 @@ turns_begun_from tree plan p e (v ∷ rest) = map works (owned_by tree (slice_ge
 abbrev pub turns_begun : Tree → Plan → ℕ → ℕ → List Turn
 turns_begun tree plan n p = turns_begun_from tree plan p (suc n) (drop n (phases tree plan.cut.marks))
 
+-- a post or an await
+abbrev pub IsWaiting : Turn → Type 0
+IsWaiting (posts number) = Unit {0}
+IsWaiting (awaits on wanted) = Unit {0}
+IsWaiting (begins e) = ⊥
+IsWaiting (works i) = ⊥
+
+abbrev pub AreWaiting : List Turn → Type 0
+AreWaiting [] = Unit {0}
+AreWaiting (t ∷ ts) = IsWaiting t × AreWaiting ts
+
+-- each cell of an instance is one of those that all share
+abbrev pub IsTurnThere : Tree → Turn → Type 0
+IsTurnThere tree (posts number) = Unit {0}
+IsTurnThere tree (awaits on wanted) = Unit {0}
+IsTurnThere tree (begins e) = Unit {0}
+IsTurnThere tree (works i) = All (λ c. c < cell_count tree) (cells_in tree i)
+
 -- a cursor of processor p of a program under a plan has these turns left, behind so many deeds, and an executor has printed what they print; the one that prints has room for the rest
-pub record Runs (tree : Tree) (plan : Plan) (p : ℕ) (left : List Turn) (done : ℕ) (c : Turns) (x : Executor) : Type 0 where
-  pub sound : AreSound c
-  pub program : turns_tree c ≡ tree
-  pub plan_is : turns_plan c ≡ plan
-  pub processor : turns_processor c ≡ p
-  pub turns : turns_left c ≡ left
+pub record Runs (tree : Tree) (plan : Plan) (p : ℕ) (left : List Turn) (done : ℕ) (c : Cursor) (x : Executor) : Type 0 where
+  pub sound : IsCursor c
+  pub program : cursor_tree c ≡ tree
+  pub plan_is : cursor_plan c ≡ plan
+  pub processor : cursor_processor c ≡ p
+  pub turns : cursor_left c ≡ left
   pub inside : list_all (is_turn_inside tree) left ≡ true
-  pub deeds : drop done (all_deeds tree plan p) ≡ flat_map (turn_deeds tree) left
+  pub there : All (IsTurnThere tree) left
+  pub deeds : drop done (all_deeds tree plan p) ≡ flat_map (styled_deeds tree plan p) (cursor_turns c)
   pub within : done ≤ length (all_deeds tree plan p)
-  pub idle : registers_under tree plan p done ≡ []
+  pub idle : registers_by Arrive tree plan p done ≡ []
   pub can : CanExecute x
   pub executor : executor_tree x ≡ tree
-  pub output : executor_output x ≡ printed_under tree plan p done
+  pub output : executor_output x ≡ printed_by Arrive tree plan p done
   pub fits : length (executor_output x) ≤ executor_room x
   pub room : p ≡ 0 → length (executor_output x) + sum_by (turn_room tree) left ≤ executor_room x
 
--- a worker is that processor, and keeps its stores to the program's cells
+-- a worker is that processor, keeps its stores to the program's cells, and its own cells hold what it stored there
 pub record Stands (tree : Tree) (plan : Plan) (p : ℕ) (left : List Turn) (w : Worker) : Type 0 where
   pub program : tree_of w.program.now ≡ tree
   pub plan_is : w.plan.now ≡ plan
@@ -60,6 +83,7 @@ pub record Stands (tree : Tree) (plan : Plan) (p : ℕ) (left : List Turn) (w : 
   pub runs : Runs tree plan p left w.done.done w.turns w.executor
   pub kept : AreKept w.stores
   pub cells : cells_of w.stores ≡ cell_count tree
+  pub holds : HoldsOwn tree plan p w.own w.done.done
 
 -- the program and the plan of a worker's record
 abbrev pub tree_in : CachePadded Worker → Tree
@@ -72,16 +96,33 @@ plan_in w = (padded_value w).plan.now
 pub record IsAt (tree : Tree) (plan : Plan) (n p : ℕ) (w : Worker) : Type 0 where
   pub stands : Stands tree plan p (turns_behind tree plan n p) w
   pub none : entries_of w.stores ≡ []
+  pub shut : IsShut w.turns
+
+-- some of the posts and awaits of the boundary behind so many phases are left
+pub record IsBeginning (tree : Tree) (plan : Plan) (n p : ℕ) (w : Worker) : Type 0 where
+  pub ahead : List Turn
+  pub waits : AreWaiting ahead
+  pub stands : Stands tree plan p (ahead ++ begins (suc n) ∷ turns_begun tree plan n p) w
+  pub none : entries_of w.stores ≡ []
+  pub shut : IsShut w.turns
+  pub left : flat_map (styled_deeds tree plan p) (cursor_turns w.turns) ≡ flat_map (turn_deeds tree) ahead ++ deeds_begun tree plan n p
 
 -- it is past the boundary behind so many phases
 pub record HasBegun (tree : Tree) (plan : Plan) (n p : ℕ) (w : Worker) : Type 0 where
   pub stands : Stands tree plan p (turns_begun tree plan n p) w
   pub none : entries_of w.stores ≡ []
+  pub place : w.done.done ≡ begun tree plan n p
 
--- it is through the phase behind so many, with the stores that it did there
+-- it is through its instances of the phase behind so many, with the stores that it did there
 pub record HasWorked (tree : Tree) (plan : Plan) (n p : ℕ) (w : Worker) : Type 0 where
   pub stands : Stands tree plan p (turns_behind tree plan (suc n) p) w
-  pub goes : ∥ Goes (protocol_of tree plan) p (begun tree plan n p) (entries_of w.stores) (in_front tree plan (suc n) p) ∥₁
+  pub goes : ∥ Goes (protocol tree plan) p (begun tree plan n p) (entries_of w.stores) w.done.done ∥₁
+
+-- its stores are laid in too, in lawful memory, where all before it are through the phase, and all behind it have begun it
+pub record IsClosing (tree : Tree) (plan : Plan) (n p : ℕ) (memory : List ℤ) (w : Worker) : Type 0 where
+  pub stands : Stands tree plan p (turns_behind tree plan (suc n) p) w
+  pub none : entries_of w.stores ≡ []
+  pub lawful : ∥ (protocol tree plan).lawful memory (put (joined tree plan n p) p w.done.done) ∥₁
 
 -- an overlay is that processor's, behind so many phases, over this memory
 pub record IsOverlay (tree : Tree) (plan : Plan) (n p : ℕ) (memory : List ℤ) (o : Overlay) : Type 0 where
@@ -92,9 +133,27 @@ pub record IsOverlay (tree : Tree) (plan : Plan) (n p : ℕ) (memory : List ℤ)
   pub memory_is : o.memory.now ≡ memory
 
 -- of the phase behind so many these instances are left, and then the phases behind it
-pub record IsWalking (tree : Tree) (plan : Plan) (n p done : ℕ) (c : Turns) (x : Executor) : Type 0 where
+pub record IsWalking (tree : Tree) (plan : Plan) (n p done : ℕ) (c : Cursor) (x : Executor) : Type 0 where
   pub left : List Instance
   pub runs : Runs tree plan p (map works left ++ turns_behind tree plan (suc n) p) done c x
+
+-- an executor has done the first of what a cursor has left, behind so many deeds
+pub record HasExecuted (tree : Tree) (plan : Plan) (p done after : ℕ) (c : Cursor) (x y : Executor) : Type 0 where
+  pub first : (t : StyledTurn) (rest : List StyledTurn) → cursor_turns c ≡ t ∷ rest → drop after (all_deeds tree plan p) ≡ flat_map (styled_deeds tree plan p) rest
+  pub within : after ≤ length (all_deeds tree plan p)
+  pub idle : registers_by Arrive tree plan p after ≡ []
+  pub can : CanExecute y
+  pub executor : executor_tree y ≡ tree
+  pub output : executor_output y ≡ printed_by Arrive tree plan p after
+  pub wider : executor_room x ≤ executor_room y
+  pub fits : length (executor_output y) ≤ executor_room y
+  pub grown : (t : Turn) (rest : List Turn) → cursor_left c ≡ t ∷ rest → length (executor_output y) ≤ length (executor_output x) + turn_room tree t
+
+-- a cursor is of this program and this plan
+pub record IsCursorOf (tree : Tree) (plan : Plan) (c : Cursor) : Type 0 where
+  pub sound : AreStyled c.turns
+  pub program : cursor_tree c ≡ tree
+  pub plan_is : cursor_plan c ≡ plan
 
 -- of all workers
 abbrev pub AreAt : Tree → Plan → ℕ → List (CachePadded Worker) → Type 0

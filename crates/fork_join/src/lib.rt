@@ -1,15 +1,18 @@
 //! A program run by fork and join: for each phase of a plan the workers are forked, each executes
 //! its own instances over memory as it was and its own stores, and after the join their stores are
-//! laid in, worker by worker.
+//! laid in, and their own cells of own scalars closed, worker by worker.
 //!
 //! - [`run_join`]: the run.
 //! - `worker`: one worker, phase by phase.
 //! - `walk`: the instances of a phase, one behind another.
-//! - `overlay`: the cells as a worker sees them in a phase.
+//! - `cursor`: the turns that a worker has left.
+//! - `overlay`, `own_overlay`: the cells as a worker sees them in a phase.
 //! - `stores`: a worker's stores since the phase began.
 #![tactic(auto)]
 
+mod cursor;
 mod overlay;
+mod own_overlay;
 mod run;
 mod stores;
 mod walk;

@@ -1,20 +1,23 @@
 // The cells as a worker sees them in a phase.
 
-ghost use Rattle.std.specs.Prelude.{◌≤◌, ◌<◌, ◌^◌, ℕ, ℤ, List, drop, length, vec_capacity};
+ghost use Rattle.std.specs.Prelude.{◌≤◌, ◌<◌, ◌^◌, ℕ, ℤ, List, drop, length, map, vec_capacity};
 ghost use Rattle.nest_tree.specs.Tree.{Tree};
 ghost use Rattle.nest_tree.specs.View.{tree_of};
 ghost use Rattle.sync_plan.specs.declared.plan.Plan.{Plan};
-ghost use Rattle.spmd_laws.specs.Viewed.{printed_under, registers_under};
+ghost use Rattle.spmd_model.specs.declared.style.Style.TheVariants.{Arrive};
+ghost use Rattle.spmd_laws.specs.Styled.{printed_by, registers_by};
 ghost use Rattle.fork_join.specs.Joins.{IsAlone, all_deeds};
 ghost use Rattle.fork_join.specs.Overlays.{AreIndexed};
+ghost use Rattle.fork_join.specs.SeenDeeds.{shared_deed};
 
 use crate::stores::Stores;
 use nest_tree::Program;
+use own_cells::OWN_PLACES;
 use spmd_turns::{Deeds, Progress};
 use sync_plan::Plan;
 
-/// What one worker sees in a phase: memory as it was when the phase began, and its own stores
-/// since, which go before.
+/// What one worker sees in a phase: memory as it was when the phase began, its own stores since,
+/// which go before, and its own cells, by places of own scalars.
 #[derive(Drop)]
 pub(crate) struct Overlay<'a> {
     pub(crate) program: &'a Program,
@@ -24,20 +27,25 @@ pub(crate) struct Overlay<'a> {
     pub(crate) behind: u64,
     pub(crate) memory: &'a [i64],
     pub(crate) stores: Stores,
+    pub(crate) own: [i64; OWN_PLACES],
     pub(crate) done: Progress,
     // it alone has gone on from lawful memory
-    ghost goes: { ∥ IsAlone (tree_of program.now) plan.now processor behind memory.now stores.entries.items (length stores.places.items) done.done ∥₁ },
+    ghost goes: { ∥ IsAlone (tree_of program.now) plan.now processor behind memory.now stores.entries.items own (length stores.places.items) done.done ∥₁ },
     ghost indexed: { AreIndexed stores.entries.items stores.places.items },
     ghost room: { length stores.places.items ≤ vec_capacity stores.entries },
     ghost few: { length stores.places.items < 2 ^ 32 },
 }
 
 impl<'a> Overlay<'a> {
-    ghost use Rattle.std.specs.Prelude.{◌≡◌};
+    ghost use Rattle.std.specs.Prelude.{◌≡◌, ◌+◌, ◌++◌, ◌∷◌, []};
+    ghost use Rattle.nest_tree.specs.Layout.{cell_count};
     ghost use Rattle.nest_model.specs.Memory.{cell_value};
+    ghost use Rattle.spmd_model.specs.Deeds.{Deed, loading, printing, storing};
+    ghost use Rattle.fork_join.specs.Joins.{own_place};
     ghost use Rattle.fork_join.specs.Overlays.{laid_in};
+    ghost use Rattle.fork_join.specs.Workers.{IsOverlay};
 
-    // What a cell holds, as the worker sees it.
+    // What a cell that all share holds, as the worker sees it.
     #[inline(always)]
     fn seen(&self, cell: u32) -> i64
         requires inside { cell < length self.now.stores.places.items }
@@ -49,14 +57,85 @@ impl<'a> Overlay<'a> {
             None => self.memory[cell as usize],
         }
     }
+
+    // The load that comes next, of a cell that all share.
+    #[inline(always)]
+    pub(crate) fn load_shared(&mut self, cell: u32) -> i64
+        requires next { (rest : List Deed) × (drop self.old.done.done (all_deeds (tree_of self.old.program.now) self.old.plan.now self.old.processor) ≡ loading cell ∷ rest) }
+        requires inside { cell < cell_count (tree_of self.old.program.now) }
+        ensures further { self.new.done.done ≡ self.old.done.done + 1 }
+        ensures registers { registers_by Arrive (tree_of self.old.program.now) self.old.plan.now self.old.processor self.new.done.done ≡ registers_by Arrive (tree_of self.old.program.now) self.old.plan.now self.old.processor self.old.done.done ++ result ∷ [] }
+        ensures printed { printed_by Arrive (tree_of self.old.program.now) self.old.plan.now self.old.processor self.new.done.done ≡ printed_by Arrive (tree_of self.old.program.now) self.old.plan.now self.old.processor self.old.done.done }
+        ensures kept { IsOverlay (tree_of self.old.program.now) self.old.plan.now self.old.behind self.old.processor self.old.memory.now self.new }
+    {
+        let value = self.seen(cell);
+        self.done = self.done.further();
+        value
+    }
+
+    // The load that comes next, of the own cell with this place.
+    #[inline(always)]
+    pub(crate) fn load_own(&mut self, place: usize) -> i64
+        requires next { (rest : List Deed) × (drop self.old.done.done (all_deeds (tree_of self.old.program.now) self.old.plan.now self.old.processor) ≡ loading (own_place (tree_of self.old.program.now) self.old.processor place) ∷ rest) }
+        requires small { place < 32 }
+        ensures further { self.new.done.done ≡ self.old.done.done + 1 }
+        ensures registers { registers_by Arrive (tree_of self.old.program.now) self.old.plan.now self.old.processor self.new.done.done ≡ registers_by Arrive (tree_of self.old.program.now) self.old.plan.now self.old.processor self.old.done.done ++ result ∷ [] }
+        ensures printed { printed_by Arrive (tree_of self.old.program.now) self.old.plan.now self.old.processor self.new.done.done ≡ printed_by Arrive (tree_of self.old.program.now) self.old.plan.now self.old.processor self.old.done.done }
+        ensures kept { IsOverlay (tree_of self.old.program.now) self.old.plan.now self.old.behind self.old.processor self.old.memory.now self.new }
+    {
+        let value = self.own[place];
+        self.done = self.done.further();
+        value
+    }
+
+    // The store that comes next, to a cell that all share.
+    #[inline(always)]
+    pub(crate) fn store_shared(&mut self, cell: u32, value: i64)
+        requires next { (f : List ℤ → ℤ) × (rest : List Deed) × (drop self.old.done.done (all_deeds (tree_of self.old.program.now) self.old.plan.now self.old.processor) ≡ storing cell f ∷ rest) × (value ≡ f (registers_by Arrive (tree_of self.old.program.now) self.old.plan.now self.old.processor self.old.done.done)) }
+        requires inside { cell < cell_count (tree_of self.old.program.now) }
+        ensures further { self.new.done.done ≡ self.old.done.done + 1 }
+        ensures registers { registers_by Arrive (tree_of self.old.program.now) self.old.plan.now self.old.processor self.new.done.done ≡ [] }
+        ensures printed { printed_by Arrive (tree_of self.old.program.now) self.old.plan.now self.old.processor self.new.done.done ≡ printed_by Arrive (tree_of self.old.program.now) self.old.plan.now self.old.processor self.old.done.done }
+        ensures kept { IsOverlay (tree_of self.old.program.now) self.old.plan.now self.old.behind self.old.processor self.old.memory.now self.new }
+    {
+        self.stores.set(cell, value);
+        self.done = self.done.further();
+    }
+
+    // The store that comes next, to the own cell with this place.
+    #[inline(always)]
+    pub(crate) fn store_own(&mut self, place: usize, value: i64)
+        requires next { (f : List ℤ → ℤ) × (rest : List Deed) × (drop self.old.done.done (all_deeds (tree_of self.old.program.now) self.old.plan.now self.old.processor) ≡ storing (own_place (tree_of self.old.program.now) self.old.processor place) f ∷ rest) × (value ≡ f (registers_by Arrive (tree_of self.old.program.now) self.old.plan.now self.old.processor self.old.done.done)) }
+        requires small { place < 32 }
+        ensures further { self.new.done.done ≡ self.old.done.done + 1 }
+        ensures registers { registers_by Arrive (tree_of self.old.program.now) self.old.plan.now self.old.processor self.new.done.done ≡ [] }
+        ensures printed { printed_by Arrive (tree_of self.old.program.now) self.old.plan.now self.old.processor self.new.done.done ≡ printed_by Arrive (tree_of self.old.program.now) self.old.plan.now self.old.processor self.old.done.done }
+        ensures kept { IsOverlay (tree_of self.old.program.now) self.old.plan.now self.old.behind self.old.processor self.old.memory.now self.new }
+    {
+        self.own[place] = value;
+        self.done = self.done.further();
+    }
+
+    // Past the PRINT that comes next.
+    pub(crate) fn print_line(&mut self)
+        requires next { (line : List ℤ → List ℕ) × (rest : List Deed) × (drop self.old.done.done (all_deeds (tree_of self.old.program.now) self.old.plan.now self.old.processor) ≡ printing line ∷ rest) }
+        ensures further { self.new.done.done ≡ self.old.done.done + 1 }
+        ensures registers { registers_by Arrive (tree_of self.old.program.now) self.old.plan.now self.old.processor self.new.done.done ≡ [] }
+        ensures printed { (line : List ℤ → List ℕ) → (rest : List Deed) → drop self.old.done.done (all_deeds (tree_of self.old.program.now) self.old.plan.now self.old.processor) ≡ printing line ∷ rest
+            → printed_by Arrive (tree_of self.old.program.now) self.old.plan.now self.old.processor self.new.done.done ≡ printed_by Arrive (tree_of self.old.program.now) self.old.plan.now self.old.processor self.old.done.done ++ line (registers_by Arrive (tree_of self.old.program.now) self.old.plan.now self.old.processor self.old.done.done) }
+        ensures kept { IsOverlay (tree_of self.old.program.now) self.old.plan.now self.old.behind self.old.processor self.old.memory.now self.new }
+    {
+        self.done = self.done.further();
+    }
 }
 
+// In a phase without own scalars.
 impl<'a> Deeds for Overlay<'a> {
-    ghost left = { λ o. drop o.done.done (all_deeds (tree_of o.program.now) o.plan.now o.processor) };
+    ghost left = { λ o. map (shared_deed (tree_of o.program.now)) (drop o.done.done (all_deeds (tree_of o.program.now) o.plan.now o.processor)) };
 
-    ghost registers = { λ o. registers_under (tree_of o.program.now) o.plan.now o.processor o.done.done };
+    ghost registers = { λ o. registers_by Arrive (tree_of o.program.now) o.plan.now o.processor o.done.done };
 
-    ghost printed = { λ o. printed_under (tree_of o.program.now) o.plan.now o.processor o.done.done };
+    ghost printed = { λ o. printed_by Arrive (tree_of o.program.now) o.plan.now o.processor o.done.done };
 
     ghost Kept = { Tree × (Plan × (ℕ × (ℕ × List ℤ))) };
 
@@ -64,18 +143,15 @@ impl<'a> Deeds for Overlay<'a> {
 
     #[inline(always)]
     fn load(&mut self, cell: u32) -> i64 {
-        let value = self.seen(cell);
-        self.done = self.done.further();
-        value
+        self.load_shared(cell)
     }
 
     #[inline(always)]
     fn store(&mut self, cell: u32, value: i64) {
-        self.stores.set(cell, value);
-        self.done = self.done.further();
+        self.store_shared(cell, value);
     }
 
     fn print(&mut self) {
-        self.done = self.done.further();
+        self.print_line();
     }
 }

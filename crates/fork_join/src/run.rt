@@ -8,10 +8,9 @@ ghost use Rattle.nest_tree.specs.Tree.{param_values};
 ghost use Rattle.nest_model.specs.Memory.{first_memory, last_memory, output_of};
 ghost use Rattle.nest_walk.specs.Tables.{IsCellTable};
 ghost use Rattle.owner_partition.specs.Phases.{phases};
-ghost use Rattle.spmd_laws.specs.Viewed.{protocol_of};
 ghost use Rattle.spmd_turns.specs.Rooms.{longest_output};
 ghost use Rattle.crossbeam_utils.specs.Padded.{padded_value};
-ghost use Rattle.fork_join.specs.Joins.{IsSafe, begun, in_front};
+ghost use Rattle.fork_join.specs.Joins.{IsSafe, begun, in_front, protocol};
 ghost use Rattle.fork_join.specs.Workers.{AreAt, HasWorked, HaveWorked, IsAt, plan_in, tree_in};
 ghost use Rattle.nest_model.specs.Ranges.{IsInRange};
 ghost use Rattle.sync_plan.specs.Fit.{IsFit};
@@ -23,8 +22,7 @@ use nest_tree::Program;
 use nest_walk::CellTable;
 use owner_partition::PhaseCursor;
 use seq_meaning::Output;
-use spmd_laws::{laws_of, plans_share_all_cells, values_of_deeds};
-use spmd_model::acts_by_their_deeds;
+use spmd_laws::{laws_in_styles, own_cells_in_styles, values_in_styles};
 use spmd_ports::Gate;
 use spmd_turns::{longest_output, open_printing};
 use std::alloc::{AllocError, Global};
@@ -55,10 +53,9 @@ pub fn run_join<R: Threads + Sync, G: Gate + Sync>(
     ensures memory { IfOk result (λ end. end.0.items ≡ last_memory (tree_of program.now)) }
     ensures output { IfOk result (λ end. end.1.bytes ≡ output_of (tree_of program.now)) }
 {
-    laws_of();
-    values_of_deeds();
-    plans_share_all_cells();
-    acts_by_their_deeds();
+    laws_in_styles();
+    values_in_styles();
+    own_cells_in_styles();
     let table = CellTable::new(alloc, program)?;
     let params = params_of(alloc, program)?;
     let lent = Lent {
@@ -155,7 +152,7 @@ fn fork<R: Threads + Sync, G: Gate + Sync>(
     requires some { behind < length (phases (tree_of lent.program.now) lent.plan.now.cut.marks) }
     requires count { length workers.old ≡ lent.plan.now.workers }
     requires at { AreAt (tree_of lent.program.now) lent.plan.now behind workers.old }
-    requires lawful { ∥ (protocol_of (tree_of lent.program.now) lent.plan.now).lawful memory.now (begun (tree_of lent.program.now) lent.plan.now behind) ∥₁ }
+    requires lawful { ∥ (protocol (tree_of lent.program.now) lent.plan.now).lawful memory.now (begun (tree_of lent.program.now) lent.plan.now behind) ∥₁ }
     ensures count { length workers.new ≡ length workers.old }
     ensures worked { HaveWorked (tree_of lent.entry.program.now) lent.entry.plan.now behind workers.new }
 {
@@ -169,23 +166,24 @@ fn fork<R: Threads + Sync, G: Gate + Sync>(
             requires some { behind < length (phases (tree_in worker.now) (plan_in worker.now).cut.marks) }
             requires below { p < (plan_in worker.now).workers }
             requires at { IsAt (tree_in worker.now) (plan_in worker.now) behind p (padded_value worker.now) }
-            requires lawful { ∥ (protocol_of (tree_in worker.now) (plan_in worker.now)).lawful memory.now (begun (tree_in worker.now) (plan_in worker.now) behind) ∥₁ }
+            requires lawful { ∥ (protocol (tree_in worker.now) (plan_in worker.now)).lawful memory.now (begun (tree_in worker.now) (plan_in worker.now) behind) ∥₁ }
             ensures { HasWorked (tree_in worker.entry.now) (plan_in worker.entry.now) behind p (padded_value worker.exit.now) }
         { worker.phase(behind, memory, gate) },
     );
 }
 
-// The workers' stores of the phase behind so many into memory, worker by worker.
+// The workers' stores of the phase behind so many into memory, and what their own cells hold, worker
+// by worker.
 fn lay_in(lent: Lent, workers: &mut [CachePadded<Worker>], memory: &mut [i64], behind: u64)
     requires safe { IsSafe (tree_of lent.program.now) lent.plan.now }
     requires count { length workers.old ≡ lent.plan.now.workers }
     requires worked { HaveWorked (tree_of lent.program.now) lent.plan.now behind workers.old }
-    requires lawful { ∥ (protocol_of (tree_of lent.program.now) lent.plan.now).lawful memory.old (begun (tree_of lent.program.now) lent.plan.now behind) ∥₁ }
+    requires lawful { ∥ (protocol (tree_of lent.program.now) lent.plan.now).lawful memory.old (begun (tree_of lent.program.now) lent.plan.now behind) ∥₁ }
     ensures count { length workers.new ≡ length workers.old }
     ensures at { AreAt (tree_of lent.entry.program.now) lent.entry.plan.now (suc behind) workers.new }
-    ensures lawful { ∥ (protocol_of (tree_of lent.entry.program.now) lent.entry.plan.now).lawful memory.new (in_front (tree_of lent.entry.program.now) lent.entry.plan.now (suc behind)) ∥₁ }
+    ensures lawful { ∥ (protocol (tree_of lent.entry.program.now) lent.entry.plan.now).lawful memory.new (in_front (tree_of lent.entry.program.now) lent.entry.plan.now (suc behind)) ∥₁ }
 {
     for p in 0..workers.len() {
-        workers[p].lay_in(memory);
+        workers[p].lay_in(behind, memory);
     }
 }

@@ -1,8 +1,7 @@
-use Rattle.std.proofs.Common.{rules, ◌≡◌, ◌<◌, ◌≤◌, ◌+◌, ℕ, suc, [], ◌∷◌, List, drop, length, sym, ◌∙◌, ap, subst, arith}
+use Rattle.std.proofs.Common.{rules, ◌≡◌, suc, drop, sym, ◌∙◌, ap, subst, arith}
 use Rattle.nest_tree.specs.View.{tree_of}
 use Rattle.owner_partition.specs.Phases.{phases}
-use Rattle.spmd_laws.specs.Viewed.{protocol_of}
-use Rattle.fork_join.specs.Joins.{in_front}
+use Rattle.fork_join.specs.Joins.{in_front, protocol}
 use Rattle.fork_join.specs.Workers.{AreAt}
 use Rattle.fork_join.proofs.Running.{last_is, lawful_begun, lawful_first, nothing_left, some_left}
 use Rattle.fork_join.proofs.Turning.{phase_next_drop}
@@ -57,7 +56,7 @@ loop-phase-preserved g c =
       passed = omega (arith, more, was, now);
       left = sym (phase_next_drop n (phases tree plan.cut.marks) v.0 _ stands) ∙ ap (λ k. drop k (phases tree plan.cut.marks)) next;
       within = omega (arith, next, lt);
-      lawful = subst (λ k. ∥ (protocol_of tree plan).lawful c.lay_in.new.memory (in_front tree plan k) ∥₁) next went.lawful;
+      lawful = subst (λ k. ∥ (protocol tree plan).lawful c.lay_in.new.memory (in_front tree plan k) ∥₁) next went.lawful;
     }
 
 pub returns-clause-at : goal.returns-clause-at

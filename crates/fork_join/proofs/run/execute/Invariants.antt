@@ -2,8 +2,7 @@ use Rattle.std.proofs.Common.{◌≡◌, ◌≤◌, drop, length}
 use Rattle.nest_tree.specs.View.{tree_of}
 use Rattle.owner_partition.specs.Phases.{phases}
 use Rattle.owner_partition.specs.PhasesLeft.{phases_left, phases_passed}
-use Rattle.spmd_laws.specs.Viewed.{protocol_of}
-use Rattle.fork_join.specs.Joins.{in_front}
+use Rattle.fork_join.specs.Joins.{in_front, protocol}
 use Rattle.fork_join.specs.Workers.{AreAt}
 use Rattle.fork_join.proofs.run.execute.Given as goal
 
@@ -16,7 +15,7 @@ invariant-loop-phase g l =
       passed : phases_passed l.left ≡ l.behind;
       left : phases_left l.left ≡ drop l.behind (phases tree plan.cut.marks);
       within : l.behind ≤ length (phases tree plan.cut.marks);
-      lawful : ∥ (protocol_of tree plan).lawful l.memory (in_front tree plan l.behind) ∥₁;
+      lawful : ∥ (protocol tree plan).lawful l.memory (in_front tree plan l.behind) ∥₁;
     }
 
 abbrev pub decreases-loop-phase : goal.decreases-loop-phase

@@ -2,7 +2,7 @@ use Rattle.std.proofs.Common.{◌≡◌, ℕ, Bool, List, Option, IfSome, length
 use Rattle.nest_tree.specs.View.{statements_from, tree_of}
 use Rattle.nest_model.specs.Visits.{visits}
 use Rattle.nest_walk.specs.Walks.{enters_but}
-use Rattle.spmd_turns.specs.Rooms.{AreSilent, longest_output, visit_room}
+use Rattle.spmd_turns.specs.Rooms.{AreSilent, visit_room}
 use Rattle.spmd_turns.proofs.Silent.{room_of_walk}
 use Rattle.fork_join.proofs.Running.{written_whole}
 use Rattle.fork_join.proofs.run.most_output.Goals as goal

@@ -1,4 +1,4 @@
-use Rattle.std.proofs.Common.{suc, List, map, ◌++◌, subst}
+use Rattle.std.proofs.Common.{List, subst}
 use Rattle.nest_tree.specs.View.{tree_of}
 use Rattle.spmd_turns.specs.Turns.{Turn}
 use Rattle.fork_join.specs.Workers.{Runs}

@@ -1,6 +1,6 @@
 use Rattle.std.proofs.Common.{length}
 use Rattle.nest_tree.specs.View.{tree_of}
-use Rattle.spmd_turns.specs.TurnsLeft.{turns_left}
+use Rattle.fork_join.specs.Cursors.{cursor_left}
 use Rattle.fork_join.specs.Workers.{IsOverlay, IsWalking}
 use Rattle.fork_join.proofs.walk.execute.Given as goal
 
@@ -12,4 +12,4 @@ invariant-loop-turns l =
     }
 
 abbrev pub decreases-loop-turns : goal.decreases-loop-turns
-decreases-loop-turns l = length (turns_left l.turns)
+decreases-loop-turns l = length (cursor_left l.turns)

@@ -1,31 +1,45 @@
-use Rattle.std.proofs.Common.{◌≡◌, ◌+◌, ℕ, List, [], ◌∷◌, ◌++◌, drop, refl, sym, ◌∙◌, ap, subst, arith, rules, length}
+use Rattle.std.proofs.Common.{◌+◌, ◌∷◌, ◌∙◌, sym, ap, drop}
+use Rattle.nest_tree.specs.Layout.{cell_count}
 use Rattle.nest_tree.specs.View.{tree_of}
-use Rattle.spmd_laws.specs.Viewed.{printed_under, registers_under}
 use Rattle.spmd_model.specs.Deeds.{printing}
-use Rattle.fork_join.specs.Joins.{IsAlone, all_deeds}
-use Rattle.fork_join.proofs.Seeing.{print_alone, print_left, print_printed, print_registers}
+use Rattle.fork_join.specs.Joins.{all_deeds}
+use Rattle.fork_join.specs.SeenDeeds.{same_cell}
+use Rattle.fork_join.proofs.SeenDeeds.{next_print, seen_left}
+use Rattle.fork_join.proofs.Walking.{its_printed, its_registers, its_shared, key_is}
 use Rattle.fork_join.proofs.overlay.OverlayDeeds.print.Goals as goal
 
-pub invariant_of-self : goal.invariant_of-self
-invariant_of-self c =
+pub print_line-requires : goal.print_line-requires
+print_line-requires c =
     let o = c.args.self.now in
     let tree = tree_of o.program.now in
-    let n = o.done.done in
-    let r = c.requires in
-    let next : n + 1 ≡ c.further-self.result.done = sym c.further-self.ensures in record { goes = subst (λ k. ∥ IsAlone tree o.plan.now o.processor o.behind o.memory.now o.stores.entries.items (length o.stores.places.items) k ∥₁) next (print_alone tree o.plan.now o.processor o.behind o.memory.now o.stores.entries.items (length o.stores.places.items) n o.goes r.0 r.1 r.2); indexed = o.indexed; room = o.room; few = o.few }
+    let all = all_deeds tree o.plan.now o.processor in
+    let s = next_print same_cell same_cell (cell_count tree) (drop o.done.done all) c.requires.0 c.requires.1 c.requires.2 in
+    record { next = (c.requires.0, s.0, s.1) }
 
 pub returns-clause-left : goal.returns-clause-left
 returns-clause-left c =
     let o = c.args.self.now in
     let tree = tree_of o.program.now in
-    let n = o.done.done in
-    let r = c.requires in
-    let next : n + 1 ≡ c.further-self.result.done = sym c.further-self.ensures in (r.0, print_left tree o.plan.now o.processor o.behind o.memory.now o.stores.entries.items (length o.stores.places.items) n o.goes r.0 r.1 r.2 ∙ ap (λ k. printing r.0 ∷ drop k (all_deeds tree o.plan.now o.processor)) next, ap (printed_under tree o.plan.now o.processor) (sym next) ∙ print_printed tree o.plan.now o.processor o.behind o.memory.now o.stores.entries.items (length o.stores.places.items) n o.goes r.0 r.1 r.2)
+    let all = all_deeds tree o.plan.now o.processor in
+    let s = next_print same_cell same_cell (cell_count tree) (drop o.done.done all) c.requires.0 c.requires.1 c.requires.2 in
+    let new = c.print_line.new.self in
+    let went = c.print_line.ensures in (
+      c.requires.0,
+      seen_left same_cell same_cell (cell_count tree) all o.done.done (printing c.requires.0) (printing c.requires.0) s.0 c.requires.1 s.1 c.requires.2
+          ∙ ap (λ l. printing c.requires.0 ∷ l) (sym (its_shared tree o.plan.now o.behind o.processor o.memory.now new went.kept (o.done.done + 1) went.further)),
+      its_printed tree o.plan.now o.behind o.processor o.memory.now new went.kept ∙ went.printed c.requires.0 s.0 s.1,
+    )
 
 pub returns-clause-registers : goal.returns-clause-registers
 returns-clause-registers c =
     let o = c.args.self.now in
-    let tree = tree_of o.program.now in
-    let n = o.done.done in
-    let r = c.requires in
-    let next : n + 1 ≡ c.further-self.result.done = sym c.further-self.ensures in ap (registers_under tree o.plan.now o.processor) (sym next) ∙ print_registers tree o.plan.now o.processor o.behind o.memory.now o.stores.entries.items (length o.stores.places.items) n o.goes r.0 r.1 r.2
+    let new = c.print_line.new.self in
+    let went = c.print_line.ensures in
+    its_registers (tree_of o.program.now) o.plan.now o.behind o.processor o.memory.now new went.kept ∙ went.registers
+
+pub returns-clause-kept : goal.returns-clause-kept
+returns-clause-kept c =
+    let o = c.args.self.now in
+    let new = c.print_line.new.self in
+    let went = c.print_line.ensures in
+    key_is (tree_of o.program.now) o.plan.now o.behind o.processor o.memory.now new went.kept

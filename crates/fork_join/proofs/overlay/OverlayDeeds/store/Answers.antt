@@ -1,48 +1,60 @@
-use Rattle.std.proofs.Common.{◌≡◌, ◌+◌, ℕ, List, [], ◌∷◌, ◌++◌, drop, refl, sym, ◌∙◌, ap, subst, arith, rules, length, w64, FitsSigned, to_z, of_z}
+use Rattle.std.proofs.Common.{◌+◌, ◌∷◌, ◌∙◌, sym, ap, drop, rules, w64}
 use Rattle.std.proofs.lemmas.Int.{to_z-of_z}
+use Rattle.nest_tree.specs.Layout.{cell_count}
 use Rattle.nest_tree.specs.View.{tree_of}
-use Rattle.spmd_laws.specs.Viewed.{printed_under, registers_under}
 use Rattle.spmd_model.specs.Deeds.{storing}
-use Rattle.fork_join.specs.Joins.{IsAlone, all_deeds}
-use Rattle.fork_join.proofs.Seeing.{store_alone, store_cell, store_left, store_printed, store_registers}
+use Rattle.fork_join.specs.Joins.{all_deeds}
+use Rattle.fork_join.specs.SeenDeeds.{same_cell}
+use Rattle.fork_join.proofs.SeenDeeds.{next_store, seen_left}
+use Rattle.fork_join.proofs.Walking.{its_printed, its_registers, its_shared, key_is}
 use Rattle.fork_join.proofs.overlay.OverlayDeeds.store.Goals as goal
 
-pub set-requires-clause-inside : goal.set-requires-clause-inside
-set-requires-clause-inside c =
+pub store_shared-requires-clause-next : goal.store_shared-requires-clause-next
+store_shared-requires-clause-next c =
     let o = c.args.self.now in
     let tree = tree_of o.program.now in
-    let n = o.done.done in
-    let r = c.requires in
-    store_cell tree o.plan.now o.processor o.behind o.memory.now o.stores.entries.items (length o.stores.places.items) n o.goes c.args.cell r.0 r.1 r.2
+    let all = all_deeds tree o.plan.now o.processor in
+    let s = next_store same_cell same_cell (cell_count tree) (drop o.done.done all) c.args.cell c.requires.0 c.requires.1 c.requires.2 in
+    (c.requires.0, s.0, s.1, to_z-of_z w64 c.args.value (search rules) ∙ c.requires.3)
 
-pub invariant_of-self : goal.invariant_of-self
-invariant_of-self c =
+pub store_shared-requires-clause-inside : goal.store_shared-requires-clause-inside
+store_shared-requires-clause-inside c =
     let o = c.args.self.now in
     let tree = tree_of o.program.now in
-    let n = o.done.done in
-    let r = c.requires in
-    let next : n + 1 ≡ c.further-self.result.done = sym c.further-self.ensures in let went = c.set.ensures in let new = c.set.new.self in record { goes = subst (λ k. ∥ IsAlone tree o.plan.now o.processor o.behind o.memory.now new.entries.items (length new.places.items) k ∥₁) next (subst (λ k. ∥ IsAlone tree o.plan.now o.processor o.behind o.memory.now new.entries.items k (n + 1) ∥₁) (sym went.cells) (store_alone tree o.plan.now o.processor o.behind o.memory.now o.stores.entries.items (length o.stores.places.items) n o.goes c.args.cell r.0 r.1 r.2 new.entries.items (to_z w64 (of_z w64 c.args.value)) (to_z-of_z w64 c.args.value (search rules) ∙ r.3) went.laid)); indexed = went.kept.indexed; room = went.kept.room; few = went.kept.few }
+    let all = all_deeds tree o.plan.now o.processor in
+    let s = next_store same_cell same_cell (cell_count tree) (drop o.done.done all) c.args.cell c.requires.0 c.requires.1 c.requires.2 in
+    s.2
 
 pub returns-clause-left : goal.returns-clause-left
 returns-clause-left c =
     let o = c.args.self.now in
     let tree = tree_of o.program.now in
-    let n = o.done.done in
-    let r = c.requires in
-    let next : n + 1 ≡ c.further-self.result.done = sym c.further-self.ensures in (r.0, store_left tree o.plan.now o.processor o.behind o.memory.now o.stores.entries.items (length o.stores.places.items) n o.goes c.args.cell r.0 r.1 r.2 ∙ ap (λ k. storing c.args.cell r.0 ∷ drop k (all_deeds tree o.plan.now o.processor)) next)
+    let all = all_deeds tree o.plan.now o.processor in
+    let s = next_store same_cell same_cell (cell_count tree) (drop o.done.done all) c.args.cell c.requires.0 c.requires.1 c.requires.2 in
+    let new = c.store_shared.new.self in
+    let went = c.store_shared.ensures in (
+      c.requires.0,
+      seen_left same_cell same_cell (cell_count tree) all o.done.done (storing c.args.cell c.requires.0) (storing c.args.cell c.requires.0) s.0 c.requires.1 s.1 c.requires.2
+          ∙ ap (λ l. storing c.args.cell c.requires.0 ∷ l) (sym (its_shared tree o.plan.now o.behind o.processor o.memory.now new went.kept (o.done.done + 1) went.further)),
+    )
 
 pub returns-clause-registers : goal.returns-clause-registers
 returns-clause-registers c =
     let o = c.args.self.now in
-    let tree = tree_of o.program.now in
-    let n = o.done.done in
-    let r = c.requires in
-    let next : n + 1 ≡ c.further-self.result.done = sym c.further-self.ensures in ap (registers_under tree o.plan.now o.processor) (sym next) ∙ store_registers tree o.plan.now o.processor o.behind o.memory.now o.stores.entries.items (length o.stores.places.items) n o.goes c.args.cell r.0 r.1 r.2
+    let new = c.store_shared.new.self in
+    let went = c.store_shared.ensures in
+    its_registers (tree_of o.program.now) o.plan.now o.behind o.processor o.memory.now new went.kept ∙ went.registers
 
 pub returns-clause-printed : goal.returns-clause-printed
 returns-clause-printed c =
     let o = c.args.self.now in
-    let tree = tree_of o.program.now in
-    let n = o.done.done in
-    let r = c.requires in
-    let next : n + 1 ≡ c.further-self.result.done = sym c.further-self.ensures in ap (printed_under tree o.plan.now o.processor) (sym next) ∙ store_printed tree o.plan.now o.processor o.behind o.memory.now o.stores.entries.items (length o.stores.places.items) n o.goes c.args.cell r.0 r.1 r.2
+    let new = c.store_shared.new.self in
+    let went = c.store_shared.ensures in
+    its_printed (tree_of o.program.now) o.plan.now o.behind o.processor o.memory.now new went.kept ∙ went.printed
+
+pub returns-clause-kept : goal.returns-clause-kept
+returns-clause-kept c =
+    let o = c.args.self.now in
+    let new = c.store_shared.new.self in
+    let went = c.store_shared.ensures in
+    key_is (tree_of o.program.now) o.plan.now o.behind o.processor o.memory.now new went.kept

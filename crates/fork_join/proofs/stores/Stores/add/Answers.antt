@@ -1,5 +1,4 @@
-use Rattle.std.proofs.Common.{◌≡◌, ◌+◌, ◌++◌, ◌∷◌, [], ◌∙◌, ap, subst, length, set, List, ℕ, ℤ, sym, length-set, w32, w64, Fits, FitsSigned, to_z, of_z, arith, rules}
-use Rattle.std.proofs.lemmas.Int.{to_z-of_z}
+use Rattle.std.proofs.Common.{◌≡◌, ◌+◌, ◌++◌, ◌∷◌, [], subst, length, set, List, ℕ, ℤ, sym, length-set, arith, rules}
 use Rattle.fork_join.specs.Overlays.{AreIndexed}
 use Rattle.fork_join.proofs.Laying.{added, room_of}
 use Rattle.fork_join.proofs.stores.Stores.add.Goals as goal

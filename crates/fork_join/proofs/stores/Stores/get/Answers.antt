@@ -1,4 +1,4 @@
-use Rattle.std.proofs.Common.{◌≡◌, ◌==◌, true, ◌-◌, pos, ℕ, ℤ, ◌∙◌, sym, ap, w64, FitsSigned, to_z, of_z, get_or, arith, rules}
+use Rattle.std.proofs.Common.{◌≡◌, ◌-◌, ℕ, ℤ, ◌∙◌, sym, ap, w64, FitsSigned, arith, rules}
 use Rattle.std.proofs.lemmas.Int.{to_z-of_z}
 use Rattle.fork_join.proofs.Laying.{away_of, away_value, last_value, place_cell, place_inside, place_last, within_any}
 use Rattle.fork_join.proofs.stores.Stores.get.Goals as goal

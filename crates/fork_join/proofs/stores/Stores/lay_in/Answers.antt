@@ -1,7 +1,7 @@
-use Rattle.std.proofs.Common.{◌≡◌, ◌++◌, ◌∷◌, [], ℕ, ℤ, List, set, length, length-set, ◌∙◌, sym, ap, subst, w64, FitsSigned, to_z, of_z, arith, rules}
+use Rattle.std.proofs.Common.{◌≡◌, ◌++◌, ◌∷◌, [], ℕ, ℤ, List, set, length-set, ◌∙◌, sym, ap, subst, w64, FitsSigned, to_z, of_z, arith, rules}
 use Rattle.std.proofs.lemmas.Int.{to_z-of_z}
 use Rattle.fork_join.specs.Overlays.{AreIndexed, laid_in}
-use Rattle.fork_join.proofs.Laying.{popped, popped_inside, popped_laid}
+use Rattle.fork_join.proofs.Laying.{popped, popped_laid}
 use Rattle.fork_join.proofs.stores.Stores.lay_in.Goals as goal
 
 pub loop-cell-preserved : goal.loop-cell-preserved

@@ -1,4 +1,4 @@
-use Rattle.std.proofs.Common.{◌≡◌, ℕ, length}
+use Rattle.std.proofs.Common.{◌≡◌, length}
 use Rattle.fork_join.specs.Overlays.{laid_in}
 use Rattle.fork_join.specs.StoreLists.{AreKept, cells_of, entries_of}
 use Rattle.fork_join.proofs.stores.Stores.lay_in.Given as goal

@@ -1,6 +1,6 @@
-use Rattle.std.proofs.Common.{◌≡◌, ◌==◌, ◌-◌, ℕ, ℤ, List, set, length-set, ◌∙◌, sym, ap, subst, w64, FitsSigned, to_z, of_z, arith, rules}
+use Rattle.std.proofs.Common.{◌-◌, set, ◌∙◌, sym, ap, w64, FitsSigned, to_z, of_z, arith, rules}
 use Rattle.std.proofs.lemmas.Int.{to_z-of_z}
-use Rattle.fork_join.specs.Overlays.{AreIndexed, laid_in}
+use Rattle.fork_join.specs.Overlays.{laid_in}
 use Rattle.fork_join.proofs.Laying.{changed, place_cell, place_inside, place_last, replaced, within_any}
 use Rattle.fork_join.proofs.stores.Stores.set.Goals as goal
 

@@ -1,50 +1,76 @@
-use Rattle.std.proofs.Common.{◌≡◌, suc, ◌+◌, ◌-◌, ◌++◌, ◌∷◌, [], List, refl, sym, ◌∙◌, ap, subst}
+use Rattle.std.proofs.Common.{◌<◌, sym, subst}
 use Rattle.nest_tree.specs.View.{tree_of}
-use Rattle.owner_partition.specs.Phases.{phases}
-use Rattle.sync_plan.specs.Waits.{posts_at, waits_for}
-use Rattle.spmd_turns.specs.Turns.{Turn, begins, boundary_turns}
-use Rattle.fork_join.specs.Workers.{Runs, Stands, turns_begun}
-use Rattle.fork_join.proofs.Turning.{begins_of, begun_runs, first_of, looked, neither_next, phase_begins, phase_next, phase_there, waited_runs, waiting_boundary, waiting_next}
+use Rattle.fork_join.specs.Cursors.{ComesNext}
+use Rattle.fork_join.specs.Joins.{IsSafe}
+use Rattle.fork_join.specs.Workers.{IsBeginning}
+use Rattle.fork_join.specs.declared.worker.Worker.{Worker}
+use Rattle.fork_join.proofs.Beginning.{Key, begin_first, begins_next, has_begun, same_key, seen_beginning}
 use Rattle.fork_join.proofs.worker.Worker.begin.Goals as goal
 
-pub loop-self-init : goal.loop-self-init
-loop-self-init c =
+pub loop-next-init : goal.loop-next-init
+loop-next-init c =
     let w = c.args.self.now in
-    let tree = tree_of w.program.now in
-    let plan = w.plan.now in
-    let p = w.processor in
-    let n = c.args.behind in
-    let v = phase_there n (phases tree plan.cut.marks) c.requires.some in
-    let does = posts_at tree plan p v.0.place v.0.loops in
-    let whom = waits_for tree plan p v.0.place v.0.loops in
-    record {
-      ahead = (boundary_turns (suc n - 1) does whom, waiting_boundary (suc n - 1) does whom, subst (λ (l : List Turn). Stands tree plan p l w) (phase_begins tree plan p n v.0 v.1 v.2) c.requires.at.stands);
-      none = c.requires.at.none;
-    }
+    begin_first (tree_of w.program.now) w.plan.now c.requires.safe c.args.behind w.processor c.requires.below w c.requires.some c.requires.at
 
-pub loop-self-preserved : goal.loop-self-preserved
-loop-self-preserved c =
+pub pass_wait-requires-clause-safe : goal.pass_wait-requires-clause-safe
+pass_wait-requires-clause-safe c =
     let first = c.args.self.now in
     let tree = tree_of first.program.now in
     let plan = first.plan.now in
     let p = first.processor in
     let n = c.args.behind in
-    let w = c.loop-self.self in
-    let inv = c.loop-self.invariant in
-    let (bs, waits, stands) = inv.ahead in
-    let tail = turns_begun tree plan n p in
-    let left = bs ++ begins (suc n) ∷ tail in
+    let w = c.loop-next.self in
     let saw = c.peek.ensures in
-    let seen = looked tree plan p left w.done.done w.turns c.peek.new.self w.executor stands.runs saw.sound saw.left saw.program saw.plan saw.processor in
-    let (t, rest, is_wait, is) = waiting_next c.peek.new.self c.peek.result saw.next c.in-Post.is in
-    let (more, are, same) = first_of bs tail (suc n) t rest (sym seen.turns ∙ is) is_wait waits in
-    let went = c.pass.ensures in
-    let now = subst (λ (l : List Turn). Runs tree plan p l w.done.done c.peek.new.self w.executor) (sym seen.turns ∙ is) seen in
-    let runs = waited_runs tree plan p c.requires.safe rest t w.done.done c.further-self.result.done c.peek.new.self c.pass.new.self w.executor is_wait c.further-self.ensures now went.sound went.passed went.program went.plan went.processor in
-    record {
-      ahead = (more, are, record { program = stands.program; plan_is = stands.plan_is; processor = stands.processor; runs = subst (λ (l : List Turn). Runs tree plan p l c.further-self.result.done c.pass.new.self w.executor) same runs; kept = stands.kept; cells = stands.cells });
-      none = inv.none;
-    }
+    let d = c.peek.new.self in
+    let b = seen_beginning tree plan n p w d c.loop-next.invariant saw.sound saw.left saw.turns saw.same in
+    let v : Worker = record w { turns = d } in
+    let key = same_key tree plan p _ v b.stands in
+    subst (λ (k : Key). IsSafe k.0 k.1.0) key c.requires.safe
+
+pub pass_wait-requires-clause-below : goal.pass_wait-requires-clause-below
+pass_wait-requires-clause-below c =
+    let first = c.args.self.now in
+    let tree = tree_of first.program.now in
+    let plan = first.plan.now in
+    let p = first.processor in
+    let n = c.args.behind in
+    let w = c.loop-next.self in
+    let saw = c.peek.ensures in
+    let d = c.peek.new.self in
+    let b = seen_beginning tree plan n p w d c.loop-next.invariant saw.sound saw.left saw.turns saw.same in
+    let v : Worker = record w { turns = d } in
+    let key = same_key tree plan p _ v b.stands in
+    subst (λ (k : Key). k.1.1 < k.1.0.workers) key c.requires.below
+
+pub pass_wait-requires-clause-at : goal.pass_wait-requires-clause-at
+pass_wait-requires-clause-at c =
+    let first = c.args.self.now in
+    let tree = tree_of first.program.now in
+    let plan = first.plan.now in
+    let p = first.processor in
+    let n = c.args.behind in
+    let w = c.loop-next.self in
+    let saw = c.peek.ensures in
+    let d = c.peek.new.self in
+    let b = seen_beginning tree plan n p w d c.loop-next.invariant saw.sound saw.left saw.turns saw.same in
+    let v : Worker = record w { turns = d } in
+    let key = same_key tree plan p _ v b.stands in
+    subst (λ (k : Key). IsBeginning k.0 k.1.0 n k.1.1 v) key b
+
+pub loop-next-preserved : goal.loop-next-preserved
+loop-next-preserved c =
+    let first = c.args.self.now in
+    let tree = tree_of first.program.now in
+    let plan = first.plan.now in
+    let p = first.processor in
+    let n = c.args.behind in
+    let w = c.loop-next.self in
+    let saw = c.peek.ensures in
+    let d = c.peek.new.self in
+    let b = seen_beginning tree plan n p w d c.loop-next.invariant saw.sound saw.left saw.turns saw.same in
+    let v : Worker = record w { turns = d } in
+    let key = same_key tree plan p _ v b.stands in
+    subst (λ (k : Key). IsBeginning k.0 k.1.0 n k.1.1 c.pass_wait.new.self) (sym key) c.pass_wait.ensures.at
 
 pub returns-in-Phase-clause-begun : goal.returns-in-Phase-clause-begun
 returns-in-Phase-clause-begun c =
@@ -53,38 +79,28 @@ returns-in-Phase-clause-begun c =
     let plan = first.plan.now in
     let p = first.processor in
     let n = c.args.behind in
-    let w = c.loop-self.self in
-    let inv = c.loop-self.invariant in
-    let (bs, waits, stands) = inv.ahead in
-    let tail = turns_begun tree plan n p in
+    let w = c.loop-next.self in
     let saw = c.peek.ensures in
-    let seen = looked tree plan p (bs ++ begins (suc n) ∷ tail) w.done.done w.turns c.peek.new.self w.executor stands.runs saw.sound saw.left saw.program saw.plan saw.processor in
-    let (rest, is) = phase_next c.peek.new.self c.peek.result c.in-Phase.phase saw.next c.in-Phase.is in
-    let (number, same) = begins_of bs tail (suc n) c.in-Phase.phase rest (sym seen.turns ∙ is) waits in
-    let went = c.pass-in-Phase.ensures in
-    let now = subst (λ (l : List Turn). Runs tree plan p l w.done.done c.peek.new.self w.executor) (sym seen.turns ∙ is) seen in
-    let runs = begun_runs tree plan p rest c.in-Phase.phase w.done.done c.peek.new.self c.pass-in-Phase.new.self w.executor now went.sound went.passed went.program went.plan went.processor in
-    record {
-      stands = record { program = stands.program; plan_is = stands.plan_is; processor = stands.processor; runs = subst (λ (l : List Turn). Runs tree plan p l w.done.done c.pass-in-Phase.new.self w.executor) same runs; kept = stands.kept; cells = stands.cells };
-      none = inv.none;
-    }
+    let d = c.peek.new.self in
+    let b = seen_beginning tree plan n p w d c.loop-next.invariant saw.sound saw.left saw.turns saw.same in
+    let v : Worker = record w { turns = d } in
+    let key = same_key tree plan p _ v b.stands in
+    let comes = subst (ComesNext d) c.in-Phase.is saw.next in
+    let went = c.begin.ensures in
+    has_begun tree plan c.requires.safe n p c.requires.below v b c.begin.new.self c.in-Phase.phase (went.left c.in-Phase.phase comes) went.sound went.turns went.same
 
 pub returns-in-Phase-clause-number : goal.returns-in-Phase-clause-number
 returns-in-Phase-clause-number c =
     let first = c.args.self.now in
+    let tree = tree_of first.program.now in
+    let plan = first.plan.now in
+    let p = first.processor in
     let n = c.args.behind in
-    let w = c.loop-self.self in
-    let inv = c.loop-self.invariant in
-    let (bs, waits, stands) = inv.ahead in
+    let w = c.loop-next.self in
     let saw = c.peek.ensures in
-    let (rest, is) = phase_next c.peek.new.self c.peek.result c.in-Phase.phase saw.next c.in-Phase.is in
-    (begins_of bs (turns_begun (tree_of first.program.now) first.plan.now n first.processor) (suc n) c.in-Phase.phase rest (sym (saw.left ∙ stands.runs.turns) ∙ is) waits).0
-
-pub unreachable-requires : goal.unreachable-requires
-unreachable-requires c =
-    let first = c.args.self.now in
-    let n = c.args.behind in
-    let inv = c.loop-self.invariant in
-    let (bs, waits, stands) = inv.ahead in
-    let saw = c.peek.ensures in
-    neither_next c.peek.new.self c.peek.result bs (turns_begun (tree_of first.program.now) first.plan.now n first.processor) (suc n) saw.next c.in-Work.is (saw.left ∙ stands.runs.turns) waits
+    let d = c.peek.new.self in
+    let b = seen_beginning tree plan n p w d c.loop-next.invariant saw.sound saw.left saw.turns saw.same in
+    let v : Worker = record w { turns = d } in
+    let key = same_key tree plan p _ v b.stands in
+    let comes = subst (ComesNext d) c.in-Phase.is saw.next in
+    begins_next tree plan c.requires.safe n p c.requires.below v b c.begin.new.self c.in-Phase.phase (c.begin.ensures.left c.in-Phase.phase comes)

@@ -1,16 +1,19 @@
-use Rattle.std.proofs.Common.{◌≡◌, ◌≤◌, ◌<◌, ◌+◌, ℕ, List, length, true, refl, sym, ◌∙◌, ap, subst, arith, rules, sum_by}
-use Rattle.std.specs.List.{list_all}
-use Rattle.nest_tree.specs.Layout.{cell_count}
+use Rattle.std.proofs.Common.{◌<◌, ℕ, List, length, replicate, refl, sym, ◌∙◌, ap, subst, arith, sum_by}
+use Rattle.std.specs.Prelude.{pos}
 use Rattle.nest_tree.specs.View.{tree_of}
 use Rattle.nest_walk.proofs.CellPlaces.{few_cells}
 use Rattle.owner_partition.specs.Phases.{phases}
+use Rattle.spmd_model.specs.declared.style.Style.TheVariants.{Arrive}
 use Rattle.spmd_turns.specs.Rooms.{turn_room}
-use Rattle.spmd_turns.specs.Turns.{is_turn_inside, turns_from}
+use Rattle.spmd_turns.specs.Turns.{turns_from}
 use Rattle.spmd_turns.proofs.PhaseSums.{all_inside}
-use Rattle.spmd_turns.proofs.TurnDeeds.{turns_do}
-use Rattle.fork_join.specs.Joins.{all_deeds}
+use Rattle.styled_turns.specs.StyledTurns.{first_standing, styled}
+use Rattle.styled_turns.proofs.StyledLists.{none_places}
+use Rattle.fork_join.specs.Cursors.{IsShut}
+use Rattle.fork_join.specs.Joins.{HoldsOwn, all_deeds}
 use Rattle.fork_join.specs.Workers.{Runs, turns_behind}
-use Rattle.fork_join.proofs.Working.{first_room}
+use Rattle.fork_join.proofs.Shutting.{shut_deeds}
+use Rattle.fork_join.proofs.Working.{all_there, first_room, holds_none}
 use Rattle.fork_join.proofs.worker.Worker.new.Goals as goal
 
 pub returns : goal.returns
@@ -21,6 +24,7 @@ returns c =
     let p = c.args.processor in
     let safe = c.requires.safe in
     let turns = c.new.ensures in
+    let d = c.new.result in
     let x = c.in_ok-new.field-0 in
     let made = c.in_ok-new.ensures in
     let stores = c.in_ok-new-2.ensures in
@@ -29,14 +33,21 @@ returns c =
     let count = stores.cells in
     let cells = c.cell_count.ensures in
     let few = few_cells tree c.requires.limits in
-    let runs : Runs tree plan p (turns_behind tree plan 0 p) 0 c.new.result x = record {
+    let shut : IsShut d = record {
+      standing = first_standing;
+      none = none_places;
+      unseen = λ off. (refl, refl);
+      is = turns.turns ∙ λ i. styled Arrive (sym turns.program i) (sym turns.plan i) (sym turns.processor i) first_standing (sym turns.left i);
+    } in
+    let runs : Runs tree plan p (turns_behind tree plan 0 p) 0 d x = record {
       sound = turns.sound;
       program = turns.program;
       plan_is = turns.plan;
       processor = turns.processor;
-      turns = turns.turns;
+      turns = turns.left;
       inside = all_inside tree plan p safe.ranges;
-      deeds = sym (turns_do tree plan p 1 (phases tree plan.cut.marks));
+      there = all_there tree plan p safe.formed safe.ranges;
+      deeds = sym (shut_deeds tree plan safe 0 p c.requires.below d turns.program turns.plan turns.processor turns.left shut);
       within = omega arith;
       idle = safe.laws.empty_first p;
       can = made.can;
@@ -56,9 +67,11 @@ returns c =
         program = refl;
         plan_is = refl;
         processor = refl;
-        runs = subst (λ k. Runs tree plan p (turns_behind tree plan 0 p) k c.new.result x) (sym c.new-4.ensures) runs;
+        runs = subst (λ k. Runs tree plan p (turns_behind tree plan 0 p) k d x) (sym c.new-4.ensures) runs;
         kept = stores.kept;
         cells = omega (arith, count, cells, few);
+        holds = subst (HoldsOwn tree plan p (replicate 32 (pos 0))) (sym c.new-4.ensures) (holds_none tree plan p (replicate 32 (pos 0)) refl);
       };
       none = stores.none;
+      shut = shut;
     }

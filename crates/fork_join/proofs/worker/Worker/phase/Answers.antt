@@ -3,9 +3,8 @@ use Rattle.nest_tree.specs.Tree.{Tree}
 use Rattle.nest_tree.specs.View.{tree_of}
 use Rattle.owner_partition.specs.Phases.{phases}
 use Rattle.sync_plan.specs.declared.plan.Plan.{Plan}
-use Rattle.spmd_laws.specs.Viewed.{protocol_of}
-use Rattle.fork_join.specs.Joins.{IsSafe, begun}
-use Rattle.fork_join.specs.Workers.{HasBegun, HasWorked, Stands}
+use Rattle.fork_join.specs.Joins.{IsSafe, begun, protocol}
+use Rattle.fork_join.specs.Workers.{HasBegun, HasWorked}
 use Rattle.fork_join.specs.declared.worker.Worker.{Worker}
 use Rattle.fork_join.proofs.worker.Worker.phase.Goals as goal
 
@@ -39,7 +38,7 @@ work-requires-clause-some g c =
 pub work-requires-clause-lawful : goal.work-requires-clause-lawful
 work-requires-clause-lawful g c =
     let s = c.begin-phase.ensures.begun.stands in
-    subst (λ (k : Key). ∥ (protocol_of k.0 k.1.0).lawful c.args.memory.now (begun k.0 k.1.0 c.args.behind) ∥₁) (same_key c.args.self.now c.begin-phase.new.self s.program s.plan_is s.processor) c.requires.lawful
+    subst (λ (k : Key). ∥ (protocol k.0 k.1.0).lawful c.args.memory.now (begun k.0 k.1.0 c.args.behind) ∥₁) (same_key c.args.self.now c.begin-phase.new.self s.program s.plan_is s.processor) c.requires.lawful
 
 pub returns : goal.returns
 returns g c =

@@ -1,12 +1,11 @@
 use mathlib.Core.Logic.{∥∥₁_map}
-use Rattle.std.proofs.Common.{◌≡◌, ◌≤◌, ◌<◌, ◌^◌, ℕ, ℤ, suc, List, length, vec_capacity, refl, sym, ◌∙◌, ap, subst, arith}
+use Rattle.std.proofs.Common.{◌≤◌, ◌<◌, ◌^◌, length, vec_capacity, refl, sym, subst}
 use Rattle.nest_tree.specs.View.{tree_of}
 use Rattle.spmd_turns.specs.declared.progress.Progress.{Progress}
 use Rattle.fork_join.specs.Joins.{IsAlone}
 use Rattle.fork_join.specs.Overlays.{AreIndexed}
 use Rattle.fork_join.specs.declared.stores.Stores.{Stores}
-use Rattle.fork_join.proofs.Walking.{begun_place, front_place}
-use Rattle.fork_join.proofs.Working.{alone_first, its_cells, worked}
+use Rattle.fork_join.proofs.Working.{alone_first, its_cells, its_own, worked}
 use Rattle.fork_join.proofs.worker.Worker.work.Goals as goal
 
 pub invariant_of-overlay : goal.invariant_of-overlay
@@ -17,14 +16,14 @@ invariant_of-overlay c =
     let p = w.processor in
     let n = c.args.behind in
     let memory = c.args.memory.now in
-    let stands = c.requires.begun.stands in
+    let begun = c.requires.begun in
+    let stands = begun.stands in
     let stores = sym c.replace.ensures.value in
     let done = sym c.replace-2.ensures.value in
-    let place = begun_place tree plan n p w.done.done w.turns w.executor c.requires.below stands.runs in
-    let first = ∥∥₁_map c.requires.lawful (λ lawful. alone_first tree plan p n memory w.stores.entries.items (length w.stores.places.items) w.done.done c.requires.safe c.requires.below lawful c.requires.begun.none stands.cells place) in
+    let first = ∥∥₁_map c.requires.lawful (λ lawful. alone_first tree plan p n memory w.stores.entries.items w.own (length w.stores.places.items) w.done.done c.requires.safe c.requires.below lawful begun.none stands.holds stands.cells begun.place) in
     record {
-      goes = subst (λ (s : Stores). ∥ IsAlone tree plan p n memory s.entries.items (length s.places.items) c.replace-2.result.done ∥₁) stores
-          (subst (λ (d : Progress). ∥ IsAlone tree plan p n memory w.stores.entries.items (length w.stores.places.items) d.done ∥₁) done first);
+      goes = subst (λ (s : Stores). ∥ IsAlone tree plan p n memory s.entries.items w.own (length s.places.items) c.replace-2.result.done ∥₁) stores
+          (subst (λ (d : Progress). ∥ IsAlone tree plan p n memory w.stores.entries.items w.own (length w.stores.places.items) d.done ∥₁) done first);
       indexed = subst (λ (s : Stores). AreIndexed s.entries.items s.places.items) stores stands.kept.indexed;
       room = subst (λ (s : Stores). length s.places.items ≤ vec_capacity s.entries) stores stands.kept.room;
       few = subst (λ (s : Stores). length s.places.items < 2 ^ 32) stores stands.kept.few;
@@ -49,6 +48,7 @@ returns c =
         runs = runs;
         kept = record { indexed = o.indexed; room = o.room; few = o.few };
         cells = its_cells tree plan n p memory o kept;
+        holds = its_own tree plan n p memory o kept;
       };
-      goes = worked tree plan n p memory o kept (front_place tree plan (suc n) p o.done.done c.execute.new.turns c.execute.new.executor c.requires.below runs);
+      goes = worked tree plan n p memory o kept;
     }
