@@ -7,19 +7,20 @@ ghost use Rattle.nest_tree.specs.View.{tree_of};
 ghost use Rattle.nest_tree.specs.WellFormed.{IsWellFormed};
 ghost use Rattle.sync_plan.specs.Fit.{IsFit};
 ghost use Rattle.sync_plan.specs.Ordered.{IsOrdered};
-ghost use Rattle.plan_checker.specs.Accepted.{IsAccepted};
 
 use crate::measure::{Measure, measured, now};
 use crate::parts::read_inside;
 use f77_lines::MOST_BYTES;
+use fork_join::run_join;
 use nest_tree::Program;
 use plan_checker::check;
+use plan_checker::laws::accepted_plans_are_ordered;
 use plan_input::{Stop, read_fitting};
 use spmd_ports::NoGate;
-use spmd_run::{run_join, run_spmd};
 use std::alloc::Global;
 use std::sync::Wait;
 use std::thread::Threads;
+use styled_run::run_spmd;
 use sync_plan::Plan;
 
 // The program of a source, whose subscripts are in range, and the plan behind it, which is accepted.
@@ -58,17 +59,9 @@ fn read_accepted<R: Threads + Sync>(
     if let Err(refusal) = check(threads, alloc, program, &plan) {
         return Err(Stop::from(refusal));
     }
-    is_ordered(program, &plan);
+    accepted_plans_are_ordered();
     Ok(plan)
 }
-
-// An accepted plan is ordered.
-fn is_ordered(program: &Program, plan: &Plan)
-    requires formed { IsWellFormed (tree_of program.now) }
-    requires ranges { IsInRange (tree_of program.now) }
-    requires accepted { IsAccepted (tree_of program.now) plan.now }
-    ensures { IsOrdered (tree_of program.now) plan.now }
-{}
 
 /// The run by fork and join, which writes the output.
 pub(crate) fn join<R: Threads + Sync>(

@@ -12,12 +12,13 @@ use Rattle.sync_plan.specs.declared.plan.Kind.{Kind}
 use Rattle.sync_plan.specs.declared.plan.Kind.TheVariants.{Join}
 use Rattle.spmd_model.specs.Timelines.{counter, post, await}
 use Rattle.spmd_laws.specs.Protocols.{Protocol, act_at}
-use Rattle.spmd_laws.specs.Viewed.{acts_under, protocol_of}
+use Rattle.spmd_laws.specs.Styled.{acts_by, protocol_by}
+use Rattle.spmd_model.specs.declared.style.Style.TheVariants.{Arrive}
 use Rattle.nest_tree.specs.View.{tree_of}
 use Rattle.nest_tree.specs.declared.tree.Program.{Program}
 use Rattle.sync_plan.specs.declared.plan.Plan.{Plan}
-use Rattle.cell_table.specs.Calls.{ArrivesNext, GathersNext, first_seat}
-use Rattle.cell_table.specs.Homes.{Home, gone, protocol_at, protocol_given}
+use Rattle.styled_table.specs.Calls.{ArrivesNext, GathersNext, first_seat}
+use Rattle.styled_table.specs.Homes.{Home, gone, protocol_at, protocol_given}
 use Rattle.cell_table.specs.Places.{behind, settled_at}
 use Rattle.house_tests.specs.StraightLine.{barriers, line, plan_with}
 
@@ -54,10 +55,10 @@ ordered kinds j k x y less first second clash apart =
 -- ---- the acts of processor 1
 
 abbrev pub barrier_line : Protocol
-barrier_line = protocol_of line (plan_with barriers)
+barrier_line = protocol_by Arrive line (plan_with barriers)
 
 abbrev pub join_line : Protocol
-join_line = protocol_of line (plan_with joins)
+join_line = protocol_by Arrive line (plan_with joins)
 
 -- its places behind its first acts
 abbrev pub place : Protocol → ℕ → ℕ → ℕ
@@ -65,43 +66,43 @@ place m p zero = settled_at m p 0
 place m p (suc k) = behind m p (place m p k)
 
 pub posts_first : (act_at join_line 1 (place join_line 1 0) ≡ Some (post counter 0)) × (join_line.gathers 0 ≡ false)
-unfolding acts_under
+unfolding acts_by
 posts_first = (refl, refl)
 
 pub awaits_first : (act_at join_line 1 (place join_line 1 1) ≡ Some (await counter 0 0)) × (join_line.gathers 0 ≡ false)
-unfolding acts_under
+unfolding acts_by
 awaits_first = (refl, refl)
 
 pub posts_next : (act_at join_line 1 (place join_line 1 2) ≡ Some (post counter 1)) × (join_line.gathers 1 ≡ false)
-unfolding acts_under
+unfolding acts_by
 posts_next = (refl, refl)
 
 pub awaits_next : (act_at join_line 1 (place join_line 1 3) ≡ Some (await counter 0 1)) × (join_line.gathers 1 ≡ false)
-unfolding acts_under
+unfolding acts_by
 awaits_next = (refl, refl)
 
 -- ---- and of both at a barrier
 
 pub arrives : (p : ℕ) → p < 2 → (act_at barrier_line p (place barrier_line p 0) ≡ Some (post counter 0)) × (barrier_line.gathers 0 ≡ true)
-unfolding acts_under
+unfolding acts_by
 arrives zero lt = (refl, refl)
 arrives (suc zero) lt = (refl, refl)
 arrives (suc (suc p)) lt = absurd (omega (arith, lt))
 
 pub gathers : (act_at barrier_line 1 (place barrier_line 1 1) ≡ Some (await counter 0 0)) × (barrier_line.gathers 0 ≡ true)
-unfolding acts_under
+unfolding acts_by
 gathers = (refl, refl)
 
 pub gathers_of_first : (act_at barrier_line 0 (place barrier_line 0 1) ≡ Some (await counter 1 0)) × (barrier_line.gathers 0 ≡ true)
-unfolding acts_under
+unfolding acts_by
 gathers_of_first = (refl, refl)
 
 -- what holds of the line's protocol holds of the table's
-pub of_table : (P : Protocol → Type 0) (kinds : List Kind) (h : Home) (program : Program) (plan : Plan) → h.given ≡ Some (program, plan) → tree_of program ≡ line → plan ≡ plan_with kinds → P (protocol_of line (plan_with kinds)) → P (protocol_at h)
-of_table P kinds h program plan given tree is held = subst P (sym (ap protocol_given given ∙ (λ i. protocol_of (tree i) (is i)))) held
+pub of_table : (P : Protocol → Type 0) (kinds : List Kind) (h : Home) (program : Program) (plan : Plan) → h.given ≡ Some (program, (plan, Arrive)) → tree_of program ≡ line → plan ≡ plan_with kinds → P (protocol_by Arrive line (plan_with kinds)) → P (protocol_at h)
+of_table P kinds h program plan given tree is held = subst P (sym (ap protocol_given given ∙ (λ i. protocol_by Arrive (tree i) (is i)))) held
 
 -- both processors' seats at their first acts, at a barrier
-pub meets : (h : Home) (program : Program) (plan : Plan) → h.given ≡ Some (program, plan) → tree_of program ≡ line → plan ≡ plan_with barriers → (p : ℕ) → p < 2 → ArrivesNext (first_seat h p) 0 × GathersNext (gone (first_seat h p)) 0
+pub meets : (h : Home) (program : Program) (plan : Plan) → h.given ≡ Some (program, (plan, Arrive)) → tree_of program ≡ line → plan ≡ plan_with barriers → (p : ℕ) → p < 2 → ArrivesNext (first_seat h p) 0 × GathersNext (gone (first_seat h p)) 0
 meets h program plan given tree is zero lt =
     let comes = of_table (λ m. (act_at m 0 (place m 0 0) ≡ Some (post counter 0)) × (m.gathers 0 ≡ true)) barriers h program plan given tree is (arrives 0 lt) in
     let awaits = of_table (λ m. (act_at m 0 (place m 0 1) ≡ Some (await counter 1 0)) × (m.gathers 0 ≡ true)) barriers h program plan given tree is gathers_of_first in

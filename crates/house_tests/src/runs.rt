@@ -8,27 +8,29 @@ ghost use Rattle.nest_tree.specs.View.{tree_of};
 ghost use Rattle.nest_tree.specs.WellFormed.{IsWellFormed};
 ghost use Rattle.sync_plan.specs.Fit.{IsFit};
 ghost use Rattle.sync_plan.specs.Ordered.{IsOrdered};
-ghost use Rattle.plan_checker.specs.Accepted.{IsAccepted};
 ghost use Rattle.crossbeam_utils.specs.Padded.{padded_value};
-ghost use Rattle.cell_table.specs.Calls.{AreAllEnded};
-ghost use Rattle.spmd_run.specs.Teams.{AreWorkersOf};
+ghost use Rattle.styled_table.specs.Calls.{AreAllEnded};
+ghost use Rattle.styled_run.specs.Teams.{AreWorkersOf};
 
 use crate::plans::{MIRROR, ROUNDING};
 use bstr::ByteSlice;
-use cell_table::{Cells, CloseRefused, Closed, MainSeat};
 use crossbeam_utils::CachePadded;
 use f77_lines::MOST_BYTES;
+use fork_join::run_join;
 use nest_tree::Program;
 use plan_checker::check;
+use plan_checker::laws::accepted_plans_are_ordered;
 use plan_input::{read_fitting, read_source};
 use range_check::check_ranges;
+use spmd_model::Style;
 use spmd_ports::NoGate;
-use spmd_run::run::{gathered, have_ended, workers_of};
-use spmd_run::{Leg, Tables, Worker, run_join, run_spmd};
 use std::alloc::Global;
 use std::sync::Wait;
 use std::test::Fail;
 use std::thread::{self, Threads};
+use styled_run::run::{gathered, have_ended, workers_of};
+use styled_run::{Leg, Tables, Worker, run_spmd_with};
+use styled_table::{Cells, CloseRefused, Closed, MainSeat};
 use sync_plan::Plan;
 
 // So many legs a worker has.
@@ -83,17 +85,9 @@ fn accepted<R: Threads + Sync>(
     let Ok(()) = check(rt, alloc, program, &plan) else {
         return Err(Fail::new("the plan is refused"));
     };
-    is_ordered(program, &plan);
+    accepted_plans_are_ordered();
     Ok(plan)
 }
-
-// An accepted plan is ordered.
-fn is_ordered(program: &Program, plan: &Plan)
-    requires formed { IsWellFormed (tree_of program.now) }
-    requires ranges { IsInRange (tree_of program.now) }
-    requires accepted { IsAccepted (tree_of program.now) plan.now }
-    ensures { IsOrdered (tree_of program.now) plan.now }
-{}
 
 // What a run leaves: its memory and what it prints.
 type Left = (Vec<i64>, Vec<u8>);
@@ -105,19 +99,20 @@ fn left_by_join<R: Threads + Sync>(rt: &R, alloc: Global, bytes: &[u8]) -> Resul
     Ok((memory, output.as_slice().to_vec(alloc)?))
 }
 
-// The same over shared words.
+// The same over shared words, with barriers in a style.
 fn left_by_spmd<R: Threads + Wait + Sync>(
     rt: &R,
     alloc: Global,
     bytes: &[u8],
+    style: Style,
 ) -> Result<Left, Fail> {
     let (program, plan) = case_of(rt, alloc, bytes)?;
-    let (closed, output) = run_spmd(rt, alloc, &program, &plan, &NoGate)?;
+    let (closed, output) = run_spmd_with(rt, alloc, &program, &plan, &NoGate, style)?;
     let memory = closed.memory().to_vec(alloc)?;
     Ok((memory, output.as_slice().to_vec(alloc)?))
 }
 
-// One text with one change, by either way: what is printed, and the memory.
+// One text with one change, by each way: what is printed, and the memory.
 #[test]
 fn runs_end_as_the_program_does(rt: HostRuntime) -> Result<(), Fail> {
     let alloc = rt.alloc();
@@ -131,9 +126,11 @@ fn runs_end_as_the_program_does(rt: HostRuntime) -> Result<(), Fail> {
         let (memory, output) = left_by_join(&rt, alloc, text.as_slice())?;
         assert_eq!(rt; output.as_slice(), ROUNDED);
         assert_eq!(rt; memory.as_slice(), ROUNDED_CELLS);
-        let (memory, output) = left_by_spmd(&rt, alloc, text.as_slice())?;
-        assert_eq!(rt; output.as_slice(), ROUNDED);
-        assert_eq!(rt; memory.as_slice(), ROUNDED_CELLS);
+        for style in [Style::Arrive, Style::Dissemination] {
+            let (memory, output) = left_by_spmd(&rt, alloc, text.as_slice(), style)?;
+            assert_eq!(rt; output.as_slice(), ROUNDED);
+            assert_eq!(rt; memory.as_slice(), ROUNDED_CELLS);
+        }
     }
     Ok(())
 }
@@ -203,7 +200,7 @@ fn left_by_own<R: Threads + Sync>(
     requires fits { IsFit (tree_of program.now) plan.now }
     requires ordered { IsOrdered (tree_of program.now) plan.now }
 {
-    let tables = Tables::new(alloc, program, plan)?;
+    let tables = Tables::new(alloc, program, plan, Style::Arrive)?;
     let (cells, mut main) = Cells::new(alloc, program, plan)?;
     let mut workers = workers_of(alloc, &tables, &cells, &mut main)?;
     all_to_the_end(rt, &cells, &mut workers);
@@ -251,7 +248,7 @@ fn legs_are(
     requires fits { IsFit (tree_of program.now) plan.now }
     requires ordered { IsOrdered (tree_of program.now) plan.now }
 {
-    let tables = Tables::new(alloc, program, plan)?;
+    let tables = Tables::new(alloc, program, plan, Style::Arrive)?;
     let (cells, mut main) = Cells::new(alloc, program, plan)?;
     let mut workers = workers_of(alloc, &tables, &cells, &mut main)?;
     legs_end_so(&cells, &mut workers, rows)

@@ -1,6 +1,7 @@
 use crate::straight_line::{line, plan_with};
-use cell_table::{Cells, Poll};
+use cell_table::Poll;
 use std::test::Fail;
+use styled_table::Cells;
 use sync_plan::Kind;
 
 #[test]

@@ -5,12 +5,10 @@ ghost use Rattle.nest_tree.specs.View.{expression_of, tree_of};
 ghost use Rattle.std.specs.Prelude.{[]};
 ghost use Rattle.house_tests.specs.StraightLine.{doubled, first_owns, line, plan_with};
 
-use nest_tree::{
-    Access, Affine, Expr, Item, Pairs, PrintItem, Program, Spread, Subscripts, Variable,
-};
+use nest_tree::{Access, Affine, Expr, Item, Listed, Pairs, PrintItem, Program, Spread, Variable};
 use owner_partition::{Anchor, Cut, Dist};
 use std::alloc::{AllocError, Global};
-use sync_plan::{Anchors, Certificates, Conditions, Kind, Kinds, Plan, Version};
+use sync_plan::{Conditions, Kind, Plan, Version};
 
 // The scalar K.
 fn k(alloc: Global) -> Access
@@ -18,7 +16,7 @@ fn k(alloc: Global) -> Access
 {
     Access {
         variable: 1,
-        subscripts: Subscripts::new(alloc),
+        subscripts: Listed::new(alloc),
     }
 }
 
@@ -78,8 +76,8 @@ pub fn plan_with(alloc: Global, kinds: Vec<Kind>) -> Result<Plan, AllocError>
         conditions: Conditions::Values,
         workers: 2,
         cut: Cut::plain(alloc, Vec::new(alloc))?,
-        anchors: Anchors::from_vec(anchors),
-        kinds: Kinds::from_vec(kinds),
-        certificates: Certificates::from_vec(Vec::new(alloc)),
+        anchors: Listed::from_vec(anchors),
+        kinds: Listed::from_vec(kinds),
+        certificates: Listed::from_vec(Vec::new(alloc)),
     })
 }

@@ -29,7 +29,7 @@ fn main(rt: HostRuntime) -> Result<()> {
     let verdict = plans::verdict(&rt, rt.alloc(), &program, &text)?;
     println!(rt; "plan_checker: {verdict}")?;
     let (one, other) = words::met(&rt, rt.alloc())?;
-    println!(rt; "cell_table: two threads met at a barrier, {one} and {other}")?;
+    println!(rt; "styled_table: two threads met at a barrier, {one} and {other}")?;
     Ok(())
 }
 

@@ -9,8 +9,8 @@ use Rattle.sync_plan.specs.Ordered.{IsOrdered}
 use Rattle.sync_plan.specs.declared.plan.Plan.{Plan}
 use Rattle.spmd_model.specs.Timelines.{counter, post, await}
 use Rattle.spmd_laws.specs.Protocols.{act_at}
-use Rattle.cell_table.specs.Calls.{ArrivesNext, GathersNext, with_stage}
-use Rattle.cell_table.specs.Homes.{CellView, MainView, gone, missed}
+use Rattle.styled_table.specs.Calls.{ArrivesNext, GathersNext, with_stage}
+use Rattle.styled_table.specs.Homes.{CellView, MainView, gone, missed}
 use Rattle.cell_table.specs.declared.view.Stage.TheVariants.{NotOut, Out}
 use Rattle.house_tests.specs.StraightLine.{barriers, plan_with}
 use Rattle.house_tests.proofs.StraightLine as lines

@@ -1,6 +1,6 @@
 use Rattle.std.proofs.Common.{◌≡◌}
-use Rattle.cell_table.specs.Calls.{GathersNext}
-use Rattle.cell_table.specs.Homes.{gone, through}
+use Rattle.styled_table.specs.Calls.{GathersNext}
+use Rattle.styled_table.specs.Homes.{gone, through}
 use Rattle.library_use.proofs.words.meet.Given as goal
 
 abbrev pub invariant-loop : goal.invariant-loop

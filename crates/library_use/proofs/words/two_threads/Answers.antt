@@ -1,9 +1,9 @@
 use denote.Param.Send.{sendable}
 use Rattle.std.proofs.Common.{ap, sym, subst, lit<}
 use Rattle.std.proofs.Crossing.{crosses}
-use Rattle.cell_table.specs.Calls.{ArrivesNext, GathersNext}
-use Rattle.cell_table.specs.Homes.{CellView, gone}
-use Rattle.cell_table.proofs.cells.CellSeat.TheSendSync as seat
+use Rattle.styled_table.specs.Calls.{ArrivesNext, GathersNext}
+use Rattle.styled_table.specs.Homes.{CellView, gone}
+use Rattle.styled_table.proofs.cells.CellSeat.TheSendSync as seat
 use Rattle.house_tests.proofs.StraightLine.{meets}
 use Rattle.library_use.proofs.Sharing.{Cells-sync}
 use Rattle.library_use.proofs.words.two_threads.Goals as goal

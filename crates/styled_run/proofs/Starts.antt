@@ -1,0 +1,328 @@
+-- A worker that has done nothing.
+use Rattle.std.proofs.Common.{◌≡◌, ◌≢◌, ◌&&◌, ◌==◌, ℕ, zero, suc, ◌+◌, ◌-◌, ◌*◌, ◌<◌, ◌≤◌, nat_lt, pos, Bool, true, false, true≢false, List, [], ◌∷◌, ◌++◌, map, length, drop, replicate, Option, Some, None, refl, sym, ◌∙◌, ap, inl, inr, arith, sum_by, append_assoc, if◌then◌else◌, cond}
+use Rattle.std.specs.Prelude.{slice_get}
+use Rattle.std.specs.List.{All, filter, list_all, range_with_len}
+use Rattle.std.specs.Option.{option_map}
+use Rattle.std.proofs.lemmas.Bool.{and_from, and_parts, cases_Bool, cases_eq, lt-ltb}
+use Rattle.std.proofs.lemmas.List.Elements.{All-head, All-tail}
+use Rattle.std.proofs.lemmas.List.Folds.{list_all-append}
+use Rattle.std.proofs.lemmas.List.Sums.{sum_by-append, sum_by-cons}
+use Rattle.nest_tree.specs.Layout.{cell_count}
+use Rattle.nest_tree.specs.Tree.{Work, assign, print, Tree, param_values, work}
+use Rattle.nest_tree.specs.WellFormed.{IsWellFormed}
+use Rattle.nest_model.specs.Accesses.{cells_of, loads_of, store_of}
+use Rattle.nest_model.specs.Instances.{Instance}
+use Rattle.nest_model.specs.Memory.{assigned_value, line_of}
+use Rattle.nest_model.specs.Ranges.{IsInRange, is_instance_inside}
+use Rattle.nest_model.specs.Visits.{Visit}
+use Rattle.owner_partition.specs.declared.anchor.Anchor.{Anchor}
+use Rattle.owner_partition.specs.Owners.{anchor_owner}
+use Rattle.owner_partition.specs.Phases.{phase_instances, phases}
+use Rattle.sync_plan.specs.Fit.{IsFit}
+use Rattle.sync_plan.specs.Own.{own_cell, own_of}
+use Rattle.sync_plan.specs.Waits.{posts_at, waits_for}
+use Rattle.sync_plan.specs.declared.plan.Plan.{Plan}
+use Rattle.spmd_model.specs.Deeds.{Deed, last_deed, loading, owned_by, printing}
+use Rattle.spmd_model.specs.Rounds.{rounds_of}
+use Rattle.spmd_model.specs.StyledDeeds.{own_deeds}
+use Rattle.spmd_model.specs.Timelines.{counter, signal}
+use Rattle.spmd_model.specs.declared.style.Style.{Style}
+use Rattle.spmd_model.proofs.CellsThere.{cells_there}
+use Rattle.spmd_model.proofs.PhaseJobs.{all_fine}
+use Rattle.spmd_model.proofs.TripJobs.{IsFineIn}
+use Rattle.spmd_laws.specs.Protocols.{held_at}
+use Rattle.spmd_turns.specs.Executors.{CanExecute, executor_output, executor_room, executor_tree}
+use Rattle.spmd_turns.specs.Rooms.{longest_output, statement_room, turn_room}
+use Rattle.spmd_turns.specs.Turns.{Turn, awaits, begins, boundary_turns, phase_turns, posts, turns_from, works}
+use Rattle.styled_turns.specs.StyledTurns.{Standing, StyledTurn, sets, waits, runs, closes, all_rounds, begun, behind, closed, first_round, first_standing, has_signals, is_signalled, places_pending, round_turn, rounds_before, styled}
+use Rattle.styled_turns.specs.StyledLeft.{AreStyled, beginnings_left, styled_left, styled_plan, styled_processor, styled_style, styled_tree}
+use Rattle.fork_join.proofs.Working.{first_room}
+use Rattle.cell_table.specs.Places.{settled_at}
+use Rattle.styled_table.specs.Calls.{first_seat}
+use Rattle.styled_table.specs.Homes.{CellView, Home, protocol_at}
+use Rattle.styled_run.specs.Held.{AreHeld}
+use Rattle.styled_run.specs.Legs.{AreAnswered}
+use Rattle.styled_run.specs.Places.{deeds_at, deeds_in, held_cells, own_place, plan_at, printed_behind, registers_behind, style_at, tree_at, turns_at}
+use Rattle.styled_run.specs.Walks.{IsReady, is_instance_there, is_styled_there, styled_room, walk_place}
+use Rattle.styled_run.specs.declared.walk.Walk.{Walk}
+use Rattle.styled_run.proofs.Acts.{print_there}
+use Rattle.styled_run.proofs.Steps.{no_post_between}
+use Rattle.styled_run.proofs.Walks.{drop_place, place_is}
+
+-- ---- instances of the plain turns are the program's, each access and each cell
+
+-- the same of a plain turn
+abbrev is_turn_there : Tree → Turn → Bool
+is_turn_there tree (posts number) = true
+is_turn_there tree (awaits on wanted) = true
+is_turn_there tree (begins e) = true
+is_turn_there tree (works i) = is_instance_there tree i
+
+all_below : (cells : ℕ) (cs : List ℕ) → All (λ c. c < cells) cs → list_all (λ c. nat_lt c cells) cs ≡ true
+all_below cells [] all = refl
+all_below cells (c ∷ cs) all = and_from (nat_lt c cells) (list_all (λ d. nat_lt d cells) cs) (lt-ltb c cells (All-head (λ d. d < cells) c cs all)) (all_below cells cs (All-tail (λ d. d < cells) c cs all))
+
+module _ (tree : Tree) (plan : Plan) (formed : IsWellFormed tree) (fits : IsFit tree plan) (ranges : IsInRange tree) where
+  fine_there : (v : Visit) (is : List Instance) → All (IsFineIn tree plan v) is → list_all (is_instance_there tree) is ≡ true
+  fine_there v [] all = refl
+  fine_there v (i ∷ is) all =
+      let f = All-head (IsFineIn tree plan v) i is all in
+      let here = and_from (is_instance_inside tree i) (list_all (λ c. nat_lt c (cell_count tree)) (cells_of tree i)) f.inside (all_below (cell_count tree) (cells_of tree i) (cells_there tree i formed f.good f.inside)) in
+      and_from (is_instance_there tree i) (list_all (is_instance_there tree) is) here (fine_there v is (All-tail (IsFineIn tree plan v) i is all))
+
+  some_there : (test : Instance → Bool) (is : List Instance) → list_all (is_instance_there tree) is ≡ true → list_all (is_instance_there tree) (filter test is) ≡ true
+  some_there test [] all = refl
+  some_there test (i ∷ is) all =
+      let parts = and_parts (is_instance_there tree i) (list_all (is_instance_there tree) is) all in
+      let later = some_there test is parts.1 in
+      elim (cases_Bool (test i)) [
+        | inl holds ↦ ap (λ b. list_all (is_instance_there tree) (cond b (i ∷ filter test is) (filter test is))) holds ∙ and_from (is_instance_there tree i) (list_all (is_instance_there tree) (filter test is)) parts.0 later
+        | inr fails ↦ ap (λ b. list_all (is_instance_there tree) (cond b (i ∷ filter test is) (filter test is))) fails ∙ later
+      ]
+
+  owned_there : (p : ℕ) (v : Visit) (o : Option Anchor) → list_all (is_instance_there tree) (phase_instances (param_values tree) v) ≡ true → list_all (is_instance_there tree) (owned_by tree o plan.workers p v) ≡ true
+  owned_there p v None all = refl
+  owned_there p v (Some a) all = some_there (λ (i : Instance). anchor_owner a plan.workers i.loops (param_values tree) == p) (phase_instances (param_values tree) v) all
+
+  works_there : (is : List Instance) → list_all (is_instance_there tree) is ≡ true → list_all (is_turn_there tree) (map works is) ≡ true
+  works_there [] all = refl
+  works_there (i ∷ is) all =
+      let parts = and_parts (is_instance_there tree i) (list_all (is_instance_there tree) is) all in
+      and_from (is_instance_there tree i) (list_all (is_turn_there tree) (map works is)) parts.0 (works_there is parts.1)
+
+  awaits_there : (n : ℕ) (qs : List ℕ) → list_all (is_turn_there tree) (map (λ q. awaits q n) qs) ≡ true
+  awaits_there n [] = refl
+  awaits_there n (q ∷ qs) = awaits_there n qs
+
+  boundary_there : (n : ℕ) (does : Bool) (qs : List ℕ) → list_all (is_turn_there tree) (boundary_turns n does qs) ≡ true
+  boundary_there n true qs = awaits_there n qs
+  boundary_there n false qs = awaits_there n qs
+
+  both_there : (xs ys : List Turn) → list_all (is_turn_there tree) xs ≡ true → list_all (is_turn_there tree) ys ≡ true → list_all (is_turn_there tree) (xs ++ ys) ≡ true
+  both_there xs ys first second = list_all-append (is_turn_there tree) xs ys ∙ and_from (list_all (is_turn_there tree) xs) (list_all (is_turn_there tree) ys) first second
+
+  phases_there : (p e : ℕ) (vs : List Visit) → ((k : ℕ) (v : Visit) → slice_get vs k ≡ Some v → list_all (is_instance_there tree) (phase_instances (param_values tree) v) ≡ true) → list_all (is_turn_there tree) (turns_from tree plan p e vs) ≡ true
+  phases_there p e [] each = refl
+  phases_there p e (v ∷ vs) each =
+      let boundary = boundary_turns (e - 1) (posts_at tree plan p v.place v.loops) (waits_for tree plan p v.place v.loops) in
+      let own = owned_by tree (slice_get plan.anchors (v.place - 1)) plan.workers p v in
+      both_there (phase_turns tree plan p e v) (turns_from tree plan p (suc e) vs)
+      (both_there boundary (begins e ∷ map works own) (boundary_there (e - 1) (posts_at tree plan p v.place v.loops) (waits_for tree plan p v.place v.loops)) (works_there own (owned_there p v (slice_get plan.anchors (v.place - 1)) (each 0 v refl))))
+      (phases_there p (suc e) vs (λ k u at. each (suc k) u at))
+
+  pub turns_there : (p : ℕ) → list_all (is_turn_there tree) (turns_from tree plan p 1 (phases tree plan.cut.marks)) ≡ true
+  turns_there p = phases_there p 1 (phases tree plan.cut.marks) (λ k v at. fine_there v (phase_instances (param_values tree) v) (all_fine tree plan k v formed fits ranges at))
+
+-- ---- what styled turns print and access is what the plain ones do
+
+module _ (style : Style) (tree : Tree) (plan : Plan) (p : ℕ) where
+  map_room : (f : ℕ → StyledTurn) → ((k : ℕ) → styled_room tree (f k) ≡ 0) → (ks : List ℕ) → sum_by (styled_room tree) (map f ks) ≡ 0
+  map_room f none [] = refl
+  map_room f none (k ∷ ks) = omega (arith, sum_by-cons (styled_room tree) (f k) (map f ks), none k, map_room f none ks)
+
+  front_room : (xs ys : List StyledTurn) → sum_by (styled_room tree) xs ≡ 0 → sum_by (styled_room tree) (xs ++ ys) ≡ sum_by (styled_room tree) ys
+  front_room xs ys none = omega (arith, sum_by-append (styled_room tree) xs ys, none)
+
+  one_room : (b : Bool) (t : StyledTurn) → styled_room tree t ≡ 0 → sum_by (styled_room tree) (if b then [] else t ∷ []) ≡ 0
+  one_room true t none = refl
+  one_room false t none = let nothing : sum_by (styled_room tree) [] ≡ 0 = refl in omega (arith, sum_by-cons (styled_room tree) t [], none, nothing)
+
+  word_room : (b : Bool) (n q k : ℕ) → styled_room tree (if b then sets signal n else waits signal q k) ≡ 0
+  word_room true n q k = refl
+  word_room false n q k = refl
+
+  rounds_room : (b : Bool) (barriers : ℕ) → sum_by (styled_room tree) (if b then all_rounds plan.workers p barriers else []) ≡ 0
+  rounds_room true barriers = map_room (round_turn plan.workers p (first_round plan.workers barriers)) (λ k. word_room _ _ _ _) (range_with_len 0 (rounds_of plan.workers * 2))
+  rounds_room false barriers = refl
+
+  styled_rooms : (s : Standing) (ts : List Turn) → sum_by (styled_room tree) (styled style tree plan p s ts) ≡ sum_by (turn_room tree) ts
+  styled_rooms s [] = map_room (closes s.place) (λ k. refl) (places_pending s.pending)
+  styled_rooms s (posts number ∷ rest) =
+      let front = if is_signalled style tree plan number then [] else sets counter number ∷ [] in
+      let later = styled style tree plan p (closed s) rest in
+      let none : turn_room tree (posts number) ≡ 0 = refl in
+      omega (
+        arith,
+        front_room (map (closes s.place) (places_pending s.pending)) (front ++ later) (map_room (closes s.place) (λ k. refl) (places_pending s.pending)),
+        front_room front later (one_room (is_signalled style tree plan number) (sets counter number) refl),
+        styled_rooms (closed s) rest,
+        sum_by-cons (turn_room tree) (posts number) rest,
+        none,
+      )
+  styled_rooms s (awaits on wanted ∷ rest) =
+      let front = if is_signalled style tree plan wanted then [] else waits counter on wanted ∷ [] in
+      let later = styled style tree plan p (closed s) rest in
+      let none : turn_room tree (awaits on wanted) ≡ 0 = refl in
+      omega (
+        arith,
+        front_room (map (closes s.place) (places_pending s.pending)) (front ++ later) (map_room (closes s.place) (λ k. refl) (places_pending s.pending)),
+        front_room front later (one_room (is_signalled style tree plan wanted) (waits counter on wanted) refl),
+        styled_rooms (closed s) rest,
+        sum_by-cons (turn_room tree) (awaits on wanted) rest,
+        none,
+      )
+  styled_rooms s (begins e ∷ rest) =
+      let front = rounds_before style tree plan p s e in
+      let later = styled style tree plan p (begun style tree plan s e) rest in
+      let none : turn_room tree (begins e) ≡ 0 = refl in
+      omega (
+        arith,
+        front_room (map (closes s.place) (places_pending s.pending)) (front ++ later) (map_room (closes s.place) (λ k. refl) (places_pending s.pending)),
+        front_room front later (rounds_room (has_signals style plan (slice_get (phases tree plan.cut.marks) (e - 1))) s.barriers),
+        styled_rooms (begun style tree plan s e) rest,
+        sum_by-cons (turn_room tree) (begins e) rest,
+        none,
+      )
+  styled_rooms s (works i ∷ rest) =
+      let later = styled style tree plan p (behind tree plan s i) rest in
+      let same : styled_room tree (runs s.place i) ≡ turn_room tree (works i) = refl in
+      omega (arith, sum_by-cons (styled_room tree) (runs s.place i) later, sum_by-cons (turn_room tree) (works i) rest, styled_rooms (behind tree plan s i) rest, same)
+
+  map_there : (f : ℕ → StyledTurn) → ((k : ℕ) → is_styled_there tree (f k) ≡ true) → (ks : List ℕ) → list_all (is_styled_there tree) (map f ks) ≡ true
+  map_there f all [] = refl
+  map_there f all (k ∷ ks) = ap (λ b. b && list_all (is_styled_there tree) (map f ks)) (all k) ∙ map_there f all ks
+
+  front_there : (xs ys : List StyledTurn) → list_all (is_styled_there tree) xs ≡ true → list_all (is_styled_there tree) (xs ++ ys) ≡ list_all (is_styled_there tree) ys
+  front_there [] ys all = refl
+  front_there (x ∷ xs) ys all =
+      let parts = and_parts (is_styled_there tree x) (list_all (is_styled_there tree) xs) all in
+      ap (λ b. b && list_all (is_styled_there tree) (xs ++ ys)) parts.0 ∙ front_there xs ys parts.1
+
+  one_there : (b : Bool) (t : StyledTurn) → is_styled_there tree t ≡ true → list_all (is_styled_there tree) (if b then [] else t ∷ []) ≡ true
+  one_there true t is = refl
+  one_there false t is = ap (λ b. b && true) is
+
+  word_there : (b : Bool) (n q k : ℕ) → is_styled_there tree (if b then sets signal n else waits signal q k) ≡ true
+  word_there true n q k = refl
+  word_there false n q k = refl
+
+  rounds_there : (b : Bool) (barriers : ℕ) → list_all (is_styled_there tree) (if b then all_rounds plan.workers p barriers else []) ≡ true
+  rounds_there true barriers = map_there (round_turn plan.workers p (first_round plan.workers barriers)) (λ k. word_there _ _ _ _) (range_with_len 0 (rounds_of plan.workers * 2))
+  rounds_there false barriers = refl
+
+  styled_there : (s : Standing) (ts : List Turn) → list_all (is_styled_there tree) (styled style tree plan p s ts) ≡ list_all (is_turn_there tree) ts
+  styled_there s [] = map_there (closes s.place) (λ k. refl) (places_pending s.pending)
+  styled_there s (posts number ∷ rest) =
+      let front = if is_signalled style tree plan number then [] else sets counter number ∷ [] in
+      let later = styled style tree plan p (closed s) rest in
+      front_there (map (closes s.place) (places_pending s.pending)) (front ++ later) (map_there (closes s.place) (λ k. refl) (places_pending s.pending))
+      ∙ front_there front later (one_there (is_signalled style tree plan number) (sets counter number) refl) ∙ styled_there (closed s) rest
+  styled_there s (awaits on wanted ∷ rest) =
+      let front = if is_signalled style tree plan wanted then [] else waits counter on wanted ∷ [] in
+      let later = styled style tree plan p (closed s) rest in
+      front_there (map (closes s.place) (places_pending s.pending)) (front ++ later) (map_there (closes s.place) (λ k. refl) (places_pending s.pending))
+      ∙ front_there front later (one_there (is_signalled style tree plan wanted) (waits counter on wanted) refl) ∙ styled_there (closed s) rest
+  styled_there s (begins e ∷ rest) =
+      let front = rounds_before style tree plan p s e in
+      let later = styled style tree plan p (begun style tree plan s e) rest in
+      front_there (map (closes s.place) (places_pending s.pending)) (front ++ later) (map_there (closes s.place) (λ k. refl) (places_pending s.pending))
+      ∙ front_there front later (rounds_there (has_signals style plan (slice_get (phases tree plan.cut.marks) (e - 1))) s.barriers) ∙ styled_there (begun style tree plan s e) rest
+  styled_there s (works i ∷ rest) = ap (λ b. is_turn_there tree (works i) && b) (styled_there (behind tree plan s i) rest)
+
+-- ---- room for what is printed
+
+module _ (h : Home) (held : AreHeld h) (p : ℕ) (below : p < (protocol_at h).workers) where
+  get_drop : (xs : List Deed) (a b : ℕ) → slice_get (drop a xs) b ≡ slice_get xs (a + b)
+  get_drop [] zero b = refl
+  get_drop [] (suc a) b = refl
+  get_drop (x ∷ xs) zero b = let k : b ≡ 0 + b = omega arith in ap (slice_get (x ∷ xs)) k
+  get_drop (x ∷ xs) (suc a) b = let k : suc (a + b) ≡ suc a + b = omega arith in get_drop xs a b ∙ ap (slice_get (x ∷ xs)) k
+
+  get_behind : (xs ys : List Deed) (d : Deed) → slice_get (xs ++ (d ∷ ys)) (length xs) ≡ Some d
+  get_behind [] ys d = refl
+  get_behind (x ∷ xs) ys d = get_behind xs ys d
+
+  -- another processor than the first prints nothing
+  instance_none : p ≢ 0 → (n place : ℕ) (i : Instance) (rest : List Deed) → drop n (deeds_at h p) ≡ own_deeds (tree_at h) (own_of (tree_at h) (plan_at h) place) p i ++ rest → turn_room (tree_at h) (works i) ≡ 0
+  instance_none other n place i rest is = by i.what refl
+    where
+      by : (w : Work) → i.what ≡ w → turn_room (tree_at h) (works i) ≡ 0
+      by (assign a) e = ap (λ (w : Work). statement_room (tree_at h) (work w)) e
+      by (print q) e =
+          let loads = map loading (map (own_cell (own_of (tree_at h) (plan_at h) place) p) (loads_of (tree_at h) i)) in
+          let last = last_deed (option_map (own_cell (own_of (tree_at h) (plan_at h) place) p) (store_of (tree_at h) i)) false (assigned_value (tree_at h) i) (line_of (tree_at h) i) in
+          let none : store_of (tree_at h) i ≡ None = ap (λ (w : Work). store_of (tree_at h) (record { statement = i.statement; what = w; loops = i.loops })) e in
+          let prints : last ≡ printing (line_of (tree_at h) i) = ap (λ o. last_deed (option_map (own_cell (own_of (tree_at h) (plan_at h) place) p) o) false (assigned_value (tree_at h) i) (line_of (tree_at h) i)) none in
+          let at : slice_get (drop n (deeds_at h p)) (length loads) ≡ Some last = ap (λ l. slice_get l (length loads)) (is ∙ append_assoc loads (last ∷ []) rest) ∙ get_behind loads rest last in
+          let act = print_there h held p below (n + length loads) (line_of (tree_at h) i) (sym (get_drop (deeds_at h p) n (length loads)) ∙ at ∙ ap (λ d. Some d) prints) in
+          absurd (other (held.laws.prints_of_first p (n + length loads) act.0 below act.1))
+
+  turn_none : p ≢ 0 → (front : List StyledTurn) (t : StyledTurn) (ts : List StyledTurn) → turns_at h p ≡ front ++ (t ∷ ts) → styled_room (tree_at h) t ≡ 0
+  turn_none other front (sets word number) ts is = refl
+  turn_none other front (waits word on wanted) ts is = refl
+  turn_none other front (closes place k) ts is = refl
+  turn_none other front (runs place i) ts is = instance_none other (length (deeds_at h p) - length (deeds_in h p (runs place i ∷ ts))) place i (deeds_in h p ts) (drop_place h p front (runs place i ∷ ts) is)
+
+  no_room : p ≢ 0 → (front ts : List StyledTurn) → turns_at h p ≡ front ++ ts → sum_by (styled_room (tree_at h)) ts ≡ 0
+  no_room other front [] is = refl
+  no_room other front (t ∷ ts) is =
+      let here = turn_none other front t ts is in
+      let more = no_room other (front ++ t ∷ []) ts (is ∙ sym (append_assoc front (t ∷ []) ts)) in
+      let both = sum_by-cons (styled_room (tree_at h)) t ts in
+      omega (arith, here, more, both)
+
+  -- so there is room for all that it prints
+  pub room_for : (room : ℕ) → (p ≡ 0 → longest_output (tree_at h) ≤ room) → sum_by (styled_room (tree_at h)) (turns_at h p) ≤ room
+  room_for room wide = elim (cases_eq p 0) [
+    | inl first ↦
+        let some : 0 < (plan_at h).workers = omega (arith, below) in
+        let most = first_room (tree_at h) (plan_at h) some in
+        let plain = styled_rooms (style_at h) (tree_at h) (plan_at h) p first_standing (turns_from (tree_at h) (plan_at h) p 1 (phases (tree_at h) (plan_at h).cut.marks)) in
+        let all = ap (λ q. sum_by (turn_room (tree_at h)) (turns_from (tree_at h) (plan_at h) q 1 (phases (tree_at h) (plan_at h).cut.marks))) first in
+        let enough = wide first in
+        omega (arith, most, plain, all, enough)
+    | inr other ↦ let none = no_room other [] (turns_at h p) refl in omega (arith, none)
+  ]
+
+-- own cells hold 0 where nothing is done
+zeros : (h : Home) (p : ℕ) (a n : ℕ) → map (λ k. held_at (protocol_at h) p (own_place h p k) 0) (range_with_len a n) ≡ replicate n (pos 0)
+zeros h p a zero = refl
+zeros h p a (suc n) = ap (λ l. pos 0 ∷ l) (zeros h p (a + 1) n)
+
+module _ (x : Walk) (held : AreHeld x.seat.home) (seat : x.seat ≡ first_seat x.seat.home x.seat.processor) (below : x.seat.processor < (protocol_at x.seat.home).workers) (sound : AreStyled x.turns) (turns : styled_left x.turns ≡ turns_at x.seat.home x.seat.processor)
+    (begins : beginnings_left x.turns ≡ range_with_len 1 (length (phases (tree_at x.seat.home) (plan_at x.seat.home).cut.marks))) (tree : styled_tree x.turns ≡ tree_at x.seat.home) (plan : styled_plan x.turns ≡ plan_at x.seat.home)
+    (processor : styled_processor x.turns ≡ x.seat.processor) (style : styled_style x.turns ≡ style_at x.seat.home) (own : x.own ≡ replicate 32 (pos 0)) (can : CanExecute x.executor) (executes : executor_tree x.executor ≡ tree_at x.seat.home)
+    (output : executor_output x.executor ≡ []) (wide : x.seat.processor ≡ 0 → longest_output (tree_at x.seat.home) ≤ executor_room x.executor) (answered : x.answered ≡ 0) (ended : x.ended ≡ false) where
+  abbrev h : Home
+  h = x.seat.home
+
+  abbrev p : ℕ
+  p = x.seat.processor
+
+  place : walk_place x ≡ 0
+  place = place_is h p [] (styled_left x.turns) (sym turns)
+
+  position : x.seat.position ≡ settled_at (protocol_at h) p 0
+  position = ap (λ (v : CellView). v.position) seat
+
+  -- no post stands in front of it
+  none_answered : AreAnswered x.seat x.answered
+  none_answered n number lt e join = absurd (no_post_between (cell_count (tree_at h)) ((protocol_at h).acts p) 0 n number (omega arith) (omega (arith, lt, position)) e)
+
+  pub first_ready : IsReady x
+  first_ready = record {
+    front = [];
+    behind = sym turns;
+    begun = [];
+    begins = sym begins;
+    sound = sound;
+    tree = tree;
+    plan = plan;
+    processor = processor;
+    style = style;
+    settled = ap (settled_at (protocol_at h) p) place ∙ sym position;
+    idle = ap (registers_behind x.seat) place ∙ held.laws.empty_first p;
+    own = own ∙ sym (ap (held_cells h p) place ∙ zeros h p 0 32);
+    can = can;
+    executes = executes;
+    output = output ∙ sym (ap (printed_behind x.seat) place ∙ held.laws.printed_first p);
+    room = (
+        let none : length (executor_output x.executor) ≡ 0 = ap (λ (l : List ℕ). length l) output in
+        let all = ap (sum_by (styled_room (tree_at h))) turns in
+        let fits = room_for h held p below (executor_room x.executor) wide in
+        omega (arith, none, all, fits)
+        );
+    there = ap (list_all (is_styled_there (tree_at h))) turns ∙ styled_there (style_at h) (tree_at h) (plan_at h) p first_standing (turns_from (tree_at h) (plan_at h) p 1 (phases (tree_at h) (plan_at h).cut.marks)) ∙ turns_there (tree_at h) (plan_at h) held.run.formed held.run.fits held.run.ranges p;
+    answered = none_answered;
+    over = λ e. absurd (true≢false (sym e ∙ ended));
+  }

@@ -1,0 +1,8 @@
+pub mod Places
+pub mod OwnPlaces
+pub mod Held
+pub mod Legs
+pub mod Walks
+pub mod Tables
+pub mod Workers
+pub mod Teams
