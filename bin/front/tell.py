@@ -14,20 +14,20 @@ import source as sources
 
 ROOT = os.path.dirname(os.path.dirname(os.path.dirname(os.path.abspath(__file__))))
 COMMANDS = ("seq", "plan", "run", "verify", "bench")
-CHOICES = {"--plan": ("made", "barrier", "given"), "--by": ("spmd", "join", "core")}
+CHOICES = {"--plan": ("made", "barrier", "given"), "--by": ("spmd", "join", "core"), "--barrier": ("arrive", "dissemination")}
 OPTIONS = {
     "seq": (),
     "plan": ("--workers",),
-    "run": ("--workers", "--plan", "--by"),
-    "verify": (),
+    "run": ("--workers", "--plan", "--by", "--barrier"),
+    "verify": ("--sweep",),
     "bench": ("--workers",),
 }
 WAITS = {"LEFT": "neighbours", "RIGHT": "neighbours", "BOTH": "neighbours", "PRODUCER": "one processor"}
 USAGE = (
     "seagrynt seq [NAME=VALUE..] < SOURCE",
     "seagrynt plan --workers P [--plan-only] [NAME=VALUE..] < SOURCE",
-    "seagrynt run --workers P [--plan made|barrier|given] [--by spmd|join|core] [--plan-only|--output-only] [NAME=VALUE..] < SOURCE",
-    "seagrynt verify [NAME=VALUE..] < SOURCE_AND_PLAN",
+    "seagrynt run --workers P [--plan made|barrier|given] [--by spmd|join|core] [--barrier arrive|dissemination] [--plan-only|--output-only] [NAME=VALUE..] < SOURCE",
+    "seagrynt verify [--sweep NAME=LOW:HIGH] [NAME=VALUE..] < SOURCE_AND_PLAN",
     "seagrynt bench --workers P N M",
     "seagrynt --help, seagrynt run --help, seagrynt --version",
 )
@@ -104,7 +104,7 @@ def parts_of(words):
     while at < len(words):
         word = words[at]
         name, equals, value = word.partition("=")
-        if name in ("--workers", "--plan", "--by"):
+        if name in ("--workers", "--plan", "--by", "--barrier", "--sweep"):
             if not equals:
                 at += 1
                 value = words[at] if at < len(words) else None
@@ -148,8 +148,29 @@ def wrong_setting(words, number, program):
         return f"{word}: {value or 'nothing'} is no whole number in decimal digits"
     if not -(2**63) <= int(value) < 2**63:
         return f"{word}: {value} does not fit 64 bits"
+    return f"{word}: {no_constant(program, name)}"
+
+
+def wrong_sweep(words, program):
+    word = dict(parts_of(words)[0]).get("--sweep") or "?"
+    found = re.fullmatch(r"([A-Za-z][A-Za-z0-9]*)=(-?\d+):(-?\d+)", word)
+    if not found:
+        return f"{word} is no sweep: a sweep is NAME=LOW:HIGH, two whole numbers in decimal digits"
+    name, low, high = found[1], int(found[2]), int(found[3])
+    odd = [it for it in (low, high) if not -(2**63) <= it < 2**63]
+    if odd:
+        return f"{word}: {odd[0]} does not fit 64 bits"
+    if low > high:
+        return f"{word}: {low} is above {high}; the lower value comes first"
+    if high - low >= 1000:
+        return f"{word}: these are {high - low + 1} values; a sweep has at most 1000"
+    return f"{word}: {no_constant(program, name)}"
+
+
+def no_constant(program, name):
+    names = ", ".join(program.constants)
     has = f"its named constants are {names}" if names else "it has none; PARAMETER (N = 8) makes one"
-    return f"{word}: the program has no named constant (PARAMETER) {name.upper()}; {has}"
+    return f"the program has no named constant (PARAMETER) {name.upper()}; {has}"
 
 
 def wrong_word(words):
@@ -198,6 +219,9 @@ def wrong_option(words, command):
 
 
 def tell_words(line, data, words):
+    if line == "WORDS SWEEP":
+        say(f"{line}: the sweep is wrong: {wrong_sweep(words, sources.Program(sources.Source(data)))}")
+        return
     number = int((line.split() + ["0", "0"])[1])
     if number:
         program = sources.Program(sources.Source(data))
@@ -267,7 +291,9 @@ def tell_done(command, data, output, words):
 
 def settings_of(words):
     settings = {}
-    for it in parts_of(words)[1]:
+    options, others = parts_of(words)
+    lowest = [(value or "").partition(":")[0] for name, value in options if name == "--sweep"]
+    for it in others + lowest:
         name, _, value = it.partition("=")
         if re.fullmatch(r"-?\d+", value):
             settings[name.upper()] = int(value)

@@ -6,8 +6,12 @@ use Rattle.std.specs.Str.Parse.{digits_value}
 use Rattle.std.proofs.lemmas.Bool.{and_parts}
 use Rattle.std.proofs.lemmas.Bool.Decides.{nat_tests}
 use Rattle.clap.specs.Words.{Row, Text, first_of, subcommand_of}
+use Rattle.std.specs.Prelude.{IsTrue}
+use Rattle.std.specs.List.{before_first, after_first}
 use Rattle.command_words.specs.Rule.{tool_app}
-use Rattle.command_words.specs.Wanted.{IsCounted, Takes, Wanted, bench, bench_of, by_of, choice_of, is_digit, is_numeral, make_of, planned, run, run_of, sequential, settings_of, size_of, sizes_named, sizes_of, verify, wanted_in, within, workers_of}
+use Rattle.command_words.specs.Settings.{setting_at, value_of}
+use Rattle.command_words.specs.Sweeps.{Sweep, are_bounds, is_colon, sweep_at, sweep_between, sweep_with}
+use Rattle.command_words.specs.Wanted.{IsCounted, Takes, Wanted, swept, verify_of, verify_with, bench, barrier_of, bench_of, by_of, choice_of, is_digit, is_numeral, make_of, planned, run, run_of, sequential, settings_of, size_of, sizes_named, sizes_of, wanted_in, within, workers_of}
 
 -- where a choice gives a value, the value is of the kind that its parts are
 chosen : {X : Type 0} (P : X → Type 0) (b : Bool) (x y : X) → (b ≡ true → P x) → (if b then Some x else None) ≡ Some y → P y
@@ -46,7 +50,8 @@ workers_counted rows n = bound IsCount workers_of (first_of (codes "workers") ro
 
 run_counted : (rows : List Row) (w : Wanted) → run_of rows ≡ Some w → IsCounted w
 run_counted rows w = bound IsCounted _ (option_and_then workers_of (first_of (codes "workers") rows)) w (λ n n_is. bound IsCounted _ (choice_of (first_of (codes "plan") rows)) w (λ p p_is.
-    mapped IsCounted (λ e. run n p e (settings_of rows)) (by_of (first_of (codes "by") rows)) w (λ e e_is. workers_counted rows n n_is)))
+    bound IsCounted _ (barrier_of (first_of (codes "barrier") rows)) w (λ s s_is.
+    mapped IsCounted (λ e. run n p e (settings_of rows)) (by_of s (first_of (codes "by") rows)) w (λ e e_is. workers_counted rows n n_is))))
 
 size_within : (low high : ℕ) (t : Text) (m : ℕ) → size_of low high t ≡ Some m → (low ≤ m) × (m ≤ high)
 size_within low high t m = chosen (λ k. (low ≤ k) × (k ≤ high)) (is_numeral t && (nat_le low (digits_value 10 t) && nat_le (digits_value 10 t) high)) (digits_value 10 t) m (λ h.
@@ -69,15 +74,27 @@ bench_counted rows w = bound IsCounted _ (option_and_then workers_of (first_of (
 make_counted : (rows : List Row) (w : Wanted) → make_of rows ≡ Some w → IsCounted w
 make_counted rows w = mapped IsCounted (λ n. planned n (settings_of rows)) (option_and_then workers_of (first_of (codes "workers") rows)) w (workers_counted rows)
 
+sweep_counted : (t : Text) (s : Sweep) → sweep_at t ≡ Some s → IsTrue (are_bounds s.low s.high)
+sweep_counted t s = bound (λ (s : Sweep). IsTrue (are_bounds s.low s.high)) (λ lowest. sweep_between lowest (after_first is_colon t)) (setting_at (before_first is_colon t)) s (λ lowest lowest_is.
+    bound (λ (s : Sweep). IsTrue (are_bounds s.low s.high)) (sweep_with lowest) (value_of (after_first is_colon t)) s (λ high high_is.
+    chosen (λ (s : Sweep). IsTrue (are_bounds s.low s.high)) (are_bounds lowest.1 high) (record { name = lowest.0; low = lowest.1; high = high }) s (λ h. h)))
+
+verify_counted : (rows : List Row) (w : Wanted) → verify_of rows ≡ Some w → IsCounted w
+verify_counted rows w = by_sweep (first_of (codes "sweep") rows)
+  where
+    by_sweep : (o : Option Text) → verify_with (settings_of rows) o ≡ Some w → IsCounted w
+    by_sweep None e = subst IsCounted (ap (λ o. unwrap_or o (sequential [])) e) tt
+    by_sweep (Some t) e = mapped IsCounted (λ s. swept s (settings_of rows)) (sweep_at t) w (sweep_counted t) e
+
 pub in_counted : (name : Text) (rows : List Row) (w : Wanted) → wanted_in name rows ≡ Some w → IsCounted w
 in_counted name rows w = by_name (bytes_eq name (codes "bench")) (bytes_eq name (codes "seq")) (bytes_eq name (codes "plan")) (bytes_eq name (codes "run")) (bytes_eq name (codes "verify"))
   where
-    by_name : (z a m b c : Bool) → (if z then bench_of rows else (if a then Some (sequential (settings_of rows)) else (if m then make_of rows else (if b then run_of rows else (if c then Some (verify (settings_of rows)) else None))))) ≡ Some w → IsCounted w
+    by_name : (z a m b c : Bool) → (if z then bench_of rows else (if a then Some (sequential (settings_of rows)) else (if m then make_of rows else (if b then run_of rows else (if c then verify_of rows else None))))) ≡ Some w → IsCounted w
     by_name true a m b c e = bench_counted rows w e
     by_name false true m b c e = subst IsCounted (ap (λ o. unwrap_or o (sequential [])) e) tt
     by_name false false true b c e = make_counted rows w e
     by_name false false false true c e = run_counted rows w e
-    by_name false false false false true e = subst IsCounted (ap (λ o. unwrap_or o (sequential [])) e) tt
+    by_name false false false false true e = verify_counted rows w e
     by_name false false false false false e = absent IsCounted w e
 
 -- what words stand for

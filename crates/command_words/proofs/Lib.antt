@@ -1,4 +1,5 @@
 pub mod Counted
 mod Numbers
+mod PlainSweeps
 mod PlainWords
 mod Sorts

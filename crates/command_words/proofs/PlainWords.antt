@@ -25,22 +25,22 @@ use Rattle.clap.specs.Values.{reading_of}
 use Rattle.clap.specs.declared.builder.value_parser.ValueParser.TheVariants as vp
 use Rattle.clap.proofs.OnLiterals.{clap_on_literals}
 use Rattle.command_words.specs.Rule.{tool_app}
-use Rattle.command_words.specs.Wanted.{planned, run, bench, sequential, verify, run_of, make_of, bench_of, wanted_by, workers_of, settings_of, size_of, is_numeral}
+use Rattle.command_words.specs.Wanted.{planned, run, bench, sequential, verify, verify_of, run_of, make_of, bench_of, wanted_by, workers_of, settings_of, size_of, is_numeral}
 use Rattle.clap.specs.Walk.{walk}
 use Rattle.clap.specs.Takes.{is_given}
 use Rattle.clap.specs.Faults.{check_fault}
 use Rattle.clap.specs.Simple.{entered}
-use Rattle.command_words.specs.Plain.{Name, workers, which, how, name_text, Given, value_ok, written, names, each_once, value_of, is_setting, EveryPlainBenchIsTaken, EveryPlainPlanIsTaken, EveryPlainRunIsTaken, EveryPlainSequentialIsTaken, EveryPlainVerifyIsTaken}
+use Rattle.command_words.specs.Plain.{Name, workers, which, how, barrier, name_text, Given, value_ok, written, names, each_once, value_of, is_setting, EveryPlainBenchIsTaken, EveryPlainPlanIsTaken, EveryPlainRunIsTaken, EveryPlainSequentialIsTaken, EveryPlainVerifyIsTaken}
 
 -- a command
-data Sub : Type 0 where
+pub data Sub : Type 0 where
   of_seq : Sub
   of_verify : Sub
   of_plan : Sub
   of_run : Sub
   of_bench : Sub
 
-abbrev sub_text : Sub → Text
+abbrev pub sub_text : Sub → Text
 sub_text of_seq = codes "seq"
 sub_text of_verify = codes "verify"
 sub_text of_plan = codes "plan"
@@ -63,20 +63,20 @@ name_of (in_run a) = a
 name_of in_plan = workers
 name_of in_bench = workers
 
-abbrev shape : Sub → Shape
+abbrev pub shape : Sub → Shape
 shape c = unwrap_or (find (λ s. answers_to (sub_text c) (label_of s)) (built tool_app).subs) tool_app.top
 
-abbrev rules : Sub → List Rule
+abbrev pub rules : Sub → List Rule
 rules c = (shape c).rules
 
-abbrev settings_id : Text
+abbrev pub settings_id : Text
 settings_id = codes "settings"
 
 abbrev sizes_id : Text
 sizes_id = codes "sizes"
 
 -- the id of the words behind the options
-abbrev rest_id : Sub → Text
+abbrev pub rest_id : Sub → Text
 rest_id of_seq = settings_id
 rest_id of_verify = settings_id
 rest_id of_plan = settings_id
@@ -85,7 +85,7 @@ rest_id of_bench = sizes_id
 
 -- ---- states of the walk
 
-abbrev at : List Row → Option (Text × List Text) → Waiting → Walk
+abbrev pub at : List Row → Option (Text × List Text) → Waiting → Walk
 at rows pending waiting = record {
   held = record { rows = rows; pending = pending; skip = 0 };
   waiting = waiting;
@@ -106,6 +106,7 @@ unfolding clap_on_literals
 step_name (in_run workers) R P = refl
 step_name (in_run which) R P = refl
 step_name (in_run how) R P = refl
+step_name (in_run barrier) R P = refl
 step_name in_plan R P = refl
 step_name in_bench R P = refl
 
@@ -114,6 +115,7 @@ unfolding clap_on_literals
 step_value (in_run workers) R x xs h = rw h (rw h refl)
 step_value (in_run which) R x xs h = rw h (rw h refl)
 step_value (in_run how) R x xs h = rw h (rw h refl)
+step_value (in_run barrier) R x xs h = rw h (rw h refl)
 step_value in_plan R x xs h = rw h (rw h refl)
 step_value in_bench R x xs h = rw h (rw h refl)
 
@@ -123,6 +125,7 @@ step_first of_run None R x xs h = rw h (rw h refl)
 step_first of_run (Some (workers, v)) R x xs h = rw h (rw h refl)
 step_first of_run (Some (which, v)) R x xs h = rw h (rw h refl)
 step_first of_run (Some (how, v)) R x xs h = rw h (rw h refl)
+step_first of_run (Some (barrier, v)) R x xs h = rw h (rw h refl)
 step_first of_seq None R x xs h = rw h (rw h refl)
 step_first of_verify None R x xs h = rw h (rw h refl)
 step_first of_seq (Some (workers, v)) R x xs h = rw h (rw h refl)
@@ -130,15 +133,19 @@ step_first of_verify (Some (workers, v)) R x xs h = rw h (rw h refl)
 step_first of_seq (Some (which, v)) R x xs h = rw h (rw h refl)
 step_first of_verify (Some (which, v)) R x xs h = rw h (rw h refl)
 step_first of_seq (Some (how, v)) R x xs h = rw h (rw h refl)
+step_first of_seq (Some (barrier, v)) R x xs h = rw h (rw h refl)
 step_first of_verify (Some (how, v)) R x xs h = rw h (rw h refl)
+step_first of_verify (Some (barrier, v)) R x xs h = rw h (rw h refl)
 step_first of_plan None R x xs h = rw h (rw h refl)
 step_first of_plan (Some (workers, v)) R x xs h = rw h (rw h refl)
 step_first of_plan (Some (which, v)) R x xs h = rw h (rw h refl)
 step_first of_plan (Some (how, v)) R x xs h = rw h (rw h refl)
+step_first of_plan (Some (barrier, v)) R x xs h = rw h (rw h refl)
 step_first of_bench None R x xs h = rw h (rw h refl)
 step_first of_bench (Some (workers, v)) R x xs h = rw h (rw h refl)
 step_first of_bench (Some (which, v)) R x xs h = rw h (rw h refl)
 step_first of_bench (Some (how, v)) R x xs h = rw h (rw h refl)
+step_first of_bench (Some (barrier, v)) R x xs h = rw h (rw h refl)
 
 step_more : (c : Sub) (R : List Row) (acc : List Text) (x : ℕ) (xs : Text) → (x == 45) ≡ false → walked (rules c) [] (at R (Some (rest_id c, acc)) positional) (x ∷ xs) ≡ at R (Some (rest_id c, acc ++ (x ∷ xs) ∷ [])) positional
 unfolding clap_on_literals
@@ -183,6 +190,7 @@ settled_one : (a : Name) (v : Text) (R : List Row) → has_row (name_text a) R �
 settled_one workers v R h = added workers v R h
 settled_one which v R h = added which v R h
 settled_one how v R h = added how v R h
+settled_one barrier v R h = added barrier v R h
 
 -- ---- no step has a fault
 
@@ -195,6 +203,7 @@ fault_settle of_run None R h = refl
 fault_settle of_run (Some (workers, v)) R h = rw h refl
 fault_settle of_run (Some (which, v)) R h = rw h refl
 fault_settle of_run (Some (how, v)) R h = rw h refl
+fault_settle of_run (Some (barrier, v)) R h = rw h refl
 fault_settle of_seq None R h = refl
 fault_settle of_verify None R h = refl
 fault_settle of_seq (Some (workers, v)) R h = refl
@@ -202,21 +211,26 @@ fault_settle of_verify (Some (workers, v)) R h = refl
 fault_settle of_seq (Some (which, v)) R h = refl
 fault_settle of_verify (Some (which, v)) R h = refl
 fault_settle of_seq (Some (how, v)) R h = refl
+fault_settle of_seq (Some (barrier, v)) R h = refl
 fault_settle of_verify (Some (how, v)) R h = refl
+fault_settle of_verify (Some (barrier, v)) R h = refl
 fault_settle of_plan None R h = refl
 fault_settle of_plan (Some (workers, v)) R h = rw h refl
 fault_settle of_plan (Some (which, v)) R h = refl
 fault_settle of_plan (Some (how, v)) R h = refl
+fault_settle of_plan (Some (barrier, v)) R h = refl
 fault_settle of_bench None R h = refl
 fault_settle of_bench (Some (workers, v)) R h = rw h refl
 fault_settle of_bench (Some (which, v)) R h = refl
 fault_settle of_bench (Some (how, v)) R h = refl
+fault_settle of_bench (Some (barrier, v)) R h = refl
 
 fault_name : (o : Offered) (P : Option Given) (R : List Row) → IsFresh P R → turn_fault (shape (sub_of o)) [] (at R (pend P) idle) (45 ∷ 45 ∷ name_text (name_of o)) ≡ []
 unfolding clap_on_literals
 fault_name (in_run workers) P R h = rw (fault_settle of_run P R h) refl
 fault_name (in_run which) P R h = rw (fault_settle of_run P R h) refl
 fault_name (in_run how) P R h = rw (fault_settle of_run P R h) refl
+fault_name (in_run barrier) P R h = rw (fault_settle of_run P R h) refl
 fault_name in_plan P R h = rw (fault_settle of_plan P R h) refl
 fault_name in_bench P R h = rw (fault_settle of_bench P R h) refl
 
@@ -225,6 +239,7 @@ unfolding clap_on_literals
 fault_value (in_run workers) R x xs h = rw h (rw h refl)
 fault_value (in_run which) R x xs h = rw h (rw h refl)
 fault_value (in_run how) R x xs h = rw h (rw h refl)
+fault_value (in_run barrier) R x xs h = rw h (rw h refl)
 fault_value in_plan R x xs h = rw h (rw h refl)
 fault_value in_bench R x xs h = rw h (rw h refl)
 
@@ -234,6 +249,7 @@ fault_first of_run None R x xs f h = rw h (rw h refl)
 fault_first of_run (Some (workers, v)) R x xs f h = rw h (rw (h, f) refl)
 fault_first of_run (Some (which, v)) R x xs f h = rw h (rw (h, f) refl)
 fault_first of_run (Some (how, v)) R x xs f h = rw h (rw (h, f) refl)
+fault_first of_run (Some (barrier, v)) R x xs f h = rw h (rw (h, f) refl)
 fault_first of_seq None R x xs f h = rw h (rw h refl)
 fault_first of_verify None R x xs f h = rw h (rw h refl)
 fault_first of_seq (Some (workers, v)) R x xs f h = rw h (rw h refl)
@@ -241,15 +257,19 @@ fault_first of_verify (Some (workers, v)) R x xs f h = rw h (rw h refl)
 fault_first of_seq (Some (which, v)) R x xs f h = rw h (rw h refl)
 fault_first of_verify (Some (which, v)) R x xs f h = rw h (rw h refl)
 fault_first of_seq (Some (how, v)) R x xs f h = rw h (rw h refl)
+fault_first of_seq (Some (barrier, v)) R x xs f h = rw h (rw h refl)
 fault_first of_verify (Some (how, v)) R x xs f h = rw h (rw h refl)
+fault_first of_verify (Some (barrier, v)) R x xs f h = rw h (rw h refl)
 fault_first of_plan None R x xs f h = rw h (rw h refl)
 fault_first of_plan (Some (workers, v)) R x xs f h = rw h (rw (h, f) refl)
 fault_first of_plan (Some (which, v)) R x xs f h = rw h (rw h refl)
 fault_first of_plan (Some (how, v)) R x xs f h = rw h (rw h refl)
+fault_first of_plan (Some (barrier, v)) R x xs f h = rw h (rw h refl)
 fault_first of_bench None R x xs f h = rw h (rw h refl)
 fault_first of_bench (Some (workers, v)) R x xs f h = rw h (rw (h, f) refl)
 fault_first of_bench (Some (which, v)) R x xs f h = rw h (rw h refl)
 fault_first of_bench (Some (how, v)) R x xs f h = rw h (rw h refl)
+fault_first of_bench (Some (barrier, v)) R x xs f h = rw h (rw h refl)
 
 fault_more : (c : Sub) (R : List Row) (acc : List Text) (x : ℕ) (xs : Text) → (x == 45) ≡ false → turn_fault (shape c) [] (at R (Some (rest_id c, acc)) positional) (x ∷ xs) ≡ []
 unfolding clap_on_literals
@@ -275,6 +295,7 @@ not_hyphen workers (d ∷ []) = refl
 not_hyphen workers (d ∷ e ∷ r) = refl
 not_hyphen which xs = refl
 not_hyphen how xs = refl
+not_hyphen barrier xs = refl
 
 starts : (a : Name) (x : ℕ) (xs : Text) → value_ok a (x ∷ xs) ≡ true → (x == 45) ≡ false
 starts a x xs ok = elim (eqb_tells x 45) [
@@ -286,11 +307,12 @@ not_empty : (a : Name) → value_ok a [] ≡ false
 not_empty workers = refl
 not_empty which = refl
 not_empty how = refl
+not_empty barrier = refl
 
-abbrev g : Sub → Walk → Text → Walk
+abbrev pub g : Sub → Walk → Text → Walk
 g c = walked (rules c) []
 
-fault_step : (c : Sub) (w v : Walk) (word : Text) (rest : List Text) → turn_fault (shape c) [] w word ≡ [] → g c w word ≡ v → walk_fault (shape c) [] w (word ∷ rest) ≡ walk_fault (shape c) [] v rest
+pub fault_step : (c : Sub) (w v : Walk) (word : Text) (rest : List Text) → turn_fault (shape c) [] w word ≡ [] → g c w word ≡ v → walk_fault (shape c) [] w (word ∷ rest) ≡ walk_fault (shape c) [] v rest
 unfolding walk_fault
 fault_step c w v word rest t e = ap (λ k. or_else k (walk_fault (shape c) [] (g c w word) rest)) t ∙ ap (λ s. walk_fault (shape c) [] s rest) e
 
@@ -360,10 +382,10 @@ reached_bench (x ∷ xs) rest ok =
 
 -- ---- the walk over settings
 
-hyphen_free : (x : ℕ) → not (x == 45) ≡ true → (x == 45) ≡ false
+pub hyphen_free : (x : ℕ) → not (x == 45) ≡ true → (x == 45) ≡ false
 hyphen_free x h = not-true (x == 45) h
 
-go_more : (c : Sub) (R : List Row) (acc ss : List Text) → list_all is_setting ss ≡ true
+pub go_more : (c : Sub) (R : List Row) (acc ss : List Text) → list_all is_setting ss ≡ true
     → (fold (g c) (at R (Some (rest_id c, acc)) positional) ss ≡ at R (Some (rest_id c, acc ++ ss)) positional) × (walk_fault (shape c) [] (at R (Some (rest_id c, acc)) positional) ss ≡ [])
 unfolding walk_fault
 go_more c R acc [] h = (ap (λ ts. at R (Some (rest_id c, ts)) positional) (sym (append-nil acc)), refl)
@@ -379,10 +401,10 @@ go_more c R acc ((x ∷ xs) ∷ ss) h =
 
 -- ---- the end of the walk
 
-abbrev rest_row : Text → List Text → Row
+abbrev pub rest_row : Text → List Text → Row
 rest_row id ss = record { id = id; values = ss; count = None; source = Some CommandLine; reading = reading_of vp.String }
 
-abbrev tail_rows : Text → List Text → List Row
+abbrev pub tail_rows : Text → List Text → List Row
 tail_rows id [] = []
 tail_rows id (s ∷ ss) = rest_row id (s ∷ ss) ∷ []
 
@@ -391,12 +413,14 @@ no_settings [] = refl
 no_settings ((workers, v) ∷ os) = no_settings os
 no_settings ((which, v) ∷ os) = no_settings os
 no_settings ((how, v) ∷ os) = no_settings os
+no_settings ((barrier, v) ∷ os) = no_settings os
 
 no_sizes : (os : List Given) → has_row sizes_id (map row_for os) ≡ false
 no_sizes [] = refl
 no_sizes ((workers, v) ∷ os) = no_sizes os
 no_sizes ((which, v) ∷ os) = no_sizes os
 no_sizes ((how, v) ∷ os) = no_sizes os
+no_sizes ((barrier, v) ∷ os) = no_sizes os
 
 no_rest : (c : Sub) (os : List Given) → has_row (rest_id c) (map row_for os) ≡ false
 no_rest of_seq os = no_settings os
@@ -405,7 +429,7 @@ no_rest of_plan os = no_settings os
 no_rest of_run os = no_settings os
 no_rest of_bench os = no_sizes os
 
-settled_rest : (c : Sub) (R : List Row) (s : Text) (ss : List Text) → has_row (rest_id c) R ≡ false → settled_rows (rules c) (Some (rest_id c, s ∷ ss)) R ≡ R ++ rest_row (rest_id c) (s ∷ ss) ∷ []
+pub settled_rest : (c : Sub) (R : List Row) (s : Text) (ss : List Text) → has_row (rest_id c) R ≡ false → settled_rows (rules c) (Some (rest_id c, s ∷ ss)) R ≡ R ++ rest_row (rest_id c) (s ∷ ss) ∷ []
 settled_rest of_run R s ss h = at_none settings_id (λ r. more_values CommandLine (s ∷ ss) r) (rest_row settings_id (s ∷ ss) ∷ []) R h
 settled_rest of_seq R s ss h = at_none settings_id (λ r. more_values CommandLine (s ∷ ss) r) (rest_row settings_id (s ∷ ss) ∷ []) R h
 settled_rest of_verify R s ss h = at_none settings_id (λ r. more_values CommandLine (s ∷ ss) r) (rest_row settings_id (s ∷ ss) ∷ []) R h
@@ -419,14 +443,14 @@ all_strings : (vs : List Text) → values_kinds false vp.String vs ≡ []
 all_strings [] = refl
 all_strings (v ∷ vs) = all_strings vs
 
-rest_settle : (c : Sub) (R : List Row) (s : Text) (ss : List Text) → length (s ∷ ss) < 2 ^ 64 → settle_fault (rules c) false (record { rows = R; pending = Some (rest_id c, s ∷ ss); skip = 0 }) ≡ []
+pub rest_settle : (c : Sub) (R : List Row) (s : Text) (ss : List Text) → length (s ∷ ss) < 2 ^ 64 → settle_fault (rules c) false (record { rows = R; pending = Some (rest_id c, s ∷ ss); skip = 0 }) ≡ []
 rest_settle of_run R s ss few = ap (λ k. or_else k (values_kinds false vp.String (s ∷ ss))) (range_ok (length (s ∷ ss)) (omega arith) few) ∙ all_strings (s ∷ ss)
 rest_settle of_seq R s ss few = ap (λ k. or_else k (values_kinds false vp.String (s ∷ ss))) (range_ok (length (s ∷ ss)) (omega arith) few) ∙ all_strings (s ∷ ss)
 rest_settle of_verify R s ss few = ap (λ k. or_else k (values_kinds false vp.String (s ∷ ss))) (range_ok (length (s ∷ ss)) (omega arith) few) ∙ all_strings (s ∷ ss)
 rest_settle of_plan R s ss few = ap (λ k. or_else k (values_kinds false vp.String (s ∷ ss))) (range_ok (length (s ∷ ss)) (omega arith) few) ∙ all_strings (s ∷ ss)
 rest_settle of_bench R s ss few = ap (λ k. or_else k (values_kinds false vp.String (s ∷ ss))) (range_ok (length (s ∷ ss)) (omega arith) few) ∙ all_strings (s ∷ ss)
 
-record Ended (c : Sub) (ws : List Text) (rows : List Row) : Type 0 where
+pub record Ended (c : Sub) (ws : List Text) (rows : List Row) : Type 0 where
   pub held : Held
   pub walk_is : (walk (rules c) [] nothing_held ws).held ≡ held
   pub faults : walk_fault (shape c) [] (walk_from nothing_held) ws ≡ []
@@ -505,16 +529,25 @@ first_is workers [] (s ∷ ss) = refl
 first_is workers ((workers, v) ∷ os) ss = refl
 first_is workers ((which, v) ∷ os) ss = first_is workers os ss
 first_is workers ((how, v) ∷ os) ss = first_is workers os ss
+first_is workers ((barrier, v) ∷ os) ss = first_is workers os ss
 first_is which [] [] = refl
 first_is which [] (s ∷ ss) = refl
 first_is which ((workers, v) ∷ os) ss = first_is which os ss
 first_is which ((which, v) ∷ os) ss = refl
 first_is which ((how, v) ∷ os) ss = first_is which os ss
+first_is which ((barrier, v) ∷ os) ss = first_is which os ss
 first_is how [] [] = refl
 first_is how [] (s ∷ ss) = refl
 first_is how ((workers, v) ∷ os) ss = first_is how os ss
 first_is how ((which, v) ∷ os) ss = first_is how os ss
 first_is how ((how, v) ∷ os) ss = refl
+first_is how ((barrier, v) ∷ os) ss = first_is how os ss
+first_is barrier [] [] = refl
+first_is barrier [] (s ∷ ss) = refl
+first_is barrier ((workers, v) ∷ os) ss = first_is barrier os ss
+first_is barrier ((which, v) ∷ os) ss = first_is barrier os ss
+first_is barrier ((how, v) ∷ os) ss = first_is barrier os ss
+first_is barrier ((barrier, v) ∷ os) ss = refl
 
 given_is : (a : Name) (os : List Given) (ss : List Text) → is_given (name_text a) (map row_for os ++ tail_rows settings_id ss) ≡ is_some (value_of a os)
 given_is workers [] [] = refl
@@ -522,23 +555,33 @@ given_is workers [] (s ∷ ss) = refl
 given_is workers ((workers, v) ∷ os) ss = refl
 given_is workers ((which, v) ∷ os) ss = given_is workers os ss
 given_is workers ((how, v) ∷ os) ss = given_is workers os ss
+given_is workers ((barrier, v) ∷ os) ss = given_is workers os ss
 given_is which [] [] = refl
 given_is which [] (s ∷ ss) = refl
 given_is which ((workers, v) ∷ os) ss = given_is which os ss
 given_is which ((which, v) ∷ os) ss = refl
 given_is which ((how, v) ∷ os) ss = given_is which os ss
+given_is which ((barrier, v) ∷ os) ss = given_is which os ss
 given_is how [] [] = refl
 given_is how [] (s ∷ ss) = refl
 given_is how ((workers, v) ∷ os) ss = given_is how os ss
 given_is how ((which, v) ∷ os) ss = given_is how os ss
 given_is how ((how, v) ∷ os) ss = refl
+given_is how ((barrier, v) ∷ os) ss = given_is how os ss
+given_is barrier [] [] = refl
+given_is barrier [] (s ∷ ss) = refl
+given_is barrier ((workers, v) ∷ os) ss = given_is barrier os ss
+given_is barrier ((which, v) ∷ os) ss = given_is barrier os ss
+given_is barrier ((how, v) ∷ os) ss = given_is barrier os ss
+given_is barrier ((barrier, v) ∷ os) ss = refl
 
-settings_are : (os : List Given) (ss : List Text) → settings_of (map row_for os ++ tail_rows settings_id ss) ≡ ss
+pub settings_are : (os : List Given) (ss : List Text) → settings_of (map row_for os ++ tail_rows settings_id ss) ≡ ss
 settings_are [] [] = refl
 settings_are [] (s ∷ ss) = refl
 settings_are ((workers, v) ∷ os) ss = settings_are os ss
 settings_are ((which, v) ∷ os) ss = settings_are os ss
 settings_are ((how, v) ∷ os) ss = settings_are os ss
+settings_are ((barrier, v) ∷ os) ss = settings_are os ss
 
 has_value : {X : Type 0} (f : Text → Option X) (o : Option Text) (x : X) → option_and_then f o ≡ Some x → is_some o ≡ true
 has_value f None x h = absurd (true≢false (sym (ap is_some h)))
@@ -620,7 +663,7 @@ unfolding clap_on_literals
 rest_fault k h = rw h refl
 
 -- words of a command that end with these rows have no fault, and are taken as its name with the rows
-taken : (c : Sub) (ws : List Text) (rows : List Row) → Ended c ws rows → check_fault (shape c) rows false ≡ []
+pub taken : (c : Sub) (ws : List Text) (rows : List Row) → Ended c ws rows → check_fault (shape c) rows false ≡ []
     → (fault_of tool_app (sub_text c ∷ ws) ≡ []) × (subcommand_of tool_app (sub_text c ∷ ws) ≡ Some (sub_text c, rows))
 taken of_run ws rows e check = (
   ap₂ whole_fault (top_fault of_run ws) (top_walk of_run ws) ∙ rest_fault _ (sub_fault of_run ws rows e check),
@@ -644,13 +687,13 @@ taken of_bench ws rows e check = (
 )
 
 pub every_plain_run : EveryPlainRunIsTaken
-every_plain_run os ss n p by h =
+every_plain_run os ss n p s by h =
     let ws = written os ++ ss in
     let rows = map row_for os ++ tail_rows settings_id ss in
     let e = ended of_run ws ss os (go_options [] None os ss tt h.once h.values) h.settings_ok h.few in
     let workers_given = given_is workers os ss ∙ has_value workers_of (value_of workers os) n h.workers_is in
     let found = taken of_run ws rows e (run_check rows workers_given) in
-    let run_is : run_of rows ≡ Some (run n p by ss) = rw (first_is workers os ss, first_is which os ss, first_is how os ss, settings_are os ss, h.workers_is, h.plan_is, h.by_is) refl in
+    let run_is : run_of rows ≡ Some (run n p by ss) = rw (first_is workers os ss, first_is which os ss, first_is how os ss, first_is barrier os ss, settings_are os ss, h.workers_is, h.plan_is, h.barrier_is, h.by_is) refl in
     (found.0, ap wanted_by found.1 ∙ run_is)
 
 -- a command with settings alone
@@ -669,7 +712,11 @@ every_plain_sequential ss good few =
 pub every_plain_verify : EveryPlainVerifyIsTaken
 every_plain_verify ss good few =
     let found = taken of_verify ss (tail_rows settings_id ss) (ended of_verify ss ss [] (settings_alone of_verify ss) good few) refl in
-    (found.0, ap wanted_by found.1 ∙ ap (λ ts. Some (verify ts)) (settings_are [] ss))
+    (found.0, ap wanted_by found.1 ∙ (no_sweep ss ∙ ap (λ ts. Some (verify ts)) (settings_are [] ss)))
+  where
+    no_sweep : (ss : List Text) → verify_of (tail_rows settings_id ss) ≡ Some (verify (settings_of (tail_rows settings_id ss)))
+    no_sweep [] = refl
+    no_sweep (s ∷ ss) = refl
 
 pub every_plain_plan : EveryPlainPlanIsTaken
 every_plain_plan number ss n n_is good few =

@@ -25,7 +25,7 @@ use Rattle.command_words.specs.Rule.{tool_app}
 use Rattle.clap.specs.Words.{subcommand_of}
 use Rattle.clap.specs.declared.error.Error.{Error}
 use Rattle.command_words.specs.Refusals.{IsRefused, IsValueFault, is_memory, refusal_by}
-use Rattle.command_words.specs.Wanted.{Wanted, is_shown, asks_to_show, wanted_by}
+use Rattle.command_words.specs.Wanted.{is_shown, asks_to_show, has_bad_sweep, is_fine, wanted_by}
 use Rattle.command_words.specs.declared.request.Refused.{Refused}
 use Rattle.command_words.specs.declared.request.Refused.TheVariants as refused
 
@@ -233,6 +233,11 @@ shows_not k words m h = by_cases (asks_to_show words) refl
 
 -- ---- refusals
 
+-- there is a fault where one is among them
+unfine : (k : ErrorKind) (ks : Kinds) → IsAmong k ks → is_fine ks ≡ false
+unfine k [] m = elim m [ ]
+unfine k (x ∷ xs) m = refl
+
 pub refused_by_kind : (words : List Text) (k : ErrorKind) (error : Error) → (k ≡ OutOfMemory) ⊎ IsAmong k (fault_of tool_app words) → IsRefused words (refusal_by k error)
 refused_by_kind words k error h = by_cases (is_memory k) (is_shown k) refl refl
   where
@@ -244,10 +249,11 @@ refused_by_kind words k error h = by_cases (is_memory k) (is_shown k) refl refl
     ]
     by_cases false false p q = elim h [
       | inl i ↦ absurd (true≢false (sym (ap is_memory i) ∙ p))
-      | inr m ↦ (shows_not k words m q, inl (λ empty. subst (IsAmong k) empty m))
+      | inr m ↦ ((shows_not k words m q, inl (λ empty. subst (IsAmong k) empty m)), ap (λ b. b && has_bad_sweep (subcommand_of tool_app words)) (unfine k (fault_of tool_app words) m))
     ]
 
-pub refused_by_value : (words : List Text) (w : Option Wanted) (r : Refused) → fault_of tool_app words ≡ [] → wanted_by (subcommand_of tool_app words) ≡ w → IsValueFault w r → IsRefused words r
-refused_by_value words w (refused.Shown error) none_is w_is h = elim h [ ]
-refused_by_value words w refused.Faulty none_is w_is h = (ap (list_any is_shown) none_is, inr (w_is ∙ h))
-refused_by_value words w refused.NoMemory none_is w_is h = tt
+pub refused_by_value : (words : List Text) (sub : Option (Text × List Row)) (r : Refused) → fault_of tool_app words ≡ [] → subcommand_of tool_app words ≡ sub → IsValueFault sub r → IsRefused words r
+refused_by_value words sub (refused.Shown error) none_is sub_is h = elim h [ ]
+refused_by_value words sub refused.Faulty none_is sub_is h = ((ap (list_any is_shown) none_is, inr (ap wanted_by sub_is ∙ h.0)), rw none_is (ap has_bad_sweep sub_is ∙ h.1))
+refused_by_value words sub refused.WrongSweep none_is sub_is h = ((ap (list_any is_shown) none_is, inr (ap wanted_by sub_is ∙ h.0)), rw none_is (ap has_bad_sweep sub_is ∙ h.1))
+refused_by_value words sub refused.NoMemory none_is sub_is h = tt

@@ -3,3 +3,4 @@ pub mod Wanted
 pub mod Refusals
 pub mod Plain
 pub mod Settings
+pub mod Sweeps

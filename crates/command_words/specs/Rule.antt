@@ -22,14 +22,14 @@ abbrev pub seq_app : App
 seq_app = with_rule (new_app (codes "seq")) settings_rule
 
 abbrev pub verify_app : App
-verify_app = with_rule (new_app (codes "verify")) settings_rule
+verify_app = with_rule (with_rule (new_app (codes "verify")) (option_rule (codes "sweep"))) settings_rule
 
 abbrev pub plan_app : App
 plan_app = with_rule (with_rule (new_app (codes "plan")) (required_rule (codes "workers"))) settings_rule
 
 abbrev pub run_app : App
-run_app = with_rule (with_rule (with_rule (with_rule (new_app (codes "run")) (required_rule (codes "workers")))
-    (option_rule (codes "plan"))) (option_rule (codes "by"))) settings_rule
+run_app = with_rule (with_rule (with_rule (with_rule (with_rule (new_app (codes "run")) (required_rule (codes "workers")))
+    (option_rule (codes "plan"))) (option_rule (codes "by"))) (option_rule (codes "barrier"))) settings_rule
 
 -- words behind the options: how many points, and how many sweeps
 abbrev pub sizes_rule : Rule

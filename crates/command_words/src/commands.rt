@@ -41,7 +41,15 @@ fn verify<'a>(alloc: Global) -> Result<Command<'a>, AllocError>
     ensures app { IfOk result (λ c. app_of c ≡ verify_app) }
     ensures local { IfOk result (λ c. (out-Command c).has_globals ≡ false) }
 {
-    let command = Command::new(alloc, "verify").arg(settings(alloc))?;
+    let sweep = option(
+        alloc,
+        "sweep",
+        "NAME=LOW:HIGH",
+        "Proves the plan once, where NAME is LOW, and says of each value of NAME from LOW to HIGH, at most 1000 of them, whether the plan is accepted",
+    );
+    let command = Command::new(alloc, "verify")
+        .arg(sweep)?
+        .arg(settings(alloc))?;
     Ok(command.about(
         "Says whether the plan behind the source's END line is accepted for the program",
     ))
@@ -82,10 +90,17 @@ fn run<'a>(alloc: Global) -> Result<Command<'a>, AllocError>
         "ENGINE",
         "spmd, where left out too: a worker on a thread for each processor, over words that all share; join: workers on threads that are forked and joined for each phase; core: a model of the processors",
     );
+    let barrier = option(
+        alloc,
+        "barrier",
+        "BARRIER",
+        "arrive, where left out too: a barrier waits for the counters of all others; dissemination: for signals, in rounds; says nothing of join",
+    );
     let command = Command::new(alloc, "run")
         .arg(workers(alloc))?
         .arg(plan)?
         .arg(by)?
+        .arg(barrier)?
         .arg(settings(alloc))?;
     Ok(command.about("Writes a plan, runs the program by it, and writes what it prints"))
 }

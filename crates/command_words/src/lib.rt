@@ -10,7 +10,9 @@ pub mod laws;
 mod read;
 mod request;
 mod settings;
+mod sweep;
 
 pub use crate::read::read_words;
 pub use crate::request::{Bench, Engine, PlanChoice, Refused, Request, Run};
 pub use crate::settings::{SettingFault, read_settings};
+pub use crate::sweep::Sweep;

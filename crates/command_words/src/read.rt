@@ -6,13 +6,15 @@ ghost use Rattle.std.specs.List.{list_all};
 ghost use Rattle.std.specs.Str.{bytes_eq};
 ghost use Rattle.clap.specs.Words.{first_of, rows_of, found_of, kind_of, subcommand_rows_of, fault_of};
 ghost use Rattle.clap.specs.Walk.{texts};
-ghost use Rattle.command_words.specs.Wanted.{wanted, wanted_by, wanted_in, make_of, run_of, bench_of, workers_of, plan_of, choice_of, engine_of, by_of, rest_of, settings_of, sizes_of, sizes_named, size_of, is_numeral as numeral, IsCounted, Takes, within as within_of};
-ghost use Rattle.command_words.specs.Refusals.{IsRefused, IsValueFault, refusal_of};
+ghost use Rattle.command_words.specs.Wanted.{wanted, wanted_by, wanted_in, make_of, run_of, verify_of, bench_of, workers_of, plan_of, choice_of, style_of, barrier_of, engine_of, by_of, rest_of, settings_of, sizes_of, sizes_named, size_of, is_numeral as numeral, IsCounted, Takes, within as within_of};
+ghost use Rattle.command_words.specs.Refusals.{IsRefused, IsSweepFault, IsValueFault, refusal_of};
 
 use crate::commands;
 use crate::request::{Bench, Engine, PlanChoice, Refused, Request, Run};
+use crate::sweep::sweep_in;
 use clap::error::ErrorKind;
 use clap::{ArgMatches, Error};
+use spmd_model::Style;
 use std::alloc::{AllocError, Global};
 
 // The most points of the program that `bench` runs, and the most sweeps over them.
@@ -24,8 +26,9 @@ const MOST_SWEEPS: u32 = 1_000_000;
 ///
 /// # Errors
 ///
-/// `Shown` exactly where they ask for help or for the version, `Faulty` exactly where they are none
-/// that is offered; `NoMemory` may stand in place of any answer.
+/// `Shown` exactly where they ask for help or for the version, `WrongSweep` exactly where they are
+/// offered but for the form of a sweep, `Faulty` exactly where they are none that is offered;
+/// `NoMemory` may stand in place of any answer.
 pub fn read_words<'a>(alloc: Global, words: &'a [&'a str]) -> Result<Request<'a>, Refused>
     ensures taken { IfOk result (λ request. Takes (texts words.entry.now) (wanted request)) }
     ensures counted { IfOk result (λ request. IsCounted (wanted request)) }
@@ -52,7 +55,7 @@ fn refusal(error: Error) -> Refused
 fn request<'a>(alloc: Global, matches: &ArgMatches<'a>) -> Result<Request<'a>, Refused>
     ensures taken { IfOk result (λ request. wanted_by (subcommand_rows_of matches.now) ≡ Some (wanted request)) }
     ensures counted { IfOk result (λ request. IsCounted (wanted request)) }
-    ensures refused { IfErr result (λ refused. IsValueFault (wanted_by (subcommand_rows_of matches.now)) refused) }
+    ensures refused { IfErr result (λ refused. IsValueFault (subcommand_rows_of matches.now) refused) }
 {
     match matches.subcommand() {
         None => Err(Refused::Faulty),
@@ -62,7 +65,7 @@ fn request<'a>(alloc: Global, matches: &ArgMatches<'a>) -> Result<Request<'a>, R
 
 fn request_in<'a>(alloc: Global, name: &str, inner: &ArgMatches<'a>) -> Result<Request<'a>, Refused>
     ensures taken { IfOk result (λ request. wanted_in name.now (rows_of (found_of inner.now)) ≡ Some (wanted request)) }
-    ensures refused { IfErr result (λ refused. IsValueFault (wanted_in name.now (rows_of (found_of inner.now))) refused) }
+    ensures refused { IfErr result (λ refused. IsValueFault (Some (name.now, rows_of (found_of inner.now))) refused) }
 {
     if says(name, "bench") {
         let sizes = rest(alloc, inner, "sizes")?;
@@ -76,9 +79,27 @@ fn request_in<'a>(alloc: Global, name: &str, inner: &ArgMatches<'a>) -> Result<R
     } else if says(name, "run") {
         run(inner, settings).ok_or(Refused::Faulty)
     } else if says(name, "verify") {
-        Ok(Request::Verify(settings))
+        verify(alloc, inner, settings)
     } else {
         Err(Refused::Faulty)
+    }
+}
+
+fn verify<'a>(
+    alloc: Global,
+    inner: &ArgMatches<'a>,
+    settings: Vec<&'a str>,
+) -> Result<Request<'a>, Refused>
+    requires { texts settings.items ≡ settings_of (rows_of (found_of inner.now)) }
+    ensures taken { IfOk result (λ request. verify_of (rows_of (found_of inner.now)) ≡ Some (wanted request)) }
+    ensures refused { IfErr result (λ refused. IsSweepFault (verify_of (rows_of (found_of inner.now))) refused) }
+{
+    let Some(word) = text(inner, "sweep") else {
+        return Ok(Request::Verify(settings));
+    };
+    match sweep_in(alloc, word)? {
+        Some(sweep) => Ok(Request::Sweep(sweep, settings)),
+        None => Err(Refused::WrongSweep),
     }
 }
 
@@ -96,7 +117,8 @@ fn run<'a>(inner: &ArgMatches<'a>, settings: Vec<&'a str>) -> Option<Request<'a>
 {
     let workers = workers_in(text(inner, "workers")?)?;
     let choice = plan_in(text(inner, "plan"))?;
-    let engine = engine_in(text(inner, "by"))?;
+    let style = style_in(text(inner, "barrier"))?;
+    let engine = engine_in(style, text(inner, "by"))?;
     let run = Run {
         workers,
         choice,
@@ -197,24 +219,45 @@ fn plan_named(word: &str) -> Option<PlanChoice>
     }
 }
 
-fn engine_in(word: Option<&str>) -> Option<Engine>
-    ensures { result ≡ by_of (option_map (λ s. s.now) word.entry) }
+fn style_in(word: Option<&str>) -> Option<Style>
+    ensures { result ≡ barrier_of (option_map (λ s. s.now) word.entry) }
 {
     match word {
-        None => Some(Engine::Spmd),
-        Some(word) => engine_named(word),
+        None => Some(Style::Arrive),
+        Some(word) => style_named(word),
     }
 }
 
-fn engine_named(word: &str) -> Option<Engine>
-    ensures { result ≡ engine_of word.now }
+fn style_named(word: &str) -> Option<Style>
+    ensures { result ≡ style_of word.now }
+{
+    if says(word, "arrive") {
+        Some(Style::Arrive)
+    } else if says(word, "dissemination") {
+        Some(Style::Dissemination)
+    } else {
+        None
+    }
+}
+
+fn engine_in(style: Style, word: Option<&str>) -> Option<Engine>
+    ensures { result ≡ by_of style (option_map (λ s. s.now) word.entry) }
+{
+    match word {
+        None => Some(Engine::Spmd(style)),
+        Some(word) => engine_named(style, word),
+    }
+}
+
+fn engine_named(style: Style, word: &str) -> Option<Engine>
+    ensures { result ≡ engine_of style word.now }
 {
     if says(word, "core") {
-        Some(Engine::Core)
+        Some(Engine::Core(style))
     } else if says(word, "join") {
         Some(Engine::Join)
     } else if says(word, "spmd") {
-        Some(Engine::Spmd)
+        Some(Engine::Spmd(style))
     } else {
         None
     }

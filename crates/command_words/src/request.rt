@@ -3,7 +3,9 @@
 ghost use Rattle.std.specs.Prelude.{◌≡◌};
 ghost use Rattle.command_words.specs.declared.request.Refused.TheVariants.{NoMemory};
 
+use crate::sweep::Sweep;
 use clap::Error;
+use spmd_model::Style;
 use std::alloc::AllocError;
 
 /// The plan by which a program is run.
@@ -20,12 +22,14 @@ pub enum PlanChoice {
 /// What runs a program by a plan.
 #[derive(Clone, Copy, Debug, PartialEq, Eq)]
 pub enum Engine {
-    /// A model of the processors, one act of one of them at a time.
-    Core,
+    /// A model of the processors, one act of one of them at a time, which pass barriers in this
+    /// style.
+    Core(Style),
     /// Workers on threads, which are forked and joined for each phase.
     Join,
-    /// A worker on a thread for each processor, over words that all share.
-    Spmd,
+    /// A worker on a thread for each processor, over words that all share, which pass barriers in
+    /// this style.
+    Spmd(Style),
 }
 
 /// How a program is run.
@@ -57,6 +61,9 @@ pub enum Request<'a> {
     Sequential(Vec<&'a str>),
     /// `verify`: say whether the plan behind the END line of the source is accepted.
     Verify(Vec<&'a str>),
+    /// `verify --sweep`: prove that plan once, and say of each value of a named constant whether it is
+    /// accepted.
+    Sweep(Sweep, Vec<&'a str>),
     /// `plan`: write the plan that is made for this many processors, 1 to 64, and the reasons for what it keeps.
     Plan(u32, Vec<&'a str>),
     /// `run`: write the plan for these processors, then run the program by it and write its output.
@@ -73,6 +80,8 @@ pub enum Refused {
     Shown(Error),
     /// They are none that is offered.
     Faulty,
+    /// They are offered, but that the sweep is none.
+    WrongSweep,
     /// Memory ran out.
     NoMemory,
 }

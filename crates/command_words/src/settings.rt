@@ -56,7 +56,7 @@ pub fn read_settings(alloc: Global, words: &[&str]) -> Result<Vec<Setting>, Sett
     Ok(settings)
 }
 
-fn setting_in(alloc: Global, word: &str) -> Result<Option<Setting>, AllocError>
+pub(crate) fn setting_in(alloc: Global, word: &str) -> Result<Option<Setting>, AllocError>
     ensures { IfOk result (λ setting. option_map setting_of setting ≡ setting_at word.now) }
 {
     let Some((name, value)) = word.split_once('=') else {
@@ -97,7 +97,7 @@ fn capitals(alloc: Global, name: &[u8]) -> Result<Vec<u8>, AllocError>
         .collect(alloc)
 }
 
-fn value_in(word: &str) -> Option<i64>
+pub(crate) fn value_in(word: &str) -> Option<i64>
     ensures { result ≡ value_of word.now }
 {
     // `parse` takes a plus sign

@@ -19,11 +19,12 @@ use Rattle.plan_checker.specs.Failures.{first_failure}
 use Rattle.plan_checker.specs.RefusalText.{text_of_refusal}
 use Rattle.plan_checker.specs.declared.refusal.PlanRefusal.{PlanRefusal}
 use Rattle.plan_checker.specs.declared.refusal.PlanRefusal.TheVariants.{Shape}
-use Rattle.plan_checker.proofs.Certified.{accepted_where_none}
-use Rattle.command_words.specs.Wanted.{Wanted, sequential, verify, planned, run, bench}
+use Rattle.plan_checker.specs.Proved.{first_unproved}
+use Rattle.plan_checker.proofs.Certified.{accepted_where_none, proved_where_none}
+use Rattle.command_words.specs.Wanted.{Wanted, sequential, verify, swept, planned, run, bench}
 use Rattle.command_words.specs.declared.request.PlanChoice.TheVariants.{Made, Barrier, Given}
-use Rattle.spmd_answer.specs.Due.{Due, IsDueOf, IsDueOn, IsFirstOr, IsRefusalFor, IsTextFor, behind_end, behind_of, done, due_of_refusal, line, makes_plan, plan_refused, unaccepted, written}
-use Rattle.spmd_answer.specs.Given.{HasWorkers, IsRefusedPlan, IsTakenPlan, first_reason, no_text, unfit}
+use Rattle.spmd_answer.specs.Due.{Due, IsDueOf, IsDueOn, IsFirstOr, IsRefusalFor, IsTextFor, Readings, readings, settings_for, swept_text, behind_end, behind_of, done, due_of_refusal, line, makes_plan, plan_refused, unaccepted, written}
+use Rattle.spmd_answer.specs.Given.{HasWorkers, IsProvedPlan, IsRefusedBy, IsRefusedPlan, IsTakenPlan, IsUnprovedPlan, first_reason, no_text, unfit}
 
 -- ---- bytes are a plan's text or have a first line that no plan's text has
 
@@ -81,27 +82,40 @@ taken_where_none (Some workers) tree bytes plan shown is none =
     let both = same_workers (plan.workers == workers) plan workers (first_failure tree plan) refl none in
     record { shown = shown; bytes_are = is; workers_are = both.0; accepted = accepted_where_none tree plan both.1 }
 
-refused_or_taken : (asked : Option ℕ) (tree : Tree) (bytes : List ℕ) → ((text : List ℕ) → IsRefusedPlan asked tree bytes text → ⊥) → ((plan : Plan) → IsTakenPlan asked tree bytes plan → ⊥) → ⊥
-refused_or_taken asked tree bytes unrefused untaken =
-    read_or_alien bytes (λ text. by_reason text.0 text.1 text.2 (first_reason asked tree text.0) refl)
+-- bytes are refused as a plan, or are the text of one against which there is no reason
+refused_or_fine : (reason_of : Plan → Option PlanRefusal) (bytes : List ℕ) → ((text : List ℕ) → IsRefusedBy reason_of bytes text → ⊥) → ((plan : Plan) → HasText plan → bytes ≡ plan_text plan → reason_of plan ≡ None → ⊥) → ⊥
+refused_or_fine reason_of bytes unrefused unfine =
+    read_or_alien bytes (λ text. by_reason text.0 text.1 text.2 (reason_of text.0) refl)
     (λ n alien. unrefused (codes "PLAN SYNTAX " ++ decimal n) (no_text n alien refl))
   where
-    by_reason : (plan : Plan) → HasText plan → bytes ≡ plan_text plan → (o : Option PlanRefusal) → first_reason asked tree plan ≡ o → ⊥
-    by_reason plan shown is None first = untaken plan (taken_where_none asked tree bytes plan shown is first)
+    by_reason : (plan : Plan) → HasText plan → bytes ≡ plan_text plan → (o : Option PlanRefusal) → reason_of plan ≡ o → ⊥
+    by_reason plan shown is None first = unfine plan shown is first
     by_reason plan shown is (Some reason) first = unrefused (text_of_refusal reason) (unfit plan shown is reason first refl)
+
+refused_or_taken : (asked : Option ℕ) (tree : Tree) (bytes : List ℕ) → ((text : List ℕ) → IsRefusedPlan asked tree bytes text → ⊥) → ((plan : Plan) → IsTakenPlan asked tree bytes plan → ⊥) → ⊥
+refused_or_taken asked tree bytes unrefused untaken =
+    refused_or_fine (first_reason asked tree) bytes unrefused (λ plan shown is none. untaken plan (taken_where_none asked tree bytes plan shown is none))
+
+refused_or_proved : (tree : Tree) (bytes : List ℕ) → ((text : List ℕ) → IsUnprovedPlan tree bytes text → ⊥) → ((plan : Plan) → IsProvedPlan tree bytes plan → ⊥) → ⊥
+refused_or_proved tree bytes unrefused unproved =
+    refused_or_fine (first_unproved tree) bytes unrefused
+    (λ plan shown is none. unproved plan (record { shown = shown; bytes_are = is; proved = proved_where_none tree plan none }))
 
 -- ---- due for a request
 
-on_program : (wanted : Wanted) (tree : Tree) (bytes : List ℕ) → makes_plan wanted ≡ false → ((due : Due) → IsDueOn wanted tree bytes due → ⊥) → ⊥
-on_program (sequential settings) tree bytes fixed none = none (done (output_of tree)) (written (output_of tree) refl refl)
-on_program (verify settings) tree bytes fixed none =
+on_program : (wanted : Wanted) (tree : Tree) (at : Readings) (bytes : List ℕ) → makes_plan wanted ≡ false → ((due : Due) → IsDueOn wanted tree at bytes due → ⊥) → ⊥
+on_program (sequential settings) tree at bytes fixed none = none (done (output_of tree)) (written (output_of tree) refl refl)
+on_program (verify settings) tree at bytes fixed none =
     refused_or_taken None tree bytes (λ text is. none (plan_refused text) (unaccepted text is refl))
     (λ plan is. none (done (line (codes "ACCEPTED"))) (written (line (codes "ACCEPTED")) (plan, is, refl) refl))
-on_program (planned workers settings) tree bytes fixed none = absurd (true≢false fixed)
-on_program (run workers Made by settings) tree bytes fixed none = absurd (true≢false fixed)
-on_program (run workers Barrier by settings) tree bytes fixed none = absurd (true≢false fixed)
-on_program (bench workers points sweeps) tree bytes fixed none = absurd (true≢false fixed)
-on_program (run workers Given by settings) tree bytes fixed none =
+on_program (swept s settings) tree at bytes fixed none =
+    refused_or_proved tree bytes (λ text is. none (plan_refused text) (unaccepted text is refl))
+    (λ plan is. none (done (swept_text tree plan (at s) s)) (written (swept_text tree plan (at s) s) (plan, is, refl) refl))
+on_program (planned workers settings) tree at bytes fixed none = absurd (true≢false fixed)
+on_program (run workers Made by settings) tree at bytes fixed none = absurd (true≢false fixed)
+on_program (run workers Barrier by settings) tree at bytes fixed none = absurd (true≢false fixed)
+on_program (bench workers points sweeps) tree at bytes fixed none = absurd (true≢false fixed)
+on_program (run workers Given by settings) tree at bytes fixed none =
     refused_or_taken (Some workers) tree bytes (λ text is. none (plan_refused text) (unaccepted text is refl))
     (λ plan is. none (done (plan_text plan ++ output_of tree)) (written (plan_text plan ++ output_of tree) (plan, (is, refl)) refl))
 
@@ -112,5 +126,6 @@ first_never (Some d) IsElse never none = none d refl
 
 pub never_none : (wanted : Wanted) (settings : List (Name × ℤ)) (bytes : List ℕ) → makes_plan wanted ≡ false → ((due : Due) → IsDueOf wanted settings bytes due → ⊥) → ⊥
 never_none wanted settings bytes fixed =
-    let tree = program_in (entries_of bytes) settings in
-    first_never (due_of_refusal (behind_of wanted) bytes settings) (IsDueOn wanted tree (behind_end bytes)) (on_program wanted tree (behind_end bytes) fixed)
+    let all = settings_for wanted settings in
+    let tree = program_in (entries_of bytes) all in
+    first_never (due_of_refusal (behind_of wanted) bytes all) (IsDueOn wanted tree (readings settings bytes) (behind_end bytes)) (on_program wanted tree (readings settings bytes) (behind_end bytes) fixed)

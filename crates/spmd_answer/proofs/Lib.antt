@@ -2,4 +2,5 @@ pub mod Answering
 pub mod Benches
 pub mod Existence
 pub mod Statuses
+mod Sweeps
 pub mod Unique

@@ -9,9 +9,10 @@ ghost use Rattle.nest_model.specs.Ranges.{IsInRange};
 ghost use Rattle.command_words.specs.Wanted.{IsCounted, bench, planned, run, sequential, verify, wanted};
 ghost use Rattle.f77_source.specs.Sources.{setting_of};
 ghost use Rattle.spmd_answer.specs.Due as due;
-ghost use Rattle.spmd_answer.specs.Due.{IsDueOf, IsDueOn};
+ghost use Rattle.spmd_answer.specs.Due.{IsDueOf, IsDueOn, Readings};
 ghost use Rattle.spmd_answer.specs.Receipts.{HasReceipt, HasReceiptOf};
 ghost use Rattle.spmd_answer.specs.Stops.{due_in};
+ghost use Rattle.spmd_answer.specs.Inputs.{readings_of};
 
 use crate::bench::bench_run;
 use crate::given::given_plan;
@@ -21,7 +22,7 @@ use crate::program::program_of;
 use crate::run::{sequential_output, text_of_plan, text_of_run};
 use crate::source::behind_of;
 use crate::status::{Answer, Status, Stop};
-use cell_table::Receipt;
+use crate::sweep::{Input, settings_for, swept};
 use command_words::{Bench, Request, Run};
 use f77_lines::MOST_BYTES;
 use f77_source::Setting;
@@ -31,6 +32,7 @@ use spmd_ports::Gate;
 use std::alloc::{AllocError, Global};
 use std::sync::Wait;
 use std::thread::Threads;
+use styled_table::Receipt;
 
 /// What is due for a request with these settings and the bytes of a source: of a source that is
 /// refused the line that says so; else of a plan that is given and refused the line that says so;
@@ -47,10 +49,16 @@ pub fn answer_to<R: Threads + Wait + Sync, G: Gate + Sync>(
     ensures due { IfOk result (λ r. IsDueOf (wanted request.now) (map setting_of settings.now) bytes.now (due_in r.0)) }
     ensures receipt { IfOk result (λ r. HasReceiptOf (wanted request.now) (map setting_of settings.now) bytes.now (due_in r.0) r.1) }
 {
-    match program_of(host.alloc, bytes, settings, behind_of(request)) {
+    let given = settings_for(host.alloc, request, settings)?;
+    match program_of(host.alloc, bytes, &given, behind_of(request)) {
         Ok(read) => {
             let behind = from_place(bytes, read.1);
-            answer_on(host, request, &read.0, behind)
+            let input = Input {
+                settings,
+                bytes,
+                behind,
+            };
+            answer_on(host, request, &read.0, &input)
         }
         Err(stop) => Ok((answer_in(stop)?, None)),
     }
@@ -66,8 +74,8 @@ fn from_place(bytes: &[u8], place: usize) -> &[u8]
     rest
 }
 
-// The answer with which something is refused. The error is that memory ran out.
-fn answer_in(stop: Stop) -> Result<Answer, AllocError>
+/// The answer with which something is refused. The error is that memory ran out.
+pub(crate) fn answer_in(stop: Stop) -> Result<Answer, AllocError>
     ensures { IfOk result (λ answer. stop ≡ Stop.Refused answer) }
 {
     match stop {
@@ -76,27 +84,29 @@ fn answer_in(stop: Stop) -> Result<Answer, AllocError>
     }
 }
 
-/// What is due for a request on a program, with these bytes behind its END line, and the receipt of
-/// a run by spmd. Workers pass the gate. The error is that memory ran out.
+/// What is due for a request on a program, which was read from this input, and the receipt of a run
+/// by spmd. Workers pass the gate. The error is that memory ran out.
 pub fn answer_on<R: Threads + Wait + Sync, G: Gate + Sync>(
     host: &Host<'_, R, G>,
     request: &Request,
     program: &Program,
-    bytes: &[u8],
+    input: &Input,
 ) -> Result<(Answer, Option<Receipt>), AllocError>
-    requires short { length bytes.now ≤ MOST_BYTES }
+    requires short { length input.now.bytes.now ≤ MOST_BYTES }
+    requires behind { length input.now.behind.now ≤ MOST_BYTES }
     requires counted { IsCounted (wanted request.now) }
     requires formed { IsWellFormed (tree_of program.now) }
     requires limits { IsWithinLimits (tree_of program.now) }
     requires ranges { IsInRange (tree_of program.now) }
-    ensures due { IfOk result (λ r. IsDueOn (wanted request.now) (tree_of program.now) bytes.now (due_in r.0)) }
-    ensures receipt { IfOk result (λ r. HasReceipt (wanted request.now) (tree_of program.now) bytes.now (due_in r.0) r.1) }
+    ensures due { IfOk result (λ r. IsDueOn (wanted request.now) (tree_of program.now) (readings_of input.now) input.now.behind.now (due_in r.0)) }
+    ensures receipt { IfOk result (λ r. HasReceipt (wanted request.now) (tree_of program.now) input.now.behind.now (due_in r.0) r.1) }
 {
     match request {
         Request::Sequential(_) => sequential_run(host.alloc, program),
-        Request::Verify(_) => verified(host.rt, host.alloc, program, bytes),
+        Request::Verify(_) => verified(host.rt, host.alloc, program, input.behind),
+        Request::Sweep(sweep, _) => Ok((swept(host, program, sweep, input)?, None)),
         Request::Plan(workers, _) => made_plan(host.alloc, program, *workers),
-        Request::Run(asked, _) => planned_run(host, program, bytes, *asked),
+        Request::Run(asked, _) => planned_run(host, program, input.behind, *asked),
         Request::Bench(bench) => benched(host, program, *bench),
     }
 }
@@ -114,7 +124,7 @@ fn planned_run<R: Threads + Wait + Sync, G: Gate + Sync>(
     requires formed { IsWellFormed (tree_of program.now) }
     requires limits { IsWithinLimits (tree_of program.now) }
     requires ranges { IsInRange (tree_of program.now) }
-    ensures due { (settings : List Text) → IfOk result (λ r. IsDueOn (run asked.workers asked.choice asked.engine settings) (tree_of program.now) bytes.now (due_in r.0)) }
+    ensures due { (settings : List Text) (at : Readings) → IfOk result (λ r. IsDueOn (run asked.workers asked.choice asked.engine settings) (tree_of program.now) at bytes.now (due_in r.0)) }
     ensures receipt { (settings : List Text) → IfOk result (λ r. HasReceipt (run asked.workers asked.choice asked.engine settings) (tree_of program.now) bytes.now (due_in r.0) r.1) }
 {
     match plan_for(host, program, bytes, asked) {
@@ -137,14 +147,15 @@ fn benched<R: Threads + Wait + Sync, G: Gate + Sync>(
     requires formed { IsWellFormed (tree_of program.now) }
     requires limits { IsWithinLimits (tree_of program.now) }
     requires ranges { IsInRange (tree_of program.now) }
-    ensures due { (bytes : List ℕ) → IfOk result (λ r. IsDueOn (bench sizes.workers sizes.points sizes.sweeps) (tree_of program.now) bytes (due_in r.0)) }
+    ensures due { (at : Readings) (bytes : List ℕ) → IfOk result (λ r. IsDueOn (bench sizes.workers sizes.points sizes.sweeps) (tree_of program.now) at bytes (due_in r.0)) }
     ensures receipt { (bytes : List ℕ) → IfOk result (λ r. HasReceipt (bench sizes.workers sizes.points sizes.sweeps) (tree_of program.now) bytes (due_in r.0) r.1) }
 {
     let (text, receipt) = bench_run(host, program, sizes)?;
     Ok((done(text), receipt))
 }
 
-fn done(text: Vec<u8>) -> Answer
+/// All was done, with this text.
+pub(crate) fn done(text: Vec<u8>) -> Answer
     ensures { due_in result ≡ due.done text.items }
 {
     Answer {
@@ -157,7 +168,7 @@ fn sequential_run(alloc: Global, program: &Program) -> Result<(Answer, Option<Re
     requires formed { IsWellFormed (tree_of program.now) }
     requires limits { IsWithinLimits (tree_of program.now) }
     requires ranges { IsInRange (tree_of program.now) }
-    ensures due { (settings : List Text) (bytes : List ℕ) → IfOk result (λ r. IsDueOn (sequential settings) (tree_of program.now) bytes (due_in r.0)) }
+    ensures due { (settings : List Text) (at : Readings) (bytes : List ℕ) → IfOk result (λ r. IsDueOn (sequential settings) (tree_of program.now) at bytes (due_in r.0)) }
     ensures receipt { (settings : List Text) (bytes : List ℕ) → IfOk result (λ r. HasReceipt (sequential settings) (tree_of program.now) bytes (due_in r.0) r.1) }
 {
     Ok((done(sequential_output(alloc, program)?), None))
@@ -173,7 +184,7 @@ fn verified<R: Threads + Sync>(
     requires short { length bytes.now ≤ MOST_BYTES }
     requires formed { IsWellFormed (tree_of program.now) }
     requires limits { IsWithinLimits (tree_of program.now) }
-    ensures due { (settings : List Text) → IfOk result (λ r. IsDueOn (verify settings) (tree_of program.now) bytes.now (due_in r.0)) }
+    ensures due { (settings : List Text) (at : Readings) → IfOk result (λ r. IsDueOn (verify settings) (tree_of program.now) at bytes.now (due_in r.0)) }
     ensures receipt { (settings : List Text) → IfOk result (λ r. HasReceipt (verify settings) (tree_of program.now) bytes.now (due_in r.0) r.1) }
 {
     match given_plan(rt, alloc, program, bytes, None) {
@@ -198,7 +209,7 @@ fn made_plan(
     requires limits { IsWithinLimits (tree_of program.now) }
     requires some { 1 ≤ workers }
     requires few { workers ≤ 64 }
-    ensures due { (settings : List Text) (bytes : List ℕ) → IfOk result (λ r. IsDueOn (planned workers settings) (tree_of program.now) bytes (due_in r.0)) }
+    ensures due { (settings : List Text) (at : Readings) (bytes : List ℕ) → IfOk result (λ r. IsDueOn (planned workers settings) (tree_of program.now) at bytes (due_in r.0)) }
     ensures receipt { (settings : List Text) (bytes : List ℕ) → IfOk result (λ r. HasReceipt (planned workers settings) (tree_of program.now) bytes (due_in r.0) r.1) }
 {
     let (plan, reasons) = make(alloc, program, workers)?;

@@ -11,15 +11,16 @@ ghost use Rattle.spmd_answer.specs.Receipts.{IsRunOf};
 
 use crate::host::Host;
 use crate::run::{joined, output_by};
-use cell_table::Receipt;
 use command_words::{Bench, Engine};
 use nest_tree::Program;
 use plan_maker::make;
+use spmd_model::Style;
 use spmd_ports::Gate;
 use std::alloc::{AllocError, Global};
 use std::fmt::Write;
 use std::sync::Wait;
 use std::thread::Threads;
+use styled_table::Receipt;
 use sync_plan::{Kind, Plan};
 
 /// The source of the program that `bench` runs. The error is that memory ran out.
@@ -53,7 +54,7 @@ pub fn bench_run<R: Threads + Wait + Sync, G: Gate + Sync>(
 {
     let (plan, _) = make(host.alloc, program, bench.workers)?;
     let head = bench_head(host.alloc, bench, &plan)?;
-    let (output, receipt) = output_by(host, program, &plan, Engine::Spmd)?;
+    let (output, receipt) = output_by(host, program, &plan, Engine::Spmd(Style::Arrive))?;
     Ok((joined(head, &output)?, receipt))
 }
 

@@ -1,13 +1,14 @@
 // A plan that is given as bytes.
 
-ghost use Rattle.std.specs.Prelude.{◌≡◌, ◌≢◌, ◌≤◌, Some, IfErr, IfOk, OnOk, length};
+ghost use Rattle.std.specs.Prelude.{◌≡◌, ◌≢◌, ◌≤◌, Option, Some, IfErr, IfOk, OnOk, length};
 ghost use Rattle.nest_tree.specs.Limits.{IsWithinLimits};
 ghost use Rattle.nest_tree.specs.View.{tree_of};
 ghost use Rattle.nest_tree.specs.WellFormed.{IsWellFormed};
+ghost use Rattle.plan_text.specs.PlanText.{HasText, plan_text};
 ghost use Rattle.plan_checker.specs.Accepted.{IsAccepted};
 ghost use Rattle.plan_checker.specs.declared.refusal.PlanRefusal.TheVariants as reasons;
 ghost use Rattle.spmd_answer.specs.Given.{HasWorkers, IsTakenPlan, first_reason};
-ghost use Rattle.spmd_answer.specs.Stops.{IsPlanStop};
+ghost use Rattle.spmd_answer.specs.Stops.{IsPlanStop, IsStopBy};
 
 use crate::refusals::{plan_answer, syntax_answer};
 use crate::status::Stop;
@@ -39,15 +40,30 @@ pub fn given_plan<R: Threads + Sync>(
     ensures taken { IfOk result (IsTakenPlan asked (tree_of program.now) bytes.now) }
     ensures refused { IfErr result (IsPlanStop asked (tree_of program.now) bytes.now) }
 {
-    let plan = match read_plan(alloc, bytes) {
-        Ok(plan) => plan,
-        Err(PlanSyntax::Line(number)) => return Err(Stop::Refused(syntax_answer(alloc, number)?)),
-        Err(PlanSyntax::NoMemory) => return Err(Stop::NoMemory),
-    };
+    let plan = plan_in(alloc, bytes)?;
     match check_asked(rt, alloc, program, &plan, asked) {
         Ok(()) => Ok(plan),
         Err(PlanRefusal::NoMemory) => Err(Stop::NoMemory),
         Err(reason) => Err(Stop::Refused(plan_answer(alloc, reason)?)),
+    }
+}
+
+/// The plan whose text the bytes are.
+///
+/// # Errors
+///
+/// `Refused` exactly with the first line that no plan's text has. `NoMemory` may stand in place of
+/// any answer.
+pub fn plan_in(alloc: Global, bytes: &[u8]) -> Result<Plan, Stop>
+    requires short { length bytes.now ≤ MOST_BYTES }
+    ensures shown { IfOk result HasText }
+    ensures bytes { IfOk result (λ plan. bytes.now ≡ plan_text plan) }
+    ensures refused { (reason_of : Plan → Option PlanRefusal) → IfErr result (IsStopBy reason_of bytes.now) }
+{
+    match read_plan(alloc, bytes) {
+        Ok(plan) => Ok(plan),
+        Err(PlanSyntax::Line(number)) => Err(Stop::Refused(syntax_answer(alloc, number)?)),
+        Err(PlanSyntax::NoMemory) => Err(Stop::NoMemory),
     }
 }
 

@@ -12,6 +12,7 @@
 //! - [`tree`]: whether a program keeps within its limits and its subscripts in their ranges.
 //! - [`run`]: what a program's run writes, by each engine.
 //! - [`refusals`]: the lines with which a source, a setting or a plan is refused.
+//! - [`sweep`]: a plan that is proved once, for the values of a named constant.
 //! - [`status`]: how a command ends, answers, and why there is no program to run.
 #![tactic(auto)]
 
@@ -26,6 +27,7 @@ pub mod refusals;
 pub mod run;
 pub mod source;
 pub mod status;
+pub mod sweep;
 pub mod tree;
 
 pub use crate::answer::{answer_on, answer_to};

@@ -48,21 +48,26 @@ pub fn program_of(
     ensures refused { IfErr result (IsStop (due_of_refusal behind bytes.now (map setting_of settings.now))) }
 {
     let (lines, rest) = lines_of(alloc, bytes, behind)?;
-    let program = read(alloc, &lines, settings)?;
+    let program = read(alloc, &lines, settings, behind)?;
     check_tree(alloc, &program)?;
     Ok((program, rest))
 }
 
 // The program of what is listed.
-fn read(alloc: Global, lines: &[Line], settings: &[Setting]) -> Result<Program, Stop>
+fn read(
+    alloc: Global,
+    lines: &[Line],
+    settings: &[Setting],
+    behind: Behind,
+) -> Result<Program, Stop>
     ensures none { OnOk result (first_fault_in (map entry_of lines.now) (map setting_of settings.now) ≡ None) }
     ensures program { IfOk result (λ p. tree_of p ≡ program_in (map entry_of lines.now) (map setting_of settings.now)) }
     ensures formed { (bytes : List ℕ) (rest : ℕ) → Lists bytes (map entry_of lines.now) rest → IfOk result (λ p. IsWellFormed (tree_of p)) }
-    ensures refused { IfErr result (IsStop (option_map due_of_fault (first_fault_in (map entry_of lines.now) (map setting_of settings.now)))) }
+    ensures refused { IfErr result (IsStop (option_map (due_of_fault behind) (first_fault_in (map entry_of lines.now) (map setting_of settings.now)))) }
 {
     match read_program(alloc, lines, settings) {
         Ok(program) => Ok(program),
         Err(Refusal::NoMemory) => Err(Stop::NoMemory),
-        Err(refusal) => Err(Stop::Refused(fault_answer(alloc, refusal)?)),
+        Err(refusal) => Err(Stop::Refused(fault_answer(alloc, refusal, behind)?)),
     }
 }

@@ -7,10 +7,11 @@ ghost use Rattle.f77_lines.specs.RefusalText.{text_of_refusal};
 ghost use Rattle.plan_checker.specs.RefusalText.{text_of_refusal as text_of_reason};
 ghost use Rattle.range_check.specs.OutsideText.{text_of_outside};
 ghost use Rattle.f77_program.specs.declared.refusal.Refusal.TheVariants as variants;
-ghost use Rattle.spmd_answer.specs.Due.{due_of_fault, plan_refused, refused};
+ghost use Rattle.spmd_answer.specs.Due.{due_of_fault, due_of_name, plan_refused, refused, wrong_setting, wrong_sweep};
 ghost use Rattle.spmd_answer.specs.Faults.{fault_in};
 ghost use Rattle.spmd_answer.specs.Stops.{due_in};
 
+use crate::source::Behind;
 use crate::status::{Answer, Status};
 use f77_lines::LineRefusal;
 use f77_program::Refusal;
@@ -54,18 +55,54 @@ pub fn range_answer(alloc: Global, outside: OutOfRange) -> Result<Answer, AllocE
 }
 
 /// A source with this fault in a statement, or a setting that names no named constant.
-pub fn fault_answer(alloc: Global, refusal: Refusal) -> Result<Answer, AllocError>
+pub fn fault_answer(alloc: Global, refusal: Refusal, behind: Behind) -> Result<Answer, AllocError>
     requires { refusal ≢ variants.NoMemory }
-    ensures { IfOk result (λ a. due_in a ≡ due_of_fault (fault_in refusal)) }
+    ensures { IfOk result (λ a. due_in a ≡ due_of_fault behind (fault_in refusal)) }
 {
-    let status = match refusal {
-        Refusal::BadSetting(_) => Status::BadWords,
-        Refusal::Statement(..) | Refusal::NoMemory => Status::SourceRefused,
-    };
+    if let Refusal::BadSetting(index) = refusal {
+        return name_answer(alloc, index, behind);
+    }
     let text = format!(in alloc; "{refusal}\n")?;
     Ok(Answer {
-        status,
+        status: Status::SourceRefused,
         text: text.into_bytes(),
+    })
+}
+
+// A setting, by its number from 1, that names no named constant; of a sweep the first is its own.
+fn name_answer(alloc: Global, index: usize, behind: Behind) -> Result<Answer, AllocError>
+    ensures { IfOk result (λ a. due_in a ≡ due_of_name behind index) }
+{
+    match behind {
+        Behind::Comments | Behind::PlanText => setting_answer(alloc, index),
+        Behind::SweptPlan => {
+            if index == 1 {
+                sweep_answer(alloc)
+            } else {
+                setting_answer(alloc, index.saturating_sub(1))
+            }
+        }
+    }
+}
+
+/// A setting, by its number from 1, that isn't taken; 0 stands for all words.
+pub fn setting_answer(alloc: Global, index: usize) -> Result<Answer, AllocError>
+    ensures { IfOk result (λ a. due_in a ≡ wrong_setting index) }
+{
+    let text = format!(in alloc; "WORDS {index}\n")?;
+    Ok(Answer {
+        status: Status::BadWords,
+        text: text.into_bytes(),
+    })
+}
+
+/// A sweep that isn't taken.
+pub fn sweep_answer(alloc: Global) -> Result<Answer, AllocError>
+    ensures { IfOk result (λ a. due_in a ≡ wrong_sweep) }
+{
+    Ok(Answer {
+        status: Status::BadWords,
+        text: b"WORDS SWEEP\n".to_vec(alloc)?,
     })
 }
 

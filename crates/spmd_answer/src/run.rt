@@ -13,7 +13,6 @@ ghost use Rattle.sync_plan.specs.Ordered.{IsOrdered};
 ghost use Rattle.spmd_answer.specs.Receipts.{IsLeftBy};
 
 use crate::host::Host;
-use cell_table::Receipt;
 use command_words::Engine;
 use fork_join::run_join;
 use nest_tree::Program;
@@ -24,10 +23,11 @@ use seq_meaning::run_sequential;
 use spmd_machine::Machine;
 use spmd_model::Style;
 use spmd_ports::Gate;
-use spmd_run::run_spmd;
 use std::alloc::{AllocError, Global};
 use std::sync::Wait;
 use std::thread::Threads;
+use styled_run::run_spmd_with;
+use styled_table::Receipt;
 use sync_plan::Plan;
 
 /// What a program prints. The error is that memory ran out.
@@ -90,13 +90,13 @@ pub fn output_by<R: Threads + Wait + Sync, G: Gate + Sync>(
 {
     let alloc = host.alloc;
     match engine {
-        Engine::Core => Ok((core_output(alloc, program, plan)?, None)),
+        Engine::Core(style) => Ok((core_output(alloc, program, plan, style)?, None)),
         Engine::Join => {
             let (_, output) = run_join(host.rt, alloc, program, plan, host.gate)?;
             Ok((output.as_slice().to_vec(alloc)?, None))
         }
-        Engine::Spmd => {
-            let (closed, output) = run_spmd(host.rt, alloc, program, plan, host.gate)?;
+        Engine::Spmd(style) => {
+            let (closed, output) = run_spmd_with(host.rt, alloc, program, plan, host.gate, style)?;
             let output = output.as_slice().to_vec(alloc)?;
             Ok((output, Some(closed.into_receipt())))
         }
@@ -118,8 +118,14 @@ pub fn text_of_plan(
     Ok(text)
 }
 
-// The output of a run by an ordered plan on the model, in rounds of one step per processor.
-fn core_output(alloc: Global, program: &Program, plan: &Plan) -> Result<Vec<u8>, AllocError>
+// The output of a run by an ordered plan on the model, in rounds of one step per processor, which
+// pass barriers in this style.
+fn core_output(
+    alloc: Global,
+    program: &Program,
+    plan: &Plan,
+    style: Style,
+) -> Result<Vec<u8>, AllocError>
     requires formed { IsWellFormed (tree_of program.now) }
     requires limits { IsWithinLimits (tree_of program.now) }
     requires ranges { IsInRange (tree_of program.now) }
@@ -127,7 +133,7 @@ fn core_output(alloc: Global, program: &Program, plan: &Plan) -> Result<Vec<u8>,
     requires ordered { IsOrdered (tree_of program.now) plan.now }
     ensures { IfOk result (λ text. text.items ≡ output_of (tree_of program.now)) }
 {
-    let mut machine = Machine::new(alloc, program, plan, Style::Arrive)?;
+    let mut machine = Machine::new(alloc, program, plan, style)?;
     machine.round_robin();
     machine.output().as_slice().to_vec(alloc)
 }

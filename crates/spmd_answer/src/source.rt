@@ -20,6 +20,8 @@ pub enum Behind {
     Comments,
     /// The text of a plan, or what is refused as one.
     PlanText,
+    /// The same for a sweep, of which the first setting is.
+    SweptPlan,
 }
 
 /// What may stand behind the END line for a request.
@@ -29,6 +31,7 @@ pub fn behind_of(request: &Request) -> Behind
     match request {
         Request::Sequential(_) | Request::Plan(..) | Request::Bench(_) => Behind::Comments,
         Request::Verify(_) => Behind::PlanText,
+        Request::Sweep(..) => Behind::SweptPlan,
         Request::Run(run, _) => match run.choice {
             PlanChoice::Made | PlanChoice::Barrier => Behind::Comments,
             PlanChoice::Given => Behind::PlanText,
@@ -70,7 +73,7 @@ fn check_rest(alloc: Global, bytes: &[u8], rest: usize, behind: Behind) -> Resul
     ensures refused { IfErr result (IsStop (due_of_rest behind bytes.now)) }
 {
     match behind {
-        Behind::PlanText => Ok(()),
+        Behind::PlanText | Behind::SweptPlan => Ok(()),
         Behind::Comments => match first_behind(bytes, rest) {
             None => Ok(()),
             Some(line) => Err(Stop::Refused(line_answer(alloc, LineRefusal::AfterEnd(line))?)),

@@ -1,12 +1,14 @@
 // Sources and requests with what is due for them; what no clause says is that memory is not
 // refused where there is enough.
 
+ghost use Rattle.std.specs.Prelude.{IfOk};
 ghost use Rattle.command_words.specs.Wanted.{IsCounted, wanted};
 
 use crate::{Answer, Behind, Host, Status, answer_to, bench_source, program_of};
-use command_words::{Bench, Engine, PlanChoice, Request, Run};
+use command_words::{Bench, Engine, PlanChoice, Request, Run, Sweep};
 use f77_lines::MOST_BYTES;
 use f77_source::Setting;
+use spmd_model::Style;
 use spmd_ports::NoGate;
 use std::alloc::{AllocError, Global};
 use std::fmt::Write;
@@ -24,7 +26,7 @@ fn request_of(alloc: Global, workers: u32) -> Request<'static>
         let run = Run {
             workers: workers.min(64),
             choice: PlanChoice::Barrier,
-            engine: Engine::Core,
+            engine: Engine::Core(Style::Arrive),
         };
         Request::Run(run, Vec::new(alloc))
     }
@@ -478,7 +480,12 @@ fn is_answered<R: Threads + Wait + Sync>(
     let source = source_of(alloc, row.source)?;
     let source = source.as_bytes();
     let plan = due_for(rt, alloc, &plan_for(alloc, row.workers), source)?;
-    let request = run_for(alloc, row.workers, PlanChoice::Made, Engine::Spmd);
+    let request = run_for(
+        alloc,
+        row.workers,
+        PlanChoice::Made,
+        Engine::Spmd(Style::Arrive),
+    );
     let made = due_for(rt, alloc, &request, source)?;
     let request = run_for(alloc, row.workers, PlanChoice::Barrier, Engine::Join);
     let barriers = due_for(rt, alloc, &request, source)?;
@@ -632,7 +639,7 @@ fn given_answer<R: Threads + Wait + Sync>(
         let run = Run {
             workers: workers.min(64),
             choice: PlanChoice::Given,
-            engine: Engine::Core,
+            engine: Engine::Core(Style::Arrive),
         };
         Request::Run(run, Vec::new(alloc))
     };
@@ -676,6 +683,107 @@ fn given_plans_are_answered(rt: HostRuntime) -> Result<(), Fail> {
             answer.status == Status::PlanRefused,
             text.starts_with("PLAN ")
         );
+    }
+    Ok(())
+}
+
+/// An array, another one from it, and a plan that is proved where N is at least 1 and at most 7.
+const COPY: [&str; 34] = [
+    "      PARAMETER (N=6)",
+    "      INTEGER A(N), B(N)",
+    "      DO 10 I = 1, N",
+    "   10 A(I) = I",
+    "      DO 20 I = 1, N",
+    "   20 B(I) = A(I) + 1",
+    "      PRINT *, B(1)",
+    "      END",
+    "SPMD PLAN 3",
+    "WORKERS 2",
+    "WHERE 2",
+    "1 1*P1 <= 7",
+    "2 -1*P1 <= -1",
+    "LOOPS 2",
+    "1 DOALL",
+    "2 DOALL",
+    "PHASES 3",
+    "1 NOTHING AT -1 1*L1 BLOCK 4",
+    "2 NOTHING AT -1 1*L2 BLOCK 4",
+    "3 NOTHING AT 0 BLOCK 1",
+    "CERTIFICATES 6",
+    "1 STEPS 1",
+    "1 3*1 8*1 12*1 13*1",
+    "2 STEPS 1",
+    "1 3*1 8*1 12*1 13*1",
+    "3 STEPS 1",
+    "1 12*1 14*1 17*1 21*4",
+    "4 STEPS 1",
+    "1 11*1 13*1 18*1 21*4",
+    "5 STEPS 1",
+    "1 11*1 13*1 17*1",
+    "6 STEPS 1",
+    "1 7*1 9*1 14*4 17*4",
+    "END PLAN",
+];
+
+/// The source with the plan behind it, of which one line, by its number, is another.
+fn copy_with(alloc: Global, number: usize, changed: &str) -> Result<String, AllocError> {
+    let mut source = String::new(alloc);
+    for (place, line) in COPY.iter().enumerate() {
+        let shown = if place + 1 == number { changed } else { *line };
+        write!(source, "{shown}\n")?;
+    }
+    Ok(source)
+}
+
+/// The values of N from 6 to 9.
+fn from_six(alloc: Global) -> Result<Request<'static>, AllocError>
+    ensures { IfOk result (λ request. IsCounted (wanted request)) }
+{
+    let sweep = Sweep {
+        name: b"N".to_vec(alloc)?,
+        low: 6,
+        high: 9,
+    };
+    Ok(Request::Sweep(sweep, Vec::new(alloc)))
+}
+
+/// With a line that is another, what is due for the values.
+#[test]
+fn sweeps_are_answered(rt: HostRuntime) -> Result<(), Fail> {
+    let alloc = rt.alloc();
+    let rows: [(usize, &str, Status, &str); 6] = [
+        (
+            0,
+            "",
+            Status::Done,
+            "6 ACCEPTED\n7 ACCEPTED\n8 PLAN P6 1\n9 PLAN P2 1 0 8\n",
+        ),
+        (13, "2 -1*P2 <= -1", Status::PlanRefused, "PLAN P1 8\n"),
+        (
+            6,
+            "   20 B(I) = A(N*I-N*I+I) + 1",
+            Status::Done,
+            "6 ACCEPTED\n7 ACCEPTED\n8 PLAN P6 1\n9 PLAN P2 1 0 8\n",
+        ),
+        (
+            6,
+            "   20 B(I) = (A(I) + 1)/N",
+            Status::Done,
+            "6 ACCEPTED\n7 PLAN P7\n8 PLAN P7\n9 PLAN P7\n",
+        ),
+        (
+            1,
+            "      PARAMETER (M=6)",
+            Status::SourceRefused,
+            "REFUSED F4 LINE 2\n",
+        ),
+        (26, "END", Status::PlanRefused, "PLAN SYNTAX 18\n"),
+    ];
+    for (number, changed, status, text) in rows {
+        let source = copy_with(alloc, number, changed)?;
+        let answer = due_for(&rt, alloc, &from_six(alloc)?, source.as_bytes())?;
+        assert_eq!(rt; answer.status, status);
+        assert_eq!(rt; answer.text.as_slice(), text.as_bytes(), "{changed}");
     }
     Ok(())
 }

@@ -1,15 +1,14 @@
 -- What is due, from what was found of words and source.
 use Rattle.std.proofs.Common.{◌≡◌, ◌≢◌, ◌+◌, ◌≤◌, ◌<◌, ℕ, ℤ, List, length, Option, Some, None, Result, Ok, Err, IfOk, OnOk, true, ap, sym, subst, ◌∙◌, refl, arith}
-use Rattle.std.specs.Fmt.{digits}
 use Rattle.std.specs.Io.KnownBytes.{Consumes, IsAtEnd}
 use Rattle.f77_scene.specs.Scene.{Name}
 use Rattle.clap.specs.Words.{Text}
 use Rattle.command_words.specs.Settings.{first_fault_from, settings_in}
-use Rattle.cell_table.specs.Ends.{End}
+use Rattle.styled_table.specs.Ends.{End}
 use Rattle.command_words.specs.declared.request.Bench.{Bench}
 use Rattle.command_words.specs.declared.request.Request.{Request}
 use Rattle.command_words.specs.declared.request.Request.TheVariants as request
-use Rattle.command_words.specs.Wanted.{IsCounted, Wanted, wanted, Takes, AreFaulty, asks_to_show, sequential, verify, planned, run, bench}
+use Rattle.command_words.specs.Wanted.{IsCounted, Wanted, wanted, Takes, AreFaulty, asks_to_show, has_wrong_sweep, sequential, verify, swept, planned, run, bench}
 use Rattle.spmd_answer.specs.Bench.{bench_source}
 use Rattle.spmd_answer.specs.Due as answer
 use Rattle.spmd_answer.specs.Due.{Due, wrong_setting}
@@ -29,6 +28,7 @@ use Rattle.spmd_tool.proofs.Told.{read_told, some_told, taken_told}
 pub source_reads : (w : Wanted) (bytes : List ℕ) → reads w ≡ true → source_for w bytes ≡ bytes
 source_reads (sequential settings) bytes h = refl
 source_reads (verify settings) bytes h = refl
+source_reads (swept s settings) bytes h = refl
 source_reads (planned workers settings) bytes h = refl
 source_reads (run workers choice by settings) bytes h = refl
 source_reads (bench workers points sweeps) bytes h = absurd (cc)
@@ -37,6 +37,7 @@ source_reads (bench workers points sweeps) bytes h = absurd (cc)
 pub reads-other : (r : Request) → ((b : Bench) → r ≡ request.Bench b → ⊥) → reads (wanted r) ≡ true
 reads-other (request.Sequential settings) other = refl
 reads-other (request.Verify settings) other = refl
+reads-other (request.Sweep s settings) other = refl
 reads-other (request.Plan workers settings) other = refl
 reads-other (request.Run by settings) other = refl
 reads-other (request.Bench b) other = absurd (other b refl)
@@ -125,14 +126,10 @@ pub from-shown : (words : List Text) (told : Option (List ℕ)) (d : Due) → as
 from-shown words told d asks e = let some = some_told told in
     record { bytes = some.0; told = some.1; is_due = shown asks e; receipt_is = λ w takes. absurd (taken_or_shown words w takes asks); none = λ never. refl }
 
-wrong_setting-0 : wrong_setting 0 ≡ wrong_words
-unfolding digits
-wrong_setting-0 = refl
-
--- for faulty words
-pub from-faulty : (words : List Text) (told : Option (List ℕ)) (d : Due) → AreFaulty words → d ≡ wrong_setting 0 → IsAnswerFrom words told d None
+-- for faulty words, of which a sweep is none, or not
+pub from-faulty : (words : List Text) (told : Option (List ℕ)) (d : Due) → AreFaulty words → d ≡ wrong_words words → IsAnswerFrom words told d None
 from-faulty words told d are e = let some = some_told told in
-    record { bytes = some.0; told = some.1; is_due = faulty are (e ∙ wrong_setting-0); receipt_is = λ w takes. absurd (taken_or_faulty words w takes are); none = λ never. refl }
+    record { bytes = some.0; told = some.1; is_due = faulty are e; receipt_is = λ w takes. absurd (taken_or_faulty words w takes are); none = λ never. refl }
 
 -- what the answer to words says of its text alone
 pub due_from : (words : List Text) (told : Option (List ℕ)) (d : Due) (receipt : Option End) → IsAnswerFrom words told d receipt → IsDueFrom words told d

@@ -1,5 +1,5 @@
 -- What is due, by its cases.
-use Rattle.std.proofs.Common.{◌≡◌, ◌≢◌, ◌≤◌, ◌<◌, ℕ, ℤ, Bool, true, false, List, [], ◌∷◌, length, Option, Some, None, IfSome, nat_lt, if◌then◌else◌, option_map, ◌⊎◌, inl, inr, ⊎_elim, refl, sym, ap, subst, ◌∙◌, arith, ltb-false, ltb-true}
+use Rattle.std.proofs.Common.{◌≡◌, ◌≢◌, ◌≤◌, ◌<◌, ◌==◌, ◌-◌, ℕ, ℤ, Bool, true, false, List, [], ◌∷◌, length, Option, Some, None, IfSome, nat_lt, if◌then◌else◌, option_map, ◌⊎◌, inl, inr, ⊎_elim, refl, sym, ap, subst, ◌∙◌, arith, ltb-false, ltb-true}
 use Rattle.std.specs.Option.{option_or}
 use Rattle.std.proofs.lemmas.Bool.{cases_Bool}
 use Rattle.std.proofs.lemmas.Bool.Decides.{nat_tests}
@@ -17,18 +17,18 @@ use Rattle.clap.specs.Words.{Text, fault_of, subcommand_of}
 use Rattle.clap.specs.declared.error.kind.ErrorKind.{ErrorKind}
 use Rattle.command_words.specs.Rule.{tool_app}
 use Rattle.command_words.specs.Settings.{first_fault_from, settings_in}
-use Rattle.command_words.specs.Wanted.{Wanted, sequential, verify, planned, run, bench, Takes, AreFaulty, asks_to_show, is_shown, wanted_by}
+use Rattle.command_words.specs.Wanted.{Wanted, sequential, verify, swept, planned, run, bench, Takes, AreFaulty, asks_to_show, has_wrong_sweep, is_shown, wanted_by}
 use Rattle.command_words.specs.declared.request.PlanChoice.TheVariants.{Made, Barrier, Given}
 use Rattle.spmd_answer.specs.Due as answer
-use Rattle.spmd_answer.specs.Due.{Due, IsDueOn, IsFirstOr, IsRefusalFor, IsTextFor, behind_end, behind_of, done, due_of_fault, due_of_lines, due_of_refusal, due_of_rest, due_of_tree, line, makes_plan, plan_refused, unaccepted, written, wrong_setting}
+use Rattle.spmd_answer.specs.Due.{Due, IsDueOn, IsFirstOr, IsRefusalFor, IsTextFor, Readings, due_of_name, wrong_sweep, behind_end, behind_of, done, due_of_fault, due_of_lines, due_of_refusal, due_of_rest, due_of_tree, line, makes_plan, plan_refused, unaccepted, written, wrong_setting}
 use Rattle.spmd_answer.specs.declared.source.Behind.{Behind}
-use Rattle.spmd_answer.specs.declared.source.Behind.TheVariants.{Comments, PlanText}
+use Rattle.spmd_answer.specs.declared.source.Behind.TheVariants.{Comments, PlanText, SweptPlan}
 use Rattle.spmd_answer.specs.declared.status.Status.{Status}
 use Rattle.spmd_answer.specs.declared.status.Status.TheVariants.{Done, SourceRefused, BadWords, ReadFault, WriteFault, NoMemory, PlanRefused, TooLong}
 use Rattle.spmd_answer.proofs.Existence.{first_never, never_none}
-use Rattle.spmd_answer.proofs.Unique.{first_one, one_is_due, one_refused, refused_or_taken}
+use Rattle.spmd_answer.proofs.Unique.{first_one, one_is_due, one_refused, refused_or_proved, refused_or_taken}
 use Rattle.spmd_answer.proofs.Unique as unique
-use Rattle.spmd_tool.specs.Due.{AreWrong, AskFor, HasPlan, IsDue, IsDueFor, IsRunnable, IsUnplanned, MakeNoPlan, asked, due_of_form, faulty, first_wrong, ReadFor, is_said, most_bytes, program_for, reads, settings_of, shown, source_for, too_long, wrong_words}
+use Rattle.spmd_tool.specs.Due.{AreWrong, AskFor, HasPlan, IsDue, IsDueFor, IsRunnable, IsUnplanned, MakeNoPlan, all_settings, readings_for, asked, due_of_form, faulty, first_wrong, ReadFor, is_said, most_bytes, program_for, reads, settings_of, shown, source_for, too_long, wrong_words}
 
 -- ---- what words stand for
 
@@ -69,14 +69,15 @@ each_some P f (Some x) p = p x
 rest_some : (P : Due → Type 0) (behind : Behind) (bytes : List ℕ) → ((text : List ℕ) → P (record { status = SourceRefused; text = text })) → IfSome (due_of_rest behind bytes) P
 rest_some P Comments bytes p = each_some P _ (first_behind bytes (size_to_end (lines_of bytes))) (λ n. p _)
 rest_some P PlanText bytes p = tt
+rest_some P SweptPlan bytes p = tt
 
 -- what holds of each refusal of a source, by the statuses that it may have
-refusal_some : (P : Due → Type 0) (behind : Behind) (bytes : List ℕ) (settings : List (Name × ℤ)) → ((text : List ℕ) → P (record { status = SourceRefused; text = text })) → IfSome (first_fault_in (entries_of bytes) settings) (λ r. P (due_of_fault r)) → IfSome (due_of_refusal behind bytes settings) P
+refusal_some : (P : Due → Type 0) (behind : Behind) (bytes : List ℕ) (settings : List (Name × ℤ)) → ((text : List ℕ) → P (record { status = SourceRefused; text = text })) → IfSome (first_fault_in (entries_of bytes) settings) (λ r. P (due_of_fault behind r)) → IfSome (due_of_refusal behind bytes settings) P
 refusal_some P behind bytes settings p faults =
     let lines : IfSome (due_of_lines behind bytes) P = or_some P _ _ (each_some P _ (first_line_fault bytes) (λ r. p _)) (rest_some P behind bytes p) in
     let tree : Tree = program_in (entries_of bytes) settings in
     let limits : IfSome (due_of_tree tree) P = or_some P _ _ (each_some P _ (first_limit tree) (λ l. p _)) (each_some P _ (outside_of tree) (λ o. p _)) in
-    or_some P _ _ lines (or_some P _ _ (map_some P due_of_fault (first_fault_in (entries_of bytes) settings) faults) limits)
+    or_some P _ _ lines (or_some P _ _ (map_some P (due_of_fault behind) (first_fault_in (entries_of bytes) settings) faults) limits)
 
 refuses : Status → Bool
 refuses Done = false
@@ -88,19 +89,29 @@ refuses NoMemory = false
 refuses PlanRefused = false
 refuses TooLong = false
 
-fault_refuses : (r : Refusal) → refuses (due_of_fault r).status ≡ true
-unfolding refuses
-fault_refuses (bad_line refusal) = refl
-fault_refuses (bad_statement fault n) = refl
-fault_refuses (bad_setting index) = refl
+either_status : (P : Status → Type 0) (b : Bool) (x y : Due) → P x.status → P y.status → P (if b then x else y).status
+either_status P true x y p q = p
+either_status P false x y p q = q
 
-faults_refuse : (o : Option Refusal) → IfSome o (λ r. refuses (due_of_fault r).status ≡ true)
-faults_refuse None = tt
-faults_refuse (Some r) = fault_refuses r
+name_refuses : (behind : Behind) (index : ℕ) → refuses (due_of_name behind index).status ≡ true
+unfolding refuses
+name_refuses Comments index = refl
+name_refuses PlanText index = refl
+name_refuses SweptPlan index = either_status (λ s. refuses s ≡ true) (index == 1) wrong_sweep (wrong_setting (index - 1)) refl refl
+
+fault_refuses : (behind : Behind) (r : Refusal) → refuses (due_of_fault behind r).status ≡ true
+unfolding refuses
+fault_refuses behind (bad_line refusal) = refl
+fault_refuses behind (bad_statement fault n) = refl
+fault_refuses behind (bad_setting index) = name_refuses behind index
+
+faults_refuse : (behind : Behind) (o : Option Refusal) → IfSome o (λ r. refuses (due_of_fault behind r).status ≡ true)
+faults_refuse behind None = tt
+faults_refuse behind (Some r) = fault_refuses behind r
 
 refusal_refuses : (behind : Behind) (bytes : List ℕ) (settings : List (Name × ℤ)) → IfSome (due_of_refusal behind bytes settings) (λ d. refuses d.status ≡ true)
 unfolding refuses
-refusal_refuses behind bytes settings = refusal_some (λ d. refuses d.status ≡ true) behind bytes settings (λ text. refl) (faults_refuse (first_fault_in (entries_of bytes) settings))
+refusal_refuses behind bytes settings = refusal_some (λ d. refuses d.status ≡ true) behind bytes settings (λ text. refl) (faults_refuse behind (first_fault_in (entries_of bytes) settings))
 
 refuses-said : (s : Status) → refuses s ≡ true → is_said s ≡ true
 unfolding refuses
@@ -119,29 +130,32 @@ at_some P (Some r) d p e = subst P (let same : r ≡ d = cc in same) p
 
 -- ---- without settings no status 2 is due
 
-at_line-source : (line : ℕ) (o : Option Fault) → IfSome (at_line line o) (λ r. (due_of_fault r).status ≡ SourceRefused)
-at_line-source line None = tt
-at_line-source line (Some fault) = refl
+abbrev IsSourceFault : Behind → Refusal → Type 0
+IsSourceFault behind r = (due_of_fault behind r).status ≡ SourceRefused
 
-either_source : (a b : Option Refusal) → IfSome a (λ r. (due_of_fault r).status ≡ SourceRefused) → IfSome b (λ r. (due_of_fault r).status ≡ SourceRefused) → IfSome (option_or a b) (λ r. (due_of_fault r).status ≡ SourceRefused)
-either_source None b p q = q
-either_source (Some r) b p q = p
+at_line-source : (behind : Behind) (line : ℕ) (o : Option Fault) → IfSome (at_line line o) (IsSourceFault behind)
+at_line-source behind line None = tt
+at_line-source behind line (Some fault) = refl
 
-faults-source : (given : SceneGiven) (s : Scene) (ps : List SourceStatement) → IfSome (fault_from given s ps) (λ r. (due_of_fault r).status ≡ SourceRefused)
+either_source : (behind : Behind) (a b : Option Refusal) → IfSome a (IsSourceFault behind) → IfSome b (IsSourceFault behind) → IfSome (option_or a b) (IsSourceFault behind)
+either_source behind None b p q = q
+either_source behind (Some r) b p q = p
+
+faults-source : (behind : Behind) (given : SceneGiven) (s : Scene) (ps : List SourceStatement) → IfSome (fault_from given s ps) (IsSourceFault behind)
 unfolding fault_from
-faults-source given s [] = tt
-faults-source given s (p ∷ ps) =
-    either_source _ _ (at_line-source p.line (fault_with given s (length ps) p.label p.reading)) (faults-source given (scene_with given s p.label p.reading) ps)
+faults-source behind given s [] = tt
+faults-source behind given s (p ∷ ps) =
+    either_source behind _ _ (at_line-source behind p.line (fault_with given s (length ps) p.label p.reading)) (faults-source behind given (scene_with given s p.label p.reading) ps)
 
 source-unnamed : (behind : Behind) (bytes : List ℕ) → IfSome (due_of_refusal behind bytes []) (λ d. d.status ≡ SourceRefused)
 source-unnamed behind bytes =
     let statements : List SourceStatement = statements_in (entries_of bytes) in
-    refusal_some (λ d. d.status ≡ SourceRefused) behind bytes [] (λ text. refl) (either_source _ None (faults-source (given_with statements []) first_scene statements) tt)
+    refusal_some (λ d. d.status ≡ SourceRefused) behind bytes [] (λ text. refl) (either_source behind _ None (faults-source behind (given_with statements []) first_scene statements) tt)
 
 -- ---- due for a request
 
 abbrev refusal_for : Wanted → List ℕ → Option Due
-refusal_for w bytes = due_of_refusal (behind_of w) bytes (settings_in (settings_of w))
+refusal_for w bytes = due_of_refusal (behind_of w) bytes (all_settings w)
 
 -- what is due for a request, by its cases: a wrong setting, too long a source, a refusal of the source, one of the plan, or the text that is asked for
 data Case (w : Wanted) (bytes : List ℕ) (d : Due) : Type 0 where
@@ -149,17 +163,17 @@ data Case (w : Wanted) (bytes : List ℕ) (d : Due) : Type 0 where
   case_long : (right : first_wrong w ≡ None) (more : most_bytes < length bytes) (is : d ≡ too_long) → Case w bytes d
   case_refused : (right : first_wrong w ≡ None) (short : length bytes ≤ most_bytes) (r : Due) (first : refusal_for w bytes ≡ Some r) (is : d ≡ r) → Case w bytes d
   case_unfit : (right : first_wrong w ≡ None) (short : length bytes ≤ most_bytes) (none : refusal_for w bytes ≡ None) (reason : List ℕ) (refusing : IsRefusalFor w (program_for w bytes) (behind_end bytes) reason) (is : d ≡ plan_refused reason) → Case w bytes d
-  case_runs : (right : first_wrong w ≡ None) (short : length bytes ≤ most_bytes) (none : refusal_for w bytes ≡ None) (text : List ℕ) (writes : IsTextFor w (program_for w bytes) (behind_end bytes) text) (is : d ≡ done text) → Case w bytes d
+  case_runs : (right : first_wrong w ≡ None) (short : length bytes ≤ most_bytes) (none : refusal_for w bytes ≡ None) (text : List ℕ) (writes : IsTextFor w (program_for w bytes) (readings_for w bytes) (behind_end bytes) text) (is : d ≡ done text) → Case w bytes d
 
 case_of : (w : Wanted) (bytes : List ℕ) (d : Due) → IsDueFor w bytes d → Case w bytes d
 unfolding IsDueFor
 case_of w bytes d h = by_form (first_wrong w) (nat_lt most_bytes (length bytes)) refl refl h
   where
-    on_program : first_wrong w ≡ None → length bytes ≤ most_bytes → refusal_for w bytes ≡ None → IsDueOn w (program_for w bytes) (behind_end bytes) d → Case w bytes d
+    on_program : first_wrong w ≡ None → length bytes ≤ most_bytes → refusal_for w bytes ≡ None → IsDueOn w (program_for w bytes) (readings_for w bytes) (behind_end bytes) d → Case w bytes d
     on_program right short none (unaccepted reason is e) = case_unfit right short none reason is e
     on_program right short none (written text is e) = case_runs right short none text is e
 
-    by_source : (o : Option Due) → first_wrong w ≡ None → length bytes ≤ most_bytes → refusal_for w bytes ≡ o → IsFirstOr o (IsDueOn w (program_for w bytes) (behind_end bytes)) d → Case w bytes d
+    by_source : (o : Option Due) → first_wrong w ≡ None → length bytes ≤ most_bytes → refusal_for w bytes ≡ o → IsFirstOr o (IsDueOn w (program_for w bytes) (readings_for w bytes) (behind_end bytes)) d → Case w bytes d
     by_source (Some r) right short e h = case_refused right short r e h
     by_source None right short e h = on_program right short e h
 
@@ -176,23 +190,25 @@ request-said w bytes d h = by_case (case_of w bytes d h)
     by_case (case_wrong index first is) = ap (λ x. is_said x.status) is
     by_case (case_long right more is) = ap (λ x. is_said x.status) is
     by_case (case_refused right short r first is) =
-        ap (λ x. is_said x.status) is ∙ refuses-said r.status (at_some (λ x. refuses x.status ≡ true) (refusal_for w bytes) r (refusal_refuses (behind_of w) bytes (settings_in (settings_of w))) first)
+        ap (λ x. is_said x.status) is ∙ refuses-said r.status (at_some (λ x. refuses x.status ≡ true) (refusal_for w bytes) r (refusal_refuses (behind_of w) bytes (all_settings w)) first)
     by_case (case_unfit right short none reason refusing is) = ap (λ x. is_said x.status) is
     by_case (case_runs right short none text writes is) = ap (λ x. is_said x.status) is
 
 -- a plan stands behind END, where one is needed, exactly where a text is due
-plan_of_text : (w : Wanted) (tree : Tree) (bytes text : List ℕ) → IsTextFor w tree bytes text → HasPlan w tree bytes
-plan_of_text (sequential settings) tree bytes text is = tt
-plan_of_text (verify settings) tree bytes text (plan, is, e) = (plan, is)
-plan_of_text (planned workers settings) tree bytes text is = tt
-plan_of_text (run workers Made by settings) tree bytes text is = tt
-plan_of_text (run workers Barrier by settings) tree bytes text is = tt
-plan_of_text (run workers Given by settings) tree bytes text (plan, (is, e)) = (plan, is)
-plan_of_text (bench workers points sweeps) tree bytes text is = tt
+plan_of_text : (w : Wanted) (tree : Tree) (at : Readings) (bytes text : List ℕ) → IsTextFor w tree at bytes text → HasPlan w tree bytes
+plan_of_text (sequential settings) tree at bytes text is = tt
+plan_of_text (verify settings) tree at bytes text (plan, is, e) = (plan, is)
+plan_of_text (swept s settings) tree at bytes text (plan, is, e) = (plan, is)
+plan_of_text (planned workers settings) tree at bytes text is = tt
+plan_of_text (run workers Made by settings) tree at bytes text is = tt
+plan_of_text (run workers Barrier by settings) tree at bytes text is = tt
+plan_of_text (run workers Given by settings) tree at bytes text (plan, (is, e)) = (plan, is)
+plan_of_text (bench workers points sweeps) tree at bytes text is = tt
 
 plan_or_refusal : (w : Wanted) (tree : Tree) (bytes reason : List ℕ) → HasPlan w tree bytes → IsRefusalFor w tree bytes reason → ⊥
 plan_or_refusal (sequential settings) tree bytes reason has is = is
 plan_or_refusal (verify settings) tree bytes reason (plan, taken) is = refused_or_taken None tree bytes reason plan is taken
+plan_or_refusal (swept s settings) tree bytes reason (plan, proved) is = refused_or_proved tree bytes reason plan is proved
 plan_or_refusal (planned workers settings) tree bytes reason has is = is
 plan_or_refusal (run workers Made by settings) tree bytes reason has is = is
 plan_or_refusal (run workers Barrier by settings) tree bytes reason has is = is
@@ -203,7 +219,7 @@ plan_or_refusal (run workers Given by settings) tree bytes reason (plan, taken) 
 pub record IsRunOf (w : Wanted) (bytes : List ℕ) (d : Due) : Type 0 where
   pub settings_are : first_wrong w ≡ None
   pub runnable : IsRunnable w bytes
-  pub is_text : IsTextFor w (program_for w bytes) (behind_end bytes) d.text
+  pub is_text : IsTextFor w (program_for w bytes) (readings_for w bytes) (behind_end bytes) d.text
 
 refuses-done : (d r : Due) → d ≡ r → d.status ≡ Done → refuses r.status ≡ true → ⊥
 unfolding refuses
@@ -216,12 +232,12 @@ request-done w bytes d h e = by_case (case_of w bytes d h)
     by_case (case_wrong index first is) = absurd (let f : BadWords ≡ Done = ap (λ x. x.status) (sym is) ∙ e in cc)
     by_case (case_long right more is) = absurd (let f : TooLong ≡ Done = ap (λ x. x.status) (sym is) ∙ e in cc)
     by_case (case_refused right short r first is) =
-        absurd (refuses-done d r is e (at_some (λ x. refuses x.status ≡ true) (refusal_for w bytes) r (refusal_refuses (behind_of w) bytes (settings_in (settings_of w))) first))
+        absurd (refuses-done d r is e (at_some (λ x. refuses x.status ≡ true) (refusal_for w bytes) r (refusal_refuses (behind_of w) bytes (all_settings w)) first))
     by_case (case_unfit right short none reason refusing is) = absurd (let f : PlanRefused ≡ Done = ap (λ x. x.status) (sym is) ∙ e in cc)
     by_case (case_runs right short none text writes is) = record {
       settings_are = right;
-      runnable = record { short = short; unrefused = none; planned = plan_of_text w (program_for w bytes) (behind_end bytes) text writes };
-      is_text = subst (IsTextFor w (program_for w bytes) (behind_end bytes)) (ap (λ x. x.text) (sym is)) writes;
+      runnable = record { short = short; unrefused = none; planned = plan_of_text w (program_for w bytes) (readings_for w bytes) (behind_end bytes) text writes };
+      is_text = subst (IsTextFor w (program_for w bytes) (readings_for w bytes) (behind_end bytes)) (ap (λ x. x.text) (sym is)) writes;
     }
 
 -- with status 6 the plan is refused, and nothing before it
@@ -243,7 +259,7 @@ request-unfit w bytes d h e = by_case (case_of w bytes d h)
     by_case (case_wrong index first is) = absurd (let f : BadWords ≡ PlanRefused = ap (λ x. x.status) (sym is) ∙ e in cc)
     by_case (case_long right more is) = absurd (let f : TooLong ≡ PlanRefused = ap (λ x. x.status) (sym is) ∙ e in cc)
     by_case (case_refused right short r first is) =
-        absurd (refuses-plan d r is e (at_some (λ x. refuses x.status ≡ true) (refusal_for w bytes) r (refusal_refuses (behind_of w) bytes (settings_in (settings_of w))) first))
+        absurd (refuses-plan d r is e (at_some (λ x. refuses x.status ≡ true) (refusal_for w bytes) r (refusal_refuses (behind_of w) bytes (all_settings w)) first))
     by_case (case_unfit right short none reason is_reason is) = record {
       settings_are = right;
       unplanned = record { short = short; unrefused = none; unplanned = λ has. plan_or_refusal w (program_for w bytes) (behind_end bytes) reason has is_reason };
@@ -298,19 +314,19 @@ request-unplanned w bytes d h e r = by_case (case_of w bytes d h)
     by_case (case_long right more is) = absurd (let short = r.short in omega arith)
     by_case (case_refused right short x first is) = absurd (let f : Some x ≡ None = sym first ∙ r.unrefused in cc)
     by_case (case_unfit right short none reason refusing is) = ap (λ x. x.status) is
-    by_case (case_runs right short none text writes is) = absurd (r.unplanned (plan_of_text w (program_for w bytes) (behind_end bytes) text writes))
+    by_case (case_runs right short none text writes is) = absurd (r.unplanned (plan_of_text w (program_for w bytes) (readings_for w bytes) (behind_end bytes) text writes))
 
-pub request-unnamed : (w : Wanted) (bytes : List ℕ) (d : Due) → IsDueFor w bytes d → settings_of w ≡ [] → d.status ≢ BadWords
-request-unnamed w bytes d h none b = by_case (case_of w bytes d h)
+pub request-unnamed : (w : Wanted) (bytes : List ℕ) (d : Due) → IsDueFor w bytes d → first_wrong w ≡ None → all_settings w ≡ [] → d.status ≢ BadWords
+request-unnamed w bytes d h right none b = by_case (case_of w bytes d h)
   where
     by_case : Case w bytes d → ⊥
-    by_case (case_wrong index first is) = let f : None ≡ Some index = sym (ap (first_fault_from 1) none) ∙ first in cc
-    by_case (case_long right more is) = let f : TooLong ≡ BadWords = ap (λ x. x.status) (sym is) ∙ b in cc
-    by_case (case_refused right short r first is) =
-        let source : r.status ≡ SourceRefused = at_some (λ x. x.status ≡ SourceRefused) (due_of_refusal (behind_of w) bytes []) r (source-unnamed (behind_of w) bytes) (subst (λ words. due_of_refusal (behind_of w) bytes (settings_in words) ≡ Some r) none first) in
+    by_case (case_wrong index first is) = let f : None ≡ Some index = sym right ∙ first in cc
+    by_case (case_long fine more is) = let f : TooLong ≡ BadWords = ap (λ x. x.status) (sym is) ∙ b in cc
+    by_case (case_refused fine short r first is) =
+        let source : r.status ≡ SourceRefused = at_some (λ x. x.status ≡ SourceRefused) (due_of_refusal (behind_of w) bytes []) r (source-unnamed (behind_of w) bytes) (subst (λ all. due_of_refusal (behind_of w) bytes all ≡ Some r) none first) in
         let f : SourceRefused ≡ BadWords = sym source ∙ (ap (λ x. x.status) (sym is) ∙ b) in cc
-    by_case (case_unfit right short nothing reason refusing is) = let f : PlanRefused ≡ BadWords = ap (λ x. x.status) (sym is) ∙ b in cc
-    by_case (case_runs right short nothing text writes is) = let f : Done ≡ BadWords = ap (λ x. x.status) (sym is) ∙ b in cc
+    by_case (case_unfit fine short nothing reason refusing is) = let f : PlanRefused ≡ BadWords = ap (λ x. x.status) (sym is) ∙ b in cc
+    by_case (case_runs fine short nothing text writes is) = let f : Done ≡ BadWords = ap (λ x. x.status) (sym is) ∙ b in cc
 
 -- what holds of two that are due for a request, where it holds of equal ones and of those that the source's bytes give
 related_for : (P : Due → Due → Type 0) (w : Wanted) (bytes : List ℕ) (a b : Due) → ((d : Due) → P d d) → (answer.IsDueOf w (settings_in (settings_of w)) bytes a → answer.IsDueOf w (settings_in (settings_of w)) bytes b → P a b)
@@ -399,10 +415,14 @@ asked-due words bytes w d takes (asked v takes' e) = subst (λ u. IsDueFor u (so
 pub shown-due : (words : List Text) (bytes : List ℕ) (d : Due) → asks_to_show words ≡ true → IsDue words bytes d → d.status ≡ Done
 shown-due words bytes d asks due = one_status words bytes d (record { status = Done; text = [] }) due (shown asks refl)
 
+-- wrong words have status 2
+wrong-status : (words : List Text) → (wrong_words words).status ≡ BadWords
+wrong-status words = either_status (λ s. s ≡ BadWords) (has_wrong_sweep words) wrong_sweep (wrong_setting 0) refl refl
+
 -- for wrong words status 2
 pub wrong-due : (words : List Text) (bytes : List ℕ) (d : Due) → AreWrong words → IsDue words bytes d → d.status ≡ BadWords
 wrong-due words bytes d wrong due =
-    ⊎_elim (λ are. one_status words bytes d wrong_words due (faulty are refl))
+    ⊎_elim (λ are. one_status words bytes d (wrong_words words) due (faulty are refl) ∙ wrong-status words)
     (λ (some : (w : Wanted) × (index : ℕ) × Takes words w × (first_wrong w ≡ Some index)).
     ap (λ e. e.status) (request-wrong some.0 (source_for some.0 bytes) d some.1 (asked-due words bytes some.0 d some.2 due) some.3)) wrong
 
@@ -416,7 +436,7 @@ wrong_or_asked words w wrong ask =
 -- status 1 comes only for a request with right settings
 pub refused-asks : (words : List Text) (bytes : List ℕ) (d : Due) → IsDue words bytes d → d.status ≡ SourceRefused → (w : Wanted) × AskFor words w
 refused-asks words bytes d (shown asks s) e = absurd (let h : Done ≡ SourceRefused = sym s ∙ e in cc)
-refused-asks words bytes d (faulty are f) e = absurd (let h : BadWords ≡ SourceRefused = ap (λ x. x.status) (sym f) ∙ e in cc)
+refused-asks words bytes d (faulty are f) e = absurd (let h : BadWords ≡ SourceRefused = sym (ap (λ x. x.status) f ∙ wrong-status words) ∙ e in cc)
 refused-asks words bytes d (asked w takes f) e =
     (w, record { takes = takes; settings_are = request-refused w (source_for w bytes) d f e })
 
@@ -424,6 +444,7 @@ refused-asks words bytes d (asked w takes f) e =
 refusal-reads : (w : Wanted) (tree : Tree) (bytes reason : List ℕ) → IsRefusalFor w tree bytes reason → reads w ≡ true
 refusal-reads (sequential settings) tree bytes reason is = refl
 refusal-reads (verify settings) tree bytes reason is = refl
+refusal-reads (swept s settings) tree bytes reason is = refl
 refusal-reads (planned workers settings) tree bytes reason is = refl
 refusal-reads (run workers choice by settings) tree bytes reason is = refl
 refusal-reads (bench workers points sweeps) tree bytes reason is = absurd is
@@ -431,7 +452,7 @@ refusal-reads (bench workers points sweeps) tree bytes reason is = absurd is
 -- and status 6, for one that reads the source
 pub unfit-asks : (words : List Text) (bytes : List ℕ) (d : Due) → IsDue words bytes d → d.status ≡ PlanRefused → (w : Wanted) × ReadFor words w
 unfit-asks words bytes d (shown asks s) e = absurd (let h : Done ≡ PlanRefused = sym s ∙ e in cc)
-unfit-asks words bytes d (faulty are f) e = absurd (let h : BadWords ≡ PlanRefused = ap (λ x. x.status) (sym f) ∙ e in cc)
+unfit-asks words bytes d (faulty are f) e = absurd (let h : BadWords ≡ PlanRefused = sym (ap (λ x. x.status) f ∙ wrong-status words) ∙ e in cc)
 unfit-asks words bytes d (asked w takes f) e =
     let unfit = request-unfit w (source_for w bytes) d f e in
     (w, record { asked = record { takes = takes; settings_are = unfit.settings_are }; reads_are = refusal-reads w (program_for w (source_for w bytes)) (behind_end (source_for w bytes)) unfit.reason unfit.is_reason })
@@ -439,7 +460,7 @@ unfit-asks words bytes d (asked w takes f) e =
 -- a text is due with each status that is due
 pub due-said : (words : List Text) (bytes : List ℕ) (d : Due) → IsDue words bytes d → is_said d.status ≡ true
 due-said words bytes d (shown asks s) = ap is_said s
-due-said words bytes d (faulty are e) = ap (λ x. is_said x.status) e
+due-said words bytes d (faulty are e) = ap is_said (ap (λ x. x.status) e ∙ wrong-status words)
 due-said words bytes d (asked w takes e) = request-said w (source_for w bytes) d e
 
 -- ---- at least one
@@ -457,20 +478,21 @@ first_some : (o : Option Due) (IsElse : Due → Type 0) → (d : Due) × IsElse 
 first_some None IsElse some = some
 first_some (Some r) IsElse some = (r, refl)
 
-on_program : (w : Wanted) (tree : Tree) (bytes : List ℕ) → behind_of w ≡ Comments → makes_plan w ≡ false → (d : Due) × IsDueOn w tree bytes d
-on_program (sequential settings) tree bytes e fixed = (done (output_of tree), written (output_of tree) refl refl)
-on_program (verify settings) tree bytes e fixed = absurd (cc)
-on_program (planned workers settings) tree bytes e fixed = absurd (cc)
-on_program (run workers Made by settings) tree bytes e fixed = absurd (cc)
-on_program (run workers Barrier by settings) tree bytes e fixed = absurd (cc)
-on_program (run workers Given by settings) tree bytes e fixed = absurd (cc)
-on_program (bench workers points sweeps) tree bytes e fixed = absurd (cc)
+on_program : (w : Wanted) (tree : Tree) (at : Readings) (bytes : List ℕ) → behind_of w ≡ Comments → makes_plan w ≡ false → (d : Due) × IsDueOn w tree at bytes d
+on_program (sequential settings) tree at bytes e fixed = (done (output_of tree), written (output_of tree) refl refl)
+on_program (verify settings) tree at bytes e fixed = absurd (cc)
+on_program (swept s settings) tree at bytes e fixed = absurd (cc)
+on_program (planned workers settings) tree at bytes e fixed = absurd (cc)
+on_program (run workers Made by settings) tree at bytes e fixed = absurd (cc)
+on_program (run workers Barrier by settings) tree at bytes e fixed = absurd (cc)
+on_program (run workers Given by settings) tree at bytes e fixed = absurd (cc)
+on_program (bench workers points sweeps) tree at bytes e fixed = absurd (cc)
 
 some_for : (w : Wanted) (bytes : List ℕ) → behind_of w ≡ Comments → makes_plan w ≡ false → (d : Due) × IsDueFor w bytes d
 unfolding IsDueFor
 some_for w bytes e fixed =
     first_some (due_of_form w bytes) (answer.IsDueOf w (settings_in (settings_of w)) bytes)
-    (first_some (refusal_for w bytes) (IsDueOn w (program_for w bytes) (behind_end bytes)) (on_program w (program_for w bytes) (behind_end bytes) e fixed))
+    (first_some (refusal_for w bytes) (IsDueOn w (program_for w bytes) (readings_for w bytes) (behind_end bytes)) (on_program w (program_for w bytes) (readings_for w bytes) (behind_end bytes) e fixed))
 
 -- some status and text are due, where no plan may stand behind END and none is made
 pub some_due : (words : List Text) (bytes : List ℕ) → ((w : Wanted) → Takes words w → behind_of w ≡ Comments) → MakeNoPlan words → (due : Due) × IsDue words bytes due
@@ -479,12 +501,12 @@ some_due words bytes bare fixed =
     (λ (quiet : asks_to_show words ≡ false).
     ⊎_elim
     (λ (fine : fault_of tool_app words ≡ []).
-    ⊎_elim (λ (none : wanted_by (subcommand_of tool_app words) ≡ None). (wrong_words, faulty (quiet, inr none) refl))
+    ⊎_elim (λ (none : wanted_by (subcommand_of tool_app words) ≡ None). (wrong_words words, faulty (quiet, inr none) refl))
     (λ (some : (w : Wanted) × (wanted_by (subcommand_of tool_app words) ≡ Some w)).
     let found = some_for some.0 (source_for some.0 bytes) (bare some.0 (fine, some.1)) (fixed some.0 (fine, some.1)) in
     (found.0, asked some.0 (fine, some.1) found.1))
     (option_cases (wanted_by (subcommand_of tool_app words))))
-    (λ (fault : fault_of tool_app words ≢ []). (wrong_words, faulty (quiet, inl fault) refl))
+    (λ (fault : fault_of tool_app words ≢ []). (wrong_words words, faulty (quiet, inl fault) refl))
     (list_cases (fault_of tool_app words)))
     (cases_Bool (asks_to_show words))
 
@@ -499,9 +521,9 @@ never_due words bytes fixed none =
     (λ (quiet : asks_to_show words ≡ false).
     ⊎_elim
     (λ (fine : fault_of tool_app words ≡ []).
-    ⊎_elim (λ (no : wanted_by (subcommand_of tool_app words) ≡ None). none wrong_words (faulty (quiet, inr no) refl))
+    ⊎_elim (λ (no : wanted_by (subcommand_of tool_app words) ≡ None). none (wrong_words words) (faulty (quiet, inr no) refl))
     (λ (some : (w : Wanted) × (wanted_by (subcommand_of tool_app words) ≡ Some w)). never_for some.0 (source_for some.0 bytes) (fixed some.0 (fine, some.1)) (λ d is. none d (asked some.0 (fine, some.1) is)))
     (option_cases (wanted_by (subcommand_of tool_app words))))
-    (λ (fault : fault_of tool_app words ≢ []). none wrong_words (faulty (quiet, inl fault) refl))
+    (λ (fault : fault_of tool_app words ≢ []). none (wrong_words words) (faulty (quiet, inl fault) refl))
     (list_cases (fault_of tool_app words)))
     (cases_Bool (asks_to_show words))

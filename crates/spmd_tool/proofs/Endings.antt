@@ -1,9 +1,9 @@
 -- How the top call ends, from its answer and how it was written.
 use Rattle.std.proofs.Common.{◌≡◌, ◌≢◌, ℕ, true, false, List, [], Option, Some, None, ◌⊎◌, inl, inr, ap, sym, subst, ◌∙◌, refl, arith}
 use Rattle.std.specs.Io.KnownBytes.{Appends}
-use Rattle.cell_table.specs.Ends.{End}
+use Rattle.styled_table.specs.Ends.{End}
 use Rattle.clap.specs.Words.{Text}
-use Rattle.command_words.specs.Wanted.{Wanted, Takes, sequential, verify, planned, run, bench}
+use Rattle.command_words.specs.Wanted.{Wanted, Takes, sequential, verify, swept, planned, run, bench}
 use Rattle.command_words.proofs.Counted.{taken_counted}
 use Rattle.spmd_answer.specs.Bench.{bench_source}
 use Rattle.spmd_answer.specs.Due.{Due, is_shared}
@@ -11,7 +11,7 @@ use Rattle.spmd_answer.specs.declared.status.Status.{Status}
 use Rattle.spmd_answer.specs.declared.status.Status.TheVariants.{Done, SourceRefused, BadWords, ReadFault, WriteFault, NoMemory, PlanRefused, TooLong}
 use Rattle.spmd_answer.proofs.Benches.{bench_short}
 use Rattle.bench_program.proofs.Unrefused.{never_refused}
-use Rattle.spmd_tool.specs.Due.{AreWrong, AskFor, IsDue, IsRunnable, IsUnplanned, ReadFor, asked, faulty, is_said, reads, settings_of, shown, source_for}
+use Rattle.spmd_tool.specs.Due.{AreWrong, AskFor, IsDue, IsRunnable, IsUnplanned, ReadFor, asked, faulty, all_settings, is_said, reads, shown, source_for}
 use Rattle.spmd_tool.specs.Outside.{WhereTold}
 use Rattle.spmd_tool.specs.Written.{IsAnswerFrom, IsDueFrom, WritesDue, WritesReceipt, WritesRefusal, WritesRun}
 use Rattle.spmd_tool.proofs.Dues.{taken_or_faulty, taken_or_shown, asked-due, one_status, refused-asks, request-done, request-runs, request-unfit, request-unnamed, request-unplanned, unfit-asks, wrong-due}
@@ -113,6 +113,7 @@ from-wrong words told d is wrong = wrong-due words is.bytes d wrong is.is_due
 refused_reads : (words : List Text) (told : Option (List ℕ)) (d : Due) (w : Wanted) → IsDueFrom words told d → Takes words w → d.status ≡ SourceRefused → reads w ≡ true
 refused_reads words told d (sequential settings) is takes e = refl
 refused_reads words told d (verify settings) is takes e = refl
+refused_reads words told d (swept s settings) is takes e = refl
 refused_reads words told d (planned workers settings) is takes e = refl
 refused_reads words told d (run workers choice by settings) is takes e = refl
 refused_reads words told d (bench workers points sweeps) is takes e = absurd (let f : Done ≡ SourceRefused = sym (bench_runs words told d workers points sweeps is takes) ∙ e in cc)
@@ -131,9 +132,9 @@ from-done words told d w is takes e =
     let run = request-done w (source_for w is.bytes) d (asked-due words is.bytes w d takes is.is_due) e in
     record { takes = takes; settings_are = run.settings_are }
 
-pub from-unnamed : (words : List Text) (told : Option (List ℕ)) (d : Due) (w : Wanted) → IsDueFrom words told d → AskFor words w → settings_of w ≡ [] → d.status ≢ BadWords
+pub from-unnamed : (words : List Text) (told : Option (List ℕ)) (d : Due) (w : Wanted) → IsDueFrom words told d → AskFor words w → all_settings w ≡ [] → d.status ≢ BadWords
 from-unnamed words told d w is ask none e =
-    request-unnamed w (source_for w is.bytes) d (asked-due words is.bytes w d ask.takes is.is_due) none e
+    request-unnamed w (source_for w is.bytes) d (asked-due words is.bytes w d ask.takes is.is_due) ask.settings_are none e
 
 -- the status that was found, or that a write failed
 pub said_or_fault : (r s : Status) → (r ≢ WriteFault → r ≡ s) → (r ≡ s) ⊎ ((r ≡ WriteFault) ⊎ (r ≡ NoMemory))

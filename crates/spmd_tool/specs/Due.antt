@@ -1,19 +1,20 @@
 -- What is due for a command: the status and the text, from its words and the bytes of the source alone.
-use Rattle.std.specs.Prelude.{ℕ, ◌≡◌, ◌≤◌, ◌⊎◌, ⊤, Bool, true, false, List, [], length, codes, Option, Some, None, nat_lt, if◌then◌else◌}
+use Rattle.std.specs.Prelude.{ℕ, ℤ, ◌≡◌, ◌≤◌, ◌⊎◌, ⊤, Bool, true, false, List, [], length, codes, Option, Some, None, nat_lt, if◌then◌else◌}
 use Rattle.std.specs.Option.{option_map, option_or}
 use Rattle.nest_tree.specs.Tree.{Tree}
 use Rattle.f77_lines.specs.Listing.{entries_of}
 use Rattle.f77_scene.specs.Reading.{program_in}
+use Rattle.f77_scene.specs.Scene.{Name}
 use Rattle.sync_plan.specs.declared.plan.Plan.{Plan}
 use Rattle.clap.specs.Words.{Text}
 use Rattle.command_words.specs.Settings.{first_fault_from, settings_in}
-use Rattle.command_words.specs.Wanted.{Wanted, sequential, verify, planned, run, bench, Takes, AreFaulty, asks_to_show}
+use Rattle.command_words.specs.Wanted.{Wanted, sequential, verify, swept, planned, run, bench, Takes, AreFaulty, asks_to_show, has_wrong_sweep}
 use Rattle.command_words.specs.declared.request.PlanChoice.TheVariants.{Made, Barrier, Given}
-use Rattle.cell_table.specs.Ends.{End}
+use Rattle.styled_table.specs.Ends.{End}
 use Rattle.spmd_answer.specs.Bench.{bench_source}
 use Rattle.spmd_answer.specs.Due as answer
-use Rattle.spmd_answer.specs.Due.{Due, IsFirstOr, behind_end, behind_of, due_of_refusal, line, wrong_setting}
-use Rattle.spmd_answer.specs.Given.{IsTakenPlan}
+use Rattle.spmd_answer.specs.Due.{Due, IsFirstOr, Readings, behind_end, behind_of, due_of_refusal, line, readings, settings_for, wrong_setting, wrong_sweep}
+use Rattle.spmd_answer.specs.Given.{IsProvedPlan, IsTakenPlan}
 use Rattle.spmd_answer.specs.Receipts.{HasReceipt}
 use Rattle.spmd_answer.specs.declared.status.Status.{Status}
 use Rattle.spmd_answer.specs.declared.status.Status.TheVariants.{Done, SourceRefused, BadWords, ReadFault, WriteFault, NoMemory, PlanRefused, TooLong}
@@ -26,6 +27,7 @@ most_bytes = 4194304
 abbrev pub settings_of : Wanted → List Text
 settings_of (sequential settings) = settings
 settings_of (verify settings) = settings
+settings_of (swept s settings) = settings
 settings_of (planned workers settings) = settings
 settings_of (run workers choice by settings) = settings
 settings_of (bench workers points sweeps) = []
@@ -34,6 +36,7 @@ settings_of (bench workers points sweeps) = []
 abbrev pub reads : Wanted → Bool
 reads (sequential settings) = true
 reads (verify settings) = true
+reads (swept s settings) = true
 reads (planned workers settings) = true
 reads (run workers choice by settings) = true
 reads (bench workers points sweeps) = false
@@ -42,6 +45,7 @@ reads (bench workers points sweeps) = false
 abbrev pub source_for : Wanted → List ℕ → List ℕ
 source_for (sequential settings) bytes = bytes
 source_for (verify settings) bytes = bytes
+source_for (swept s settings) bytes = bytes
 source_for (planned workers settings) bytes = bytes
 source_for (run workers choice by settings) bytes = bytes
 source_for (bench workers points sweeps) bytes = bench_source points sweeps
@@ -50,9 +54,9 @@ source_for (bench workers points sweeps) bytes = bench_source points sweeps
 abbrev pub too_long : Due
 too_long = record { status = TooLong; text = line (codes "TOO LONG") }
 
--- due with words that are none that is offered
-abbrev pub wrong_words : Due
-wrong_words = record { status = BadWords; text = line (codes "WORDS 0") }
+-- due with words that are none that is offered, for a sweep that has not its form, or for anything else
+abbrev pub wrong_words : List Text → Due
+wrong_words words = if has_wrong_sweep words then wrong_sweep else wrong_setting 0
 
 abbrev pub first_wrong : Wanted → Option ℕ
 first_wrong wanted = first_fault_from 1 (settings_of wanted)
@@ -68,7 +72,7 @@ IsDueFor wanted bytes due = IsFirstOr (due_of_form wanted bytes) (answer.IsDueOf
 -- What is due for words and bytes: help or the version, whose text is left open; the refusal of words that are none that is offered; or what is due for the request that they stand for.
 pub data IsDue (words : List Text) (bytes : List ℕ) (due : Due) : Type 0 where
   shown : (asks : asks_to_show words ≡ true) (status_is : due.status ≡ Done) → IsDue words bytes due
-  faulty : (are : AreFaulty words) (due_is : due ≡ wrong_words) → IsDue words bytes due
+  faulty : (are : AreFaulty words) (due_is : due ≡ wrong_words words) → IsDue words bytes due
   asked : (wanted : Wanted) (takes : Takes words wanted) (is_due : IsDueFor wanted (source_for wanted bytes) due) → IsDue words bytes due
 
 -- no plan is made for words: then one text is due, but for help and the version
@@ -89,14 +93,23 @@ pub record ReadFor (words : List Text) (wanted : Wanted) : Type 0 where
 abbrev pub AreWrong : List Text → Type 0
 AreWrong words = AreFaulty words ⊎ ((wanted : Wanted) × (index : ℕ) × Takes words wanted × (first_wrong wanted ≡ Some index))
 
+-- the settings with which the source of a request is read
+abbrev pub all_settings : Wanted → List (Name × ℤ)
+all_settings wanted = settings_for wanted (settings_in (settings_of wanted))
+
 -- the program that the bytes stand for, with the request's settings
 abbrev pub program_for : Wanted → List ℕ → Tree
-program_for wanted bytes = program_in (entries_of bytes) (settings_in (settings_of wanted))
+program_for wanted bytes = program_in (entries_of bytes) (all_settings wanted)
 
--- behind END stands the text of an accepted plan, with the workers that are asked for, where the request takes one from there
+-- what the bytes are with each value of a sweep
+abbrev pub readings_for : Wanted → List ℕ → Readings
+readings_for wanted bytes = readings (settings_in (settings_of wanted)) bytes
+
+-- behind END stands the text of an accepted plan, with the workers that are asked for, or of one that is proved, where the request takes one from there
 abbrev pub HasPlan : Wanted → Tree → List ℕ → Type 0
 HasPlan (sequential settings) tree bytes = ⊤
 HasPlan (verify settings) tree bytes = (plan : Plan) × IsTakenPlan None tree bytes plan
+HasPlan (swept s settings) tree bytes = (plan : Plan) × IsProvedPlan tree bytes plan
 HasPlan (planned workers settings) tree bytes = ⊤
 HasPlan (bench workers points sweeps) tree bytes = ⊤
 HasPlan (run workers Made by settings) tree bytes = ⊤
@@ -110,13 +123,13 @@ HasReceiptFor wanted bytes due receipt = HasReceipt wanted (program_for wanted b
 -- The bytes stand for a program that is within its limits and has its subscripts in range, where its named constants have the values of the request's settings; and what stands behind END may.
 pub record IsRunnable (wanted : Wanted) (bytes : List ℕ) : Type 0 where
   pub short : length bytes ≤ most_bytes
-  pub unrefused : due_of_refusal (behind_of wanted) bytes (settings_in (settings_of wanted)) ≡ None
+  pub unrefused : due_of_refusal (behind_of wanted) bytes (all_settings wanted) ≡ None
   pub planned : HasPlan wanted (program_for wanted bytes) (behind_end bytes)
 
 -- The same as `IsRunnable`, but that no such plan stands behind END, where the request takes one from there.
 pub record IsUnplanned (wanted : Wanted) (bytes : List ℕ) : Type 0 where
   pub short : length bytes ≤ most_bytes
-  pub unrefused : due_of_refusal (behind_of wanted) bytes (settings_in (settings_of wanted)) ≡ None
+  pub unrefused : due_of_refusal (behind_of wanted) bytes (all_settings wanted) ≡ None
   pub unplanned : HasPlan wanted (program_for wanted bytes) (behind_end bytes) → ⊥
 
 -- the statuses with which a text is due: 0, 1, 2, 6 and 7

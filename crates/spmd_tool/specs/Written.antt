@@ -2,12 +2,12 @@
 use Rattle.std.specs.Prelude.{ℕ, ◌≡◌, List, Option, Some, None}
 use Rattle.std.specs.Io.KnownBytes.{Appends}
 use Rattle.clap.specs.Words.{Text}
-use Rattle.cell_table.specs.Ends.{End}
+use Rattle.styled_table.specs.Ends.{End}
 use Rattle.command_words.specs.Wanted.{Takes, Wanted}
 use Rattle.spmd_answer.specs.Due.{Due, IsRefusalFor, IsTextFor, behind_end, line}
 use Rattle.spmd_answer.specs.Receipts.{IsReceiptOf}
 use Rattle.spmd_answer.specs.declared.status.Status.{Status}
-use Rattle.spmd_tool.specs.Due.{HasReceiptFor, IsDue, IsDueFor, IsRunnable, IsUnplanned, program_for, source_for}
+use Rattle.spmd_tool.specs.Due.{HasReceiptFor, IsDue, IsDueFor, IsRunnable, IsUnplanned, program_for, readings_for, source_for}
 use Rattle.spmd_tool.specs.Outside.{AreTold, WritesPart}
 
 -- This is due for the words and the bytes of the source, where it tells them.
@@ -43,13 +43,13 @@ pub record WritesPartOfDue (words : List Text) (source : Option (List ℕ)) (old
   pub is_due : IsDueFrom words source due
   pub written : WritesPart old new due.text
 
--- The bytes of the source, of `bench` those of its own, stand for a program that may be run, and what the request asks for was written: of `plan` the text of a plan that is made and then that of its reasons, of `run` the text of a plan and then the sequential output, of `bench` how many waits of each kind the plan has and then the output, of `seq` the output, of `verify` that the plan is accepted.
+-- The bytes of the source, of `bench` those of its own, stand for a program that may be run, and what the request asks for was written: of `plan` the text of a plan that is made and then that of its reasons, of `run` the text of a plan and then the sequential output, of `bench` how many waits of each kind the plan has and then the output, of `seq` the output, of `verify` that the plan is accepted, or with a sweep a line for each value.
 pub record WritesRun (wanted : Wanted) (source : Option (List ℕ)) (old new : Option (List ℕ)) : Type 0 where
   pub bytes : List ℕ
   pub told : AreTold source bytes
   pub runnable : IsRunnable wanted (source_for wanted bytes)
   pub text : List ℕ
-  pub is_text : IsTextFor wanted (program_for wanted (source_for wanted bytes)) (behind_end (source_for wanted bytes)) text
+  pub is_text : IsTextFor wanted (program_for wanted (source_for wanted bytes)) (readings_for wanted (source_for wanted bytes)) (behind_end (source_for wanted bytes)) text
   pub written : Appends old new text
 
 -- The same of a run by spmd: what was written is what the run by one plan writes, and of that program and that plan is the receipt, with the last memory.

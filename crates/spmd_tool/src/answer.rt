@@ -13,15 +13,16 @@ ghost use Rattle.spmd_tool.specs.Written.{IsAnswerFrom, IsAnswerOf};
 ghost use Rattle.spmd_tool.specs.declared.answer.Trouble.TheVariants as trouble;
 
 use crate::outside::{ReadTrouble, read_all};
-use cell_table::Receipt;
 use clap::Error;
 use command_words::{Refused, Request, SettingFault, read_settings, read_words};
+use spmd_answer::refusals::{setting_answer, sweep_answer};
 use spmd_answer::{Answer, Host, Status, answer_to, bench_source};
 use spmd_ports::{Gate, Source};
 use std::alloc::{AllocError, Global};
 use std::fmt::Write;
 use std::sync::Wait;
 use std::thread::Threads;
+use styled_table::Receipt;
 
 /// Why there is no answer.
 #[derive(Clone, Copy, Debug, PartialEq, Eq)]
@@ -61,7 +62,8 @@ pub fn answer_in<R: Threads + Wait + Sync, S: Source, G: Gate + Sync>(
     match read_words(alloc, words) {
         Ok(request) => answer_for(host, &request, source),
         Err(Refused::Shown(error)) => Ok((shown(alloc, &error)?, None)),
-        Err(Refused::Faulty) => Ok((wrong_words(alloc, 0)?, None)),
+        Err(Refused::Faulty) => Ok((setting_answer(alloc, 0)?, None)),
+        Err(Refused::WrongSweep) => Ok((sweep_answer(alloc)?, None)),
         Err(Refused::NoMemory) => Err(Trouble::NoMemory),
     }
 }
@@ -86,7 +88,7 @@ fn answer_for<R: Threads + Wait + Sync, S: Source, G: Gate + Sync>(
     let alloc = host.alloc;
     let settings = match read_settings(alloc, settings_in(request)) {
         Ok(settings) => settings,
-        Err(SettingFault::Word(index)) => return Ok((wrong_words(alloc, index)?, None)),
+        Err(SettingFault::Word(index)) => return Ok((setting_answer(alloc, index)?, None)),
         Err(SettingFault::NoMemory) => return Err(Trouble::NoMemory),
     };
     match source_of(alloc, request, source) {
@@ -127,6 +129,7 @@ fn settings_in<'a>(request: &'a Request<'a>) -> &'a [&'a str]
     match request {
         Request::Sequential(settings)
         | Request::Verify(settings)
+        | Request::Sweep(_, settings)
         | Request::Plan(_, settings)
         | Request::Run(_, settings) => settings,
         Request::Bench(_) => &[],
@@ -140,17 +143,6 @@ fn shown(alloc: Global, error: &Error) -> Result<Answer, AllocError>
     let text = format!(in alloc; "{error}")?;
     Ok(Answer {
         status: Status::Done,
-        text: text.into_bytes(),
-    })
-}
-
-// Words that are refused: 0, or the number of the setting at fault.
-fn wrong_words(alloc: Global, index: usize) -> Result<Answer, AllocError>
-    ensures { IfOk result (λ a. due_in a ≡ due.wrong_setting index) }
-{
-    let text = format!(in alloc; "WORDS {index}\n")?;
-    Ok(Answer {
-        status: Status::BadWords,
         text: text.into_bytes(),
     })
 }

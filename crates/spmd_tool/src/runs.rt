@@ -2,7 +2,6 @@
 // that workers run beside one another.
 
 use crate::tests::{ended, said_by};
-use cell_table::Receipt;
 use spmd_answer::{Host, Status};
 use spmd_ports::{Gate, MemSink, MemSource, NoGate};
 use std::alloc::{AllocError, Global};
@@ -12,6 +11,7 @@ use std::sync::Wait;
 use std::sync::atomic::{AtomicU64, Ordering};
 use std::test::Fail;
 use std::thread::Threads;
+use styled_table::Receipt;
 
 // So often a gate looks before it lets a worker pass.
 const MOST_TURNS: u32 = 10_000_000;
@@ -125,6 +125,17 @@ fn each_engine_prints_the_same(rt: HostRuntime) -> Result<(), Fail> {
         ("run --workers 2 --by core", true, false),
         ("run --workers 2 --by join", true, false),
         ("run --workers 2 --by spmd", true, true),
+        (
+            "run --workers 2 --by spmd --barrier dissemination",
+            true,
+            true,
+        ),
+        (
+            "run --workers 2 --barrier dissemination --by core",
+            true,
+            false,
+        ),
+        ("run --workers 2 --barrier arrive", true, true),
         ("run --workers 2", true, true),
         ("run --workers 2 --plan barrier", false, true),
         ("seq", false, false),

@@ -3,7 +3,6 @@
 ghost use Rattle.std.specs.Prelude.{◌<◌};
 
 use crate::tool::tool;
-use cell_table::Receipt;
 use spmd_answer::{Host, Status};
 use spmd_ports::{Gate, MemSink, MemSource, NoGate};
 use std::alloc::{AllocError, Global};
@@ -11,6 +10,7 @@ use std::fmt::Write;
 use std::sync::Wait;
 use std::test::Fail;
 use std::thread::Threads;
+use styled_table::Receipt;
 
 const FIRST: &str =
     "      PROGRAM ONE\n      K = 20\n      K = K*2 + 2\n      PRINT *, 'K', K\n      END\n";
@@ -146,12 +146,30 @@ fn a_write_that_fails_or_takes_nothing_leaves_a_front(rt: HostRuntime) -> Result
 
 #[test]
 fn says_what_is_wrong(rt: HostRuntime) -> Result<(), Fail> {
-    let rows: [(&str, &str, Status, &str); 16] = [
+    let rows: [(&str, &str, Status, &str); 19] = [
         ("", FIRST, Status::BadWords, "WORDS 0\n"),
         ("run --plan made", FIRST, Status::BadWords, "WORDS 0\n"),
         ("seq Q", "", Status::BadWords, "WORDS 1\n"),
         ("seq Q=1", FIRST, Status::BadWords, "WORDS 1\n"),
         ("seq Q=1 R=", FIRST, Status::BadWords, "WORDS 2\n"),
+        (
+            "verify --sweep N=7:6 R=",
+            FIRST,
+            Status::BadWords,
+            "WORDS SWEEP\n",
+        ),
+        (
+            "verify --sweep N=6:7 R=",
+            FIRST,
+            Status::BadWords,
+            "WORDS 1\n",
+        ),
+        (
+            "verify --sweep N=6:7 R=1",
+            FIRST,
+            Status::BadWords,
+            "WORDS SWEEP\n",
+        ),
         ("seq Q=1", "", Status::SourceRefused, "REFUSED L4 LINE 1\n"),
         (
             "seq",

@@ -6,24 +6,25 @@ ghost use Rattle.clap.specs.Walk.{texts};
 ghost use Rattle.command_words.specs.Wanted.{Takes, Wanted, asks_to_show, bench};
 ghost use Rattle.spmd_ports.specs.Counts.{Rose};
 ghost use Rattle.spmd_answer.specs.Due.{Due, is_shared};
-ghost use Rattle.spmd_tool.specs.Due.{AreWrong, AskFor, IsDue, IsOrNoMemory, IsRunnable, IsUnplanned, ReadFor, is_said, most_bytes, reads, settings_of, source_for};
+ghost use Rattle.spmd_tool.specs.Due.{AreWrong, AskFor, IsDue, IsOrNoMemory, IsRunnable, IsUnplanned, ReadFor, all_settings, is_said, most_bytes, reads, source_for};
 ghost use Rattle.spmd_tool.specs.Outside.{TakesBytes, WhereTold, WritesPart, RoseOneOf, NoneRose};
 ghost use Rattle.spmd_tool.specs.Written.{WritesDue, WritesPartOfDue, WritesReceipt, WritesRefusal, WritesRun};
 
 use crate::answer::{Trouble, answer_in};
 use crate::outside::write_all;
-use cell_table::Receipt;
 use spmd_answer::{Host, Status};
 use spmd_ports::{Failed, Gate, Sink, Source};
 use std::alloc::Global;
 use std::sync::Wait;
 use std::thread::Threads;
+use styled_table::Receipt;
 
 /// Does what the words ask for, which stand without the program's name: `seq [NAME=VALUE..]`,
-/// `verify [NAME=VALUE..]`, `plan --workers P [NAME=VALUE..]`, `run --workers P [--plan PLAN]
-/// [--by ENGINE] [NAME=VALUE..]`, where PLAN is `made`, where left out too, `barrier` or `given`, and
-/// ENGINE `spmd`, where left out too, `join` or `core`, or `bench --workers P N M`, as `clap` reads
-/// them, or `--help` or `--version`. But for `bench` the source is read to its end, with the plan
+/// `verify [--sweep NAME=LOW:HIGH] [NAME=VALUE..]`, `plan --workers P [NAME=VALUE..]`,
+/// `run --workers P [--plan PLAN] [--by ENGINE] [--barrier BARRIER] [NAME=VALUE..]`, where PLAN is
+/// `made`, where left out too, `barrier` or `given`, ENGINE `spmd`, where left out too, `join` or
+/// `core`, and BARRIER `arrive`, where left out too, or `dissemination`, or `bench --workers P N M`,
+/// as `clap` reads them, or `--help` or `--version`. But for `bench` the source is read to its end, with the plan
 /// behind it where one is given, and then the answer is written to the sink. The certificates of a
 /// plan are checked side by side on threads of `rt`, and a run by join or spmd goes on threads of
 /// `rt`, each worker of which passes the gate once in each phase.
@@ -41,7 +42,7 @@ pub fn tool<R: Threads + Wait + Sync, S: Source, K: Sink, G: Gate + Sync>(
     sink: &mut K,
     gate: &G,
 ) -> (Status, Option<Receipt>)
-    // The headline: where the words stand for a request, with status 0 the bytes of the source stand for a program that may be run, what is asked for was written, which is of `run` the text of a plan and then the sequential output and of `plan` the text of a plan that is made and then that of its reasons, and the source was read to its end.
+    // The headline: where the words stand for a request, with status 0 the bytes of the source stand for a program that may be run, what is asked for was written, which is of `run` the text of a plan and then the sequential output of `plan` the text of a plan that is made and then that of its reasons, and of `verify` with a sweep a line for each value, and the source was read to its end.
     ensures headline { (w : Wanted) → Takes (texts words.now) w → result.0 ≡ Status.Done → WritesRun w (S.left source.old) (K.written sink.old) (K.written sink.new) }
     ensures end { (w : Wanted) → Takes (texts words.now) w → reads w ≡ true → result.0 ≡ Status.Done → IsAtEnd (S.left source.new) }
 
@@ -74,7 +75,7 @@ pub fn tool<R: Threads + Wait + Sync, S: Source, K: Sink, G: Gate + Sync>(
     // Wrong words are status 2, words that ask for help or for the version status 0; or 4 where the answer cannot be written, or 5.
     ensures wrong_words { AreWrong (texts words.now) → (result.0 ≡ Status.BadWords) ⊎ ((result.0 ≡ Status.WriteFault) ⊎ (result.0 ≡ Status.NoMemory)) }
     ensures shown_words { asks_to_show (texts words.now) ≡ true → (result.0 ≡ Status.Done) ⊎ ((result.0 ≡ Status.WriteFault) ⊎ (result.0 ≡ Status.NoMemory)) }
-    ensures right_words { (w : Wanted) → AskFor (texts words.now) w → settings_of w ≡ [] → result.0 ≢ Status.BadWords }
+    ensures right_words { (w : Wanted) → AskFor (texts words.now) w → all_settings w ≡ [] → result.0 ≢ Status.BadWords }
 
     // Unless words stand for a request that reads the source and whose settings have the form of settings, nothing is read.
     ensures unread { ((w : Wanted) → ReadFor (texts words.now) w → ⊥) → source.new ≡ source.old }

@@ -8,7 +8,8 @@ returns-clause-app c =
     let one = c.in_ok-arg.ensures.shape c.workers.ensures.local ∙ ap₂ with_rule c.new.ensures.app c.workers.ensures.rule in
     let two = c.in_ok-arg-2.ensures.shape c.option-plan.ensures.local ∙ ap₂ with_rule one c.option-plan.ensures.rule in
     let three = c.in_ok-arg-3.ensures.shape c.option-by.ensures.local ∙ ap₂ with_rule two c.option-by.ensures.rule in
-    ap app_of_fields c.about.ensures ∙ (c.in_ok-command.ensures.shape c.settings.ensures.local ∙ ap₂ with_rule three c.settings.ensures.rule)
+    let four = c.in_ok-arg-4.ensures.shape c.option-barrier.ensures.local ∙ ap₂ with_rule three c.option-barrier.ensures.rule in
+    ap app_of_fields c.about.ensures ∙ (c.in_ok-command.ensures.shape c.settings.ensures.local ∙ ap₂ with_rule four c.settings.ensures.rule)
 
 pub returns-clause-local : goal.returns-clause-local
 returns-clause-local c = search rules

@@ -14,7 +14,7 @@ returns-in-Ok-clause-refused c =
     let app_is : app_of c.in_ok-command.command ≡ tool_app = c.in_ok-command.ensures in
     let found = (c.in-Ok.ensures.matches (ap is_simple app_is)).1 ∙ ap (λ (a : App). subcommand_of a words) app_is in
     let fault = sym (ap (λ (a : App). fault_of a words) app_is) ∙ c.in-Ok.ensures.kinds (ap is_simple_and_free app_is) in
-    IfErr-weaker c.request.result _ _ (λ r h. refused_by_value words _ r fault (ap wanted_by (sym found)) h) c.request.ensures.refused
+    IfErr-weaker c.request.result _ _ (λ r h. refused_by_value words _ r fault (sym found) h) c.request.ensures.refused
 
 pub returns-in-Ok-clause-taken : goal.returns-in-Ok-clause-taken
 returns-in-Ok-clause-taken c =

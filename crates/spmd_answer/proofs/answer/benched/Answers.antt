@@ -6,7 +6,7 @@ use Rattle.spmd_answer.proofs.answer.benched.Goals as goal
 
 pub returns-clause-due : goal.returns-clause-due
 returns-clause-due g c =
-    λ bytes. let ran = c.in_ok-text.ensures bytes in written _ (ran.plan, ran.written) c.done.ensures
+    λ at bytes. let ran = c.in_ok-text.ensures bytes in written _ (ran.plan, ran.written) c.done.ensures
 
 pub returns-clause-receipt : goal.returns-clause-receipt
 returns-clause-receipt g c =

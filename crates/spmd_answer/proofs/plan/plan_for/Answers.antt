@@ -21,7 +21,7 @@ returns-in_ok-plan-in-Made-clause-ordered g c =
 pub returns-in_ok-plan-in-Made-clause-counts : goal.returns-in_ok-plan-in-Made-clause-counts
 returns-in_ok-plan-in-Made-clause-counts g c =
     let made = c.in_ok-plan-in-Made.ensures in
-    counts_of_fit (tree_of c.args.program.now) c.in_ok-plan-in-Made.plan c.requires.formed made.version made.conditions made.accepted.fits
+    counts_of_fit (tree_of c.args.program.now) c.in_ok-plan-in-Made.plan c.requires.formed made.conditions made.accepted.fits
 
 pub returns-in_ok-make_barrier-in-Barrier-clause-ordered : goal.returns-in_ok-make_barrier-in-Barrier-clause-ordered
 returns-in_ok-make_barrier-in-Barrier-clause-ordered g c =
@@ -30,7 +30,7 @@ returns-in_ok-make_barrier-in-Barrier-clause-ordered g c =
 pub returns-in_ok-make_barrier-in-Barrier-clause-counts : goal.returns-in_ok-make_barrier-in-Barrier-clause-counts
 returns-in_ok-make_barrier-in-Barrier-clause-counts g c =
     let barriers = c.in_ok-make_barrier-in-Barrier.ensures in
-    counts_of_fit (tree_of c.args.program.now) c.in_ok-make_barrier-in-Barrier.field-0 c.requires.formed barriers.version barriers.conditions barriers.accepted.fits
+    counts_of_fit (tree_of c.args.program.now) c.in_ok-make_barrier-in-Barrier.field-0 c.requires.formed barriers.conditions barriers.accepted.fits
 
 pub returns-in-Given-clause-fits : goal.returns-in-Given-clause-fits
 returns-in-Given-clause-fits g c = IfOk-weaker c.given_plan.result _ _ (λ plan taken. taken.accepted.fits) c.given_plan.ensures.taken

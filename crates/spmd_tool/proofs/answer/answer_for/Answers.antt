@@ -8,7 +8,7 @@ use Rattle.spmd_tool.proofs.answer.answer_for.Goals as goal
 pub returns-in-Err-Word-clause-due : goal.returns-in-Err-Word-clause-due
 returns-in-Err-Word-clause-due g c =
     wrong-of (wanted c.args.request.now) _ (texts c.settings_in.result.now) c.in-Err-Word.index _ c.settings_in.ensures
-    (rw c.in-Err-Word.field-0-is at c.in-Err-Word.ensures.refused) c.in_ok-wrong_words-in-Err-Word.ensures
+    (rw c.in-Err-Word.field-0-is at c.in-Err-Word.ensures.refused) c.in_ok-setting_answer-in-Err-Word.ensures
 
 pub returns-in-Ok-source_of-clause-due : goal.returns-in-Ok-source_of-clause-due
 returns-in-Ok-source_of-clause-due g c =
