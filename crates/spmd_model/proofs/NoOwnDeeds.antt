@@ -20,12 +20,12 @@ use Rattle.spmd_model.specs.declared.style.Style.TheVariants.{Arrive}
 
 -- ---- each cell is the one that all share
 
-no_slot : (tree : Tree) (plan : Plan) (place c : ℕ) → HasNoOwn tree plan place → (own_of tree plan place).slot c ≡ None
+pub no_slot : (tree : Tree) (plan : Plan) (place c : ℕ) → HasNoOwn tree plan place → (own_of tree plan place).slot c ≡ None
 no_slot tree plan place c none =
     ap (λ vs. option_or (place_in tree vs c) (option_map (λ k. 16 + k) (place_in tree (own_loop tree plan place).sums c))) none.privates
     ∙ ap (λ vs. option_map (λ k. 16 + k) (place_in tree vs c)) none.sums
 
-same_cell : (tree : Tree) (plan : Plan) (place p c : ℕ) → HasNoOwn tree plan place → own_cell (own_of tree plan place) p c ≡ c
+pub same_cell : (tree : Tree) (plan : Plan) (place p c : ℕ) → HasNoOwn tree plan place → own_cell (own_of tree plan place) p c ≡ c
 same_cell tree plan place p c none = ap (at_slot (own_of tree plan place) p c) (no_slot tree plan place c none)
 
 same_cells : (f : ℕ → ℕ) (cells : List ℕ) → ((c : ℕ) → f c ≡ c) → map f cells ≡ cells
@@ -36,7 +36,7 @@ same_store : (f : ℕ → ℕ) (o : Option ℕ) → ((c : ℕ) → f c ≡ c) �
 same_store f None same = refl
 same_store f (Some c) same = ap Some (same c)
 
-same_deeds : (tree : Tree) (plan : Plan) (place p : ℕ) (i : Instance) → HasNoOwn tree plan place → own_deeds tree (own_of tree plan place) p i ≡ instance_deeds tree i
+pub same_deeds : (tree : Tree) (plan : Plan) (place p : ℕ) (i : Instance) → HasNoOwn tree plan place → own_deeds tree (own_of tree plan place) p i ≡ instance_deeds tree i
 same_deeds tree plan place p i none =
     let f = own_cell (own_of tree plan place) p in
     ap (λ cs. map loading cs ++ last_deed (option_map f (store_of tree i)) false (assigned_value tree i) (line_of tree i) ∷ []) (same_cells f (loads_of tree i) (λ c. same_cell tree plan place p c none))

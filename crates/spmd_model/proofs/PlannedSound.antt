@@ -19,13 +19,13 @@ use Rattle.nest_tree.specs.WellFormed.{IsWellFormed}
 use Rattle.nest_model.specs.Accesses.{access_cell, work_store}
 use Rattle.owner_partition.specs.Phases.{executions}
 use Rattle.sync_plan.specs.Fit.{IsFit}
-use Rattle.sync_plan.specs.Ordered.{IsOrdered as IsOrderedPlan, owner_under}
+use Rattle.sync_plan.specs.Ordered.{owner_under}
 use Rattle.sync_plan.proofs.ProcessorSets.{any_from}
 use Rattle.sync_plan.proofs.FitOwners.{owners_below, printers}
-use Rattle.spmd_model.specs.Ordered.{IsOrdered, IsSound}
+use Rattle.spmd_model.specs.Ordered.{IsSound}
 use Rattle.spmd_model.specs.Planned.{machine_of}
 use Rattle.sync_plan.proofs.Gets.{get-behind, get-front}
-use Rattle.spmd_model.proofs.PlannedOrder.{filtered, ordered_along}
+use Rattle.spmd_model.proofs.PlannedOrder.{filtered}
 use Rattle.spmd_model.proofs.PlannedMoments.{boundary_place_from, boundary_rises, executed}
 
 -- a boundary on the timeline is that of a phase
@@ -132,7 +132,3 @@ sound_of tree plan formed fits = record {
   owned = owned_along tree plan (owners_below tree plan formed fits);
   printed = printed_along tree plan (printers tree plan formed fits);
 }
-
-pub ordered_of : (tree : Tree) (plan : Plan) → IsWellFormed tree → IsFit tree plan → IsOrderedPlan tree plan → IsOrdered (machine_of tree plan)
-ordered_of tree plan formed fits ordered =
-    ordered_along tree plan (λ x k at. all_at (λ (y : Execution). owner_under tree plan y < plan.workers) (executions tree plan.cut.marks) k x (owners_below tree plan formed fits) at) fits ordered

@@ -165,12 +165,10 @@ pub fn stored_values()
         → stored_at m p n ≡ value_at m place }
 {}
 
-/// A plan that fits a well-formed program has a sound timeline, and an ordered plan an ordered one.
+/// A plan that fits a well-formed program has a sound timeline.
 pub fn timelines_of_plans()
-    ensures sound { (tree : Tree) → (plan : Plan) → IsWellFormed tree → IsFit tree plan
+    ensures { (tree : Tree) → (plan : Plan) → IsWellFormed tree → IsFit tree plan
         → IsSound (machine_of tree plan) }
-    ensures ordered { (tree : Tree) → (plan : Plan) → IsWellFormed tree → IsFit tree plan
-        → IsOrderedPlan tree plan → IsOrdered (machine_of tree plan) }
 {}
 
 /// Where processors have cells of their own for the own scalars of phases, and pass barriers in

@@ -9,5 +9,4 @@ pub mod PhasePlaces
 pub mod FitOwners
 pub mod BarrierOrder
 pub mod OuterLoops
-pub mod NoOwn
 pub mod OwnVersions

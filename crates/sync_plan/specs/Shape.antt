@@ -89,21 +89,21 @@ abbrev pub are_good_conditions : ℕ → Version → Conditions → Bool
 are_good_conditions constants version Values = true
 are_good_conditions constants version (Rows rows) = has_rows version && list_all (is_good_row constants) rows
 
--- a version that has Sum loops; none has, until all that runs a plan knows them
+-- a version that has Sum loops
 abbrev pub has_sums : Version → Bool
 has_sums One = false
 has_sums Two = false
 has_sums Three = false
-has_sums Four = false
-has_sums Five = false
+has_sums Four = true
+has_sums Five = true
 
--- a version that has private scalars; none has, until all that runs a plan knows them
+-- a version that has private scalars
 abbrev pub has_privates : Version → Bool
 has_privates One = false
 has_privates Two = false
 has_privates Three = false
 has_privates Four = false
-has_privates Five = false
+has_privates Five = true
 
 -- numbers rise above least
 abbrev pub do_rise : ℕ → List ℕ → Bool

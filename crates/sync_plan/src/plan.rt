@@ -35,18 +35,18 @@ impl Version {
         }
     }
 
-    /// Whether plans of this version may have Sum loops. No version's may yet.
+    /// Whether plans of this version may have Sum loops.
     pub fn has_sums(self) -> bool
         ensures { result ≡ has_sums self }
     {
-        false
+        matches!(self, Version::Four | Version::Five)
     }
 
-    /// Whether plans of this version may have private scalars. No version's may yet.
+    /// Whether plans of this version may have private scalars.
     pub fn has_privates(self) -> bool
         ensures { result ≡ has_privates self }
     {
-        false
+        matches!(self, Version::Five)
     }
 }
 
