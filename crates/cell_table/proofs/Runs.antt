@@ -7,13 +7,14 @@ use Rattle.nest_tree.specs.Tree.{Tree}
 use Rattle.sync_plan.specs.declared.plan.Plan.{Plan}
 use Rattle.spmd_model.specs.Cells.{plus}
 use Rattle.spmd_model.specs.Lawful.{Moves}
-use Rattle.spmd_model.specs.Planned.{machine_of}
+use Rattle.spmd_model.specs.Styled.{machine_by}
+use Rattle.spmd_model.specs.declared.style.Style.{Style}
 use Rattle.spmd_model.specs.Reached.{IsPossibleAt, memory_by}
 use Rattle.spmd_model.specs.States.{State, stepped}
 use Rattle.spmd_model.specs.Timelines.{Act, Word, counter, post, await, load, store, add, print}
 use Rattle.spmd_laws.specs.Laws.{Laws}
 use Rattle.spmd_laws.specs.Protocols.{Protocol, act_at, arrivals_at, is_arrival, is_passed}
-use Rattle.spmd_laws.specs.Viewed.{AreOfState, protocol_of}
+use Rattle.spmd_laws.specs.Styled.{AreOfStateBy, protocol_by}
 use Rattle.cell_table.specs.Places.{behind, behind_row, row_first, settled_at}
 use Rattle.cell_table.specs.Runs.{AreStepsOf, AreWordsOf, behind_steps}
 use Rattle.cell_table.specs.Words.{AreShown, arrival_word, cells_in, word_of, word_value}
@@ -37,21 +38,21 @@ passed_possible cells acts at (add place cell) quiet = absurd (true≢false (sym
 passed_possible cells acts at (print place) quiet = tt
 
 -- the laws of single acts, as they are given
-abbrev pub Steps : Tree → Plan → Type 0
-Steps tree plan =
-    (cells : List ℤ) (at after : ℕ → ℕ) (p : ℕ) (a : Act) (s : State) → p < plan.workers → AreOfState tree plan cells at s → act_at (protocol_of tree plan) p (at p) ≡ Some a → IsPossibleAt (protocol_of tree plan).acts at a → Moves at after p (at p + 1)
-    → AreOfState tree plan (memory_by cells ((protocol_of tree plan).stored_at p (at p)) a) after (stepped (machine_of tree plan) s p)
+abbrev pub Steps : Style → Tree → Plan → Type 0
+Steps style tree plan =
+    (cells : List ℤ) (at after : ℕ → ℕ) (p : ℕ) (a : Act) (s : State) → p < plan.workers → AreOfStateBy style tree plan cells at s → act_at (protocol_by style tree plan) p (at p) ≡ Some a → IsPossibleAt (protocol_by style tree plan).acts at a → Moves at after p (at p + 1)
+    → AreOfStateBy style tree plan (memory_by cells ((protocol_by style tree plan).stored_at p (at p)) a) after (stepped (machine_by style tree plan) s p)
 
 abbrev pub Passes : Type 0
 Passes = (cells : List ℤ) (v : ℤ) (a : Act) → is_passed (length cells) a ≡ true → memory_by cells v a ≡ cells
 
-module _ (tree : Tree) (plan : Plan) (laws : Laws (protocol_of tree plan)) (steps : Steps tree plan) (passes : Passes) where
+module _ (style : Style) (tree : Tree) (plan : Plan) (laws : Laws (protocol_by style tree plan)) (steps : Steps style tree plan) (passes : Passes) where
   abbrev m : Protocol
-  m = protocol_of tree plan
+  m = protocol_by style tree plan
 
   -- p has come to its place k, by as many steps
   Comes : (cells : List ℤ) (at : ℕ → ℕ) (s : State) (p k : ℕ) → Type 0
-  Comes cells at s p k = (j : ℕ) × (at p + j ≡ k) × AreOfState tree plan cells (put at p k) (behind_steps (machine_of tree plan) s p j)
+  Comes cells at s p k = (j : ℕ) × (at p + j ≡ k) × AreOfStateBy style tree plan cells (put at p k) (behind_steps (machine_by style tree plan) s p j)
 
   one_more : (cells : List ℤ) (at : ℕ → ℕ) (s : State) (p k : ℕ) (a : Act) → p < m.workers → act_at m p k ≡ Some a → IsPossibleAt m.acts (put at p k) a → Comes cells at s p k → Comes (memory_by cells (m.stored_at p k) a) at s p (k + 1)
   unfolding Comes
@@ -60,8 +61,8 @@ module _ (tree : Tree) (plan : Plan) (laws : Laws (protocol_of tree plan)) (step
       let count = come.1 in (
         suc come.0,
         omega (arith, count),
-        subst (λ x. AreOfState tree plan (memory_by cells (m.stored_at p x) a) (put at p (k + 1)) (stepped (machine_of tree plan) (behind_steps (machine_of tree plan) s p come.0) p)) here
-            (steps cells (put at p k) (put at p (k + 1)) p a (behind_steps (machine_of tree plan) s p come.0) lt come.2 (ap (act_at m p) here ∙ next) possible (subst (λ x. Moves (put at p k) (put at p (k + 1)) p (x + 1)) (sym here) (put_on at p k (k + 1)))),
+        subst (λ x. AreOfStateBy style tree plan (memory_by cells (m.stored_at p x) a) (put at p (k + 1)) (stepped (machine_by style tree plan) (behind_steps (machine_by style tree plan) s p come.0) p)) here
+            (steps cells (put at p k) (put at p (k + 1)) p a (behind_steps (machine_by style tree plan) s p come.0) lt come.2 (ap (act_at m p) here ∙ next) possible (subst (λ x. Moves (put at p k) (put at p (k + 1)) p (x + 1)) (sym here) (put_on at p k (k + 1)))),
       )
 
   -- over the acts that no other processor sees
@@ -70,37 +71,37 @@ module _ (tree : Tree) (plan : Plan) (laws : Laws (protocol_of tree plan)) (step
       (λ k a is quiet before.
       subst (λ cs. Comes cs at s p (k + 1)) (passes cells (m.stored_at p k) a (ap (λ c. is_passed c a) size ∙ quiet)) (one_more cells at s p k a lt is (passed_possible m.cells m.acts (put at p k) a quiet) before)) come
 
-  starts : (cells : List ℤ) (at : ℕ → ℕ) (s : State) (p : ℕ) → AreOfState tree plan cells at s → Comes cells at s p (at p)
+  starts : (cells : List ℤ) (at : ℕ → ℕ) (s : State) (p : ℕ) → AreOfStateBy style tree plan cells at s → Comes cells at s p (at p)
   unfolding Comes
-  starts cells at s p is = (0, omega arith, subst (λ (f : ℕ → ℕ). AreOfState tree plan cells f s) (λ i q. sym (same_moves at at p (at p) (record { here = refl; others = λ q ne. refl }) q) i) is)
+  starts cells at s p is = (0, omega arith, subst (λ (f : ℕ → ℕ). AreOfStateBy style tree plan cells f s) (λ i q. sym (same_moves at at p (at p) (record { here = refl; others = λ q ne. refl }) q) i) is)
 
-  ends : (words after : List ℕ) (at : ℕ → ℕ) (s : State) (p n : ℕ) → Comes (cells_in m after) at s p n → (k : ℕ) × (at p + k ≡ n) × ((to : ℕ → ℕ) → Moves at to p n → AreWordsOf tree plan after to (behind_steps (machine_of tree plan) s p k))
+  ends : (words after : List ℕ) (at : ℕ → ℕ) (s : State) (p n : ℕ) → Comes (cells_in m after) at s p n → (k : ℕ) × (at p + k ≡ n) × ((to : ℕ → ℕ) → Moves at to p n → AreWordsOf style tree plan after to (behind_steps (machine_by style tree plan) s p k))
   unfolding Comes
-  ends words after at s p n come = (come.0, come.1, λ to moves. subst (λ (f : ℕ → ℕ). AreWordsOf tree plan after f (behind_steps (machine_of tree plan) s p come.0)) (λ i q. same_moves at to p n moves q i) come.2)
+  ends words after at s p n come = (come.0, come.1, λ to moves. subst (λ (f : ℕ → ℕ). AreWordsOf style tree plan after f (behind_steps (machine_by style tree plan) s p come.0)) (λ i q. same_moves at to p n moves q i) come.2)
 
   size_of : (words : List ℕ) (at : ℕ → ℕ) → AreShown m words at → length (cells_in m words) ≡ m.cells
   size_of words at one = laws.size (cells_in m words) at one.cells
 
   -- an act behind which the cells' words are these, and those behind it that no other processor sees
   act_steps : (words after : List ℕ) (at : ℕ → ℕ) (p : ℕ) (a : Act) → p < m.workers → AreShown m words at → act_at m p (at p) ≡ Some a → IsPossibleAt m.acts at a → cells_in m after ≡ memory_by (cells_in m words) (m.stored_at p (at p)) a → length (cells_in m after) ≡ m.cells
-      → AreStepsOf tree plan words after at p (behind m p (at p))
+      → AreStepsOf style tree plan words after at p (behind m p (at p))
   act_steps words after at p a lt one next possible cells size s is =
       let here : Comes (cells_in m words) at s p (at p) = starts (cells_in m words) at s p is in
       let stay : (q : ℕ) → put at p (at p) q ≡ at q = same_moves at at p (at p) (record { here = refl; others = λ q ne. refl }) in
       let acted = one_more (cells_in m words) at s p (at p) a lt next (subst (λ (f : ℕ → ℕ). IsPossibleAt m.acts f a) (λ i q. sym (stay q) i) possible) here in
       ends words after at s p (behind m p (at p)) (passed_on (cells_in m after) at s p (at p + 1) lt size (subst (λ cs. Comes cs at s p (at p + 1)) (sym cells) acted))
 
-  pub load_steps : (words : List ℕ) (at : ℕ → ℕ) (p place cell : ℕ) → p < m.workers → AreShown m words at → act_at m p (at p) ≡ Some (load place cell) → AreStepsOf tree plan words words at p (behind m p (at p))
+  pub load_steps : (words : List ℕ) (at : ℕ → ℕ) (p place cell : ℕ) → p < m.workers → AreShown m words at → act_at m p (at p) ≡ Some (load place cell) → AreStepsOf style tree plan words words at p (behind m p (at p))
   load_steps words at p place cell lt one next = act_steps words words at p (load place cell) lt one next tt refl (size_of words at one)
 
   pub store_steps : (words : List ℕ) (at : ℕ → ℕ) (p place cell word : ℕ) → p < m.workers → AreShown m words at → act_at m p (at p) ≡ Some (store place cell) → cell < m.cells → word_value word ≡ m.stored_at p (at p)
-      → AreStepsOf tree plan words (set words cell word) at p (behind m p (at p))
+      → AreStepsOf style tree plan words (set words cell word) at p (behind m p (at p))
   store_steps words at p place cell word lt one next inside is =
       let cells = cell_set m laws words cell word inside ∙ ap (set (cells_in m words) cell) is in
       act_steps words (set words cell word) at p (store place cell) lt one next tt cells (ap length (cell_set m laws words cell word inside) ∙ length-set (cells_in m words) cell (word_value word) ∙ size_of words at one)
 
   pub add_steps : (words : List ℕ) (at : ℕ → ℕ) (p place cell word : ℕ) → p < m.workers → AreShown m words at → act_at m p (at p) ≡ Some (add place cell) → cell < m.cells → word_value word ≡ plus (word_value (slice_index words cell)) (m.stored_at p (at p))
-      → AreStepsOf tree plan words (set words cell word) at p (behind m p (at p))
+      → AreStepsOf style tree plan words (set words cell word) at p (behind m p (at p))
   add_steps words at p place cell word lt one next inside is =
       let cells = cell_set m laws words cell word inside ∙ ap (set (cells_in m words) cell) (is ∙ ap (λ x. plus x (m.stored_at p (at p))) (sym (value_in words m.cells cell inside))) in
       act_steps words (set words cell word) at p (add place cell) lt one next tt cells (ap length (cell_set m laws words cell word inside) ∙ length-set (cells_in m words) cell (word_value word) ∙ size_of words at one)
@@ -110,24 +111,24 @@ module _ (tree : Tree) (plan : Plan) (laws : Laws (protocol_of tree plan)) (step
   cells_kept words i word past = ap (map word_value) (take-set-le m.cells words i word past)
 
   pub post_steps : (words : List ℕ) (at : ℕ → ℕ) (w : Word) (p number : ℕ) → p < m.workers → AreShown m words at → act_at m p (at p) ≡ Some (post w number) → is_arrival m.gathers w number ≡ false
-      → AreStepsOf tree plan words (set words (word_of m w p) number) at p (behind m p (at p))
+      → AreStepsOf style tree plan words (set words (word_of m w p) number) at p (behind m p (at p))
   post_steps words at w p number lt one next plain =
       let kept = cells_kept words (word_of m w p) number (omega arith) in
       act_steps words (set words (word_of m w p) number) at p (post w number) lt one next tt kept (ap length kept ∙ size_of words at one)
 
   pub arrival_steps : (words : List ℕ) (at : ℕ → ℕ) (p number : ℕ) → p < m.workers → AreShown m words at → act_at m p (at p) ≡ Some (post counter number) → m.gathers number ≡ true
-      → AreStepsOf tree plan words (set words (arrival_word m) (slice_index words (arrival_word m) + 1)) at p (behind m p (at p))
+      → AreStepsOf style tree plan words (set words (arrival_word m) (slice_index words (arrival_word m) + 1)) at p (behind m p (at p))
   arrival_steps words at p number lt one next joint =
       let kept = cells_kept words (arrival_word m) (slice_index words (arrival_word m) + 1) (omega arith) in
       act_steps words (set words (arrival_word m) (slice_index words (arrival_word m) + 1)) at p (post counter number) lt one next tt kept (ap length kept ∙ size_of words at one)
 
   pub poll_steps : (words : List ℕ) (at : ℕ → ℕ) (w : Word) (p on wanted : ℕ) → p < m.workers → AreShown m words at → act_at m p (at p) ≡ Some (await w on wanted) → is_arrival m.gathers w wanted ≡ false → wanted ≤ slice_index words (word_of m w on)
-      → AreStepsOf tree plan words words at p (behind m p (at p))
+      → AreStepsOf style tree plan words words at p (behind m p (at p))
   poll_steps words at w p on wanted lt one next plain come =
       let done = laws.posted w p (at p) on wanted (at on) lt next in
       act_steps words words at p (await w on wanted) lt one next (done.1 (subst (λ k. wanted ≤ k) (one.counters w on done.0) come)) refl (size_of words at one)
 
-  pub row_steps : (words : List ℕ) (at : ℕ → ℕ) (p : ℕ) → p < m.workers → AreShown m words at → m.workers * arrivals_at m p (at p) ≤ slice_index words (arrival_word m) → AreStepsOf tree plan words words at p (behind_row m p (at p))
+  pub row_steps : (words : List ℕ) (at : ℕ → ℕ) (p : ℕ) → p < m.workers → AreShown m words at → m.workers * arrivals_at m p (at p) ≤ slice_index words (arrival_word m) → AreStepsOf style tree plan words words at p (behind_row m p (at p))
   row_steps words at p lt one come s is =
       let b : ℕ = arrivals_at m p (at p) in let cs : List ℤ = cells_in m words in
       let row = over_row m p (at p) (λ k. Comes cs at s p k × (arrivals_at m p k ≡ b))

@@ -3,8 +3,3 @@ pub mod Words
 pub mod Seats
 pub mod Steps
 pub mod Runs
-pub mod Homes
-pub mod Rule
-pub mod Calls
-pub mod Ends
-pub mod Codes

@@ -8,8 +8,9 @@ use Rattle.spmd_model.specs.Lawful.{Moves}
 use Rattle.spmd_laws.specs.Protocols.{Protocol, act_at, arrivals_at, is_arrival}
 use Rattle.nest_tree.specs.Tree.{Tree}
 use Rattle.sync_plan.specs.declared.plan.Plan.{Plan}
+use Rattle.spmd_model.specs.declared.style.Style.{Style}
 use Rattle.spmd_laws.specs.Laws.{Laws}
-use Rattle.spmd_laws.specs.Viewed.{protocol_of}
+use Rattle.spmd_laws.specs.Styled.{protocol_by}
 use Rattle.cell_table.specs.declared.view.Role.{Role}
 use Rattle.cell_table.specs.declared.view.Role.TheVariants.{Main, Cell, Spent}
 use Rattle.cell_table.specs.declared.view.Stage.{Stage}
@@ -100,6 +101,6 @@ AreClose m = (words : List ℕ) (roles : List Role) (one : AreOne m words roles)
 
 -- ---- of every plan
 
--- of the protocol of every program under every plan where the laws hold of it
+-- of the protocol of every program under every plan in either style where the laws hold of it
 abbrev pub Always : (Protocol → Type 0) → Type 0
-Always Steps = (tree : Tree) (plan : Plan) → Laws (protocol_of tree plan) → Steps (protocol_of tree plan)
+Always Steps = (style : Style) (tree : Tree) (plan : Plan) → Laws (protocol_by style tree plan) → Steps (protocol_by style tree plan)

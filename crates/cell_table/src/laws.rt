@@ -2,14 +2,16 @@
 
 ghost use Rattle.nest_tree.specs.Tree.{Tree};
 ghost use Rattle.sync_plan.specs.declared.plan.Plan.{Plan};
+ghost use Rattle.spmd_model.specs.declared.style.Style.{Style};
 ghost use Rattle.cell_table.specs.Runs.{AreAddsSteps, AreArrivalsSteps, AreLoadsSteps, ArePollsSteps, ArePostsSteps, AreRowsSteps, AreStoresSteps, IsRunnable};
 ghost use Rattle.cell_table.specs.Steps.{AddSteps, Always, AreClose, ArriveSteps, GatherSteps, LoadSteps, MissSteps, Opens, PollSteps, PostSteps, SplitSteps, StoreSteps, TakeSteps};
 
-use spmd_laws::{laws_of, shared_cells_are_states};
+use spmd_laws::{laws_in_styles, shared_cells_in_styles};
 
-/// Words and seats that show a state of a machine of which the laws hold show one behind each kind
-/// of step, in which the seat's processor has done its next act and those behind it that no other
-/// processor sees; a poll that found too little is none of its acts. At first nothing is done.
+/// Words and seats that show a state of a machine of which the laws hold, in either style of
+/// barriers, show one behind each kind of step, in which the seat's processor has done its next act
+/// and those behind it that no other processor sees; a poll that found too little is none of its
+/// acts. At first nothing is done.
 pub fn steps_show_the_machine()
     ensures first { Always Opens }
     ensures load { Always LoadSteps }
@@ -25,18 +27,18 @@ pub fn steps_show_the_machine()
     ensures apart { Always AreClose }
 {}
 
-/// Each kind of step is steps of the machine: of whatever state the words show, the words behind
-/// the step show the state behind the seat's processor's next act, or behind all its awaits at the
-/// barrier, and the acts behind those that no other processor sees.
+/// Each kind of step is steps of the machine in its style: of whatever state the words show, the
+/// words behind the step show the state behind the seat's processor's next act, or behind all its
+/// awaits at the barrier, and the acts behind those that no other processor sees.
 pub fn steps_are_the_machines()
-    ensures load { (tree : Tree) (plan : Plan) → IsRunnable tree plan → AreLoadsSteps tree plan }
-    ensures store { (tree : Tree) (plan : Plan) → IsRunnable tree plan → AreStoresSteps tree plan }
-    ensures add { (tree : Tree) (plan : Plan) → IsRunnable tree plan → AreAddsSteps tree plan }
-    ensures post { (tree : Tree) (plan : Plan) → IsRunnable tree plan → ArePostsSteps tree plan }
-    ensures poll { (tree : Tree) (plan : Plan) → IsRunnable tree plan → ArePollsSteps tree plan }
-    ensures arrive { (tree : Tree) (plan : Plan) → IsRunnable tree plan → AreArrivalsSteps tree plan }
-    ensures gather { (tree : Tree) (plan : Plan) → IsRunnable tree plan → AreRowsSteps tree plan }
+    ensures load { (style : Style) (tree : Tree) (plan : Plan) → IsRunnable tree plan → AreLoadsSteps style tree plan }
+    ensures store { (style : Style) (tree : Tree) (plan : Plan) → IsRunnable tree plan → AreStoresSteps style tree plan }
+    ensures add { (style : Style) (tree : Tree) (plan : Plan) → IsRunnable tree plan → AreAddsSteps style tree plan }
+    ensures post { (style : Style) (tree : Tree) (plan : Plan) → IsRunnable tree plan → ArePostsSteps style tree plan }
+    ensures poll { (style : Style) (tree : Tree) (plan : Plan) → IsRunnable tree plan → ArePollsSteps style tree plan }
+    ensures arrive { (style : Style) (tree : Tree) (plan : Plan) → IsRunnable tree plan → AreArrivalsSteps style tree plan }
+    ensures gather { (style : Style) (tree : Tree) (plan : Plan) → IsRunnable tree plan → AreRowsSteps style tree plan }
 {
-    laws_of();
-    shared_cells_are_states();
+    laws_in_styles();
+    shared_cells_in_styles();
 }

@@ -1,5 +1,5 @@
 -- Barriers of a plan: what is gathered there, and how often.
-use Rattle.std.proofs.Common.{◌≡◌, ◌≢◌, ◌&&◌, not, ℕ, zero, suc, ◌+◌, ◌-◌, ◌^◌, ◌<◌, ◌≤◌, ◌⊎◌, nat_lt, Bool, true, false, true≢false, cond, List, [], ◌∷◌, ◌++◌, length, map, take, drop, fold, Option, Some, None, refl, ap, sym, subst, ◌∙◌, inl, inr, ⊎_elim, arith, if◌then◌else◌, take_all, drop-cons, length-append, zero-add}
+use Rattle.std.proofs.Common.{◌≡◌, ◌≢◌, ◌&&◌, not, ℕ, zero, suc, ◌+◌, ◌-◌, ◌^◌, ◌<◌, ◌≤◌, ◌⊎◌, nat_lt, Bool, true, false, true≢false, cond, List, [], ◌∷◌, length, map, take, drop, fold, Option, Some, None, refl, ap, sym, subst, ◌∙◌, inl, inr, ⊎_elim, arith, if◌then◌else◌, take_all, drop-cons, zero-add}
 use Rattle.std.specs.Prelude.{slice_get}
 use Rattle.std.specs.List.{All, filter, range_with_len}
 use Rattle.std.proofs.lemmas.Bool.{and_parts, cases_Bool, cases_lt, ltb-true, ne_eqb}
@@ -13,25 +13,21 @@ use Rattle.nest_tree.proofs.FirstLimits.{kept}
 use Rattle.nest_model.specs.Visits.{Visit}
 use Rattle.nest_model.proofs.Stops.{stops-few}
 use Rattle.owner_partition.specs.Marks.{enters_outer}
-use Rattle.owner_partition.specs.Phases.{phase_instances, phases}
+use Rattle.owner_partition.specs.Phases.{phases}
 use Rattle.sync_plan.specs.declared.plan.Kind.{Kind}
 use Rattle.sync_plan.specs.declared.plan.Kind.TheVariants.{Nothing, Producer, Left, Right, Both, Barrier, Join}
 use Rattle.sync_plan.specs.declared.plan.Plan.{Plan}
 use Rattle.sync_plan.specs.Waits.{awaited_behind, does_wait_at, is_awaited_behind, posts_at, waits_for}
 use Rattle.sync_plan.proofs.ProcessorSets.{any_from}
-use Rattle.spmd_model.specs.Timelines.{Act, post, await, load, store, add, print, Job, Machine, Moment, Word, counter, signal, boundary, job, act_at, acts_of}
+use Rattle.spmd_model.specs.Timelines.{Act, post, await, load, store, add, print, Job, Machine, Word, counter, signal, boundary, job, act_at, acts_of}
 use Rattle.spmd_model.specs.Ordered.{IsSound}
 use Rattle.spmd_model.specs.Lawful.{counted, counter_at}
-use Rattle.spmd_model.specs.Planned.{boundary_of, job_of, machine_of, timeline_from, timeline_of}
+use Rattle.spmd_model.specs.Planned.{boundary_of}
 use Rattle.spmd_model.proofs.Counters.{counter_posted, counter_reaches, lower_in_front}
-use Rattle.spmd_model.proofs.Lists.{one_element, take-behind, take-more}
-use Rattle.spmd_model.proofs.MomentActs.{IsAwaitIn, IsPostIn, tells}
-use Rattle.spmd_model.proofs.PlannedMoments.{boundary_place_from}
-use Rattle.spmd_model.proofs.PlannedSound.{boundary_is}
-use Rattle.spmd_laws.specs.Viewed.{barriers_in_front}
+use Rattle.spmd_model.proofs.Lists.{one_element, take-more}
 use Rattle.spmd_laws.specs.Protocols.{is_arrival, passed_first, settled, shown, shown_behind}
 use Rattle.sync_plan.specs.Boundaries.{gathers, is_barrier, kind_before}
-use Rattle.spmd_laws.proofs.Arrivals.{Joins, arrivals, await_reached, boundaries, few_arrivals, front, post_reached, weights, weights-append}
+use Rattle.spmd_laws.proofs.Arrivals.{Joins, arrivals, boundaries, few_arrivals, front, weights}
 
 -- ---- at a barrier each processor awaits another
 
@@ -83,18 +79,9 @@ joins_boundary tree plan p k n v posts awaits inside at is g =
       (waits.0, waits.1, ap (λ f. f p) parts.2 ∙ ap (λ k. awaited_behind k plan.workers v.loops (param_values tree) p) kind ∙ waits.2),
     )
 
-joins_at : (tree : Tree) (plan : Plan) (p : ℕ) → p < plan.workers → (t : ℕ) (x : Moment) → slice_get (timeline_of tree plan) t ≡ Some x → Joins (gathers tree plan) p x
-joins_at tree plan p inside t (job j) at = tt
-joins_at tree plan p inside t (boundary signal n posts awaits) at = λ g. absurd (true≢false (sym g))
-joins_at tree plan p inside t (boundary counter n posts awaits) at =
-    let b = boundary_is tree plan 1 (phases tree plan.cut.marks) t counter n posts awaits at in joins_boundary tree plan p b.phase n b.visit posts awaits inside b.at b.is
-
 pub all_from : {X : Type 0} (P : X → Type 0) (xs : List X) → ((t : ℕ) (x : X) → slice_get xs t ≡ Some x → P x) → All P xs
 all_from P [] h = All-nil P
 all_from P (x ∷ xs) h = All-cons P x xs (h 0 x refl) (all_from P xs (λ t y e. h (suc t) y e))
-
-pub joins : (tree : Tree) (plan : Plan) (p : ℕ) → p < plan.workers → All (Joins (gathers tree plan) p) (timeline_of tree plan)
-joins tree plan p inside = all_from (Joins (gathers tree plan) p) (timeline_of tree plan) (joins_at tree plan p inside)
 
 pub await_settled : (cells : ℕ) (acts : List Act) (i o n : ℕ) → slice_get acts i ≡ Some (await counter o n) → settled cells acts i ≡ i
 await_settled cells acts i o n e =
@@ -103,17 +90,6 @@ await_settled cells acts i o n e =
     omega (arith, none)
 
 -- ---- how often a processor arrives
-
-pub no_boundaries : {X : Type 0} (f : X → Job) (is : List X) (xs : List Moment) → boundaries (map (λ i. job (f i)) is ++ xs) ≡ boundaries xs
-no_boundaries f [] xs = refl
-no_boundaries f (i ∷ is) xs = no_boundaries f is xs
-
-boundary_each : (tree : Tree) (plan : Plan) (e : ℕ) (vs : List Visit) → boundaries (timeline_from tree plan e vs) ≡ length vs
-boundary_each tree plan e [] = refl
-boundary_each tree plan e (v ∷ vs) =
-    let jobs = no_boundaries (λ i. job_of tree plan (record { phase = e; place = v.place; instance = i })) (phase_instances (param_values tree) v) (timeline_from tree plan (suc e) vs) in
-    let rest = boundary_each tree plan (suc e) vs in
-    ap (λ n. 1 + n) (jobs ∙ rest) ∙ omega arith
 
 pub phases_few : (tree : Tree) (plan : Plan) → IsWellFormed tree → IsWithinLimits tree → length (phases tree plan.cut.marks) ≤ 2 ^ 40
 phases_few tree plan formed limits = most (stops-few tree (enters_outer plan.cut.marks) formed) (kept tree limits).most_worked
@@ -128,64 +104,9 @@ arrive_few m gathered most few p k =
     let all = few_arrivals gathered p 0 m.timeline in
     omega (arith, some, all, few)
 
-pub arrivals_few : (tree : Tree) (plan : Plan) (p k : ℕ) → IsWellFormed tree → IsWithinLimits tree → arrivals (gathers tree plan) (take k (acts_of (machine_of tree plan) p)) ≤ 2 ^ 40
-arrivals_few tree plan p k formed limits = arrive_few (machine_of tree plan) (gathers tree plan) (2 ^ 40) (let each = boundary_each tree plan 1 (phases tree plan.cut.marks) in let few = phases_few tree plan formed limits in omega (arith, each, few)) p k
-
--- ---- which barriers a processor has arrived at
-
 pub no_weight : {X : Type 0} (gathered : ℕ → Bool) (f : X → Job) (is : List X) → weights gathered (map (λ i. job (f i)) is) ≡ 0
 no_weight gathered f [] = refl
 no_weight gathered f (i ∷ is) = zero-add (weights gathered (map (λ k. job (f k)) is)) ∙ no_weight gathered f is
-
--- in front of a phase's boundary the timeline has the barriers of the phases in front
-weights_there : (tree : Tree) (plan : Plan) (e : ℕ) (vs : List Visit) (k : ℕ) → 1 ≤ e → k ≤ length vs → weights (gathers tree plan) (take (boundary_place_from tree plan e vs k) (timeline_from tree plan e vs)) ≡ length (filter (gathers tree plan) (range_with_len (e - 1) k))
-weights_there tree plan e vs zero some le = refl
-weights_there tree plan e [] (suc k) some le = absurd (omega (arith, le))
-weights_there tree plan e (v ∷ vs) (suc k) some le =
-    let jobs = map (λ i. job (job_of tree plan (record { phase = e; place = v.place; instance = i }))) (phase_instances (param_values tree) v) in
-    let later = timeline_from tree plan (suc e) vs in
-    let to = boundary_place_from tree plan (suc e) vs k in
-    let count : boundary_place_from tree plan e (v ∷ vs) (suc k) ≡ suc (length jobs + to) = omega (arith, length-append jobs (timeline_from tree plan (suc e) (take k vs))) in
-    let less : suc e - 1 ≡ e = omega arith in
-    let rest = weights_there tree plan (suc e) vs k (omega arith) (omega (arith, le)) ∙ ap (λ a. length (filter (gathers tree plan) (range_with_len a k))) less in
-    let none = no_weight (gathers tree plan) (λ i. job_of tree plan (record { phase = e; place = v.place; instance = i })) (phase_instances (param_values tree) v) in
-    let behind : weights (gathers tree plan) (take (length jobs + to) (jobs ++ later)) ≡ length (filter (gathers tree plan) (range_with_len e k)) =
-    ap (weights (gathers tree plan)) (take-behind jobs later to) ∙ weights-append (gathers tree plan) jobs (take to later) ∙ ap (λ n. n + weights (gathers tree plan) (take to later)) none ∙ zero-add (weights (gathers tree plan) (take to later)) ∙ rest in
-    let next : e - 1 + 1 ≡ e = omega (arith, some) in
-    ap (λ n. weights (gathers tree plan) (take n (boundary_of tree plan e v ∷ (jobs ++ later)))) count
-    ∙ ap (λ n. (if gathers tree plan (e - 1) then 1 else 0) + n) (behind ∙ ap (λ a. length (filter (gathers tree plan) (range_with_len a k))) (sym next))
-    ∙ by (gathers tree plan (e - 1)) (filter (gathers tree plan) (range_with_len (e - 1 + 1) k))
-  where
-    by : (b : Bool) (xs : List ℕ) → (if b then 1 else 0) + length xs ≡ length (cond b ((e - 1) ∷ xs) xs)
-    by true xs = omega arith
-    by false xs = omega arith
-
-boundary_counts : (tree : Tree) (plan : Plan) (t n : ℕ) (posts : ℕ → Bool) (awaits : ℕ → List ℕ) → slice_get (timeline_of tree plan) t ≡ Some (boundary counter n posts awaits) → weights (gathers tree plan) (take t (timeline_of tree plan)) ≡ barriers_in_front tree plan n
-boundary_counts tree plan t n posts awaits at =
-    let vs = phases tree plan.cut.marks in
-    let b = boundary_is tree plan 1 vs t counter n posts awaits at in
-    let number : n ≡ b.phase = number_of (1 + b.phase) b.visit b.is ∙ omega arith in
-    let within = slice_get_within vs b.phase b.visit b.at in
-    ap (λ k. weights (gathers tree plan) (take k (timeline_of tree plan))) b.place ∙ weights_there tree plan 1 vs b.phase (omega arith) (omega (arith, within)) ∙ ap (λ k. length (filter (gathers tree plan) (range_with_len 0 k))) (sym number)
-  where
-    number_of : (e : ℕ) (v : Visit) → boundary counter n posts awaits ≡ boundary_of tree plan e v → n ≡ e - 1
-    number_of e v same = cc
-
--- whoever awaits others at a barrier has arrived at it and at all barriers in front, whoever arrives at those in front
-pub await_counts : (tree : Tree) (plan : Plan) (p i o n : ℕ) → p < plan.workers → act_at (machine_of tree plan) p i ≡ Some (await counter o n) → gathers tree plan n ≡ true → arrivals (gathers tree plan) (take i (acts_of (machine_of tree plan) p)) ≡ barriers_in_front tree plan n + 1
-await_counts tree plan p i o n inside e g =
-    let r = await_reached (gathers tree plan) p 0 (timeline_of tree plan) (joins tree plan p inside) i counter o n e g in
-    let h : IsAwaitIn counter p o n r.moment = tells p (0 + r.at) r.index r.moment (await counter o n) r.is in
-    r.count ∙ ap (λ k. k + 1) (boundary_counts tree plan r.at n h.posts h.awaits (r.there ∙ ap Some h.moment))
-
-pub post_counts : (tree : Tree) (plan : Plan) (p i n : ℕ) → p < plan.workers → act_at (machine_of tree plan) p i ≡ Some (post counter n) → arrivals (gathers tree plan) (take i (acts_of (machine_of tree plan) p)) ≡ barriers_in_front tree plan n
-post_counts tree plan p i n inside e =
-    let r = post_reached (gathers tree plan) p 0 (timeline_of tree plan) (joins tree plan p inside) i counter n e in
-    let h : IsPostIn counter p r.index n r.moment = tells p (0 + r.at) r.index r.moment (post counter n) r.is in
-    r.count ∙ add-zero (weights (gathers tree plan) (take r.at (timeline_of tree plan))) ∙ boundary_counts tree plan r.at n h.posts h.awaits (r.there ∙ ap Some h.moment)
-  where
-    add-zero : (k : ℕ) → k + 0 ≡ k
-    add-zero k = omega arith
 
 -- ---- words
 

@@ -3,22 +3,12 @@ use Rattle.std.proofs.Common.{◌<◌, ◌^◌, Bool, map, ◌≤◌, ◌≡◌,
 use Rattle.std.specs.Prelude.{slice_get}
 use Rattle.std.specs.Option.{option_map}
 use Rattle.std.proofs.lemmas.Option.{slice_get-map}
-use Rattle.nest_tree.specs.Tree.{Tree}
-use Rattle.nest_tree.specs.WellFormed.{IsWellFormed}
-use Rattle.nest_model.specs.Memory.{output_of}
-use Rattle.nest_model.specs.Memory.{last_memory as last_memory_of}
-use Rattle.nest_tree.specs.Layout.{cell_count}
 use Rattle.std.proofs.lemmas.Bool.{leb-false}
 use Rattle.std.proofs.lemmas.List.{append-nil, take_all}
-use Rattle.nest_model.specs.Ranges.{IsInRange}
-use Rattle.sync_plan.specs.declared.plan.Plan.{Plan}
-use Rattle.sync_plan.specs.Fit.{IsFit}
-use Rattle.sync_plan.specs.Ordered.{IsOrdered as IsOrderedPlan}
 use Rattle.spmd_model.specs.Deeds.{Deed, adding, deed_of, printing, storing}
 use Rattle.spmd_model.specs.States.{line_by}
 use Rattle.spmd_model.proofs.Registers.{print_whole}
 use Rattle.spmd_model.specs.Ordered.{IsOrdered, IsSound}
-use Rattle.spmd_model.specs.Planned as Planned
 use Rattle.spmd_model.specs.Sequential.{last_memory, loaded_at, loaded_by, registers_at, stored_at, stored_by, whole_output}
 use Rattle.spmd_model.specs.Shared.{AreLawful}
 use Rattle.spmd_model.specs.Timelines.{Act, post, await, load, store, add, print, Machine, counter, act_at, acts_of}
@@ -30,17 +20,10 @@ use Rattle.spmd_model.proofs.Ends.{prints_whole}
 use Rattle.spmd_model.specs.Lawful.{act_line, printed_at}
 use Rattle.std.specs.List.{All, flat_map}
 use Rattle.spmd_model.proofs.Counters as counters
-use Rattle.spmd_model.proofs.PlannedMemory.{last_memory_is, last_size, output_is}
-use Rattle.spmd_model.proofs.PlannedSound.{ordered_of, sound_of}
-use Rattle.nest_tree.specs.Limits.{IsWithinLimits}
-use Rattle.sync_plan.proofs.Fits.{fit_parts}
-use Rattle.sync_plan.specs.Boundaries.{gathers}
 use Rattle.spmd_laws.specs.Laws.{Laws}
 use Rattle.spmd_laws.specs.Protocols.{Protocol, is_gathered, is_print}
 use Rattle.spmd_laws.proofs.Arrivals.{Joins, arrivals, await_behind, seen}
-use Rattle.spmd_laws.proofs.Gathered.{arrivals_few, await_settled, joins, shows_less, shows_post}
-use Rattle.spmd_laws.specs.Viewed.{AreLawfulUnder, acts_under, loaded_under, printed_under, protocol_of, registers_under, stored_under}
-use Rattle.spmd_laws.proofs.Inside.{act_there}
+use Rattle.spmd_laws.proofs.Gathered.{await_settled, shows_less, shows_post}
 use Rattle.spmd_laws.proofs.Passed.{by_passed, first_settled, none_passed}
 
 -- acts that print nothing
@@ -131,21 +114,6 @@ held m c gathered last output s =
   where
     no_less : {a b c : ℕ} → a ≤ b → b ≤ c → a ≤ c
     no_less le le' = omega (arith, le, le')
-
-pub laws_of : (tree : Tree) (plan : Plan) → IsWellFormed tree → IsWithinLimits tree → IsInRange tree → IsFit tree plan → IsOrderedPlan tree plan → Laws (protocol_of tree plan)
-unfolding acts_under registers_under loaded_under stored_under printed_under AreLawfulUnder
-laws_of tree plan formed limits ranges fits ordered =
-    held (Planned.machine_of tree plan) (cell_count tree) (gathers tree plan) (last_memory_of tree) (output_of tree) (record {
-      sound = sound_of tree plan formed fits;
-      ordered = ordered_of tree plan formed fits ordered;
-      some = omega arith;
-      few = (fit_parts tree plan fits).few;
-      added = λ p n place cell e. act_there tree plan p n (add place cell) formed ranges e;
-      joins = λ p lt. joins tree plan p lt;
-      arrive = λ p n. arrivals_few tree plan p n formed limits;
-      ends = ap (take (cell_count tree)) (last_memory_is tree plan) ∙ take_all (cell_count tree) (last_memory_of tree) (omega (arith, last_size tree));
-      prints = output_is tree plan;
-    })
 
 -- ---- values by deeds
 

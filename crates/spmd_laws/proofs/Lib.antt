@@ -1,11 +1,9 @@
 mod Lists
-mod Inside
 mod Passed
 mod Arrivals
 mod Gathered
 mod Held
 mod States
-mod Phases
 mod StyledBarriers
 mod StyledCells
 mod StyledHeld

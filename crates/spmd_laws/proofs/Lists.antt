@@ -1,10 +1,10 @@
 -- Lists from a place on, and places by processor.
-use Rattle.std.proofs.Common.{◌≡◌, ◌==◌, ℕ, zero, suc, ◌+◌, Bool, true, List, [], ◌∷◌, drop, refl, ap, sym, ◌∙◌, arith, if◌then◌else◌, zero-add}
+use Rattle.std.proofs.Common.{◌≡◌, ◌==◌, ℕ, zero, suc, ◌+◌, List, [], ◌∷◌, drop, refl, ap, sym, ◌∙◌, arith, if◌then◌else◌, zero-add}
 use Rattle.std.specs.Prelude.{slice_get}
-use Rattle.std.specs.List.{All, list_all}
+use Rattle.std.specs.List.{All}
 use Rattle.std.proofs.Math.Seq.{drop-nil}
-use Rattle.std.proofs.lemmas.Bool.{and_parts, eq-eqb, ne_eqb}
-use Rattle.std.proofs.lemmas.List.Elements.{All-cons, All-head, All-nil, All-tail}
+use Rattle.std.proofs.lemmas.Bool.{eq-eqb, ne_eqb}
+use Rattle.std.proofs.lemmas.List.Elements.{All-cons, All-nil}
 use Rattle.spmd_model.specs.Lawful.{Moves}
 
 pub get_drop : {X : Type 0} (xs : List X) (n k : ℕ) → slice_get (drop n xs) k ≡ slice_get xs (n + k)
@@ -26,10 +26,3 @@ goes at p n = record {
 pub every : {X : Type 0} (P : X → Type 0) → ((x : X) → P x) → (xs : List X) → All P xs
 every P holds [] = All-nil P
 every P holds (x ∷ xs) = All-cons P x xs (holds x) (every P holds xs)
-
--- what follows from a test that every element passes
-pub passed : {X : Type 0} (test : X → Bool) (P : X → Type 0) (xs : List X) → All (λ x. test x ≡ true → P x) xs → list_all test xs ≡ true → All P xs
-passed test P [] all tests = All-nil P
-passed test P (x ∷ xs) all tests =
-    let parts = and_parts (test x) (list_all test xs) tests in
-    All-cons P x xs (All-head (λ y. test y ≡ true → P y) x xs all parts.0) (passed test P xs (All-tail (λ y. test y ≡ true → P y) x xs all) parts.1)

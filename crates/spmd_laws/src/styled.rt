@@ -1,6 +1,6 @@
 // The laws of the protocol of an ordered plan in a style: there is nothing to call.
 
-ghost use Rattle.std.specs.Prelude.{ℕ, ℤ, pos, true, List, Some, Contains, replicate, slice_get, ◌≡◌, ◌≤◌, ◌<◌, ◌+◌, ◌++◌};
+ghost use Rattle.std.specs.Prelude.{ℕ, ℤ, pos, true, List, Some, Contains, length, replicate, slice_get, ◌≡◌, ◌≤◌, ◌<◌, ◌+◌, ◌++◌};
 ghost use Rattle.nest_tree.specs.Layout.{cell_count};
 ghost use Rattle.nest_tree.specs.Limits.{IsWithinLimits};
 ghost use Rattle.nest_tree.specs.Tree.{Tree};
@@ -23,7 +23,7 @@ ghost use Rattle.spmd_model.specs.StyledDeeds.{deeds_by};
 ghost use Rattle.spmd_model.specs.Timelines.{Act, await, counter, load, post};
 ghost use Rattle.spmd_model.specs.declared.style.Style.{Style};
 ghost use Rattle.spmd_laws.specs.Laws.{Laws};
-ghost use Rattle.spmd_laws.specs.Protocols.{act_at, arrivals_at, held_at};
+ghost use Rattle.spmd_laws.specs.Protocols.{act_at, arrivals_at, held_at, is_passed};
 ghost use Rattle.spmd_laws.specs.Styled.{AreOfStateBy, protocol_by};
 ghost use Rattle.spmd_laws.specs.Viewed.{barriers_in_front};
 
@@ -86,7 +86,7 @@ pub fn own_cells_in_styles()
 
 /// Cells that all share are lawful exactly where they are those of a state of the machine in the
 /// style at these places; the machine's first state is one; and each act that is possible is one
-/// step of the machine.
+/// step of the machine. An act that nobody else sees leaves them.
 pub fn shared_cells_in_styles()
     ensures lawful { (style : Style) → (tree : Tree) → (plan : Plan) → (cells : List ℤ)
         → (at : ℕ → ℕ) → (s : State) → AreOfStateBy style tree plan cells at s
@@ -105,6 +105,8 @@ pub fn shared_cells_in_styles()
         → IsPossibleAt (protocol_by style tree plan).acts at a → Moves at after p (at p + 1)
         → AreOfStateBy style tree plan (memory_by cells ((protocol_by style tree plan).stored_at
         p (at p)) a) after (stepped (machine_by style tree plan) s p) }
+    ensures passed { (cells : List ℤ) → (v : ℤ) → (a : Act) → is_passed (length cells) a ≡ true
+        → memory_by cells v a ≡ cells }
 {}
 
 /// In front of an arrival at a barrier its processor has arrived at all barriers in front of that

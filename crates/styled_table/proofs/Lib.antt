@@ -1,4 +1,4 @@
 mod Keeps
 mod Seating
 mod Calls
-mod Runs
+mod Reading

@@ -6,8 +6,8 @@ use Rattle.nest_model.specs.Memory.{cell_value, memory_before}
 use Rattle.spmd_model.specs.Styled.{instances_in_front}
 use Rattle.spmd_model.specs.Timelines.{counter, signal, post, await, load, store, add}
 use Rattle.spmd_laws.specs.Viewed.{barriers_in_front}
-use Rattle.cell_table.specs.declared.poll.Poll.{Poll}
-use Rattle.cell_table.specs.declared.poll.Poll.TheVariants.{Ready, NotYet}
+use Rattle.styled_table.specs.declared.poll.Poll.{Poll}
+use Rattle.styled_table.specs.declared.poll.Poll.TheVariants.{Ready, NotYet}
 use Rattle.cell_table.specs.declared.view.Stage.{Stage}
 use Rattle.cell_table.specs.declared.view.Stage.TheVariants.{Ended, NotOut}
 use Rattle.cell_table.specs.Places.{settled_at}

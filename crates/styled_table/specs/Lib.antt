@@ -1,4 +1,3 @@
-pub mod Runs
 pub mod Homes
 pub mod Rule
 pub mod Calls

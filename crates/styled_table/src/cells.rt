@@ -19,10 +19,10 @@ ghost use Rattle.cell_table.specs.declared.view.Stage.{Stage};
 ghost use Rattle.cell_table.specs.declared.view.Stage.TheVariants.{Ended, NotOut, Out};
 
 use crate::closed::{Closed, read_words};
+use crate::poll::Poll;
 use crate::rule::{Cut, Glue, Go, Load, Look, LookAround, Rule, Twin, Which};
 use crate::view::{Given, View};
 use atomic_table::{Seat, Table};
-use cell_table::Poll;
 use nest_tree::Program;
 use spmd_laws::{arrivals_in_styles, laws_in_styles, loads_in_styles};
 use spmd_model::Style;

@@ -4,16 +4,16 @@
 //!
 //! - `cells`: the table, its seats and the calls, each of which is one atomic step.
 //! - `closed`: what a table leaves.
-//! - `laws`: what each kind of step does.
+//! - `poll`: what a poll answers.
 //! - `rule`, `view`: the table's rule and what seats know, as `atomic_table` takes them.
 #![tactic(auto)]
 
 mod cells;
 mod closed;
-mod laws;
+mod poll;
 mod rule;
 mod view;
 
 pub use cells::{CellSeat, Cells, CloseRefused, MainSeat};
 pub use closed::{Closed, Receipt};
-pub use laws::{styled_steps_are_the_machines, styled_steps_show_the_machine};
+pub use poll::Poll;

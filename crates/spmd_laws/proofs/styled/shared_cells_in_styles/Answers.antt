@@ -3,7 +3,7 @@ use Rattle.nest_tree.specs.Layout.{cell_count}
 use Rattle.spmd_model.specs.Styled.{machine_by}
 use Rattle.spmd_model.proofs.StyledOrder.{ordered_by, sound_by}
 use Rattle.spmd_laws.specs.Styled.{AreLawfulBy, acts_by, stored_by}
-use Rattle.spmd_laws.proofs.States.{first_of_state, lawful_of_state, state_of_lawful, step_of_state}
+use Rattle.spmd_laws.proofs.States.{first_of_state, lawful_of_state, passed_leaves, state_of_lawful, step_of_state}
 use Rattle.spmd_laws.proofs.styled.shared_cells_in_styles.Goals as goal
 
 pub returns-clause-lawful : goal.returns-clause-lawful
@@ -20,3 +20,6 @@ returns-clause-first c style tree plan formed fits = first_of_state (machine_by 
 pub returns-clause-step : goal.returns-clause-step
 unfolding acts_by stored_by
 returns-clause-step c style tree plan cells at after p a s formed fits ranges ordered lt shows e possible moves = step_of_state (machine_by style tree plan) (cell_count tree) cells at after p a s (sound_by style tree plan formed fits) (ordered_by style tree plan formed fits ranges ordered) lt shows e possible moves
+
+pub returns-clause-passed : goal.returns-clause-passed
+returns-clause-passed c = passed_leaves

@@ -2,7 +2,7 @@ use Rattle.std.proofs.Common.{w64, ℤ, to_z, of_z}
 use Rattle.std.specs.Mem.Slots.{slots_counts, slots_items}
 use Rattle.std.proofs.Common.{length, length-set, ◌≤◌, ◌∙◌, ap, arith}
 use Rattle.std.proofs.lemmas.Int.{of_z-to_z}
-use Rattle.cell_table.proofs.Reading.{read_all, read_more, found_at}
+use Rattle.styled_table.proofs.Reading.{read_all, read_more, found_at}
 use Rattle.styled_table.proofs.closed.read_words.Goals as goal
 
 pub loop-cell-preserved : goal.loop-cell-preserved
