@@ -18,7 +18,7 @@ use Rattle.own_cells.specs.OwnCells.{AreFew}
 use Rattle.spmd_model.specs.Deeds.{Deed, posting, awaiting, loading, storing, adding, printing, instance_deeds, last_deed}
 use Rattle.spmd_model.specs.StyledDeeds.{HasNoOwn, own_deeds}
 use Rattle.styled_turns.specs.StyledTurns.{scalar_at}
-use Rattle.styled_turns.proofs.TurnsAct.{same_deeds}
+use Rattle.spmd_model.proofs.NoOwnDeeds.{same_deeds}
 use Rattle.fork_join.specs.Joins.{own_place}
 use Rattle.fork_join.specs.SeenDeeds.{is_seen, no_deed, phase_deed, same_cell, seen_deed, shared_deed, shared_for}
 use Rattle.fork_join.proofs.Seeing.{next_left}

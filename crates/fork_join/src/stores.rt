@@ -32,7 +32,10 @@ impl Stores {
     }
 
     /// No store, and no cell: what stands in the place of stores that are lent.
-    pub fn away(alloc: Global) -> Self {
+    pub fn away(alloc: Global) -> Self
+        ensures none { entries_of result ≡ [] }
+        ensures cells { cells_of result ≡ 0 }
+    {
         Stores {
             entries: Vec::new(alloc),
             places: Vec::new(alloc),

@@ -1,11 +1,11 @@
 -- Processors at their first turns.
-use Rattle.std.proofs.Common.{◌≡◌, ℕ, suc, ◌+◌, ◌-◌, ◌*◌, ◌<◌, ◌≤◌, ◌&&◌, ℤ, pos, Bool, true, false, List, [], ◌∷◌, ◌++◌, map, get_or, length, replicate, Some, if◌then◌else◌, refl, sym, ◌∙◌, ap, subst, inl, inr, arith, sum_by, length-append, append-nil, drop, take}
+use Rattle.std.proofs.Common.{◌≡◌, ℕ, suc, ◌+◌, ◌*◌, ◌<◌, ◌≤◌, ℤ, pos, true, List, [], ◌∷◌, ◌++◌, map, get_or, length, replicate, Some, refl, sym, ◌∙◌, ap, subst, inl, inr, arith, sum_by, length-append, append-nil, drop, take}
 use Rattle.std.specs.Prelude.{slice_get}
 use Rattle.std.specs.List.{flat_map, list_all, range_with_len}
-use Rattle.std.proofs.lemmas.Bool.{and_parts, cases_lt}
+use Rattle.std.proofs.lemmas.Bool.{cases_lt}
 use Rattle.std.proofs.lemmas.List.{drop_all, get_or_append_left, get_or_at, length-replicate, replicate-append-replicate, take_all}
 use Rattle.std.proofs.lemmas.List.Elements.{All-nil}
-use Rattle.std.proofs.lemmas.List.Sums.{sum_by-append, sum_by-cons}
+use Rattle.std.proofs.lemmas.List.Sums.{sum_by-cons}
 use Rattle.nest_tree.specs.Layout.{cell_count}
 use Rattle.nest_tree.specs.Limits.{IsWithinLimits}
 use Rattle.nest_tree.specs.Tree.{Tree}
@@ -16,22 +16,20 @@ use Rattle.nest_walk.specs.declared.table.WorkCells.{WorkCells}
 use Rattle.owner_partition.specs.Phases.{phases}
 use Rattle.sync_plan.specs.Fit.{IsFit}
 use Rattle.sync_plan.specs.declared.plan.Plan.{Plan}
-use Rattle.spmd_model.specs.Rounds.{rounds_of}
 use Rattle.spmd_model.specs.States.{State, first_state}
 use Rattle.spmd_model.specs.Styled.{machine_by}
-use Rattle.spmd_model.specs.Timelines.{counter, signal}
 use Rattle.spmd_model.specs.declared.style.Style.{Style}
 use Rattle.spmd_model.proofs.StyledDeeds.{styled_deeds as acts_do}
 use Rattle.spmd_turns.specs.Loads.{AreWide, widths}
 use Rattle.spmd_turns.specs.Rooms.{longest_output, turn_room}
-use Rattle.spmd_turns.specs.Turns.{Turn, posts, awaits, begins, works, is_turn_inside, turns_from}
+use Rattle.spmd_turns.specs.Turns.{is_turn_inside, turns_from}
 use Rattle.spmd_turns.proofs.PhaseSums.{all_inside, rooms_below}
-use Rattle.styled_turns.specs.StyledTurns.{Standing, StyledTurn, sets, waits, runs, closes, all_rounds, begun, behind, closed, first_round, first_standing, has_signals, is_signalled, places_pending, round_turn, styled, styled_deeds}
-use Rattle.styled_turns.specs.StyledTurns.{rounds_before}
+use Rattle.styled_turns.specs.StyledTurns.{first_standing, styled_deeds, styled_room}
 use Rattle.styled_turns.specs.StyledLeft.{styled_left, styled_plan, styled_processor}
+use Rattle.styled_turns.proofs.StyledRooms.{styled_rooms, styled_runs}
 use Rattle.styled_turns.proofs.TurnsAct.{turns_act}
 use Rattle.spmd_machine.specs.Machines.{IsReached}
-use Rattle.spmd_machine.specs.Processors.{IsFoundNext, IsFresh, IsKept, all_of, is_styled_inside, left_of, position_of, room_of, state_of, styled_room}
+use Rattle.spmd_machine.specs.Processors.{IsFoundNext, IsFresh, IsKept, all_of, is_styled_inside, left_of, position_of, room_of, state_of}
 use Rattle.spmd_machine.specs.declared.processor.Processor.{Processor}
 use Rattle.spmd_machine.proofs.Kept.{idle_begun, left_idle}
 use Rattle.spmd_machine.proofs.Steps.{same_state}
@@ -68,112 +66,6 @@ own_zeros (x ∷ ps) h =
     ap (λ l. l ++ flat_map (λ (z : Processor). z.own) ps) (h 0 x (omega arith)) ∙ ap (λ l. replicate 32 (pos 0) ++ l) (own_zeros ps (λ p d lt. h (suc p) d (omega (arith, lt))))
     ∙ replicate-append-replicate 32 (32 * length ps) (pos 0) ∙ ap (λ n. replicate n (pos 0)) more
 
--- ---- what styled turns print and access is what the plain ones do
-
-module _ (style : Style) (tree : Tree) (plan : Plan) (p : ℕ) where
-  map_room : (f : ℕ → StyledTurn) → ((k : ℕ) → styled_room tree (f k) ≡ 0) → (ks : List ℕ) → sum_by (styled_room tree) (map f ks) ≡ 0
-  map_room f none [] = refl
-  map_room f none (k ∷ ks) = omega (arith, sum_by-cons (styled_room tree) (f k) (map f ks), none k, map_room f none ks)
-
-  front_room : (xs ys : List StyledTurn) → sum_by (styled_room tree) xs ≡ 0 → sum_by (styled_room tree) (xs ++ ys) ≡ sum_by (styled_room tree) ys
-  front_room xs ys none = omega (arith, sum_by-append (styled_room tree) xs ys, none)
-
-  one_room : (b : Bool) (t : StyledTurn) → styled_room tree t ≡ 0 → sum_by (styled_room tree) (if b then [] else t ∷ []) ≡ 0
-  one_room true t none = refl
-  one_room false t none = let nothing : sum_by (styled_room tree) [] ≡ 0 = refl in omega (arith, sum_by-cons (styled_room tree) t [], none, nothing)
-
-  word_room : (b : Bool) (n q k : ℕ) → styled_room tree (if b then sets signal n else waits signal q k) ≡ 0
-  word_room true n q k = refl
-  word_room false n q k = refl
-
-  rounds_room : (b : Bool) (barriers : ℕ) → sum_by (styled_room tree) (if b then all_rounds plan.workers p barriers else []) ≡ 0
-  rounds_room true barriers = map_room (round_turn plan.workers p (first_round plan.workers barriers)) (λ k. word_room _ _ _ _) (range_with_len 0 (rounds_of plan.workers * 2))
-  rounds_room false barriers = refl
-
-  styled_rooms : (s : Standing) (ts : List Turn) → sum_by (styled_room tree) (styled style tree plan p s ts) ≡ sum_by (turn_room tree) ts
-  styled_rooms s [] = map_room (closes s.place) (λ k. refl) (places_pending s.pending)
-  styled_rooms s (posts number ∷ rest) =
-      let front = if is_signalled style tree plan number then [] else sets counter number ∷ [] in
-      let later = styled style tree plan p (closed s) rest in
-      let none : turn_room tree (posts number) ≡ 0 = refl in
-      omega (
-        arith,
-        front_room (map (closes s.place) (places_pending s.pending)) (front ++ later) (map_room (closes s.place) (λ k. refl) (places_pending s.pending)),
-        front_room front later (one_room (is_signalled style tree plan number) (sets counter number) refl),
-        styled_rooms (closed s) rest,
-        sum_by-cons (turn_room tree) (posts number) rest,
-        none,
-      )
-  styled_rooms s (awaits on wanted ∷ rest) =
-      let front = if is_signalled style tree plan wanted then [] else waits counter on wanted ∷ [] in
-      let later = styled style tree plan p (closed s) rest in
-      let none : turn_room tree (awaits on wanted) ≡ 0 = refl in
-      omega (
-        arith,
-        front_room (map (closes s.place) (places_pending s.pending)) (front ++ later) (map_room (closes s.place) (λ k. refl) (places_pending s.pending)),
-        front_room front later (one_room (is_signalled style tree plan wanted) (waits counter on wanted) refl),
-        styled_rooms (closed s) rest,
-        sum_by-cons (turn_room tree) (awaits on wanted) rest,
-        none,
-      )
-  styled_rooms s (begins e ∷ rest) =
-      let front = rounds_before style tree plan p s e in
-      let later = styled style tree plan p (begun style tree plan s e) rest in
-      let none : turn_room tree (begins e) ≡ 0 = refl in
-      omega (
-        arith,
-        front_room (map (closes s.place) (places_pending s.pending)) (front ++ later) (map_room (closes s.place) (λ k. refl) (places_pending s.pending)),
-        front_room front later (rounds_room (has_signals style plan (slice_get (phases tree plan.cut.marks) (e - 1))) s.barriers),
-        styled_rooms (begun style tree plan s e) rest,
-        sum_by-cons (turn_room tree) (begins e) rest,
-        none,
-      )
-  styled_rooms s (works i ∷ rest) =
-      let later = styled style tree plan p (behind tree plan s i) rest in
-      let same : styled_room tree (runs s.place i) ≡ turn_room tree (works i) = refl in
-      omega (arith, sum_by-cons (styled_room tree) (runs s.place i) later, sum_by-cons (turn_room tree) (works i) rest, styled_rooms (behind tree plan s i) rest, same)
-
-  map_inside : (f : ℕ → StyledTurn) → ((k : ℕ) → is_styled_inside tree (f k) ≡ true) → (ks : List ℕ) → list_all (is_styled_inside tree) (map f ks) ≡ true
-  map_inside f all [] = refl
-  map_inside f all (k ∷ ks) = ap (λ b. b && list_all (is_styled_inside tree) (map f ks)) (all k) ∙ map_inside f all ks
-
-  front_inside : (xs ys : List StyledTurn) → list_all (is_styled_inside tree) xs ≡ true → list_all (is_styled_inside tree) (xs ++ ys) ≡ list_all (is_styled_inside tree) ys
-  front_inside [] ys all = refl
-  front_inside (x ∷ xs) ys all =
-      let parts = and_parts (is_styled_inside tree x) (list_all (is_styled_inside tree) xs) all in
-      ap (λ b. b && list_all (is_styled_inside tree) (xs ++ ys)) parts.0 ∙ front_inside xs ys parts.1
-
-  one_inside : (b : Bool) (t : StyledTurn) → is_styled_inside tree t ≡ true → list_all (is_styled_inside tree) (if b then [] else t ∷ []) ≡ true
-  one_inside true t is = refl
-  one_inside false t is = ap (λ b. b && true) is
-
-  word_inside : (b : Bool) (n q k : ℕ) → is_styled_inside tree (if b then sets signal n else waits signal q k) ≡ true
-  word_inside true n q k = refl
-  word_inside false n q k = refl
-
-  rounds_inside : (b : Bool) (barriers : ℕ) → list_all (is_styled_inside tree) (if b then all_rounds plan.workers p barriers else []) ≡ true
-  rounds_inside true barriers = map_inside (round_turn plan.workers p (first_round plan.workers barriers)) (λ k. word_inside _ _ _ _) (range_with_len 0 (rounds_of plan.workers * 2))
-  rounds_inside false barriers = refl
-
-  styled_inside : (s : Standing) (ts : List Turn) → list_all (is_styled_inside tree) (styled style tree plan p s ts) ≡ list_all (is_turn_inside tree) ts
-  styled_inside s [] = map_inside (closes s.place) (λ k. refl) (places_pending s.pending)
-  styled_inside s (posts number ∷ rest) =
-      let front = if is_signalled style tree plan number then [] else sets counter number ∷ [] in
-      let later = styled style tree plan p (closed s) rest in
-      front_inside (map (closes s.place) (places_pending s.pending)) (front ++ later) (map_inside (closes s.place) (λ k. refl) (places_pending s.pending))
-      ∙ front_inside front later (one_inside (is_signalled style tree plan number) (sets counter number) refl) ∙ styled_inside (closed s) rest
-  styled_inside s (awaits on wanted ∷ rest) =
-      let front = if is_signalled style tree plan wanted then [] else waits counter on wanted ∷ [] in
-      let later = styled style tree plan p (closed s) rest in
-      front_inside (map (closes s.place) (places_pending s.pending)) (front ++ later) (map_inside (closes s.place) (λ k. refl) (places_pending s.pending))
-      ∙ front_inside front later (one_inside (is_signalled style tree plan wanted) (waits counter on wanted) refl) ∙ styled_inside (closed s) rest
-  styled_inside s (begins e ∷ rest) =
-      let front = rounds_before style tree plan p s e in
-      let later = styled style tree plan p (begun style tree plan s e) rest in
-      front_inside (map (closes s.place) (places_pending s.pending)) (front ++ later) (map_inside (closes s.place) (λ k. refl) (places_pending s.pending))
-      ∙ front_inside front later (rounds_inside (has_signals style plan (slice_get (phases tree plan.cut.marks) (e - 1))) s.barriers) ∙ styled_inside (begun style tree plan s e) rest
-  styled_inside s (works i ∷ rest) = ap (λ b. is_turn_inside tree (works i) && b) (styled_inside (behind tree plan s i) rest)
-
 -- ---- fresh processors
 
 module _ (style : Style) (tree : Tree) (plan : Plan) (size : ℕ) (formed : IsWellFormed tree) (limits : IsWithinLimits tree) (fits : IsFit tree plan) (ranges : IsInRange tree) where
@@ -203,7 +95,7 @@ module _ (style : Style) (tree : Tree) (plan : Plan) (size : ℕ) (formed : IsWe
     behind = record { front = []; is = sym (fresh_left p x worker f) };
     instance = subst (IsFoundNext x.turns) (sym f.none_found) tt;
     begun = idle_begun entries wide (styled_left x.turns) x f.idle;
-    inside = ap (list_all (is_styled_inside tree)) f.turns ∙ styled_inside style tree plan p first_standing (turns_from tree plan p 1 (phases tree plan.cut.marks)) ∙ all_inside tree plan p inside;
+    inside = ap (list_all (is_styled_inside tree)) f.turns ∙ styled_runs style tree plan p (is_instance_inside tree) (is_turn_inside tree) (λ n. refl) (λ on n. refl) (λ e. refl) (λ i. refl) first_standing (turns_from tree plan p 1 (phases tree plan.cut.marks)) ∙ all_inside tree plan p inside;
     own_cells = ap length f.own_cells ∙ length-replicate 32 (pos 0);
     room = λ n cells at. omega (arith, most n cells at, f.room);
     room_to_close = omega (arith, some, f.room);

@@ -14,10 +14,10 @@ use Rattle.spmd_model.specs.Deeds.{Deed}
 use Rattle.spmd_model.specs.Timelines.{Word}
 use Rattle.spmd_model.specs.declared.style.Style.{Style}
 use Rattle.spmd_turns.specs.Loads.{AreWide, widths}
-use Rattle.styled_turns.specs.StyledTurns.{StyledTurn, sets, waits, runs, closes, styled_deeds}
+use Rattle.styled_turns.specs.StyledTurns.{StyledTurn, sets, waits, runs, closes, styled_deeds, styled_room}
 use Rattle.styled_turns.specs.StyledLeft.{AreStyled, IsSameRun, styled_left, styled_plan, styled_processor, styled_style, styled_tree}
 use Rattle.styled_turns.specs.declared.turns.StyledTurns.{StyledTurns}
-use Rattle.spmd_machine.specs.Processors.{IsFoundNext, IsBegun, IsIdle, IsKept, LooksFrom, PassesTurn, all_of, deeds_left, is_styled_inside, left_of, room_of, styled_room}
+use Rattle.spmd_machine.specs.Processors.{IsFoundNext, IsBegun, IsIdle, IsKept, LooksFrom, PassesTurn, all_of, deeds_left, is_styled_inside, left_of, room_of}
 use Rattle.spmd_machine.specs.declared.processor.Processor.{Processor}
 use Rattle.spmd_machine.proofs.Suffixes.{suffix_at, suffix_rest}
 

@@ -39,8 +39,8 @@ use Rattle.seq_meaning.proofs.Found.{Found}
 use Rattle.seq_meaning.proofs.RunSteps.{assign_same, assign_valued, items_loads-length, numbered_more, placed-good, same_work, store_within, texts_same, texts_there}
 use Rattle.spmd_model.specs.Deeds.{last_deed, printing, storing}
 use Rattle.spmd_machine.specs.Machines.{ComesNext, IsReady, LoadsNext, StepsTo, plan_in, style_in, tree_in}
-use Rattle.spmd_machine.specs.Processors.{IsKept, PassesTurn, left_of, memory_of, room_of, styled_room}
-use Rattle.styled_turns.specs.StyledTurns.{StyledTurn, runs}
+use Rattle.spmd_machine.specs.Processors.{IsKept, PassesTurn, left_of, memory_of, room_of}
+use Rattle.styled_turns.specs.StyledTurns.{StyledTurn, runs, styled_room}
 use Rattle.styled_turns.specs.StyledLeft.{styled_left, styled_path}
 use Rattle.spmd_machine.specs.declared.answer.StepAnswer.TheVariants.{Stepped}
 use Rattle.spmd_machine.specs.declared.machine.Machine.{Machine}

@@ -2,7 +2,7 @@
 use Rattle.std.proofs.Common.{◌≡◌, ℕ, suc, ◌+◌, ◌-◌, ◌<◌, ◌==◌, ◌*◌, if◌then◌else◌, nat_le, false, ℤ, Bool, true, List, [], ◌∷◌, ◌++◌, map, Option, Some, None, refl, ap, subst, sym, ◌∙◌}
 use Rattle.std.specs.Prelude.{slice_get}
 use Rattle.std.specs.List.{All, flat_map, range_with_len}
-use Rattle.std.specs.Option.{option_map, option_or, option_to_list}
+use Rattle.std.specs.Option.{option_map, option_to_list}
 use Rattle.std.proofs.lemmas.List.Elements.{All-append, All-cons, All-filter, All-head, All-nil, All-tail}
 use Rattle.nest_tree.specs.Layout.{cell_count, first_cell}
 use Rattle.nest_tree.specs.Tree.{Tree, param_values}
@@ -16,7 +16,7 @@ use Rattle.owner_partition.specs.declared.anchor.Anchor.{Anchor}
 use Rattle.owner_partition.specs.Owners.{anchor_owner}
 use Rattle.owner_partition.specs.Phases.{phase_instances, phases}
 use Rattle.sync_plan.specs.Fit.{IsFit}
-use Rattle.sync_plan.specs.Own.{own_cell, own_loop, own_of, place_in}
+use Rattle.sync_plan.specs.Own.{own_cell, own_loop, own_of}
 use Rattle.sync_plan.specs.Waits.{posts_at, waits_for}
 use Rattle.sync_plan.specs.declared.plan.Plan.{Plan}
 use Rattle.spmd_model.specs.Closings.{has_stored, last_owner}
@@ -26,18 +26,13 @@ use Rattle.spmd_model.specs.Styled.{is_by_signals, signal_barriers}
 use Rattle.spmd_model.specs.StyledDeeds.{HasNoOwn, closing_deeds, deeds_by, front_deeds, kept_by, own_deeds, part_deeds, round_deeds, totalled_by}
 use Rattle.spmd_model.specs.Timelines.{Word, counter}
 use Rattle.spmd_model.specs.declared.style.Style.{Style}
+use Rattle.spmd_model.proofs.NoOwnDeeds.{no_slot}
 use Rattle.spmd_model.proofs.CellsThere.{AreThere, cells_there}
 use Rattle.spmd_model.proofs.PhaseJobs.{all_fine}
 use Rattle.spmd_model.proofs.TripJobs.{IsFineIn, back_all, front_all}
 use Rattle.spmd_machine.specs.Processors.{all_of}
 use Rattle.spmd_machine.proofs.OwnPlaces.{own_quiet}
 use Rattle.spmd_machine.proofs.Settles.{is_quiet_deed}
-
--- its slots are none
-pub slot_none : (tree : Tree) (plan : Plan) (place c : ℕ) → HasNoOwn tree plan place → (own_of tree plan place).slot c ≡ None
-slot_none tree plan place c none =
-    ap (λ vs. option_or (place_in tree vs c) (option_map (λ k. 16 + k) (place_in tree (own_loop tree plan place).sums c))) none.privates
-    ∙ ap (λ vs. option_map (λ k. 16 + k) (place_in tree vs c)) none.sums
 
 module _ (tree : Tree) (plan : Plan) (p : ℕ) (none : (place : ℕ) → HasNoOwn tree plan place) where
   abbrev pub IsLoud : Deed → Type 0
@@ -47,7 +42,7 @@ module _ (tree : Tree) (plan : Plan) (p : ℕ) (none : (place : ℕ) → HasNoOw
   at_own place c = own_cell (own_of tree plan place) p c
 
   cell_loud : (place c : ℕ) → c < cell_count tree → nat_le (cell_count tree) (at_own place c) ≡ false
-  cell_loud place c below = own_quiet tree plan place p c None below (slot_none tree plan place c (none place))
+  cell_loud place c below = own_quiet tree plan place p c None below (no_slot tree plan place c (none place))
 
   loads_loud : (place : ℕ) (cs : List ℕ) → AreThere tree cs → All IsLoud (map loading (map (at_own place) cs))
   loads_loud place [] all = All-nil IsLoud

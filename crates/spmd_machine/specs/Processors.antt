@@ -2,6 +2,7 @@
 use Rattle.std.specs.Prelude.{ℕ, ◌-◌, ◌≡◌, ◌≤◌, ◌<◌, ◌⊎◌, ℤ, pos, true, List, [], ◌∷◌, ◌++◌, drop, length, map, replicate, IfSome, None, Option, Some, slice_get, slice_index_or, sum_by, vec_capacity}
 use Rattle.std.specs.List.{flat_map, list_all}
 use Rattle.nest_tree.specs.Tree.{Tree}
+use Rattle.nest_model.specs.Ranges.{is_instance_inside}
 use Rattle.nest_walk.specs.declared.cursor.Stop.{Stop}
 use Rattle.nest_walk.specs.declared.table.WorkCells.{WorkCells}
 use Rattle.owner_partition.specs.Phases.{phases}
@@ -11,9 +12,8 @@ use Rattle.spmd_model.specs.StyledDeeds.{deeds_by}
 use Rattle.spmd_model.specs.States.{State}
 use Rattle.spmd_model.specs.declared.style.Style.{Style}
 use Rattle.spmd_turns.specs.Loads.{IsLoading, widths}
-use Rattle.spmd_turns.specs.Rooms.{turn_room}
-use Rattle.spmd_turns.specs.Turns.{works, is_turn_inside, turns_from}
-use Rattle.styled_turns.specs.StyledTurns.{StyledTurn, sets, waits, runs, closes, first_standing, styled, styled_deeds}
+use Rattle.spmd_turns.specs.Turns.{turns_from}
+use Rattle.styled_turns.specs.StyledTurns.{StyledTurn, sets, waits, runs, closes, first_standing, runs_only, styled, styled_deeds, styled_room}
 use Rattle.styled_turns.specs.StyledLeft.{AreStyled, IsSameRun, IsStyledNext, styled_left, styled_plan, styled_processor, styled_style, styled_tree}
 use Rattle.styled_turns.specs.declared.turns.StyledNext.TheVariants.{Work}
 use Rattle.styled_turns.specs.declared.turns.StyledTurns.{StyledTurns}
@@ -75,18 +75,9 @@ IsBegun entries (waits word on wanted ∷ rest) x = IsIdle x
 IsBegun entries (runs place i ∷ rest) x = (cells : WorkCells) → slice_get entries (i.statement - 1) ≡ Some cells → IsRunning cells x
 IsBegun entries (closes place k ∷ rest) x = IsClosing k x
 
--- the output that a turn may write, and whether each access of it is in range
-abbrev pub styled_room : Tree → StyledTurn → ℕ
-styled_room tree (sets word number) = 0
-styled_room tree (waits word on wanted) = 0
-styled_room tree (runs place i) = turn_room tree (works i)
-styled_room tree (closes place k) = 0
-
+-- each access of an instance that a turn runs is in range
 abbrev pub is_styled_inside : Tree → StyledTurn → Bool
-is_styled_inside tree (sets word number) = true
-is_styled_inside tree (waits word on wanted) = true
-is_styled_inside tree (runs place i) = is_turn_inside tree (works i)
-is_styled_inside tree (closes place k) = true
+is_styled_inside tree = runs_only (is_instance_inside tree)
 
 unfoldable pub room_of : Tree → Processor → ℕ
 room_of tree x = sum_by (styled_room tree) (styled_left x.turns)

@@ -112,15 +112,15 @@ module _ (x : Walk) (ready : IsReady x) (held : AreHeld x.seat.home) (k : ℕ) (
           ap (λ (l : List Deed). length l) (ap (λ o. left_behind x.seat y.seat o (place_of y.seat x.turns + 2)) own ∙ moved (λ v j. left_behind x.seat v x.own j) ∙ store_left x.seat x.seat held below x.own (n + 1) behind_it to given_first loaded to_below)
           ∙ ap (λ ts. length (deeds_in h p ts)) rest
 
-      pub kept_goes : GoesTo x y
-      kept_goes =
+      pub kept_goes : y.patience.legs ≡ x.patience.legs → GoesTo x y
+      kept_goes legs =
           let same = (seat_gone x.seat y.seat seat).0 in
           let idle = moved registers_behind ∙ store_registers x.seat x.seat held below x.own (n + 1) behind_it to given_first loaded to_below in
           let printed = moved printed_behind ∙ store_printed x.seat x.seat held below x.own (n + 1) behind_it to given_first loaded to_below ∙ own_load_printed x.seat x.seat held below x.own n store_is k few (deeds_by true small) in
           let size : length (executor_output y.executor) ≡ length (executor_output x.executor) = ap (λ z. length (executor_output z)) executor in
           let wide : executor_room y.executor ≡ executor_room x.executor = ap executor_room executor in
           turns_go x ready held y (closes (styled_place x.turns) k ∷ []) 2 same turns (none true small) kept_left (come_on x.turns y.turns sound run begins) idle (subst CanExecute (sym executor) ready.can) (ap executor_tree executor)
-          (ap executor_output executor ∙ ready.output ∙ sym printed) (omega (arith, size)) (omega (arith, wide)) answered over
+          (ap executor_output executor ∙ ready.output ∙ sym printed) (omega (arith, size)) (omega (arith, wide)) answered over legs
 
       pub kept_leads : LeadsOn x y
       kept_leads = turns_lead x ready held y (closes (styled_place x.turns) k ∷ []) 2 (seat_gone x.seat y.seat seat).0 turns (none true small) kept_left (omega arith) begins answered
@@ -166,8 +166,8 @@ module _ (x : Walk) (ready : IsReady x) (held : AreHeld x.seat.home) (k : ℕ) (
           ∙ own_store_left x.seat (gone x.seat) held below x.own (n + 1 + 1) behind_it k few zero_of added (pos 0) refl)
           ∙ ap (λ ts. length (deeds_in h p ts)) rest
 
-      pub total_goes : GoesTo x y
-      total_goes =
+      pub total_goes : y.patience.legs ≡ x.patience.legs → GoesTo x y
+      total_goes legs =
           let same = (seat_gone x.seat y.seat seat).0 in
           let idle = went registers_behind ∙ own_store_registers x.seat (gone x.seat) held below x.own (n + 1 + 1) behind_it k few zero_of added in
           let printed = went printed_behind ∙ own_store_printed x.seat (gone x.seat) held below x.own (n + 1 + 1) behind_it k few zero_of added ∙ add_printed x.seat x.seat held below x.own (n + 1) clear_is to given_first total_loaded
@@ -175,7 +175,7 @@ module _ (x : Walk) (ready : IsReady x) (held : AreHeld x.seat.home) (k : ℕ) (
           let size : length (executor_output y.executor) ≡ length (executor_output x.executor) = ap (λ z. length (executor_output z)) executor in
           let wide : executor_room y.executor ≡ executor_room x.executor = ap executor_room executor in
           turns_go x ready held y (closes (styled_place x.turns) k ∷ []) 3 same turns (none false big) total_left (come_on x.turns y.turns sound run begins) idle (subst CanExecute (sym executor) ready.can) (ap executor_tree executor)
-          (ap executor_output executor ∙ ready.output ∙ sym printed) (omega (arith, size)) (omega (arith, wide)) answered over
+          (ap executor_output executor ∙ ready.output ∙ sym printed) (omega (arith, size)) (omega (arith, wide)) answered over legs
 
       pub total_leads : LeadsOn x y
       total_leads = turns_lead x ready held y (closes (styled_place x.turns) k ∷ []) 3 (seat_gone x.seat y.seat seat).0 turns (none false big) total_left (omega arith) begins answered

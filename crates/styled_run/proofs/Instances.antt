@@ -28,12 +28,12 @@ use Rattle.spmd_turns.specs.Executors.{Begins, executor_output, executor_room, e
 use Rattle.spmd_turns.specs.Rooms.{statement_room, turn_room, visit_room}
 use Rattle.spmd_turns.specs.Turns.{works}
 use Rattle.spmd_turns.specs.TurnsLeft.{IsInstance, turns_tree}
-use Rattle.styled_turns.specs.StyledTurns.{StyledTurn, runs, styled_deeds}
+use Rattle.styled_turns.specs.StyledTurns.{StyledTurn, runs, styled_deeds, styled_room}
 use Rattle.styled_turns.specs.StyledLeft.{styled_left, styled_own, styled_place, styled_plan, styled_rounds, styled_tree}
 use Rattle.styled_table.specs.Homes.{Home}
 use Rattle.styled_run.specs.OwnPlaces.{AreKnown}
 use Rattle.styled_run.specs.Places.{deeds_in, left_behind, plan_at, tree_at}
-use Rattle.styled_run.specs.Walks.{IsReady, is_instance_there, is_styled_there, styled_room, walk_place}
+use Rattle.styled_run.specs.Walks.{IsReady, is_instance_there, is_styled_there, walk_place}
 use Rattle.styled_run.specs.declared.walk.Walk.{Walk}
 use Rattle.styled_run.proofs.ByProgram.{all_instances, instance_inside}
 use Rattle.styled_run.proofs.Turned.{AreNoPosts, last_no_post, loads_no_posts, no_posts_append}

@@ -5,7 +5,7 @@ use Rattle.std.proofs.lemmas.Bool.{cases_Bool, eqb-true}
 use Rattle.nest_tree.specs.Layout.{cell_count}
 use Rattle.spmd_laws.specs.Protocols.{passed_first}
 use Rattle.spmd_turns.specs.Executors.{executor_output, executor_room}
-use Rattle.styled_turns.specs.StyledTurns.{StyledTurn}
+use Rattle.styled_turns.specs.StyledTurns.{StyledTurn, styled_room}
 use Rattle.styled_turns.specs.StyledLeft.{IsNextOrPhase, beginnings_left, styled_left}
 use Rattle.styled_turns.specs.declared.turns.NextOrPhase.{NextOrPhase}
 use Rattle.styled_turns.specs.declared.turns.NextOrPhase.TheVariants as Coming
@@ -15,7 +15,8 @@ use Rattle.styled_table.specs.Homes.{CellView, Home, protocol_at}
 use Rattle.styled_run.specs.Held.{AreHeld}
 use Rattle.styled_run.specs.Legs.{IsFurther, IsJoined, IsSameSeat, IsWaiting, answered_last}
 use Rattle.styled_run.specs.Places.{deeds_at, deeds_in, held_cells, place_of, tree_at}
-use Rattle.styled_run.specs.Walks.{Answers, EndsLeg, GoesTo, IsAtEnd, IsReady, LeadsOn, TurnTells, is_styled_there, styled_room, to_go, walk_place}
+use Rattle.styled_run.specs.Walks.{Answers, EndsLeg, GoesTo, IsAtEnd, IsReady, LeadsOn, TurnTells, is_styled_there, to_go, walk_place}
+use Rattle.styled_run.specs.declared.patience.Patience.{Patience}
 use Rattle.styled_run.specs.declared.walk.Walk.{Walk}
 use Rattle.styled_run.specs.declared.worker.Leg.{Leg}
 use Rattle.styled_run.specs.declared.worker.Leg.TheVariants.{Ended, Joined, Waiting}
@@ -76,11 +77,12 @@ tells_more a b c (Some leg) seat left answered ends =
     let same : IsSameSeat a.seat b.seat = record { home = ap (λ (v : CellView). v.home) seat; processor = ap (λ (v : CellView). v.processor) seat } in
     ends_more a b c leg same (inl seat) (omega (arith, answered)) (λ several. answered) ends
 
-pub goes_more : (a b c : Walk) → IsSameSeat a.seat b.seat → a.answered ≤ b.answered → GoesTo b c → GoesTo a c
-goes_more a b c same le goes = record {
+pub goes_more : (a b c : Walk) → IsSameSeat a.seat b.seat → a.answered ≤ b.answered → b.patience.legs ≡ a.patience.legs → GoesTo b c → GoesTo a c
+goes_more a b c same le legs goes = record {
   ready = goes.ready;
   seat = record { home = goes.seat.home ∙ same.home; processor = goes.seat.processor ∙ same.processor };
   answered = (let more = goes.answered in omega (arith, le, more));
+  legs = goes.legs ∙ legs;
 }
 
 -- ---- a look at what comes next
@@ -89,8 +91,8 @@ module _ (x : Walk) (ready : IsReady x) (d : StyledTurns) (come : HasCome x.turn
   place : place_of x.seat d ≡ walk_place x
   place = ap (λ l. length (deeds_at x.seat.home x.seat.processor) - length (deeds_in x.seat.home x.seat.processor l)) left
 
-  pub looked : (ended : Bool) → (ended ≡ true → IsAtEnd (record x { turns = d; ended = ended })) → IsReady (record x { turns = d; ended = ended })
-  looked ended over = record {
+  looked : (ended : Bool) (patience : Patience) → (ended ≡ true → IsAtEnd (record x { turns = d; patience = patience; ended = ended })) → IsReady (record x { turns = d; patience = patience; ended = ended })
+  looked ended patience over = record {
     front = ready.front;
     behind = ready.behind ∙ ap (λ l. ready.front ++ l) (sym left);
     begun = ready.begun ++ come.begun;
@@ -117,7 +119,13 @@ module _ (x : Walk) (ready : IsReady x) (d : StyledTurns) (come : HasCome x.turn
   still_over e = let was = ready.over e in record { none = left ∙ was.none; seat = was.seat; placed = place ∙ was.placed }
 
   pub looked_ready : IsReady (record x { turns = d })
-  looked_ready = looked x.ended still_over
+  looked_ready = looked x.ended x.patience still_over
+
+-- it is as ready for its next leg
+pub ready_again : (x : Walk) (patience : Patience) → IsReady x → IsReady (record x { patience = patience })
+ready_again x patience ready =
+    looked x ready x.turns (record { sound = ready.sound; same = record { program = refl; plan = refl; processor = refl; style = refl }; begun = []; begins = refl }) refl x.ended patience
+    (λ e. let was = ready.over e in record { none = was.none; seat = was.seat; placed = was.placed })
 
 -- where a phase begins or what comes next is seen
 pub come_by : (old new : StyledTurns) (n : NextOrPhase) → IsNextOrPhase old new n → (begun : List ℕ) × (beginnings_left old ≡ begun ++ beginnings_left new)
@@ -148,4 +156,4 @@ module _ (x : Walk) (ready : IsReady x) (held : AreHeld x.seat.home) (none : sty
   at_end = record { none = none; seat = sym ended_placed ∙ all_deeds_done ∙ held.count x.seat.processor (its_worker x ready); placed = ended_placed }
 
   pub ended_ready : IsReady (record x { ended = true })
-  ended_ready = looked x ready x.turns (record { sound = ready.sound; same = record { program = refl; plan = refl; processor = refl; style = refl }; begun = []; begins = refl }) refl true (λ _. at_end)
+  ended_ready = looked x ready x.turns (record { sound = ready.sound; same = record { program = refl; plan = refl; processor = refl; style = refl }; begun = []; begins = refl }) refl true x.patience (λ _. at_end)

@@ -110,8 +110,8 @@ module _ (x : Walk) (ready : IsReady x) (held : AreHeld x.seat.home) (y : Walk) 
         over = over;
       }
 
-  pub all_goes : GoesTo x y
-  all_goes = record { ready = passed_ready x y ts ready passes; seat = same; answered = omega (arith, answered) }
+  pub all_goes : y.patience.legs ≡ x.patience.legs → GoesTo x y
+  all_goes legs = record { ready = passed_ready x y ts ready passes; seat = same; answered = omega (arith, answered); legs = legs }
 
   pub all_leads : LeadsOn x y
   all_leads = record {

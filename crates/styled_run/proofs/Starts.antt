@@ -23,10 +23,7 @@ use Rattle.sync_plan.specs.Own.{own_cell, own_of}
 use Rattle.sync_plan.specs.Waits.{posts_at, waits_for}
 use Rattle.sync_plan.specs.declared.plan.Plan.{Plan}
 use Rattle.spmd_model.specs.Deeds.{Deed, last_deed, loading, owned_by, printing}
-use Rattle.spmd_model.specs.Rounds.{rounds_of}
 use Rattle.spmd_model.specs.StyledDeeds.{own_deeds}
-use Rattle.spmd_model.specs.Timelines.{counter, signal}
-use Rattle.spmd_model.specs.declared.style.Style.{Style}
 use Rattle.spmd_model.proofs.CellsThere.{cells_there}
 use Rattle.spmd_model.proofs.PhaseJobs.{all_fine}
 use Rattle.spmd_model.proofs.TripJobs.{IsFineIn}
@@ -34,8 +31,9 @@ use Rattle.spmd_laws.specs.Protocols.{held_at}
 use Rattle.spmd_turns.specs.Executors.{CanExecute, executor_output, executor_room, executor_tree}
 use Rattle.spmd_turns.specs.Rooms.{longest_output, statement_room, turn_room}
 use Rattle.spmd_turns.specs.Turns.{Turn, awaits, begins, boundary_turns, phase_turns, posts, turns_from, works}
-use Rattle.styled_turns.specs.StyledTurns.{Standing, StyledTurn, sets, waits, runs, closes, all_rounds, begun, behind, closed, first_round, first_standing, has_signals, is_signalled, places_pending, round_turn, rounds_before, styled}
+use Rattle.styled_turns.specs.StyledTurns.{StyledTurn, sets, waits, runs, closes, first_standing, styled_room}
 use Rattle.styled_turns.specs.StyledLeft.{AreStyled, beginnings_left, styled_left, styled_plan, styled_processor, styled_style, styled_tree}
+use Rattle.styled_turns.proofs.StyledRooms.{styled_rooms, styled_runs}
 use Rattle.fork_join.proofs.Working.{first_room}
 use Rattle.cell_table.specs.Places.{settled_at}
 use Rattle.styled_table.specs.Calls.{first_seat}
@@ -43,10 +41,10 @@ use Rattle.styled_table.specs.Homes.{CellView, Home, protocol_at}
 use Rattle.styled_run.specs.Held.{AreHeld}
 use Rattle.styled_run.specs.Legs.{AreAnswered}
 use Rattle.styled_run.specs.Places.{deeds_at, deeds_in, held_cells, own_place, plan_at, printed_behind, registers_behind, style_at, tree_at, turns_at}
-use Rattle.styled_run.specs.Walks.{IsReady, is_instance_there, is_styled_there, styled_room, walk_place}
+use Rattle.styled_run.specs.Walks.{IsReady, is_instance_there, is_styled_there, walk_place}
 use Rattle.styled_run.specs.declared.walk.Walk.{Walk}
 use Rattle.styled_run.proofs.Acts.{print_there}
-use Rattle.styled_run.proofs.Steps.{no_post_between}
+use Rattle.styled_run.proofs.Steps.{get_drop, no_post_between}
 use Rattle.styled_run.proofs.Walks.{drop_place, place_is}
 
 -- ---- instances of the plain turns are the program's, each access and each cell
@@ -113,121 +111,9 @@ module _ (tree : Tree) (plan : Plan) (formed : IsWellFormed tree) (fits : IsFit 
   pub turns_there : (p : ℕ) → list_all (is_turn_there tree) (turns_from tree plan p 1 (phases tree plan.cut.marks)) ≡ true
   turns_there p = phases_there p 1 (phases tree plan.cut.marks) (λ k v at. fine_there v (phase_instances (param_values tree) v) (all_fine tree plan k v formed fits ranges at))
 
--- ---- what styled turns print and access is what the plain ones do
-
-module _ (style : Style) (tree : Tree) (plan : Plan) (p : ℕ) where
-  map_room : (f : ℕ → StyledTurn) → ((k : ℕ) → styled_room tree (f k) ≡ 0) → (ks : List ℕ) → sum_by (styled_room tree) (map f ks) ≡ 0
-  map_room f none [] = refl
-  map_room f none (k ∷ ks) = omega (arith, sum_by-cons (styled_room tree) (f k) (map f ks), none k, map_room f none ks)
-
-  front_room : (xs ys : List StyledTurn) → sum_by (styled_room tree) xs ≡ 0 → sum_by (styled_room tree) (xs ++ ys) ≡ sum_by (styled_room tree) ys
-  front_room xs ys none = omega (arith, sum_by-append (styled_room tree) xs ys, none)
-
-  one_room : (b : Bool) (t : StyledTurn) → styled_room tree t ≡ 0 → sum_by (styled_room tree) (if b then [] else t ∷ []) ≡ 0
-  one_room true t none = refl
-  one_room false t none = let nothing : sum_by (styled_room tree) [] ≡ 0 = refl in omega (arith, sum_by-cons (styled_room tree) t [], none, nothing)
-
-  word_room : (b : Bool) (n q k : ℕ) → styled_room tree (if b then sets signal n else waits signal q k) ≡ 0
-  word_room true n q k = refl
-  word_room false n q k = refl
-
-  rounds_room : (b : Bool) (barriers : ℕ) → sum_by (styled_room tree) (if b then all_rounds plan.workers p barriers else []) ≡ 0
-  rounds_room true barriers = map_room (round_turn plan.workers p (first_round plan.workers barriers)) (λ k. word_room _ _ _ _) (range_with_len 0 (rounds_of plan.workers * 2))
-  rounds_room false barriers = refl
-
-  styled_rooms : (s : Standing) (ts : List Turn) → sum_by (styled_room tree) (styled style tree plan p s ts) ≡ sum_by (turn_room tree) ts
-  styled_rooms s [] = map_room (closes s.place) (λ k. refl) (places_pending s.pending)
-  styled_rooms s (posts number ∷ rest) =
-      let front = if is_signalled style tree plan number then [] else sets counter number ∷ [] in
-      let later = styled style tree plan p (closed s) rest in
-      let none : turn_room tree (posts number) ≡ 0 = refl in
-      omega (
-        arith,
-        front_room (map (closes s.place) (places_pending s.pending)) (front ++ later) (map_room (closes s.place) (λ k. refl) (places_pending s.pending)),
-        front_room front later (one_room (is_signalled style tree plan number) (sets counter number) refl),
-        styled_rooms (closed s) rest,
-        sum_by-cons (turn_room tree) (posts number) rest,
-        none,
-      )
-  styled_rooms s (awaits on wanted ∷ rest) =
-      let front = if is_signalled style tree plan wanted then [] else waits counter on wanted ∷ [] in
-      let later = styled style tree plan p (closed s) rest in
-      let none : turn_room tree (awaits on wanted) ≡ 0 = refl in
-      omega (
-        arith,
-        front_room (map (closes s.place) (places_pending s.pending)) (front ++ later) (map_room (closes s.place) (λ k. refl) (places_pending s.pending)),
-        front_room front later (one_room (is_signalled style tree plan wanted) (waits counter on wanted) refl),
-        styled_rooms (closed s) rest,
-        sum_by-cons (turn_room tree) (awaits on wanted) rest,
-        none,
-      )
-  styled_rooms s (begins e ∷ rest) =
-      let front = rounds_before style tree plan p s e in
-      let later = styled style tree plan p (begun style tree plan s e) rest in
-      let none : turn_room tree (begins e) ≡ 0 = refl in
-      omega (
-        arith,
-        front_room (map (closes s.place) (places_pending s.pending)) (front ++ later) (map_room (closes s.place) (λ k. refl) (places_pending s.pending)),
-        front_room front later (rounds_room (has_signals style plan (slice_get (phases tree plan.cut.marks) (e - 1))) s.barriers),
-        styled_rooms (begun style tree plan s e) rest,
-        sum_by-cons (turn_room tree) (begins e) rest,
-        none,
-      )
-  styled_rooms s (works i ∷ rest) =
-      let later = styled style tree plan p (behind tree plan s i) rest in
-      let same : styled_room tree (runs s.place i) ≡ turn_room tree (works i) = refl in
-      omega (arith, sum_by-cons (styled_room tree) (runs s.place i) later, sum_by-cons (turn_room tree) (works i) rest, styled_rooms (behind tree plan s i) rest, same)
-
-  map_there : (f : ℕ → StyledTurn) → ((k : ℕ) → is_styled_there tree (f k) ≡ true) → (ks : List ℕ) → list_all (is_styled_there tree) (map f ks) ≡ true
-  map_there f all [] = refl
-  map_there f all (k ∷ ks) = ap (λ b. b && list_all (is_styled_there tree) (map f ks)) (all k) ∙ map_there f all ks
-
-  front_there : (xs ys : List StyledTurn) → list_all (is_styled_there tree) xs ≡ true → list_all (is_styled_there tree) (xs ++ ys) ≡ list_all (is_styled_there tree) ys
-  front_there [] ys all = refl
-  front_there (x ∷ xs) ys all =
-      let parts = and_parts (is_styled_there tree x) (list_all (is_styled_there tree) xs) all in
-      ap (λ b. b && list_all (is_styled_there tree) (xs ++ ys)) parts.0 ∙ front_there xs ys parts.1
-
-  one_there : (b : Bool) (t : StyledTurn) → is_styled_there tree t ≡ true → list_all (is_styled_there tree) (if b then [] else t ∷ []) ≡ true
-  one_there true t is = refl
-  one_there false t is = ap (λ b. b && true) is
-
-  word_there : (b : Bool) (n q k : ℕ) → is_styled_there tree (if b then sets signal n else waits signal q k) ≡ true
-  word_there true n q k = refl
-  word_there false n q k = refl
-
-  rounds_there : (b : Bool) (barriers : ℕ) → list_all (is_styled_there tree) (if b then all_rounds plan.workers p barriers else []) ≡ true
-  rounds_there true barriers = map_there (round_turn plan.workers p (first_round plan.workers barriers)) (λ k. word_there _ _ _ _) (range_with_len 0 (rounds_of plan.workers * 2))
-  rounds_there false barriers = refl
-
-  styled_there : (s : Standing) (ts : List Turn) → list_all (is_styled_there tree) (styled style tree plan p s ts) ≡ list_all (is_turn_there tree) ts
-  styled_there s [] = map_there (closes s.place) (λ k. refl) (places_pending s.pending)
-  styled_there s (posts number ∷ rest) =
-      let front = if is_signalled style tree plan number then [] else sets counter number ∷ [] in
-      let later = styled style tree plan p (closed s) rest in
-      front_there (map (closes s.place) (places_pending s.pending)) (front ++ later) (map_there (closes s.place) (λ k. refl) (places_pending s.pending))
-      ∙ front_there front later (one_there (is_signalled style tree plan number) (sets counter number) refl) ∙ styled_there (closed s) rest
-  styled_there s (awaits on wanted ∷ rest) =
-      let front = if is_signalled style tree plan wanted then [] else waits counter on wanted ∷ [] in
-      let later = styled style tree plan p (closed s) rest in
-      front_there (map (closes s.place) (places_pending s.pending)) (front ++ later) (map_there (closes s.place) (λ k. refl) (places_pending s.pending))
-      ∙ front_there front later (one_there (is_signalled style tree plan wanted) (waits counter on wanted) refl) ∙ styled_there (closed s) rest
-  styled_there s (begins e ∷ rest) =
-      let front = rounds_before style tree plan p s e in
-      let later = styled style tree plan p (begun style tree plan s e) rest in
-      front_there (map (closes s.place) (places_pending s.pending)) (front ++ later) (map_there (closes s.place) (λ k. refl) (places_pending s.pending))
-      ∙ front_there front later (rounds_there (has_signals style plan (slice_get (phases tree plan.cut.marks) (e - 1))) s.barriers) ∙ styled_there (begun style tree plan s e) rest
-  styled_there s (works i ∷ rest) = ap (λ b. is_turn_there tree (works i) && b) (styled_there (behind tree plan s i) rest)
-
 -- ---- room for what is printed
 
 module _ (h : Home) (held : AreHeld h) (p : ℕ) (below : p < (protocol_at h).workers) where
-  get_drop : (xs : List Deed) (a b : ℕ) → slice_get (drop a xs) b ≡ slice_get xs (a + b)
-  get_drop [] zero b = refl
-  get_drop [] (suc a) b = refl
-  get_drop (x ∷ xs) zero b = let k : b ≡ 0 + b = omega arith in ap (slice_get (x ∷ xs)) k
-  get_drop (x ∷ xs) (suc a) b = let k : suc (a + b) ≡ suc a + b = omega arith in get_drop xs a b ∙ ap (slice_get (x ∷ xs)) k
-
   get_behind : (xs ys : List Deed) (d : Deed) → slice_get (xs ++ (d ∷ ys)) (length xs) ≡ Some d
   get_behind [] ys d = refl
   get_behind (x ∷ xs) ys d = get_behind xs ys d
@@ -322,7 +208,7 @@ module _ (x : Walk) (held : AreHeld x.seat.home) (seat : x.seat ≡ first_seat x
         let fits = room_for h held p below (executor_room x.executor) wide in
         omega (arith, none, all, fits)
         );
-    there = ap (list_all (is_styled_there (tree_at h))) turns ∙ styled_there (style_at h) (tree_at h) (plan_at h) p first_standing (turns_from (tree_at h) (plan_at h) p 1 (phases (tree_at h) (plan_at h).cut.marks)) ∙ turns_there (tree_at h) (plan_at h) held.run.formed held.run.fits held.run.ranges p;
+    there = ap (list_all (is_styled_there (tree_at h))) turns ∙ styled_runs (style_at h) (tree_at h) (plan_at h) p (is_instance_there (tree_at h)) (is_turn_there (tree_at h)) (λ n. refl) (λ on n. refl) (λ e. refl) (λ i. refl) first_standing (turns_from (tree_at h) (plan_at h) p 1 (phases (tree_at h) (plan_at h).cut.marks)) ∙ turns_there (tree_at h) (plan_at h) held.run.formed held.run.fits held.run.ranges p;
     answered = none_answered;
     over = λ e. absurd (true≢false (sym e ∙ ended));
   }

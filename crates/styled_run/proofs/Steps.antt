@@ -91,7 +91,7 @@ first_passed cells (x ∷ xs) (suc j) a lt e = elim (cases_Bool (is_passed cells
   | inr seen ↦ (let none : passed_first cells (x ∷ xs) ≡ 0 = ap (λ b. if b then passed_first cells xs + 1 else 0) seen in absurd (omega (arith, none, lt)))
 ]
 
-get_drop : {X : Type 0} (xs : List X) (n k : ℕ) → slice_get (drop n xs) k ≡ slice_get xs (n + k)
+pub get_drop : {X : Type 0} (xs : List X) (n k : ℕ) → slice_get (drop n xs) k ≡ slice_get xs (n + k)
 get_drop xs zero k = ap (slice_get xs) (omega arith)
 get_drop [] (suc n) k = refl
 get_drop (x ∷ xs) (suc n) k = get_drop xs n k ∙ ap (slice_get (x ∷ xs)) (let e : suc (n + k) ≡ suc n + k = omega arith in e)

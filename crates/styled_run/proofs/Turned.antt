@@ -10,17 +10,17 @@ use Rattle.spmd_model.specs.Styled.{machine_by}
 use Rattle.spmd_model.specs.Timelines.{counter, post}
 use Rattle.spmd_laws.specs.Protocols.{act_at}
 use Rattle.spmd_turns.specs.Executors.{CanExecute, executor_output, executor_room, executor_tree}
-use Rattle.styled_turns.specs.StyledTurns.{StyledTurn, styled_deeds}
+use Rattle.styled_turns.specs.StyledTurns.{StyledTurn, styled_deeds, styled_room}
 use Rattle.styled_turns.specs.StyledLeft.{beginnings_left, styled_left}
 use Rattle.cell_table.specs.Places.{settled_at}
 use Rattle.styled_table.specs.Homes.{Home, protocol_at}
 use Rattle.styled_run.specs.Held.{AreHeld}
 use Rattle.styled_run.specs.Legs.{AreAnswered, IsFurther, IsSameSeat}
 use Rattle.styled_run.specs.Places.{deeds_at, deeds_in, held_cells, left_behind, place_of, plan_at, printed_behind, registers_behind, style_at, tree_at, turns_at}
-use Rattle.styled_run.specs.Walks.{GoesTo, IsReady, LeadsOn, styled_room, walk_place}
+use Rattle.styled_run.specs.Walks.{GoesTo, IsReady, LeadsOn, walk_place}
 use Rattle.styled_run.specs.declared.walk.Walk.{Walk}
 use Rattle.styled_run.proofs.SharedSteps.{Shows, left_shows, on_further}
-use Rattle.styled_run.proofs.Steps.{answered_more, no_post_between}
+use Rattle.styled_run.proofs.Steps.{answered_more, no_post_between, get_drop}
 use Rattle.styled_run.proofs.Walks.{HasCome, Passes, drop_here, its_worker, passed_ready, place_more, whole_deeds}
 
 -- a deed that is no post
@@ -52,11 +52,6 @@ pub no_post_in : (ds more : List Deed) (k number : ℕ) → AreNoPosts ds → k 
 no_post_in [] more k number none lt is = absurd (omega (arith, lt))
 no_post_in (x ∷ ds) more zero number none lt is = let same : x ≡ posting counter number = cc in subst IsNoPost same none.0
 no_post_in (x ∷ ds) more (suc k) number none lt is = no_post_in ds more k number none.1 (omega (arith, lt)) is
-
-get_drop : {X : Type 0} (xs : List X) (n k : ℕ) → slice_get (drop n xs) k ≡ slice_get xs (n + k)
-get_drop xs zero k = ap (slice_get xs) (omega arith)
-get_drop [] (suc n) k = refl
-get_drop (x ∷ xs) (suc n) k = get_drop xs n k ∙ ap (slice_get (x ∷ xs)) (let e : suc (n + k) ≡ suc n + k = omega arith in e)
 
 get_or_there : (ds : List Deed) (k : ℕ) → k < length ds → (d : Deed) × (slice_get ds k ≡ Some d)
 get_or_there ds k inside = let d = get_or ds k (printing (λ _. [])) in (d, slice_get-get_or ds k (printing (λ _. [])) inside)
@@ -167,8 +162,8 @@ module _ (x : Walk) (ready : IsReady x) (held : AreHeld x.seat.home) (y : Walk) 
       over = over;
     }
 
-    pub turns_go : GoesTo x y
-    turns_go = record { ready = passed_ready x y ts ready turns_pass; seat = same; answered = omega (arith, answered) }
+    pub turns_go : y.patience.legs ≡ x.patience.legs → GoesTo x y
+    turns_go legs = record { ready = passed_ready x y ts ready turns_pass; seat = same; answered = omega (arith, answered); legs = legs }
 
   pub turns_lead : 0 < length ts → beginnings_left y.turns ≡ beginnings_left x.turns → y.answered ≡ x.answered → LeadsOn x y
   turns_lead some begins answered = record {

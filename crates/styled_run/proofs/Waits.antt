@@ -46,8 +46,8 @@ module _ (x : Walk) (ready : IsReady x) (held : AreHeld x.seat.home) where
     joined_ready : IsReady y
     joined_ready = passed_ready x y (sets counter number ∷ []) ready passes
 
-    pub joined_goes : GoesTo x y
-    joined_goes = record { ready = joined_ready; seat = (seat_gone x.seat y.seat seat).0; answered = omega (arith, answers, above) }
+    pub joined_goes : y.patience.legs ≡ x.patience.legs → GoesTo x y
+    joined_goes legs = record { ready = joined_ready; seat = (seat_gone x.seat y.seat seat).0; answered = omega (arith, answers, above); legs = legs }
 
     pub joined_leads : (1 < (protocol_at x.seat.home).workers → ⊥) → LeadsOn x y
     joined_leads alone = leads_on x y (sets counter number) turns begins (seat_gone x.seat y.seat seat).1 (λ several. absurd (alone several))
@@ -106,8 +106,8 @@ module _ (x : Walk) (ready : IsReady x) (held : AreHeld x.seat.home) where
     still_ready : IsReady y
     still_ready = passed_ready x y [] ready still_passes
 
-    pub still_goes : GoesTo x y
-    still_goes = record { ready = still_ready; seat = same; answered = omega (arith, answered) }
+    pub still_goes : y.patience.legs ≡ x.patience.legs → GoesTo x y
+    still_goes legs = record { ready = still_ready; seat = same; answered = omega (arith, answered); legs = legs }
 
     pub waits_tells : (word : Word) (on number : ℕ) (rest : List StyledTurn) → styled_left x.turns ≡ waits word on number ∷ rest → (who wanted seen : ℕ) → IsAwaited y.seat who wanted → seen < wanted → 1000 + x.seat.misses ≤ y.seat.misses → EndsLeg x y (Waiting who wanted seen)
     waits_tells word on number rest next who wanted seen awaited low missed =
@@ -121,15 +121,15 @@ module _ (x : Walk) (ready : IsReady x) (held : AreHeld x.seat.home) where
         }
 
   -- the word has come
-  pub came_goes : (y : Walk) (word : Word) (on wanted : ℕ) → y.seat ≡ gone x.seat → y.executor ≡ x.executor → y.own ≡ x.own → y.answered ≡ x.answered → y.ended ≡ x.ended → HasCome x.turns y.turns → styled_left x.turns ≡ waits word on wanted ∷ styled_left y.turns → GoesTo x y
-  came_goes y word on wanted seat executor own answered over come turns =
+  pub came_goes : (y : Walk) (word : Word) (on wanted : ℕ) → y.seat ≡ gone x.seat → y.executor ≡ x.executor → y.own ≡ x.own → y.answered ≡ x.answered → y.ended ≡ x.ended → HasCome x.turns y.turns → styled_left x.turns ≡ waits word on wanted ∷ styled_left y.turns → y.patience.legs ≡ x.patience.legs → GoesTo x y
+  came_goes y word on wanted seat executor own answered over come turns legs =
       let act = await_next x ready held word on wanted (styled_left y.turns) turns in
       let kept = await_answered x.seat y.seat y.answered word on wanted seat (subst (AreAnswered x.seat) (sym answered) ready.answered) act in
       let passes = await_passes x ready held y word on wanted seat executor own over come turns kept in
-      record { ready = passed_ready x y (waits word on wanted ∷ []) ready passes; seat = (seat_gone x.seat y.seat seat).0; answered = omega (arith, answered) }
+      record { ready = passed_ready x y (waits word on wanted ∷ []) ready passes; seat = (seat_gone x.seat y.seat seat).0; answered = omega (arith, answered); legs = legs }
 
   -- a word of its own is set, and it is no join's
-  pub set_goes : (y : Walk) (word : Word) (number : ℕ) → y.seat ≡ gone x.seat → y.executor ≡ x.executor → y.own ≡ x.own → y.answered ≡ x.answered → y.ended ≡ x.ended → HasCome x.turns y.turns → styled_left x.turns ≡ sets word number ∷ styled_left y.turns → AreAnswered y.seat y.answered → GoesTo x y
-  set_goes y word number seat executor own answered over come turns kept =
+  pub set_goes : (y : Walk) (word : Word) (number : ℕ) → y.seat ≡ gone x.seat → y.executor ≡ x.executor → y.own ≡ x.own → y.answered ≡ x.answered → y.ended ≡ x.ended → HasCome x.turns y.turns → styled_left x.turns ≡ sets word number ∷ styled_left y.turns → AreAnswered y.seat y.answered → y.patience.legs ≡ x.patience.legs → GoesTo x y
+  set_goes y word number seat executor own answered over come turns kept legs =
       let passes = post_passes x ready held y word number seat executor own over come turns kept in
-      record { ready = passed_ready x y (sets word number ∷ []) ready passes; seat = (seat_gone x.seat y.seat seat).0; answered = omega (arith, answered) }
+      record { ready = passed_ready x y (sets word number ∷ []) ready passes; seat = (seat_gone x.seat y.seat seat).0; answered = omega (arith, answered); legs = legs }

@@ -9,14 +9,14 @@ use Rattle.owner_partition.specs.Phases.{phases}
 use Rattle.spmd_model.specs.Deeds.{Deed}
 use Rattle.spmd_turns.specs.Executors.{CanExecute, executor_output, executor_room, executor_tree}
 use Rattle.spmd_turns.proofs.TurnLists.{drop_at}
-use Rattle.styled_turns.specs.StyledTurns.{StyledTurn, styled_deeds}
+use Rattle.styled_turns.specs.StyledTurns.{StyledTurn, styled_deeds, styled_room}
 use Rattle.styled_turns.specs.StyledLeft.{AreStyled, IsSameRun, beginnings_left, styled_left}
 use Rattle.styled_turns.specs.declared.turns.StyledTurns.{StyledTurns}
 use Rattle.cell_table.specs.Places.{settled_at}
 use Rattle.styled_table.specs.Homes.{Home, protocol_at}
 use Rattle.styled_run.specs.Legs.{AreAnswered, IsSameSeat}
 use Rattle.styled_run.specs.Places.{deeds_at, deeds_in, held_cells, left_behind, plan_at, printed_behind, registers_behind, style_at, tree_at, turns_at}
-use Rattle.styled_run.specs.Walks.{IsAtEnd, IsReady, is_styled_there, styled_room, walk_place}
+use Rattle.styled_run.specs.Walks.{IsAtEnd, IsReady, is_styled_there, walk_place}
 use Rattle.styled_run.specs.declared.walk.Walk.{Walk}
 use Rattle.styled_run.proofs.SharedSteps.{Stands, on_same, shown_left}
 

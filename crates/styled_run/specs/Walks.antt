@@ -8,9 +8,7 @@ use Rattle.nest_model.specs.Instances.{Instance}
 use Rattle.nest_model.specs.Ranges.{is_instance_inside}
 use Rattle.owner_partition.specs.Phases.{phases}
 use Rattle.spmd_turns.specs.Executors.{CanExecute, executor_output, executor_room, executor_tree}
-use Rattle.spmd_turns.specs.Rooms.{turn_room}
-use Rattle.spmd_turns.specs.Turns.{works}
-use Rattle.styled_turns.specs.StyledTurns.{StyledTurn, sets, waits, runs, closes}
+use Rattle.styled_turns.specs.StyledTurns.{StyledTurn, runs_only, styled_room}
 use Rattle.styled_turns.specs.StyledLeft.{AreStyled, IsStyledNext, beginnings_left, styled_left, styled_plan, styled_processor, styled_style, styled_tree}
 use Rattle.styled_turns.specs.declared.turns.StyledNext.{StyledNext}
 use Rattle.cell_table.specs.Places.{settled_at}
@@ -22,22 +20,13 @@ use Rattle.styled_run.specs.declared.walk.Walk.{Walk}
 use Rattle.styled_run.specs.declared.worker.Leg.{Leg}
 use Rattle.styled_run.specs.declared.worker.Leg.TheVariants.{Ended, Joined, Waiting}
 
--- the output that a turn may write
-abbrev pub styled_room : Tree → StyledTurn → ℕ
-styled_room tree (sets word number) = 0
-styled_room tree (waits word on wanted) = 0
-styled_room tree (runs place i) = turn_room tree (works i)
-styled_room tree (closes place k) = 0
-
--- each access of it is in range, and each of its cells is the program's
+-- each access of an instance is in range, and each of its cells is the program's
 abbrev pub is_instance_there : Tree → Instance → Bool
 is_instance_there tree i = is_instance_inside tree i && list_all (λ c. nat_lt c (cell_count tree)) (cells_of tree i)
 
+-- of one that a turn runs
 abbrev pub is_styled_there : Tree → StyledTurn → Bool
-is_styled_there tree (sets word number) = true
-is_styled_there tree (waits word on wanted) = true
-is_styled_there tree (runs place i) = is_instance_there tree i
-is_styled_there tree (closes place k) = true
+is_styled_there tree = runs_only (is_instance_there tree)
 
 abbrev pub walk_place : Walk → ℕ
 walk_place x = place_of x.seat x.turns
@@ -70,11 +59,12 @@ pub record IsReady (x : Walk) : Type 0 where
   pub answered : AreAnswered x.seat x.answered
   pub over : x.ended ≡ true → IsAtEnd x
 
--- a turn leads on
+-- a turn of a leg leads on
 pub record GoesTo (old new : Walk) : Type 0 where
   pub ready : IsReady new
   pub seat : IsSameSeat old.seat new.seat
   pub answered : old.answered ≤ new.answered
+  pub legs : new.patience.legs ≡ old.patience.legs
 
 -- what a leg answers where a turn ends it
 abbrev pub Answers : Walk → Walk → Leg → Type 0

@@ -6,8 +6,7 @@ ghost use Rattle.styled_table.specs.Homes.{gone, through};
 ghost use Rattle.styled_run.specs.Legs.{HasMissed};
 
 use crate::patience::Patience;
-use cell_table::Poll;
-use styled_table::{CellSeat, Cells};
+use styled_table::{CellSeat, Cells, Poll};
 
 // A processor, and the number that is awaited of its counter or its signal.
 #[derive(Clone, Copy)]

@@ -76,7 +76,6 @@ pub fn run_spmd_with<R: Threads + Wait + Sync, G: Gate + Sync>(
     let (cells, mut main) = Cells::new_with(alloc, program, plan, style)?;
     let mut workers = workers_of(alloc, &tables, &cells, &mut main)?;
     for _ in rt.forever() {
-        tables.begin_round();
         round(rt, &cells, &mut workers, gate);
         if have_ended(&workers) {
             break;

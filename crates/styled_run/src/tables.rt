@@ -21,8 +21,8 @@ use sync_plan::Plan;
 const MOST_STATEMENTS: usize = 400;
 
 /// What all workers of a program under a plan look up: how its barriers are passed, the cells of the
-/// program's accesses, the values of its named constants, how long its output can be, and whether
-/// one of the workers has given up a wait.
+/// program's accesses, the values of its named constants, how long its output can be, and in which leg
+/// a worker has given up a wait last.
 #[derive(Drop)]
 pub struct Tables<'a> {
     pub(crate) program: &'a Program,
@@ -31,7 +31,7 @@ pub struct Tables<'a> {
     pub(crate) cells: CellTable,
     pub(crate) params: Vec<i64>,
     pub(crate) room: usize,
-    pub(crate) given_up: CachePadded<AtomicCell<bool>>,
+    pub(crate) given_up: CachePadded<AtomicCell<u64>>,
 }
 
 impl<'a> Model for Tables<'a> {
@@ -79,13 +79,7 @@ impl<'a> Tables<'a> {
             cells,
             params,
             room,
-            given_up: CachePadded::new(AtomicCell::new(false)),
+            given_up: CachePadded::new(AtomicCell::new(0)),
         })
-    }
-
-    /// A new round of legs begins, in which no worker has given up a wait yet. Where one has, the
-    /// others' waits end soon too.
-    pub fn begin_round(&self) {
-        self.given_up.store(false);
     }
 }

@@ -163,6 +163,7 @@ impl<'a> Walk<'a> {
         ensures room { executor_room self.new.executor ≡ executor_room self.old.executor }
         ensures turns { self.new.turns ≡ self.old.turns }
         ensures answered { self.new.answered ≡ self.old.answered }
+        ensures legs { self.new.patience.legs ≡ self.old.patience.legs }
         ensures ended { self.new.ended ≡ self.old.ended }
     {
         let from = Snapshot::of(&self.seat);
@@ -243,6 +244,7 @@ impl<'a> Walk<'a> {
         ensures grown { length (executor_output self.new.executor) ≤ length (executor_output self.old.executor) + visit_room (executor_tree self.old.executor) (visit_at (executor_tree self.old.executor) (styled_rounds self.old.turns) stop.entry) }
         ensures turns { self.new.turns ≡ self.old.turns }
         ensures answered { self.new.answered ≡ self.old.answered }
+        ensures legs { self.new.patience.legs ≡ self.old.patience.legs }
         ensures ended { self.new.ended ≡ self.old.ended }
     {
         let turns = Snapshot::of(&self.turns);
@@ -280,6 +282,7 @@ impl<'a> Walk<'a> {
         ensures grown { length (executor_output self.new.executor) ≤ length (executor_output self.old.executor) + visit_room (executor_tree self.old.executor) (visit_at (executor_tree self.old.executor) (styled_rounds self.old.turns) stop.entry) }
         ensures turns { self.new.turns ≡ self.old.turns }
         ensures answered { self.new.answered ≡ self.old.answered }
+        ensures legs { self.new.patience.legs ≡ self.old.patience.legs }
         ensures ended { self.new.ended ≡ self.old.ended }
     {
         let turns = Snapshot::of(&self.turns);

@@ -1,6 +1,6 @@
 // One processor's worker.
 
-ghost use Rattle.std.specs.Prelude.{◌≡◌, ◌≤◌, ◌<◌, ◌↔◌, true, ℕ, [], IfErr, IfOk};
+ghost use Rattle.std.specs.Prelude.{◌≡◌, ◌+◌, ◌%◌, ◌^◌, ◌≤◌, ◌<◌, ◌↔◌, true, ℕ, [], IfErr, IfOk};
 ghost use Rattle.styled_table.specs.Calls.{IsEndedSeat, first_seat};
 ghost use Rattle.styled_table.specs.Homes.{protocol_at};
 ghost use Rattle.styled_run.specs.Legs.{AreAnswered, IsJoined, IsWaiting, answered_last};
@@ -51,7 +51,7 @@ impl<'a> Model for Worker<'a> {
 
     ghost coded = { worker_code };
 
-    ghost view = { λ w. record { seat = w.walk.seat; answered = w.walk.answered; output = executor_output w.walk.executor } };
+    ghost view = { λ w. record { seat = w.walk.seat; answered = w.walk.answered; legs = w.walk.patience.legs; output = executor_output w.walk.executor } };
 
     ghost invariant = { λ w. IsReady w.walk };
 }
@@ -76,6 +76,7 @@ impl<'a> Worker<'a> {
         requires first { seat ≡ first_seat seat.home seat.processor }
         ensures seat { IfOk result (λ w. w.seat ≡ seat) }
         ensures answered { IfOk result (λ w. w.answered ≡ 0) }
+        ensures legs { IfOk result (λ w. w.legs ≡ 0) }
         ensures output { IfOk result (λ w. w.output ≡ []) }
         ensures refused { IfErr result (λ r. r.seat ≡ seat) }
     {
@@ -100,11 +101,13 @@ impl<'a> Worker<'a> {
         })
     }
 
-    /// Goes on to the end, to the next Join, or to a wait that takes too long.
+    /// Goes on to the end, to the next Join, or to a wait that takes too long. Where another worker
+    /// gives up a wait in its leg of the same number, or a later one, that is soon.
     pub fn leg<G: Gate>(&mut self, cells: &Cells<'_>, gate: &G) -> Leg
         requires own { self.old.seat.home ≡ cells.now }
         ensures home { self.new.seat.home ≡ self.old.seat.home }
         ensures processor { self.new.seat.processor ≡ self.old.seat.processor }
+        ensures legs { self.new.legs ≡ (self.old.legs + 1) % 2 ^ 64 }
         ensures further { self.old.seat.position ≤ self.new.seat.position }
         ensures output { self.new.output ≡ printed_behind self.new.seat self.new.seat.position }
         ensures answered { AreAnswered self.new.seat self.new.answered }
@@ -113,6 +116,7 @@ impl<'a> Worker<'a> {
         ensures joined { (e : ℕ) → result ≡ Joined e → IsJoined self.old.answered self.new.seat e }
         ensures waiting { (on wanted seen : ℕ) → result ≡ Waiting on wanted seen → IsWaiting self.old.seat self.new.seat on wanted seen }
     {
+        self.walk.patience = self.walk.patience.next_leg();
         self.walk.leg(cells, gate)
     }
 

@@ -16,3 +16,4 @@ pub mod Shown
 pub mod Calls
 pub mod LastOwners
 pub mod TurnsAct
+pub mod StyledRooms

@@ -2,32 +2,30 @@
 use Rattle.std.proofs.Common.{◌≡◌, ◌==◌, ◌&&◌, ◌||◌, ℕ, zero, suc, drop, ◌+◌, ◌-◌, ◌<◌, ◌≤◌, nat_lt, Bool, true, false, List, [], ◌∷◌, ◌++◌, length, map, Option, Some, None, if◌then◌else◌, refl, ap, sym, ◌∙◌, arith}
 use Rattle.std.specs.Prelude.{position, slice_get}
 use Rattle.std.specs.List.{flat_map, list_any}
-use Rattle.std.specs.Option.{option_map, option_or}
+use Rattle.std.specs.Option.{option_map}
 use Rattle.std.proofs.lemmas.Bool.{eqb-true, lt-ltb, ltb-true}
 use Rattle.std.proofs.lemmas.List.Quantifiers.{position-Some}
 use Rattle.std.proofs.lemmas.Option.{slice_get_within}
 use Rattle.nest_tree.specs.Limits.{IsWithinLimits}
 use Rattle.nest_tree.specs.Tree.{Tree, Work, assign, print, param_values}
 use Rattle.nest_tree.specs.WellFormed.{IsWellFormed}
-use Rattle.nest_model.specs.Accesses.{loads_of, store_of}
 use Rattle.nest_model.specs.Instances.{Instance}
-use Rattle.nest_model.specs.Memory.{assigned_value, line_of}
 use Rattle.nest_model.specs.Ranges.{IsInRange}
 use Rattle.nest_model.specs.Visits.{Visit}
 use Rattle.own_scalars.specs.OwnScalars.{is_of}
 use Rattle.owner_partition.specs.Phases.{phases}
 use Rattle.sync_plan.specs.Fit.{IsFit}
-use Rattle.sync_plan.specs.Own.{OwnLoop, at_slot, own_cell, own_loop, own_of, place_in}
+use Rattle.sync_plan.specs.Own.{OwnLoop, own_loop, own_of}
 use Rattle.sync_plan.specs.Shape.{static_phases}
 use Rattle.sync_plan.specs.declared.plan.Plan.{Plan}
 use Rattle.own_cells.specs.OwnCells.{place_assigned}
-use Rattle.spmd_model.specs.Deeds.{posting, awaiting, deed_of, instance_deeds, last_deed, loading, owned_by}
+use Rattle.spmd_model.specs.Deeds.{posting, awaiting, deed_of, owned_by}
 use Rattle.spmd_model.specs.Styled.{machine_by}
-use Rattle.spmd_model.specs.StyledDeeds.{HasNoOwn, closing_deeds, deeds_by, own_deeds}
+use Rattle.spmd_model.specs.StyledDeeds.{closing_deeds, deeds_by, own_deeds}
 use Rattle.spmd_model.specs.Timelines.{acts_of, counter}
 use Rattle.spmd_model.specs.declared.style.Style.{Style}
 use Rattle.spmd_model.specs.declared.style.Style.TheVariants.{Arrive}
-use Rattle.spmd_model.proofs.NoOwnDeeds.{plain_deeds}
+use Rattle.spmd_model.proofs.NoOwnDeeds.{plain_deeds, same_deeds}
 use Rattle.spmd_model.proofs.OwnTexts.{AreOwnIn, own_in_phase}
 use Rattle.spmd_model.proofs.StyledDeeds.{styled_deeds}
 use Rattle.spmd_turns.specs.Turns.{Turn, posts, awaits, begins, works, turn_deeds, turns_from}
@@ -119,27 +117,6 @@ module _ (tree : Tree) (plan : Plan) (p k : ℕ) (v : Visit) (formed : IsWellFor
 
 abbrev unseen_standing : ℕ → Standing
 unseen_standing barriers = record { place = no_phase; pending = none_pending; barriers = barriers }
-
-no_slot : (tree : Tree) (plan : Plan) (place p c : ℕ) → HasNoOwn tree plan place → own_cell (own_of tree plan place) p c ≡ c
-no_slot tree plan place p c none =
-    ap (at_slot (own_of tree plan place) p c) (
-    ap (λ vs. option_or (place_in tree vs c) (option_map (λ k. 16 + k) (place_in tree (own_loop tree plan place).sums c))) none.privates
-    ∙ ap (λ vs. option_map (λ k. 16 + k) (place_in tree vs c)) none.sums
-    )
-
-same_cells : (f : ℕ → ℕ) (cells : List ℕ) → ((c : ℕ) → f c ≡ c) → map f cells ≡ cells
-same_cells f [] same = refl
-same_cells f (c ∷ cells) same = ap (λ d. d ∷ map f cells) (same c) ∙ ap (λ cs. c ∷ cs) (same_cells f cells same)
-
-same_store : (f : ℕ → ℕ) (o : Option ℕ) → ((c : ℕ) → f c ≡ c) → option_map f o ≡ o
-same_store f None same = refl
-same_store f (Some c) same = ap Some (same c)
-
-pub same_deeds : (tree : Tree) (plan : Plan) (place p : ℕ) (i : Instance) → HasNoOwn tree plan place → own_deeds tree (own_of tree plan place) p i ≡ instance_deeds tree i
-same_deeds tree plan place p i none =
-    let f = own_cell (own_of tree plan place) p in
-    ap (λ cs. map loading cs ++ last_deed (option_map f (store_of tree i)) false (assigned_value tree i) (line_of tree i) ∷ []) (same_cells f (loads_of tree i) (λ c. no_slot tree plan place p c none))
-    ∙ ap (λ o. map loading (loads_of tree i) ++ last_deed o false (assigned_value tree i) (line_of tree i) ∷ []) (same_store f (store_of tree i) (λ c. no_slot tree plan place p c none))
 
 plainly : (tree : Tree) (plan : Plan) (p barriers : ℕ) → is_watched Arrive plan ≡ false → (ts : List Turn) → doing tree plan p (styled Arrive tree plan p (unseen_standing barriers) ts) ≡ flat_map (turn_deeds tree) ts
 plainly tree plan p barriers none [] = refl

@@ -21,6 +21,7 @@ use Rattle.spmd_model.specs.StyledDeeds.{keeping_deeds, own_deeds, totalling_dee
 use Rattle.spmd_model.specs.Timelines.{Word, counter, signal}
 use Rattle.spmd_model.specs.declared.style.Style.{Style}
 use Rattle.spmd_model.specs.declared.style.Style.TheVariants.{Arrive, Dissemination}
+use Rattle.spmd_turns.specs.Rooms.{turn_room}
 use Rattle.spmd_turns.specs.Turns.{Turn, posts, awaits, begins, works}
 use Rattle.spmd_turns.specs.declared.turns.Boundary.{Boundary}
 use Rattle.spmd_turns.specs.declared.turns.Boundary.TheVariants.{Counters, Barrier, Join}
@@ -49,6 +50,22 @@ styled_deeds tree plan p (sets word number) = posting word number ∷ []
 styled_deeds tree plan p (waits word on wanted) = awaiting word on wanted ∷ []
 styled_deeds tree plan p (runs place i) = own_deeds tree (own_of tree plan place) p i
 styled_deeds tree plan p (closes place k) = close_deeds tree plan p place k
+
+-- ---- what turns print and run
+
+-- the output that a turn may write
+abbrev pub styled_room : Tree → StyledTurn → ℕ
+styled_room tree (sets word number) = 0
+styled_room tree (waits word on wanted) = 0
+styled_room tree (runs place i) = turn_room tree (works i)
+styled_room tree (closes place k) = 0
+
+-- an instance that a turn runs passes a test
+abbrev pub runs_only : (Instance → Bool) → StyledTurn → Bool
+runs_only test (sets word number) = true
+runs_only test (waits word on wanted) = true
+runs_only test (runs place i) = test i
+runs_only test (closes place k) = true
 
 -- ---- from the plain turns to these
 

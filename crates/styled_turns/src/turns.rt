@@ -446,6 +446,7 @@ impl<'a> StyledTurns<'a> {
     }
 
     /// Past what comes next, where something does.
+    #[inline(always)]
     pub fn pass(&mut self, next: StyledNext<'a>)
         requires sound { AreStyled self.old }
         requires next { IsStyledNext self.old next }
@@ -502,6 +503,7 @@ impl<'a> StyledTurns<'a> {
     }
 
     // Past an instance, which leaves own scalars to be closed.
+    #[inline(always)]
     fn leave(&mut self, stop: Stop<'a>)
         requires sound { AreStyled self.old }
         requires next { IsStyledNext self.old (StyledNext.Work stop) }

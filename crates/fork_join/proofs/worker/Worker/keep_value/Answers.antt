@@ -1,96 +1,24 @@
-use mathlib.Core.Logic.{∥∥₁_map}
-use Rattle.std.proofs.Common.{◌≡◌, ◌+◌, ℕ, ℤ, List, get_or, set, w64, FitsSigned, to_z, of_z, sym, ◌∙◌, ap, subst, arith, rules}
+use Rattle.std.proofs.Common.{◌≡◌, ◌+◌, ℕ, ℤ, get_or, set, w64, FitsSigned, ap, ◌∙◌, arith, rules}
 use Rattle.std.specs.Prelude.{pos}
 use Rattle.std.proofs.lemmas.Int.{to_z-of_z}
-use Rattle.nest_tree.specs.View.{tree_of}
-use Rattle.fork_join.specs.Joins.{joined, protocol, put}
-use Rattle.fork_join.proofs.Closes.{cell_is, cell_there, closed_runs, keeping, nearer, rest, small, to, to_below}
-use Rattle.fork_join.proofs.Closing.{Closed, keeps_lawful, kept}
-use Rattle.fork_join.proofs.Running.{sized}
+use Rattle.fork_join.proofs.Closes.{cell_inside, cell_is, cell_there, nearer, private_closed, to}
 use Rattle.fork_join.proofs.worker.Worker.keep_value.Goals as goal
 
 pub cell-cell-requires : goal.cell-cell-requires
-cell-cell-requires c =
-    let w = c.args.self.now in
-    let tree = tree_of w.program.now in
-    let plan = w.plan.now in
-    let n = c.args.behind in
-    let p = w.processor in
-    let memory = c.args.memory.now in
-    let b = c.requires.closing in
-    let k = c.args.place in
-    let comes = c.requires.next in
-    let cell = to tree plan n p memory w b k comes in
-    (cell, cell_there tree plan n p memory w b k comes c.own_cells.result.now c.own_cells.ensures)
+cell-cell-requires c = (to c.requires.closing c.args.place c.requires.next, cell_there c.requires.closing c.args.place c.requires.next c.own_cells.result.now c.own_cells.ensures)
 
 pub bounds-memory-cell : goal.bounds-memory-cell
-bounds-memory-cell c =
-    let w = c.args.self.now in
-    let tree = tree_of w.program.now in
-    let plan = w.plan.now in
-    let n = c.args.behind in
-    let p = w.processor in
-    let memory = c.args.memory.now in
-    let b = c.requires.closing in
-    let k = c.args.place in
-    let comes = c.requires.next in
-    let cell = to tree plan n p memory w b k comes in
-    let is = cell_is tree plan n p memory w b k comes c.own_cells.result.now c.cell-cell.result c.own_cells.ensures c.cell-cell.ensures in
-    let below = to_below tree plan n p memory w b k comes in
-    let long = sized tree plan c.requires.safe memory (put (joined tree plan n p) p w.done.done) b.lawful in
-    omega (arith, is, below, long)
+bounds-memory-cell c = cell_inside c.requires.closing c.args.place c.requires.next c.requires.safe c.own_cells.result.now c.cell-cell.result c.own_cells.ensures c.cell-cell.ensures
 
 pub returns-clause-nearer : goal.returns-clause-nearer
-returns-clause-nearer c =
-    let w = c.args.self.now in
-    let tree = tree_of w.program.now in
-    let plan = w.plan.now in
-    let n = c.args.behind in
-    let p = w.processor in
-    let memory = c.args.memory.now in
-    let b = c.requires.closing in
-    let k = c.args.place in
-    let comes = c.requires.next in
-    let cell = to tree plan n p memory w b k comes in
-    nearer tree plan n p memory w b k comes c.pass.new.self c.pass.ensures.none c.pass.ensures.passed
+returns-clause-nearer c = nearer c.requires.closing c.args.place c.requires.next c.pass.new.self c.pass.ensures.none c.pass.ensures.passed
 
 pub returns-clause-closing : goal.returns-clause-closing
 returns-clause-closing c =
-    let w = c.args.self.now in
-    let tree = tree_of w.program.now in
-    let plan = w.plan.now in
-    let n = c.args.behind in
-    let p = w.processor in
-    let memory = c.args.memory.now in
-    let b = c.requires.closing in
-    let k = c.args.place in
-    let comes = c.requires.next in
-    let cell = to tree plan n p memory w b k comes in
-    let is = cell_is tree plan n p memory w b k comes c.own_cells.result.now c.cell-cell.result c.own_cells.ensures c.cell-cell.ensures in
-    let below = to_below tree plan n p memory w b k comes in
-    let long = sized tree plan c.requires.safe memory (put (joined tree plan n p) p w.done.done) b.lawful in
-    let low = small tree plan n p memory w b k comes in
-    let more_left = rest tree plan n p memory w b k comes in
-    let first = keeping tree plan n p memory w b k comes c.requires.private in
-    let went = c.pass.ensures in
-    let d = c.pass.new.self in
-    let more : c.further-self.result.done ≡ w.done.done + 2 = (let one = c.further.ensures in let two = c.further-self.ensures in omega (arith, one, two)) in
-    let v = get_or w.own k (pos 0) in
+    let more : c.further-self.result.done ≡ c.args.self.now.done.done + 2 = (let one = c.further.ensures in let two = c.further-self.ensures in omega (arith, one, two)) in
+    let v = get_or c.args.self.now.own c.args.place (pos 0) in
     let fits : FitsSigned w64 v = search rules in
-    let closed = subst (Closed tree plan p more_left w.own w.done.done) (sym more) (kept tree plan c.requires.safe p w.done.done k cell c.requires.below low below w.own b.stands.holds b.stands.runs.idle more_left first) in
-    record {
-      stands = record {
-        program = b.stands.program;
-        plan_is = b.stands.plan_is;
-        processor = b.stands.processor;
-        runs = closed_runs tree plan n p memory w b k comes d went.none went.passed w.own c.further-self.result went.sound went.plain went.same closed;
-        kept = b.stands.kept;
-        cells = b.stands.cells;
-        holds = closed.holds;
-      };
-      none = b.none;
-      lawful = ∥∥₁_map b.lawful (λ lawful.
-          subst (λ (done : ℕ). (protocol tree plan).lawful (set memory c.cell-cell.result (to_z w64 (of_z w64 v))) (put (joined tree plan n p) p done)) (sym more)
-          (subst (λ (cells : List ℤ). (protocol tree plan).lawful cells (put (joined tree plan n p) p (w.done.done + 2))) (ap (λ (x : ℤ). set memory cell x) (sym (to_z-of_z w64 v fits)) ∙ ap (λ (j : ℕ). set memory j (to_z w64 (of_z w64 v))) (sym is))
-          (keeps_lawful tree plan c.requires.safe p w.done.done k cell c.requires.below low below w.own b.stands.holds b.stands.runs.idle more_left first memory (joined tree plan n p) lawful)));
-    }
+    let is = cell_is c.requires.closing c.args.place c.requires.next c.own_cells.result.now c.cell-cell.result c.own_cells.ensures c.cell-cell.ensures in
+    let written = ap (λ (x : ℤ). set c.args.memory.now c.cell-cell.result x) (to_z-of_z w64 v fits) ∙ ap (λ (j : ℕ). set c.args.memory.now j v) is in
+    let went = c.pass.ensures in
+    private_closed c.requires.closing c.args.place c.requires.next c.pass.new.self went.none went.passed went.sound went.plain went.same c.requires.safe c.requires.below c.further-self.result _ c.requires.private more written

@@ -3,7 +3,7 @@ use Rattle.sync_plan.specs.Own.{own_loop}
 use Rattle.own_cells.specs.OwnCells.{AreOwnCells}
 use Rattle.styled_turns.specs.StyledLeft.{styled_plan, styled_tree}
 use Rattle.styled_turns.proofs.KnownOwn.{none_at}
-use Rattle.spmd_machine.proofs.LoudDeeds.{slot_none}
+use Rattle.spmd_model.proofs.NoOwnDeeds.{no_slot}
 use Rattle.spmd_machine.proofs.processor.Processor.place_of.Goals as goal
 
 pub overflow_cast-cell : goal.overflow_cast-cell
@@ -17,4 +17,4 @@ returns-then-has_own c =
 pub returns-else-has_own : goal.returns-else-has_own
 returns-else-has_own c =
     let t = c.args.self.now.turns in
-    sym (slot_none (styled_tree t) (styled_plan t) t.place c.args.cell (none_at (styled_tree t) (styled_plan t) t.place (sym c.has_own.ensures ∙ c.if-has_own.false)))
+    sym (no_slot (styled_tree t) (styled_plan t) t.place c.args.cell (none_at (styled_tree t) (styled_plan t) t.place (sym c.has_own.ensures ∙ c.if-has_own.false)))

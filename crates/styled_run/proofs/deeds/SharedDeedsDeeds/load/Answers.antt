@@ -1,6 +1,5 @@
 use Rattle.std.proofs.Common.{◌+◌, ◌∷◌, w64, FitsSigned, sym, ap, ◌∙◌, subst, rules}
 use Rattle.std.proofs.lemmas.Int.{to_z-of_z}
-use Rattle.nest_tree.specs.Layout.{cell_count}
 use Rattle.spmd_model.specs.Deeds.{loading}
 use Rattle.styled_run.specs.Held.{AreHeld}
 use Rattle.fork_join.specs.SeenDeeds.{shared_deed}
@@ -16,7 +15,6 @@ load-value-requires-clause-next c =
     let v = d.seat.now in
     let n = place_of v d.turns.now.value + d.done.done in
     let held : AreHeld v.home = subst AreHeld (sym d.same_table) c.laws_of.ensures in
-    let cells = cell_count (tree_at v.home) in
     let l = loads_shared (shared_deed (tree_at v.home)) d.from.now.value v held d.worker d.own.now n c.args.cell c.requires.0 c.requires.1 (shared_load (tree_at v.home) c.args.cell) in
     l.next
 
@@ -26,7 +24,6 @@ returns-clause-left c =
     let v = d.seat.now in
     let n = place_of v d.turns.now.value + d.done.done in
     let held : AreHeld v.home = subst AreHeld (sym d.same_table) c.laws_of.ensures in
-    let cells = cell_count (tree_at v.home) in
     let l = loads_shared (shared_deed (tree_at v.home)) d.from.now.value v held d.worker d.own.now n c.args.cell c.requires.0 c.requires.1 (shared_load (tree_at v.home) c.args.cell) in
     let moved = further_on (λ u k. left_shared d.from.now.value u d.own.now k) v c.load-value.new.seat d.turns.now.value d.done.done c.further-self.result.done c.load-value.ensures.goes c.further-self.ensures in
     c.requires.1 ∙ ap (λ ds. loading c.args.cell ∷ ds) (sym (moved ∙ l.left))
@@ -37,7 +34,6 @@ returns-clause-registers c =
     let v = d.seat.now in
     let n = place_of v d.turns.now.value + d.done.done in
     let held : AreHeld v.home = subst AreHeld (sym d.same_table) c.laws_of.ensures in
-    let cells = cell_count (tree_at v.home) in
     let l = loads_shared (shared_deed (tree_at v.home)) d.from.now.value v held d.worker d.own.now n c.args.cell c.requires.0 c.requires.1 (shared_load (tree_at v.home) c.args.cell) in
     let fits : FitsSigned w64 c.load-value.result = search rules in
     let value = to_z-of_z w64 c.load-value.result fits ∙ c.load-value.ensures.value in
@@ -49,6 +45,5 @@ returns-clause-printed c =
     let v = d.seat.now in
     let n = place_of v d.turns.now.value + d.done.done in
     let held : AreHeld v.home = subst AreHeld (sym d.same_table) c.laws_of.ensures in
-    let cells = cell_count (tree_at v.home) in
     let l = loads_shared (shared_deed (tree_at v.home)) d.from.now.value v held d.worker d.own.now n c.args.cell c.requires.0 c.requires.1 (shared_load (tree_at v.home) c.args.cell) in
     further_on printed_behind v c.load-value.new.seat d.turns.now.value d.done.done c.further-self.result.done c.load-value.ensures.goes c.further-self.ensures ∙ l.printed

@@ -1,6 +1,5 @@
 use Rattle.std.proofs.Common.{◌+◌, ◌∷◌, w64, FitsSigned, sym, ap, ◌∙◌, subst, rules}
 use Rattle.std.proofs.lemmas.Int.{to_z-of_z}
-use Rattle.nest_tree.specs.Layout.{cell_count}
 use Rattle.spmd_model.specs.Deeds.{storing}
 use Rattle.styled_run.specs.Held.{AreHeld}
 use Rattle.fork_join.specs.SeenDeeds.{shared_deed}
@@ -17,7 +16,6 @@ store-requires-clause-next c =
     let n = place_of v d.turns.now.value + d.done.done in
     let held : AreHeld v.home = subst AreHeld (sym d.same_table) c.laws_of.ensures in
     let (f, rest, is, value) = c.requires in
-    let cells = cell_count (tree_at v.home) in
     let s = stores_shared (shared_deed (tree_at v.home)) d.from.now.value v held d.worker d.own.now n c.args.cell f rest is (shared_store (tree_at v.home) c.args.cell f) in
     s.next
 
@@ -28,7 +26,6 @@ store-requires-clause-value c =
     let n = place_of v d.turns.now.value + d.done.done in
     let held : AreHeld v.home = subst AreHeld (sym d.same_table) c.laws_of.ensures in
     let (f, rest, is, value) = c.requires in
-    let cells = cell_count (tree_at v.home) in
     let s = stores_shared (shared_deed (tree_at v.home)) d.from.now.value v held d.worker d.own.now n c.args.cell f rest is (shared_store (tree_at v.home) c.args.cell f) in
     let fits : FitsSigned w64 c.args.value = search rules in
     to_z-of_z w64 c.args.value fits ∙ s.stored c.args.value value
@@ -40,7 +37,6 @@ returns-clause-left c =
     let n = place_of v d.turns.now.value + d.done.done in
     let held : AreHeld v.home = subst AreHeld (sym d.same_table) c.laws_of.ensures in
     let (f, rest, is, value) = c.requires in
-    let cells = cell_count (tree_at v.home) in
     let s = stores_shared (shared_deed (tree_at v.home)) d.from.now.value v held d.worker d.own.now n c.args.cell f rest is (shared_store (tree_at v.home) c.args.cell f) in
     let moved = further_on (λ u k. left_shared d.from.now.value u d.own.now k) v c.store.new.seat d.turns.now.value d.done.done c.further-self.result.done c.store.ensures.goes c.further-self.ensures in
     (f, is ∙ ap (λ ds. storing c.args.cell f ∷ ds) (sym (moved ∙ s.left)))
@@ -52,7 +48,6 @@ returns-clause-registers c =
     let n = place_of v d.turns.now.value + d.done.done in
     let held : AreHeld v.home = subst AreHeld (sym d.same_table) c.laws_of.ensures in
     let (f, rest, is, value) = c.requires in
-    let cells = cell_count (tree_at v.home) in
     let s = stores_shared (shared_deed (tree_at v.home)) d.from.now.value v held d.worker d.own.now n c.args.cell f rest is (shared_store (tree_at v.home) c.args.cell f) in
     further_on registers_behind v c.store.new.seat d.turns.now.value d.done.done c.further-self.result.done c.store.ensures.goes c.further-self.ensures ∙ s.registers
 
@@ -63,6 +58,5 @@ returns-clause-printed c =
     let n = place_of v d.turns.now.value + d.done.done in
     let held : AreHeld v.home = subst AreHeld (sym d.same_table) c.laws_of.ensures in
     let (f, rest, is, value) = c.requires in
-    let cells = cell_count (tree_at v.home) in
     let s = stores_shared (shared_deed (tree_at v.home)) d.from.now.value v held d.worker d.own.now n c.args.cell f rest is (shared_store (tree_at v.home) c.args.cell f) in
     further_on printed_behind v c.store.new.seat d.turns.now.value d.done.done c.further-self.result.done c.store.ensures.goes c.further-self.ensures ∙ s.printed

@@ -46,7 +46,7 @@ returns-clause-goes c =
     let went = c.pass.ensures in
     let turns = same_turn c.requires.next.0.1 went.passed.1 in
     let rest = same_tail c.requires.next.0.1 turns in
-    kept_goes x ready held c.args.place c.requires.next c.requires.kind y c.store.ensures.goes refl refl refl refl went.sound went.same went.begins turns rest
+    kept_goes x ready held c.args.place c.requires.next c.requires.kind y c.store.ensures.goes refl refl refl refl went.sound went.same went.begins turns rest refl
 
 pub returns-clause-tells : goal.returns-clause-tells
 returns-clause-tells c =

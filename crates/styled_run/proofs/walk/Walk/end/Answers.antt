@@ -8,7 +8,7 @@ returns-clause-goes c =
     let x = c.args.self.now in
     let ready = c.requires.ready in
     let held : AreHeld x.seat.home = subst AreHeld (sym c.requires.own) c.laws_of.ensures in
-    record { ready = ended_ready x ready held c.requires.next; seat = record { home = refl; processor = refl }; answered = omega arith }
+    record { ready = ended_ready x ready held c.requires.next; seat = record { home = refl; processor = refl }; answered = omega arith; legs = refl }
 
 pub returns-clause-tells : goal.returns-clause-tells
 returns-clause-tells c =

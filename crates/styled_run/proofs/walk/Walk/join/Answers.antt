@@ -32,7 +32,7 @@ returns-then-phase-self-clause-goes c =
     let act = post_next x ready held counter c.args.number next.0 next.1 in
     let below : c.args.number < x.answered = omega (arith, phase, c.if-phase-self.true) in
     let answered = join_answered x.seat c.post.new.seat x.answered x.answered c.args.number c.post.ensures.goes ready.answered act (omega arith) below in
-    set_goes x ready held y counter c.args.number c.post.ensures.goes refl refl refl refl (come_on x.turns y.turns went.sound went.same went.begins) turns answered
+    set_goes x ready held y counter c.args.number c.post.ensures.goes refl refl refl refl (come_on x.turns y.turns went.sound went.same went.begins) turns answered refl
 
 pub returns-then-phase-self-clause-tells : goal.returns-then-phase-self-clause-tells
 returns-then-phase-self-clause-tells c =
@@ -56,7 +56,7 @@ returns-then-workers-lt2-clause-goes c =
     let turns = same_turn next.1 went.passed.1 in
     let phase : c.phase-phase.result ≡ suc c.args.number = c.phase-phase.ensures c.args.number (inl c.requires.next) in
     let y = record x { seat = c.post.new.seat; turns = c.pass.new.self; answered = c.phase-phase.result } in
-    joined_goes x ready held y c.args.number c.phase-phase.result c.post.ensures.goes refl refl refl went.sound went.same went.begins turns phase refl (omega (arith, c.if-phase-self.false))
+    joined_goes x ready held y c.args.number c.phase-phase.result c.post.ensures.goes refl refl refl went.sound went.same went.begins turns phase refl (omega (arith, c.if-phase-self.false)) refl
 
 pub returns-clause-goes : goal.returns-clause-goes
 returns-clause-goes c =
@@ -68,7 +68,7 @@ returns-clause-goes c =
     let turns = same_turn next.1 went.passed.1 in
     let phase : c.phase-phase.result ≡ suc c.args.number = c.phase-phase.ensures c.args.number (inl c.requires.next) in
     let y = record x { seat = c.post.new.seat; turns = c.pass.new.self; answered = c.phase-phase.result } in
-    joined_goes x ready held y c.args.number c.phase-phase.result c.post.ensures.goes refl refl refl went.sound went.same went.begins turns phase refl (omega (arith, c.if-phase-self.false))
+    joined_goes x ready held y c.args.number c.phase-phase.result c.post.ensures.goes refl refl refl went.sound went.same went.begins turns phase refl (omega (arith, c.if-phase-self.false)) refl
 
 pub returns-then-workers-lt2-clause-tells : goal.returns-then-workers-lt2-clause-tells
 returns-then-workers-lt2-clause-tells c =

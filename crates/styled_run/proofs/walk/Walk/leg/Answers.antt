@@ -4,7 +4,7 @@ use Rattle.styled_run.proofs.walk.Walk.leg.Goals as goal
 
 pub loop-leg-init : goal.loop-leg-init
 loop-leg-init g c = record {
-  goes = record { ready = c.requires.ready; seat = record { home = refl; processor = refl }; answered = omega arith };
+  goes = record { ready = c.requires.ready; seat = record { home = refl; processor = refl }; answered = omega arith; legs = refl };
   further = inl refl;
   answered = λ several. refl;
 }
@@ -12,7 +12,7 @@ loop-leg-init g c = record {
 pub returns-in-Some-clause-goes : goal.returns-in-Some-clause-goes
 returns-in-Some-clause-goes g c =
     let inv = c.loop-leg.invariant in
-    goes_more c.args.self.now c.loop-leg.self c.turn.new.self inv.goes.seat inv.goes.answered c.turn.ensures.goes
+    goes_more c.args.self.now c.loop-leg.self c.turn.new.self inv.goes.seat inv.goes.answered inv.goes.legs c.turn.ensures.goes
 
 pub returns-in-Some-clause-ends : goal.returns-in-Some-clause-ends
 returns-in-Some-clause-ends g c =

@@ -25,7 +25,7 @@ returns-clause-goes c =
     let act = post_next x ready held counter c.args.number next.0 next.1 in
     let none = (counters_here x ready c.args.number c.requires.boundary).0 in
     let answered = post_answered x.seat c.post.new.seat x.answered c.args.number c.post.ensures.goes ready.answered act none in
-    set_goes x ready held y counter c.args.number c.post.ensures.goes refl refl refl refl (come_on x.turns y.turns went.sound went.same went.begins) (same_turn next.1 went.passed.1) answered
+    set_goes x ready held y counter c.args.number c.post.ensures.goes refl refl refl refl (come_on x.turns y.turns went.sound went.same went.begins) (same_turn next.1 went.passed.1) answered refl
 
 pub returns-clause-tells : goal.returns-clause-tells
 returns-clause-tells c =

@@ -24,7 +24,7 @@ returns-clause-goes c =
     let went = c.pass.ensures in
     let act = post_next x ready held signal c.args.number next.0 next.1 in
     let answered = signal_answered x.seat c.signal.new.seat x.answered c.args.number c.signal.ensures.goes ready.answered act in
-    set_goes x ready held y signal c.args.number c.signal.ensures.goes refl refl refl refl (come_on x.turns y.turns went.sound went.same went.begins) (same_turn next.1 went.passed.1) answered
+    set_goes x ready held y signal c.args.number c.signal.ensures.goes refl refl refl refl (come_on x.turns y.turns went.sound went.same went.begins) (same_turn next.1 went.passed.1) answered refl
 
 pub returns-clause-tells : goal.returns-clause-tells
 returns-clause-tells c =

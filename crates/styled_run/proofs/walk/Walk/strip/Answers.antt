@@ -80,7 +80,7 @@ returns-clause-goes c =
     let long = ap (λ (l : List ℕ). length l) did.output in
     let wide = did.room in
     let come : HasCome x.turns y.turns = subst (HasCome x.turns) (sym did.turns) (come_on x.turns c.strip.new.self st.sound st.same st.begins) in
-    turns_go x ready held y (map (runs (styled_place x.turns)) front) done same left_turns (no_posts_run x.seat.home x.seat.processor (styled_place x.turns) front) many come idle did.can did.program output (omega (arith, long)) (omega (arith, wide)) did.answered did.ended
+    turns_go x ready held y (map (runs (styled_place x.turns)) front) done same left_turns (no_posts_run x.seat.home x.seat.processor (styled_place x.turns) front) many come idle did.can did.program output (omega (arith, long)) (omega (arith, wide)) did.answered did.ended did.legs
 
 pub returns-clause-on : goal.returns-clause-on
 returns-clause-on c = λ _.
@@ -117,4 +117,4 @@ pub returns-in_default-clause-goes : goal.returns-in_default-clause-goes
 returns-in_default-clause-goes c =
     let x = c.args.self.now in
     let st = c.in_default.ensures in
-    record { ready = looked_ready x c.requires.ready c.strip.new.self (come_on x.turns c.strip.new.self st.sound st.same st.begins) st.left; seat = record { home = refl; processor = refl }; answered = omega arith }
+    record { ready = looked_ready x c.requires.ready c.strip.new.self (come_on x.turns c.strip.new.self st.sound st.same st.begins) st.left; seat = record { home = refl; processor = refl }; answered = omega arith; legs = refl }

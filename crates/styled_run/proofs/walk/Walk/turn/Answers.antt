@@ -16,7 +16,7 @@ returns-in-Phase-clause-goes g c =
     let look = c.peek_or_begin.ensures in
     let (begun, begins) = come_by z.turns d c.peek_or_begin.result look.next in
     let come : HasCome z.turns d = record { sound = look.sound; same = look.same; begun = begun; begins = begins } in
-    record { ready = looked_ready z goes.ready d come look.left; seat = goes.seat; answered = goes.answered }
+    record { ready = looked_ready z goes.ready d come look.left; seat = goes.seat; answered = goes.answered; legs = goes.legs }
 
 pub returns-in-Phase-clause-tells : goal.returns-in-Phase-clause-tells
 returns-in-Phase-clause-tells g c =
@@ -58,7 +58,7 @@ pub returns-in-Turn-clause-goes : goal.returns-in-Turn-clause-goes
 returns-in-Turn-clause-goes g c =
     let z = c.strip.new.self in
     let goes = c.strip.ensures.goes in
-    goes_more c.args.self.now (record z { turns = c.peek_or_begin.new.self }) c.act.new.self goes.seat goes.answered c.act.ensures.goes
+    goes_more c.args.self.now (record z { turns = c.peek_or_begin.new.self }) c.act.new.self goes.seat goes.answered goes.legs c.act.ensures.goes
 
 pub returns-in-Turn-clause-tells : goal.returns-in-Turn-clause-tells
 returns-in-Turn-clause-tells g c =

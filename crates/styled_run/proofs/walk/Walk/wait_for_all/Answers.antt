@@ -43,7 +43,7 @@ returns-in-Ok-clause-goes c =
     let front = ready.begins ∙ ap (λ l. ready.begun ++ l) (sym went.begins) in
     let same = row_number n on number qs (styled_left y.turns) next.0 turns next.1 (no_wait_first y.turns number begins (length (phases (tree_at x.seat.home) (plan_at x.seat.home).cut.marks)) ready.begun front on) in
     let passed = turns ∙ ap (λ k. map (λ q. waits counter q k) qs ++ styled_left y.turns) same.0 in
-    all_goes x ready held y number qs on next.0 c.in-Ok.ensures.came refl refl refl refl went.sound went.same went.begins passed same.1 begins next.1 (barrier_here x ready number c.requires.boundary).1
+    all_goes x ready held y number qs on next.0 c.in-Ok.ensures.came refl refl refl refl went.sound went.same went.begins passed same.1 begins next.1 (barrier_here x ready number c.requires.boundary).1 c.behind_wait-self.ensures
 
 pub returns-in-Ok-clause-tells : goal.returns-in-Ok-clause-tells
 returns-in-Ok-clause-tells c =
@@ -69,7 +69,7 @@ returns-in-Err-clause-goes c =
     let held : AreHeld x.seat.home = subst AreHeld (sym c.requires.own) c.laws_of.ensures in
     let missed = c.in-Err.ensures.missed in
     let y = record x { seat = c.poll_arrivals_until.new.seat; patience = c.behind_leg-self.result } in
-    still_goes x ready held y missed.same missed.stays refl refl refl refl refl
+    still_goes x ready held y missed.same missed.stays refl refl refl refl refl c.behind_leg-self.ensures
 
 pub returns-in-Err-clause-tells : goal.returns-in-Err-clause-tells
 returns-in-Err-clause-tells c =

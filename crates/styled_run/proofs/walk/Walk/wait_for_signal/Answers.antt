@@ -22,7 +22,7 @@ returns-in-Ok-clause-goes c =
     let next = c.requires.next.0 in
     let went = c.pass.ensures in
     let y = record x { seat = c.poll_signal_until.new.seat; turns = c.pass.new.self; patience = c.behind_wait-self.result } in
-    came_goes x ready held y signal c.args.on c.args.wanted c.in-Ok.ensures.came refl refl refl refl (come_on x.turns y.turns went.sound went.same went.begins) (same_turn next.1 went.passed.1)
+    came_goes x ready held y signal c.args.on c.args.wanted c.in-Ok.ensures.came refl refl refl refl (come_on x.turns y.turns went.sound went.same went.begins) (same_turn next.1 went.passed.1) c.behind_wait-self.ensures
 
 pub returns-in-Ok-clause-tells : goal.returns-in-Ok-clause-tells
 returns-in-Ok-clause-tells c =
@@ -41,7 +41,7 @@ returns-in-Err-clause-goes c =
     let held : AreHeld x.seat.home = subst AreHeld (sym c.requires.own) c.laws_of.ensures in
     let missed = c.in-Err.ensures.missed in
     let y = record x { seat = c.poll_signal_until.new.seat; patience = c.behind_leg-self.result } in
-    still_goes x ready held y missed.same missed.stays refl refl refl refl refl
+    still_goes x ready held y missed.same missed.stays refl refl refl refl refl c.behind_leg-self.ensures
 
 pub returns-in-Err-clause-tells : goal.returns-in-Err-clause-tells
 returns-in-Err-clause-tells c =

@@ -4,7 +4,7 @@ use Rattle.nest_model.specs.Instances.{Instance}
 use Rattle.sync_plan.specs.Own.{own_of}
 use Rattle.spmd_model.specs.Deeds.{Deed, instance_deeds}
 use Rattle.spmd_model.specs.StyledDeeds.{own_deeds}
-use Rattle.styled_turns.specs.StyledTurns.{runs}
+use Rattle.styled_turns.specs.StyledTurns.{runs, styled_room}
 use Rattle.styled_turns.specs.StyledLeft.{AreStyled, IsSameRun, IsStyledNext, beginnings_left, styled_left, styled_place}
 use Rattle.styled_turns.specs.declared.turns.StyledNext.TheVariants.{Work}
 use Rattle.styled_turns.specs.declared.turns.StyledTurns.{StyledTurns}
@@ -12,7 +12,7 @@ use Rattle.styled_run.specs.Held.{AreHeld}
 use Rattle.styled_run.specs.Legs.{IsSameSeat}
 use Rattle.fork_join.specs.SeenDeeds.{phase_deed}
 use Rattle.styled_run.specs.Places.{deeds_in, left_behind, place_of, plan_at, tree_at}
-use Rattle.styled_run.specs.Walks.{is_instance_there, styled_room}
+use Rattle.styled_run.specs.Walks.{is_instance_there}
 use Rattle.styled_run.proofs.ByProgram.{own_instance}
 use Rattle.styled_run.proofs.Instances.{begins_here, fits_here, no_posts_run, own_known, rest_here, room_here, same_count, same_tail}
 use Rattle.styled_run.proofs.Steps.{come_on, same_turn}
@@ -84,7 +84,7 @@ returns-clause-goes c =
     let one = sum_by-cons (styled_room (tree_at h)) (runs place at.instance) [] in
     let its = room_here f x ready place gives c.args.stop at next.0 next.1 in
     let long = did.grown in
-    turns_go x ready held y (runs place at.instance ∷ []) c.execute_own.result.value.done same turns (no_posts_run h x.seat.processor place (at.instance ∷ [])) many (come_on x.turns y.turns went.sound run begins) did.idle did.can did.program did.output (omega (arith, one, its, long)) did.room did.answered did.ended
+    turns_go x ready held y (runs place at.instance ∷ []) c.execute_own.result.value.done same turns (no_posts_run h x.seat.processor place (at.instance ∷ [])) many (come_on x.turns y.turns went.sound run begins) did.idle did.can did.program did.output (omega (arith, one, its, long)) did.room did.answered did.ended did.legs
 
 pub returns-clause-tells : goal.returns-clause-tells
 returns-clause-tells c =
