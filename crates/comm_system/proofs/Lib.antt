@@ -44,8 +44,10 @@ mod FirstWorks
 mod PrivateScalars
 mod ListSteps
 mod SystemParts
+mod NarrowRows
 pub mod ShapeParts
 mod SmallLoops
+mod StaticPhases
 mod Steps
 mod Looks
 mod RowSteps

@@ -40,6 +40,15 @@ small_at [] k i lt is all = absurd (omega arith)
 small_at (x ∷ items) zero i lt is all = ap (λ y. has_small_steps (statement_of y)) is ∙ (and_parts (has_small_steps (statement_of x)) (have_small_steps (statements_from items)) all).0
 small_at (x ∷ items) (suc k) i lt is all = small_at items k i (omega (arith, lt)) is (and_parts (has_small_steps (statement_of x)) (have_small_steps (statements_from items)) all).1
 
+-- one statement of good ones
+pub good_at : (scope : Scope) (around : List ℕ) (number : ℕ) (items : List Item) (k : ℕ) (i : Item) → k < length items → i ≡ get_or items k i → are_good_statements scope around number (statements_from items) ≡ true → (n : ℕ) × (is_good_statement scope around n (statement_of i) ≡ true)
+good_at scope around number [] k i lt is all = absurd (omega arith)
+good_at scope around number (x ∷ items) zero i lt is all =
+    (number, ap (λ y. is_good_statement scope around number (statement_of y)) is ∙ (and_parts (is_good_statement scope around number (statement_of x)) (are_good_statements scope around (number + loops_in (statement_of x)) (statements_from items)) all).0)
+good_at scope around number (x ∷ items) (suc k) i lt is all =
+    let later = number + loops_in (statement_of x) in
+    good_at scope around later items k i (omega (arith, lt)) is (and_parts (is_good_statement scope around number (statement_of x)) (are_good_statements scope around later (statements_from items)) all).1
+
 -- of one loop more
 pub small_behind : (around new : List Around) (a : Around) → are_small_steps (heads_of around) ≡ true → is_small a.nest.now.step ≡ true → new ≡ around ++ a ∷ [] → are_small_steps (heads_of new) ≡ true
 small_behind around new a all one is =

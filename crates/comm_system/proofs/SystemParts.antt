@@ -27,12 +27,6 @@ use Rattle.comm_system.specs.declared.pieces.Direction.{Direction}
 use Rattle.comm_system.specs.declared.pieces.Piece.{Piece as Held}
 use Rattle.comm_system.specs.declared.reference.Reference.{Reference}
 
--- an access's loops have unknowns
-pub loops_within : (tree : Tree) (a : Reference) (n : ℕ) → n ≡ unknowns_of tree (reference_seen a) → 2 * length a.around.items ≤ n
-loops_within tree a n is =
-    let long = length-map a.around.items (λ (x : Around). head_of x.nest.now) in
-    omega (arith, is, long)
-
 -- a system and its further rows
 pub system_more : (vars : ℕ) (rows last : List Constraint) (old new : Inequalities) → old ≡ system_of vars rows → HasMore last old new → new ≡ system_of vars (rows ++ last)
 system_more vars rows last old new is more =

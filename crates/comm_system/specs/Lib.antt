@@ -11,6 +11,7 @@ pub mod Meetings
 pub mod Rows
 pub mod Seen
 pub mod KeptViews
+pub mod StaticViews
 pub mod PhaseViews
 pub mod SlotViews
 pub mod SideViews

@@ -51,7 +51,7 @@ fn push_certain(
 {
     for (index, phase) in phases.iter().enumerate() {
         let number = index as u32 + 1;
-        if level.is_certain(side, number, phase.outer.as_slice()) {
+        if level.is_certain(side, number, phase.text.outer.as_slice()) {
             found.push(Boundary {
                 phase: number,
                 side,

@@ -134,7 +134,7 @@ impl<'b, 'a, 'p> Groups<'b, 'a, 'p> {
     ) -> Result<(), AllocError>
         ensures { OnOk result (listed_seen self.new ≡ with_subjects most (listed_seen self.old) (trips_subjects plan.now (phase_seen phase.entry.now))) }
     {
-        if !plan.cut.is_dealt(phase.item) {
+        if !plan.cut.is_dealt(phase.text.item) {
             return Ok(());
         }
         self.add_phase(alloc, &plan.cut, most, phase)

@@ -1,6 +1,7 @@
 // The systems of a pair of accesses in two phases, one at a time or all.
 
-ghost use Rattle.std.specs.Prelude.{◌≡◌, ◌+◌, ◌<◌, ◌≤◌, ◌^◌, IfOk, None, length, map, take};
+ghost use Rattle.std.specs.Prelude.{◌≡◌, ◌+◌, ◌-◌, ◌<◌, ◌≤◌, ◌^◌, IfOk, None, length, map, take};
+ghost use Rattle.farkas_cert.specs.Narrow.{AreNarrow};
 ghost use Rattle.nest_tree.specs.View.{tree_of};
 ghost use Rattle.sync_plan.specs.Shape.{wrong_field};
 ghost use Rattle.comm_system.specs.Obligations.{numbered_from, pair_tasks};
@@ -46,11 +47,14 @@ pub struct PairSystems<'w, 'p> {
     ghost within: { shared ≤ length obligation.system.rows },
     ghost few: { length pieces.items ≤ 16 },
     ghost room: { number + length pieces.items < 2 ^ 64 },
+    ghost narrow: { AreNarrow obligation.system.rows },
+    ghost unknowns: { obligation.system.vars < 2 ^ 32 - 1 },
 }
 
 impl<'w, 'p> PairSystems<'w, 'p> {
-    ghost use Rattle.std.specs.Prelude.{◌≡◌, ◌+◌, ◌<◌, ◌^◌, IfOk, None, OnErr, OnOk, Some, length, map, slice_get, take};
+    ghost use Rattle.std.specs.Prelude.{◌≡◌, ◌+◌, ◌-◌, ◌<◌, ◌^◌, IfOk, None, OnErr, OnOk, Some, length, map, slice_get, take};
     ghost use Rattle.std.specs.List.{AllByRecursion};
+    ghost use Rattle.farkas_cert.specs.Narrow.{AreNarrow};
     ghost use Rattle.nest_tree.specs.View.{tree_of};
     ghost use Rattle.sync_plan.specs.Shape.{wrong_field};
     ghost use Rattle.comm_system.specs.Obligations.{numbered, numbered_from, pair_tasks, shared_task};
@@ -157,7 +161,9 @@ impl<'w, 'p> PairSystems<'w, 'p> {
     /// The one that was made last, where memory didn't run out; else what stood there before the
     /// first.
     pub fn obligation(&self) -> &Obligation
-        ensures { result.now ≡ last_made self.now }
+        ensures made { result.now ≡ last_made self.now }
+        ensures narrow { AreNarrow result.now.system.rows }
+        ensures few { result.now.system.vars < 2 ^ 32 - 1 }
     {
         &self.obligation
     }

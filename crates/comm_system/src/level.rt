@@ -1,31 +1,25 @@
-// Static phases in the text, and two of them at a level.
+// Two static phases at a level.
 
 ghost use Rattle.std.specs.Prelude.{◌≡◌, ◌≤◌, length};
 ghost use Rattle.comm_system.specs.Boundaries.{is_before_second as stands_before_second, is_behind_first as stands_behind_first};
 ghost use Rattle.comm_system.specs.Certain.{is_certain as stands_certain};
 ghost use Rattle.comm_system.specs.SideViews.{side_seen};
 ghost use Rattle.comm_system.specs.SlotViews.{level_seen};
+ghost use Rattle.comm_system.specs.StaticViews.{loops_of};
 ghost use Rattle.nest_rows.specs.Views.{heads_of};
 
 use crate::producer::Side;
+use crate::static_phase::StaticPhase;
 use nest_rows::{Around, is_prefix};
-use nest_tree::Item;
-
-/// Where a static phase stands: its statement, and the Outer loops round it, from the outermost.
-#[derive(Clone, Copy)]
-pub struct Site<'x, 'a> {
-    pub item: &'x Item,
-    pub outer: &'x [Around<'a>],
-}
 
 /// Two static phases by their numbers, from 1, and a level: the common loop, from 1, that is at an
 /// earlier trip for the first; 0 where all common loops are equal.
 #[derive(Clone, Copy)]
 pub struct Level<'x, 'a> {
     pub s: u32,
-    pub first: Site<'x, 'a>,
+    pub first: &'x StaticPhase<'a>,
     pub t: u32,
-    pub second: Site<'x, 'a>,
+    pub second: &'x StaticPhase<'a>,
     pub level: usize,
 }
 
@@ -43,25 +37,25 @@ impl Level<'_, '_> {
 
     // Whether it is certain behind the first instance.
     fn is_behind_first(&self, phase: u32, outer: &[Around]) -> bool
-        ensures { result ≡ stands_behind_first (heads_of self.now.first.outer.now) self.now.s self.now.t self.now.level phase (heads_of outer.now) }
+        ensures { result ≡ stands_behind_first (heads_of (loops_of self.now.first.now.outer)) self.now.s self.now.t self.now.level phase (heads_of outer.now) }
     {
         let inside = if self.level == 0 {
             phase <= self.t
         } else {
             self.level <= outer.len()
         };
-        self.s < phase && inside && is_prefix(outer, self.first.outer)
+        self.s < phase && inside && is_prefix(outer, self.first.outer.as_slice())
     }
 
     // Whether it is certain in front of the second.
     fn is_before_second(&self, phase: u32, outer: &[Around]) -> bool
-        ensures { result ≡ stands_before_second (heads_of self.now.first.outer.now) (heads_of self.now.second.outer.now) self.now.s self.now.t self.now.level phase (heads_of outer.now) }
+        ensures { result ≡ stands_before_second (heads_of (loops_of self.now.first.now.outer)) (heads_of (loops_of self.now.second.now.outer)) self.now.s self.now.t self.now.level phase (heads_of outer.now) }
     {
         let inside = if self.level == 0 {
-            self.s < phase && !is_prefix(outer, self.first.outer)
+            self.s < phase && !is_prefix(outer, self.first.outer.as_slice())
         } else {
             self.level <= outer.len()
         };
-        phase <= self.t && inside && is_prefix(outer, self.second.outer)
+        phase <= self.t && inside && is_prefix(outer, self.second.outer.as_slice())
     }
 }

@@ -46,14 +46,15 @@ pub(crate) struct Kept<'b, 'a> {
 pub(crate) fn is_private_in(cut: &Cut, phase: &Phase, reference: &Reference) -> bool
     ensures { result ≡ is_private_in cut.now (phase_seen phase.now) (reference_seen reference.now) }
 {
-    privates_in(cut, phase.item).contains(&reference.target.variable())
+    privates_in(cut, phase.text.item).contains(&reference.target.variable())
 }
 
 // Whether an access is that of an own scalar of a phase.
 fn is_own_in(cut: &Cut, phase: &Phase, reference: &Reference) -> bool
     ensures { result ≡ is_own_in cut.now (phase_seen phase.now) (reference_seen reference.now) }
 {
-    is_private_in(cut, phase, reference) || is_summed(cut, phase.item, reference.target.variable())
+    is_private_in(cut, phase, reference)
+        || is_summed(cut, phase.text.item, reference.target.variable())
 }
 
 // The accesses of a phase that others see, in text order: of a private scalar the first alone.
@@ -64,7 +65,7 @@ pub(crate) fn shown<'b, 'a>(
 ) -> Result<Vec<Kept<'b, 'a>>, AllocError>
     ensures { IfOk result (λ found. map kept_seen found.items ≡ shown_of cut.now (phase_seen phase.entry.now)) }
 {
-    let privates = privates_in(cut, phase.item);
+    let privates = privates_in(cut, phase.text.item);
     let mut taken = Vec::new(alloc);
     let references = phase.references.as_slice();
     let mut found = Vec::with_capacity(alloc, references.len())?;

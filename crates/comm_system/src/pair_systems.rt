@@ -2,6 +2,7 @@
 
 ghost use Rattle.std.specs.Prelude.{◌≡◌, ◌+◌, ◌*◌, ◌-◌, ◌<◌, ◌≤◌, ◌^◌, ◌++◌, ◌⊎◌, [], ◌∷◌, IfErr, IfOk, IsTrue, None, OnErr, OnOk, length, map, neg_ℤ, pos};
 ghost use Rattle.std.specs.List.{list_all};
+ghost use Rattle.farkas_cert.specs.Narrow.{AreNarrow};
 ghost use Rattle.nest_tree.specs.Form.{is_small};
 ghost use Rattle.nest_tree.specs.Tree.{Tree};
 ghost use Rattle.nest_tree.specs.View.{tree_of};
@@ -101,10 +102,12 @@ pub fn trips_obligation(
     number: u64,
 ) -> Result<Obligation, AllocError>
     requires { wrong_field (tree_of program.now) plan.now ≡ None }
-    ensures { IfOk result (λ o. o ≡ numbered number (trips_task (tree_of program.now) plan.now (phase_seen phase.now) (pair_of a.now b.now))) }
+    ensures made { IfOk result (λ o. o ≡ numbered number (trips_task (tree_of program.now) plan.now (phase_seen phase.now) (pair_of a.now b.now))) }
+    ensures narrow { IfOk result (λ o. AreNarrow o.system.rows) }
+    ensures few { IfOk result (λ o. o.system.vars < 2 ^ 32 - 1) }
 {
     let n = unknowns_of_pair(program, a, b)?;
-    let order = two_trips(phase.outer.len())?;
+    let order = two_trips(phase.text.outer.as_slice().len())?;
     let mut system = NarrowSystem::empty(alloc, n.behind - 1);
     push_pair(
         alloc,
@@ -243,7 +246,8 @@ pub(crate) fn make_shared<'a>(
     b: &Reference<'a>,
 ) -> Result<Shared, AllocError>
     requires { wrong_field (tree_of program.now) plan.now ≡ None }
-    ensures { IfOk result (λ shared. IsShared (tree_of program.now) plan.now (slot_seen slot.now) (map producer_seen waits.now.producers.items) (pair_of a.now b.now) shared) }
+    ensures shared { IfOk result (λ shared. IsShared (tree_of program.now) plan.now (slot_seen slot.now) (map producer_seen waits.now.producers.items) (pair_of a.now b.now) shared) }
+    ensures few { IfOk result (λ shared. shared.system.vars < 2 ^ 32 - 1) }
 {
     let n = unknowns_of_pair(program, a, b)?;
     let order = order(slot)?;
@@ -288,6 +292,7 @@ fn push_row(alloc: Global, system: &mut System, constraint: &Constraint) -> Resu
     requires { IsTrue (is_tame constraint.now) }
     ensures ok { OnOk result (HasMore (constraint.now ∷ []) system.old system.new) }
     ensures err { OnErr result (system.new ≡ system.old) }
+    ensures narrow { AreNarrow system.old.rows → AreNarrow system.new.rows }
 {
     let vars = system.vars();
     system.push(row(alloc, vars, constraint)?)
@@ -330,6 +335,7 @@ pub(crate) fn push_last(
 ) -> Result<(), AllocError>
     ensures ok { OnOk result (HasMore (last_of waits.now.left waits.now.right owners.now (piece_seen piece.now)) system.old system.new) }
     ensures err { OnErr result (Begins system.old system.new) }
+    ensures narrow { AreNarrow system.old.rows → AreNarrow system.new.rows }
 {
     if owners.len() < 2 {
         return Ok(());
@@ -352,6 +358,7 @@ fn push_beside(
 ) -> Result<(), AllocError>
     ensures ok { OnOk result (HasMore (beside q others.now (map direction_seen sides.now)) system.old system.new) }
     ensures err { OnErr result (Begins system.old system.new) }
+    ensures narrow { AreNarrow system.old.rows → AreNarrow system.new.rows }
 {
     for (index, &other) in others.iter().enumerate() {
         if index >= sides.len() {

@@ -1,17 +1,19 @@
 // The static phases of a program.
 
-ghost use Rattle.std.specs.Prelude.{◌≡◌, ◌<◌, ◌++◌, ◌-◌, [], ◌∷◌, IfOk, IsTrue, OnOk, length, map, false, slice_index_or};
+ghost use Rattle.std.specs.Prelude.{◌≡◌, ◌<◌, ◌++◌, ◌-◌, ℕ, List, [], ◌∷◌, IfOk, IsTrue, OnOk, length, map, false, slice_index_or};
 ghost use Rattle.nest_tree.specs.View.{statement_of, statements_from, tree_of};
-ghost use Rattle.nest_tree.specs.WellFormed.{IsWellFormed};
+ghost use Rattle.nest_tree.specs.WellFormed.{IsWellFormed, Scope, are_good_statements, is_good_statement};
 ghost use Rattle.nest_walk.specs.Walks.{enters_but};
 ghost use Rattle.nest_rows.specs.Views.{heads_of};
 ghost use Rattle.comm_system.specs.References.{phases_among, phases_in, phases_of};
 ghost use Rattle.comm_system.specs.SmallSteps.{are_small_steps, has_small_steps, have_small_steps};
 ghost use Rattle.comm_system.specs.PhaseViews.{phase_seen};
+ghost use Rattle.comm_system.specs.StaticViews.{loops_of, static_phase_seen};
 
+use crate::outer_loops::OuterLoops;
 use crate::phase::Phase;
 use crate::references::push_references;
-use nest_rows::Around;
+use crate::static_phase::StaticPhase;
 use nest_tree::{Item, Program};
 use owner_partition::Cut;
 use std::alloc::{AllocError, Global};
@@ -26,9 +28,9 @@ pub fn phases<'a>(
     ensures phases { IfOk result (λ found. map phase_seen found.items ≡ phases_of (tree_of program.now) cut.now.marks) }
     ensures few { IfOk result (λ found. length found.items < 400) }
 {
-    let mut outer = Vec::new(alloc);
+    let outer = OuterLoops::new();
     let mut found = Vec::new(alloc);
-    push_all_phases(alloc, &program.items, cut.closed(), &mut outer, &mut found)?;
+    push_all_phases(alloc, &program.items, cut.closed(), outer, &mut found)?;
     Ok(found)
 }
 
@@ -38,13 +40,13 @@ fn push_all_phases<'a>(
     alloc: Global,
     items: &'a [Item],
     closed: &[bool],
-    outer: &mut Vec<Around<'a>>,
+    outer: OuterLoops<'a>,
     found: &mut Vec<Phase<'a>>,
 ) -> Result<(), AllocError>
-    requires outer { IsTrue (are_small_steps (heads_of outer.old.items)) }
+    requires good { (scope : Scope) × (around : List ℕ) × (number : ℕ) × (length around ≡ length (loops_of outer)) × IsTrue (are_good_statements scope around number (statements_from items.now)) }
+    requires outer { IsTrue (are_small_steps (heads_of (loops_of outer))) }
     requires steps { IsTrue (have_small_steps (statements_from items.now)) }
-    ensures found { OnOk result (map phase_seen found.new.items ≡ map phase_seen found.old.items ++ phases_among (enters_but closed.now) (heads_of outer.old.items) (statements_from items.now)) }
-    ensures outer { OnOk result (outer.new.items ≡ outer.old.items) }
+    ensures { OnOk result (map phase_seen found.new.items ≡ map phase_seen found.old.items ++ phases_among (enters_but closed.now) (heads_of (loops_of outer.entry)) (statements_from items.now)) }
 {
     for item in items {
         push_phases(alloc, item, closed, outer, found)?;
@@ -57,25 +59,25 @@ fn push_phases<'a>(
     alloc: Global,
     item: &'a Item,
     closed: &[bool],
-    outer: &mut Vec<Around<'a>>,
+    outer: OuterLoops<'a>,
     found: &mut Vec<Phase<'a>>,
 ) -> Result<(), AllocError>
-    requires outer { IsTrue (are_small_steps (heads_of outer.old.items)) }
+    requires good { (scope : Scope) × (around : List ℕ) × (number : ℕ) × (length around ≡ length (loops_of outer)) × IsTrue (is_good_statement scope around number (statement_of item.now)) }
+    requires outer { IsTrue (are_small_steps (heads_of (loops_of outer))) }
     requires steps { IsTrue (has_small_steps (statement_of item.now)) }
-    ensures found { OnOk result (map phase_seen found.new.items ≡ map phase_seen found.old.items ++ phases_in (enters_but closed.now) (heads_of outer.old.items) (statement_of item.now)) }
-    ensures outer { OnOk result (outer.new.items ≡ outer.old.items) }
+    ensures { OnOk result (map phase_seen found.new.items ≡ map phase_seen found.old.items ++ phases_in (enters_but closed.now) (heads_of (loops_of outer.entry)) (statement_of item.now)) }
 {
     match item {
         Item::Loop(nest) => {
             if is_closed_at(closed, nest.number) {
-                return push_phase(alloc, item, outer, found);
+                push_phase(alloc, StaticPhase { item, outer }, found)
+            } else {
+                push_all_phases(alloc, &nest.items, closed, outer.with_inner(nest), found)
             }
-            outer.push(Around { nest })?;
-            push_all_phases(alloc, &nest.items, closed, outer, found)?;
-            outer.pop();
-            Ok(())
         }
-        Item::Assign(..) | Item::Print(..) => push_phase(alloc, item, outer, found),
+        Item::Assign(..) | Item::Print(..) => {
+            push_phase(alloc, StaticPhase { item, outer }, found)
+        }
         Item::Continue(_) => Ok(()),
     }
 }
@@ -91,22 +93,16 @@ fn is_closed_at(closed: &[bool], number: u32) -> bool
 // One phase more.
 fn push_phase<'a>(
     alloc: Global,
-    item: &'a Item,
-    outer: &mut Vec<Around<'a>>,
+    text: StaticPhase<'a>,
     found: &mut Vec<Phase<'a>>,
 ) -> Result<(), AllocError>
-    requires outer { IsTrue (are_small_steps (heads_of outer.old.items)) }
-    requires steps { IsTrue (has_small_steps (statement_of item.now)) }
-    ensures found { OnOk result (map phase_seen found.new.items ≡ map phase_seen found.old.items ++ record { what = statement_of item.now; outer = heads_of outer.old.items } ∷ []) }
-    ensures outer { OnOk result (outer.new.items ≡ outer.old.items) }
+    requires outer { IsTrue (are_small_steps (heads_of (loops_of text.outer))) }
+    requires steps { IsTrue (has_small_steps (statement_of text.item.now)) }
+    ensures { OnOk result (map phase_seen found.new.items ≡ map phase_seen found.old.items ++ static_phase_seen text.entry ∷ []) }
 {
+    let mut around = Vec::from_slice(alloc, text.outer.as_slice())?;
     let mut references = Vec::new(alloc);
-    push_references(alloc, item, outer, &mut references)?;
-    let outer = Vec::from_slice(alloc, outer.as_slice())?;
-    found.push(Phase {
-        item,
-        outer,
-        references,
-    })?;
+    push_references(alloc, text.item, &mut around, &mut references)?;
+    found.push(Phase { text, references })?;
     Ok(())
 }

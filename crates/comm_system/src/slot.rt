@@ -28,7 +28,10 @@ impl<'a> Slot<'_, 'a> {
         ensures few { IfOk result (λ n. n < 2 ^ 29) }
         ensures only { IfErr result (λ _. 2 ^ 29 ≤ common_of (phase_seen self.now.first.now).outer (phase_seen self.now.second.now).outer) }
     {
-        let loops = common(self.first.outer.as_slice(), self.second.outer.as_slice());
+        let loops = common(
+            self.first.text.outer.as_slice(),
+            self.second.text.outer.as_slice(),
+        );
         if loops < 536_870_912 {
             Ok(loops as u32)
         } else {
@@ -42,9 +45,9 @@ impl<'a> Slot<'_, 'a> {
     {
         Level {
             s: self.s,
-            first: self.first.site(),
+            first: &self.first.text,
             t: self.t,
-            second: self.second.site(),
+            second: &self.second.text,
             level: self.level as usize,
         }
     }

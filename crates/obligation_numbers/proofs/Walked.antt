@@ -1,8 +1,7 @@
 -- One thing more of a walk over the text.
-use Rattle.std.proofs.Common.{◌≡◌, ℕ, zero, suc, ◌+◌, ◌<◌, Bool, true, false, List, [], ◌∷◌, ◌++◌, length, map, drop, get_or, take, if◌then◌else◌, refl, ap, sym, ◌∙◌, arith, length-append}
-use Rattle.std.specs.Prelude.{replicate, sum_by}
+use Rattle.std.proofs.Common.{◌≡◌, ℕ, suc, ◌+◌, ◌<◌, Bool, true, false, List, [], ◌∷◌, ◌++◌, length, map, drop, get_or, if◌then◌else◌, refl, ap, sym, ◌∙◌, arith, length-append}
+use Rattle.std.specs.Prelude.{sum_by}
 use Rattle.std.specs.List.{flat_map}
-use Rattle.std.proofs.Math.Seq.{take-append-add}
 use Rattle.std.proofs.lemmas.List.{drop_more}
 use Rattle.std.proofs.lemmas.List.Sums.{sum_by-append, sum_by-cons}
 use Rattle.nest_tree.specs.declared.tree.Access.{Access}
@@ -61,12 +60,3 @@ sum_both f n m (p ∷ ps) qs is =
 pub sum_next : (f : ℕ → StaticPhase → ℕ) (enters : ℕ → Bool) (outer : List Head) (n : ℕ) (s : Statement) (rest : Statements) →
     sum_from f n (phases_among enters outer (next s rest)) ≡ sum_from f n (phases_in enters outer s) + sum_from f (n + stops_in enters s) (phases_among enters outer rest)
 sum_next f enters outer n s rest = sum_both f n (n + stops_in enters s) (phases_in enters outer s) (phases_among enters outer rest) (ap (λ k. n + k) (phases_counted enters outer s))
-
--- the first of some that are alike, behind others
-one_left : {X : Type 0} (k n : ℕ) (x : X) → k < n → take 1 (drop k (replicate n x)) ≡ x ∷ []
-one_left k zero x lt = absurd (omega (arith, lt))
-one_left zero (suc n) x lt = refl
-one_left (suc k) (suc n) x lt = one_left k n x (omega (arith, lt))
-
-pub with_last : {X : Type 0} (xs all : List X) (n : ℕ) (x : X) → length xs < n → all ≡ xs ++ drop (length xs) (replicate n x) → take (length xs + 1) all ≡ xs ++ x ∷ []
-with_last xs all n x lt is = ap (take (length xs + 1)) is ∙ take-append-add xs (drop (length xs) (replicate n x)) 1 ∙ ap (λ ys. xs ++ ys) (one_left (length xs) n x lt)

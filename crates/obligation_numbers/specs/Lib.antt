@@ -2,4 +2,3 @@ pub mod Sums
 pub mod Counts
 pub mod Tests
 pub mod SlotViews
-pub mod Loops

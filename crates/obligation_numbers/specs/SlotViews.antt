@@ -2,16 +2,16 @@
 use Rattle.std.specs.Prelude.{ℕ, List}
 use Rattle.nest_tree.specs.View.{tree_of}
 use Rattle.comm_system.specs.Obligations.{Slot}
-use Rattle.comm_system.specs.PhaseViews.{site_seen}
 use Rattle.comm_system.specs.References.{StaticPhase, phases_of}
+use Rattle.comm_system.specs.StaticViews.{static_phase_seen}
 use Rattle.obligation_numbers.specs.declared.scene.Both.{Both}
 use Rattle.obligation_numbers.specs.declared.scene.Second.{Second}
 
 abbrev pub second_of : Second → StaticPhase
-second_of x = site_seen x.site
+second_of x = static_phase_seen x.phase.now
 
 abbrev pub first_of : Both → StaticPhase
-first_of x = site_seen x.site
+first_of x = static_phase_seen x.first.now
 
 -- all of the program
 abbrev pub phases_at : Both → List StaticPhase

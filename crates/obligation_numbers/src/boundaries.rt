@@ -11,8 +11,8 @@ ghost use Rattle.obligation_numbers.specs.Tests.{passes};
 use crate::phases::PhaseWeight;
 use comm_system::level::Level;
 use comm_system::producer::Side;
+use comm_system::static_phase::StaticPhase;
 use nest_rows::Around;
-use nest_tree::Item;
 use sync_plan::Kind;
 
 // On how many sides the boundary in front of this phase is certain.
@@ -53,9 +53,9 @@ pub(crate) struct Certain<'x, 'a> {
 impl PhaseWeight for Certain<'_, '_> {
     ghost weight = { λ c. sides_where (passes c.test) c.kinds.now (level_seen c.level) };
 
-    fn weigh(&self, number: u32, outer: &[Around], _item: &Item) -> u64 {
+    fn weigh(&self, number: u32, phase: &StaticPhase) -> u64 {
         if self.test.passes(kind_before(self.kinds, number)) {
-            sides(&self.level, number, outer)
+            sides(&self.level, number, phase.outer.as_slice())
         } else {
             0
         }

@@ -14,7 +14,6 @@ ghost use Rattle.comm_system.specs.Obligations.{obligation_numbered, obligations
 ghost use Rattle.comm_system.specs.Subjects.{obligations_in};
 
 mod accesses;
-mod around;
 mod boundaries;
 mod conflicts;
 pub mod count;

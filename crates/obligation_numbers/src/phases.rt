@@ -7,22 +7,22 @@ ghost use Rattle.nest_tree.specs.WellFormed.{IsWellFormed, Scope, are_good_state
 ghost use Rattle.nest_model.specs.Visits.{stops_in, stops_of};
 ghost use Rattle.nest_rows.specs.Views.{heads_of};
 ghost use Rattle.nest_walk.specs.Walks.{enters_but};
-ghost use Rattle.comm_system.specs.References.{StaticPhase, phases_among, phases_in, phases_of};
-ghost use Rattle.obligation_numbers.specs.Loops.{loops_of};
+ghost use Rattle.comm_system.specs.References.{StaticPhase as PhaseSeen, phases_among, phases_in, phases_of};
+ghost use Rattle.comm_system.specs.StaticViews.{loops_of, static_phase_seen};
 ghost use Rattle.obligation_numbers.specs.Sums.{sum_from};
 
-use crate::around::Loops;
-use nest_rows::Around;
+use comm_system::outer_loops::OuterLoops;
+use comm_system::static_phase::StaticPhase;
 use nest_tree::{Item, Program};
 use owner_partition::Cut;
 
-// What a static phase weighs, by its number, from 1, and the Outer loops round it.
+// What a static phase weighs, by its number, from 1.
 pub(crate) trait PhaseWeight {
-    ghost weight: { Self → ℕ → StaticPhase → ℕ };
+    ghost weight: { Self → ℕ → PhaseSeen → ℕ };
 
     // Past 64 bits the greatest number.
-    fn weigh(&self, number: u32, outer: &[Around], item: &Item) -> u64
-        ensures { result ≡ u64_saturate (weight self.now number (record { what = statement_of item.now; outer = heads_of outer.now })) };
+    fn weigh(&self, number: u32, phase: &StaticPhase) -> u64
+        ensures { result ≡ u64_saturate (weight self.now number (static_phase_seen phase.now)) };
 }
 
 // What the phases so far weigh, and the number of the next one.
@@ -38,7 +38,13 @@ pub(crate) fn phases_weight<W: PhaseWeight>(weight: &W, program: &Program, cut: 
     ensures { result ≡ u64_saturate (sum_from (W.weight weight.now) 1 (phases_of (tree_of program.now) cut.now.marks)) }
 {
     let mut sum = Sum { next: 1, total: 0 };
-    add_all(weight, cut.closed(), Loops::new(), &program.items, &mut sum);
+    add_all(
+        weight,
+        cut.closed(),
+        OuterLoops::new(),
+        &program.items,
+        &mut sum,
+    );
     sum.total
 }
 
@@ -47,7 +53,7 @@ pub(crate) fn phases_weight<W: PhaseWeight>(weight: &W, program: &Program, cut: 
 fn add_all<'a, W: PhaseWeight>(
     weight: &W,
     closed: &[bool],
-    outer: Loops<'a>,
+    outer: OuterLoops<'a>,
     items: &'a [Item],
     sum: &mut Sum,
 )
@@ -67,7 +73,7 @@ fn add_all<'a, W: PhaseWeight>(
 fn add_in<'a, W: PhaseWeight>(
     weight: &W,
     closed: &[bool],
-    outer: Loops<'a>,
+    outer: OuterLoops<'a>,
     item: &'a Item,
     sum: &mut Sum,
 )
@@ -81,25 +87,25 @@ fn add_in<'a, W: PhaseWeight>(
     match item {
         Item::Loop(nest) => {
             if is_closed_at(closed, nest.number) {
-                add_phase(weight, outer.as_slice(), item, sum);
+                add_phase(weight, &StaticPhase { item, outer }, sum);
             } else {
                 add_all(weight, closed, outer.with_inner(nest), &nest.items, sum);
             }
         }
-        Item::Assign(..) | Item::Print(..) => add_phase(weight, outer.as_slice(), item, sum),
+        Item::Assign(..) | Item::Print(..) => {
+            add_phase(weight, &StaticPhase { item, outer }, sum);
+        }
         Item::Continue(_) => {}
     }
 }
 
 // One phase more.
-fn add_phase<'a, W: PhaseWeight>(weight: &W, outer: &[Around<'a>], item: &'a Item, sum: &mut Sum)
+fn add_phase<W: PhaseWeight>(weight: &W, phase: &StaticPhase, sum: &mut Sum)
     requires { sum.old.next + 1 < 2 ^ 32 }
     ensures next { sum.new.next ≡ sum.old.next + 1 }
-    ensures total { sum.new.total ≡ u64_saturate (sum.old.total + W.weight weight.now sum.old.next (record { what = statement_of item.now; outer = heads_of outer.now })) }
+    ensures total { sum.new.total ≡ u64_saturate (sum.old.total + W.weight weight.now sum.old.next (static_phase_seen phase.now)) }
 {
-    sum.total = sum
-        .total
-        .saturating_add(weight.weigh(sum.next, outer, item));
+    sum.total = sum.total.saturating_add(weight.weigh(sum.next, phase));
     sum.next += 1;
 }
 

@@ -3,7 +3,8 @@
 ghost use Rattle.nest_tree.specs.View.{tree_of};
 ghost use Rattle.nest_tree.specs.WellFormed.{IsWellFormed};
 
-use comm_system::level::{Level, Site};
+use comm_system::level::Level;
+use comm_system::static_phase::StaticPhase;
 use nest_tree::Program;
 use sync_plan::Plan;
 
@@ -20,7 +21,7 @@ pub(crate) struct Scene<'x> {
 pub(crate) struct Second<'x, 'a> {
     pub(crate) scene: Scene<'x>,
     pub(crate) t: u32,
-    pub(crate) site: Site<'x, 'a>,
+    pub(crate) phase: &'x StaticPhase<'a>,
 }
 
 // A first phase with a second one.
@@ -28,7 +29,7 @@ pub(crate) struct Second<'x, 'a> {
 pub(crate) struct Both<'x, 'a> {
     pub(crate) second: Second<'x, 'a>,
     pub(crate) s: u32,
-    pub(crate) site: Site<'x, 'a>,
+    pub(crate) first: &'x StaticPhase<'a>,
 }
 
 impl<'x, 'a> Both<'x, 'a> {
@@ -42,9 +43,9 @@ impl<'x, 'a> Both<'x, 'a> {
     {
         Level {
             s: self.s,
-            first: self.site,
+            first: self.first,
             t: self.second.t,
-            second: self.second.site,
+            second: self.second.phase,
             level,
         }
     }

@@ -14,9 +14,8 @@ use crate::boundaries::{Certain, Test};
 use crate::conflicts::{pair_count, within_count};
 use crate::phases::{PhaseWeight, phases_weight};
 use crate::scene::{Both, Scene, Second};
-use comm_system::level::Site;
-use nest_rows::{Around, common};
-use nest_tree::Item;
+use comm_system::static_phase::StaticPhase;
+use nest_rows::common;
 use sync_plan::Plan;
 
 impl Both<'_, '_> {
@@ -82,8 +81,9 @@ impl Both<'_, '_> {
         ensures { result ≡ u64_saturate (count_between self.now.second.scene.plan.now (phases_at self.now) self.now.second.t (second_of self.now.second) self.now.s (first_of self.now)) }
     {
         let cut = &self.second.scene.plan.cut;
-        let pairs = pair_count(cut, self.site.item, self.second.site.item);
-        let loops = common(self.site.outer, self.second.site.outer);
+        let pairs = pair_count(cut, self.first.item, self.second.phase.item);
+        let first_loops = self.first.outer.as_slice();
+        let loops = common(first_loops, self.second.phase.outer.as_slice());
         let carried = self.carried_count(pairs, loops, loops);
         if self.s < self.second.t {
             carried.saturating_add(self.slot_count(pairs, 0))
@@ -96,11 +96,11 @@ impl Both<'_, '_> {
 impl PhaseWeight for Second<'_, '_> {
     ghost weight = { λ x s first. count_between x.scene.plan.now (phases_of (tree_of x.scene.program.now) x.scene.plan.now.cut.marks) x.t (second_of x) s first };
 
-    fn weigh(&self, number: u32, outer: &[Around], item: &Item) -> u64 {
+    fn weigh(&self, number: u32, phase: &StaticPhase) -> u64 {
         let both = Both {
             second: *self,
             s: number,
-            site: Site { item, outer },
+            first: phase,
         };
         both.count()
     }
@@ -109,11 +109,11 @@ impl PhaseWeight for Second<'_, '_> {
 impl PhaseWeight for Scene<'_> {
     ghost weight = { λ x t second. count_before x.plan.now (phases_of (tree_of x.program.now) x.plan.now.cut.marks) t second };
 
-    fn weigh(&self, number: u32, outer: &[Around], item: &Item) -> u64 {
+    fn weigh(&self, number: u32, phase: &StaticPhase) -> u64 {
         let second = Second {
             scene: *self,
             t: number,
-            site: Site { item, outer },
+            phase,
         };
         phases_weight(&second, self.program, &self.plan.cut)
     }
@@ -128,9 +128,9 @@ pub(crate) struct Trips<'x> {
 impl PhaseWeight for Trips<'_> {
     ghost weight = { λ x. trips_count x.plan.now };
 
-    fn weigh(&self, _number: u32, _outer: &[Around], item: &Item) -> u64 {
-        if self.plan.cut.is_dealt(item) {
-            within_count(&self.plan.cut, item)
+    fn weigh(&self, _number: u32, phase: &StaticPhase) -> u64 {
+        if self.plan.cut.is_dealt(phase.item) {
+            within_count(&self.plan.cut, phase.item)
         } else {
             0
         }

@@ -1,4 +1,5 @@
-use Rattle.std.proofs.Common.{◌∷◌, map, ap, ap₂, ◌∙◌}
+use Rattle.std.proofs.Common.{◌∷◌, arith, length, map, ap, ap₂, ◌∙◌}
+use Rattle.farkas_cert.specs.Inequalities.{Inequalities}
 use Rattle.nest_tree.specs.View.{tree_of}
 use Rattle.comm_system.specs.Boundaries.{of_first, of_second}
 use Rattle.comm_system.specs.Obligations.{anchor_at, placed_at}
@@ -18,8 +19,8 @@ anchor_at-first-requires-clause-places c = (shaped (tree_of c.args.program.now) 
 pub anchor_at-second-requires-clause-places : goal.anchor_at-second-requires-clause-places
 anchor_at-second-requires-clause-places c = (shaped (tree_of c.args.program.now) c.args.plan.now c.requires).anchors
 
-pub returns : goal.returns
-returns c =
+pub returns-clause-shared : goal.returns-clause-shared
+returns-clause-shared c =
     let tree = tree_of c.args.program.now in
     let plan = c.args.plan.now in
     let slot = slot_seen c.args.slot.now in
@@ -38,3 +39,11 @@ returns c =
           are second c.in_ok-order.ensures.order (ap₂ (λ x y. (x, y)) c.is_private_in.ensures c.is_private_in-2.ensures) (c.owners_unknowns.ensures.unknowns ∙ ap owners_unknowns first) c.empty-system.ensures c.in_ok-push_pair.ensures c.in_ok-owners.ensures.rows;
       owners = c.in_ok-owners.ensures.numbers ∙ shared_numbers tree plan slot producers pair n (map placed_seen c.as_slice-2.result.now) are second;
     }
+
+pub returns-clause-few : goal.returns-clause-few
+returns-clause-few c =
+    let owned = ap (λ (s : Inequalities). s.vars) c.in_ok-owners.ensures.rows in
+    let paired = ap (λ (s : Inequalities). s.vars) c.in_ok-push_pair.ensures in
+    let empty = ap (λ (s : Inequalities). s.vars) c.empty-system.ensures in
+    let long = ap length c.as_slice.ensures.value in
+    omega (arith, owned, paired, empty, long, c.in_ok-n.ensures.are.few, c.owners_unknowns.ensures.few, c.in_ok-placed.ensures.count)

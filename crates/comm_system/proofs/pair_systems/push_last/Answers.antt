@@ -37,3 +37,9 @@ returns-in_err-push_beside-clause-err c =
     let (more, has) = c.in_err-push_beside.ensures.err in
     let begins : Begins c.args.system.now c.push_beside.new.system = ((row ∷ []) ++ more, more-both (row ∷ []) more c.args.system.now c.push_row.new.system c.push_beside.new.system c.in_ok-push_row.ensures.ok has) in
     on_error c.from_residual-in_err-push_beside.result begins
+
+pub returns-clause-narrow : goal.returns-clause-narrow
+returns-clause-narrow c = λ all. c.push_beside.ensures.narrow (c.push_row.ensures.narrow all)
+
+pub returns-in_err-push_beside-clause-narrow : goal.returns-in_err-push_beside-clause-narrow
+returns-in_err-push_beside-clause-narrow c = λ all. c.push_beside.ensures.narrow (c.push_row.ensures.narrow all)

@@ -4,10 +4,10 @@ use Rattle.nest_walk.specs.Walks.{enters_but}
 use Rattle.nest_rows.specs.Views.{heads_of}
 use Rattle.comm_system.specs.References.{phases_among}
 use Rattle.comm_system.specs.PhaseViews.{phase_seen}
+use Rattle.comm_system.specs.StaticViews.{loops_of}
 use Rattle.comm_system.proofs.phases.+phases.Given as goal
 
 abbrev pub invariant-push_all_phases-loop-item : goal.invariant-push_all_phases-loop-item
-invariant-push_all_phases-loop-item l = record {
-  found : map phase_seen l.found.items ++ phases_among (enters_but l.closed) (heads_of l.initial.outer.items) (statements_from (drop l.item-index l.items)) ≡ map phase_seen l.initial.found.items ++ phases_among (enters_but l.closed) (heads_of l.initial.outer.items) (statements_from l.items);
-  outer : l.outer.items ≡ l.initial.outer.items;
-}
+invariant-push_all_phases-loop-item l =
+    map phase_seen l.found.items ++ phases_among (enters_but l.closed) (heads_of (loops_of l.outer)) (statements_from (drop l.item-index l.items))
+    ≡ map phase_seen l.initial.found.items ++ phases_among (enters_but l.closed) (heads_of (loops_of l.outer)) (statements_from l.items)

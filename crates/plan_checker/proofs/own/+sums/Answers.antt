@@ -14,3 +14,13 @@ has_good_sums-returns-then-is_good_sum t c =
     let good = sym (ap (λ m. is_good_sum version m body) c.mark.ensures) ∙ sym c.is_good_sum.ensures ∙ c.if-is_good_sum.true in
     c.have_good_sums.ensures ∙ ap (λ xs. have_good_sums version marks (statements_from xs)) c.deref.ensures.value
     ∙ sym (whole ∙ ap (λ b. b && have_good_sums version marks body) good)
+
+pub has_good_sums-returns-else-is_good_sum : goal.has_good_sums-returns-else-is_good_sum
+has_good_sums-returns-else-is_good_sum t c =
+    let marks = c.args.cut.now.marks in
+    let version = c.args.version in
+    let nest = c.in-Loop.nest in
+    let body = statements_from nest.items.items in
+    let whole = ap (has_good_sums version marks) (ap statement_of c.in-Loop.is ∙ statement_of-Loop nest) in
+    let bad = sym (ap (λ m. is_good_sum version m body) c.mark.ensures) ∙ sym c.is_good_sum.ensures ∙ c.if-is_good_sum.false in
+    c.if-is_good_sum.false ∙ sym (whole ∙ ap (λ b. b && have_good_sums version marks body) bad)

@@ -1,5 +1,7 @@
-use Rattle.std.proofs.Common.{rules, ◌≡◌, arith, length, map, ap, sym, ◌∙◌}
+use Rattle.std.proofs.Common.{rules, ◌≡◌, arith, length, map, ap, subst, sym, ◌∙◌}
 use Rattle.std.proofs.lemmas.List.{length-map}
+use Rattle.farkas_cert.specs.Inequalities.{Inequalities}
+use Rattle.farkas_cert.specs.Narrow.{AreNarrow}
 use Rattle.nest_tree.specs.View.{tree_of}
 use Rattle.comm_system.specs.Obligations.{numbered_from, piece_task, pieces_from}
 use Rattle.comm_system.specs.OwnerRows.{pieces}
@@ -23,6 +25,8 @@ invariant_of-result c =
       within = omega (arith, rows);
       few = few_made (length waits.producers.items) ps made waits.three;
       room = omega (arith, long, c.requires.room);
+      narrow = subst (λ (s : Inequalities). AreNarrow s.rows) (sym c.into_system-system.ensures.system) c.into_system-system.ensures.narrow;
+      unknowns = let same = ap (λ (s : Inequalities). s.vars) c.into_system-system.ensures.system in omega (arith, same, c.in_ok-system.ensures.few);
     }
 
 pub returns-clause-obligations : goal.returns-clause-obligations
@@ -37,6 +41,6 @@ returns-clause-obligations c =
     let size : c.len.result ≡ length waits.producers.items = search rules in
     let made : map piece_seen ps ≡ pieces (length waits.producers.items) = c.in_ok-pieces.ensures ∙ ap pieces size in
     let same = piece_same tree plan slot waits.left waits.right producers pair c.in_ok-system.field-0 c.into_system-system.result (length c.rows-shared.result.now) c.variable.result c.range.result
-    c.in_ok-system.ensures c.into_system-system.ensures.system (ap length c.rows-shared.ensures.rows) c.variable.ensures c.range.ensures in
+    c.in_ok-system.ensures.shared c.into_system-system.ensures.system (ap length c.rows-shared.ensures.rows) c.variable.ensures c.range.ensures in
     ap (numbered_from c.args.number) (pieces_same _ (piece_task tree plan slot waits.left waits.right producers pair) same 1 (map piece_seen ps)
     ∙ ap (pieces_from (piece_task tree plan slot waits.left waits.right producers pair) 1) (made ∙ ap pieces (sym (length-map waits.producers.items producer_seen))))

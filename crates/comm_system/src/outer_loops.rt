@@ -1,4 +1,4 @@
-// Loops round a place, from the outermost.
+// The Outer loops round a static phase.
 
 ghost use Rattle.std.specs.Prelude.{◌≡◌, ◌<◌, ◌≤◌, ◌++◌, ◌∷◌, [], length};
 
@@ -12,29 +12,30 @@ struct Six<'a> {
     items: [Around<'a>; MOST_LOOPS],
 }
 
-// The loops round a place, at most six; those behind the depth mean nothing.
+/// The Outer loops round a static phase, from the outermost: at most six. They take no memory.
 #[derive(Clone, Copy)]
-pub(crate) struct Loops<'a> {
+pub struct OuterLoops<'a> {
+    // How many there are; those of the six behind them mean nothing.
     depth: usize,
     six: Option<Six<'a>>,
     ghost within: { depth ≤ 6 },
 }
 
-impl<'a> Loops<'a> {
-    ghost use Rattle.obligation_numbers.specs.Loops.{loops_of};
+impl<'a> OuterLoops<'a> {
+    ghost use Rattle.comm_system.specs.StaticViews.{loops_of};
 
-    // None.
-    pub(crate) fn new() -> Self
+    /// None.
+    pub fn new() -> Self
         ensures { loops_of result ≡ [] }
     {
-        Loops {
+        OuterLoops {
             depth: 0,
             six: None,
         }
     }
 
-    // The loops, in order.
-    pub(crate) fn as_slice(&self) -> &[Around<'a>]
+    /// The loops, in order.
+    pub fn as_slice(&self) -> &[Around<'a>]
         ensures { result.now ≡ loops_of self.now }
     {
         match &self.six {
@@ -43,15 +44,15 @@ impl<'a> Loops<'a> {
         }
     }
 
-    // One more inside them.
-    pub(crate) fn with_inner(self, nest: &'a Nest) -> Self
+    /// One more inside them.
+    pub fn with_inner(self, nest: &'a Nest) -> Self
         requires { length (loops_of self) < 6 }
         ensures { loops_of result ≡ loops_of self.entry ++ record { nest = nest.entry } ∷ [] }
     {
         let outer = self.as_slice();
         let mut items = [Around { nest }; MOST_LOOPS];
         items[..outer.len()].copy_from_slice(outer);
-        Loops {
+        OuterLoops {
             depth: outer.len() + 1,
             six: Some(Six { items }),
         }

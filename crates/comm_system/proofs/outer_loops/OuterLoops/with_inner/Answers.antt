@@ -1,8 +1,8 @@
 use Rattle.std.proofs.Common.{◌++◌, ◌∷◌, [], drop, length, ap, ◌∙◌, arith}
 use Rattle.std.specs.Prelude.{replicate}
 use Rattle.nest_rows.specs.declared.terms.Around.{Around}
-use Rattle.obligation_numbers.proofs.Walked.{with_last}
-use Rattle.obligation_numbers.proofs.around.Loops.with_inner.Goals as goal
+use Rattle.comm_system.proofs.StaticPhases.{with_last}
+use Rattle.comm_system.proofs.outer_loops.OuterLoops.with_inner.Goals as goal
 
 pub returns : goal.returns
 returns c =
