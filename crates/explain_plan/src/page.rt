@@ -51,7 +51,7 @@ pub(crate) fn phase_lines(
 {
     let mut lines = Vec::new(alloc);
     for phase in &phases(alloc, program, &plan.cut)? {
-        lines.push(match phase.item {
+        lines.push(match phase.text.item {
             Item::Loop(nest) => nest.line,
             Item::Assign(_, _, _, line) | Item::Print(_, line) | Item::Continue(line) => *line,
         })?;

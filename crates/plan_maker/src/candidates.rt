@@ -29,7 +29,8 @@ fn is_among(anchor: &Anchor, anchors: &[Anchor]) -> bool
 pub fn can_produce(cut: &Cut, one: &Phase, phase: &Phase) -> bool
     ensures { result ≡ (not (is_dealt cut.now.marks (phase_seen one.now).what) && are_first_of (phase_seen one.now).outer (phase_seen phase.now).outer) }
 {
-    !cut.is_dealt(one.item) && is_prefix(one.outer.as_slice(), phase.outer.as_slice())
+    let outer = phase.text.outer.as_slice();
+    !cut.is_dealt(one.text.item) && is_prefix(one.text.outer.as_slice(), outer)
 }
 
 // The anchor of a phase behind these, where it can produce for another one and isn't among them.

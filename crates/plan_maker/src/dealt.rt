@@ -42,7 +42,7 @@ fn judge_phase(
 ) -> Result<Judged, AllocError>
     ensures { IfOk result (IsVerdict (trips_asked (tree_of problem.entry.program.now) problem.entry.plan.now (phase_seen phase.now))) }
 {
-    if !problem.plan.cut.is_dealt(phase.item) {
+    if !problem.plan.cut.is_dealt(phase.text.item) {
         return Ok(Verdict::Refuted(Vec::new(alloc)));
     }
     let groups = phase_groups(alloc, &problem.plan.cut, u64::MAX, phase, 1)?;

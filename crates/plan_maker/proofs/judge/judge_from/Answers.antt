@@ -30,7 +30,7 @@ returns-in-Kept c =
     let here : o ≡ get_or os i o = sym (get_or_from_slice_get os i o o at) in
     let inside : i < length os = omega (arith, c.loop-index-test.true, c.count-index-end.ensures) in
     let judged = subst (λ (j : Verdict Certificate Cause). IsJudgement (ask c.obligation.result.now) j) c.in-Kept.is c.in_ok-certificate.ensures in
-    let said = subst (λ (x : Obligation). IsJudgement (ask x) (Kept c.in-Kept.cause)) c.obligation.ensures judged in
+    let said = subst (λ (x : Obligation). IsJudgement (ask x) (Kept c.in-Kept.cause)) c.obligation.ensures.made judged in
     map_kept ask os i o inside here c.loop-index.certificates.items c.in-Kept.cause c.loop-index.invariant.refuted said
 
 pub loop-index-preserved : goal.loop-index-preserved
@@ -44,7 +44,7 @@ loop-index-preserved c =
     let here : o ≡ get_or os i o = sym (get_or_from_slice_get os i o o at) in
     let inside : i < length os = omega (arith, c.loop-index-test.true, c.count-index-end.ensures) in
     let judged = subst (λ (j : Verdict Certificate Cause). IsJudgement (ask c.obligation.result.now) j) c.in-Refuted.is c.in_ok-certificate.ensures in
-    let good = subst (λ (x : Obligation). IsJudgement (ask x) (Refuted c.in-Refuted.certificate)) c.obligation.ensures judged in
+    let good = subst (λ (x : Obligation). IsJudgement (ask x) (Refuted c.in-Refuted.certificate)) c.obligation.ensures.made judged in
     record {
       same = same;
       refuted = subst (AreRefuted (map ask (take (i + 1) os))) (sym c.in_ok-push-in-Refuted.ensures.items) (map_more ask os i o inside here c.loop-index.certificates.items c.in-Refuted.certificate c.loop-index.invariant.refuted good);

@@ -23,7 +23,7 @@ loop-index-preserved c =
     let here : o ≡ get_or os i o = sym (get_or_from_slice_get os i o o at) in
     let long = ap length c.loop-index.invariant.same in
     let inside : i < length os = omega (arith, c.loop-index-test.true, c.count-index-end.ensures) in
-    let good = subst (λ (x : Obligation). IsGood x.system c.in-Some.certificate) c.obligation.ensures (subst (λ f. IfSome f (IsGood c.obligation.result.now.system)) c.in-Some.is c.in_ok-certificate.ensures) in
+    let good = subst (λ (x : Obligation). IsGood x.system c.in-Some.certificate) c.obligation.ensures.made (subst (λ f. IfSome f (IsGood c.obligation.result.now.system)) c.in-Some.is c.in_ok-certificate.ensures) in
     let items = c.in_ok-push-in-Some.ensures.items in
     let size : length new ≡ i + 1 = omega (arith, ap length items, length_push cs c.in-Some.certificate, count) in
     record {

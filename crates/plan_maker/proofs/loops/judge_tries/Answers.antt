@@ -1,12 +1,15 @@
-use Rattle.std.proofs.Common.{◌+◌, map, take, sym, subst}
+use Rattle.std.proofs.Common.{◌+◌, map, take, ap, sym, ◌∙◌, subst}
 use Rattle.std.specs.List.{AllZip}
+use Rattle.std.specs.Option.{unwrap_or}
+use Rattle.nest_tree.specs.Tree.{done}
 use Rattle.nest_tree.specs.View.{tree_of}
 use Rattle.owner_partition.specs.Cuts.{Cutting}
-use Rattle.plan_maker.specs.Asked.{IsCause}
+use Rattle.plan_maker.specs.Asked.{AreRefuted, IsCause}
 use Rattle.plan_maker.specs.Bars.{IsLoopReason, attempt}
 use Rattle.plan_maker.specs.Cut.{cut_asked}
 use Rattle.plan_maker.specs.Judged.{IsVerdict}
-use Rattle.plan_maker.proofs.Attempts.{fails_more}
+use Rattle.plan_maker.specs.Tries.{tries_of}
+use Rattle.plan_maker.proofs.Attempts.{fails_more, first_of}
 use Rattle.plan_maker.proofs.Lists.{get_here}
 use Rattle.plan_maker.proofs.loops.judge_tries.Goals as goal
 
@@ -20,3 +23,14 @@ loop-tried-preserved c =
     let kept = subst (λ (u : Cutting). IsCause (cut_asked tree u) c.in-Kept.cause) c.in_ok-cut.ensures verdict in
     subst (λ rs. AllZip (IsLoopReason tree) (map (attempt n) (take (k + 1) ts)) rs) (sym c.in_ok-push-in-Kept.ensures.items)
     (fails_more tree n ts k _ c.loop-tried.reasons.items c.in-Kept.cause (get_here ts k _ c.loop-tried-test.true) c.requires.silent c.loop-tried.invariant kept)
+
+pub returns-in-Refuted : goal.returns-in-Refuted
+returns-in-Refuted c =
+    let tree = tree_of c.args.program.now in
+    let nest = c.args.nest.now in
+    let ts = c.as_slice-tried-items.result.now in
+    let k = c.loop-tried.tried-index in
+    let own = ap (λ body. tries_of (unwrap_or body done)) c.requires.body in
+    let tries = c.as_slice-tried-items.ensures.value ∙ c.in_ok-tries.ensures ∙ sym own in
+    let verdict = subst (IsVerdict (cut_asked tree c.in_ok-cut.cut)) c.in-Refuted.is c.in_ok-certificates.ensures in
+    (first_of tree nest.number ts k _ c.loop-tried.reasons.items tries (get_here ts k _ c.loop-tried-test.true) c.requires.silent c.loop-tried.invariant, subst (λ (u : Cutting). AreRefuted (cut_asked tree u) c.in-Refuted.certificates.items) c.in_ok-cut.ensures verdict)
