@@ -11,7 +11,7 @@
 //! | `ranges` | a source, whose subscripts are checked | nothing |
 //! | `run` | a source | the output of the sequential run |
 //! | `machine` | a source and behind it a plan's text | the output of the round robin by the plan |
-//! | `join`, `spmd` | the same, with a plan that is accepted | the output of the run by fork and join, or over shared words, on threads |
+//! | `join`, `spmd`, `signals` | the same, with a plan that is accepted | the output of the run by fork and join, or over shared words with barriers by arrivals or by signals, on threads |
 //! | `own` | what `machine` reads | how many instances the phases have, each given to the one processor that owns it |
 //!
 //! The input of `systems` is lines. A system is a line `system NAME VARS ROWS`, and then ROWS lines
@@ -64,6 +64,7 @@ use crate::ending::Ending;
 use crate::measure::Measure;
 use f77_lines::MOST_BYTES;
 use plan_input::Stop;
+use spmd_model::Style;
 use std::io::{ErrorKind, Read, Write};
 use std::process::ExitCode;
 use std::sync::Wait;
@@ -96,6 +97,7 @@ enum Part {
     Machine,
     Join,
     Spmd,
+    Signals,
     Own,
 }
 
@@ -127,6 +129,7 @@ fn part_of(word: &str) -> Option<Part> {
         "machine" => Some(Part::Machine),
         "join" => Some(Part::Join),
         "spmd" => Some(Part::Spmd),
+        "signals" => Some(Part::Signals),
         "own" => Some(Part::Own),
         _ => None,
     }
@@ -179,7 +182,8 @@ fn measure_of<R: Threads + Wait + Sync>(
         Part::Run => parts::run(rt, bytes),
         Part::Machine => parts::machine(rt, bytes),
         Part::Join => threads::join(rt, threads, bytes),
-        Part::Spmd => threads::spmd(rt, threads, bytes),
+        Part::Spmd => threads::spmd(rt, threads, bytes, Style::Arrive),
+        Part::Signals => threads::spmd(rt, threads, bytes, Style::Dissemination),
         Part::Own => parts::own(rt, bytes),
     }
 }

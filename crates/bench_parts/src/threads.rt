@@ -16,11 +16,12 @@ use nest_tree::Program;
 use plan_checker::check;
 use plan_checker::laws::accepted_plans_are_ordered;
 use plan_input::{Stop, read_fitting};
+use spmd_model::Style;
 use spmd_ports::NoGate;
 use std::alloc::Global;
 use std::sync::Wait;
 use std::thread::Threads;
-use styled_run::run_spmd;
+use styled_run::run_spmd_with;
 use sync_plan::Plan;
 
 // The program of a source, whose subscripts are in range, and the plan behind it, which is accepted.
@@ -77,16 +78,17 @@ pub(crate) fn join<R: Threads + Sync>(
     measured(rt, "join", &begun, output.as_slice())
 }
 
-/// The run over shared words, which writes the output.
+/// The run over shared words in a style of barriers, which writes the output.
 pub(crate) fn spmd<R: Threads + Wait + Sync>(
     rt: &HostRuntime,
     threads: &R,
     bytes: &[u8],
+    style: Style,
 ) -> Result<Measure, Stop>
     requires { length bytes.now ≤ MOST_BYTES }
 {
     let (program, plan) = case_of(threads, rt.alloc(), bytes)?;
     let begun = now(rt)?;
-    let (_closed, output) = run_spmd(threads, rt.alloc(), &program, &plan, &NoGate)?;
+    let (_closed, output) = run_spmd_with(threads, rt.alloc(), &program, &plan, &NoGate, style)?;
     measured(rt, "spmd", &begun, output.as_slice())
 }

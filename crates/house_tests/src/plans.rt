@@ -32,6 +32,14 @@ const CHAIN: &[u8] =
 const CONDITIONS: &[u8] =
     b"      PARAMETER (N=6)\n      INTEGER A(N), B(N)\n      DO 10 I = 1, N\n   10 A(I) = I\n      DO 20 I = 1, N\n   20 B(I) = A(I) + 1\n      PRINT *, B(1)\n      END\nSPMD PLAN 3\nWORKERS 2\nWHERE 2\n1 1*P1 <= 7\n2 -1*P1 <= -1\nLOOPS 2\n1 DOALL\n2 DOALL\nPHASES 3\n1 NOTHING AT -1 1*L1 BLOCK 4\n2 NOTHING AT -1 1*L2 BLOCK 4\n3 NOTHING AT 0 BLOCK 1\nCERTIFICATES 6\n1 STEPS 1\n1 3*1 8*1 12*1 13*1\n2 STEPS 1\n1 3*1 8*1 12*1 13*1\n3 STEPS 1\n1 12*1 14*1 17*1 21*4\n4 STEPS 1\n1 11*1 13*1 18*1 21*4\n5 STEPS 1\n1 11*1 13*1 17*1\n6 STEPS 1\n1 7*1 9*1 14*4 17*4\nEND PLAN\n";
 
+// A sum that is dealt out.
+const SUMS: &[u8] =
+    b"      INTEGER A(8)\n      DO 10 I = 1, 8\n   10 A(I) = 3*I\n      DO 20 I = 1, 8\n   20 K = K + A(I)\n      PRINT *, K\n      END\nSPMD PLAN 4\nWORKERS 2\nWHERE VALUES\nLOOPS 2\n1 DOALL\n2 SUM\nPHASES 3\n1 BARRIER AT -1 1*L1 BLOCK 4\n2 BARRIER AT -1 1*L2 BLOCK 4\n3 BARRIER AT 0 CYCLIC\nCERTIFICATES 1\n1 STEPS 1\n1 1*1 6*1 10*1 11*1\nEND PLAN\n";
+
+// A private scalar.
+const PRIVATES: &[u8] =
+    b"      INTEGER A(6)\n      DO 10 I = 1, 6\n      K = 2*I\n   10 A(I) = K*K\n      PRINT *, K, A(6)\n      END\nSPMD PLAN 5\nWORKERS 2\nWHERE VALUES\nLOOPS 1\n1 DOALL PRIVATE V2\nPHASES 2\n1 BARRIER AT -1 1*L1 BLOCK 3\n2 BARRIER AT 0 CYCLIC\nCERTIFICATES 1\n1 STEPS 1\n1 1*1 6*1 10*1 11*1\nEND PLAN\n";
+
 // The first lines of a text, so many.
 fn first_lines(text: &[u8], count: usize) -> &[u8] {
     let mut left = count;
@@ -140,7 +148,7 @@ fn shown(alloc: Global, found: &Obligation, count: u64) -> Result<String, AllocE
 #[test]
 fn plans_are_checked(rt: HostRuntime) -> Result<(), Fail> {
     let alloc = rt.alloc();
-    let rows: [(&[u8], &[u8], &[u8], &str); 26] = [
+    let rows: [(&[u8], &[u8], &[u8], &str); 34] = [
         (MIRROR, b"", b"", "ACCEPTED"),
         (MIRROR, b"2 BARRIER", b"2 BOTH", "PLAN P4 3"),
         (MIRROR, b"11*1", b"11*-1", "PLAN P5 1 C1 1"),
@@ -197,6 +205,29 @@ fn plans_are_checked(rt: HostRuntime) -> Result<(), Fail> {
         (CONDITIONS, b"N=6", b"N=8", "PLAN P6 1"),
         (CONDITIONS, b"N=6", b"N=9", "PLAN P2 1 0 8"),
         (CONDITIONS, b"-1*P1", b"-1*P2", "PLAN P1 8"),
+        (SUMS, b"", b"", "ACCEPTED"),
+        (
+            SUMS,
+            b"A(I)\n      PRINT",
+            b"A(I)*K\n      PRINT",
+            "PLAN P1 9",
+        ),
+        (
+            SUMS,
+            b"4\nWORKERS 2\nWHERE VALUES\nLOOPS 2\n1 DOALL\n2 SUM",
+            b"5\nWORKERS 2\nWHERE VALUES\nLOOPS 2\n1 DOALL\n2 SUM PRIVATE V2",
+            "PLAN P1 10",
+        ),
+        (SUMS, b"3 BARRIER", b"3 NOTHING", "PLAN P4 2"),
+        (
+            SUMS,
+            b"4\nWORKERS 2\nWHERE VALUES",
+            b"2\nWORKERS 2",
+            "PLAN SYNTAX 5",
+        ),
+        (PRIVATES, b"", b"", "ACCEPTED"),
+        (PRIVATES, b"PRIVATE V2", b"PRIVATE V1", "PLAN P1 10"),
+        (PRIVATES, b"SPMD PLAN 5", b"SPMD PLAN 4", "PLAN SYNTAX 5"),
     ];
     for &(text, old, new, wanted) in &rows {
         let bytes = text.replacen(alloc, old, new, 1)?;

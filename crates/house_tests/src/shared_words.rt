@@ -1,7 +1,6 @@
 use crate::straight_line::{line, plan_with};
-use cell_table::Poll;
 use std::test::Fail;
-use styled_table::Cells;
+use styled_table::{Cells, Poll};
 use sync_plan::Kind;
 
 #[test]

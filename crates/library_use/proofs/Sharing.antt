@@ -10,4 +10,4 @@ use Rattle.plan_checker.proofs.Crosses.{Program-sync}
 use Rattle.styled_table.specs.contracts.cells.Cells as Cells
 
 pub Cells-sync : (a : NamedLft) → IsSync (Cells.the_row a)
-Cells-sync a = search (sendable, crosses, Program-sync, plan.the_sync, style.the_field_sync, style.the_sync, shared.the_sync, lease.the_sync) depth 60
+Cells-sync a = search (sendable, crosses, Program-sync, plan.the_sync, style.the_field_sync, shared.the_sync, lease.the_sync) depth 60

@@ -6,12 +6,11 @@ ghost use Rattle.styled_table.specs.Calls.{ArrivesNext, GathersNext};
 ghost use Rattle.styled_table.specs.Homes.{gone, through};
 ghost use Rattle.house_tests.specs.StraightLine.{barriers, line, plan_with};
 
-use cell_table::Poll;
 use house_tests::straight_line::{line, plan_with};
 use nest_tree::Program;
 use std::alloc::{AllocError, Global};
 use std::thread::{Threads, join, yield_now};
-use styled_table::{CellSeat, Cells};
+use styled_table::{CellSeat, Cells, Poll};
 use sync_plan::{Kind, Plan};
 
 /// One thread's part: it arrives at the barrier in front of the first phase, and looks until all

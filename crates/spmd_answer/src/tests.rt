@@ -95,7 +95,7 @@ fn requests_are_answered(rt: HostRuntime) -> Result<(), Fail> {
                 "      END",
             ],
             Status::Done,
-            "SPMD PLAN 2\nWORKERS 2\nLOOPS 2\n1 SINGLE\n2 INNER\nPHASES 2\n1 BARRIER AT 0 CYCLIC\n2 BARRIER AT 0 CYCLIC\nCERTIFICATES 0\nEND PLAN\n 6 39\n",
+            "SPMD PLAN 4\nWORKERS 2\nWHERE VALUES\nLOOPS 2\n1 OUTER\n2 SUM\nPHASES 3\n1 BARRIER AT 0 CYCLIC\n2 BARRIER AT -1 1*L2 BLOCK 2\n3 BARRIER AT 0 CYCLIC\nCERTIFICATES 0\nEND PLAN\n 6 39\n",
         ),
         (0, &JACOBI, Status::Done, " 8 4 0\n"),
         (
@@ -377,7 +377,7 @@ const MADE: [Made; 7] = [
             "      DO 20 I = 1, 3",
             "      K = K + I",
             "      DO 10 J = I, 3",
-            "   10 L = L + K*J",
+            "   10 L = L*2 + K*J",
             "   20 CONTINUE",
             "      PRINT *, K, L",
             "      END",
@@ -385,14 +385,14 @@ const MADE: [Made; 7] = [
         workers: 2,
         front: "SPMD PLAN 2\nWORKERS 2\nLOOPS 2\n1 SINGLE\n2 INNER\nPHASES 2\n1 NOTHING AT 0 CYCLIC\n2 NOTHING AT 0 CYCLIC\nCERTIFICATES ",
         reasons: "END PLAN\nLOOP 1 NOT DOALL LINES 2 2 NAME K OPEN\nEND REASONS\n",
-        output: "END PLAN\n 6 39\n",
+        output: "END PLAN\n 6 148\n",
     },
     Made {
         source: &[
             "      DO 20 I = 1, 3",
             "      PRINT *, I",
             "      DO 10 J = I, 3",
-            "   10 L = L + J",
+            "   10 L = L*2 + J",
             "   20 CONTINUE",
             "      END",
         ],
@@ -518,6 +518,108 @@ fn larger_plans_are_answered(rt: HostRuntime) -> Result<(), Fail> {
 fn the_largest_plan_is_answered(rt: HostRuntime) -> Result<(), Fail> {
     for row in &LARGEST {
         assert!(rt; is_answered(&rt, rt.alloc(), row)?, "{}", row.front);
+    }
+    Ok(())
+}
+
+/// A sum that is dealt out, a product that isn't, a sum inside a loop that isn't dealt out, a
+/// private scalar, and a barrier of five.
+const BY_EACH: [Made; 5] = [
+    Made {
+        source: &[
+            "      INTEGER A(8)",
+            "      DO 10 I = 1, 8",
+            "   10 A(I) = 3*I",
+            "      DO 20 I = 1, 8",
+            "   20 K = K + A(I)",
+            "      PRINT *, K",
+            "      END",
+        ],
+        workers: 2,
+        front: "SPMD PLAN 4\nWORKERS 2\nWHERE VALUES\nLOOPS 2\n1 DOALL\n2 SUM\nPHASES 3\n1 NOTHING AT -1 1*L1 BLOCK 4\n2 NOTHING AT -1 1*L2 BLOCK 4\n3 RIGHT AT 0 CYCLIC\nCERTIFICATES ",
+        reasons: "\nEND REASONS\n",
+        output: "END PLAN\n 108\n",
+    },
+    Made {
+        source: &[
+            "      INTEGER A(8)",
+            "      DO 10 I = 1, 8",
+            "   10 A(I) = 3*I",
+            "      DO 20 I = 1, 8",
+            "   20 K = K + A(I)*K",
+            "      PRINT *, K",
+            "      END",
+        ],
+        workers: 2,
+        front: "SPMD PLAN 2\nWORKERS 2\nLOOPS 2\n1 DOALL\n2 SINGLE\nPHASES 3\n",
+        reasons: "\nEND REASONS\n",
+        output: "END PLAN\n 0\n",
+    },
+    Made {
+        source: &[
+            "      DO 20 I = 1, 3",
+            "      K = K + I",
+            "      DO 10 J = I, 3",
+            "   10 L = L + K*J",
+            "   20 CONTINUE",
+            "      PRINT *, K, L",
+            "      END",
+        ],
+        workers: 2,
+        front: "SPMD PLAN 4\nWORKERS 2\nWHERE VALUES\nLOOPS 2\n1 OUTER\n2 SUM\nPHASES 3\n",
+        reasons: "\nEND REASONS\n",
+        output: "END PLAN\n 6 39\n",
+    },
+    Made {
+        source: &[
+            "      INTEGER A(6)",
+            "      DO 10 I = 1, 6",
+            "      K = 2*I",
+            "   10 A(I) = K*K",
+            "      PRINT *, K, A(6)",
+            "      END",
+        ],
+        workers: 2,
+        front: "SPMD PLAN 5\nWORKERS 2\nWHERE VALUES\nLOOPS 1\n1 DOALL PRIVATE V2\nPHASES 2\n1 NOTHING AT -1 1*L1 BLOCK 3\n2 RIGHT AT 0 CYCLIC\nCERTIFICATES ",
+        reasons: "\nEND REASONS\n",
+        output: "END PLAN\n 12 144\n",
+    },
+    Made {
+        source: &MIRROR,
+        workers: 5,
+        front: "SPMD PLAN 2\nWORKERS 5\nLOOPS 2\n1 DOALL\n2 DOALL\nPHASES 3\n",
+        reasons: "\nEND REASONS\n",
+        output: "END PLAN\n 6\n",
+    },
+];
+
+/// Whether the run by each engine, of the plan that is made and of the one with its barriers, ends
+/// with this output.
+fn is_run<R: Threads + Wait + Sync>(rt: &R, alloc: Global, row: &Made) -> Result<bool, AllocError> {
+    let source = source_of(alloc, row.source)?;
+    for engine in [
+        Engine::Core(Style::Arrive),
+        Engine::Core(Style::Dissemination),
+        Engine::Join,
+        Engine::Spmd(Style::Arrive),
+        Engine::Spmd(Style::Dissemination),
+    ] {
+        for choice in [PlanChoice::Made, PlanChoice::Barrier] {
+            let request = run_for(alloc, row.workers, choice, engine);
+            let run = due_for(rt, alloc, &request, source.as_bytes())?;
+            if !run.text.ends_with(row.output.as_bytes()) {
+                return Ok(false);
+            }
+        }
+    }
+    Ok(true)
+}
+
+#[test]
+fn each_engine_runs_them(rt: HostRuntime) -> Result<(), Fail> {
+    for row in &BY_EACH {
+        assert!(rt; is_answered(&rt, rt.alloc(), row)?, "{}", row.front);
+        assert!(rt; is_run(&rt, rt.alloc(), row)?, "{}", row.front);
     }
     Ok(())
 }
