@@ -3,13 +3,13 @@ C     the leaves, node I stands above the nodes 2*I and 2*I+1, and node
 C     1 is the root.
 C
 C     What a parallel compiler sees: a loop that adds all numbers to one
-C     variable can't be dealt out. In the tree all nodes of one level
-C     can, so ten short steps come in place of a thousand. The nodes of
-C     a level lie behind one another, from N1 to N-1, then from N2 to
-C     N1-1, and so on, and are dealt out in turn, so that everybody has
-C     a part of each level. Of the nodes 2*I and 2*I+1 most belong to
-C     others than node I does, so the barrier between two levels has to
-C     stay: there are nine of them.
+C     variable can be dealt out, but one that takes their maximum can't.
+C     In the tree all nodes of one level can, so ten short steps come in
+C     place of a thousand. The nodes of a level lie behind one another,
+C     from N1 to N-1, then from N2 to N1-1, and so on, and are dealt out
+C     in turn, so that everybody has a part of each level. Of the nodes
+C     2*I and 2*I+1 most belong to others than node I does, so the
+C     barrier between two levels has to stay: there are nine of them.
 C
 C     N may be set to any power of two. With fewer than 1024 leaves the
 C     levels that are too many have no trips, with more the last loop
