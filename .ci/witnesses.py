@@ -25,7 +25,7 @@ COMPARE = {".LT.": "<", ".LE.": "<=", ".EQ.": "==", ".GE.": ">=", ".GT.": ">"}
 FORM = r"(-?\d+)((?: -?\d+\*[LP]\d+)*) (?:BLOCK (\d+)|CYCLIC)"
 
 
-REASON = r"(?:LOOP (\d+) NOT DOALL|PHASE (\d+) NOT (.*?))(?: PRINT| LINES (\d+) (\d+) NAME (\w+)(?: LEVEL (\d+) PIECE (\d+))? \w+)"
+REASON = r"(?:LOOP (\d+) NOT (DOALL|PRIVATE|SUM)|PHASE (\d+) NOT (.*?))(?: PRINT| LINES (\d+) (\d+) NAME (\w+)(?: LEVEL (\d+) PIECE (\d+))? \w+)"
 
 
 class Fault(Exception):
@@ -105,9 +105,9 @@ class Owners:
     """Who owns an instance under a plan."""
 
     def __init__(self, text, program):
-        lines = text.split("\n")
+        lines = [it for it in text.split("\n") if it != "WHERE VALUES"]
         self.workers = int(lines[1].split()[1])
-        marks = [re.match(r"\d+ (\w+)$", it)[1] for it in lines[3 : 3 + int(lines[2].split()[1])]]
+        marks = [re.match(r"\d+ (\w+)", it)[1] for it in lines[3 : 3 + int(lines[2].split()[1])]]
         at = 3 + len(marks)
         anchors = [it.split(" AT ")[1] for it in lines[at + 1 : at + 1 + int(lines[at].split()[1])]]
         self.of_action = {}
@@ -165,9 +165,10 @@ def hold_lines(text, reasons):
     if len(lines) != len(reasons):
         raise Fault(f"{len(lines)} lines of reasons stand behind the plan, and {len(reasons)} are told")
     for line, reason in zip(lines, reasons):
-        loop, phase, kind, first, second, name, level, piece = re.fullmatch(REASON, line).groups()
-        about = (reason.get("loop"), reason.get("phase"), reason.get("not"))
-        if about != (int(loop) if loop else None, int(phase) if phase else None, kind):
+        loop, tried, phase, kind, first, second, name, level, piece = re.fullmatch(REASON, line).groups()
+        about = (reason.get("loop"), reason.get("tried"), reason.get("phase"), reason.get("not"))
+        wanted = tried.lower() if tried and tried != "DOALL" else None
+        if about != (int(loop) if loop else None, wanted, int(phase) if phase else None, kind):
             raise Fault(f"the reason for {line} is told of {about}")
         told = reason.get("obligation")
         wanted = {"lines": [int(first), int(second)], "name": name, "level": int(level or 0), "piece": int(piece or 0)} if first else None

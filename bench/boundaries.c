@@ -4,9 +4,11 @@
  *
  *     boundaries P PHASES KIND
  *
- * KIND is `barrier` (one word that all add to and look at), `both`, `left` (each awaits the counters
- * of its neighbours, or of the one before it) or `producer` (all others await thread 0). A wait
- * spins, and yields its processor once in 100 looks. It writes the nanoseconds of a boundary.
+ * KIND is `barrier` (one word that all add to and look at), `signals` (a dissemination barrier: in
+ * round r each sets its own word and awaits that of the thread 2^r before it), `both`, `left` (each
+ * awaits the counters of its neighbours, or of the one before it) or `producer` (all others await
+ * thread 0). A wait spins, and yields its processor once in 100 looks. It writes the nanoseconds of
+ * a boundary.
  */
 #include <pthread.h>
 #include <sched.h>
@@ -41,12 +43,18 @@ static void await(Line *line, uint64_t wanted)
 static void *work(void *which)
 {
     int p = (int)(intptr_t)which;
+    uint64_t rounds = 0;
     atomic_fetch_add(&started.word, 1);
     await(&started, (uint64_t)threads);
     for (uint64_t e = 1; e <= phases; e++) {
         if (strcmp(kind, "barrier") == 0) {
             atomic_fetch_add(&arrivals.word, 1);
             await(&arrivals, (uint64_t)threads * e);
+        } else if (strcmp(kind, "signals") == 0) {
+            for (int back = 1; back < threads; back *= 2) {
+                atomic_store(&counters[p].word, ++rounds);
+                await(&counters[(p + threads - back) % threads], rounds);
+            }
         } else if (strcmp(kind, "producer") == 0) {
             if (p == 0)
                 atomic_store(&counters[0].word, e);
@@ -69,7 +77,7 @@ int main(int count, char **words)
     pthread_t handles[MOST_THREADS];
     struct timespec begun, ended;
     if (count != 4 || (threads = atoi(words[1])) < 1 || threads > MOST_THREADS || (phases = strtoull(words[2], NULL, 10)) < 1) {
-        fprintf(stderr, "usage: boundaries P PHASES barrier|both|left|producer\n");
+        fprintf(stderr, "usage: boundaries P PHASES barrier|signals|both|left|producer\n");
         return 2;
     }
     kind = words[3];

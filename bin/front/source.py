@@ -361,7 +361,7 @@ class Program:
             else:
                 by_loop[loop.number][2].append(action)
         for loop in self.loops:
-            alone = _mark(marks, loop) in ("DOALL", "SINGLE") and loop.number not in by_loop
+            alone = _mark(marks, loop) in ("DOALL", "SUM", "SINGLE") and loop.number not in by_loop
             if alone:
                 phases.append((loop.line, loop, []))
         return sorted(phases, key=lambda it: it[0])

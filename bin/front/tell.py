@@ -351,16 +351,17 @@ class Plan:
             words = line.split(" ")
             if words[0] == "WORKERS" and not behind:
                 self.workers = int(words[1])
-            elif len(words) == 2 and words[1] in ("OUTER", "DOALL", "SINGLE", "INNER", "SUM") and not behind:
+            elif not behind and re.match(r"\d+ (OUTER|DOALL|SUM|SINGLE|INNER)( PRIVATE .*)?$", line):
                 self.marks.append(words[1])
             elif " AT " in line and words[0].isdigit() and not behind:
                 self.phases.append((words[1], line.rpartition(" AT ")[2]))
             elif line == "END PLAN":
                 behind = True
             elif behind:
-                found = re.match(r"LOOP (\d+) NOT DOALL (?:PRINT|LINES (\d+) (\d+) NAME (\w+))", line)
+                # of several tries of a loop the last one counts
+                found = re.match(r"LOOP (\d+) NOT (?:DOALL|PRIVATE|SUM) (?:PRINT|LINES \d+ \d+ NAME (\w+))", line)
                 if found:
-                    self.reasons[int(found[1])] = found[4] or "PRINT"
+                    self.reasons[int(found[1])] = found[2] or "PRINT"
         self.is_read = behind
 
 
@@ -376,35 +377,44 @@ def plan_warnings(program, plan):
                 yield f"line {line}: this C$DIST deals out no phase: none takes its owners from {name}"
     for loop in program.loops:
         mark = plan.marks[loop.number - 1] if loop.number <= len(plan.marks) else ""
-        cause = serial_scalar(program, loop)
-        reason = plan.reasons.get(loop.number)
-        if cause and (mark == "SINGLE" or (mark == "OUTER" and reason == cause[0])):
-            name, is_sum = cause
-            yield f"line {loop.line}: {name} keeps this loop on one processor" * (mark == "SINGLE") + (
-                f"line {loop.line}: {name} keeps this loop from being dealt out" * (mark == "OUTER")
-            ) + (
-                ": it is a sum over all trips; examples/prefix.f sums in blocks"
-                if is_sum
-                else f": each trip stores it first; an array with an element for each trip, {name}({loop.variable}), would not"
-            )
+        name = serial_scalar(program, loop)
+        if name and (mark == "SINGLE" or (mark == "OUTER" and plan.reasons.get(loop.number) == name)):
+            kept = "on one processor" if mark == "SINGLE" else "from being dealt out"
+            yield f"line {loop.line}: {name} keeps this loop {kept}: {why_kept(program, loop, name)}"
 
 
 def serial_scalar(program, loop):
-    """A scalar that keeps a loop serial, and whether it is a sum: the first that is stored in it."""
-    inside = [it for it in program.actions if loop in it.loops]
-    for action in inside:
+    """The first scalar that a loop stores, and that is neither private in it nor a sum."""
+    for action in program.actions:
         name = action.target
-        if not name or action.subscripts or name in program.arrays:
+        if loop not in action.loops or not name or action.subscripts or name in program.arrays:
             continue
-        stores = [it for it in inside if it.target == name]
-        others = [it for it in inside if it.target != name and is_read(name, it)]
-        if all(is_sum(it) for it in stores) and not others:
-            return name, True
-        first = next(it for it in inside if it.target == name or is_read(name, it))
-        is_plain = first.target == name and not is_read(name, first) and not first.guard
-        if is_plain and first.loops[-1] is loop:
-            return name, False
+        uses = uses_of(program, loop, name)
+        is_private = is_plain_store(name, uses[0]) and uses[0].loops[-1] is loop
+        if not is_private and not all(is_sum(name, it) for it in uses):
+            return name
     return None
+
+
+def uses_of(program, loop, name):
+    """The statements in a loop that store or load a scalar."""
+    return [it for it in program.actions if loop in it.loops and (it.target == name or is_read(name, it))]
+
+
+def why_kept(program, loop, name):
+    """Why a scalar is neither private in a loop nor a sum."""
+    uses = uses_of(program, loop, name)
+    if is_plain_store(name, uses[0]):
+        return f"a loop inside stores it first; with {name} = 0 in front of that loop each trip has its own"
+    if uses[0].target == name and not is_read(name, uses[0]):
+        return "where the IF does not hold a trip needs what another one stored"
+    if all(it.target == name and is_read(name, it) for it in uses):
+        return f"a sum that can be dealt out is written {name} = {name} + .. or {name} = {name} - .."
+    return "a trip needs what another one stored"
+
+
+def is_plain_store(name, action):
+    return action.target == name and not is_read(name, action) and not action.guard
 
 
 def is_read(name, action):
@@ -412,18 +422,10 @@ def is_read(name, action):
     return re.search(rf"(?<![A-Z0-9]){name}(?![A-Z0-9(])", text) is not None
 
 
-def is_sum(action):
-    """Whether an assignment adds to its own scalar, K = K + .. or K = .. + K."""
-    name, value = action.target, action.value
-    if len(re.findall(rf"(?<![A-Z0-9]){name}(?![A-Z0-9])", value)) != 1:
-        return False
-    depth = 0
-    for at, c in enumerate(value):
-        depth += (c == "(") - (c == ")")
-        if depth == 0 and value.startswith(name, at) and not value[:at][-1:].isalnum():
-            before, behind = value[at - 1 : at], value[at + len(name) : at + len(name) + 1]
-            return before in ("", "+") and behind in ("", "+", "-") and len(value) > len(name)
-    return False
+def is_sum(name, action):
+    """Whether a statement adds to a scalar and does nothing else with it, K = K + .. or K = K - .."""
+    found = re.match(rf"{name}[+-](.*)", action.value)
+    return action.target == name and found is not None and not re.search(rf"(?<![A-Z0-9]){name}(?![A-Z0-9(])", found[1])
 
 
 def summary(program, plan):
@@ -451,10 +453,7 @@ def summary(program, plan):
 
 
 def why_alone(program, plan, loop):
-    cause = serial_scalar(program, loop)
-    if cause:
-        return f" (the sum {cause[0]})" if cause[1] else f" ({cause[0]})"
-    reason = plan.reasons.get(loop.number)
+    reason = serial_scalar(program, loop) or plan.reasons.get(loop.number)
     if not reason:
         return ""
     return " (a PRINT)" if reason == "PRINT" else f" ({reason})"
