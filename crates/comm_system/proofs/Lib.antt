@@ -47,7 +47,6 @@ mod SystemParts
 mod NarrowRows
 pub mod ShapeParts
 mod SmallLoops
-mod StaticPhases
 mod Steps
 mod Looks
 mod RowSteps

@@ -1,14 +1,12 @@
 -- The systems of a pair's pieces, part by part.
-use Rattle.std.proofs.Common.{◌≡◌, ℕ, zero, suc, ◌+◌, ◌*◌, ◌-◌, ◌<◌, ◌≤◌, negsuc, List, [], ◌∷◌, ◌++◌, length, map, drop, get_or, Bool, slice_get, take, Some, refl, ap, ap₂, sym, ◌∙◌, arith}
+use Rattle.std.proofs.Common.{◌≡◌, ℕ, zero, suc, ◌+◌, ◌-◌, ◌<◌, ◌≤◌, negsuc, List, [], ◌∷◌, ◌++◌, length, map, drop, get_or, Bool, slice_get, take, Some, refl, ap, ap₂, sym, ◌∙◌, arith}
 use Rattle.std.specs.Prelude.{Err, Ok, OnErr, Result}
 use Rattle.std.proofs.lemmas.List.{drop_more, length-drop, length-map, map-append, take_all}
 use Rattle.farkas_cert.specs.Inequalities.{Inequalities}
 use Rattle.nest_tree.specs.Tree.{Tree}
-use Rattle.nest_tree.specs.View.{head_of}
 use Rattle.nest_rows.specs.Constraints.{row_of, system_of}
 use Rattle.nest_rows.specs.More.{HasMore}
 use Rattle.nest_rows.specs.declared.constraint.Constraint.{Constraint}
-use Rattle.nest_rows.specs.declared.terms.Around.{Around}
 use Rattle.nest_rows.proofs.RowLists.{more-both}
 use Rattle.owner_partition.specs.declared.anchor.Anchor.{Anchor}
 use Rattle.sync_plan.specs.declared.plan.Plan.{Plan}
@@ -16,16 +14,14 @@ use Rattle.comm_system.specs.Boundaries.{Side}
 use Rattle.comm_system.specs.Levels.{Order, common, order_at}
 use Rattle.comm_system.specs.Obligations.{Slot, Task, lasts_at, last_of, numbered, numbered_from, owners_of, piece_task, pieces_from}
 use Rattle.comm_system.specs.OwnerRows.{Piece, Placed, beside, owner_numbers, owners_have, owners_unknowns, pieces, sign_of}
-use Rattle.comm_system.specs.PairRows.{apart, behind_pair, pair_rows, unknowns_of}
+use Rattle.comm_system.specs.PairRows.{apart, behind_pair, pair_rows}
 use Rattle.comm_system.specs.Pairs.{Pair}
 use Rattle.comm_system.specs.PieceViews.{direction_seen, piece_seen}
-use Rattle.comm_system.specs.Seen.{reference_seen}
 use Rattle.comm_system.specs.SystemViews.{AreUnknowns, IsShared}
 use Rattle.comm_system.specs.declared.pair_systems.Shared.{Shared}
 use Rattle.comm_system.specs.declared.pair_systems.Unknowns.{Unknowns}
 use Rattle.comm_system.specs.declared.pieces.Direction.{Direction}
 use Rattle.comm_system.specs.declared.pieces.Piece.{Piece as Held}
-use Rattle.comm_system.specs.declared.reference.Reference.{Reference}
 
 -- a system and its further rows
 pub system_more : (vars : ℕ) (rows last : List Constraint) (old new : Inequalities) → old ≡ system_of vars rows → HasMore last old new → new ≡ system_of vars (rows ++ last)

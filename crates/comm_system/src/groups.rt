@@ -2,8 +2,7 @@
 
 ghost use Rattle.std.specs.Prelude.{◌≡◌, ◌+◌, ◌<◌, ◌≤◌, ◌^◌, [], ◌∷◌, IfErr, IfOk, IsTrue, None, OnOk, length, map};
 ghost use Rattle.std.specs.List.{filter, flat_map, list_all};
-ghost use Rattle.nest_tree.specs.View.{statement_of, tree_of};
-ghost use Rattle.sync_plan.specs.Fit.{is_dealt as is_dealt_in};
+ghost use Rattle.nest_tree.specs.View.{tree_of};
 ghost use Rattle.sync_plan.specs.Shape.{wrong_field};
 ghost use Rattle.comm_system.specs.GroupViews.{listed_seen, paired};
 ghost use Rattle.comm_system.specs.KeptViews.{kept_seen};
@@ -28,7 +27,7 @@ use crate::slot::Slot;
 use crate::slot_list::slots;
 use crate::subject::{Scene, Subject};
 use crate::waits::Waits;
-use nest_tree::{Item, Program};
+use nest_tree::Program;
 use owner_partition::Cut;
 use std::alloc::{AllocError, Global};
 use sync_plan::Plan;

@@ -1,16 +1,16 @@
 // Two static phases at a level.
 
-ghost use Rattle.std.specs.Prelude.{◌≡◌, ◌≤◌, length};
+ghost use Rattle.std.specs.Prelude.{◌≡◌};
 ghost use Rattle.comm_system.specs.Boundaries.{is_before_second as stands_before_second, is_behind_first as stands_behind_first};
 ghost use Rattle.comm_system.specs.Certain.{is_certain as stands_certain};
 ghost use Rattle.comm_system.specs.SideViews.{side_seen};
 ghost use Rattle.comm_system.specs.SlotViews.{level_seen};
-ghost use Rattle.comm_system.specs.StaticViews.{loops_of};
+ghost use Rattle.owner_partition.specs.StaticPhases.{loops_of};
 ghost use Rattle.nest_rows.specs.Views.{heads_of};
 
 use crate::producer::Side;
-use crate::static_phase::StaticPhase;
 use nest_rows::{Around, is_prefix};
+use owner_partition::StaticPhase;
 
 /// Two static phases by their numbers, from 1, and a level: the common loop, from 1, that is at an
 /// earlier trip for the first; 0 where all common loops are equal.

@@ -3,7 +3,6 @@
 //! solution the plan orders all accesses that conflict.
 //!
 //! - [`obligation`]: an obligation with what it speaks of.
-//! - [`static_phase`], [`outer_loops`]: a static phase in the text, and the Outer loops round it.
 //! - [`phases`], [`phase`], [`reference`]: the static phases with their accesses.
 //! - [`level`], [`slot`], [`slot_list`], [`boundary`], [`signature`], [`waits`], [`producer`]: two
 //!   phases at a level, the boundaries that are certain there, and what they see of a plan's kinds.
@@ -29,7 +28,6 @@ pub mod laws;
 pub mod level;
 pub mod obligation;
 pub mod obligations;
-pub mod outer_loops;
 pub mod own;
 mod owner_rows;
 pub mod pair_systems;
@@ -44,7 +42,6 @@ mod rows;
 pub mod signature;
 pub mod slot;
 pub mod slot_list;
-pub mod static_phase;
 pub mod subject;
 pub mod waits;
 

@@ -1,13 +1,12 @@
 // The own scalars of a phase, and which accesses others see.
 
-ghost use Rattle.std.specs.Prelude.{◌≡◌, IfOk, map, not};
-ghost use Rattle.std.specs.List.{filter};
+ghost use Rattle.std.specs.Prelude.{◌≡◌, IfOk, map};
 ghost use Rattle.nest_tree.specs.View.{statement_of};
 ghost use Rattle.comm_system.specs.KeptViews.{kept_seen};
 ghost use Rattle.comm_system.specs.PhaseViews.{phase_seen};
 ghost use Rattle.comm_system.specs.References.{references_of};
 ghost use Rattle.comm_system.specs.Seen.{reference_seen};
-ghost use Rattle.comm_system.specs.Shown.{is_own_in, is_private_in, is_summed, privates_in, shared_of, shown_among, shown_of};
+ghost use Rattle.comm_system.specs.Shown.{is_own_in, is_private_in, is_summed, privates_in, shared_of, shown_of};
 
 use crate::phase::Phase;
 use crate::reference::Reference;

@@ -1,9 +1,8 @@
 // The system of a pair of accesses in two trips of a phase, and the parts of those in two phases.
 
-ghost use Rattle.std.specs.Prelude.{◌≡◌, ◌+◌, ◌*◌, ◌-◌, ◌<◌, ◌≤◌, ◌^◌, ◌++◌, ◌⊎◌, [], ◌∷◌, IfErr, IfOk, IsTrue, None, OnErr, OnOk, length, map, neg_ℤ, pos};
+ghost use Rattle.std.specs.Prelude.{◌≡◌, ◌+◌, ◌*◌, ◌-◌, ◌<◌, ◌≤◌, ◌^◌, ◌⊎◌, [], ◌∷◌, IfErr, IfOk, IsTrue, None, OnErr, OnOk, length, map, neg_ℤ, pos};
 ghost use Rattle.std.specs.List.{list_all};
 ghost use Rattle.farkas_cert.specs.Narrow.{AreNarrow};
-ghost use Rattle.nest_tree.specs.Form.{is_small};
 ghost use Rattle.nest_tree.specs.Tree.{Tree};
 ghost use Rattle.nest_tree.specs.View.{tree_of};
 ghost use Rattle.nest_rows.specs.Constraints.{is_tame};
@@ -11,7 +10,7 @@ ghost use Rattle.nest_rows.specs.More.{HasMore};
 ghost use Rattle.owner_partition.specs.declared.anchor.Dist.TheVariants.{Cyclic};
 ghost use Rattle.sync_plan.specs.Shape.{has_places, wrong_field};
 ghost use Rattle.comm_system.specs.Levels.{common as in_common, order_at, two_trips as two_trips_of};
-ghost use Rattle.comm_system.specs.Obligations.{anchor_at as anchor_under, last_of, numbered, owners_of, placed_at, range_of, trips_task};
+ghost use Rattle.comm_system.specs.Obligations.{anchor_at as anchor_under, last_of, numbered, placed_at, range_of, trips_task};
 ghost use Rattle.comm_system.specs.Boundaries.{of_first, of_second};
 ghost use Rattle.comm_system.specs.OwnerRows.{beside, distance as distance_of};
 ghost use Rattle.comm_system.specs.PairRows.{behind_pair};
@@ -34,7 +33,7 @@ use crate::reference::Reference;
 use crate::rows::{Instance, Order, apart, push_pair, unknowns};
 use crate::slot::Slot;
 use crate::waits::Waits;
-use farkas_cert::{NarrowSystem, Row, System};
+use farkas_cert::{NarrowSystem, System};
 use nest_rows::Constraint;
 use nest_rows::rows::row;
 use nest_tree::{Affine, Pairs, Program};

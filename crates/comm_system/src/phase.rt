@@ -6,7 +6,7 @@ ghost use Rattle.comm_system.specs.Seen.{reference_seen};
 ghost use Rattle.comm_system.specs.StaticViews.{static_phase_seen};
 
 use crate::reference::Reference;
-use crate::static_phase::StaticPhase;
+use owner_partition::StaticPhase;
 
 /// A static phase with its accesses, in text order.
 #[derive(Drop)]

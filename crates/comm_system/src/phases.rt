@@ -1,6 +1,6 @@
 // The static phases of a program.
 
-ghost use Rattle.std.specs.Prelude.{◌≡◌, ◌<◌, ◌++◌, ◌-◌, ℕ, List, [], ◌∷◌, IfOk, IsTrue, OnOk, length, map, false, slice_index_or};
+ghost use Rattle.std.specs.Prelude.{◌≡◌, ◌<◌, ◌++◌, ℕ, List, [], ◌∷◌, IfOk, IsTrue, OnOk, length, map};
 ghost use Rattle.nest_tree.specs.View.{statement_of, statements_from, tree_of};
 ghost use Rattle.nest_tree.specs.WellFormed.{IsWellFormed, Scope, are_good_statements, is_good_statement};
 ghost use Rattle.nest_walk.specs.Walks.{enters_but};
@@ -8,14 +8,13 @@ ghost use Rattle.nest_rows.specs.Views.{heads_of};
 ghost use Rattle.comm_system.specs.References.{phases_among, phases_in, phases_of};
 ghost use Rattle.comm_system.specs.SmallSteps.{are_small_steps, has_small_steps, have_small_steps};
 ghost use Rattle.comm_system.specs.PhaseViews.{phase_seen};
-ghost use Rattle.comm_system.specs.StaticViews.{loops_of, static_phase_seen};
+ghost use Rattle.comm_system.specs.StaticViews.{static_phase_seen};
+ghost use Rattle.owner_partition.specs.StaticPhases.{loops_of};
 
-use crate::outer_loops::OuterLoops;
 use crate::phase::Phase;
 use crate::references::push_references;
-use crate::static_phase::StaticPhase;
 use nest_tree::{Item, Program};
-use owner_partition::Cut;
+use owner_partition::{Cut, OuterLoops, StaticPhase, is_closed_at};
 use std::alloc::{AllocError, Global};
 
 /// The static phases of a program, in text order: the one with number u, from 1, stands at u - 1.
@@ -80,14 +79,6 @@ fn push_phases<'a>(
         }
         Item::Continue(_) => Ok(()),
     }
-}
-
-// Whether a walk of the phases stops at the loop with this number.
-fn is_closed_at(closed: &[bool], number: u32) -> bool
-    ensures { result ≡ slice_index_or closed.now (number - 1) false }
-{
-    let place = (number as usize).saturating_sub(1);
-    place < closed.len() && closed[place]
 }
 
 // One phase more.

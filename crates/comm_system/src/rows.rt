@@ -8,7 +8,7 @@ ghost use Rattle.nest_tree.specs.Tree.{param_values};
 ghost use Rattle.nest_tree.specs.View.{head_of, tree_of};
 ghost use Rattle.farkas_cert.specs.Combination.{is_narrow};
 ghost use Rattle.nest_rows.specs.Constraints.{is_tame};
-ghost use Rattle.nest_rows.specs.Groups.{equal as equal_of, sign_of as sign_of_step};
+ghost use Rattle.nest_rows.specs.Groups.{sign_of as sign_of_step};
 ghost use Rattle.nest_rows.specs.More.{HasMore};
 ghost use Rattle.nest_rows.specs.Views.{heads_of};
 ghost use Rattle.nest_rows.specs.Signs.{signed, with_sign};

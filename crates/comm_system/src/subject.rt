@@ -1,6 +1,6 @@
 // What groups of systems speak of.
 
-ghost use Rattle.std.specs.Prelude.{◌≡◌, ◌<◌, ◌≤◌, IfOk, length};
+ghost use Rattle.std.specs.Prelude.{◌≡◌, ◌<◌, IfOk, length};
 ghost use Rattle.comm_system.specs.OwnerRows.{pieces};
 ghost use Rattle.comm_system.specs.Seen.{pair_of};
 ghost use Rattle.comm_system.specs.Subjects.{count_about};

@@ -11,8 +11,8 @@ ghost use Rattle.obligation_numbers.specs.Tests.{passes};
 use crate::phases::PhaseWeight;
 use comm_system::level::Level;
 use comm_system::producer::Side;
-use comm_system::static_phase::StaticPhase;
 use nest_rows::Around;
+use owner_partition::StaticPhase;
 use sync_plan::Kind;
 
 // On how many sides the boundary in front of this phase is certain.

@@ -1,6 +1,6 @@
 // Sums over the static phases of a program.
 
-ghost use Rattle.std.specs.Prelude.{◌≡◌, ◌+◌, ◌-◌, ◌<◌, ◌≤◌, ◌^◌, ℕ, List, IsTrue, false, length, slice_index_or};
+ghost use Rattle.std.specs.Prelude.{◌≡◌, ◌+◌, ◌-◌, ◌<◌, ◌≤◌, ◌^◌, ℕ, List, IsTrue, length};
 ghost use Rattle.std.specs.Io.Iter.{u64_saturate};
 ghost use Rattle.nest_tree.specs.View.{statement_of, statements_from, tree_of};
 ghost use Rattle.nest_tree.specs.WellFormed.{IsWellFormed, Scope, are_good_statements, is_good_statement, statement_count, statements_in};
@@ -8,13 +8,12 @@ ghost use Rattle.nest_model.specs.Visits.{stops_in, stops_of};
 ghost use Rattle.nest_rows.specs.Views.{heads_of};
 ghost use Rattle.nest_walk.specs.Walks.{enters_but};
 ghost use Rattle.comm_system.specs.References.{StaticPhase as PhaseSeen, phases_among, phases_in, phases_of};
-ghost use Rattle.comm_system.specs.StaticViews.{loops_of, static_phase_seen};
+ghost use Rattle.comm_system.specs.StaticViews.{static_phase_seen};
+ghost use Rattle.owner_partition.specs.StaticPhases.{loops_of};
 ghost use Rattle.obligation_numbers.specs.Sums.{sum_from};
 
-use comm_system::outer_loops::OuterLoops;
-use comm_system::static_phase::StaticPhase;
 use nest_tree::{Item, Program};
-use owner_partition::Cut;
+use owner_partition::{Cut, OuterLoops, StaticPhase, is_closed_at};
 
 // What a static phase weighs, by its number, from 1.
 pub(crate) trait PhaseWeight {
@@ -107,12 +106,4 @@ fn add_phase<W: PhaseWeight>(weight: &W, phase: &StaticPhase, sum: &mut Sum)
 {
     sum.total = sum.total.saturating_add(weight.weigh(sum.next, phase));
     sum.next += 1;
-}
-
-// Whether a walk of the phases stops at the loop with this number.
-fn is_closed_at(closed: &[bool], number: u32) -> bool
-    ensures { result ≡ slice_index_or closed.now (number - 1) false }
-{
-    let place = (number as usize).saturating_sub(1);
-    place < closed.len() && closed[place]
 }

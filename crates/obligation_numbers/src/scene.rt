@@ -4,8 +4,8 @@ ghost use Rattle.nest_tree.specs.View.{tree_of};
 ghost use Rattle.nest_tree.specs.WellFormed.{IsWellFormed};
 
 use comm_system::level::Level;
-use comm_system::static_phase::StaticPhase;
 use nest_tree::Program;
+use owner_partition::StaticPhase;
 use sync_plan::Plan;
 
 // A program with a plan.

@@ -14,8 +14,8 @@ use crate::boundaries::{Certain, Test};
 use crate::conflicts::{pair_count, within_count};
 use crate::phases::{PhaseWeight, phases_weight};
 use crate::scene::{Both, Scene, Second};
-use comm_system::static_phase::StaticPhase;
 use nest_rows::common;
+use owner_partition::StaticPhase;
 use sync_plan::Plan;
 
 impl Both<'_, '_> {

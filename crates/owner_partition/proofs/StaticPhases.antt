@@ -1,115 +1,87 @@
--- What the search for a place of the text finds is the static phase there.
-use Rattle.std.proofs.Common.{◌≡◌, ℕ, zero, suc, ◌+◌, ◌-◌, ◌<◌, ◌≤◌, ◌==◌, ℤ, pos, int_lt, Bool, true, false, ◌||◌, List, [], ◌∷◌, ◌++◌, length, Option, Some, None, if◌then◌else◌, refl, ap, sym, subst, ◌∙◌, inl, inr, arith}
-use Rattle.std.specs.Prelude.{slice_get, slice_index_or}
-use Rattle.std.specs.List.{list_all, list_any}
-use Rattle.std.proofs.lemmas.Bool.{and_from, and_parts, cases_lt, le-ltb, lt-ltb}
-use Rattle.nest_tree.specs.Tree.{Statement, Statements, do_loop, work, continue, done, next}
-use Rattle.nest_model.specs.Instances.{works_in}
-use Rattle.nest_model.specs.Visits.{stops_in, stops_of}
-use Rattle.nest_walk.specs.Paths.{Round, value_among}
-use Rattle.nest_walk.specs.Places.{numbers_of}
+-- What the search for a place of the text finds is the static phase there, with the Outer loops round it.
+use Rattle.std.proofs.Common.{◌≡◌, ℕ, ◌+◌, ◌-◌, ◌<◌, ◌≤◌, ◌==◌, Bool, true, false, ◌||◌, List, [], ◌∷◌, ◌++◌, drop, get_or, length, map, reverse, take, Option, Some, MatchOption, None, if◌then◌else◌, refl, ap, sym, ◌∙◌, arith}
+use Rattle.std.specs.Prelude.{replicate, slice_get}
+use Rattle.std.specs.List.{list_any}
+use Rattle.std.proofs.Math.Bool.{or_comm}
+use Rattle.std.proofs.Math.Seq.{take-append-add}
+use Rattle.std.proofs.lemmas.List.{drop-replicate, map-append, reverse-append, take-replicate}
+use Rattle.std.proofs.lemmas.List.Folds.{list_any-append}
+use Rattle.nest_tree.specs.declared.tree.Item.{Item}
+use Rattle.nest_tree.specs.declared.tree.Item.TheVariants.{Loop}
+use Rattle.nest_tree.specs.declared.tree.Nest.{Nest}
+use Rattle.nest_tree.specs.Tree.{Head}
+use Rattle.nest_tree.specs.View.{head_of, loop_of, statement_of, statements_from}
+use Rattle.nest_tree.proofs.Rows.{statement_of-Loop, statements_more}
+use Rattle.nest_model.specs.Visits.{stops_in}
 use Rattle.nest_walk.specs.Texts.{Placed, placed_in, placed_of}
-use Rattle.owner_partition.specs.Positive.{is_positive}
-use Rattle.owner_partition.specs.Sites.{Site, entered, site_among, site_in}
+use Rattle.nest_rows.specs.Views.{heads_of}
+use Rattle.nest_rows.specs.declared.terms.Around.{Around}
+use Rattle.owner_partition.specs.declared.static_phase.StaticPhase.{StaticPhase}
+use Rattle.owner_partition.specs.StaticPhases.{loops_round, numbers_round}
 use Rattle.owner_partition.proofs.Sites.{get-behind, get-front, placed_count}
 
--- all loops at 1
-abbrev pub ones : List ℤ
-ones = pos 1 ∷ pos 1 ∷ pos 1 ∷ pos 1 ∷ pos 1 ∷ pos 1 ∷ []
+-- the first place of some that are alike, behind others
+pub with_last : {X : Type 0} (xs all : List X) (n : ℕ) (x : X) → length xs < n → all ≡ xs ++ drop (length xs) (replicate n x) → take (length xs + 1) all ≡ xs ++ x ∷ []
+with_last xs all n x lt is =
+    ap (take (length xs + 1)) is ∙ take-append-add xs (drop (length xs) (replicate n x)) 1
+    ∙ ap (λ ys. xs ++ take 1 ys) (drop-replicate (length xs) n x) ∙ ap (λ ys. xs ++ ys) (take-replicate 1 (n - length xs) x (omega (arith, lt)))
 
-one_of : (k : ℕ) → k < 6 → slice_index_or ones k (pos 0) ≡ pos 1
-one_of zero h = refl
-one_of (suc zero) h = refl
-one_of (suc (suc zero)) h = refl
-one_of (suc (suc (suc zero))) h = refl
-one_of (suc (suc (suc (suc zero)))) h = refl
-one_of (suc (suc (suc (suc (suc zero))))) h = refl
-one_of (suc (suc (suc (suc (suc (suc k)))))) h = absurd (omega (arith, h))
+-- one more loop inside has the first of their numbers
+pub numbers_more : (around : List Around) (a : Around) → numbers_round (around ++ a ∷ []) ≡ a.nest.now.number ∷ numbers_round around
+numbers_more around a =
+    let number = λ (h : Head). h.number in
+    ap (λ hs. reverse (map number hs)) (map-append (λ (b : Around). head_of b.nest.now) around (a ∷ []))
+    ∙ ap reverse (map-append number (heads_of around) (head_of a.nest.now ∷ []))
+    ∙ reverse-append (map number (heads_of around)) (a.nest.now.number ∷ [])
 
--- a site is the static phase at its place, and where its loops are entered at 1 they stand there
-pub record IsSite (rounds : List Round) (text : List Placed) (k : ℕ) (s : Site) : Type 0 where
-  pub at : slice_get text k ≡ Some (record { what = s.what; around = numbers_of s.rounds })
-  pub deeper : length rounds ≤ length s.rounds
-  pub stand : length s.rounds ≤ 6 → list_all is_positive rounds ≡ true → list_all is_positive s.rounds ≡ true
+-- a loop with this number stands among them, in either order
+pub is_among : (around : List Around) (n : ℕ) → list_any (λ (a : Around). a.nest.now.number == n) around ≡ list_any (λ l. l == n) (numbers_round around)
+is_among [] n = refl
+is_among (a ∷ around) n =
+    let named = λ (l : ℕ). l == n in
+    let later = numbers_round around in
+    or_comm (named a.nest.now.number) (list_any (λ (b : Around). b.nest.now.number == n) around)
+    ∙ ap (λ b. b || named a.nest.now.number) (is_among around n)
+    ∙ ap (λ b. list_any named later || b) (or_comm false (named a.nest.now.number))
+    ∙ sym (list_any-append named later (a.nest.now.number ∷ []))
+    ∙ sym (ap (list_any named) (reverse-append (a.nest.now.number ∷ []) (map (λ (h : Head). h.number) (heads_of around))))
 
-abbrev Finds : List Round → List Placed → ℕ → Option Site → Type 0
-Finds rounds text k None = slice_get text k ≡ None
-Finds rounds text k (Some s) = IsSite rounds text k s
+-- the phase at a place of a text is found, and none exactly where there is no such place
+abbrev pub IsFound : List Placed → ℕ → Option StaticPhase → Type 0
+IsFound text k found = MatchOption found (slice_get text k ≡ None) (λ s. slice_get text k ≡ Some (record { what = statement_of s.item.now; around = loops_round s }))
 
-none_past : (text : List Placed) (k : ℕ) → length text ≤ k → slice_get text k ≡ None
-none_past [] k h = refl
-none_past (p ∷ text) zero h = absurd (omega (arith, h))
-none_past (p ∷ text) (suc k) h = none_past text k (omega (arith, h))
+module _ (enters : ℕ → Bool) (around : List ℕ) (items : List Item) (i : ℕ) (item : Item) (lt : i < length items) (is : item ≡ get_or items i item) where
+  all_of : placed_of enters around (statements_from (drop i items)) ≡ placed_in enters around (statement_of item) ++ placed_of enters around (statements_from (drop (i + 1) items))
+  all_of = ap (placed_of enters around) (statements_more items i item lt is)
 
-here_alone : (rounds : List Round) (s : Statement) (k first : ℕ) → k < 1 → Finds rounds (record { what = s; around = numbers_of rounds } ∷ []) k (Some (record { what = s; first = first; rounds = rounds }))
-here_alone rounds s zero first h = record { at = refl; deeper = omega arith; stand = λ few all. all }
-here_alone rounds s (suc k) first h = absurd (omega (arith, h))
+  -- a place among those of a statement
+  pub place_here : (k : ℕ) → k < stops_in enters (statement_of item) → slice_get (placed_in enters around (statement_of item)) k ≡ slice_get (placed_of enters around (statements_from (drop i items))) k
+  place_here k less =
+      let rest = placed_of enters around (statements_from (drop (i + 1) items)) in
+      sym (ap (λ text. slice_get text k) all_of ∙ get-front (placed_in enters around (statement_of item)) rest k (omega (arith, less, placed_count enters around (statement_of item))))
 
--- what is found inside one more loop is found
-inside : (rounds : List Round) (n : ℕ) (text : List Placed) (k : ℕ) (found : Option Site) → Finds (entered ones rounds n) text k found → Finds rounds text k found
-inside rounds n text k None h = h
-inside rounds n text k (Some s) h = record {
-  at = h.at;
-  deeper = omega (arith, h.deeper);
-  stand = λ few all.
-      let one : slice_index_or ones (length rounds) (pos 0) ≡ pos 1 = one_of (length rounds) (omega (arith, h.deeper, few)) in
-      h.stand few (and_from _ _ (ap (int_lt (pos 0)) one) all);
-}
+  -- a place behind them
+  pub place_later : (k : ℕ) → stops_in enters (statement_of item) ≤ k → slice_get (placed_of enters around (statements_from (drop (i + 1) items))) (k - stops_in enters (statement_of item)) ≡ slice_get (placed_of enters around (statements_from (drop i items))) k
+  place_later k past =
+      let front = placed_in enters around (statement_of item) in
+      let rest = placed_of enters around (statements_from (drop (i + 1) items)) in
+      let many = placed_count enters around (statement_of item) in
+      let more : length front + (k - stops_in enters (statement_of item)) ≡ k = omega (arith, past, many) in
+      sym (ap (λ text. slice_get text k) all_of ∙ sym (ap (slice_get (front ++ rest)) more) ∙ get-behind front rest (k - stops_in enters (statement_of item)))
 
-front_finds : (rounds : List Round) (front rest : List Placed) (k : ℕ) (found : Option Site) → k < length front → Finds rounds front k found → Finds rounds (front ++ rest) k found
-front_finds rounds front rest k None lt h = get-front front rest k lt ∙ h
-front_finds rounds front rest k (Some s) lt h = record { at = get-front front rest k lt ∙ h.at; deeper = h.deeper; stand = h.stand }
+-- the stops inside a loop that a walk enters
+pub placed_inside : (enters : ℕ → Bool) (around inside : List ℕ) (item : Item) (nest : Nest) (items : List Item) → item ≡ Loop nest → items ≡ nest.items.items → enters nest.number ≡ true → inside ≡ nest.number ∷ around →
+    placed_of enters inside (statements_from items) ≡ placed_in enters around (statement_of item)
+placed_inside enters around inside item nest items is items_are enter inside_is =
+    sym (ap (placed_in enters around) (ap statement_of is ∙ statement_of-Loop nest)
+    ∙ ap (λ b. if b then placed_of enters (nest.number ∷ around) (statements_from nest.items.items) else record { what = loop_of nest; around = around } ∷ []) enter
+    ∙ ap (λ ns. placed_of enters ns (statements_from nest.items.items)) (sym inside_is)
+    ∙ ap (λ xs. placed_of enters inside (statements_from xs)) (sym items_are))
 
-behind_finds : (rounds : List Round) (front rest : List Placed) (k : ℕ) (found : Option Site) → length front ≤ k → Finds rounds rest (k - length front) found → Finds rounds (front ++ rest) k found
-behind_finds rounds front rest k None le h =
-    let more : length front + (k - length front) ≡ k = omega (arith, le) in
-    sym (ap (slice_get (front ++ rest)) more) ∙ get-behind front rest (k - length front) ∙ h
-behind_finds rounds front rest k (Some s) le h =
-    let more : length front + (k - length front) ≡ k = omega (arith, le) in
-    record { at = sym (ap (slice_get (front ++ rest)) more) ∙ get-behind front rest (k - length front) ∙ h.at; deeper = h.deeper; stand = h.stand }
-
-mutual
-  finds_in : (enters : ℕ → Bool) (rounds : List Round) (s : Statement) (k first : ℕ) → k < stops_in enters s → Finds rounds (placed_in enters (numbers_of rounds) s) k (site_in enters ones rounds s k first)
-  finds_in enters rounds (do_loop head body) k first h =
-      by (enters head.number) h (inside rounds head.number (placed_of enters (head.number ∷ numbers_of rounds) body) k (site_among enters ones (entered ones rounds head.number) body k first) (finds_among enters (entered ones rounds head.number) body k first))
-    where
-      by : (b : Bool) → k < (if b then stops_of enters body else 1) → Finds rounds (placed_of enters (head.number ∷ numbers_of rounds) body) k (site_among enters ones (entered ones rounds head.number) body k first) →
-          Finds rounds (if b then placed_of enters (head.number ∷ numbers_of rounds) body else record { what = do_loop head body; around = numbers_of rounds } ∷ []) k
-          (if b then site_among enters ones (entered ones rounds head.number) body k first else Some (record { what = do_loop head body; first = first; rounds = rounds }))
-      by true lt f = f
-      by false lt f = here_alone rounds (do_loop head body) k first lt
-  finds_in enters rounds (work w) k first h = here_alone rounds (work w) k first h
-  finds_in enters rounds (continue line) k first h = refl
-
-  pub finds_among : (enters : ℕ → Bool) (rounds : List Round) (ss : Statements) (k first : ℕ) → Finds rounds (placed_of enters (numbers_of rounds) ss) k (site_among enters ones rounds ss k first)
-  finds_among enters rounds done k first = refl
-  finds_among enters rounds (next s rest) k first =
-      let front = placed_in enters (numbers_of rounds) s in
-      let behind = placed_of enters (numbers_of rounds) rest in
-      let as_many = placed_count enters (numbers_of rounds) s in
-      let stops = stops_in enters s in
-      let P = λ (b : Bool). Finds rounds (front ++ behind) k (if b then site_in enters ones rounds s k first else site_among enters ones rounds rest (k - stops) (first + works_in s)) in
-      elim (cases_lt k stops) [
-        | inl less ↦ subst P (sym (lt-ltb k stops less)) (front_finds rounds front behind k (site_in enters ones rounds s k first) (omega (arith, less, as_many)) (finds_in enters rounds s k first less))
-        | inr past ↦ subst P (sym (le-ltb k stops past)) (behind_finds rounds front behind k (site_among enters ones rounds rest (k - stops) (first + works_in s)) (omega (arith, past, as_many))
-            (subst (λ n. Finds rounds behind (k - n) (site_among enters ones rounds rest (k - stops) (first + works_in s))) (sym as_many) (finds_among enters rounds rest (k - stops) (first + works_in s))))
-      ]
-
--- of loops that stand above 0, the value of one says whether it is there
-pub named_by_value : (rounds : List Round) (n : ℕ) → list_all is_positive rounds ≡ true → int_lt (pos 0) (value_among rounds n) ≡ list_any (λ l. l == n) (numbers_of rounds)
-named_by_value [] n all = refl
-named_by_value (r ∷ rounds) n all =
-    let parts = and_parts (is_positive r) (list_all is_positive rounds) all in
-    by (r.number == n) (named_by_value rounds n parts.1) parts.0
-  where
-    by : (b : Bool) → int_lt (pos 0) (value_among rounds n) ≡ list_any (λ l. l == n) (numbers_of rounds) → int_lt (pos 0) r.value ≡ true →
-        int_lt (pos 0) (if b then r.value else value_among rounds n) ≡ (b || list_any (λ l. l == n) (numbers_of rounds))
-    by true later here = here
-    by false later here = later
-
--- what is found at a place of the whole text
-pub site_found : (text : List Placed) (k : ℕ) (found : Option Site) (s : Site) → found ≡ Some s → Finds [] text k found → IsSite [] text k s
-site_found text k found s is h = subst (Finds [] text k) is h
-
-pub site_missing : (text : List Placed) (k : ℕ) (found : Option Site) → found ≡ None → Finds [] text k found → slice_get text k ≡ None
-site_missing text k found is h = subst (Finds [] text k) is h
+-- a loop at which it stops
+pub placed_closed : (enters : ℕ → Bool) (around : List ℕ) (item : Item) (nest : Nest) → item ≡ Loop nest → enters nest.number ≡ false → placed_in enters around (statement_of item) ≡ record { what = statement_of item; around = around } ∷ []
+placed_closed enters around item nest is closed =
+    let text = ap statement_of is ∙ statement_of-Loop nest in
+    ap (placed_in enters around) text
+    ∙ ap (λ b. if b then placed_of enters (nest.number ∷ around) (statements_from nest.items.items) else record { what = loop_of nest; around = around } ∷ []) closed
+    ∙ ap (λ s. record { what = s; around = around } ∷ []) (sym text)

@@ -8,5 +8,4 @@ pub mod OwnTrips
 pub mod OwnInstances
 pub mod Sites
 pub mod OwnLeft
-pub mod Positive
 pub mod StaticPhases

@@ -182,8 +182,9 @@ fn no_privates(alloc: Global, count: usize) -> Result<Vec<Privates>, AllocError>
     Ok(lists)
 }
 
-// Whether a walk of the phases stops at the loop with this number.
-pub(crate) fn is_closed_at(closed: &[bool], number: u32) -> bool
+/// Whether a walk of the phases stops at the loop with this number, from 1, where these answers are
+/// given for the loops in order; it enters a loop without one.
+pub fn is_closed_at(closed: &[bool], number: u32) -> bool
     ensures { result ≡ slice_index_or closed.now (number - 1) false }
 {
     let place = (number as usize).saturating_sub(1);

@@ -7,7 +7,8 @@
 //! - [`phases`]: the phases of a program, one by one.
 //! - [`own_cursor`]: the instances of a phase that a processor owns.
 //! - [`own`]: the same as stops of a walk.
-//! - [`static_phase`]: the static phases in the text.
+//! - [`static_phase`], [`outer_loops`]: the static phases in the text, with the Outer loops round
+//!   them.
 //! - [`laws`]: the phases' instances are the program's.
 #![tactic(auto)]
 
@@ -15,6 +16,7 @@ pub mod anchor;
 pub mod cut;
 mod exact;
 pub mod laws;
+pub mod outer_loops;
 pub mod own;
 pub mod own_cursor;
 mod own_trips;
@@ -24,7 +26,8 @@ mod site;
 pub mod static_phase;
 
 pub use anchor::{Anchor, Dist, owner};
-pub use cut::{Cut, Mark, Privates};
+pub use cut::{Cut, Mark, Privates, is_closed_at};
+pub use outer_loops::OuterLoops;
 pub use own::{OwnStops, own_stops};
 pub use own_cursor::{Instance, OwnCursor, own_iterations};
 pub use phases::{Phase, PhaseCursor};

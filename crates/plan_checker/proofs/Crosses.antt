@@ -16,9 +16,9 @@ use Rattle.nest_tree.proofs.tree.Item.TheLaws.TheKnot as item
 use Rattle.nest_rows.specs.contracts.terms.Around as Around
 use Rattle.comm_system.proofs.reference.Target.TheSendSync as target
 use Rattle.comm_system.specs.contracts.reference.Reference as Reference
-use Rattle.comm_system.specs.contracts.outer_loops.Six as Six
-use Rattle.comm_system.specs.contracts.outer_loops.OuterLoops as OuterLoops
-use Rattle.comm_system.specs.contracts.static_phase.StaticPhase as StaticPhase
+use Rattle.owner_partition.specs.contracts.outer_loops.Six as Six
+use Rattle.owner_partition.specs.contracts.outer_loops.OuterLoops as OuterLoops
+use Rattle.owner_partition.specs.contracts.static_phase.StaticPhase as StaticPhase
 use Rattle.comm_system.specs.contracts.phase.Phase as Phase
 use Rattle.comm_system.specs.contracts.slot.Slot as Slot
 use Rattle.comm_system.specs.contracts.subject.Subject as Subject

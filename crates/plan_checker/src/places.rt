@@ -4,7 +4,7 @@ ghost use Rattle.std.specs.Prelude.{◌≡◌, ◌<◌, ◌^◌, ◌&&◌, ◌||
 ghost use Rattle.std.specs.Option.{option_or};
 ghost use Rattle.std.specs.Result.{result_err};
 ghost use Rattle.nest_tree.specs.Limits.{IsWithinLimits};
-ghost use Rattle.nest_tree.specs.View.{statement_of, statements_from, tree_of};
+ghost use Rattle.nest_tree.specs.View.{statement_of, tree_of};
 ghost use Rattle.nest_tree.specs.WellFormed.{IsWellFormed, loops_of};
 ghost use Rattle.owner_partition.specs.Placement.{unplaced};
 ghost use Rattle.sync_plan.specs.Fit.{has_print, is_dealt, is_zero_form, kind_anchors, misplaced_print, numbered_anchors, placed_anchors};
@@ -13,7 +13,7 @@ ghost use Rattle.sync_plan.specs.declared.plan.Kind.{Kind};
 ghost use Rattle.plan_checker.specs.Named.{are_given_anchors, are_given_kinds, is_given_kind};
 
 use nest_tree::{Affine, Item, Program};
-use owner_partition::{Anchor, Cut, Mark, Placement, StaticPhase, check_anchor};
+use owner_partition::{Anchor, Cut, Placement, StaticPhase, check_anchor};
 use sync_plan::{Kind, Plan};
 
 /// Whether each block anchor of a plan of a fitting shape keeps within its blocks, the phases'

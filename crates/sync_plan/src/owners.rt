@@ -18,7 +18,7 @@ ghost use Rattle.sync_plan.specs.Waits.{kind_owner};
 
 use crate::plan::{Kind, Plan};
 use nest_tree::{Item, Nest, Parameter, Program};
-use owner_partition::{Anchor, Dist, Phase};
+use owner_partition::{Anchor, Dist, Phase, is_closed_at};
 
 // No program has so many loops.
 const MOST_LOOPS: usize = 400;
@@ -142,14 +142,6 @@ fn is_here(left: &mut u32) -> bool
     }
     *left -= 1;
     false
-}
-
-// Whether a walk of the phases stops at the loop with this number.
-fn is_closed_at(closed: &[bool], number: u32) -> bool
-    ensures { result ≡ slice_index_or closed.now (number - 1) false }
-{
-    let place = (number as usize).saturating_sub(1);
-    place < closed.len() && closed[place]
 }
 
 // The loop with this number gets a value, where it has a place; the answer is the one before.

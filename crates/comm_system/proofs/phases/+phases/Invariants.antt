@@ -4,7 +4,7 @@ use Rattle.nest_walk.specs.Walks.{enters_but}
 use Rattle.nest_rows.specs.Views.{heads_of}
 use Rattle.comm_system.specs.References.{phases_among}
 use Rattle.comm_system.specs.PhaseViews.{phase_seen}
-use Rattle.comm_system.specs.StaticViews.{loops_of}
+use Rattle.owner_partition.specs.StaticPhases.{loops_of}
 use Rattle.comm_system.proofs.phases.+phases.Given as goal
 
 abbrev pub invariant-push_all_phases-loop-item : goal.invariant-push_all_phases-loop-item

@@ -17,7 +17,7 @@ use Rattle.nest_rows.specs.declared.terms.Around.{Around}
 use Rattle.nest_walk.specs.Walks.{enters_but}
 use Rattle.nest_walk.proofs.Trees.{stops-entered}
 use Rattle.comm_system.specs.References.{StaticPhase, phases_among, phases_in}
-use Rattle.comm_system.specs.StaticViews.{loops_of}
+use Rattle.owner_partition.specs.StaticPhases.{loops_of}
 use Rattle.obligation_numbers.specs.Sums.{sum_from}
 use Rattle.obligation_numbers.proofs.Walked.{sum_next}
 use Rattle.obligation_numbers.proofs.phases.+phases.Goals as goal

@@ -6,7 +6,7 @@ use Rattle.nest_model.specs.Visits.{stops_of}
 use Rattle.nest_rows.specs.Views.{heads_of}
 use Rattle.nest_walk.specs.Walks.{enters_but}
 use Rattle.comm_system.specs.References.{phases_among}
-use Rattle.comm_system.specs.StaticViews.{loops_of}
+use Rattle.owner_partition.specs.StaticPhases.{loops_of}
 use Rattle.obligation_numbers.specs.Sums.{sum_from}
 use Rattle.obligation_numbers.proofs.phases.+phases.Given as goal
 

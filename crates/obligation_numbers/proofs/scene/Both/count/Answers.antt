@@ -4,7 +4,7 @@ use Rattle.std.specs.List.{range_with_len}
 use Rattle.std.proofs.lemmas.Bool.{lt-ltb}
 use Rattle.nest_rows.specs.Views.{heads_of}
 use Rattle.comm_system.specs.Levels.{common, levels}
-use Rattle.comm_system.specs.StaticViews.{loops_of}
+use Rattle.owner_partition.specs.StaticPhases.{loops_of}
 use Rattle.obligation_numbers.specs.Counts.{slot_count}
 use Rattle.obligation_numbers.specs.SlotViews.{phases_at, slot_at}
 use Rattle.obligation_numbers.proofs.Levels.{all_levels}

@@ -1,29 +1,35 @@
-use Rattle.std.proofs.Common.{◌≡◌, ◌-◌, [], Option, Some, None, MatchOption, slice_get, refl, sym, subst, arith}
-use Rattle.nest_tree.specs.View.{statement_of, tree_of}
-use Rattle.nest_walk.specs.RoundsOf.{rounds_of}
-use Rattle.nest_walk.specs.Texts.{placed}
-use Rattle.nest_walk.proofs.PathLists.{rounds_to-length}
+use Rattle.std.proofs.Common.{◌≡◌, [], Some, None, MatchOption, ap, subst, ◌∙◌, arith}
+use Rattle.std.specs.Prelude.{slice_get}
+use Rattle.nest_tree.specs.View.{statement_of, statements_from, tree_of}
+use Rattle.nest_tree.specs.WellFormed.{are_good_statements, scope_of}
+use Rattle.nest_tree.proofs.Cells.{well_formed_parts}
+use Rattle.nest_model.specs.Visits.{stops_of}
+use Rattle.nest_walk.specs.Texts.{placed_of}
+use Rattle.nest_walk.specs.Walks.{enters_but}
 use Rattle.owner_partition.specs.Marks.{enters_outer}
-use Rattle.owner_partition.specs.declared.static_phase.StaticPhase.{StaticPhase}
-use Rattle.owner_partition.specs.StaticPhases.{loops_round}
-use Rattle.owner_partition.proofs.StaticPhases.{IsSite, finds_among, site_found, site_missing}
+use Rattle.owner_partition.specs.StaticPhases.{loops_of, loops_round, numbers_round}
+use Rattle.owner_partition.proofs.Places.{few_phases}
 use Rattle.owner_partition.proofs.static_phase.StaticPhase.at.Goals as goal
-use Rattle.owner_partition.proofs.static_phase.StaticPhase.at.Goals.{In_ok-item}
 
-found_at : (c : In_ok-item) → IsSite [] (placed (tree_of c.args.program.now) (enters_outer c.args.cut.now.marks)) (c.args.number - 1) (record { what = statement_of c.in_ok-item.field-0.item.now; first = c.in_ok-item.field-0.first; rounds = rounds_of c.site_of.new.path })
-found_at c = site_found _ _ _ _ c.in_ok-item.ensures (finds_among (enters_outer c.args.cut.now.marks) [] (tree_of c.args.program.now).items (c.args.number - 1) 1)
+pub phase_among-requires-clause-good : goal.phase_among-requires-clause-good
+phase_among-requires-clause-good c =
+    let tree = tree_of c.args.program.now in (
+      scope_of tree,
+      1,
+      ap (λ a. are_good_statements (scope_of tree) (numbers_round a) 1 (statements_from c.deref.result.now)) c.new.ensures
+          ∙ ap (λ xs. are_good_statements (scope_of tree) [] 1 (statements_from xs)) c.deref.ensures.value ∙ (well_formed_parts tree c.requires).statements,
+    )
 
-pub invariant_of-result : goal.invariant_of-result
-invariant_of-result c =
-    let path = c.site_of.new.path in
-    record { positive = (found_at c).stand (omega (arith, rounds_to-length path.numbers path.values path.depth, path.within)) refl }
-
-pub returns-in_err-item : goal.returns-in_err-item
-returns-in_err-item c =
-    let text = placed (tree_of c.args.program.now) (enters_outer c.args.cut.now.marks) in
-    let missing = site_missing text (c.args.number - 1) _ c.in_err-item.ensures (finds_among (enters_outer c.args.cut.now.marks) [] (tree_of c.args.program.now).items (c.args.number - 1) 1) in
-    let P : Option StaticPhase → Type 0 = λ r. MatchOption r (slice_get text (c.args.number - 1) ≡ None) (λ s. slice_get text (c.args.number - 1) ≡ Some (record { what = statement_of s.item.now; around = loops_round s })) in
-    subst P (sym c.from_residual.ensures) missing
+pub phase_among-requires-clause-stops : goal.phase_among-requires-clause-stops
+phase_among-requires-clause-stops c =
+    let enters = enters_but c.closed.result.now in
+    omega (arith, few_phases (tree_of c.args.program.now) enters c.requires, ap (λ xs. stops_of enters (statements_from xs)) c.deref.ensures.value)
 
 pub returns : goal.returns
-returns c = (found_at (goal.at.returns c).In_ok-item).at
+returns c =
+    let tree = tree_of c.args.program.now in
+    let text = ap (λ bs. placed_of (enters_but bs) (numbers_round (loops_of c.new.result)) (statements_from c.deref.result.now)) c.closed.ensures
+    ∙ ap (λ a. placed_of (enters_outer c.args.cut.now.marks) (numbers_round a) (statements_from c.deref.result.now)) c.new.ensures
+    ∙ ap (λ xs. placed_of (enters_outer c.args.cut.now.marks) [] (statements_from xs)) c.deref.ensures.value in
+    let same = ap (λ ps. slice_get ps c.saturating_sub-place.result) text ∙ ap (slice_get (placed_of (enters_outer c.args.cut.now.marks) [] tree.items)) c.saturating_sub-place.ensures in
+    subst (λ o. MatchOption c.phase_among.result (o ≡ None) (λ s. o ≡ Some (record { what = statement_of s.item.now; around = loops_round s }))) same c.phase_among.ensures

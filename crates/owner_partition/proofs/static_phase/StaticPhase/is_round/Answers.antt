@@ -1,11 +1,11 @@
-use Rattle.std.proofs.Common.{FitsSigned, rules, ap, ◌∙◌, pos, int_lt}
-use Rattle.std.specs.Int.{w64}
-use Rattle.std.proofs.lemmas.Int.{to_z-of_z}
-use Rattle.nest_walk.specs.RoundsOf.{rounds_of}
-use Rattle.owner_partition.proofs.StaticPhases.{named_by_value}
+use Rattle.std.proofs.Common.{◌==◌, ap, ◌∙◌}
+use Rattle.std.specs.List.{list_any}
+use Rattle.nest_rows.specs.declared.terms.Around.{Around}
+use Rattle.owner_partition.specs.StaticPhases.{loops_of}
+use Rattle.owner_partition.proofs.StaticPhases.{is_among}
 use Rattle.owner_partition.proofs.static_phase.StaticPhase.is_round.Goals as goal
 
 pub returns : goal.returns
 returns c =
-    let f : FitsSigned w64 c.value_of.result = search rules in
-    ap (int_lt (pos 0)) (to_z-of_z w64 c.value_of.result f ∙ c.value_of.ensures) ∙ named_by_value (rounds_of c.args.self.now.path) c.args.number c.args.self.now.positive
+    let number = c.args.number in
+    c.has_loop.ensures ∙ ap (list_any (λ (a : Around). a.nest.now.number == number)) c.as_slice.ensures ∙ is_among (loops_of c.args.self.now.outer) number

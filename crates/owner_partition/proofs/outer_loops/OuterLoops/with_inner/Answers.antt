@@ -1,8 +1,8 @@
 use Rattle.std.proofs.Common.{◌++◌, ◌∷◌, [], drop, length, ap, ◌∙◌, arith}
 use Rattle.std.specs.Prelude.{replicate}
 use Rattle.nest_rows.specs.declared.terms.Around.{Around}
-use Rattle.comm_system.proofs.StaticPhases.{with_last}
-use Rattle.comm_system.proofs.outer_loops.OuterLoops.with_inner.Goals as goal
+use Rattle.owner_partition.proofs.StaticPhases.{with_last}
+use Rattle.owner_partition.proofs.outer_loops.OuterLoops.with_inner.Goals as goal
 
 pub returns : goal.returns
 returns c =

@@ -22,7 +22,7 @@ pub struct OuterLoops<'a> {
 }
 
 impl<'a> OuterLoops<'a> {
-    ghost use Rattle.comm_system.specs.StaticViews.{loops_of};
+    ghost use Rattle.owner_partition.specs.StaticPhases.{loops_of};
 
     /// None.
     pub fn new() -> Self
