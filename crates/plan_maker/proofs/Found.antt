@@ -22,7 +22,7 @@ mapped_none f [] k e = refl
 mapped_none f (y ∷ xs) zero e = absurd (cc)
 mapped_none f (y ∷ xs) (suc k) e = mapped_none f xs k e
 
-if_good_good : (constants : ℕ) (loops : List ℕ) (o : Option Anchor) (a : Anchor) → if_one_good constants loops o ≡ Some a → is_good_anchor constants loops a ≡ true
+pub if_good_good : (constants : ℕ) (loops : List ℕ) (o : Option Anchor) (a : Anchor) → if_one_good constants loops o ≡ Some a → is_good_anchor constants loops a ≡ true
 if_good_good constants loops None a e = absurd (cc)
 if_good_good constants loops (Some b) a e = by (is_good_anchor constants loops b) refl
   where
@@ -33,13 +33,13 @@ if_good_good constants loops (Some b) a e = by (is_good_anchor constants loops b
         subst (λ x. is_good_anchor constants loops x ≡ true) same h
     by false h = absurd (let no : None ≡ Some a = sym (ap (λ t. if t then Some b else None) h) ∙ e in cc)
 
-either : (P : Anchor → Type 0) (x y : Option Anchor) (a : Anchor) → ((b : Anchor) → x ≡ Some b → P b) → ((b : Anchor) → y ≡ Some b → P b) → option_or x y ≡ Some a → P a
+pub either : (P : Anchor → Type 0) (x y : Option Anchor) (a : Anchor) → ((b : Anchor) → x ≡ Some b → P b) → ((b : Anchor) → y ≡ Some b → P b) → option_or x y ≡ Some a → P a
 either P None y a h k e = k a e
 either P (Some b) y a h k e = h a e
 
 module _ (f : Access → Option Anchor) (P : Anchor → Type 0) (all : (x : Access) (a : Anchor) → f x ≡ Some a → P a) where
   mutual
-    stored_good : (s : Statement) (a : Anchor) → stored_anchor f s ≡ Some a → P a
+    pub stored_good : (s : Statement) (a : Anchor) → stored_anchor f s ≡ Some a → P a
     stored_good (do_loop head body) a e = among_good body a e
     stored_good (work (assign x)) a e = all x.target a e
     stored_good (work (print p)) a e = absurd (cc)

@@ -1,10 +1,12 @@
 pub mod Within
 pub mod Counts
 pub mod Spans
+pub mod NearEnds
 pub mod Found
 pub mod Phases
 pub mod OrderOnce
 pub mod Questions
+pub mod Askable
 pub mod Judgements
 pub mod Extended
 pub mod Numbered
@@ -14,6 +16,9 @@ pub mod TakenKinds
 pub mod Verdicts
 pub mod Marked
 pub mod LoopsThere
+pub mod Standing
+pub mod DealtPhases
+pub mod LoopTrips
 pub mod Attempts
 pub mod Choices
 pub mod Meeting
@@ -22,3 +27,10 @@ pub mod Made
 pub mod Singles
 pub mod Ready
 pub mod Fresh
+pub mod FitParts
+pub mod OwnRising
+pub mod CutFits
+pub mod TriedCuts
+pub mod AnchorsFit
+pub mod AnchorsKept
+pub mod CandidatesFit

@@ -1,9 +1,7 @@
 -- Lists, and two of them side by side.
-use Rattle.std.proofs.Common.{◌≡◌, ℕ, zero, suc, ◌+◌, ◌<◌, List, [], ◌∷◌, ◌++◌, take, length, map, get_or, set, Some, None, refl, ap, sym, ◌∙◌, subst, inl, inr, ◌⊎◌, arith, length-append}
+use Rattle.std.proofs.Common.{◌≡◌, ℕ, zero, suc, ◌+◌, ◌<◌, List, [], ◌∷◌, ◌++◌, take, length, get_or, set, Some, None, refl, ap, sym, ◌∙◌, subst, inl, inr, ◌⊎◌, arith, length-append}
 use Rattle.std.specs.Prelude.{slice_get}
 use Rattle.std.specs.List.{All, AllZip}
-use Rattle.std.proofs.lemmas.List.{map-append}
-use Rattle.nest_walk.proofs.Grown.{AllZip-append}
 
 -- of things side by side
 pub zip_at : {A B : Type 0} (R : A → B → Type 0) (xs : List A) (ys : List B) (k : ℕ) (x : A) (y : B) → AllZip R xs ys → slice_get xs k ≡ Some x → slice_get ys k ≡ Some y → R x y
@@ -32,11 +30,6 @@ get_pushed [] x (suc k) y at = absurd (let no : None ≡ Some y = at in cc)
 get_pushed (z ∷ xs) x zero y at = inl at
 get_pushed (z ∷ xs) x (suc k) y at = elim (get_pushed xs x k y at) [ inl h ↦ inl h | inr h ↦ inr (ap suc h.0, h.1) ]
 
-pub get_here : {X : Type 0} (xs : List X) (k : ℕ) (d : X) → k < length xs → slice_get xs k ≡ Some (get_or xs k d)
-get_here [] k d lt = absurd (omega (arith, lt))
-get_here (y ∷ xs) zero d lt = refl
-get_here (y ∷ xs) (suc k) d lt = get_here xs k d (omega (arith, lt))
-
 in_front : {X : Type 0} (xs ys : List X) (k : ℕ) (d : X) → k < length xs → get_or (xs ++ ys) k d ≡ get_or xs k d
 in_front [] ys k d lt = absurd (omega (arith, lt))
 in_front (x ∷ xs) ys zero d lt = refl
@@ -62,11 +55,6 @@ same_read [] k d e lt = absurd (omega (arith, lt))
 same_read (x ∷ xs) zero d e lt = refl
 same_read (x ∷ xs) (suc k) d e lt = same_read xs k d e (omega (arith, lt))
 
-pub got_within : {X : Type 0} (xs : List X) (k : ℕ) (x : X) → slice_get xs k ≡ Some x → k < length xs
-got_within [] k x at = absurd (let no : None ≡ Some x = at in cc)
-got_within (y ∷ xs) zero x at = omega arith
-got_within (y ∷ xs) (suc k) x at = let inside = got_within xs k x at in omega (arith, inside)
-
 pub take_got : {X : Type 0} (xs : List X) (k : ℕ) (x : X) → slice_get xs k ≡ Some x → take (k + 1) xs ≡ take k xs ++ x ∷ []
 take_got [] k x at = absurd (let no : None ≡ Some x = at in cc)
 take_got (y ∷ xs) zero x at = let same : y ≡ x = cc in ap (λ z. z ∷ []) same
@@ -75,9 +63,3 @@ take_got (y ∷ xs) (suc k) x at = let e : suc k + 1 ≡ suc (k + 1) = omega ari
 pub all_one : {X : Type 0} (P : X → Type 0) (x : X) → P x → All P (x ∷ [])
 all_one P x p zero d lt = p
 all_one P x p (suc k) d lt = absurd (omega (arith, lt))
-
--- one of them more
-pub zip_more : {A B C : Type 0} (R : A → B → Type 0) (f : C → A) (xs : List C) (ys : List B) (k : ℕ) (x : C) (y : B) → slice_get xs k ≡ Some x → AllZip R (map f (take k xs)) ys → R (f x) y → AllZip R (map f (take (k + 1) xs)) (ys ++ y ∷ [])
-zip_more R f xs ys k x y at h new =
-    subst (λ zs. AllZip R zs (ys ++ y ∷ [])) (sym (ap (map f) (take_got xs k x at) ∙ map-append f (take k xs) (x ∷ [])))
-    (AllZip-append R (map f (take k xs)) (f x ∷ []) ys (y ∷ []) h (new, tt))

@@ -2,11 +2,12 @@
 use Rattle.std.proofs.Common.{◌≡◌, ℕ, ◌+◌, ◌≤◌, ◌<◌, ◌==◌, Bool, true, false, List, [], ◌∷◌, Some, None, if◌then◌else◌, refl, ap, arith}
 use Rattle.std.specs.Prelude.{Option, nat_lt}
 use Rattle.std.specs.Option.{option_or}
-use Rattle.std.proofs.lemmas.Bool.{and_parts, eqb-true}
+use Rattle.std.proofs.lemmas.Bool.{and_parts}
 use Rattle.std.proofs.lemmas.Bool.Decides.{nat_tests}
 use Rattle.nest_tree.specs.Tree.{Statement, Statements, do_loop, work, continue, done, next, Tree}
-use Rattle.nest_tree.specs.WellFormed.{IsWellFormed, Scope, are_good_statements, is_good_head, is_good_statement, loops_in, loops_of, scope_of}
+use Rattle.nest_tree.specs.WellFormed.{IsWellFormed, Scope, are_good_statements, is_good_statement, loops_in, loops_of, scope_of}
 use Rattle.plan_maker.specs.Tries.{body_among, body_in}
+use Rattle.plan_maker.proofs.Marked.{loop_at}
 
 -- it stands in a text
 abbrev Found : Option Statements → Type 0
@@ -29,12 +30,9 @@ behind-first own first n same differs from = grind (arith, nat_tests)
 mutual
   found-in : (scope : Scope) (around : List ℕ) (first n : ℕ) (s : Statement) → is_good_statement scope around first s ≡ true → first ≤ n → n < first + loops_in s → Found (body_in n s)
   found-in scope around first n (do_loop head body) good from to =
-      let parts = and_parts _ (are_good_statements scope (head.number ∷ around) (first + 1) body) good in
-      let headed = and_parts _ (is_good_head scope around head) parts.0 in
-      let numbered = and_parts (head.number == first) _ headed.0 in
-      let same = eqb-true head.number first numbered.0 in
+      let l = loop_at scope around first head body good in
       here-or-inside (head.number == n) body (body_among n body)
-      (λ other. found-among scope (head.number ∷ around) (first + 1) n body parts.1 (behind-first head.number first n same other from) (omega (arith, to)))
+      (λ other. found-among scope (head.number ∷ around) (first + 1) n body l.inside (behind-first head.number first n l.number other from) (omega (arith, to)))
   found-in scope around first n (work w) good from to = absurd (omega (arith, from, to))
   found-in scope around first n (continue line) good from to = absurd (omega (arith, from, to))
 

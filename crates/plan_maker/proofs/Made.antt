@@ -1,11 +1,11 @@
 -- The plan that is made.
-use Rattle.std.proofs.Common.{◌≡◌, ℕ, zero, suc, ◌-◌, ◌<◌, ◌++◌, true, List, [], ◌∷◌, length, map, get_or, refl, ap, ap₂, sym, ◌∙◌, subst, arith}
+use Rattle.std.proofs.Common.{◌≡◌, ℕ, zero, suc, ◌-◌, ◌<◌, ◌++◌, List, [], ◌∷◌, length, map, get_or, refl, ap, ap₂, sym, ◌∙◌, subst, arith}
 use Rattle.std.specs.Prelude.{slice_get, Some, None, slice_set}
-use Rattle.std.specs.List.{AllZip, flat_map, list_all}
+use Rattle.std.specs.List.{AllZip, flat_map}
 use Rattle.std.proofs.lemmas.List.{map-append}
 use Rattle.farkas_cert.specs.declared.certificate.Certificate.{Certificate}
 use Rattle.nest_tree.specs.Tree.{Tree}
-use Rattle.nest_tree.specs.WellFormed.{loops_of}
+use Rattle.nest_tree.specs.WellFormed.{IsWellFormed, loops_of}
 use Rattle.owner_partition.specs.declared.anchor.Dist.{Dist}
 use Rattle.owner_partition.specs.Cuts.{Cutting}
 use Rattle.sync_plan.specs.Barriers.{barrier_plan}
@@ -29,11 +29,12 @@ use Rattle.plan_maker.specs.Candidates.{kinds_taken, weaker_from}
 use Rattle.plan_maker.specs.Cut.{cut_of}
 use Rattle.plan_maker.specs.Loops.{AreLoopVerdicts, IsLoopVerdict, LoopVerdict, tried_in}
 use Rattle.plan_maker.specs.Made.{IsBarrierPlan, IsMade, with_found}
-use Rattle.plan_maker.specs.Numbers.{is_certificate_shown}
+use Rattle.plan_maker.specs.Numbers.{IsShown}
 use Rattle.plan_maker.specs.PhaseCauses.{IsPhaseCause}
 use Rattle.plan_maker.specs.Trials.{asked_of_slot, slots_asked}
 use Rattle.plan_maker.specs.Tries.{tried_at}
 use Rattle.plan_maker.specs.Weakest.{IsPhaseReason, IsWeakest, asked_under, candidates_in}
+use Rattle.plan_maker.proofs.CandidatesFit.{candidates_fit}
 use Rattle.plan_maker.proofs.Verdicts.{trips_same}
 use Rattle.plan_maker.proofs.Weakest.{zip_weaker}
 
@@ -110,21 +111,22 @@ module _ (tree : Tree) (base : Plan) (kinds : List Kind) (certificates : List Ce
       (λ c r w. record { phase = w.phase; kind = w.kind; cause = cause-same (kinds_taken (candidates_in tree base) (slice_set taken c.phase c.place)) (suc c.phase) r.cause w.cause }) h
 
 -- the whole
-pub made_is : (tree : Tree) (workers : ℕ) (cut : Cutting) (base : Plan) (w : Weakest) (plan : Plan) (reasons : Reasons) → base ≡ barrier_plan cut (maker_anchors tree cut.marks workers) workers [] → plan ≡ with_found base w.kinds.items w.certificates.items →
-    IsFit tree plan → IsWeakest tree base w → list_all is_certificate_shown w.certificates.items ≡ true → IsReasonedCut tree cut → AllZip (IsLoopReason tree) (all_attempts tree (open_loops 1 cut.marks)) reasons.loops.items → reasons.phases.items ≡ w.reasons.items → IsMade tree workers plan reasons
-made_is tree workers cut base w plan reasons base-is plan-is fit weak numbers reasoned loops phases =
+pub made_is : (tree : Tree) (workers : ℕ) (cut : Cutting) (base : Plan) (w : Weakest) (plan : Plan) (reasons : Reasons) → IsWellFormed tree → base ≡ barrier_plan cut (maker_anchors tree cut.marks workers) workers [] → plan ≡ with_found base w.kinds.items w.certificates.items →
+    IsFit tree base → IsWeakest tree base w → IsShown plan → IsReasonedCut tree cut → AllZip (IsLoopReason tree) (all_attempts tree (open_loops 1 cut.marks)) reasons.loops.items → reasons.phases.items ≡ w.reasons.items → IsMade tree workers plan reasons
+made_is tree workers cut base w plan reasons formed base-is plan-is fit weak numbers reasoned loops phases =
     let anchors = maker_anchors tree cut.marks workers in
     let kinds = w.kinds.items in
     let certificates = w.certificates.items in
     let start = barrier_plan cut anchors workers [] in
     let whole : plan ≡ with_found start kinds certificates = plan-is ∙ ap (λ b. with_found b kinds certificates) base-is in
     let here = subst (λ b. IsWeakest tree b w) base-is weak in
+    let fits = candidates_fit tree start formed (subst (IsFit tree) base-is fit) here.taken certificates refl here.places in
     let made : IsMade tree workers (with_found start kinds certificates) reasons = record {
       version = refl;
       conditions = refl;
       workers_are = refl;
-      accepted = record { fits = subst (IsFit tree) whole fit; certified = certified tree start kinds certificates here.certified };
-      numbers = numbers;
+      accepted = record { fits = subst (λ ks. IsFit tree (with_found start ks certificates)) (sym here.kinds) fits; certified = certified tree start kinds certificates here.certified };
+      numbers = subst IsShown whole numbers;
       cut = reasoned;
       loops = loops;
       anchors = refl;
@@ -156,21 +158,22 @@ reasoned tree vs cut long all is = record {
 
 -- the same with a barrier in front of each phase
 pub barriers_are : (tree : Tree) (workers : ℕ) (cut : Cutting) (base plan : Plan) (certificates : List Certificate) → base ≡ barrier_plan cut (maker_anchors tree cut.marks workers) workers [] → plan ≡ barrier_plan base.cut base.anchors workers certificates →
-    IsFit tree base → AreRefuted (all_trips_asked tree base) certificates → list_all is_certificate_shown certificates ≡ true → IsReasonedCut tree cut → IsBarrierPlan tree workers plan
+    IsFit tree base → AreRefuted (all_trips_asked tree base) certificates → IsShown plan → IsReasonedCut tree cut → IsBarrierPlan tree workers plan
 barriers_are tree workers cut base plan certificates base-is plan-is fit refuted numbers reasoned =
     let anchors = maker_anchors tree cut.marks workers in
     let start = barrier_plan cut anchors workers [] in
     let here = subst (λ b. AreRefuted (all_trips_asked tree b) certificates) base-is refuted in
     let tasks = map-flat (λ (q : Asked). q.task) (trips_asked tree start) (trips_tasks tree start) (λ s. tasks_asked [] (trips_tasks tree start s)) (phases_of tree cut.marks) in
+    let whole : plan ≡ barrier_plan cut anchors workers certificates = plan-is ∙ ap (λ b. barrier_plan b.cut b.anchors workers certificates) base-is in
     let good = subst (λ ks. AreCertified (numbered_from 1 ks) certificates) tasks (certified-numbered 1 (all_trips_asked tree start) certificates here) in
     let made : IsBarrierPlan tree workers (barrier_plan cut anchors workers certificates) = record {
       version = refl;
       conditions = refl;
       workers_are = refl;
       accepted = barriers_accepted tree cut anchors workers certificates (subst (IsFit tree) base-is fit) good;
-      numbers = numbers;
+      numbers = subst IsShown whole numbers;
       cut = reasoned;
       anchors = refl;
       kinds = refl;
     } in
-    subst (IsBarrierPlan tree workers) (sym (plan-is ∙ ap (λ b. barrier_plan b.cut b.anchors workers certificates) base-is)) made
+    subst (IsBarrierPlan tree workers) (sym whole) made

@@ -2,7 +2,7 @@
 use Rattle.std.proofs.Common.{◌≡◌, ℕ, zero, suc, ◌+◌, ◌-◌, ◌≤◌, ◌++◌, ◌==◌, ◌⊎◌, Bool, true, false, List, [], ◌∷◌, length, length-append, map, get_or, refl, ap, ap₂, sym, ◌∙◌, inl, inr, arith}
 use Rattle.std.specs.Prelude.{Option, Some, None, slice_get, unwrap_or}
 use Rattle.std.proofs.lemmas.Bool.{and_parts, eqb-true}
-use Rattle.nest_tree.specs.Tree.{Statement, Statements, do_loop, work, continue, done, next, Tree}
+use Rattle.nest_tree.specs.Tree.{Head, Statement, Statements, do_loop, work, continue, done, next, Tree}
 use Rattle.nest_tree.specs.WellFormed.{IsWellFormed, Scope, are_good_statements, is_good_head, is_good_statement, loops_in, loops_of, scope_of}
 use Rattle.owner_partition.specs.declared.cut.Mark.{Mark}
 use Rattle.owner_partition.specs.declared.cut.Mark.TheVariants.{Inner}
@@ -14,7 +14,7 @@ use Rattle.plan_maker.specs.Marks.{have_free, inner_in, inner_of, marks_by, mark
 use Rattle.plan_maker.specs.Tries.{tried_at, tried_mark}
 
 mutual
-  inner-count_in : (s : Statement) → length (inner_in s) ≡ loops_in s
+  pub inner-count_in : (s : Statement) → length (inner_in s) ≡ loops_in s
   inner-count_in (do_loop head body) = omega (arith, inner-count body)
   inner-count_in (work w) = refl
   inner-count_in (continue line) = refl
@@ -59,6 +59,18 @@ dealt-closed tries.Doall = refl
 dealt-closed tries.Private = refl
 dealt-closed tries.Sum = refl
 
+-- the number of a loop is the first of its own and those inside
+pub record IsLoopAt (scope : Scope) (around : List ℕ) (first : ℕ) (head : Head) (body : Statements) : Type 0 where
+  pub number : head.number ≡ first
+  pub inside : are_good_statements scope (head.number ∷ around) (first + 1) body ≡ true
+
+pub loop_at : (scope : Scope) (around : List ℕ) (first : ℕ) (head : Head) (body : Statements) → is_good_statement scope around first (do_loop head body) ≡ true → IsLoopAt scope around first head body
+loop_at scope around first head body good =
+    let parts = and_parts _ (are_good_statements scope (head.number ∷ around) (first + 1) body) good in
+    let headed = and_parts _ (is_good_head scope around head) parts.0 in
+    let numbered = and_parts (head.number == first) _ headed.0 in
+    record { number = eqb-true head.number first numbered.0; inside = parts.1 }
+
 module _ (dealt : ℕ → Option Tried) where
   loop-count : (o : Option Tried) (free : Bool) (body : Statements) → length (marks_of dealt body) ≡ loops_of body → length (marks_by o free body (marks_of dealt body)) ≡ 1 + loops_of body
   loop-count (Some t) free body h = omega (arith, inner-count body)
@@ -74,23 +86,21 @@ module _ (dealt : ℕ → Option Tried) where
   open-loop n first None false body (suc k) m same e inside h opened = not-closed m (dealt (first + suc k) ≡ None) (inner-closed body k m h) opened
 
   mutual
-    marks-count_in : (s : Statement) → length (marks_in dealt s) ≡ loops_in s
-    marks-count_in (do_loop head body) = loop-count (dealt head.number) (have_free dealt body) body (marks_count body)
-    marks-count_in (work w) = refl
-    marks-count_in (continue line) = refl
+    pub marks_count_in : (s : Statement) → length (marks_in dealt s) ≡ loops_in s
+    marks_count_in (do_loop head body) = loop-count (dealt head.number) (have_free dealt body) body (marks_count body)
+    marks_count_in (work w) = refl
+    marks_count_in (continue line) = refl
 
     pub marks_count : (ss : Statements) → length (marks_of dealt ss) ≡ loops_of ss
     marks_count done = refl
-    marks_count (next s rest) = length-append (marks_in dealt s) (marks_of dealt rest) ∙ ap₂ (λ m n. m + n) (marks-count_in s) (marks_count rest)
+    marks_count (next s rest) = length-append (marks_in dealt s) (marks_of dealt rest) ∙ ap₂ (λ m n. m + n) (marks_count_in s) (marks_count rest)
 
   mutual
     open_in : (scope : Scope) (around : List ℕ) (first : ℕ) (s : Statement) (k : ℕ) (m : Mark) → is_good_statement scope around first s ≡ true → slice_get (marks_in dealt s) k ≡ Some m → is_open m ≡ true → dealt (first + k) ≡ None
     open_in scope around first (do_loop head body) k m good at opened =
-        let parts = and_parts _ (are_good_statements scope (head.number ∷ around) (first + 1) body) good in
-        let headed = and_parts _ (is_good_head scope around head) parts.0 in
-        let numbered = and_parts (head.number == first) _ headed.0 in
-        open-loop head.number first (dealt head.number) (have_free dealt body) body k m (eqb-true head.number first numbered.0) refl
-        (λ j h. open_of scope (head.number ∷ around) (first + 1) body j m parts.1 h opened) at opened
+        let l = loop_at scope around first head body good in
+        open-loop head.number first (dealt head.number) (have_free dealt body) body k m l.number refl
+        (λ j h. open_of scope (head.number ∷ around) (first + 1) body j m l.inside h opened) at opened
     open_in scope around first (work w) k m good at opened = absurd (cc)
     open_in scope around first (continue line) k m good at opened = absurd (cc)
 
@@ -98,7 +108,7 @@ module _ (dealt : ℕ → Option Tried) where
     open_of scope around first done k m good at opened = absurd (cc)
     open_of scope around first (next s rest) k m good at opened =
         let parts = and_parts (is_good_statement scope around first s) _ good in
-        let count = marks-count_in s in
+        let count = marks_count_in s in
         elim (get-append (marks_in dealt s) (marks_of dealt rest) k m at) [
           | inl here ↦ open_in scope around first s k m parts.0 here opened
           | inr there ↦
@@ -106,10 +116,10 @@ module _ (dealt : ℕ → Option Tried) where
               ap dealt n ∙ open_of scope around (first + loops_in s) rest (k - length (marks_in dealt s)) m parts.1 there.1 opened
         ]
 
-tried-is : (vs : List LoopVerdict) (k : ℕ) (v : LoopVerdict) → slice_get vs k ≡ Some v → tried_in v ≡ get_or (map tried_in vs) k None
-tried-is [] k v h = absurd (cc)
-tried-is (w ∷ vs) zero v h = ap (λ o. tried_in (unwrap_or o v)) (sym h)
-tried-is (w ∷ vs) (suc k) v h = tried-is vs k v h
+pub tried_is : (vs : List LoopVerdict) (k : ℕ) (v : LoopVerdict) → slice_get vs k ≡ Some v → tried_in v ≡ get_or (map tried_in vs) k None
+tried_is [] k v h = absurd (cc)
+tried_is (w ∷ vs) zero v h = ap (λ o. tried_in (unwrap_or o v)) (sym h)
+tried_is (w ∷ vs) (suc k) v h = tried_is vs k v h
 
 pub open_are_barred : (tree : Tree) (vs : List LoopVerdict) (marks : List Mark) → IsWellFormed tree → marks ≡ marks_of (tried_at (map tried_in vs)) tree.items → AreOpenBarred marks vs
 open_are_barred tree vs marks formed is k m v at there opened =
@@ -117,4 +127,4 @@ open_are_barred tree vs marks formed is k m v at there opened =
     let good = and_parts _ (are_good_statements (scope_of tree) [] 1 tree.items) formed in
     let none = open_of f (scope_of tree) [] 1 tree.items k m good.1 (ap (λ ms. slice_get ms k) (sym is) ∙ at) opened in
     let n : k ≡ 1 + k - 1 = omega arith in
-    tried-is vs k v there ∙ ap (λ j. get_or (map tried_in vs) j None) n ∙ none
+    tried_is vs k v there ∙ ap (λ j. get_or (map tried_in vs) j None) n ∙ none

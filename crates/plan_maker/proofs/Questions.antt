@@ -52,10 +52,6 @@ cause-front qs rs cause k = record {
   said = k.said;
 }
 
--- the first of these that is kept, behind systems that are refuted
-pub cause-here : (qs : List Asked) (q : Asked) (rs : List Asked) (cs : List Certificate) (cause : Cause) → AreRefuted qs cs → IsCause (q ∷ []) cause → IsCause (qs ++ (q ∷ rs)) cause
-cause-here qs q rs cs cause h k = cause-behind qs (q ∷ rs) cs cause h (cause-front (q ∷ []) rs cause k)
-
 -- one more of things that each ask something
 module _ {X : Type 0} (f : X → List Asked) (xs : List X) (i : ℕ) (x : X) (lt : i < length xs) (is : x ≡ get_or xs i x) where
   one-more : flat_map f (take (i + 1) xs) ≡ flat_map f (take i xs) ++ f x

@@ -8,7 +8,7 @@ use Rattle.std.proofs.lemmas.List.{get_or-set_other, get_or-set_same, get_or-tak
 use Rattle.std.proofs.lemmas.List.Elements.{All-set}
 use Rattle.std.proofs.lemmas.Grind.{flat_map-append}
 use Rattle.std.proofs.lemmas.List.{append-nil, length-map, map-append}
-use Rattle.std.proofs.lemmas.Option.{get_or_from_slice_get}
+use Rattle.std.proofs.lemmas.Option.{get_or_from_slice_get, slice_get_within}
 use Rattle.std.proofs.Math.Seq.{map-set_same}
 use Rattle.nest_tree.specs.Tree.{Tree}
 use Rattle.nest_tree.specs.View.{tree_of}
@@ -37,7 +37,6 @@ use Rattle.plan_maker.specs.Searches.{AreElsewhere, IsReady, IsSameSearch, IsSea
 use Rattle.plan_maker.specs.Trials.{HasMoreCertificates, asked_of_slot, slots_asked}
 use Rattle.plan_maker.specs.Weakest.{candidates_in}
 use Rattle.plan_maker.proofs.Caches.{held_more}
-use Rattle.plan_maker.proofs.Lists.{got_within}
 use Rattle.plan_maker.proofs.Questions.{refuted-append}
 use Rattle.plan_maker.proofs.TakenKinds.{place_earlier, places_long, untouched}
 
@@ -62,7 +61,7 @@ pub held_refuted : (tree : Tree) (plan : Plan) (slot : Slot) (g : Signature) (en
 held_refuted tree plan slot g entries all (inl none) = ([], subst (λ qs. AreRefuted qs []) (sym none) tt)
 held_refuted tree plan slot g entries all (inr h) =
     let at = get_or_from_slice_get entries h.place h.entry h.entry h.at in
-    let here : IsEntry tree plan slot h.entry = subst (IsEntry tree plan slot) at (all h.place h.entry (got_within entries h.place h.entry h.at)) in
+    let here : IsEntry tree plan slot h.entry = subst (IsEntry tree plan slot) at (all h.place h.entry (slice_get_within entries h.place h.entry h.at)) in
     let verdict = subst (λ (v : Judged). IsVerdict (slot_asked tree plan slot (key_seen h.entry.key)) v) h.refuted here in
     (h.certificates.items, subst (λ k. AreRefuted (slot_asked tree plan slot k) h.certificates.items) h.key verdict)
 

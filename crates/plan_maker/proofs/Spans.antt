@@ -17,6 +17,13 @@ use Rattle.plan_maker.specs.Anchors.{span_of, span_within, value_of}
 abbrev pub probe : ℕ → Anchor
 probe n = record { form = value_of n; dist = Block 0 }
 
+-- a placement's ends are those of a loop, where there are such intervals
+pub record IsPlacedAt (o : Option (List (ℤ × ℤ))) (n : ℕ) (p : Placement) : Type 0 where
+  pub ends : List (ℤ × ℤ)
+  pub is : o ≡ Some ends
+  pub low : p.low ≡ (ends_of ends n).0
+  pub high : p.high ≡ (ends_of ends n).1
+
 value_ends : (params : List ℤ) (ends : List (ℤ × ℤ)) (n : ℕ) → form_interval (value_of n) ends params ≡ ends_of ends n
 value_ends params ends n = by (ends_of ends n)
   where
@@ -51,6 +58,9 @@ module _ (params : List ℤ) (w u n : ℕ) where
       ∙ ap (λ (x : ℤ × ℤ). if reaches (Block 0) w x then None else Some (record { phase = u; low = x.0; high = x.1 })) e
       ∙ ap (λ b. if b then None else Some (record { phase = u; low = (ends_of ends n).0; high = (ends_of ends n).1 })) (leaves w (ends_of ends n) h)
 
+  empty : (ends : List (ℤ × ℤ)) → is_empty (ends_of ends n) ≡ true → misplaced_within params w u (probe n) ends ≡ None
+  empty ends e = ap (λ b. if b || false then None else if reaches (Block 0) w (form_interval (value_of n) ends params) then None else Some (record { phase = u; low = (form_interval (value_of n) ends params).0; high = (form_interval (value_of n) ends params).1 })) e
+
   pub span_none : (o : Option (List (ℤ × ℤ))) → misplaced_at params w u (probe n) o ≡ None → span_of n o ≡ (pos 0, 0)
   span_none None h = refl
   span_none (Some ends) h = by (is_empty (ends_of ends n)) refl
@@ -63,12 +73,21 @@ module _ (params : List ℤ) (w u n : ℕ) where
   span_some None p h = absurd (cc)
   span_some (Some ends) p h = by (is_empty (ends_of ends n)) refl
     where
-      empty : is_empty (ends_of ends n) ≡ true → misplaced_within params w u (probe n) ends ≡ None
-      empty e = ap (λ b. if b || false then None else if reaches (Block 0) w (form_interval (value_of n) ends params) then None else Some (record { phase = u; low = (form_interval (value_of n) ends params).0; high = (form_interval (value_of n) ends params).1 })) e
-
       by : (b : Bool) → is_empty (ends_of ends n) ≡ b → span_within (ends_of ends n) ≡ (p.low, extent (p.low, p.high))
-      by true e = absurd (let no = sym h ∙ empty e in cc)
+      by true e = absurd (let no = sym h ∙ empty ends e in cc)
       by false e =
           let at = sym (found ends e) ∙ h in
           let same : record { phase = u; low = (ends_of ends n).0; high = (ends_of ends n).1 } ≡ p = cc in
           ap (λ (b : Bool). if b then (pos 0, 0) else ((ends_of ends n).0, extent (ends_of ends n))) e ∙ ap (λ (q : Placement). (q.low, extent (q.low, q.high))) same
+
+  -- they are those of the loop
+  pub placed_ends : (o : Option (List (ℤ × ℤ))) (p : Placement) → misplaced_at params w u (probe n) o ≡ Some p → IsPlacedAt o n p
+  placed_ends None p h = absurd (cc)
+  placed_ends (Some ends) p h = by (is_empty (ends_of ends n)) refl
+    where
+      by : (b : Bool) → is_empty (ends_of ends n) ≡ b → IsPlacedAt (Some ends) n p
+      by true e = absurd (let no = sym h ∙ empty ends e in cc)
+      by false e =
+          let at = sym (found ends e) ∙ h in
+          let same : record { phase = u; low = (ends_of ends n).0; high = (ends_of ends n).1 } ≡ p = cc in
+          record { ends = ends; is = refl; low = sym (ap (λ (q : Placement). q.low) same); high = sym (ap (λ (q : Placement). q.high) same) }

@@ -2,6 +2,7 @@
 use Rattle.std.proofs.Common.{◌≡◌, ℕ, suc, ◌+◌, ◌-◌, Bool, true, false, List, [], ◌∷◌, ◌++◌, take, length, Some, if◌then◌else◌, refl, ap, ap₂, ◌∙◌, subst, inl, inr, arith, length-take}
 use Rattle.std.specs.Prelude.{slice_get}
 use Rattle.std.specs.List.{flat_map}
+use Rattle.std.proofs.lemmas.Option.{slice_get_within}
 use Rattle.nest_tree.specs.Tree.{Tree}
 use Rattle.owner_partition.specs.declared.cut.Mark.{Mark}
 use Rattle.sync_plan.specs.declared.plan.Plan.{Plan}
@@ -9,7 +10,7 @@ use Rattle.comm_system.specs.References.{StaticPhase}
 use Rattle.plan_maker.specs.Asked.{trips_asked}
 use Rattle.plan_maker.specs.Bars.{is_open, open_loops}
 use Rattle.plan_maker.specs.Loops.{AreLoopVerdicts, IsLoopVerdict, LoopVerdict}
-use Rattle.plan_maker.proofs.Lists.{get_pushed, got_within, take_got}
+use Rattle.plan_maker.proofs.Lists.{get_pushed, take_got}
 
 -- one more
 pub verdict_more : (tree : Tree) (vs : List LoopVerdict) (v : LoopVerdict) → AreLoopVerdicts tree vs → IsLoopVerdict tree (length vs + 1) v → AreLoopVerdicts tree (vs ++ v ∷ [])
@@ -36,7 +37,7 @@ open-more n (x ∷ marks) m = by (is_open x) (open-more (suc n) marks m)
 
 pub open_taken : (marks : List Mark) (i : ℕ) (m : Mark) → slice_get marks i ≡ Some m → open_loops 1 (take (i + 1) marks) ≡ open_loops 1 (take i marks) ++ (if is_open m then (i + 1) ∷ [] else [])
 open_taken marks i m at =
-    let inside = got_within marks i m at in
+    let inside = slice_get_within marks i m at in
     let long : length (take i marks) ≡ i = simp length-take (omega (arith, inside)) in
     let number : 1 + length (take i marks) ≡ i + 1 = omega (arith, long) in
     ap (open_loops 1) (take_got marks i m at) ∙ open-more 1 (take i marks) m ∙ ap (λ k. open_loops 1 (take i marks) ++ (if is_open m then k ∷ [] else [])) number

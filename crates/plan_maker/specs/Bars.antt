@@ -11,10 +11,9 @@ use Rattle.plan_maker.specs.declared.reasons.Bar.{Bar}
 use Rattle.plan_maker.specs.declared.reasons.Bar.TheVariants.{Print, Meeting}
 use Rattle.plan_maker.specs.declared.reasons.LoopReason.{LoopReason}
 use Rattle.plan_maker.specs.declared.tries.Tried.{Tried}
-use Rattle.plan_maker.specs.declared.tries.Tried.TheVariants as tries
 use Rattle.plan_maker.specs.Asked.{IsCause}
 use Rattle.plan_maker.specs.Cut.{cut_of, loop_asked}
-use Rattle.plan_maker.specs.Tries.{body_of, tries_of}
+use Rattle.plan_maker.specs.Tries.{all_tries, body_of, tries_of}
 
 -- a try of the loop with this number
 pub record Attempt : Type 0 where
@@ -28,9 +27,9 @@ attempt n t = record { number = n; tried = t }
 abbrev pub loop_prints : Tree → ℕ → Bool
 loop_prints tree n = have_print (body_of tree n)
 
--- what is tried of a loop, in order; of one with a PRINT nothing but Doall
+-- what is tried of a loop, in order
 abbrev pub attempts_of : Tree → ℕ → List Attempt
-attempts_of tree n = map (attempt n) (if loop_prints tree n then tries.Doall ∷ [] else tries_of (body_of tree n))
+attempts_of tree n = map (attempt n) (all_tries (body_of tree n))
 
 -- a try fails for this reason: a PRINT stands in the loop; or none does, and of two trips this is the first system that is kept
 abbrev pub IsBar : Tree → Attempt → Bar → Type 0

@@ -1,7 +1,7 @@
 -- Which loops are what in a made plan.
-use Rattle.std.specs.Prelude.{ℕ, ◌-◌, List, [], ◌∷◌, ◌++◌, replicate, Option, Some, None}
+use Rattle.std.specs.Prelude.{ℕ, ◌-◌, ◌≡◌, List, [], ◌∷◌, ◌++◌, replicate, Option, Some, None}
 use Rattle.std.specs.List.{flat_map}
-use Rattle.nest_tree.specs.Tree.{Tree}
+use Rattle.nest_tree.specs.Tree.{Statements, Tree}
 use Rattle.owner_partition.specs.Cuts.{Cutting}
 use Rattle.sync_plan.specs.Barriers.{barrier_plan}
 use Rattle.comm_system.specs.References.{phases_of}
@@ -9,7 +9,7 @@ use Rattle.plan_maker.specs.declared.tries.Tried.{Tried}
 use Rattle.plan_maker.specs.Asked.{Asked, trips_asked}
 use Rattle.plan_maker.specs.Marks.{marks_of}
 use Rattle.plan_maker.specs.Privates.{privates_of}
-use Rattle.plan_maker.specs.Tries.{tried_at}
+use Rattle.plan_maker.specs.Tries.{IsMadeOf, body_among, tried_at}
 
 -- the cut in which loops are dealt out so, by number
 abbrev pub cut_of : (ℕ → Option Tried) → Tree → Cutting
@@ -21,6 +21,12 @@ only n t = replicate (n - 1) None ++ Some t ∷ []
 
 abbrev pub cut_of_try : Tree → ℕ → Tried → Cutting
 cut_of_try tree n t = cut_of (tried_at (only n t)) tree
+
+-- a cut in which each loop that is dealt out is so by a try that is made of it
+pub record IsTriedCut (tree : Tree) (cut : Cutting) : Type 0 where
+  pub dealt : ℕ → Option Tried
+  pub cut_is : cut ≡ cut_of dealt tree
+  pub made : (n : ℕ) (t : Tried) (body : Statements) → dealt n ≡ Some t → body_among n tree.items ≡ Some body → IsMadeOf t body
 
 -- what is asked of two trips of the loops that a cut deals out
 abbrev pub cut_asked : Tree → Cutting → List Asked

@@ -5,6 +5,7 @@ pub mod Marks
 pub mod Privates
 pub mod Orders
 pub mod Asked
+pub mod Askable
 pub mod Judged
 pub mod Cut
 pub mod Bars

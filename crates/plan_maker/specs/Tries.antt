@@ -1,7 +1,8 @@
 -- How a loop may be dealt out: what is tried of it, in order.
-use Rattle.std.specs.Prelude.{ℕ, ◌-◌, ◌==◌, Bool, true, not, ◌&&◌, ◌||◌, nat_le, List, [], ◌∷◌, length, take, Option, Some, None, slice_index_or, unwrap_or, if◌then◌else◌}
+use Rattle.std.specs.Prelude.{ℕ, ◌-◌, ◌==◌, ◌≡◌, Bool, true, false, not, ◌&&◌, ◌||◌, nat_le, List, [], ◌∷◌, length, take, Option, Some, None, slice_index_or, unwrap_or, if◌then◌else◌}
 use Rattle.std.specs.List.{filter}
 use Rattle.std.specs.Option.{option_or}
+use Rattle.nest_tree.specs.Prints.{have_print}
 use Rattle.nest_tree.specs.Tree.{Statement, Statements, do_loop, work, continue, done, next, Tree}
 use Rattle.nest_tree.specs.declared.tree.Nest.{Nest}
 use Rattle.nest_tree.specs.View.{statements_from}
@@ -42,6 +43,11 @@ is_admitted Doall body = true
 is_admitted Private body = has_privates Five && not (has_no_privates body)
 is_admitted Sum body = has_sums Four && has_few_sums body && (has_no_privates body || has_privates Five)
 
+-- a try is made of a loop with this body, in which no PRINT stands
+pub record IsMadeOf (t : Tried) (body : Statements) : Type 0 where
+  pub admitted : is_admitted t body ≡ true
+  pub silent : have_print body ≡ false
+
 abbrev pub tries_of : Statements → List Tried
 tries_of body = filter (λ t. is_admitted t body) (Doall ∷ Private ∷ Sum ∷ [])
 
@@ -59,6 +65,14 @@ abbrev mutual
   pub body_among : ℕ → Statements → Option Statements
   body_among n done = None
   body_among n (next s rest) = option_or (body_in n s) (body_among n rest)
+
+-- what is tried of a loop with this body, in order; of one with a PRINT nothing but Doall, and nothing where there is no loop
+abbrev pub all_tries : Statements → List Tried
+all_tries body = if have_print body then Doall ∷ [] else tries_of body
+
+abbrev pub tries_at : Option Statements → List Tried
+tries_at None = []
+tries_at (Some body) = all_tries body
 
 -- an empty one where there is no such loop
 abbrev pub body_of : Tree → ℕ → Statements

@@ -12,7 +12,7 @@ ghost use Rattle.nest_tree.specs.Form.{is_given};
 ghost use Rattle.plan_maker.specs.Anchors.{along, along_axis, if_good, if_one_good, less, maker_anchors, phase_anchor, placed_anchor, span_of, stored_among, stored_anchor, value_of};
 ghost use Rattle.plan_maker.specs.Scopes.{constants_at, found_anchor, good_element_anchor, good_own_anchor, loops_at};
 
-use crate::places::{dealt_as, extent, first_processor, in_blocks, item_at, less};
+use crate::places::{dealt_as, extent, extent_between, first_processor, in_blocks, item_at, less};
 use crate::scope::Scope;
 use nest_tree::{Access, Affine, Item, Pairs, Program, Spread, Variable};
 use owner_partition::{Anchor, Cut, Dist, StaticPhase, check_anchor};
@@ -169,8 +169,7 @@ fn variable_anchor(
     }
 }
 
-// The same for a subscript along a dimension with these bounds. Past 2 ^ 127 places it is as if
-// memory had run out; no bounds of 64 bits have so many.
+// The same for a subscript along a dimension with these bounds.
 fn along_anchor(
     alloc: Global,
     scope: Scope,
@@ -181,12 +180,9 @@ fn along_anchor(
     requires { 1 ≤ scope.workers }
     ensures { IfOk result (λ o. o ≡ if_one_good (constants_at scope.entry) (loops_at scope.entry) (along scope.entry.workers spread (Some subscript.now) (Some bounds))) }
 {
-    let low = i128::from(bounds.0);
-    let Some(places) = extent(low, i128::from(bounds.1)) else {
-        return Err(AllocError);
-    };
+    let places = extent_between(bounds.0, bounds.1);
     let dist = dealt_as(spread, scope.workers, places);
-    good_anchor(alloc, scope, subscript, low, dist)
+    good_anchor(alloc, scope, subscript, i128::from(bounds.0), dist)
 }
 
 // The anchor of a form less a number, if it is a good one.
@@ -242,8 +238,7 @@ fn loop_value(alloc: Global, number: u32) -> Result<Affine, AllocError>
 }
 
 // The least value of a loop at a static phase and how many there are to the greatest: an interval
-// leaves blocks of no place at its ends. Past 2 ^ 127 values it is as if memory had run out; no
-// program within its limits has so many.
+// leaves blocks of no place at its ends.
 fn span_of(
     alloc: Global,
     program: &Program,
@@ -266,6 +261,6 @@ fn span_of(
     };
     match extent(ends.low, ends.high) {
         Some(width) => Ok((ends.low, width)),
-        None => Err(AllocError),
+        None => unreachable!(),
     }
 }

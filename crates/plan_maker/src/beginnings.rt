@@ -6,9 +6,9 @@ ghost use Rattle.farkas_cert.specs.Narrow.{AreNarrow};
 ghost use Rattle.fm_elim.specs.Advances.{IsExtension, gone_of};
 ghost use Rattle.fm_elim.specs.Answers.{NamesEachOnce};
 ghost use Rattle.fm_elim.specs.Pairs.{coef_of};
+ghost use Rattle.plan_maker.specs.Askable.{IsAskable};
 ghost use Rattle.plan_maker.specs.Beginnings.{IsBeginning, IsPrefix, IsLevelOf, IsWithout};
 
-use crate::decided::can_ask;
 use crate::orders::{elimination_order, unknown_count};
 use farkas_cert::{Coefs, Row, System};
 use fm_elim::{Advance, Level, NoMemory};
@@ -149,27 +149,20 @@ fn level_without<'a>(
 }
 
 impl Prefix {
-    /// Of a system whose owners are dealt so the rows up to the last that has another unknown; None
-    /// where elimination can't be asked of it.
-    pub(crate) fn of(
-        alloc: Global,
-        system: &System,
-        dists: &[Dist],
-    ) -> Result<Option<Self>, AllocError>
-        ensures { IfOk result (λ found. IfSome found IsPrefix) }
+    /// Of a system whose owners are dealt so the rows up to the last that has another unknown.
+    pub(crate) fn of(alloc: Global, system: &System, dists: &[Dist]) -> Result<Self, AllocError>
+        requires { IsAskable system.now dists.now }
+        ensures { IfOk result IsPrefix }
     {
-        if !can_ask(system, dists) {
-            return Ok(None);
-        }
         let others = (system.vars() - unknown_count(dists)) as usize;
         let order = elimination_order(alloc, system.vars(), dists)?;
         let count = count_with(system.rows(), &order.as_slice()[..others]);
         let rows = first_rows(alloc, system, count)?;
-        Ok(Some(Prefix {
+        Ok(Prefix {
             rows,
             order,
             others,
-        }))
+        })
     }
 
     /// The level without the unknowns that are removed before the owners, or a long one before it,

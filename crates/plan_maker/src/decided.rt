@@ -1,19 +1,19 @@
 // What is found of a system: by elimination in its order, and by a quick look.
 
-ghost use Rattle.std.specs.Prelude.{◌≡◌, ℕ, List, ◌-◌, ◌≤◌, ◌<◌, ◌^◌, IfOk, IfSome, IsTrue, length};
+ghost use Rattle.std.specs.Prelude.{◌≡◌, ℕ, List, IfOk, IfSome};
 ghost use Rattle.farkas_cert.specs.Narrow.{AreNarrow};
 ghost use Rattle.farkas_cert.specs.Inequalities.{Inequalities};
 ghost use Rattle.fm_elim.specs.Advances.{IsLevel, order_of, system_of};
 ghost use Rattle.fm_elim.specs.Answers.{IsDecided, NamesEachOnce};
+ghost use Rattle.plan_maker.specs.Askable.{IsAskable};
 ghost use Rattle.plan_maker.specs.Beginnings.{IsBeginning, IsLevelOf};
 ghost use Rattle.plan_maker.specs.Found.{IsFound, IsUnderway};
-ghost use Rattle.plan_maker.specs.Orders.{elimination_order as order_of_owners, unknowns_of};
+ghost use Rattle.plan_maker.specs.Orders.{elimination_order as order_of_owners};
 
 use crate::beginnings::{Beginning, is_short};
 use crate::cause::Word;
-use crate::orders::{elimination_order, unknown_count};
+use crate::orders::elimination_order;
 use crate::verdict::Verdict;
-use farkas_cert::narrow::are_narrow_rows;
 use farkas_cert::{Certificate, System};
 use fm_elim::{Advance, Answer, Level, NoMemory};
 use owner_partition::Dist;
@@ -22,21 +22,6 @@ use std::alloc::{AllocError, Global};
 
 /// What is found of a system: a certificate that is good for it, or the word by which it is kept.
 pub(crate) type Found = Verdict<Certificate, Word>;
-
-/// Whether elimination can be asked of a system: its numbers are narrow, and the owners' unknowns are
-/// among its own, of which there are fewer than 2 ^ 32 - 1. Each system of a plan is so.
-pub(crate) fn can_ask(system: &System, dists: &[Dist]) -> bool
-    ensures narrow { IsTrue result → AreNarrow system.now.rows }
-    ensures owners { IsTrue result → unknowns_of dists.now ≤ system.now.vars }
-    ensures room { IsTrue result → system.now.vars < 2 ^ 32 - 1 }
-    ensures few { IsTrue result → length dists.now < 2 ^ 20 }
-    ensures asks { length dists.now < 2 ^ 20 → unknowns_of dists.now ≤ system.now.vars → system.now.vars < 2 ^ 32 - 1 → AreNarrow system.now.rows → IsTrue result }
-{
-    dists.len() < 1 << 20
-        && unknown_count(dists) <= system.vars()
-        && system.vars() < u32::MAX
-        && are_narrow_rows(system.rows())
-}
 
 // A level of a system in this order, from a beginning if there is one.
 fn level_of<'a>(
@@ -158,20 +143,17 @@ fn is_long(beginning: Option<&Beginning>) -> bool {
     }
 }
 
-/// What is found of a system whose owners are dealt so, from a beginning if there is one. Where
-/// elimination can't be asked of it, it is as if memory had run out.
+/// What is found of a system whose owners are dealt so, from a beginning if there is one.
 pub(crate) fn find(
     alloc: Global,
     system: &System,
     dists: &[Dist],
     beginning: Option<&Beginning>,
 ) -> Result<Found, AllocError>
-    requires { IfSome beginning (λ b. IsBeginning b.now) }
+    requires asked { IsAskable system.now dists.now }
+    requires beginning { IfSome beginning (λ b. IsBeginning b.now) }
     ensures { IfOk result (IsFound system.now (order_of_owners system.now.vars dists.now)) }
 {
-    if !can_ask(system, dists) {
-        return Err(AllocError);
-    }
     let order = elimination_order(alloc, system.vars(), dists)?;
     match find_in(alloc, system, order.as_slice(), beginning) {
         Ok(found) => Ok(found),

@@ -2,6 +2,7 @@
 
 ghost use Rattle.std.specs.Prelude.{IfOk, IfSome, IsTrue};
 ghost use Rattle.farkas_cert.specs.Good.{IsGood};
+ghost use Rattle.plan_maker.specs.Askable.{IsAskable};
 ghost use Rattle.plan_maker.specs.Beginnings.{IsBeginning};
 ghost use Rattle.plan_maker.specs.Found.{IsFound};
 ghost use Rattle.plan_maker.specs.Orders.{elimination_order as order_of};
@@ -155,7 +156,8 @@ fn find_anew(
     dists: &[Dist],
     beginning: Option<&Beginning>,
 ) -> Result<Found, AllocError>
-    requires { IfSome beginning (λ b. IsBeginning b.now) }
+    requires asked { IsAskable system.now dists.now }
+    requires beginning { IfSome beginning (λ b. IsBeginning b.now) }
     ensures { IfOk result (IsFound system.now (order_of system.now.vars dists.now)) }
 {
     let found = find(alloc, system, dists, beginning)?;
@@ -202,7 +204,8 @@ impl Findings {
         dists: &[Dist],
         beginning: Option<&Beginning>,
     ) -> Result<Found, AllocError>
-        requires { IfSome beginning (λ b. IsBeginning b.now) }
+        requires asked { IsAskable system.now dists.now }
+        requires beginning { IfSome beginning (λ b. IsBeginning b.now) }
         ensures { IfOk result (IsFound system.now (order_of system.now.vars dists.now)) }
     {
         let hash = shared.hash_of(system);

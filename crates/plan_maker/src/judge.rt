@@ -1,11 +1,14 @@
 // What elimination says of systems one behind another.
 
-ghost use Rattle.std.specs.Prelude.{◌≡◌, [], ◌∷◌, IfOk, IfSome, List, None, OnOk, length, map, take};
-ghost use Rattle.std.specs.List.{flat_map};
+ghost use Rattle.std.specs.Prelude.{◌≡◌, ◌<◌, ◌^◌, [], ◌∷◌, IfOk, IfSome, List, None, OnOk, length, map, take};
+ghost use Rattle.std.specs.List.{All, flat_map};
 ghost use Rattle.nest_tree.specs.View.{tree_of};
 ghost use Rattle.owner_partition.specs.declared.anchor.Dist.{Dist as Dealt};
 ghost use Rattle.comm_system.specs.GroupViews.{group_seen};
+ghost use Rattle.comm_system.specs.SubjectViews.{subject_seen};
+ghost use Rattle.comm_system.specs.declared.group.Group.{Group as HeldGroup};
 ghost use Rattle.comm_system.specs.SystemViews.{obligations_seen};
+ghost use Rattle.plan_maker.specs.Askable.{HasOwners, IsAskable, IsDealtSo};
 ghost use Rattle.plan_maker.specs.Asked.{AreRefuted};
 ghost use Rattle.plan_maker.specs.Beginnings.{IsBeginning, IsPrefix};
 ghost use Rattle.plan_maker.specs.Judged.{IsJudgement, IsVerdict, asked_about, asked_in, cause_for, cause_in, certificates_in};
@@ -70,7 +73,8 @@ fn judge_one(
     beginning: Option<&Beginning>,
     findings: &mut Findings,
 ) -> Result<Verdict<Certificate, Cause>, AllocError>
-    requires { IfSome beginning (λ b. IsBeginning b.now) }
+    requires asked { IsAskable obligation.now.system dists.now }
+    requires beginning { IfSome beginning (λ b. IsBeginning b.now) }
     ensures { IfOk result (IsJudgement (asked_about dists.now obligation.now)) }
 {
     match findings.find(alloc, &obligation.system, shared, dists, beginning)? {
@@ -111,6 +115,8 @@ fn judge_from(
     beginning: Option<&Beginning>,
     findings: &mut Findings,
 ) -> Result<Judged, AllocError>
+    requires few { length dists.now < 2 ^ 20 }
+    requires owners { All (HasOwners dists.now) (obligations_seen systems.old) }
     requires beginning { IfSome beginning (λ b. IsBeginning b.now) }
     requires known { AreRefuted (map (asked_about dists.now) (take (length known.items) (obligations_seen systems.old))) known.items }
     ensures { IfOk result (IsVerdict (map (asked_about dists.now) (obligations_seen systems.old))) }
@@ -141,13 +147,15 @@ fn prefix_of(
     index: usize,
     dists: &[Dist],
 ) -> Result<Option<Prefix>, AllocError>
+    requires few { length dists.now < 2 ^ 20 }
+    requires owners { All (HasOwners dists.now) (obligations_seen systems.now) }
     ensures { IfOk result (λ found. IfSome found IsPrefix) }
 {
-    if index.saturating_add(1) < systems.count() {
-        Prefix::of(alloc, &systems.obligation().system, dists)
-    } else {
-        Ok(None)
+    if index.saturating_add(1) >= systems.count() {
+        return Ok(None);
     }
+    let prefix = Prefix::of(alloc, &systems.obligation().system, dists)?;
+    Ok(Some(prefix))
 }
 
 // The beginning with these rows, if elimination comes so far.
@@ -168,6 +176,8 @@ fn judge_pair(
     dists: &[Dist],
     findings: &mut Findings,
 ) -> Result<Judged, AllocError>
+    requires few { length dists.now < 2 ^ 20 }
+    requires owners { All (HasOwners dists.now) (obligations_seen systems.old) }
     ensures { IfOk result (IsVerdict (map (asked_about dists.now) (obligations_seen systems.old))) }
 {
     let shared = SharedRows::of(&systems.obligation().system, systems.shared());
@@ -189,6 +199,7 @@ fn judge_single(
     dists: &[Dist],
     findings: &mut Findings,
 ) -> Result<Judged, AllocError>
+    requires { IsAskable obligation.now.system dists.now }
     ensures { IfOk result (IsVerdict (asked_about dists.now obligation.now ∷ [])) }
 {
     let shared = SharedRows::of(&obligation.system, 0);
@@ -210,6 +221,8 @@ fn judge_group(
     dists: &[Dist],
     findings: &mut Findings,
 ) -> Result<Judged, AllocError>
+    requires few { length dists.now < 2 ^ 20 }
+    requires dealt { IsDealtSo problem.plan.now dists.now (subject_seen group.now.subject) }
     ensures { IfOk result (IsVerdict (asked_in (tree_of problem.entry.program.now) problem.entry.plan.now dists.now (group_seen group.now))) }
 {
     let number = group.number;
@@ -235,6 +248,8 @@ pub(crate) fn judge_groups(
     dists: &[Dist],
     findings: &mut Findings,
 ) -> Result<Judged, AllocError>
+    requires few { length dists.now < 2 ^ 20 }
+    requires dealt { All (λ (group : HeldGroup). IsDealtSo problem.plan.now dists.now (subject_seen group.subject)) groups.now }
     ensures { IfOk result (IsVerdict (flat_map (asked_in (tree_of problem.entry.program.now) problem.entry.plan.now dists.now) (map group_seen groups.now))) }
 {
     let mut certificates = Vec::new(alloc);

@@ -9,10 +9,12 @@ ghost use Rattle.nest_tree.specs.WellFormed.{IsWellFormed, loops_of};
 ghost use Rattle.sync_plan.specs.declared.plan.Conditions.TheVariants.{Values};
 ghost use Rattle.sync_plan.specs.Fit.{IsFit};
 ghost use Rattle.plan_maker.specs.Bars.{HasLoopReasons, IsLoopReason, all_attempts, is_open, loop_prints, open_loop, open_loops};
-ghost use Rattle.plan_maker.specs.Cut.{cut_asked};
+ghost use Rattle.plan_maker.specs.Cut.{IsTriedCut, cut_asked};
+ghost use Rattle.plan_maker.specs.Asked.{AreRefuted};
 ghost use Rattle.plan_maker.specs.Judged.{IsVerdict};
-ghost use Rattle.plan_maker.specs.Loops.{AreLoopVerdicts, AreOpenBarred, IsLoopVerdict, tried_in};
-ghost use Rattle.plan_maker.specs.Tries.{body_among, nest_body};
+ghost use Rattle.plan_maker.specs.Loops.{AreLoopVerdicts, AreOpenBarred, IsLoopVerdict, loops_asked, marked_asked, tried_in};
+ghost use Rattle.plan_maker.specs.Tries.{body_among, nest_body, tried_at};
+ghost use Rattle.plan_maker.specs.Trials.{HasMoreCertificates};
 
 use crate::cut::cut_of_try;
 use crate::dealt::judge_trips;
@@ -28,7 +30,6 @@ use comm_system::phases::phases;
 use farkas_cert::Certificate;
 use nest_tree::{Nest, Program};
 use owner_partition::{Cut, Mark, StaticPhase};
-use plan_checker::check_fit;
 use std::alloc::{AllocError, Global};
 use sync_plan::{Plan, all_barrier};
 
@@ -130,6 +131,7 @@ fn judge_cut(
 ) -> Result<Judged, AllocError>
     requires formed { IsWellFormed (tree_of program.now) }
     requires limits { IsWithinLimits (tree_of program.now) }
+    requires tried { IsTriedCut (tree_of program.now) cut }
     ensures { IfOk result (IsVerdict (cut_asked (tree_of program.now) cut)) }
 {
     let phases = phases(alloc, program, &cut)?;
@@ -143,31 +145,16 @@ fn judge_cut(
     )
 }
 
-// A plan with this cut in which processor 0 does all. Where it doesn't fit it is as if memory had
-// run out; it fits where no PRINT stands in a loop that is dealt out.
+// A plan with this cut in which processor 0 does all.
 fn serial(alloc: Global, program: &Program, cut: Cut) -> Result<Plan, AllocError>
     requires formed { IsWellFormed (tree_of program.now) }
-    requires limits { IsWithinLimits (tree_of program.now) }
+    requires tried { IsTriedCut (tree_of program.now) cut }
     ensures cut { IfOk result (λ plan. plan.cut ≡ cut) }
     ensures conditions { IfOk result (λ plan. plan.conditions ≡ Values) }
     ensures fits { IfOk result (λ plan. IsFit (tree_of program.now) plan) }
 {
     let anchors = first_processors(alloc, StaticPhase::count(program, &cut))?;
-    let plan = all_barrier(alloc, cut, anchors, 1, Vec::new(alloc))?;
-    fitting(program, plan)
-}
-
-/// The plan, if it fits; else it is as if memory had run out.
-pub(crate) fn fitting(program: &Program, plan: Plan) -> Result<Plan, AllocError>
-    requires formed { IsWellFormed (tree_of program.now) }
-    requires limits { IsWithinLimits (tree_of program.now) }
-    ensures same { IfOk result (λ same. same ≡ plan) }
-    ensures fits { IfOk result (λ plan. IsFit (tree_of program.now) plan) }
-{
-    match check_fit(program, &plan) {
-        Ok(()) => Ok(plan),
-        Err(_) => Err(AllocError),
-    }
+    all_barrier(alloc, cut, anchors, 1, Vec::new(alloc))
 }
 
 /// Of each loop, by which try it may be dealt out.
@@ -248,4 +235,49 @@ pub(crate) fn loop_reasons(
         push_reasons(&mut reasons, mark, verdict)?;
     }
     Ok(reasons)
+}
+
+// The certificates of a loop with this verdict, behind others, where its mark says that it is dealt
+// out.
+fn push_certificates(
+    certificates: &mut Vec<Certificate>,
+    mark: Mark,
+    verdict: LoopVerdict,
+) -> Result<(), AllocError>
+    ensures { (tree : Tree) (number : ℕ) → IsLoopVerdict tree number verdict → OnOk result (HasMoreCertificates (marked_asked tree number mark (tried_in verdict)) certificates.old.items certificates.new.items) }
+{
+    if !mark.is_doall() {
+        return Ok(());
+    }
+    match verdict {
+        Verdict::Refuted(dealt) => {
+            let Dealt {
+                certificates: mut more,
+                ..
+            } = dealt;
+            certificates.append(&mut more)?;
+            Ok(())
+        }
+        Verdict::Kept(_) => Ok(()),
+    }
+}
+
+/// The certificates of two trips of the loops that these marks deal out, in the order of their
+/// phases.
+pub(crate) fn trip_certificates(
+    alloc: Global,
+    marks: &[Mark],
+    verdicts: Vec<LoopVerdict>,
+) -> Result<Vec<Certificate>, AllocError>
+    requires { length verdicts.items ≡ length marks.now }
+    ensures { (tree : Tree) → AreLoopVerdicts tree verdicts.items → IfOk result (λ cs. AreRefuted (loops_asked tree (tried_at (map tried_in verdicts.items)) 1 marks.now) cs.items) }
+{
+    let mut certificates = Vec::new(alloc);
+    let mut place = 0;
+    for verdict in verdicts {
+        let mark = mark_in(marks, place);
+        push_certificates(&mut certificates, mark, verdict)?;
+        place += 1;
+    }
+    Ok(certificates)
 }

@@ -1,30 +1,27 @@
 // The plan of a program.
 
-ghost use Rattle.std.specs.Prelude.{◌≡◌, ◌≤◌, IfOk, [], map};
-ghost use Rattle.std.specs.List.{AllZip, flat_map};
+ghost use Rattle.std.specs.Prelude.{◌≡◌, ◌≤◌, IfOk, []};
+ghost use Rattle.std.specs.List.{AllZip};
 ghost use Rattle.nest_tree.specs.Limits.{IsWithinLimits};
 ghost use Rattle.nest_tree.specs.View.{tree_of};
 ghost use Rattle.nest_tree.specs.WellFormed.{IsWellFormed};
 ghost use Rattle.sync_plan.specs.Barriers.{barrier_plan};
 ghost use Rattle.sync_plan.specs.Fit.{IsFit};
-ghost use Rattle.comm_system.specs.PhaseViews.{phase_seen};
 ghost use Rattle.plan_maker.specs.Anchors.{maker_anchors};
-ghost use Rattle.plan_maker.specs.Asked.{AreRefuted, trips_asked};
+ghost use Rattle.plan_maker.specs.Asked.{AreRefuted, all_trips_asked};
 ghost use Rattle.plan_maker.specs.Bars.{IsLoopReason, IsReasonedCut, all_attempts, open_loops};
+ghost use Rattle.plan_maker.specs.Cut.{cut_asked};
 ghost use Rattle.plan_maker.specs.Made.{IsBarrierPlan, IsMade, with_found};
 ghost use Rattle.plan_maker.specs.Weakest.{IsWeakest};
 
 use crate::anchors::anchors_of;
 use crate::cut::cut_of;
-use crate::dealt::judge_trips;
 use crate::findings::Findings;
-use crate::loops::{dealt_loops, fitting, judge_loops, loop_reasons};
-use crate::numbers::read_certificates;
+use crate::loops::{dealt_loops, judge_loops, loop_reasons, trip_certificates};
+use crate::numbers::read_plan;
 use crate::problem::Problem;
 use crate::reasons::{LoopReason, PhaseReason, Reasons};
 use crate::search::Search;
-use crate::verdict::Verdict;
-use comm_system::phase::Phase;
 use comm_system::phases::phases;
 use farkas_cert::Certificate;
 use nest_tree::{Listed, Program};
@@ -49,15 +46,19 @@ pub fn make(alloc: Global, program: &Program, workers: u32) -> Result<(Plan, Rea
     ensures { IfOk result (λ made. IsMade (tree_of program.now) workers made.0 made.1) }
 {
     let mut findings = Findings::new(alloc)?;
-    let (cut, loops) = make_cut(alloc, program, &mut findings)?;
+    let (cut, loops, trips) = make_cut(alloc, program, &mut findings)?;
     let base = base_plan(alloc, program, cut, workers)?;
+    let problem = Problem {
+        program,
+        plan: &base,
+    };
     let Weakest {
         kinds,
         certificates,
         reasons,
-    } = find_weakest(alloc, program, &base, findings)?;
-    read_certificates(certificates.as_slice());
-    let plan = fitting(program, with(base, kinds, certificates))?;
+    } = find_weakest(alloc, problem, trips, findings)?;
+    let plan = with(base, kinds, certificates);
+    read_plan(&plan);
     let reasons = Reasons {
         loops,
         phases: reasons,
@@ -75,17 +76,11 @@ pub fn make_barrier(alloc: Global, program: &Program, workers: u32) -> Result<Pl
     ensures { IfOk result (IsBarrierPlan (tree_of program.now) workers) }
 {
     let mut findings = Findings::new(alloc)?;
-    let (cut, _loops) = make_cut(alloc, program, &mut findings)?;
+    let (cut, _loops, certificates) = make_cut(alloc, program, &mut findings)?;
     let base = base_plan(alloc, program, cut, workers)?;
-    let phases = phases(alloc, program, &base.cut)?;
-    let problem = Problem {
-        program,
-        plan: &base,
-    };
-    let certificates = trip_certificates(alloc, problem, phases.as_slice(), &mut findings)?;
-    read_certificates(certificates.as_slice());
     let Plan { cut, anchors, .. } = base;
     let plan = all_barrier(alloc, cut, anchors.into_vec(), workers, certificates)?;
+    read_plan(&plan);
     Ok(plan)
 }
 
@@ -95,46 +90,34 @@ fn base_plan(alloc: Global, program: &Program, cut: Cut, workers: u32) -> Result
     requires formed { IsWellFormed (tree_of program.now) }
     requires limits { IsWithinLimits (tree_of program.now) }
     requires some { 1 ≤ workers }
+    requires few { workers ≤ 64 }
+    requires reasoned { IsReasonedCut (tree_of program.now) cut }
     ensures same { IfOk result (λ plan. plan ≡ barrier_plan cut (maker_anchors (tree_of program.now) cut.marks workers) workers []) }
     ensures fits { IfOk result (λ plan. IsFit (tree_of program.now) plan) }
 {
     let anchors = anchors_of(alloc, program, &cut, workers)?;
-    let plan = all_barrier(alloc, cut, anchors, workers, Vec::new(alloc))?;
-    fitting(program, plan)
+    all_barrier(alloc, cut, anchors, workers, Vec::new(alloc))
 }
 
-// Certificates of the systems of two trips of the Doall loops among these phases of a plan. Where
-// one is kept, it is as if memory had run out.
-fn trip_certificates(
-    alloc: Global,
-    problem: Problem,
-    phases: &[Phase],
-    findings: &mut Findings,
-) -> Result<Vec<Certificate>, AllocError>
-    ensures { IfOk result (λ cs. AreRefuted (flat_map (trips_asked (tree_of problem.entry.program.now) problem.entry.plan.now) (map phase_seen phases.now)) cs.items) }
-{
-    match judge_trips(alloc, problem, phases, findings)? {
-        Verdict::Refuted(certificates) => Ok(certificates),
-        Verdict::Kept(_) => Err(AllocError),
-    }
-}
-
-// Which loops are what, and why those that are Outer or Single aren't dealt out.
+// Which loops are what, why those that are Outer or Single aren't dealt out, and the certificates of
+// two trips of those that are.
 fn make_cut(
     alloc: Global,
     program: &Program,
     findings: &mut Findings,
-) -> Result<(Cut, Vec<LoopReason>), AllocError>
+) -> Result<(Cut, Vec<LoopReason>, Vec<Certificate>), AllocError>
     requires formed { IsWellFormed (tree_of program.now) }
     requires limits { IsWithinLimits (tree_of program.now) }
     ensures reasoned { IfOk result (λ made. IsReasonedCut (tree_of program.now) made.0) }
     ensures loops { IfOk result (λ made. AllZip (IsLoopReason (tree_of program.now)) (all_attempts (tree_of program.now) (open_loops 1 made.0.marks)) made.1.items) }
+    ensures certificates { IfOk result (λ made. AreRefuted (cut_asked (tree_of program.now) made.0) made.2.items) }
 {
     let verdicts = judge_loops(alloc, program, findings)?;
     let tries = dealt_loops(alloc, verdicts.as_slice())?;
     let cut = cut_of(alloc, program, tries.as_slice())?;
     let loops = loop_reasons(alloc, cut.as_slice(), verdicts.as_slice())?;
-    Ok((cut, loops))
+    let certificates = trip_certificates(alloc, cut.as_slice(), verdicts)?;
+    Ok((cut, loops, certificates))
 }
 
 // The plan with these kinds and certificates.
@@ -152,24 +135,22 @@ fn with(plan: Plan, kinds: Vec<Kind>, certificates: Vec<Certificate>) -> Plan
     }
 }
 
-// The weakest kinds in front of the phases of a plan that fits.
+// The weakest kinds in front of the phases of a plan, behind certificates of two trips of them.
 fn find_weakest(
     alloc: Global,
-    program: &Program,
-    plan: &Plan,
+    problem: Problem,
+    trips: Vec<Certificate>,
     findings: Findings,
 ) -> Result<Weakest, AllocError>
-    requires formed { IsWellFormed (tree_of program.now) }
-    requires fits { IsFit (tree_of program.now) plan.now }
-    ensures { IfOk result (IsWeakest (tree_of program.now) plan.now) }
+    requires formed { IsWellFormed (tree_of problem.program.now) }
+    requires fits { IsFit (tree_of problem.program.now) problem.plan.now }
+    requires trips { AreRefuted (all_trips_asked (tree_of problem.program.now) problem.plan.now) trips.items }
+    ensures { IfOk result (IsWeakest (tree_of problem.entry.program.now) problem.entry.plan.now) }
 {
-    let phases = phases(alloc, program, &plan.cut)?;
-    let problem = Problem { program, plan };
-    let mut findings = findings;
-    let certificates = trip_certificates(alloc, problem, phases.as_slice(), &mut findings)?;
+    let phases = phases(alloc, problem.program, &problem.plan.cut)?;
     let mut search = Search::new(alloc, problem, phases.as_slice(), findings)?;
     let reasons = search.settle_all(alloc)?;
-    let (kinds, certificates) = search.finish(alloc, certificates)?;
+    let (kinds, certificates) = search.finish(alloc, trips)?;
     Ok(Weakest {
         kinds,
         certificates,

@@ -9,9 +9,9 @@ ghost use Rattle.plan_maker.specs.Tries.{body_among, body_at, body_in, nest_body
 
 use nest_tree::{Item, Nest, Program};
 
-// The loop with this number, from 1, among these statements, if it stands there.
+/// The loop with this number, from 1, among these statements, if it stands there.
 #[cycle(nest)]
-fn nest_among(items: &[Item], number: u32) -> Option<&Nest>
+pub(crate) fn nest_among(items: &[Item], number: u32) -> Option<&Nest>
     ensures body { option_map nest_body (option_copied result) ≡ body_among number (statements_from items.now) }
     ensures number { IfSome result (λ nest. nest.now.number ≡ number) }
 {

@@ -1,10 +1,86 @@
-// The numbers of certificates.
+// The numbers of plans.
 
-ghost use Rattle.std.specs.Prelude.{IsTrue};
+ghost use Rattle.std.specs.Prelude.{IsTrue, length};
 ghost use Rattle.std.specs.List.{list_all};
-ghost use Rattle.plan_maker.specs.Numbers.{is_certificate_shown, is_step_shown, is_term_shown};
+ghost use Rattle.plan_maker.specs.Numbers.{IsShown, are_privates_shown, is_32, is_64, is_anchor_shown, is_certificate_shown, is_dist_shown, is_kind_shown, is_pair_shown, is_step_shown, is_term_shown};
 
 use farkas_cert::{Certificate, Step};
+use owner_partition::{Anchor, Dist, Privates};
+use sync_plan::{Kind, Plan};
+
+// Reads pairs of a form: the numbers of what it names are within the bounds of their type.
+fn read_pairs(pairs: &[(u32, i64)])
+    ensures { IsTrue (list_all is_pair_shown pairs.now) }
+{
+    for pair in pairs {
+        let (_number, _coefficient) = *pair;
+    }
+}
+
+// Reads how places are dealt.
+fn read_dist(dist: Dist)
+    ensures { IsTrue (is_dist_shown dist) }
+{
+    match dist {
+        Dist::Block(_length) => {}
+        Dist::Cyclic => {}
+    }
+}
+
+// Reads an anchor.
+fn read_anchor(anchor: &Anchor)
+    ensures { IsTrue (is_anchor_shown anchor.now) }
+{
+    read_pairs(anchor.form.loops());
+    read_pairs(anchor.form.params());
+    read_dist(anchor.dist);
+}
+
+// Reads anchors.
+fn read_anchors(anchors: &[Anchor])
+    ensures { IsTrue (list_all is_anchor_shown anchors.now) }
+{
+    for anchor in anchors {
+        read_anchor(anchor);
+    }
+}
+
+// Reads a kind.
+fn read_kind(kind: &Kind)
+    ensures { IsTrue (is_kind_shown kind.now) }
+{
+    match kind {
+        Kind::Producer(anchor) => read_anchor(anchor),
+        Kind::Nothing | Kind::Left | Kind::Right | Kind::Both | Kind::Barrier | Kind::Join => {}
+    }
+}
+
+// Reads kinds.
+fn read_kinds(kinds: &[Kind])
+    ensures { IsTrue (list_all is_kind_shown kinds.now) }
+{
+    for kind in kinds {
+        read_kind(kind);
+    }
+}
+
+// Reads private scalars.
+fn read_scalars(scalars: &[u32])
+    ensures { IsTrue (list_all is_32 scalars.now) }
+{
+    for scalar in scalars {
+        let _scalar = *scalar;
+    }
+}
+
+// Reads the private scalars of loops.
+fn read_privates(lists: &[Privates])
+    ensures { IsTrue (list_all are_privates_shown lists.now) }
+{
+    for list in lists {
+        read_scalars(list.as_slice());
+    }
+}
 
 // Reads the terms of a step: their numbers are within the bounds of their types.
 fn read_terms(terms: &[(u64, i128)])
@@ -25,11 +101,23 @@ fn read_steps(steps: &[Step])
     }
 }
 
-/// Reads certificates: that each number is within the bounds of its type is known of what is read.
-pub(crate) fn read_certificates(certificates: &[Certificate])
-    ensures { IsTrue (list_all is_certificate_shown certificates.now) }
+// Reads certificates.
+fn read_certificates(certificates: &[Certificate])
+    ensures count { IsTrue (is_64 (length certificates.now)) }
+    ensures shown { IsTrue (list_all is_certificate_shown certificates.now) }
 {
+    let _count = certificates.len();
     for certificate in certificates {
         read_steps(certificate.steps.as_slice());
     }
+}
+
+/// Reads a plan: that each number is within the bounds of its type is known of what is read.
+pub(crate) fn read_plan(plan: &Plan)
+    ensures { IsShown plan.now }
+{
+    read_anchors(plan.anchors.as_slice());
+    read_kinds(plan.kinds.as_slice());
+    read_privates(plan.cut.privates());
+    read_certificates(plan.certificates.as_slice());
 }

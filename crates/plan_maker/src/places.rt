@@ -1,6 +1,6 @@
 // Places along a distributed dimension, and how they are dealt.
 
-ghost use Rattle.std.specs.Prelude.{◌≡◌, ◌≤◌, ◌-ℤ◌, IfOk, IfSome, IsTrue, if◌then◌else◌, Some, None, slice_get};
+ghost use Rattle.std.specs.Prelude.{◌≡◌, ◌≤◌, ◌-ℤ◌, IfOk, IfSome, IsTrue, if◌then◌else◌, Some, None, replicate, slice_get};
 ghost use Rattle.std.specs.Option.{option_copied};
 ghost use Rattle.nest_tree.specs.Form.{is_form, is_small};
 ghost use Rattle.nest_tree.specs.Layout.{count_of, extent};
@@ -74,6 +74,16 @@ pub(crate) fn extent(low: i128, high: i128) -> Option<u128>
     Some(count_of(places))
 }
 
+/// How many places there are from one number of 64 bits to another.
+pub(crate) fn extent_between(low: i64, high: i64) -> u128
+    ensures { result ≡ extent (low, high) }
+{
+    match extent(i128::from(low), i128::from(high)) {
+        Some(places) => places,
+        None => unreachable!(),
+    }
+}
+
 /// So many places in equal blocks, or in turn where a block would have more than 2147483647.
 pub(crate) fn in_blocks(workers: u32, places: u128) -> Dist
     requires { 1 ≤ workers }
@@ -99,7 +109,9 @@ pub(crate) fn dealt_as(spread: Spread, workers: u32, places: u128) -> Dist
 }
 
 /// So many anchors to processor 0.
-pub(crate) fn first_processors(alloc: Global, count: u32) -> Result<Vec<Anchor>, AllocError> {
+pub(crate) fn first_processors(alloc: Global, count: u32) -> Result<Vec<Anchor>, AllocError>
+    ensures { IfOk result (λ anchors. anchors.items ≡ replicate count first_processor) }
+{
     let mut anchors = Vec::new(alloc);
     for _ in 0..count {
         anchors.push(first_processor(alloc))?;

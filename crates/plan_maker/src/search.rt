@@ -1,6 +1,6 @@
 // The search for the weakest kinds in front of the phases of a plan.
 
-ghost use Rattle.std.specs.Prelude.{◌≡◌, ◌+◌, ◌<◌, ◌^◌, IfOk, IfSome, IsTrue, None, OnOk, false, length, map, slice_index_or, slice_set, true};
+ghost use Rattle.std.specs.Prelude.{◌≡◌, ◌+◌, ◌<◌, ◌^◌, IfOk, IfSome, IsTrue, None, OnOk, false, length, map, slice_index_or, true};
 ghost use Rattle.std.specs.List.{AllZip, filter, list_all, sum};
 ghost use Rattle.nest_tree.specs.View.{tree_of};
 ghost use Rattle.comm_system.specs.Obligations.{slots_of};

@@ -1,9 +1,11 @@
 //! How a loop may be dealt out.
 
 ghost use Rattle.std.specs.Prelude.{◌≡◌, IfOk};
-ghost use Rattle.plan_maker.specs.Tries.{has_few_sums, has_no_privates, is_admitted, nest_body, tried_at, tried_mark, tried_privates, tries_of};
+ghost use Rattle.nest_tree.specs.View.{tree_of};
+ghost use Rattle.plan_maker.specs.Tries.{all_tries, body_among, has_few_sums, has_no_privates, is_admitted, nest_body, tried_at, tried_mark, tried_privates, tries_at as tries_for, tries_of};
 
-use nest_tree::{Listed, Nest};
+use crate::nests::{have_print, nest_among};
+use nest_tree::{Listed, Nest, Program};
 use own_scalars::{private_scalars, sum_scalars};
 use owner_partition::{Mark, Privates};
 use std::alloc::{AllocError, Global};
@@ -86,6 +88,29 @@ pub(crate) fn tries_of(alloc: Global, nest: &Nest) -> Result<Vec<Tried>, AllocEr
         .copied()
         .filter(|tried| tried.is_admitted(nest))
         .collect(alloc)
+}
+
+// The same; of a loop with a PRINT nothing but Doall.
+fn all_tries(alloc: Global, nest: &Nest) -> Result<Vec<Tried>, AllocError>
+    ensures { IfOk result (λ tries. tries.items ≡ all_tries (nest_body nest.now)) }
+{
+    if have_print(&nest.items) {
+        let mut tries = Vec::new(alloc);
+        tries.push(Tried::Doall)?;
+        return Ok(tries);
+    }
+    tries_of(alloc, nest)
+}
+
+/// What is tried of the loop with this number, from 1, in order: of one with a PRINT nothing but
+/// Doall, and nothing where there is no such loop. The error is that memory ran out.
+pub fn tries_at(alloc: Global, program: &Program, number: u32) -> Result<Vec<Tried>, AllocError>
+    ensures { IfOk result (λ tries. tries.items ≡ tries_for (body_among number (tree_of program.now).items)) }
+{
+    match nest_among(&program.items, number) {
+        Some(nest) => all_tries(alloc, nest),
+        None => Ok(Vec::new(alloc)),
+    }
 }
 
 /// The try by which the loop with this number, from 1, is dealt out; none where it isn't.

@@ -1,15 +1,17 @@
 use Rattle.std.proofs.Common.{rules, ◌≡◌, ◌+◌, ◌<◌, List, Some, get_or, slice_get, length, map, take, ap, refl, sym, ◌∙◌, subst, arith}
 use Rattle.std.proofs.lemmas.List.{take_all}
 use Rattle.std.proofs.lemmas.Option.{get_or_from_slice_get}
+use Rattle.farkas_cert.specs.declared.certificate.Certificate.{Certificate}
 use Rattle.comm_system.specs.declared.obligation.Obligation.{Obligation}
 use Rattle.comm_system.specs.SystemViews.{last_made, obligations_seen}
 use Rattle.plan_maker.specs.Asked.{AreRefuted}
 use Rattle.plan_maker.specs.Judged.{IsJudgement, asked_about}
-use Rattle.farkas_cert.specs.declared.certificate.Certificate.{Certificate}
 use Rattle.plan_maker.specs.declared.cause.Cause.{Cause}
 use Rattle.plan_maker.specs.declared.verdict.Verdict.{Verdict}
 use Rattle.plan_maker.specs.declared.verdict.Verdict.TheVariants.{Refuted, Kept}
+use Rattle.plan_maker.specs.Askable.{HasOwners}
 use Rattle.plan_maker.proofs.Questions.{map_kept, map_more}
+use Rattle.plan_maker.proofs.Askable.{one_has}
 use Rattle.plan_maker.proofs.judge.judge_from.Goals as goal
 
 pub loop-index-init : goal.loop-index-init
@@ -56,3 +58,17 @@ returns c =
     let os = obligations_seen c.args.systems.now in
     let i = c.loop-index.index in
     subst (λ (xs : List Obligation). AreRefuted (map ask xs) c.loop-index.certificates.items) (take_all i os (omega (arith, c.loop-index-test.false, c.count-index-end.ensures))) c.loop-index.invariant.refuted
+
+pub judge_one-requires-clause-asked : goal.judge_one-requires-clause-asked
+judge_one-requires-clause-asked c =
+    let os = obligations_seen c.args.systems.now in
+    let i = c.loop-index.index in
+    let o = last_made c.make.new.self in
+    let same = c.in_ok-make.ensures.same ∙ c.loop-index.invariant.same in
+    let at : slice_get os i ≡ Some o = ap (λ xs. slice_get xs i) (sym same) ∙ c.in_ok-make.ensures.made in
+    record {
+      narrow = c.obligation.ensures.narrow;
+      owners = subst (HasOwners c.args.dists.now) (sym c.obligation.ensures.made) (one_has c.args.dists.now os i o at c.requires.owners);
+      room = c.obligation.ensures.few;
+      few = c.requires.few;
+    }

@@ -8,8 +8,10 @@ use Rattle.owner_partition.specs.declared.anchor.Dist.{Dist}
 use Rattle.sync_plan.specs.declared.plan.Plan.{Plan}
 use Rattle.comm_system.specs.GroupViews.{group_seen}
 use Rattle.comm_system.specs.declared.group.Group.{Group}
+use Rattle.comm_system.specs.SubjectViews.{subject_seen}
 use Rattle.plan_maker.specs.Asked.{AreRefuted, Asked, IsCause}
 use Rattle.plan_maker.specs.Judged.{IsVerdict, asked_in}
+use Rattle.plan_maker.specs.Askable.{IsDealtSo}
 use Rattle.plan_maker.proofs.Questions.{flat_kept, flat_more}
 use Rattle.plan_maker.proofs.judge.judge_groups.Goals as goal
 
@@ -45,3 +47,8 @@ returns c =
     let dists = c.args.dists.now in
     let i = c.loop-group.group-index in
     subst (λ qs. AreRefuted qs c.loop-group.certificates.items) (ap (flat_map (ask tree plan dists)) (take_all i c.args.groups.now c.loop-group-test.false) ∙ sym (flat_map-map (asked_in tree plan dists) group_seen c.args.groups.now)) c.loop-group.invariant
+
+pub judge_group-requires-clause-dealt : goal.judge_group-requires-clause-dealt
+judge_group-requires-clause-dealt c =
+    let x = c.group-item.result in
+    subst (λ (g : Group). IsDealtSo c.args.problem.plan.now c.args.dists.now (subject_seen g.subject)) (sym c.group-item.is) (c.requires.dealt c.loop-group.group-index x c.loop-group-test.true)

@@ -1,9 +1,12 @@
-use Rattle.std.proofs.Common.{◌≡◌, length, map, ap, sym, ◌∙◌, subst}
+use Rattle.std.proofs.Common.{◌≡◌, List, length, map, ap, sym, ◌∙◌, subst}
 use Rattle.nest_tree.specs.View.{tree_of}
+use Rattle.owner_partition.specs.declared.cut.Mark.{Mark}
+use Rattle.plan_maker.specs.Asked.{AreRefuted}
 use Rattle.plan_maker.specs.Cut.{cut_of}
-use Rattle.plan_maker.specs.Loops.{AreOpenBarred, tried_in}
+use Rattle.plan_maker.specs.Loops.{AreOpenBarred, loops_asked, tried_in}
 use Rattle.plan_maker.specs.Marks.{marks_of}
 use Rattle.plan_maker.specs.Tries.{tried_at}
+use Rattle.plan_maker.proofs.LoopTrips.{trips_laid}
 use Rattle.plan_maker.proofs.Made.{reasoned}
 use Rattle.plan_maker.proofs.Marked.{marks_count, open_are_barred}
 use Rattle.plan_maker.proofs.maker.make_cut.Goals as goal
@@ -34,3 +37,20 @@ returns-clause-reasoned c =
     let a = (goal.at.returns-clause-reasoned c).In_ok-cut in
     let tree = tree_of c.args.program.now in
     reasoned tree c.in_ok-verdicts.verdicts.items c.in_ok-cut.cut c.in_ok-verdicts.ensures.long c.in_ok-verdicts.ensures.verdicts (cut-is a)
+
+pub trip_certificates-requires : goal.trip_certificates-requires
+trip_certificates-requires c =
+    let a = (goal.at.trip_certificates-requires c).In_ok-cut in
+    let tree = tree_of c.args.program.now in
+    c.in_ok-verdicts.ensures.long ∙ sym (ap length (c.as_slice-5.ensures ∙ marks-are a) ∙ marks_count (tried_at (map tried_in c.in_ok-verdicts.verdicts.items)) tree.items)
+
+pub returns-clause-certificates : goal.returns-clause-certificates
+returns-clause-certificates c =
+    let a = (goal.at.returns-clause-certificates c).In_ok-cut in
+    let tree = tree_of c.args.program.now in
+    let vs = c.in_ok-verdicts.verdicts.items in
+    let dealt = tried_at (map tried_in vs) in
+    let cut = c.in_ok-cut.cut in
+    let certificates = c.in_ok-certificates.certificates.items in
+    let here = subst (λ (marks : List Mark). AreRefuted (loops_asked tree dealt 1 marks) certificates) c.as_slice-5.ensures (c.in_ok-certificates.ensures tree c.in_ok-verdicts.ensures.verdicts) in
+    subst (λ qs. AreRefuted qs certificates) (sym (trips_laid tree dealt cut c.requires.formed (cut-is a))) here

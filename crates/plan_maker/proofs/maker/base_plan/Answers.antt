@@ -1,0 +1,21 @@
+use Rattle.std.proofs.Common.{ap, sym, ◌∙◌, subst}
+use Rattle.std.proofs.lemmas.Result.{IfOk-weaker}
+use Rattle.nest_tree.specs.View.{tree_of}
+use Rattle.sync_plan.specs.Barriers.{barrier_plan}
+use Rattle.sync_plan.specs.Fit.{IsFit}
+use Rattle.sync_plan.specs.Shape.{static_phases}
+use Rattle.plan_maker.proofs.AnchorsFit.{AreFineAnchors, barrier_fits, made-all}
+use Rattle.plan_maker.proofs.CutFits.{cut_fits}
+use Rattle.plan_maker.proofs.TriedCuts.{reasoned_tried}
+use Rattle.plan_maker.proofs.maker.base_plan.Goals as goal
+
+pub returns-clause-fits : goal.returns-clause-fits
+returns-clause-fits c =
+    let tree = tree_of c.args.program.now in
+    let cut = c.args.cut in
+    let workers = c.args.workers in
+    let text = static_phases tree cut.marks in
+    let anchors = c.in_ok-anchors.anchors.items in
+    let fine = subst (AreFineAnchors tree cut.marks workers 1 text) (sym c.in_ok-anchors.ensures) (made-all tree cut.marks workers 1 text) in
+    let fits = barrier_fits tree cut anchors workers (cut_fits tree cut c.requires.formed (reasoned_tried tree cut c.requires.formed c.requires.reasoned)) fine c.requires.some c.requires.few in
+    IfOk-weaker c.all_barrier.result _ (IsFit tree) (λ plan is. subst (IsFit tree) (sym (is ∙ ap (barrier_plan cut anchors workers) c.new.ensures.items)) fits) c.all_barrier.ensures

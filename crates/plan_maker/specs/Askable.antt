@@ -1,0 +1,26 @@
+-- Systems of which elimination can be asked.
+use Rattle.std.specs.Prelude.{◌≡◌, ◌-◌, ◌≤◌, ◌<◌, ◌^◌, List, [], length}
+use Rattle.farkas_cert.specs.Inequalities.{Inequalities}
+use Rattle.farkas_cert.specs.Narrow.{AreNarrow}
+use Rattle.owner_partition.specs.declared.anchor.Dist.{Dist}
+use Rattle.sync_plan.specs.declared.plan.Plan.{Plan}
+use Rattle.comm_system.specs.Subjects.{Subject, of_slot, of_trips}
+use Rattle.comm_system.specs.declared.obligation.Obligation.{Obligation}
+use Rattle.plan_maker.specs.Asked.{owners_dealt}
+use Rattle.plan_maker.specs.Orders.{unknowns_of}
+
+-- a system whose owners are dealt so: its numbers are narrow, and the owners' unknowns are among its own, of which there are fewer than 2 ^ 32 - 1
+pub record IsAskable (system : Inequalities) (dists : List Dist) : Type 0 where
+  pub narrow : AreNarrow system.rows
+  pub owners : unknowns_of dists ≤ system.vars
+  pub room : system.vars < 2 ^ 32 - 1
+  pub few : length dists < 2 ^ 20
+
+-- the unknowns of owners that are dealt so are among those of an obligation
+abbrev pub HasOwners : List Dist → Obligation → Type 0
+HasOwners dists o = unknowns_of dists ≤ o.system.vars
+
+-- the owners of what a subject asks are dealt so: two trips have none
+abbrev pub IsDealtSo : Plan → List Dist → Subject → Type 0
+IsDealtSo plan dists (of_trips s pair) = dists ≡ []
+IsDealtSo plan dists (of_slot slot left right producers pair) = dists ≡ owners_dealt plan slot producers
