@@ -2,6 +2,8 @@
 //! no weaker kind stands in front of a phase.
 #![tactic(auto)]
 
+mod laws;
 mod write;
 
+pub use laws::made_text;
 pub use write::push_reasons;

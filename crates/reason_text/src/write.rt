@@ -1,6 +1,6 @@
 // The text of reasons, written.
 
-ghost use Rattle.std.specs.Prelude.{◌≡◌, ◌++◌, ◌∷◌, [], OnOk, codes, map};
+ghost use Rattle.std.specs.Prelude.{◌≡◌, ◌++◌, ◌∷◌, [], OnOk, map};
 ghost use Rattle.std.specs.Fmt.{decimal};
 ghost use Rattle.nest_tree.specs.View.{tree_of};
 ghost use Rattle.plan_text.specs.PlanText.{text_of};

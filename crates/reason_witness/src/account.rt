@@ -21,7 +21,7 @@ use nest_tree::Program;
 use owner_partition::Mark;
 use plan_checker::{PlanRefusal, check_fit};
 use plan_maker::reasons::{Bar, PhaseReason, Reasons};
-use plan_maker::tries::Tried;
+use plan_maker::tries::{Tried, tries_at};
 use plan_maker::{anchors_of, cut_of_try, make};
 use std::alloc::{AllocError, Global};
 use sync_plan::{Kind, Plan, all_barrier};
@@ -116,27 +116,35 @@ impl Asked {
         Ok(Asked { loops, phases })
     }
 
-    // Of a plan that is given all loops that aren't dealt out, as Doall ones, and all weaker kinds.
-    fn of_given(alloc: Global, plan: &Plan, phases: &[Phase]) -> Result<Asked, AllocError> {
+    // Of a plan that is given all tries of the loops that aren't dealt out, and all weaker kinds.
+    fn of_given(
+        alloc: Global,
+        program: &Program,
+        plan: &Plan,
+        phases: &[Phase],
+    ) -> Result<Asked, AllocError> {
         let wanted = Wanted::First;
         let mut loops = Vec::new(alloc);
         let mut number = 0u32;
         for mark in plan.cut.as_slice() {
             number = number.saturating_add(1);
             if matches!(mark, Mark::Outer | Mark::Single) {
-                loops.push(Serial {
-                    number,
-                    tried: Tried::Doall,
-                    wanted,
-                })?;
+                let tries = tries_at(alloc, program, number)?;
+                for &tried in tries.as_slice() {
+                    loops.push(Serial {
+                        number,
+                        tried,
+                        wanted,
+                    })?;
+                }
             }
         }
-        let mut tried = Vec::new(alloc);
+        let mut weaker = Vec::new(alloc);
         let mut phase = 0u32;
         for place in 0..phases.len() {
             phase = phase.saturating_add(1);
             for kind in weaker_kinds(alloc, plan, phases, place)? {
-                tried.push(Candidate {
+                weaker.push(Candidate {
                     phase,
                     kind,
                     wanted,
@@ -145,7 +153,7 @@ impl Asked {
         }
         Ok(Asked {
             loops,
-            phases: tried,
+            phases: weaker,
         })
     }
 }
@@ -368,7 +376,7 @@ pub fn given_account(alloc: Global, program: &Program, plan: Plan) -> Result<Acc
     ensures reasons { IfOk result (AreReasons (tree_of program.now)) }
 {
     let all_phases = phases(alloc, program, &plan.cut)?;
-    let asked = Asked::of_given(alloc, &plan, all_phases.as_slice())?;
+    let asked = Asked::of_given(alloc, program, &plan, all_phases.as_slice())?;
     let reasons = reasons_of(alloc, program, &plan, asked)?;
     Ok(Account { plan, reasons })
 }
