@@ -1,6 +1,6 @@
 // All workers of a plan, on threads.
 
-ghost use Rattle.std.specs.Prelude.{◌≡◌, ◌≤◌, true, IfOk, OnOk, Some, length};
+ghost use Rattle.std.specs.Prelude.{◌≡◌, true, IfOk, OnOk, Some};
 ghost use Rattle.nest_tree.specs.Limits.{IsWithinLimits};
 ghost use Rattle.nest_tree.specs.View.{tree_of};
 ghost use Rattle.nest_tree.specs.WellFormed.{IsWellFormed};

@@ -1,6 +1,6 @@
 // The turns of a worker, one after another.
 
-ghost use Rattle.std.specs.Prelude.{◌≡◌, ◌≤◌, ◌<◌, ◌↔◌, ◌≢◌, true, false, [], ℕ, length, Option, IfSome};
+ghost use Rattle.std.specs.Prelude.{◌≡◌, ◌≤◌, ◌<◌, ◌≢◌, true, false, [], length, Option};
 
 use crate::deeds::SharedDeeds;
 use crate::laws::laws_of;
@@ -43,7 +43,7 @@ impl<'a> Walk<'a> {
     ghost use Rattle.spmd_turns.specs.Rooms.{visit_room};
     ghost use Rattle.spmd_turns.specs.Turns.{boundary_at};
     ghost use Rattle.spmd_turns.specs.declared.turns.Boundary.{Boundary};
-    ghost use Rattle.styled_turns.specs.StyledLeft.{IsAtCounter, beginnings_left, styled_left, styled_own, styled_place, styled_plan, styled_rounds, styled_tree};
+    ghost use Rattle.styled_turns.specs.StyledLeft.{beginnings_left, styled_left, styled_own, styled_place, styled_plan, styled_rounds, styled_tree};
     ghost use Rattle.styled_turns.specs.declared.turns.StyledNext.{StyledNext};
     ghost use Rattle.styled_table.specs.Homes.{protocol_at};
     ghost use Rattle.styled_run.specs.OwnPlaces.{AreKnown};

@@ -1,6 +1,6 @@
 // The rounds of a barrier by signals.
 
-ghost use Rattle.std.specs.Prelude.{◌≡◌, ◌≤◌, ◌<◌, ◌^◌};
+ghost use Rattle.std.specs.Prelude.{◌≡◌, ◌≤◌, ◌<◌};
 ghost use Rattle.spmd_model.specs.Rounds.{awaited_in_round, rounds_of};
 
 /// How many rounds a barrier of so many processors has, 0 to 6: the least number that reaches all.
