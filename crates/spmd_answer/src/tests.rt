@@ -324,7 +324,16 @@ const JACOBI: [&str; 13] = [
     "      END",
 ];
 
-const MADE: [Made; 7] = [
+/// Elements three apart and seven apart: the two never meet, though between whole numbers they do.
+const GAP: [&str; 5] = [
+    "      INTEGER A(30)",
+    "      DO 10 I = 1, 4",
+    "   10 A(3*I) = A(7*I+1) + I",
+    "      PRINT *, A(3), A(12)",
+    "      END",
+];
+
+const MADE: [Made; 8] = [
     Made {
         source: &["      PROGRAM E", "      END"],
         workers: 1,
@@ -358,6 +367,13 @@ const MADE: [Made; 7] = [
         front: "SPMD PLAN 2\nWORKERS 4\nLOOPS 1\n1 SINGLE\nPHASES 2\n1 NOTHING AT 0 CYCLIC\n2 NOTHING AT 0 CYCLIC\nCERTIFICATES ",
         reasons: "END PLAN\nLOOP 1 NOT DOALL LINES 3 3 NAME A OPEN\nEND REASONS\n",
         output: "END PLAN\n 4\n",
+    },
+    Made {
+        source: &GAP,
+        workers: 2,
+        front: "SPMD PLAN 2\nWORKERS 2\nLOOPS 1\n1 DOALL\nPHASES 2\n1 NOTHING AT -1 3*L1 BLOCK 15\n2 NOTHING AT 0 CYCLIC\nCERTIFICATES ",
+        reasons: "END PLAN\nEND REASONS\n",
+        output: "END PLAN\n 1 4\n",
     },
     Made {
         source: &[
@@ -427,7 +443,14 @@ macro_rules! forward {
 }
 
 /// Programs with more systems, and larger ones.
-const LARGER: [Made; 3] = [
+const LARGER: [Made; 4] = [
+    Made {
+        source: &GAP,
+        workers: 4,
+        front: "SPMD PLAN 2\nWORKERS 4\nLOOPS 1\n1 DOALL\nPHASES 2\n1 NOTHING AT -1 3*L1 BLOCK 8\n2 RIGHT AT 0 CYCLIC\nCERTIFICATES ",
+        reasons: "END PLAN\nPHASE 2 NOT NOTHING LINES 3 4 NAME A LEVEL 0 PIECE 2 OPEN\nPHASE 2 NOT PRODUCER 0 CYCLIC LINES 3 4 NAME A LEVEL 0 PIECE 4 OPEN\nPHASE 2 NOT LEFT LINES 3 4 NAME A LEVEL 0 PIECE 2 OPEN\nEND REASONS\n",
+        output: "END PLAN\n 1 4\n",
+    },
     Made {
         source: &JACOBI,
         workers: 2,
