@@ -17,6 +17,18 @@ STATEMENTS = (
 OTHER_TYPES = "REAL DOUBLEPRECISION COMPLEX LOGICAL CHARACTER".split()
 LABELLED = "DO 10 I = 1, N closes with a line 10 CONTINUE, its label in columns 1 to 5"
 ONE_IF = "an IF does one assignment, IF (I .LT. 5) K = I: give each assignment an IF of its own"
+REPLACED = {
+    "MOD": "MOD(I, 2) is I - 2*(I/2)", "MODULO": "MODULO(I, 2) is I - 2*(I/2) where I is not below 0",
+    "ABS": "ABS(K) is MAX(K, -K)", "IABS": "IABS(K) is MAX(K, -K)", "IDIM": "IDIM(K, L) is MAX(K - L, 0)", "DIM": "DIM(K, L) is MAX(K - L, 0)",
+    "MAX0": "MAX0 is MAX", "MIN0": "MIN0 is MIN", "AMAX1": "AMAX1 is MAX", "AMIN1": "AMIN1 is MIN",
+    "SUM": "add up in a loop, K = K + A(I), which is dealt out", "MAXVAL": "write a loop, K = MAX(K, A(I))", "MINVAL": "write a loop, K = MIN(K, A(I))",
+    "PRODUCT": "write a loop, K = K*A(I)", "SIZE": "use the constant of its bound",
+    "MERGE": "an IF leaves an assignment out, IF (I .LT. 5) K = I", "ISHFT": "a shift to the left by one is K*2",
+}
+INTRINSICS = (
+    "SQRT INT NINT FLOAT REAL DBLE ISIGN SIGN EXP LOG SIN COS TAN ATAN IFIX SNGL CHAR ICHAR LEN INDEX "
+    "IAND IOR IEOR NOT BTEST IBSET IBCLR ISHFTC COUNT ANY ALL MATMUL TRANSPOSE RESHAPE FLOOR CEILING HUGE"
+).split()
 COLUMNS = "a statement begins in column 7, behind six blanks; columns 1 to 5 are for its label"
 
 # name, codes, pattern, what to write
@@ -29,6 +41,11 @@ PATTERNS = [
      "all values are INTEGER: declare INTEGER, and count in thousandths, say, where fractions are needed"),
     ("implicit", "F1 F2", r"IMPLICIT",
      "leave it out: a name that no INTEGER statement has is INTEGER where it begins with I to N, and else refused"),
+    ("concurrent", "F1 F2", r"DOCONCURRENT\(", f"a loop is dealt out where that is safe, with no word for it; {LABELLED}"),
+    ("parameter", "F1 F2", r"PARAMETER(?P<at>[A-Z]\w*=)", "constants stand in parentheses: PARAMETER (N = 4, M = 2*N)"),
+    ("allocate", "F1 F2 F4", r"(DE)?ALLOCATE\(|(ALLOCATABLE|POINTER|TARGET)(?!\w*=)", "an array has its bounds where it is declared, in constants: INTEGER A(N) behind PARAMETER (N = 8)"),
+    ("include", "F1 F2", r"INCLUDE'|USE[A-Z]\w*$", "one program stands in a source: write what would be included in place"),
+    ("first-value", "F1 F2 F4", r"INTEGER(?P<at>[A-Z]\w*=)", "a declaration gives no value: write INTEGER N, and N = 4 as a statement or PARAMETER (N = 4)"),
     ("kind", "F1 F2 F4 F12", r"INTEGER(?P<at>\*\d|\(KIND|\(\d+\)(::)?[A-Z])", "write INTEGER alone: it has 64 bits"),
     ("colons", "F1 F2 F4", r"[A-Z0-9,()*=:]*?(?P<at>::)",
      "leave :: out: INTEGER N, A(0:9), and constants apart, PARAMETER (N = 4)"),
@@ -41,8 +58,10 @@ PATTERNS = [
     ("jump", "F1 F2", r"(IF\(.*\))?(?P<at>GOTO|ASSIGN\d|EXIT$|CYCLE$|PAUSE)",
      "there are no jumps: a loop does all its trips, and IF (I .LT. 5) K = I leaves an assignment out"),
     ("arithmetic-if", "F1 F2", r"IF\(.*\)(?P<at>\d+,\d+,\d+)$", "there are no jumps: " + ONE_IF),
-    ("data", "F1 F2", r"(DATA|COMMON|EQUIVALENCE|SAVE|BLOCKDATA)(?!\w*=)",
-     "leave it out: each variable is seen by the whole program, has memory of its own, and is 0 before it is stored"),
+    ("data", "F1 F2", r"DATA(?!\w*=)", "there is no DATA: in its place write an assignment in front of the first loop, K = 1; what isn't stored is 0"),
+    ("equivalence", "F1 F2", r"EQUIVALENCE\(", "each variable has memory of its own: give what is equivalent one name"),
+    ("common", "F1 F2", r"(COMMON|SAVE|BLOCKDATA)(?!\w*=)",
+     "leave it out: each variable is seen by the whole program, and keeps its value"),
     ("comment", "F1 F2", r"[^!]*(?P<at>!)", "a comment is a line of its own, with C or * in column 1"),
     ("quotes", "F1 F2", r'[^"]*(?P<at>")', "text stands between apostrophes: PRINT *, 'K', K"),
     ("semicolon", "F1 F2", r"[^;]*(?P<at>;)", "one statement stands on a line"),
@@ -50,13 +69,25 @@ PATTERNS = [
      "a statement goes on in the next line by any character but a blank or 0 in column 6 of that line"),
     ("not-equal", "F1 F2", r".*?(?P<at>\.NE\.|/=|<>)",
      "there is no .NE.: write two IFs, one with .LT. and one with .GT."),
+    ("and", "F1 F2", r"IF\(.*?(?P<at>\.AND\.)",
+     "an IF has one comparison: let the loop's bounds say the other, or keep both in a number: L = 1, IF (I .LE. 3) L = 0, IF (I .GE. 7) L = 0, and K = L*I + (1-L)*K"),
+    ("or", "F1 F2", r"IF\(.*?(?P<at>\.OR\.)", "an IF has one comparison: write two IFs with this assignment, where it does not read what it stores"),
+    ("not", "F1 F2", r"IF\(.*?(?P<at>\.NOT\.)", "write the opposite comparison: .GE. for .LT., .GT. for .LE., and the other way round"),
     ("logical", "F1 F2", r".*?(?P<at>\.(AND|OR|NOT|EQV|NEQV|TRUE|FALSE)\.)",
-     "an IF has one comparison, with .LT., .LE., .EQ., .GE. or .GT."),
+     "there are no logical values: keep 1 or 0, and compare it by a product: K = L*I + (1-L)*K"),
+    ("if-print", "F1 F2", r"IF\(.*\)(?P<at>PRINT\*)", "a PRINT stands under no IF: let the bounds of its loop say when it comes"),
+    ("double-parentheses", "F1 F2", r"IF\((?P<at>\()(?=[^()]*(\([^()]*\)[^()]*)*\.(LT|LE|EQ|GE|GT)\.)", "one pair of parentheses stands round a comparison: IF (I .LT. 5) K = I"),
+    ("do-comma", "F1 F2 F3 F4", r"DO\d+,?[A-Z]\w*=(?P<at>[^,]*)$", "a comma stands between a DO's bounds: DO 10 I = 1, 9"),
+    ("implied-do", "F1 F2", r"PRINT\*,.*?(?P<at>\([^()]*(\([^()]*\)[^()]*)*,[A-Z]\w*=)",
+     "a PRINT has no loop in it: print the whole array, PRINT *, A, or one element a line in a loop"),
+    ("print-comma", "F1 F2", r"PRINT\*(?P<at>[^,])", "a comma stands behind the star: PRINT *, K"),
+    ("section", "F1 F2 F4", r"(?!INTEGER|DIMENSION).*?(?<![A-Z0-9])[A-Z][A-Z0-9]*\([^()=]*(?P<at>:)", "there are no parts of arrays: write a loop over the elements, DO 10 I = 1, 3 and 10 A(I) = 0"),
     ("comparison", "F1 F2", r"IF\(.*?(?P<at>==|>=|<=|<|>)", "a comparison is written .LT., .LE., .EQ., .GE. or .GT."),
     ("power", "F1 F2", r".*?(?P<at>\*\*)", "there is no **: K*K"),
     ("real", "F1 F2", r".*?(?<![A-Z0-9])(?P<at>\d+\.\d*|\.\d+|\d+[ED][+-]?\d+)(?![A-Z])",
      "all values are whole: count in thousandths, say, where fractions are needed"),
     ("end-name", "F1 F2 L4", r"END(PROGRAM|[A-Z]+)", "the last line is END alone"),
+    ("stop-code", "F1 F2", r"STOP(?P<at>[\d'].*)$", "STOP stands alone, directly in front of END: leave it out"),
     ("stop", "F1", r"STOP", "STOP stands directly in front of END alone, outside all loops: leave it out"),
     ("underscore", "F1 F2", r".*?(?P<at>[A-Z0-9]*_\w*)", "a name has letters and digits alone, at most 6 of them"),
     ("bracket", "F1 F2", r".*?(?P<at>[\[\]{}])", "subscripts stand in ( and )"),
@@ -190,7 +221,7 @@ class Finders:
         """A continuation line that looks as if it were none."""
         for number in self.statement.lines[1:]:
             line = self.program.source.lines[number - 1]
-            if re.match(r"     [A-Za-z]", line):
+            if re.match(r"     ([A-Za-z]|\d\d+ *[A-Za-z])", line):
                 return (number, 6), f"column 6 of this line is no blank, so it goes on with the line above; {COLUMNS}"
 
     def out_of_order(self):
@@ -203,15 +234,18 @@ class Finders:
             return 0, "PROGRAM is the first statement, or none"
 
     def functions(self):
-        instead = {
-            "MOD": "MOD(I, 2) is I - 2*(I/2)", "ABS": "ABS(K) is MAX(K, -K)", "IABS": "IABS(K) is MAX(K, -K)",
-            "MAX0": "MAX0 is MAX", "MIN0": "MIN0 is MIN", "AMAX1": "AMAX1 is MAX", "AMIN1": "AMIN1 is MIN",
-        }
-        known = [*instead, *"SQRT INT NINT FLOAT REAL DBLE ISIGN SIGN EXP LOG SIN COS IDIM".split()]
+        """A function that isn't there; in a subscript or a comparison no quotient of a variable may stand."""
+        in_forms = [(at, at + len(text)) for at, text, _ in self.forms()]
         for name, at, subscripts in reads(self.code):
-            if subscripts is not None and name in known and name not in self.program.arrays:
-                more = f": {instead[name]}" if name in instead else ""
+            if subscripts is None or name in self.program.arrays:
+                continue
+            if name in ("MOD", "MODULO") and any(low <= at < high for low, high in in_forms):
+                return at, "there is no function but MIN and MAX, and here no remainder: for each second trip write a loop with step 2, DO 10 I = 1, N, 2"
+            if name in REPLACED or name in INTRINSICS:
+                more = f": {REPLACED[name]}" if name in REPLACED else ""
                 return at, f"there is no function but MIN and MAX{more}"
+            if any(re.search(rf"(?i)FUNCTION\s+{name}\b", it) for it in self.program.source.lines):
+                return at, f"there are no functions of one's own: write the expression of {name} in place"
 
     def declared_below(self):
         """An array that is declared behind its first use."""
@@ -251,7 +285,12 @@ class Finders:
         for name, at, _ in reads(inner):
             is_bound = inner[:at].count("(") > inner[:at].count(")")
             is_value = self.code.startswith("PARAMETER") and inner[at - 1 : at] in ("=", "*", "+", "-", "/", "(")
-            if (is_value or (is_bound and not self.code.startswith("PARAMETER"))) and name not in self.program.constants:
+            if not (is_value or (is_bound and not self.code.startswith("PARAMETER"))):
+                continue
+            below = self.program.constant_lines.get(name, 0)
+            if below > self.statement.line:
+                return at + begun, f"{name} becomes a constant below, in line {below}: put that line in front of this one"
+            if name not in self.program.constants:
                 return at + begun, f"{name} is no named constant; a line PARAMETER ({name} = 8) in front makes it one"
 
     def no_integer(self):
@@ -343,6 +382,28 @@ class Finders:
             if number is None:
                 return at, "a step is a constant"
 
+    def limit(self):
+        """What to do where a limit is passed."""
+        found = re.search(r"COUNT (-?\d+)", self.refusal)
+        count = int(found[1]) if found else 0
+        if re.match(r"DO\d", self.code) and count == 7:
+            return 0, "this is the seventh of loops in one another, and there are 6 at most: write the trips of the shortest one as statements"
+        if re.match(r"INTEGER|DIMENSION", self.code) and count < 1:
+            return body_of(self.code), "a dimension has no elements: it goes from 1 to an upper bound, or is lower:upper with the lower bound first"
+        if re.match(r"INTEGER|DIMENSION", self.code) and count < 2**31:
+            for name, at, subscripts in reads(self.code[body_of(self.code):]):
+                if subscripts and len(subscripts) > 3:
+                    return at + body_of(self.code), f"{name} has {len(subscripts)} dimensions, and there are 3 at most: let one stand for two, {name}(N*M, ..) with the subscript I + N*(J-1)"
+        if count > 400:
+            return None, "a program has at most 400 statements: write those that differ in a number as a loop"
+
+    def column_six(self):
+        """A label of six columns, of which the last is passed over."""
+        loop = self.program.open[-1] if self.code == "END" and self.program.open else None
+        for number, line in enumerate(self.program.source.lines, 1) if loop else ():
+            if number > loop.line and line[:1] not in tuple("Cc*") and re.match(rf" *{loop.label}(?![0-9])", line) and line[5:6].isdigit():
+                return (number, 6), f"this label reaches column 6, which is none of a label: labels end in column 5; so the loop of line {loop.line} is open"
+
     def open_loop(self):
         if self.code == "END" and self.program.open:
             loop = self.program.open[-1]
@@ -393,11 +454,11 @@ FINDERS = [
     ("trailing", "F1 F2"), ("out_of_order", "F1"), ("long_name", "F1 F2"), ("short_minimum", "F1"), ("gone_on", "F1 F2 F4"),
     ("declared_below", "F4"), ("no_array", "F4"), ("no_constant", "F4"), ("no_integer", "F3"), ("loop_variable", "F10"),
     ("subscript_count", "F5"), ("divisor", "F8"), ("step", "F6 F7"), ("not_affine", "F6"),
-    ("text_outside", "F2"), ("no_statement", "F1"), ("twice_labelled", "F9"), ("open_loop", "F9"), ("ends_here", "F9"), ("range", "S1"), ("missing_end", "L4"),
+    ("text_outside", "F2"), ("no_statement", "F1"), ("twice_labelled", "F9"), ("column_six", "F9"), ("open_loop", "F9"), ("ends_here", "F9"), ("range", "S1"), ("limit", "F12"), ("missing_end", "L4"),
 ]
 
 # told without a finder of its own
-PLAIN = ["behind_end"]
+PLAIN = ["behind_end", "twentieth"]
 
 
 class Hint:
@@ -415,6 +476,9 @@ def hint_for(program, code, number, refusal):
     """What is to be told of a refusal with this code and line, or None."""
     source = program.source
     line = source.lines[number - 1] if number <= len(source.lines) else ""
+    begun = source.statement_at(number)
+    if code == "L3" and begun and len(begun.lines) > 20 and re.match(r" {5}[^ 0]", line):
+        return Hint("twentieth", number, 6, f"this is continuation line {begun.lines.index(number)} of the statement of line {begun.line}, and there are 19 at most: store a part of it in a variable first")
     for name, codes, pattern, say in LINES:
         near = [(number, line)]
         if name == "glued-plan":

@@ -251,7 +251,7 @@ class Program:
 
     def __init__(self, source, settings=None):
         self.source, self.settings = source, settings or {}
-        self.constants, self.values = [], []
+        self.constants, self.values, self.constant_lines = [], [], {}
         self.integers, self.arrays, self.declared = set(), {}, {}
         self.loops, self.actions, self.stops = [], [], []
         self.open = []
@@ -313,6 +313,7 @@ class Program:
                 name, _, text = it.partition("=")
                 value = self.settings.get(name, self.number_of(text))
                 self.constants.append(name)
+                self.constant_lines.setdefault(name, line)
                 self.values.append(0 if value is None else value)
             return
         listed = re.match(r"(INTEGER|DIMENSION)(.*)$", code)
