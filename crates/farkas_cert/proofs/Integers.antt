@@ -1,8 +1,7 @@
 -- Products and quotients of whole numbers.
-use Rattle.std.proofs.Common.{◌≡◌, suc, ◌+◌, ◌*◌, ◌/◌, ◌≤◌, ◌<◌, ℤ, pos, negsuc, ◌+ℤ◌, ◌*ℤ◌, ◌≤ℤ◌, int_div, int_rem, if◌then◌else◌, Some, None, refl, ap, arith}
+use Rattle.std.proofs.Common.{◌≡◌, ◌+◌, ◌*◌, ◌/◌, ◌≤◌, ◌<◌, ℤ, pos, negsuc, ◌+ℤ◌, ◌*ℤ◌, ◌≤ℤ◌, int_div, int_rem, ap, arith}
 use Rattle.std.specs.Int.{int_div_euclid}
-use Rattle.std.specs.Ordering.{int_eq}
-use Rattle.std.proofs.Math.Nat.{div-one, mod-one, mul-le-mul_left, le-div_iff_mul-le, div-lt_iff_lt-mul}
+use Rattle.std.proofs.Math.Nat.{mul-le-mul_left, le-div_iff_mul-le, div-lt_iff_lt-mul}
 use Rattle.std.proofs.Math.IntN.{*ℤ_comm}
 use Rattle.std.proofs.lemmas.Int.{ints, quot-rem}
 use borrow.Author.Differences.{up, down, product_is, sum_is_lem, le_out}
@@ -39,12 +38,3 @@ le_div_euclid (pos n) (negsuc q) (negsuc m) h k =
     let positive : 0 < n = omega (arith, ints) in
     let fits : m < (q + 1) * n = omega (arith, ints) in
     let quotient : m / n < q + 1 = (div-lt_iff_lt-mul positive).1 fits in omega (arith, ints)
-
--- a division by 1 leaves nothing, and gives the number back
-pub exact_by_one : (z : ℤ) → Some z ≡ (if int_eq (int_rem z (pos 1)) (pos 0) then Some (int_div z (pos 1)) else None)
-exact_by_one (pos n) = rw (div-one n, mod-one n) refl
-exact_by_one (negsuc n) = rw (div-one (suc n), mod-one (suc n)) refl
-
-pub floor_by_one : (z : ℤ) → z ≡ int_div_euclid z (pos 1)
-floor_by_one (pos n) = rw (div-one n) refl
-floor_by_one (negsuc n) = rw (div-one n) refl

@@ -2,7 +2,6 @@ pub mod Integers
 pub mod Sums
 pub mod Exclusion
 pub mod Products
-pub mod Quotients
 pub mod Entries
 pub mod Faults
 pub mod Units

@@ -1,7 +1,8 @@
 -- The row that a step makes of the rows before it.
-use Rattle.std.specs.Prelude.{ℕ, ◌-◌, ◌^◌, ℤ, pos, negsuc, ◌+ℤ◌, ◌*ℤ◌, int_div, unsigned_abs, Bool, true, ◌&&◌, nat_lt, nat_le, if◌then◌else◌, List, [], ◌∷◌, map, slice_index_or, ◌≡◌, refl}
+use Rattle.std.specs.Prelude.{ℕ, ◌-◌, ℤ, pos, negsuc, ◌+ℤ◌, ◌*ℤ◌, int_div, Bool, true, ◌&&◌, nat_lt, if◌then◌else◌, List, [], ◌∷◌, map, slice_index_or, ◌≡◌, refl}
 use Rattle.std.specs.Int.{int_div_euclid}
 use Rattle.std.specs.List.{range_with_len}
+pub use Rattle.cert_arithmetic.specs.Numbers.{is_narrow}
 use Rattle.farkas_cert.specs.declared.system.Row.{Row}
 use Rattle.farkas_cert.specs.declared.certificate.Step.{Step}
 
@@ -32,10 +33,6 @@ sum_at vars rows terms k = total (products_at vars rows terms k)
 -- the row that a step makes: the quotients of the coefficients, and that of the bound rounded down
 abbrev pub made_row : ℕ → List Row → Step → Row
 made_row vars rows step = record { coefs = map (λ k. int_div (sum_at vars rows step.terms k) step.divisor) (range_with_len 0 vars); bound = int_div_euclid (sum_at vars rows step.terms vars) step.divisor }
-
--- at most 2 ^ 126 in size
-abbrev pub is_narrow : ℤ → Bool
-is_narrow z = nat_le (unsigned_abs z) (2 ^ 126)
 
 -- each product is narrow, and so is each running sum of them, from this sum on
 abbrev pub stays_narrow : ℤ → List ℤ → Bool

@@ -1,8 +1,9 @@
 -- The first fault of a certificate.
-use Rattle.std.specs.Prelude.{ℕ, ◌+◌, ◌-◌, ℤ, pos, negsuc, int_lt, int_rem, Bool, ◌&&◌, not, nat_le, if◌then◌else◌, List, [], ◌∷◌, ◌++◌, length, Option, Some, None, slice_get, ◌≡◌, refl}
+use Rattle.std.specs.Prelude.{ℕ, ◌+◌, ◌-◌, ℤ, pos, negsuc, int_lt, int_rem, Bool, ◌&&◌, if◌then◌else◌, List, [], ◌∷◌, ◌++◌, length, Option, Some, None, slice_get, ◌≡◌, refl}
 use Rattle.std.specs.Option.{option_or}
 use Rattle.std.specs.Ordering.{int_eq}
-use Rattle.std.specs.List.{list_any, list_all, range_with_len}
+use Rattle.std.specs.List.{list_all, range_with_len}
+pub use Rattle.cert_arithmetic.specs.Terms.{has_negative, names_bad_row}
 use Rattle.farkas_cert.specs.declared.system.Row.{Row}
 use Rattle.farkas_cert.specs.declared.certificate.Step.{Step}
 use Rattle.farkas_cert.specs.declared.certificate.Certificate.{Certificate}
@@ -10,14 +11,6 @@ use Rattle.farkas_cert.specs.declared.certificate.CertRefusal.{CertRefusal}
 use Rattle.farkas_cert.specs.declared.certificate.CertRefusal.TheVariants.{NegativeMultiplier, BadRow, BadDivisor, Wide, NoContradiction}
 use Rattle.farkas_cert.specs.Inequalities.{Inequalities}
 use Rattle.farkas_cert.specs.Combination.{products_at, sum_at, made_row, stays_narrow}
-
--- a multiplier is below 0
-abbrev pub has_negative : List (ℕ × ℤ) → Bool
-has_negative terms = list_any (λ t. int_lt t.1 (pos 0)) terms
-
--- a term names row 0, or one past so many rows
-abbrev pub names_bad_row : ℕ → List (ℕ × ℤ) → Bool
-names_bad_row count terms = list_any (λ t. not (nat_le 1 t.0 && nat_le t.0 count)) terms
 
 -- the first of these entries whose products or running sums pass the limit
 abbrev pub first_wide : ℕ → List Row → List (ℕ × ℤ) → List ℕ → Option ℕ

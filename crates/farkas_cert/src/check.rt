@@ -5,34 +5,20 @@ ghost use Rattle.std.specs.Int.{int_div_euclid};
 ghost use Rattle.std.specs.Ordering.{int_eq};
 ghost use Rattle.std.specs.List.{list_all, range_with_len};
 ghost use Rattle.farkas_cert.specs.Inequalities.{AreFull, HasNoWholeSolution};
-ghost use Rattle.farkas_cert.specs.Combination.{is_narrow as narrow, stays_narrow, total, products_at, made_row};
+ghost use Rattle.farkas_cert.specs.Combination.{stays_narrow, total, products_at, made_row};
 ghost use Rattle.farkas_cert.specs.Combination.{row_at as row_of, entry_at as entry_of, sum_at as sum_of};
 ghost use Rattle.farkas_cert.specs.Good.{IsGood};
 ghost use Rattle.farkas_cert.specs.Units.{most_units, RoseWithin};
-ghost use Rattle.farkas_cert.specs.Fault.{has_negative as negative, is_contradiction as contradiction, names_bad_row, first_wide, divides, step_fault, last_fault, first_fault};
+ghost use Rattle.farkas_cert.specs.Fault.{is_contradiction as contradiction, names_bad_row as bad_row, first_wide, divides, step_fault, last_fault, first_fault};
 
 use crate::certificate::{CertRefusal, Certificate, Step};
-use crate::counting::Steps;
-use crate::division::floor_quotient;
-use crate::narrow::{narrow_product, narrow_sum};
 use crate::system::{Coefs, Row, System};
+use cert_arithmetic::Steps;
+use cert_arithmetic::division::floor_quotient;
+use cert_arithmetic::terms::{has_negative, names_bad_row, with_product};
 use std::alloc::Global;
 use std::marker::Brand;
 use std::sync::ledger::{Blank, Ledger};
-
-// The sum and one product more, if neither the product nor the new sum passes the limit.
-fn with_product<L: Ledger>(
-    sum: i128,
-    multiplier: i128,
-    entry: i128,
-    steps: &mut Steps<L>,
-) -> Option<i128>
-    ensures sum { let product = multiplier *ℤ entry in result ≡ (if narrow product && narrow (sum +ℤ product) then Some (sum +ℤ product) else None) }
-    ensures counted { steps.new ≡ steps.old + 1 }
-{
-    steps.tick();
-    narrow_sum(sum, narrow_product(multiplier, entry)?)
-}
 
 // How many rows stand so far: those of the system, and the made ones.
 fn row_count(system: &System, made: &[Row]) -> usize
@@ -69,23 +55,6 @@ fn entry_at(row: &Row, vars: usize, k: usize) -> i128
     }
 }
 
-// A multiplier is below 0.
-fn has_negative(terms: &[(u64, i128)]) -> bool
-    ensures { result ≡ negative terms.now }
-{
-    terms.iter().any(|term| term.1 < 0)
-}
-
-// A term names no row that stands so far.
-fn has_bad_row(system: &System, made: &[Row], terms: &[(u64, i128)]) -> bool
-    ensures { result ≡ names_bad_row (length system.now.rows + length made.now) terms.now }
-{
-    let count = row_count(system, made);
-    terms
-        .iter()
-        .any(|term| term.0 < 1 || term.0 as usize > count)
-}
-
 // What the terms sum at entry k, where no product and no running sum passes the limit.
 fn sum_at<L: Ledger>(
     system: &System,
@@ -95,7 +64,7 @@ fn sum_at<L: Ledger>(
     steps: &mut Steps<L>,
 ) -> Option<i128>
     requires full { AreFull system.now.vars made.now }
-    requires named { names_bad_row (length system.now.rows + length made.now) terms.now ≡ false }
+    requires named { bad_row (length system.now.rows + length made.now) terms.now ≡ false }
     ensures sum { let products = products_at system.now.vars (system.now.rows ++ made.now) terms.now k in result ≡ (if stays_narrow (pos 0) products then Some (total products) else None) }
     ensures units { RoseWithin (length terms.now) steps.old steps.new }
     ensures all { IsSome result → steps.new ≡ steps.old + length terms.now }
@@ -119,7 +88,7 @@ fn summed<L: Ledger>(
     steps: &mut Steps<L>,
 ) -> Result<Row, CertRefusal>
     requires full { AreFull system.now.vars made.now }
-    requires named { names_bad_row (length system.now.rows + length made.now) terms.now ≡ false }
+    requires named { bad_row (length system.now.rows + length made.now) terms.now ≡ false }
 
     ensures narrow { OnOk result (first_wide system.now.vars (system.now.rows ++ made.now) terms.now (range_with_len 0 (system.now.vars + 1)) ≡ None) }
     ensures coefs { IfOk result (λ row. row.coefs ≡ map (sum_of system.now.vars (system.now.rows ++ made.now) terms.now) (range_with_len 0 system.now.vars)) }
@@ -179,7 +148,7 @@ fn check_step<L: Ledger>(
     if has_negative(terms) {
         return Err(CertRefusal::NegativeMultiplier(number));
     }
-    if has_bad_row(system, made, terms) {
+    if names_bad_row(row_count(system, made), terms) {
         return Err(CertRefusal::BadRow(number));
     }
     let sums = summed(alloc, system, made, number, terms, steps)?;

@@ -17,16 +17,14 @@
 
 pub mod certificate;
 mod check;
-pub mod counting;
-mod division;
 mod law;
 pub mod narrow;
 pub mod narrow_system;
 pub mod system;
 
+pub use cert_arithmetic::{Steps, counting};
 pub use certificate::{CertRefusal, Certificate, Step, StepList, Terms};
 pub use check::{check_cert, check_cert_counted};
-pub use counting::Steps;
 pub use law::good_certificates_exclude_whole_solutions;
 pub use narrow_system::NarrowSystem;
 pub use system::{Coefs, Row, Rows, System};

@@ -5,8 +5,8 @@ ghost use Rattle.std.specs.Ordering.{int_eq};
 ghost use Rattle.std.specs.List.{list_all};
 ghost use Rattle.farkas_cert.specs.Units.{RoseWithin};
 
-use crate::counting::Steps;
-use crate::division::divide_all;
+use cert_arithmetic::Steps;
+use cert_arithmetic::division::divide_all;
 use smallvec::SmallVec;
 use std::alloc::{AllocError, Global};
 use std::marker::Model;

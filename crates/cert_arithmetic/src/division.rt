@@ -4,7 +4,7 @@ ghost use Rattle.std.specs.Prelude.{◌≡◌, ◌+◌, length, pos, ◌≤ℤ�
 ghost use Rattle.std.specs.Ordering.{int_eq};
 ghost use Rattle.std.specs.Int.{int_div_euclid};
 ghost use Rattle.std.specs.List.{list_all};
-ghost use Rattle.farkas_cert.specs.Units.{RoseWithin};
+ghost use Rattle.cert_arithmetic.specs.Units.{RoseWithin};
 
 use crate::counting::Steps;
 use std::sync::ledger::Ledger;
@@ -37,7 +37,7 @@ fn wide_exact_quotient(number: i128, divisor: i128) -> Option<i128>
 
 // The quotient, if nothing remains: with no division by 1, and by one of 64 bits where that does.
 #[inline(always)]
-#[tactic(auto, using(crate::proofs::Integers::exact_by_one))]
+#[tactic(auto, using(crate::proofs::ByOne::exact_by_one))]
 fn exact_quotient<L: Ledger>(number: i128, divisor: i128, steps: &mut Steps<L>) -> Option<i128>
     requires { pos 1 ≤ℤ divisor }
     ensures quotient { result ≡ (if int_eq (int_rem number divisor) (pos 0) then Some (int_div number divisor) else None) }
@@ -63,8 +63,8 @@ fn small_floor_quotient(number: i64, divisor: i64) -> i128
 }
 
 /// The quotient, rounded down: with no division by 1, and by one of 64 bits where that does.
-#[tactic(auto, using(crate::proofs::Integers::floor_by_one))]
-pub(crate) fn floor_quotient<L: Ledger>(number: i128, divisor: i128, steps: &mut Steps<L>) -> i128
+#[tactic(auto, using(crate::proofs::ByOne::floor_by_one))]
+pub fn floor_quotient<L: Ledger>(number: i128, divisor: i128, steps: &mut Steps<L>) -> i128
     requires { pos 1 ≤ℤ divisor }
     ensures quotient { result ≡ int_div_euclid number divisor }
     ensures counted { steps.new ≡ steps.old + 1 }
@@ -81,11 +81,7 @@ pub(crate) fn floor_quotient<L: Ledger>(number: i128, divisor: i128, steps: &mut
 
 /// Divides each number, if the divisor divides them all. Where it doesn't, those in front of the
 /// first that it doesn't divide are divided.
-pub(crate) fn divide_all<L: Ledger>(
-    numbers: &mut [i128],
-    divisor: i128,
-    steps: &mut Steps<L>,
-) -> bool
+pub fn divide_all<L: Ledger>(numbers: &mut [i128], divisor: i128, steps: &mut Steps<L>) -> bool
     requires { pos 1 ≤ℤ divisor }
     ensures all { result ≡ list_all (λ a. int_eq (int_rem a divisor) (pos 0)) numbers.old }
     ensures quotients { IsTrue result → numbers.new ≡ map (λ a. int_div a divisor) numbers.old }

@@ -2,8 +2,8 @@ use Rattle.std.proofs.Common.{rules, ◌≡◌, ℤ, pos, FitsSigned, int_div, i
 use Rattle.std.specs.Int.{w128}
 use Rattle.std.specs.Ordering.{int_eq}
 use Rattle.std.proofs.lemmas.Int.{to_z-of_z}
-use Rattle.farkas_cert.proofs.Quotients.{list_all_where_none, mapped_where_some}
-use Rattle.farkas_cert.proofs.division.divide_all.Goals as goal
+use Rattle.cert_arithmetic.proofs.Quotients.{list_all_where_none, mapped_where_some}
+use Rattle.cert_arithmetic.proofs.division.divide_all.Goals as goal
 
 pub returns-in-None-clause-all : goal.returns-in-None-clause-all
 returns-in-None-clause-all g c =

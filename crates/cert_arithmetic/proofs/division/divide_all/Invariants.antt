@@ -1,7 +1,7 @@
 use Rattle.std.proofs.Common.{◌≡◌, ◌+◌, pos, true, int_div, int_rem, map, take, drop, ◌++◌}
 use Rattle.std.specs.Ordering.{int_eq}
 use Rattle.std.specs.List.{list_all}
-use Rattle.farkas_cert.proofs.division.divide_all.Given as goal
+use Rattle.cert_arithmetic.proofs.division.divide_all.Given as goal
 
 -- the numbers so far leave nothing and are divided, the others are as they were
 abbrev pub invariant-loop-number : goal.invariant-loop-number

@@ -1,0 +1,2 @@
+pub mod ByOne
+pub mod Quotients
