@@ -1,7 +1,7 @@
 """Tries what bin/seagrynt tells of refused sources: hints.py [NAME..]
 
 Each pattern and each finder of bin/front/hints.py has a source here that is refused, with a part of
-what is told, and the text below which the caret stands, if one does. The source's lines stand from
+what is told, and the text below which the caret stands, if one does; some have faults behind the first. The source's lines stand from
 column 7 on where they begin with no blank, digit or `C`; END is added where there is none. The
 program is the one that is built.
 """
@@ -155,6 +155,42 @@ CASES = [
 ]
 
 
+FREE = """program heat
+  implicit none
+  integer, parameter :: n = 100
+  integer :: a(n), b(n)
+  integer :: steps_done
+  ! start
+  do i = 1, n
+    a(i) = mod(i, 7)
+  end do
+  do it = 1, 10
+    do i = 2, n-1
+      b(i) = (a(i-1) + a(i+1)) / 2
+    end do
+    steps_done = steps_done + 1
+  end do
+  print *, a(50), steps_done
+end program heat"""
+
+# a source, and a part of each line that tells of a fault behind the first, in order
+ALL = [
+    ("|".join("@" + it for it in FREE.split("\n")), [
+        "the same in lines 2, 3, 4, 5 and 10 more", "also line 6, L3: a comment", "also line 17, L4: the last line", "also line 2, F2: leave it out",
+        "also lines 3, 4 and 5, F1: leave ::", "also line 5, F1: a name has", "also lines 7, 10 and 11, F2: a DO names",
+        "also line 8, F4: there is no function", "also lines 9, 13 and 15, F2: there is no END DO",
+    ]),
+    ("INTEGER A(9)|A(0) = 1|A(10) = 2|B(1) = 3|B(2) = 4", ["the same in line 5", "also line 2, S1: this subscript of A comes to 0", "also line 3, S1: this subscript of A comes to 10"]),
+    ("INTEGER A(9)|A(0) = 1|A(10) = 2", ["also line 3, S1: this subscript of A comes to 10"]),
+    ("INTEGR A(9)|A(1) = 1|K = 1/0|X = 1|X = 2|K = X", ["also line 3, F8: the divisor 0", "also line 4, F3: X is not INTEGER"]),
+    ("DO 10 I = 1, K|K = I|   10 CONTINUE|K = I", ["also line 4, F10: I is the variable"]),
+    ("DO 10 I = 1, 3|DO 10 I = 1, 3|   10 K = I", []),
+    ("K = 1 ! one|L = 2 ! two|A = B", ["the same in line 2", "also line 3, F3: A is not", "also line 3, F3: B is not"]),
+    ("REAL X(5)|DO WHILE (K .LT. 5)|K = K + 1|END DO|X(1) = 0.5", ["also line 2, F2: there is no DO WHILE", "also line 4, F2: there is no END DO", "also line 5, F2: all values"]),
+    ("\tK = 1|\tL = 2|@K = 3", ["the same in line 2", "also line 3, L2: a statement begins"]),
+]
+
+
 def source_of(text):
     lines = []
     for line in text.split("|"):
@@ -165,7 +201,7 @@ def source_of(text):
         else:
             lines.append("      " + line)
     if not any(it.startswith(("      END|", "CEND", "      ENDSPMD")) or it == "      END" for it in lines):
-        lines += [] if "END PROGRAM" in lines[-1] else ["      END"]
+        lines += [] if "END PROGRAM" in lines[-1].upper() else ["      END"]
     return "\n".join(lines) + "\n"
 
 
@@ -196,8 +232,21 @@ def fault_in(name, text, said, below):
     return None if lines[carets[0] - 1][len(lines[carets[0]]) - 1 :].startswith(below) else f"the caret is not below {below!r}"
 
 
+def fault_in_all(text, wanted):
+    """What is wrong with what is told behind the first fault of a source, or None."""
+    status, lines = told(text)
+    also = [it for it in lines[1:] if it.startswith(("seagrynt: also ", "seagrynt: the same "))]
+    fits = status == 1 and len(also) == len(wanted) and all(a in b for a, b in zip(wanted, also))
+    return None if fits else "other faults are told behind the first"
+
+
 def main(names):
     failed = 0
+    for text, wanted in ALL if not names or "all" in names else []:
+        fault = fault_in_all(text, wanted)
+        if fault:
+            failed += 1
+            print(f"{fault}: {source_of(text)!r}", *told(text)[1], sep="\n  ")
     cases = [it for it in CASES if not names or it[0] in names]
     with ThreadPoolExecutor(4) as runners:
         faults = list(runners.map(lambda it: fault_in(*it), cases))
@@ -209,7 +258,7 @@ def main(names):
     for name in sorted(known - {it[0] for it in CASES}):
         failed += 1
         print(f"{name}: no source tries it")
-    print(f"{len(CASES)} sources, {failed} faults")
+    print(f"{len(CASES) + len(ALL)} sources, {failed} faults")
     return 1 if failed else 0
 
 

@@ -1,16 +1,19 @@
-"""tell.py WHAT STATUS SOURCE OUTPUT FIRST_LINE WORD..
+"""tell.py WHAT STATUS SOURCE OUTPUT FIRST_LINE PROGRAM WORD..
 
 Says what a person may want to know of a run of bin/seagrynt, which calls this and puts it on
 standard error: with WHAT `fault` what a refusal means (statuses 1, 2 and 6; FIRST_LINE is what was
 written), with WHAT `done` warnings on the source and, of the plan in the file OUTPUT, what it comes
-to. SOURCE is the file with what was read; the WORDs are those of the command.
+to. SOURCE is the file with what was read, PROGRAM what read it; the WORDs are those of the command.
 """
 
 import os
 import re
 import sys
 
+import advice
+import plans
 import source as sources
+from advice import listed
 
 ROOT = os.path.dirname(os.path.dirname(os.path.dirname(os.path.abspath(__file__))))
 COMMANDS = ("seq", "plan", "run", "verify", "bench")
@@ -22,7 +25,7 @@ OPTIONS = {
     "verify": ("--sweep",),
     "bench": ("--workers",),
 }
-WAITS = {"LEFT": "neighbours", "RIGHT": "neighbours", "BOTH": "neighbours", "PRODUCER": "one processor"}
+SCRIPT_WORDS = ("--plan-only", "--output-only")
 USAGE = (
     "seagrynt seq [NAME=VALUE..] < SOURCE",
     "seagrynt plan --workers P [--plan-only] [NAME=VALUE..] < SOURCE",
@@ -69,23 +72,39 @@ def show_line(lines, number, column, what="line"):
 # ---- refusals of a source
 
 
-def tell_refusal(line, data, settings):
-    words = line.split()
+def tell_refusal(line, data, words, program):
+    import faults
+
+    settings = settings_of(words)
+    if len(line.split()) < 4 or line.split()[2] != "LINE":
+        say(f"{line}: {meaning_of('LANGUAGE.md', line.split()[1]) or 'the source is refused'}")
+    elif not data:
+        say(f"{line}: {hints_say(line, data, settings)}")
+        say("nothing was read; the source comes on standard input: seagrynt seq < heat.f")
+    else:
+        asked = [it for it in parts_of(words)[1] if "=" in it]
+        found, more = faults.faults_of(line, data, settings, asked, program)
+        lines = sources.Source(data).lines
+        for place, it in enumerate(found):
+            said = (it.hint and it.hint.say) or meaning_of("LANGUAGE.md", it.code) or "the source is refused"
+            where = sorted(set(it.lines)) if len(it.lines) > 1 else [it.place[0]]
+            say(f"{line}: {said}" if place == 0 else f"also {listed(where)}, {it.code}: {said}")
+            show_line(lines, *it.place)
+            if place == 0 and len(it.lines) > 1:
+                say(f"the same in {listed(sorted(set(it.lines[1:])))}")
+            if place == 0 and it.place[0] != it.number and it.number <= len(lines):
+                show_line(lines, it.number, None)
+        if more:
+            say("more may come when these are mended")
+    say('docs/LANGUAGE.md explains it under "Refusals"')
+
+
+def hints_say(line, data, settings):
     import hints
 
-    code = words[1] if len(words) > 1 else ""
-    number = int(words[3]) if len(words) > 3 and words[2] == "LINE" else 0
-    source = sources.Source(data)
-    program = sources.Program(source, settings)
-    hint = hints.hint_for(program, code, number, line) if number else None
-    say(f"{line}: {(hint and hint.say) or meaning_of('LANGUAGE.md', code) or 'the source is refused'}")
-    if not data:
-        say("nothing was read; the source comes on standard input: seagrynt seq < heat.f")
-    elif number:
-        show_line(source.lines, *((hint.line, hint.column) if hint else (number, None)))
-    if hint and hint.line != number and number <= len(source.lines):
-        show_line(source.lines, number, None)
-    say('docs/LANGUAGE.md explains it under "Refusals"')
+    program = sources.Program(sources.Source(data), settings)
+    hint = hints.hint_for(program, line.split()[1], int(line.split()[3]), line)
+    return (hint and hint.say) or meaning_of("LANGUAGE.md", line.split()[1])
 
 
 # ---- words
@@ -181,14 +200,14 @@ def wrong_word(words):
     command = words[0] if words else ""
     if command not in COMMANDS:
         if not words:
-            return "a command is missing: seq, plan, run or verify; seagrynt --help says what they do"
+            return f"a command is missing: {', '.join(COMMANDS[:-1])} or {COMMANDS[-1]}; seagrynt --help says what they do"
         if command.lower() in ("help", "-help", "-?", "usage"):
             return "seagrynt --help writes the help, seagrynt run --help that of run"
         if is_file(command):
             return from_a_file(words, command)
         close = close_to(command.lower(), COMMANDS)
         meant = f"; {close[0]} is one" if close else ""
-        return f"{command} is no command{meant}: there are seq, plan, run and verify"
+        return f"{command} is no command{meant}: there are {', '.join(COMMANDS[:-1])} and {COMMANDS[-1]}"
     return wrong_option(words, command)
 
 
@@ -196,6 +215,8 @@ def wrong_option(words, command):
     options, others = parts_of(words)
     seen = set()
     for name, value in options:
+        if name in SCRIPT_WORDS and (command == "run" or (command == "plan" and name == "--plan-only")):
+            return f"{name} stands behind another one: of {' and '.join(SCRIPT_WORDS)} one stands, once"
         if name not in OPTIONS[command]:
             close = close_to(name, OPTIONS[command])
             has = " and ".join(OPTIONS[command]) or "no options"
@@ -276,17 +297,21 @@ def round_trip(behind, number):
 # ---- warnings and the summary
 
 
-def tell_done(command, data, output, words):
+def tell_done(command, data, output, words, asked):
     source = sources.Source(data)
     program = sources.Program(source, settings_of(words))
-    for it in source_warnings(source, program):
+    for it in advice.source_warnings(source, program):
         say(f"warning: {it}")
-    plan = Plan(output) if command in ("plan", "run") else None
-    if not plan or not plan.is_read:
+    if command not in ("plan", "run"):
         return
-    for it in plan_warnings(program, plan):
+    plan = plans.read_plan(output)
+    if not plans.place_in_source(plan, program):
+        return
+    given = [it for it in parts_of(words)[1] if "=" in it]
+    ask = advice.asker(asked, ["--workers", str(plan.workers), *given])
+    for it in advice.plan_warnings(program, plan, ask):
         say(f"warning: {it}")
-    say(summary(program, plan))
+    say(advice.summary(program, plan))
 
 
 def settings_of(words):
@@ -300,171 +325,12 @@ def settings_of(words):
     return settings
 
 
-def listed(lines, most=4):
-    """So many lines of a list, in words."""
-    lines = [str(it) for it in lines]
-    word = "line " if len(lines) == 1 else "lines "
-    if len(lines) > most:
-        return word + ", ".join(lines[:most]) + f" and {len(lines) - most} more"
-    return word + (" and ".join([", ".join(lines[:-1]), lines[-1]]) if len(lines) > 1 else lines[0])
-
-
-def source_warnings(source, program):
-    long = [n for n, it in enumerate(source.lines[: source.end or None], 1)
-            if it[72:].strip() and it[:1] not in tuple("Cc*") and it[:72].strip()]
-    if long:
-        first = source.lines[long[0] - 1]
-        yield f"{listed(long)}: columns past 72 are no part of a line; {sources.shown(first[72:].strip()[:20])!r} is passed over"
-    taken = {line for line, _, _ in program.axes.values()}
-    for it in source.directives:
-        if it.line not in taken:
-            yield f"line {it.line}: {why_no_directive(it, program)}; it is a comment"
-    for number, line in enumerate(source.lines[: source.end or None], 1):
-        if re.match(r"(?i)[C*!].{0,2}(\$ *DIST\b|DIST *[A-Z]\w*\()", line) and not re.match(r"C\$DIST", line[:6], re.I):
-            yield f"line {number}: a directive has C$DIST in columns 1 to 6; this line is a comment"
-
-
-def why_no_directive(directive, program):
-    found = re.match(rf"({sources.NAME})\((.*)\)$", directive.text)
-    if not found:
-        return "a directive is C$DIST A(BLOCK) or C$DIST A(*,CYCLIC)"
-    name, items = found[1], found[2].split(",")
-    if name not in program.arrays:
-        return f"{name} is no array of the program"
-    count = len(program.arrays[name])
-    if len(items) != count:
-        return f"{name} has {count} dimension{'s' * (count > 1)}, and {len(items)} in this directive"
-    if any(it not in ("*", "BLOCK", "CYCLIC") for it in items):
-        return "each dimension is *, BLOCK or CYCLIC here"
-    if sum(it != "*" for it in items) != 1:
-        return "one dimension is BLOCK or CYCLIC, each other one *"
-    return f"a later directive for {name} counts"
-
-
-class Plan:
-    """What the summary needs of a plan's text."""
-
-    def __init__(self, text):
-        self.workers, self.marks, self.phases, self.reasons = 0, [], [], {}
-        behind = False
-        for line in text.split("\n"):
-            words = line.split(" ")
-            if words[0] == "WORKERS" and not behind:
-                self.workers = int(words[1])
-            elif not behind and re.match(r"\d+ (OUTER|DOALL|SUM|SINGLE|INNER)( PRIVATE .*)?$", line):
-                self.marks.append(words[1])
-            elif " AT " in line and words[0].isdigit() and not behind:
-                self.phases.append((words[1], line.rpartition(" AT ")[2]))
-            elif line == "END PLAN":
-                behind = True
-            elif behind:
-                # of several tries of a loop the last one counts
-                found = re.match(r"LOOP (\d+) NOT (?:DOALL|PRIVATE|SUM) (?:PRINT|LINES \d+ \d+ NAME (\w+))", line)
-                if found:
-                    self.reasons[int(found[1])] = found[2] or "PRINT"
-        self.is_read = behind
-
-
-def plan_warnings(program, plan):
-    phases = program.phases(plan.marks)
-    used = set()
-    if len(phases) == len(plan.phases):
-        for (_, _, actions), (_, anchor) in zip(phases, plan.phases):
-            fitting = (it.target for it in actions if anchor in program.anchor_of(it, plan.workers))
-            used.add(next(fitting, None))
-        for name, (line, axis, how) in sorted(program.axes.items(), key=lambda it: it[1][0]):
-            if name not in used:
-                yield f"line {line}: this C$DIST deals out no phase: none takes its owners from {name}"
-    for loop in program.loops:
-        mark = plan.marks[loop.number - 1] if loop.number <= len(plan.marks) else ""
-        name = serial_scalar(program, loop)
-        if name and (mark == "SINGLE" or (mark == "OUTER" and plan.reasons.get(loop.number) == name)):
-            kept = "on one processor" if mark == "SINGLE" else "from being dealt out"
-            yield f"line {loop.line}: {name} keeps this loop {kept}: {why_kept(program, loop, name)}"
-
-
-def serial_scalar(program, loop):
-    """The first scalar that a loop stores, and that is neither private in it nor a sum."""
-    for action in program.actions:
-        name = action.target
-        if loop not in action.loops or not name or action.subscripts or name in program.arrays:
-            continue
-        uses = uses_of(program, loop, name)
-        is_private = is_plain_store(name, uses[0]) and uses[0].loops[-1] is loop
-        if not is_private and not all(is_sum(name, it) for it in uses):
-            return name
-    return None
-
-
-def uses_of(program, loop, name):
-    """The statements in a loop that store or load a scalar."""
-    return [it for it in program.actions if loop in it.loops and (it.target == name or is_read(name, it))]
-
-
-def why_kept(program, loop, name):
-    """Why a scalar is neither private in a loop nor a sum."""
-    uses = uses_of(program, loop, name)
-    if is_plain_store(name, uses[0]):
-        return f"a loop inside stores it first; with {name} = 0 in front of that loop each trip has its own"
-    if uses[0].target == name and not is_read(name, uses[0]):
-        return "where the IF does not hold a trip needs what another one stored"
-    if all(it.target == name and is_read(name, it) for it in uses):
-        return f"a sum that can be dealt out is written {name} = {name} + .. or {name} = {name} - .."
-    return "a trip needs what another one stored"
-
-
-def is_plain_store(name, action):
-    return action.target == name and not is_read(name, action) and not action.guard
-
-
-def is_read(name, action):
-    text = " ".join([action.value, *action.subscripts])
-    return re.search(rf"(?<![A-Z0-9]){name}(?![A-Z0-9(])", text) is not None
-
-
-def is_sum(name, action):
-    """Whether a statement adds to a scalar and does nothing else with it, K = K + .. or K = K - .."""
-    found = re.match(rf"{name}[+-](.*)", action.value)
-    return action.target == name and found is not None and not re.search(rf"(?<![A-Z0-9]){name}(?![A-Z0-9(])", found[1])
-
-
-def summary(program, plan):
-    phases = program.phases(plan.marks)
-    places = [it[0] for it in phases] if len(phases) == len(plan.phases) else []
-    kinds = [kind for kind, _ in plan.phases]
-    parts = []
-    for kind, word in (("BARRIER", "barrier"), ("JOIN", "join")):
-        lines = [places[k] for k, it in enumerate(kinds) if it == kind and places]
-        count = kinds.count(kind)
-        if count or kind == "BARRIER":
-            where = f" ({listed(lines)})" if lines else ""
-            parts.append(f"{count or 'no'} {word}{'s' * (count != 1)}{where}")
-    for kind, whom in (("PRODUCER", "one processor"), ("BOTH", "neighbours"), ("", "nobody")):
-        count = sum(WAITS.get(it, "nobody") == whom for it in kinds if it not in ("BARRIER", "JOIN"))
-        if count:
-            parts.append(f"{count} wait{'s' * (count == 1)} for {whom}")
-    said = f"{len(kinds)} phase{'s' * (len(kinds) != 1)}: {', '.join(parts)}"
-    alone = [it for it in program.loops if it.number <= len(plan.marks) and plan.marks[it.number - 1] == "SINGLE"]
-    if alone:
-        told = [f"line {it.line}{why_alone(program, plan, it)}" for it in alone]
-        more = f" and {len(told) - 6} more" if len(told) > 6 else ""
-        said += f"; loops on one processor: {', '.join(told[:6])}{more}"
-    return said
-
-
-def why_alone(program, plan, loop):
-    reason = serial_scalar(program, loop) or plan.reasons.get(loop.number)
-    if not reason:
-        return ""
-    return " (a PRINT)" if reason == "PRINT" else f" ({reason})"
-
-
-def main(what, status, source, output, line, *words):
+def main(what, status, source, output, line, program, *words):
     data = read(source)
     if what == "done":
-        tell_done(words[0] if words else "", data, read(output).decode("latin-1"), words)
+        tell_done(words[0] if words else "", data, read(output).decode("latin-1"), words, program)
     elif status == "1":
-        tell_refusal(line, data, settings_of(words))
+        tell_refusal(line, data, words, program)
     elif status == "2":
         tell_words(line, data, words)
     else:
