@@ -56,6 +56,7 @@ keep_fast() {
     command -v python3 >/dev/null 2>&1 && [ -x "$kit/toolchain/bin/clang" ] && [ -x "$kit/bin/rattle-link" ] &&
         kit_of_links "$kit" clang && mkdir -p -- "$room/modules" || return
     {
+        # shellcheck disable=SC2016  # the script that is written expands them
         printf '#!/usr/bin/env bash\nif [ -f module.bc ] && [ "$(stat -c %%s module.bc)" -gt 5000 ]; then cp module.bc %q/"$$"; exit 1; fi\n' "$room/modules"
         printf 'exec %q "$@"\n' "$kit/toolchain/bin/clang"
     } >"$room/kit/toolchain/bin/clang"
