@@ -62,6 +62,7 @@ class Phase:
     actions: list = field(default_factory=list)
     lines: list = field(default_factory=list)
     line: int = 0
+    times: object = None
 
 
 @dataclass
