@@ -96,7 +96,7 @@ build_each() {
 
 # Proves and builds one crate, in a process group of its own, and says twice a minute where it is.
 build_one() {
-    local crate=$1 where=$2 program=$3 from=$SECONDS
+    local crate=$1 where=$2 program=$3 from=$SECONDS nobody
     say "$where"
     set -m
     if [ "$crate" = "$program" ]; then
@@ -106,14 +106,16 @@ build_one() {
     fi
     job=$!
     set +m
+    # a read of what nobody writes takes its time, and leaves no process behind
+    exec {nobody}<> <(:)
     while kill -0 "$job" 2>/dev/null; do
-        sleep 1 &
-        wait $!
+        read -r -t 1 -u "$nobody"
         if [ $((SECONDS - from)) -ge 30 ]; then
             from=$SECONDS
             say "$where, $SECONDS seconds so far"
         fi
     done
+    exec {nobody}>&-
     wait "$job" && return 0
     say "$crate could not be proved and built; the last lines of rt in crates/$crate were:"
     tail -n 20 "$room/said" >&2

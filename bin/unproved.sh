@@ -36,12 +36,13 @@ keep() {
 
 # The crates as they are, where a build may write beside them: themselves, or a copy.
 place_to_build() {
-    local folder=$root crates
+    local folder=$root crates it
     if ! can_write "$crate/out"; then
         folder=$room/copy
         crates_of "$name"
         mkdir -p -- "$folder/crates" || return
-        (cd -- "$root" && tar -cf - --exclude=out crates.txt HANDLES "${crates[@]/#/crates/}") | tar -xf - -C "$folder" || return
+        (cd -- "$root" && tar -cf - --exclude=out HANDLES "${crates[@]/#/crates/}") | tar -xf - -C "$folder" || return
+        for it in "${crates[@]}"; do grep "^${it}[: ]" "$root/crates.txt"; done >"$folder/crates.txt"
     fi
     printf '%s/crates/%s' "$folder" "$name"
 }

@@ -1,7 +1,6 @@
 """Warnings on a source and on the plan that is made of it, and what a plan comes to in one line."""
 
 import re
-import subprocess
 import time
 
 import counts
@@ -180,6 +179,8 @@ def asker(program, words):
     """What gives the plan of another source, made by a program on these words."""
 
     def ask(text, seconds):
+        import subprocess
+
         try:
             done = subprocess.run([program, "plan", *words], input=text.encode("latin-1"), capture_output=True, timeout=max(0.05, seconds))
             return plans.read_plan(done.stdout.decode("latin-1")) if done.returncode == 0 else None

@@ -1,7 +1,6 @@
 """Reads the text of a plan, with the reasons behind it, and finds its phases in the source."""
 
 import re
-from dataclasses import dataclass, field
 
 import source as sources
 
@@ -10,14 +9,11 @@ class Fault(Exception):
     """What is wrong, and where."""
 
 
-@dataclass
 class Anchor:
     """An affine form with a distribution."""
 
-    constant: int
-    loops: dict
-    names: dict
-    block: object
+    def __init__(self, constant, loops, names, block):
+        self.constant, self.loops, self.names, self.block = constant, loops, names, block
 
     def owner(self, workers):
         """The processor that owns it, where the form is a constant."""
@@ -48,31 +44,23 @@ class Anchor:
         return f"{text}, in blocks of {self.block}" if self.block else f"{text}, in turn"
 
 
-@dataclass
 class Phase:
-    number: int
-    kind: str
-    producer: object
-    anchor: Anchor
-    text: str
-    reasons: list = field(default_factory=list)
-    meeting: list = field(default_factory=list)
-    loop: object = None
-    above: list = field(default_factory=list)
-    actions: list = field(default_factory=list)
-    lines: list = field(default_factory=list)
-    line: int = 0
-    times: object = None
+    """A phase as its line has it, with its reasons, and where it stands in the source once that is known."""
+
+    def __init__(self, number, kind, producer, anchor, text):
+        self.number, self.kind, self.producer = number, kind, producer
+        self.anchor, self.text = anchor, text
+        self.reasons, self.meeting = [], []
+        self.line, self.loop, self.above, self.actions = 0, None, [], []
+        self.lines, self.times = [], None
 
 
-@dataclass
 class Plan:
-    workers: int
-    marks: list
-    phases: list
-    privates: dict = field(default_factory=dict)
-    # of each loop that isn't dealt out why not: its tries, one after the other
-    loop_reasons: dict = field(default_factory=dict)
+    """A plan, and of each loop that isn't dealt out why not: its tries, one after the other."""
+
+    def __init__(self, workers, marks, phases, privates):
+        self.workers, self.marks, self.phases, self.privates = workers, marks, phases, privates
+        self.loop_reasons = {}
 
     def mark(self, loop):
         return self.marks[loop.number - 1] if loop.number <= len(self.marks) else ""

@@ -5,7 +5,6 @@ comparisons are affine, so that who does what and waits for whom doesn't depend 
 """
 
 import re
-from dataclasses import dataclass
 
 import advice
 import counts
@@ -19,14 +18,11 @@ COMPARISONS = {
 }  # fmt: skip
 
 
-@dataclass
 class Act:
     """One act of a processor: work, a post of a counter, or an await of another one's."""
 
-    kind: str
-    phase: int
-    processor: int = 0
-    counter: int = 0
+    def __init__(self, kind, phase, processor=0, counter=0):
+        self.kind, self.phase, self.processor, self.counter = kind, phase, processor, counter
 
 
 class Model:
@@ -162,15 +158,12 @@ class Model:
                     self.add(processor, Act("work", phase.number))
 
 
-@dataclass
 class Span:
-    """Rounds in a row in which a processor does one thing."""
+    """Rounds in a row in which a processor does one thing; of a wait the one that it is for."""
 
-    kind: str
-    phase: int
-    begin: int
-    end: int
-    on: int = 0
+    def __init__(self, kind, phase, number, on):
+        self.kind, self.phase, self.on = kind, phase, on
+        self.begin = self.end = number
 
 
 def run(model):
@@ -203,4 +196,4 @@ def extend(lane, kind, act, number):
     if last and (last.kind, last.phase, last.on) == (kind, act.phase, on):
         last.end = number
     else:
-        lane.append(Span(kind, act.phase, number, number, on))
+        lane.append(Span(kind, act.phase, number, on))
