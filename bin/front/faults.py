@@ -177,6 +177,10 @@ class Mending:
         listed = re.sub(r"=[^,()]*", "", code.rpartition("::")[2]) if "::" in code else ""
         if name in ("type", "kind", "colons"):
             self.mend_type(statement, listed)
+        elif name == "parameter":
+            self.write(statement, f"PARAMETER ({code[len('PARAMETER'):]})")
+        elif name == "first-value":
+            self.write(statement, "INTEGER " + ", ".join(it.partition("=")[0] for it in sources.split_outside(code[len("INTEGER"):])))
         elif name == "end-do" and self.loops_at(line):
             self.put(line, f"{self.loops_at(line)[-1].label:>5} CONTINUE")
         elif name == "missing_label":
@@ -226,7 +230,9 @@ class Mending:
         self.rename(found[0], "I" + plain[:5] if name == "no_integer" else plain[:6])
 
     def is_guess(self, fault):
-        """Whether a fault may come of what was passed over alone."""
+        """Whether a fault may come of what was passed over alone: one of form doesn't."""
+        if fault.code in ("F1", "F2", "F11"):
+            return False
         if fault.code == "S1":
             return self.no_ranges or bool(self.guessed)
         hint = fault.hint
