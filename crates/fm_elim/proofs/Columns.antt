@@ -10,21 +10,14 @@ use Rattle.std.proofs.lemmas.List.Elements.{Contains-get_or}
 use Rattle.std.proofs.lemmas.List.Sorted.{Contains-permutation}
 use Rattle.std.proofs.Math.IntN.{*ℤ_comm, *ℤ-zero, pos-*ℤ-pos}
 use Rattle.farkas_cert.specs.declared.system.Row.{Row}
-use Rattle.fm_elim.specs.Reduction.{IsReduced}
-use Rattle.fm_elim.specs.Pairs.{coef_of, combined, combination, IsPair}
-use Rattle.fm_elim.specs.Levels.{IsEmpty, IsRaw, IsCombined}
+use Rattle.elim_rows.specs.Reduction.{IsReduced}
+use Rattle.elim_rows.specs.Pairs.{coef_of, combined, combination, IsPair}
+use Rattle.elim_rows.specs.Candidates.{IsEmpty}
+use Rattle.elim_level.specs.Levels.{IsRaw, IsCombined}
 use Rattle.farkas_cert.proofs.Integers.{mul_assoc_ℤ}
 use Rattle.fm_elim.proofs.Integers.{mul_swap, mul-neg}
-use Rattle.fm_elim.proofs.Combined.{by_lt}
+use Rattle.elim_rows.proofs.Combined.{by_lt, combined-at}
 use Rattle.fm_elim.proofs.Removal.{IsSolvable}
-
--- the coefficients of a combination
-pub combined-at : (m n : ℤ) (us ls : List ℤ) (k : ℕ) → length ls ≡ length us → get_or (combined m us n ls) k (pos 0) ≡ m *ℤ get_or us k (pos 0) +ℤ n *ℤ get_or ls k (pos 0)
-combined-at m n [] [] k same = omega (arith, ints, *ℤ-zero m, *ℤ-zero n)
-combined-at m n [] (l ∷ ls) k same = absurd (omega arith)
-combined-at m n (u ∷ us) [] k same = absurd (omega arith)
-combined-at m n (u ∷ us) (l ∷ ls) zero same = refl
-combined-at m n (u ∷ us) (l ∷ ls) (suc k) same = combined-at m n us ls k (omega arith)
 
 -- 0 stays 0 in a combination
 combined-zero : (m n : ℤ) (us ls : List ℤ) (k : ℕ) → length ls ≡ length us → get_or us k (pos 0) ≡ pos 0 → get_or ls k (pos 0) ≡ pos 0 → get_or (combined m us n ls) k (pos 0) ≡ pos 0

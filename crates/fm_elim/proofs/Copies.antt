@@ -9,20 +9,13 @@ use Rattle.farkas_cert.specs.declared.certificate.Step.{Step}
 use Rattle.farkas_cert.specs.Combination.{no_row, row_at, entry_at, products_at, total, sum_at, made_row, stays_narrow}
 use Rattle.farkas_cert.specs.Good.{IsGoodStep, AreGoodSteps, rows_after}
 use Rattle.fm_elim.specs.Lean.{Names, renamed, renumbered}
-use Rattle.fm_elim.proofs.Steps.{IsGoodStep-append, made_row-append, map-agree}
+use Rattle.elim_level.proofs.Steps.{IsGoodStep-append, made_row-append, map-agree, rows_after-begins}
 
 -- the first steps are good too
 pub AreGoodSteps-take : (vars : ℕ) (rows : List Row) (n : ℕ) (steps : List Step) → AreGoodSteps vars rows steps → AreGoodSteps vars rows (take n steps)
 AreGoodSteps-take vars rows zero steps good = tt
 AreGoodSteps-take vars rows (suc n) [] good = tt
 AreGoodSteps-take vars rows (suc n) (s ∷ steps) good = (good.0, AreGoodSteps-take vars (rows ++ made_row vars rows s ∷ []) n steps good.1)
-
--- the rows so far come first
-pub rows_after-begins : (vars : ℕ) (rows : List Row) (steps : List Step) → (more : List Row) × (rows_after vars rows steps ≡ rows ++ more)
-rows_after-begins vars rows [] = ([], sym (append-nil rows))
-rows_after-begins vars rows (s ∷ steps) =
-    let rest = rows_after-begins vars (rows ++ made_row vars rows s ∷ []) steps in
-    (made_row vars rows s ∷ rest.0, rest.1 ∙ append_assoc rows (made_row vars rows s ∷ []) rest.0)
 
 -- a step among good steps: it is good over all their rows, makes its own one, and names only earlier ones
 pub record IsStepAt (vars : ℕ) (rows : List Row) (steps : List Step) (k : ℕ) (step : Step) : Type 0 where

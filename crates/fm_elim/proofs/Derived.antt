@@ -5,16 +5,17 @@ use Rattle.std.proofs.lemmas.List.{length-map}
 use Rattle.std.proofs.lemmas.List.Elements.{All-head, All-tail, All-contains, Contains-get_or}
 use Rattle.farkas_cert.specs.declared.system.Row.{Row}
 use Rattle.farkas_cert.specs.Inequalities.{Inequalities, AreFull}
-use Rattle.fm_elim.specs.Reduction.{IsReduced}
-use Rattle.fm_elim.specs.Pairs.{coef_of}
-use Rattle.fm_elim.specs.Levels.{IsEmpty, IsRaw, IsDerived}
+use Rattle.elim_rows.specs.Reduction.{IsReduced}
+use Rattle.elim_rows.specs.Pairs.{coef_of}
+use Rattle.elim_rows.specs.Candidates.{IsEmpty}
+use Rattle.elim_level.specs.Levels.{IsRaw, IsDerived}
 use Rattle.fm_elim.specs.Reached.{IsExact}
-use Rattle.fm_elim.proofs.Combined.{by_lt}
-use Rattle.fm_elim.proofs.Steps.{length-combined}
-use Rattle.fm_elim.proofs.Lowest.{IsReduced-lowest}
+use Rattle.elim_rows.proofs.Combined.{by_lt}
+use Rattle.elim_level.proofs.Steps.{length-combined}
+use Rattle.elim_level.proofs.Lowest.{IsReduced-lowest}
 use Rattle.fm_elim.proofs.Removal.{IsSolvable}
 use Rattle.fm_elim.proofs.Exactness.{raw_of_other}
-use Rattle.fm_elim.proofs.Least.{kept_exists}
+use Rattle.elim_level.proofs.Least.{kept_exists}
 use Rattle.fm_elim.proofs.Back.{solvable_before, solvable_system}
 use Rattle.fm_elim.proofs.Columns.{rid_next, zero_reduced}
 use Rattle.fm_elim.proofs.Finite.{listed_rows, complete_from, level_list, listed_after}

@@ -8,12 +8,12 @@ use Rattle.farkas_cert.specs.declared.certificate.Certificate.{Certificate}
 use Rattle.farkas_cert.specs.Inequalities.{Inequalities}
 use Rattle.farkas_cert.specs.Combination.{no_row, row_at, made_row}
 use Rattle.farkas_cert.specs.Good.{AreGoodSteps, rows_after, IsContradiction, EndInContradiction, IsGood}
-use Rattle.fm_elim.specs.declared.derivation.Derivation.{Derivation}
-use Rattle.fm_elim.specs.Reduction.{DividesEach}
-use Rattle.fm_elim.specs.Logs.{step_of, all_rows, IsLog, IsNumber, IsSuited}
-use Rattle.fm_elim.proofs.Divisors.{divided-one}
-use Rattle.fm_elim.proofs.Steps.{good_reduction, reduction_makes, length-rows_after}
-use Rattle.fm_elim.proofs.Copies.{AreGoodSteps-take, rows_after-begins}
+use Rattle.elim_rows.specs.declared.derivation.Derivation.{Derivation}
+use Rattle.elim_rows.specs.Reduction.{DividesEach}
+use Rattle.elim_level.specs.Logs.{step_of, all_rows, IsLog, IsNumber, IsSuited}
+use Rattle.elim_rows.proofs.Divisors.{divided-one}
+use Rattle.elim_level.proofs.Steps.{good_reduction, reduction_makes, length-rows_after, rows_after-begins}
+use Rattle.fm_elim.proofs.Copies.{AreGoodSteps-take}
 
 -- the last row is a contradiction
 pub ends_in : (rows : List Row) → 0 < length rows → IsContradiction (row_at rows (length rows)) → EndInContradiction rows

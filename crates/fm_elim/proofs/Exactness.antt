@@ -7,24 +7,13 @@ use Rattle.std.proofs.lemmas.List.{get_or_default}
 use Rattle.std.proofs.lemmas.List.Elements.{All-contains}
 use Rattle.farkas_cert.specs.declared.system.Row.{Row}
 use Rattle.farkas_cert.specs.Inequalities.{Inequalities}
-use Rattle.fm_elim.specs.Reduction.{IsReduced, divided}
-use Rattle.fm_elim.specs.Pairs.{coef_of, IsPair}
-use Rattle.fm_elim.specs.Levels.{IsEmpty, IsLevelRow, IsRaw, IsDerived}
-use Rattle.fm_elim.specs.Forming.{Covers, IsFormed}
+use Rattle.elim_rows.specs.Reduction.{IsReduced}
+use Rattle.elim_rows.specs.Candidates.{IsEmpty, Covers}
+use Rattle.elim_level.specs.Levels.{IsLevelRow, IsRaw, IsDerived}
+use Rattle.elim_level.specs.Forming.{IsFormed}
 use Rattle.fm_elim.specs.Reached.{IsExact}
-use Rattle.fm_elim.proofs.Combined.{by_lt}
-
--- there is one reduced form
-pub IsReduced-unique : (raw r s : Row) → IsReduced raw r → IsReduced raw s → r ≡ s
-IsReduced-unique raw r s a b =
-    let same : a.0 ≡ b.0 = dvd_antisymm (b.1.0.1 a.0 a.1.0.0) (a.1.0.1 b.0 b.1.0.0) in
-    a.1.1 ∙ ap (λ g. divided (max g 1) raw) same ∙ sym b.1.1
-
--- a pair has one pair of least multipliers
-pub IsPair-unique : (v : ℕ) (upper lower : Row) (m n p q : ℤ) → IsPair v upper lower m n → IsPair v upper lower p q → (m ≡ p) × (n ≡ q)
-IsPair-unique v upper lower m n p q a b =
-    let same : a.divisor ≡ b.divisor = same_from_IsGcd (unsigned_abs (coef_of v upper)) (unsigned_abs (coef_of v lower)) a.divisor b.divisor a.common b.common in
-    (a.upper_times ∙ ap (λ g. pos (unsigned_abs (coef_of v lower) / g)) same ∙ sym b.upper_times, a.lower_times ∙ ap (λ g. pos (unsigned_abs (coef_of v upper) / g)) same ∙ sym b.lower_times)
+use Rattle.elim_rows.proofs.Combined.{by_lt}
+use Rattle.elim_level.proofs.Unique.{IsReduced-unique}
 
 pub row_same : (r s : Row) → r.coefs ≡ s.coefs → r.bound ≡ s.bound → r ≡ s
 row_same r s e f = ap (λ xs. record { coefs = xs; bound = r.bound }) e ∙ ap (λ b. record { coefs = s.coefs; bound = b }) f

@@ -5,16 +5,16 @@ use Rattle.std.proofs.lemmas.List.{length-map, get_or-map}
 use Rattle.std.proofs.lemmas.List.Elements.{All-weaker}
 use Rattle.farkas_cert.specs.declared.system.Row.{Row}
 use Rattle.farkas_cert.specs.Inequalities.{Inequalities, AreFull}
-use Rattle.fm_elim.specs.declared.derivation.Derivation.{Derivation}
-use Rattle.fm_elim.specs.declared.level.Held.{Held}
-use Rattle.fm_elim.specs.declared.level.HeldRows.{HeldRows}
-use Rattle.fm_elim.specs.Pairs.{coef_of, IsPair}
-use Rattle.fm_elim.specs.Levels.{IsDerived}
-use Rattle.fm_elim.specs.Forming.{IsFormed}
+use Rattle.elim_rows.specs.declared.derivation.Derivation.{Derivation}
+use Rattle.elim_level.specs.declared.level.Held.{Held}
+use Rattle.elim_level.specs.declared.level.HeldRows.{HeldRows}
+use Rattle.elim_rows.specs.Pairs.{coef_of, IsPair}
+use Rattle.elim_level.specs.Levels.{IsDerived}
+use Rattle.elim_level.specs.Forming.{IsFormed}
 use Rattle.fm_elim.specs.Lean.{renamed}
 use Rattle.fm_elim.specs.Moved.{moved_by, moved_held}
-use Rattle.fm_elim.specs.Table.{IsTable}
-use Rattle.fm_elim.specs.Logs.{step_of, IsLog, IsSuited, IsHeld, rows_of}
+use Rattle.elim_rows.specs.Table.{IsTable}
+use Rattle.elim_level.specs.Logs.{step_of, IsLog, IsSuited, IsHeld, rows_of}
 use Rattle.fm_elim.specs.Reached.{IsExact, IsReached}
 use Rattle.fm_elim.proofs.Copies.{step_at}
 use Rattle.fm_elim.proofs.Moving.{moved_within, moved_log, moved_number}

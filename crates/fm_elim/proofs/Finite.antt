@@ -8,14 +8,15 @@ use Rattle.std.proofs.lemmas.Bool.Decides.{Decides-int_eq, not_from_Decides}
 use Rattle.std.proofs.lemmas.List.Elements.{All-head, All-tail, All-nil, All-cons, All-contains, Contains-append_right, Contains-append_cases}
 use Rattle.farkas_cert.specs.declared.system.Row.{Row}
 use Rattle.farkas_cert.specs.Inequalities.{Inequalities}
-use Rattle.fm_elim.specs.Reduction.{IsReduced}
-use Rattle.fm_elim.specs.Pairs.{coef_of}
-use Rattle.fm_elim.specs.Levels.{IsEmpty, IsLevelRow, IsRaw, IsDerived}
-use Rattle.fm_elim.specs.Gathering.{IsUseful}
+use Rattle.elim_rows.specs.Reduction.{IsReduced}
+use Rattle.elim_rows.specs.Pairs.{coef_of}
+use Rattle.elim_rows.specs.Candidates.{IsEmpty, IsUseful}
+use Rattle.elim_level.specs.Levels.{IsLevelRow, IsRaw, IsDerived}
 use Rattle.fm_elim.specs.Reached.{IsExact}
-use Rattle.fm_elim.proofs.Exactness.{IsReduced-unique, row_same, raw_of_other}
+use Rattle.elim_level.proofs.Unique.{IsReduced-unique}
+use Rattle.fm_elim.proofs.Exactness.{row_same, raw_of_other}
 use Rattle.fm_elim.proofs.Back.{IsComplete}
-use Rattle.fm_elim.proofs.Least.{Listed, listed_one, listed_each, listed_alone, listed_raws, reduction_exists, kept_exists}
+use Rattle.elim_level.proofs.Least.{Listed, listed_one, listed_each, listed_alone, listed_raws, reduction_exists, kept_exists}
 
 -- a row has coefficients or not
 empty_or_not : (coefs : List ℤ) → All (λ a. a ≡ pos 0) coefs ⊎ (All (λ a. a ≡ pos 0) coefs → ⊥)

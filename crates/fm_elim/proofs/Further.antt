@@ -8,20 +8,22 @@ use Rattle.std.proofs.lemmas.List.Kept.{AllPairs-cons}
 use lib.Signed.{≤ℤ_refl}
 use Rattle.farkas_cert.specs.declared.system.Row.{Row}
 use Rattle.farkas_cert.specs.Inequalities.{Inequalities}
-use Rattle.fm_elim.specs.Reduction.{IsReduced}
+use Rattle.elim_rows.specs.Reduction.{IsReduced}
 use Rattle.farkas_cert.specs.Combination.{stays_narrow}
-use Rattle.fm_elim.specs.Pairs.{coef_of, products_of}
-use Rattle.fm_elim.specs.Levels.{IsEmpty, IsLevelRow, IsCombined, IsRaw, IsDerived, HasMoreThan}
-use Rattle.fm_elim.specs.Forming.{IsFormed}
+use Rattle.elim_rows.specs.Pairs.{coef_of, products_of}
+use Rattle.elim_rows.specs.Candidates.{IsEmpty}
+use Rattle.elim_level.specs.Levels.{IsLevelRow, IsCombined, IsRaw, IsDerived, HasMoreThan}
+use Rattle.elim_level.specs.Forming.{IsFormed}
 use Rattle.fm_elim.specs.Answers.{HasNoWidePair}
 use Rattle.fm_elim.specs.Reached.{IsExact}
 use Rattle.fm_elim.proofs.AtMost.{at_most}
-use Rattle.fm_elim.proofs.Combined.{by_lt}
-use Rattle.fm_elim.proofs.Lowest.{IsReduced-lowest}
+use Rattle.elim_rows.proofs.Combined.{by_lt}
+use Rattle.elim_level.proofs.Lowest.{IsReduced-lowest}
 use Rattle.fm_elim.proofs.Columns.{zero_reduced}
-use Rattle.fm_elim.proofs.Covering.{Contains-map}
-use Rattle.fm_elim.proofs.Exactness.{IsReduced-unique, raw_of_other, kept_of_other, kept_from_formed, formed_has_kept}
-use Rattle.fm_elim.proofs.Least.{Listed, listed_both, reduction_exists}
+use Rattle.elim_rows.proofs.Covering.{Contains-map}
+use Rattle.elim_level.proofs.Unique.{IsReduced-unique}
+use Rattle.fm_elim.proofs.Exactness.{raw_of_other, kept_of_other, kept_from_formed, formed_has_kept}
+use Rattle.elim_level.proofs.Least.{Listed, listed_both, reduction_exists}
 use Rattle.fm_elim.proofs.Finite.{kept_for, level_same, listed_rows, listed_without, level_list, listed_after}
 use Rattle.fm_elim.proofs.Derived.{derived_lowest, derived_useful}
 

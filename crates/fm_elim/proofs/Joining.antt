@@ -5,21 +5,21 @@ use Rattle.std.proofs.lemmas.List.{take_all, take_more, map-append, length-drop}
 use Rattle.std.proofs.lemmas.List.Elements.{All-contains, Contains-get_or, Contains-append_left, Contains-append_right}
 use Rattle.farkas_cert.specs.declared.system.Row.{Row}
 use Rattle.farkas_cert.specs.Inequalities.{Inequalities}
-use Rattle.fm_elim.specs.declared.derivation.Derivation.{Derivation}
-use Rattle.fm_elim.specs.declared.level.Held.{Held}
-use Rattle.fm_elim.specs.declared.level.Candidate.{Candidate}
-use Rattle.fm_elim.specs.declared.level.Origin.TheVariants.{Numbered}
-use Rattle.fm_elim.specs.Reduction.{IsReduced}
-use Rattle.fm_elim.specs.Forming.{IsFormed}
+use Rattle.elim_rows.specs.declared.derivation.Derivation.{Derivation}
+use Rattle.elim_level.specs.declared.level.Held.{Held}
+use Rattle.elim_rows.specs.declared.candidate.Candidate.{Candidate}
+use Rattle.elim_rows.specs.declared.candidate.Origin.TheVariants.{Numbered}
+use Rattle.elim_rows.specs.Reduction.{IsReduced}
+use Rattle.elim_level.specs.Forming.{IsFormed}
 use Rattle.fm_elim.specs.Moved.{moved_by, moved_held}
-use Rattle.fm_elim.specs.Table.{IsPut, candidate_with}
-use Rattle.fm_elim.specs.Logs.{step_of, all_rows, IsNumber, IsFounded, IsHeld, rows_of, rows_among}
-use Rattle.fm_elim.specs.Gathering.{IsCovered, AreTaken}
-use Rattle.fm_elim.proofs.Covering.{Contains-map}
-use Rattle.fm_elim.proofs.Copies.{rows_after-begins}
-use Rattle.fm_elim.proofs.Steps.{IsNumber-append}
-use Rattle.fm_elim.proofs.Leveling.{formed_from}
-use Rattle.fm_elim.proofs.Given.{given_number, AreTaken-more}
+use Rattle.elim_rows.specs.Table.{IsPut, candidate_with}
+use Rattle.elim_level.specs.Logs.{step_of, all_rows, IsNumber, IsFounded, IsHeld, rows_of}
+use Rattle.elim_rows.specs.Candidates.{rows_among}
+use Rattle.elim_level.specs.Gathering.{IsCovered, AreTaken}
+use Rattle.elim_rows.proofs.Covering.{Contains-map}
+use Rattle.elim_level.proofs.Steps.{rows_after-begins, IsNumber-append}
+use Rattle.elim_level.proofs.Leveling.{formed_from}
+use Rattle.elim_level.proofs.Given.{given_number, AreTaken-more}
 
 -- a row of one list or the other
 abbrev pub IsEither : List Row → List Row → Row → Type 0

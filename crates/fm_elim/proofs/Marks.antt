@@ -5,10 +5,10 @@ use Rattle.std.proofs.lemmas.List.{get_or-set_same, get_or_default, length-set, 
 use Rattle.std.proofs.lemmas.Bool.{both_ways}
 use Rattle.std.proofs.lemmas.List.Elements.{All-head, All-tail, All-cons, All-nil, All-weaker}
 use Rattle.std.specs.Prelude.{option_to_list}
-use Rattle.fm_elim.specs.declared.derivation.Derivation.{Derivation}
-use Rattle.fm_elim.specs.Logs.{step_of}
+use Rattle.elim_rows.specs.declared.derivation.Derivation.{Derivation}
+use Rattle.elim_level.specs.Logs.{step_of}
 use Rattle.fm_elim.specs.Lean.{Names, IsMarked, AreMarkedToo, AreNeeded}
-use Rattle.fm_elim.proofs.Combined.{by_lt}
+use Rattle.elim_rows.proofs.Combined.{by_lt}
 
 -- what holds of all terms holds of the first and of the second
 pub at_first : (P : ℕ × ℤ → Type 0) (d : Derivation) → All P (step_of d).terms → P d.first

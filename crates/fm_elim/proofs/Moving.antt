@@ -10,11 +10,11 @@ use Rattle.farkas_cert.specs.declared.certificate.Step.{Step}
 use Rattle.farkas_cert.specs.Inequalities.{Inequalities}
 use Rattle.farkas_cert.specs.Combination.{no_row, row_at, made_row}
 use Rattle.farkas_cert.specs.Good.{AreGoodSteps, rows_after}
-use Rattle.fm_elim.specs.declared.derivation.Derivation.{Derivation}
+use Rattle.elim_rows.specs.declared.derivation.Derivation.{Derivation}
 use Rattle.fm_elim.specs.Lean.{renamed}
-use Rattle.fm_elim.specs.Logs.{step_of, all_rows, IsLog, IsNumber}
+use Rattle.elim_level.specs.Logs.{step_of, all_rows, IsLog, IsNumber}
 use Rattle.fm_elim.specs.Moved.{moved_by}
-use Rattle.fm_elim.proofs.Combined.{by_lt}
+use Rattle.elim_rows.proofs.Combined.{by_lt}
 use Rattle.fm_elim.proofs.Copies.{AreSameBy, IsGoodStep-renamed, made_row-renamed}
 
 moved_early : (given more n : ℕ) → n ≤ given → moved_by given more n ≡ n

@@ -9,17 +9,17 @@ use Rattle.farkas_cert.specs.declared.system.Row.{Row}
 use Rattle.farkas_cert.specs.Inequalities.{Inequalities}
 use Rattle.farkas_cert.specs.Combination.{no_row, row_at, entry_at, made_row, is_narrow, stays_narrow}
 use Rattle.farkas_cert.specs.Good.{IsGoodStep, AreGoodSteps, rows_after, IsContradiction}
-use Rattle.fm_elim.specs.declared.derivation.Derivation.{Derivation}
-use Rattle.fm_elim.specs.declared.level.Held.{Held}
-use Rattle.fm_elim.specs.Reduction.{DividesEach}
-use Rattle.fm_elim.specs.Pairs.{combined, combination, IsNarrow}
-use Rattle.fm_elim.specs.Logs.{step_of, all_rows, IsLog, IsNumber, IsSuited, IsHeld}
+use Rattle.elim_rows.specs.declared.derivation.Derivation.{Derivation}
+use Rattle.elim_level.specs.declared.level.Held.{Held}
+use Rattle.elim_rows.specs.Reduction.{DividesEach}
+use Rattle.elim_rows.specs.Pairs.{combined, combination, IsNarrow}
+use Rattle.elim_level.specs.Logs.{step_of, all_rows, IsLog, IsNumber, IsSuited, IsHeld}
 use Rattle.fm_elim.specs.Answers.{AreClashing}
-use Rattle.fm_elim.proofs.Divisors.{divided-one}
+use Rattle.elim_rows.proofs.Divisors.{divided-one}
 use Rattle.farkas_cert.proofs.Sums.{entry_at-last}
-use Rattle.fm_elim.proofs.Combined.{all_three, by_lt, both_narrow, entry_at-coef}
-use Rattle.fm_elim.proofs.Steps.{AreGoodSteps-push, rows_after-push, narrow-entry, once, good_combination, combination_makes}
-use Rattle.fm_elim.proofs.Lowest.{IsSuited-combination}
+use Rattle.elim_rows.proofs.Combined.{all_three, by_lt, both_narrow, entry_at-coef, once}
+use Rattle.elim_level.proofs.Steps.{AreGoodSteps-push, rows_after-push, narrow-entry, good_combination, combination_makes}
+use Rattle.elim_level.proofs.Lowest.{IsSuited-combination}
 use Rattle.fm_elim.proofs.Endings.{length-all_rows}
 
 -- opposites add to 0

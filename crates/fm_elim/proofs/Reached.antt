@@ -7,20 +7,21 @@ use Rattle.std.proofs.lemmas.List.Elements.{All-contains, All-map, All-weaker, C
 use Rattle.std.proofs.lemmas.List.Sorted.{Contains-permutation, length_permutation, IsPermutation-sym}
 use Rattle.farkas_cert.specs.declared.system.Row.{Row}
 use Rattle.farkas_cert.specs.Inequalities.{Inequalities, AreFull}
-use Rattle.fm_elim.specs.declared.derivation.Derivation.{Derivation}
-use Rattle.fm_elim.specs.declared.level.Held.{Held}
-use Rattle.fm_elim.specs.declared.level.HeldRows.{HeldRows}
-use Rattle.fm_elim.specs.Pairs.{IsPair, IsWide}
-use Rattle.fm_elim.specs.Levels.{IsEmpty, IsLevelRow, IsRaw, IsDerived, IsClearTo, HasMoreThan}
-use Rattle.fm_elim.specs.Forming.{IsFormed}
-use Rattle.fm_elim.specs.Table.{IsTable}
-use Rattle.fm_elim.specs.Logs.{IsLog, IsHeld, rows_of}
+use Rattle.elim_rows.specs.declared.derivation.Derivation.{Derivation}
+use Rattle.elim_level.specs.declared.level.Held.{Held}
+use Rattle.elim_level.specs.declared.level.HeldRows.{HeldRows}
+use Rattle.elim_rows.specs.Pairs.{IsPair, IsWide}
+use Rattle.elim_rows.specs.Candidates.{IsEmpty}
+use Rattle.elim_level.specs.Levels.{IsLevelRow, IsRaw, IsDerived, IsClearTo, HasMoreThan}
+use Rattle.elim_level.specs.Forming.{IsFormed}
+use Rattle.elim_rows.specs.Table.{IsTable}
+use Rattle.elim_level.specs.Logs.{IsLog, IsHeld, rows_of}
 use Rattle.fm_elim.specs.Answers.{NamesEachOnce, HasRationalSolution, IsWidePair, HasNoWidePair, IsPassedTo, IsOpen, IsWideAt, IsManyAt, IsFreeOfClashes}
-use Rattle.fm_elim.specs.Next.{AreNowhereWide, IsNextLevel}
+use Rattle.elim_level.specs.Next.{AreNowhereWide, IsNextLevel}
 use Rattle.fm_elim.specs.Reached.{IsExact, IsReached}
 use Rattle.fm_elim.proofs.AtMost.{at_most}
-use Rattle.fm_elim.proofs.Covering.{Contains-map}
-use Rattle.fm_elim.proofs.Combined.{by_lt}
+use Rattle.elim_rows.proofs.Covering.{Contains-map}
+use Rattle.elim_rows.proofs.Combined.{by_lt}
 use Rattle.fm_elim.proofs.Exactness.{IsExact-first, IsExact-next, raw_of_other, kept_of_other}
 use Rattle.fm_elim.proofs.Columns.{empty_from_rid, solvable_nothing}
 use Rattle.fm_elim.proofs.Derived.{derived_useful, derived_full, derived_rid, contradiction_stays, solvable_from}

@@ -7,7 +7,7 @@ use Rattle.std.proofs.Math.IntN.{*ℤ_comm, zero-*ℤ}
 use lib.Signed.{≤ℤ_refl}
 use Rattle.farkas_cert.specs.declared.system.Row.{Row}
 use Rattle.farkas_cert.specs.Inequalities.{left_side as dot}
-use Rattle.fm_elim.specs.Pairs.{coef_of}
+use Rattle.elim_rows.specs.Pairs.{coef_of}
 use Rattle.farkas_cert.proofs.Integers.{mul_assoc_ℤ, mul_le_ℤ}
 use Rattle.farkas_cert.proofs.Sums.{mul-add}
 use Rattle.fm_elim.proofs.Integers.{mul-neg, mul_swap, mul_le_cancel}

@@ -9,13 +9,13 @@ use Rattle.farkas_cert.specs.declared.certificate.Certificate.{Certificate}
 use Rattle.farkas_cert.specs.Inequalities.{Inequalities}
 use Rattle.farkas_cert.specs.Combination.{no_row, row_at, made_row}
 use Rattle.farkas_cert.specs.Good.{IsGoodStep, AreGoodSteps, rows_after}
-use Rattle.fm_elim.specs.declared.derivation.Derivation.{Derivation}
-use Rattle.fm_elim.specs.Logs.{step_of, all_rows, IsLog}
+use Rattle.elim_rows.specs.declared.derivation.Derivation.{Derivation}
+use Rattle.elim_level.specs.Logs.{step_of, all_rows, IsLog}
 use Rattle.fm_elim.specs.Lean.{Names, IsMarked, AreNeeded, IsLean, renumbered}
-use Rattle.fm_elim.proofs.Combined.{by_lt}
-use Rattle.fm_elim.proofs.Steps.{AreGoodSteps-push, rows_after-push, length-rows_after}
+use Rattle.elim_rows.proofs.Combined.{by_lt}
+use Rattle.elim_level.proofs.Steps.{AreGoodSteps-push, rows_after-push, length-rows_after, rows_after-begins}
 use Rattle.fm_elim.proofs.Marks.{within_named}
-use Rattle.fm_elim.proofs.Copies.{rows_after-begins, IsStepAt, step_at, AreSame, IsGoodStep-renamed, made_row-renamed, Names-renumbered}
+use Rattle.fm_elim.proofs.Copies.{IsStepAt, step_at, AreSame, IsGoodStep-renamed, made_row-renamed, Names-renumbered}
 
 -- the step of this number of steps is that of a derivation, by new numbers
 pub record IsCopy (system : Inequalities) (log : List Derivation) (numbers : List ℕ) (steps : List Step) (place k : ℕ) : Type 0 where

@@ -7,10 +7,10 @@ use Rattle.fm_elim.specs.declared.elimination.Level.{Level}
 use Rattle.fm_elim.specs.declared.elimination.Advance.{Advance}
 use Rattle.fm_elim.specs.declared.elimination.Advance.TheVariants as advances
 use Rattle.fm_elim.specs.declared.answer.Answer.{Answer}
-use Rattle.fm_elim.specs.Pairs.{coef_of}
+use Rattle.elim_rows.specs.Pairs.{coef_of}
 use Rattle.fm_elim.specs.Lean.{IsLean}
-use Rattle.fm_elim.specs.Levels.{IsDerived}
-use Rattle.fm_elim.specs.Logs.{rows_of}
+use Rattle.elim_level.specs.Levels.{IsDerived}
+use Rattle.elim_level.specs.Logs.{rows_of}
 use Rattle.fm_elim.specs.Answers.{NamesEachOnce, IsDecided, IfInfeasible, IfWide, IfMany, IsFreeOfClashes}
 use Rattle.fm_elim.specs.Reached.{IsReached}
 

@@ -9,8 +9,8 @@ use Rattle.farkas_cert.specs.declared.certificate.Certificate.{Certificate}
 use Rattle.farkas_cert.specs.Good.{IsGood}
 use Rattle.fm_elim.specs.declared.answer.Answer.{Answer}
 use Rattle.fm_elim.specs.declared.answer.Answer.TheVariants.{Infeasible, Open, Wide, Many}
-use Rattle.fm_elim.specs.Pairs.{IsPair, IsWide}
-use Rattle.fm_elim.specs.Levels.{IsDerived, IsClearTo, HasMoreThan}
+use Rattle.elim_rows.specs.Pairs.{IsPair, IsWide}
+use Rattle.elim_level.specs.Levels.{IsDerived, IsClearTo, HasMoreThan}
 
 -- the order names each variable, from 1, once
 abbrev pub NamesEachOnce : ℕ → List ℕ → Type 0

@@ -4,8 +4,8 @@ use Rattle.std.specs.List.{All, Any}
 use Rattle.farkas_cert.specs.declared.certificate.Step.{Step}
 use Rattle.farkas_cert.specs.declared.certificate.Certificate.{Certificate}
 use Rattle.farkas_cert.specs.Inequalities.{Inequalities}
-use Rattle.fm_elim.specs.declared.derivation.Derivation.{Derivation}
-use Rattle.fm_elim.specs.Logs.{step_of}
+use Rattle.elim_rows.specs.declared.derivation.Derivation.{Derivation}
+use Rattle.elim_level.specs.Logs.{step_of}
 
 -- a term of the step names the row with this number
 abbrev pub Names : Step → ℕ → Type 0

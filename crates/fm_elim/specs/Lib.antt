@@ -1,14 +1,6 @@
-pub mod Reduction
-pub mod Pairs
-pub mod Levels
-pub mod Forming
-pub mod Logs
-pub mod Gathering
-pub mod Next
+pub use Rattle.elim_rows.specs.Pairs
 pub mod Answers
 pub mod Moved
 pub mod Reached
 pub mod Advances
 pub mod Lean
-pub mod Chains
-pub mod Table

@@ -1,6 +1,6 @@
 -- Numbers of rows where further rows come behind the given ones.
 use Rattle.std.specs.Prelude.{ℕ, ◌+◌, nat_le, if◌then◌else◌, ◌≡◌, refl}
-use Rattle.fm_elim.specs.declared.level.Held.{Held}
+use Rattle.elim_level.specs.declared.level.Held.{Held}
 
 -- the number of a row where so many more rows follow the given ones: these keep their numbers
 abbrev pub moved_by : ℕ → ℕ → ℕ → ℕ

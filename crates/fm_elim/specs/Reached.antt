@@ -3,11 +3,11 @@ use Rattle.std.specs.Prelude.{ℕ, ◌≤◌, ◌<◌, List}
 use Rattle.std.specs.List.{All, Contains}
 use Rattle.farkas_cert.specs.declared.system.Row.{Row}
 use Rattle.farkas_cert.specs.Inequalities.{Inequalities, AreFull}
-use Rattle.fm_elim.specs.declared.derivation.Derivation.{Derivation}
-use Rattle.fm_elim.specs.declared.level.HeldRows.{HeldRows}
-use Rattle.fm_elim.specs.Levels.{IsDerived, HasMoreThan}
-use Rattle.fm_elim.specs.Table.{IsTable}
-use Rattle.fm_elim.specs.Logs.{IsLog, IsHeld, rows_of}
+use Rattle.elim_rows.specs.declared.derivation.Derivation.{Derivation}
+use Rattle.elim_level.specs.declared.level.HeldRows.{HeldRows}
+use Rattle.elim_level.specs.Levels.{IsDerived, HasMoreThan}
+use Rattle.elim_rows.specs.Table.{IsTable}
+use Rattle.elim_level.specs.Logs.{IsLog, IsHeld, rows_of}
 use Rattle.fm_elim.specs.Answers.{HasNoWidePair}
 
 -- the list has exactly the rows of the set

@@ -6,11 +6,11 @@ ghost use Rattle.farkas_cert.specs.declared.system.Row.{Row as RowOf};
 ghost use Rattle.farkas_cert.specs.declared.certificate.Certificate.{Certificate as CertificateOf};
 ghost use Rattle.farkas_cert.specs.Combination.{row_at};
 ghost use Rattle.farkas_cert.specs.Good.{AreGoodSteps, rows_after, IsContradiction, IsGood};
-ghost use Rattle.fm_elim.specs.declared.derivation.Derivation.{Derivation as DerivationOf};
-ghost use Rattle.fm_elim.specs.Logs.{step_of, all_rows, IsLog, IsNumber, IsSuited};
+ghost use Rattle.elim_rows.specs.declared.derivation.Derivation.{Derivation as DerivationOf};
+ghost use Rattle.elim_level.specs.Logs.{step_of, all_rows, IsLog, IsNumber, IsSuited};
 ghost use Rattle.fm_elim.specs.Lean.{IsLean, AreMarkedToo, AreNeeded, renumbered as renumbered_by};
 
-use crate::derivation::Derivation;
+use elim_rows::derivation::Derivation;
 use farkas_cert::{Certificate, Step, StepList, System, Terms};
 use std::alloc::{AllocError, Global};
 

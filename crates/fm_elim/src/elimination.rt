@@ -2,16 +2,16 @@
 
 ghost use Rattle.std.specs.Prelude.{◌≡◌, ◌+◌, ◌-◌, nat_le, IfOk};
 ghost use Rattle.farkas_cert.specs.Narrow.{AreNarrow};
-ghost use Rattle.fm_elim.specs.Levels.{IsDerived};
+ghost use Rattle.elim_level.specs.Levels.{IsDerived};
 ghost use Rattle.fm_elim.specs.Lean.{IsLean};
 ghost use Rattle.fm_elim.specs.Answers.{NamesEachOnce, IsDecided, IfInfeasible, IfWide, IfMany, IsFreeOfClashes};
 ghost use Rattle.fm_elim.specs.Advances.{IsLevel, IsExtension, IsAdvance, system_of, order_of, gone_of, most_of};
 
 use crate::answer::{Answer, NoMemory};
-use crate::derivation::Derivation;
 use crate::extension::{extended_rows, moved_log};
-use crate::level::{Formed, HeldRows, MOST_ROWS, first_level, next_level};
 use crate::refutation::refutation;
+use elim_level::level::{Formed, HeldRows, MOST_ROWS, first_level, next_level};
+use elim_rows::derivation::Derivation;
 use farkas_cert::System;
 use std::alloc::Global;
 

@@ -3,16 +3,17 @@
 ghost use Rattle.std.specs.Prelude.{◌≡◌, ◌-◌, ◌^◌, ◌<◌, ◌≤◌, ◌⊎◌, ℕ, IfOk, OnOk, drop, length, map, slice_index_or};
 ghost use Rattle.std.specs.List.{All, Contains};
 ghost use Rattle.farkas_cert.specs.Narrow.{AreNarrow};
-ghost use Rattle.fm_elim.specs.declared.derivation.Derivation.{Derivation as DerivationOf};
+ghost use Rattle.elim_rows.specs.declared.derivation.Derivation.{Derivation as DerivationOf};
 ghost use Rattle.fm_elim.specs.Lean.{renamed};
 ghost use Rattle.fm_elim.specs.Moved.{moved_by, moved_held};
-ghost use Rattle.fm_elim.specs.Forming.{IsFormed};
-ghost use Rattle.fm_elim.specs.Table.{IsTable};
-ghost use Rattle.fm_elim.specs.Logs.{step_of, IsLog, IsHeld, rows_of};
+ghost use Rattle.elim_level.specs.Forming.{IsFormed};
+ghost use Rattle.elim_rows.specs.Table.{IsTable};
+ghost use Rattle.elim_level.specs.Logs.{step_of, IsLog, IsHeld, rows_of};
 
-use crate::derivation::Derivation;
-use crate::level::{HeldRows, Origin, numbered, put_given};
-use crate::table::{Table, places_for};
+use elim_level::level::{HeldRows, numbered, put_given};
+use elim_rows::candidate::Origin;
+use elim_rows::derivation::Derivation;
+use elim_rows::table::{Table, places_for};
 use farkas_cert::System;
 use std::alloc::{AllocError, Global};
 

@@ -14,27 +14,17 @@
 //! - `elimination`: levels, and the decision over them.
 //! - `extension`: a level with further rows.
 //! - `refutation`: contradictions, and rows that clash.
-//! - `level`, with `forming` and `pairs`: level 0, and each level from the one before it.
-//! - `table` and `chains`: rows that are found by a hash of their coefficients.
-//! - `reduction` and `combination`: rows in their lowest terms, and the least combination of two.
-//! - `derivation` and `certificate`: how the rows were made, and the certificate that ends in one of
-//!   them.
+//! - `certificate`: the certificate that ends in a row.
+//!
+//! The crate `elim_level` forms a level from the one before it, and `elim_rows` has its rows.
 #![tactic(auto)]
 
 mod answer;
 mod certificate;
-mod chains;
-mod combination;
-mod derivation;
 mod elimination;
 mod extension;
-mod forming;
 mod law;
-mod level;
-mod pairs;
-mod reduction;
 mod refutation;
-mod table;
 
 pub use answer::{Answer, NoMemory};
 pub use elimination::{Advance, Level, decide};

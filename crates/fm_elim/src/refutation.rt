@@ -4,16 +4,16 @@ ghost use Rattle.std.specs.Prelude.{◌≡◌, ◌↔◌, ◌<◌, ◌-◌, ℤ,
 ghost use Rattle.std.specs.List.{All, Contains};
 ghost use Rattle.farkas_cert.specs.Combination.{is_narrow as narrow, no_row};
 ghost use Rattle.farkas_cert.specs.Good.{IsContradiction, IsGood};
-ghost use Rattle.fm_elim.specs.declared.level.Held.{Held as HeldRow};
-ghost use Rattle.fm_elim.specs.Levels.{IsEmpty};
-ghost use Rattle.fm_elim.specs.Table.{IsTable};
-ghost use Rattle.fm_elim.specs.Logs.{IsLog, IsHeld, rows_of};
+ghost use Rattle.elim_level.specs.declared.level.Held.{Held as HeldRow};
+ghost use Rattle.elim_rows.specs.Candidates.{IsEmpty};
+ghost use Rattle.elim_rows.specs.Table.{IsTable};
+ghost use Rattle.elim_level.specs.Logs.{IsLog, IsHeld, rows_of};
 ghost use Rattle.fm_elim.specs.Lean.{IsLean};
 ghost use Rattle.fm_elim.specs.Answers.{AreClashing, IsFreeOfClashes};
 
 use crate::certificate::certificate_of;
-use crate::derivation::{Derivation, derive};
-use crate::level::{Held, HeldRows, is_empty};
+use elim_level::level::{Held, HeldRows, is_empty};
+use elim_rows::derivation::{Derivation, derive};
 use farkas_cert::narrow::narrow_sum;
 use farkas_cert::{Certificate, Row, System};
 use std::alloc::{AllocError, Global};

@@ -1,7 +1,7 @@
 use Rattle.std.proofs.Common.{◌≡◌, ◌+◌, ◌-◌, ◌≤◌, length, take, get_or, ap, sym, ◌∙◌, subst, arith}
 use Rattle.std.specs.List.{All}
 use Rattle.farkas_cert.specs.Good.{IsGood}
-use Rattle.fm_elim.specs.Logs.{step_of}
+use Rattle.elim_level.specs.Logs.{step_of}
 use Rattle.fm_elim.proofs.Walks.{derivation_at}
 use Rattle.fm_elim.proofs.Endings.{given_number, IsLog-take, used_length, used_row, good_from_steps}
 use Rattle.fm_elim.proofs.certificate.certificate_of.Goals as goal

@@ -1,8 +1,8 @@
 use Rattle.std.proofs.Common.{◌≡◌, ◌<◌, ◌+◌, ◌-◌, ◌++◌, pos, None, false, subst, sym, ap, ◌∙◌, arith, length, take, drop, get_or}
 use Rattle.std.proofs.lemmas.Bool.{both_ways}
 use Rattle.std.proofs.lemmas.List.{get_or_default, drop_all, append-nil, take_all}
-use Rattle.fm_elim.specs.declared.derivation.Derivation.{Derivation}
-use Rattle.fm_elim.specs.Logs.{step_of}
+use Rattle.elim_rows.specs.declared.derivation.Derivation.{Derivation}
+use Rattle.elim_level.specs.Logs.{step_of}
 use Rattle.fm_elim.specs.Lean.{AreNeeded, IsMarked, AreMarkedToo}
 use Rattle.fm_elim.proofs.Marks.{AreNeeded-skip, AreNeeded-mark}
 use Rattle.fm_elim.proofs.certificate.needed_rows.Goals as goal

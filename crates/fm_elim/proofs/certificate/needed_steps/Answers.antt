@@ -1,8 +1,8 @@
 use Rattle.std.proofs.Common.{◌≡◌, ◌+◌, ◌-◌, ◌≤◌, pos, None, false, [], ◌∷◌, ◌++◌, length, get_or, ap, sym, ◌∙◌, subst, arith}
 use Rattle.std.specs.List.{All}
 use Rattle.std.proofs.lemmas.Bool.{both_ways}
-use Rattle.fm_elim.specs.declared.derivation.Derivation.{Derivation}
-use Rattle.fm_elim.specs.Logs.{step_of}
+use Rattle.elim_rows.specs.declared.derivation.Derivation.{Derivation}
+use Rattle.elim_level.specs.Logs.{step_of}
 use Rattle.fm_elim.specs.Lean.{IsMarked, renumbered}
 use Rattle.fm_elim.proofs.Walks.{AreCopied, AreCopied-start, AreCopied-skip, AreCopied-keep, terms_within, copied_last, copied_lean}
 use Rattle.fm_elim.proofs.certificate.needed_steps.Goals as goal

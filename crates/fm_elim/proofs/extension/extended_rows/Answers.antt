@@ -4,14 +4,14 @@ use Rattle.std.specs.List.{Contains}
 use Rattle.std.proofs.lemmas.Int.{to_z-of_z}
 use Rattle.std.proofs.lemmas.List.{length-drop, get_or-drop}
 use Rattle.std.proofs.lemmas.List.Elements.{Contains-get_or}
-use Rattle.fm_elim.specs.declared.level.Origin.TheVariants.{Numbered}
-use Rattle.fm_elim.specs.Forming.{IsFormed}
+use Rattle.elim_rows.specs.declared.candidate.Origin.TheVariants.{Numbered}
+use Rattle.elim_level.specs.Forming.{IsFormed}
 use Rattle.fm_elim.specs.Moved.{moved_by, moved_held}
-use Rattle.fm_elim.specs.Table.{IsPut, candidate_with}
-use Rattle.fm_elim.specs.Logs.{IsHeld, rows_of}
+use Rattle.elim_rows.specs.Table.{IsPut, candidate_with}
+use Rattle.elim_level.specs.Logs.{IsHeld, rows_of}
 use Rattle.fm_elim.proofs.Endings.{length-all_rows}
-use Rattle.fm_elim.proofs.Given.{given_suited}
-use Rattle.fm_elim.proofs.Leveling.{lowest_from}
+use Rattle.elim_level.proofs.Given.{given_suited}
+use Rattle.elim_level.proofs.Leveling.{lowest_from}
 use Rattle.fm_elim.proofs.Joining.{IsEither, rest_whole, number_given, taken_held, taken_further, both_formed}
 use Rattle.fm_elim.proofs.extension.extended_rows.Goals as goal
 

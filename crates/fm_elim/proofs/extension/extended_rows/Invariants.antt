@@ -1,7 +1,8 @@
 use Rattle.std.proofs.Common.{◌++◌, drop, take}
-use Rattle.fm_elim.specs.Gathering.{AreTaken}
-use Rattle.fm_elim.specs.Table.{IsTable}
-use Rattle.fm_elim.specs.Logs.{rows_of, rows_among}
+use Rattle.elim_level.specs.Gathering.{AreTaken}
+use Rattle.elim_rows.specs.Table.{IsTable}
+use Rattle.elim_level.specs.Logs.{rows_of}
+use Rattle.elim_rows.specs.Candidates.{rows_among}
 use Rattle.fm_elim.proofs.Joining.{IsEither}
 use Rattle.fm_elim.proofs.extension.extended_rows.Given as goal
 

@@ -1,7 +1,7 @@
 use Rattle.std.proofs.Common.{◌≡◌, map, take}
 use Rattle.fm_elim.specs.Lean.{renamed}
 use Rattle.fm_elim.specs.Moved.{moved_by}
-use Rattle.fm_elim.specs.Logs.{step_of}
+use Rattle.elim_level.specs.Logs.{step_of}
 use Rattle.fm_elim.proofs.extension.moved_log.Given as goal
 
 -- the derivations so far

@@ -1,7 +1,7 @@
 use Rattle.std.proofs.Common.{ℕ, ◌<◌, get_or}
 use Rattle.std.specs.List.{All}
 use Rattle.farkas_cert.specs.Combination.{no_row}
-use Rattle.fm_elim.specs.Logs.{rows_of}
+use Rattle.elim_level.specs.Logs.{rows_of}
 use Rattle.fm_elim.specs.Answers.{AreClashing}
 use Rattle.fm_elim.proofs.refutation.clash.Given as goal
 

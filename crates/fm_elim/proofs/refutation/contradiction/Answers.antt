@@ -1,9 +1,9 @@
 use Rattle.std.proofs.Common.{◌≡◌, pos, ◌<ℤ◌, get_or, ap, sym, ◌∙◌, subst, arith}
 use Rattle.std.proofs.lemmas.Bool.{iff_false}
 use Rattle.std.proofs.lemmas.List.{get_or_default}
-use Rattle.fm_elim.specs.declared.level.Held.{Held}
-use Rattle.fm_elim.specs.Levels.{IsEmpty}
-use Rattle.fm_elim.proofs.Combined.{by_lt}
+use Rattle.elim_level.specs.declared.level.Held.{Held}
+use Rattle.elim_rows.specs.Candidates.{IsEmpty}
+use Rattle.elim_rows.proofs.Combined.{by_lt}
 use Rattle.fm_elim.proofs.refutation.contradiction.Goals as goal
 
 pub loop-held-preserved : goal.loop-held-preserved

@@ -1,6 +1,6 @@
 use Rattle.std.proofs.Common.{ℕ, ◌<◌, get_or}
-use Rattle.fm_elim.specs.declared.level.Held.{Held}
-use Rattle.fm_elim.specs.Levels.{IsEmpty}
+use Rattle.elim_level.specs.declared.level.Held.{Held}
+use Rattle.elim_rows.specs.Candidates.{IsEmpty}
 use Rattle.fm_elim.proofs.refutation.contradiction.Given as goal
 
 -- no row so far is without coefficients

@@ -4,14 +4,15 @@ use Rattle.std.proofs.lemmas.Bool.{iff_false}
 use Rattle.std.proofs.lemmas.List.{get_or_default, get_or-map, length-map}
 use Rattle.farkas_cert.specs.declared.system.Row.{Row}
 use Rattle.farkas_cert.specs.Combination.{no_row, is_narrow}
-use Rattle.fm_elim.specs.declared.level.Held.{Held}
-use Rattle.fm_elim.specs.declared.level.HeldRows.{HeldRows}
-use Rattle.fm_elim.specs.declared.chains.Link.{Link}
-use Rattle.fm_elim.specs.Chains.{hash_of, link_of, link_at}
-use Rattle.fm_elim.specs.Table.{IsTable}
-use Rattle.fm_elim.specs.Logs.{rows_of}
+use Rattle.elim_level.specs.declared.level.Held.{Held}
+use Rattle.elim_level.specs.declared.level.HeldRows.{HeldRows}
+use Rattle.elim_rows.specs.declared.chains.Link.{Link}
+use Rattle.elim_rows.specs.Chains.{hash_of, link_of, link_at}
+use Rattle.elim_rows.specs.Table.{IsTable}
+use Rattle.elim_level.specs.Logs.{rows_of}
 use Rattle.fm_elim.specs.Answers.{AreClashing}
-use Rattle.fm_elim.proofs.Hashing.{clash_hash, looked_for-start, looked_for-next, looked_for-none}
+use Rattle.fm_elim.proofs.OppositeHashes.{clash_hash}
+use Rattle.elim_rows.proofs.Hashing.{looked_for-start, looked_for-next, looked_for-none}
 use Rattle.fm_elim.proofs.refutation.opponent.Goals as goal
 use Rattle.fm_elim.proofs.refutation.opponent.Goals.{else-link-hash-via-then-link-hash+else-are_clashing, else-link-hash-via-else-link-hash}
 

@@ -1,8 +1,8 @@
 use Rattle.std.proofs.Common.{length, get_or}
 use Rattle.farkas_cert.specs.Combination.{no_row}
-use Rattle.fm_elim.specs.Logs.{rows_of}
+use Rattle.elim_level.specs.Logs.{rows_of}
 use Rattle.fm_elim.specs.Answers.{AreClashing}
-use Rattle.fm_elim.proofs.Hashing.{IsLookedFor}
+use Rattle.elim_rows.proofs.Hashing.{IsLookedFor}
 use Rattle.fm_elim.proofs.refutation.opponent.Given as goal
 
 -- no row from the end on clashes with the row

@@ -1,9 +1,9 @@
 use Rattle.std.proofs.Common.{◌≡◌, ◌+◌, ◌<◌, IfNone, Fits, w32, length, get_or, subst, refl, ◌∙◌, arith}
 use Rattle.std.specs.List.{All, Contains}
-use Rattle.fm_elim.specs.Levels.{IsEmpty}
-use Rattle.fm_elim.specs.Logs.{rows_of}
+use Rattle.elim_rows.specs.Candidates.{IsEmpty}
+use Rattle.elim_level.specs.Logs.{rows_of}
 use Rattle.fm_elim.specs.Answers.{IsFreeOfClashes}
-use Rattle.fm_elim.specs.Next.{IsNext}
+use Rattle.elim_level.specs.Next.{IsNext}
 use Rattle.fm_elim.proofs.Reached.{useful_here, order_length, order_within, order_names_last, reached_next, wide_here, many_here, free_here, open_here}
 use Rattle.fm_elim.proofs.elimination.Level.advance.Goals as goal
 

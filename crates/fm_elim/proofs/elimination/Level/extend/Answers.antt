@@ -2,11 +2,11 @@ use Rattle.std.proofs.Common.{rules, ◌≡◌, ℕ, ◌+◌, ◌-◌, ◌<◌, 
 use Rattle.std.specs.List.{All, Contains}
 use Rattle.std.proofs.Math.Seq.{drop-append_seam}
 use Rattle.std.proofs.lemmas.List.Elements.{All-weaker}
-use Rattle.fm_elim.specs.declared.derivation.Derivation.{Derivation}
-use Rattle.fm_elim.specs.Forming.{IsFormed}
+use Rattle.elim_rows.specs.declared.derivation.Derivation.{Derivation}
+use Rattle.elim_level.specs.Forming.{IsFormed}
 use Rattle.fm_elim.specs.Lean.{renamed}
 use Rattle.fm_elim.specs.Moved.{moved_by}
-use Rattle.fm_elim.specs.Logs.{step_of, rows_of}
+use Rattle.elim_level.specs.Logs.{step_of, rows_of}
 use Rattle.fm_elim.specs.Reached.{IsReached}
 use Rattle.fm_elim.proofs.Reached.{order_length}
 use Rattle.fm_elim.proofs.Extending.{reached_extended, log_moved, held_moved, moved_terms}

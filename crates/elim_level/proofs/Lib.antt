@@ -1,0 +1,12 @@
+pub mod Steps
+pub mod Lowest
+pub mod Origins
+pub mod Continuing
+pub mod Sizes
+pub mod Splitting
+pub mod Leveling
+pub mod Least
+pub mod Given
+pub mod Unique
+pub mod Existence
+pub mod Gathered

@@ -1,0 +1,5 @@
+pub mod Levels
+pub mod Forming
+pub mod Logs
+pub mod Gathering
+pub mod Next

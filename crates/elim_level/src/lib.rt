@@ -1,0 +1,10 @@
+//! A level of elimination.
+//!
+//! - [`level`]: level 0, and each level from the one before it.
+//! - [`forming`]: the candidates of the next level.
+//! - [`pairs`]: the search for a pair whose least combination is wide.
+#![tactic(auto)]
+
+pub mod forming;
+pub mod level;
+pub mod pairs;

@@ -1,7 +1,0 @@
-use Rattle.std.proofs.Common.{◌≡◌, drop}
-use Rattle.fm_elim.specs.Chains.{hash_from}
-use Rattle.fm_elim.proofs.chains.hash_of.Given as goal
-
--- the hash so far, with the coefficients that are left, is that of all
-abbrev pub invariant-loop-coef : goal.invariant-loop-coef
-invariant-loop-coef l = hash_from l.sum (drop l.coef-index l.coefs) ≡ hash_from 0 l.coefs

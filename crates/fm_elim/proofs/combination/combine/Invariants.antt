@@ -1,7 +1,0 @@
-use Rattle.std.proofs.Common.{◌≡◌, ◌++◌, drop}
-use Rattle.fm_elim.specs.Pairs.{combined}
-use Rattle.fm_elim.proofs.combination.combine.Given as goal
-
--- the entries so far, with those that are left, are the combination's
-abbrev pub invariant-loop-k : goal.invariant-loop-k
-invariant-loop-k l = l.coefs.items ++ combined l.m (drop l.k l.upper.coefs) l.n (drop l.k l.lower.coefs) ≡ combined l.m l.upper.coefs l.n l.lower.coefs

@@ -1,7 +1,0 @@
-use Rattle.std.proofs.Common.{take}
-use Rattle.std.specs.List.{All}
-use Rattle.fm_elim.specs.Gathering.{IsWithin}
-use Rattle.fm_elim.proofs.pairs.largest_entry.Given as goal
-
-abbrev pub invariant-loop-held : goal.invariant-loop-held
-invariant-loop-held l = All (λ h. IsWithin l.largest h.row) (take l.held-index l.rows)

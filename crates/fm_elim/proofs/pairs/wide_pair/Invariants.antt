@@ -1,7 +1,0 @@
-use Rattle.std.proofs.Common.{take}
-use Rattle.std.specs.List.{All}
-use Rattle.fm_elim.specs.Gathering.{IsNarrowPair}
-use Rattle.fm_elim.proofs.pairs.wide_pair.Given as goal
-
-abbrev pub invariant-loop-upper : goal.invariant-loop-upper
-invariant-loop-upper l = All (λ u. All (λ h. IsNarrowPair l.variable u.row h.row) l.lowers) (take l.upper-index l.uppers)
