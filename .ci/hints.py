@@ -185,6 +185,15 @@ ALL = [
     ("INTEGR A(9)|A(1) = 1|K = 1/0|X = 1|X = 2|K = X", ["also line 3, F8: the divisor 0", "also line 4, F3: X is not INTEGER"]),
     ("DO 10 I = 1, K|K = I|   10 CONTINUE|K = I", ["also line 4, F10: I is the variable"]),
     ("DO 10 I = 1, 3|DO 10 I = 1, 3|   10 K = I", []),
+    ("IMPLICIT NONE|INTEGER I, J|PARAMETER N = 50|REAL U(N,N), OMEGA|OMEGA = 1.5|DO 10 I = 1, N|IF (I .EQ. 1) THEN|U(I,1) = 1.0|ELSE|U(I,2) = 2|ENDIF|"
+     "   10 CONTINUE|WRITE(*,*) 'U', U(N/2,N/2)|STOP 1", [
+         "also line 3, F1: constants stand", "also line 4, F2: all values are INTEGER", "also lines 5 and 8, F2: all values are whole", "also line 7, F2: there is no block IF",
+         "also lines 9 and 11, F2: there is no block IF", "also line 13, F2: output is PRINT", "also line 14, F2: STOP stands alone",
+     ]),
+    ("@integer k|@k = f(1)|@end program|@integer function f(i)|@f = i|@end", [
+        "the same in lines 2, 3, 4, 5 and 1 more", "also line 7, L5: the program ends", "also line 2, F4: there are no functions of one's own",
+        "also line 3, F1: the last line", "also line 4, L5: there are no subroutines",
+    ]),
     ("K = 1 ! one|L = 2 ! two|A = B", ["the same in line 2", "also line 3, F3: A is not", "also line 3, F3: B is not"]),
     ("REAL X(5)|DO WHILE (K .LT. 5)|K = K + 1|END DO|X(1) = 0.5", ["also line 2, F2: there is no DO WHILE", "also line 4, F2: there is no END DO", "also line 5, F2: all values"]),
     ("\tK = 1|\tL = 2|@K = 3", ["the same in line 2", "also line 3, L2: a statement begins"]),

@@ -257,8 +257,12 @@ def is_free(line):
     return re.match(r"(?i)(CALL |CONTINUE *$|CLOSE|CYCLE|CHARACTER|COMMON|COMPLEX|C\w*(\(.*\))? *= )", line) is not None
 
 
-def faults_of(refusal, data, settings, words, program):
-    """The faults of a source, the first one first, and whether there may be more."""
+def faults_of(refusal, data, settings, words, program, has_plan=False):
+    """The faults of a source, the first one first, and whether there may be more.
+
+    The program is asked by `verify`, which runs nothing. What stands behind END is a plan to it, so
+    that is looked at here, where no plan is meant to stand there.
+    """
     mending, found, ends = Mending(data, settings), [], time.monotonic() + MOST_SECONDS
     for _ in range(MOST_RUNS):
         fault = fault_told(mending, refusal)
@@ -281,9 +285,20 @@ def faults_of(refusal, data, settings, words, program):
         except (OSError, subprocess.TimeoutExpired):
             return found, True
         refusal = done.stdout.decode("latin-1").split("\n")[0]
+        behind = None if has_plan or re.match(r"REFUSED L[1-4]", refusal) else first_behind(mending.source)
+        if behind:
+            refusal, done.returncode = f"REFUSED L5 LINE {behind}", 1
         if done.returncode != 1 or not refusal.startswith("REFUSED "):
             return found, False
     return found, True
+
+
+def first_behind(source):
+    """The first line behind END that is no comment."""
+    for number, line in enumerate(source.behind_end(), source.end + 1):
+        if line[:1] not in tuple("Cc*") and line[:72].strip():
+            return number
+    return None
 
 
 def fault_told(mending, refusal):

@@ -83,7 +83,8 @@ def tell_refusal(line, data, words, program):
         say("nothing was read; the source comes on standard input: seagrynt seq < heat.f")
     else:
         asked = [it for it in parts_of(words)[1] if "=" in it]
-        found, more = faults.faults_of(line, data, settings, asked, program)
+        has_plan = words[:1] == ("verify",) or ("--plan", "given") in parts_of(words)[0]
+        found, more = faults.faults_of(line, data, settings, asked, program, has_plan)
         lines = sources.Source(data).lines
         for place, it in enumerate(found):
             said = (it.hint and it.hint.say) or meaning_of("LANGUAGE.md", it.code) or "the source is refused"
