@@ -272,7 +272,7 @@ class Finders:
         for name, at, subscripts in reads(self.code[begun:]):
             taken = {*self.program.arrays, *FUNCTIONS, "IF"}
             if subscripts is not None and name not in taken:
-                return at + begun, f"{name} is no array: declare it with its bounds, INTEGER {name}({', '.join('N' for _ in subscripts)})"
+                return at + begun, f"{name} is no array: declare it with its bounds, INTEGER {name}({', '.join('N' for _ in subscripts)}), or, if it is a function, write its expression in place"
 
     def no_constant(self):
         if not re.match(r"INTEGER|DIMENSION|PARAMETER", self.code):
