@@ -61,6 +61,7 @@ class Plan:
     def __init__(self, workers, marks, phases, privates):
         self.workers, self.marks, self.phases, self.privates = workers, marks, phases, privates
         self.loop_reasons = {}
+        self.is_made = False  # the reasons of a made plan stand behind it
 
     def mark(self, loop):
         return self.marks[loop.number - 1] if loop.number <= len(self.marks) else ""
@@ -139,6 +140,7 @@ def read_plan(text):
     lines.take(r"CERTIFICATES (\d+)", "the number of certificates")
     for line in lines.rest():
         read_reason(plan, line)
+        plan.is_made = plan.is_made or line == "END REASONS"
     return plan
 
 
@@ -153,6 +155,17 @@ def read_reason(plan, line):
     found = re.fullmatch(r"LOOP (\d+) NOT (DOALL|PRIVATE|SUM) (?:PRINT|LINES (\d+) (\d+) NAME (\w+) (\w+))", line)
     if found:
         plan.loop_reasons.setdefault(int(found[1]), []).append(found.groups()[1:])
+
+
+def other_blocks(plan, program):
+    """The first phase of a made plan whose blocks are those of other values of the named constants, or None."""
+    for phase in plan.phases if plan.is_made else []:
+        form, _, block = phase.text.partition(" BLOCK ")
+        known = [it.partition(" BLOCK ") for action in phase.actions for it in program.anchor_of(action, plan.workers)]
+        blocks = [it[2] for it in known if it[0] == form and it[2]]
+        if block and blocks and block not in blocks:
+            return phase
+    return None
 
 
 def place_in_source(plan, program):
