@@ -1,0 +1,91 @@
+// Congruences modulo the number of processors.
+
+ghost use Rattle.std.specs.Prelude.{◌≡◌, ◌*◌, ◌<◌, ◌≤◌, ◌^◌, IfOk};
+ghost use Rattle.std.specs.Int.{IsGcd};
+ghost use Rattle.owner_partition.specs.OwnTrips.{IsSame};
+ghost use Rattle.thread_code.specs.Closed.{IsTurningOf};
+
+use std::alloc::{AllocError, Global};
+
+/// How the places of a loop's trips, which rise by the same with each trip, come to one processor in
+/// turn: the greatest common divisor of the rise and of the number of processors, a factor that takes
+/// the rise to it, and how many trips it is from one of a processor's to its next.
+#[derive(Clone, Copy, Debug, PartialEq, Eq)]
+pub struct Turning {
+    pub divisor: u32,
+    pub factor: u32,
+    pub stride: u32,
+}
+
+/// The turnings of all rises from 0 to below the number of processors.
+#[derive(Drop)]
+pub struct Turnings {
+    by_rise: Vec<Turning>,
+}
+
+impl Turnings {
+    /// Those for so many processors. The error is that memory ran out.
+    pub fn new(alloc: Global, workers: u32) -> Result<Self, AllocError>
+        requires some { 1 ≤ workers }
+        requires few { workers ≤ 64 }
+    {
+        let mut by_rise = Vec::new(alloc);
+        for rise in 0..workers {
+            by_rise.push(turning_of(rise, workers))?;
+        }
+        Ok(Turnings { by_rise })
+    }
+
+    /// The one of a rise from 0 to below the number of processors. There is none of another rise: it is
+    /// answered with one processor's.
+    pub fn at(&self, rise: i64) -> Turning {
+        let place = usize::try_from(rise).unwrap_or(0);
+        match self.by_rise.get(place) {
+            Some(turning) => *turning,
+            None => Turning {
+                divisor: 1,
+                factor: 0,
+                stride: 1,
+            },
+        }
+    }
+}
+
+// The turning of a rise.
+fn turning_of(rise: u32, workers: u32) -> Turning
+    requires rise { rise < workers }
+    requires few { workers ≤ 64 }
+    ensures { IsTurningOf workers rise result }
+{
+    let (divisor, factor) = divisor_and_factor(rise, workers);
+    Turning {
+        divisor,
+        factor,
+        stride: workers / divisor,
+    }
+}
+
+// The greatest common divisor of a number and a modulus above it, and a factor that takes the number
+// to it, by Euclid's algorithm.
+fn divisor_and_factor(a: u32, modulus: u32) -> (u32, u32)
+    requires residue { a < modulus }
+    requires size { modulus ≤ 64 }
+    ensures divisor { IsGcd modulus a result.0 }
+    ensures factor { IsSame modulus (a * result.1) result.0 }
+    ensures residue { result.1 < modulus }
+{
+    let mut divisor = modulus;
+    let mut factor = 0;
+    let mut rest = a;
+    let mut next = 1 % modulus;
+    while rest != 0 {
+        let quotient = divisor / rest;
+        let remainder = divisor % rest;
+        let behind = (factor + (modulus - next) * quotient) % modulus;
+        divisor = rest;
+        factor = next;
+        rest = remainder;
+        next = behind;
+    }
+    (divisor, factor)
+}
