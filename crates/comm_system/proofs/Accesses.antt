@@ -26,8 +26,9 @@ use Rattle.owner_partition.specs.Marks.{enters_outer}
 use Rattle.owner_partition.specs.Phases.{Execution, executions, phase_instances, phases}
 use Rattle.owner_partition.proofs.Instances.{all_executed}
 use Rattle.comm_system.specs.Meetings.{Point, subscripts_at}
-use Rattle.comm_system.specs.Pairs.{Pair, conflict, pairs_among}
-use Rattle.comm_system.specs.References.{Reference, StaticPhase, phases_of, reference_of, references_in, references_of, variable_of}
+use Rattle.comm_system.specs.Pairs.{Pair, pairs_among}
+use Rattle.conflict_rules.specs.Conflicts.{conflict}
+use Rattle.conflict_rules.specs.References.{Reference, StaticPhase, phases_of, reference_of, references_in, references_of, variable_of}
 use Rattle.comm_system.proofs.Cells.{IsSound, IsSoundLoaded, Touches, load_touches, same_element_of, store_touches}
 use Rattle.comm_system.proofs.Contexts.{at_first}
 use Rattle.comm_system.proofs.GoodReferences.{AllIn, IsGoodLoaded, among_phases, loaded_good, stored_good}

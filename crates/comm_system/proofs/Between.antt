@@ -5,8 +5,8 @@ use Rattle.std.specs.List.{AllByRecursion, slice_get}
 use Rattle.std.proofs.lemmas.List.Sums.{sum_by-cons}
 use Rattle.nest_tree.specs.Tree.{Head}
 use Rattle.nest_rows.proofs.Nesting.{all-append, all-weaker}
-use Rattle.comm_system.specs.Boundaries.{Boundary, Side, boundaries_where, of_first, of_second}
-use Rattle.comm_system.specs.References.{StaticPhase}
+use Rattle.conflict_rules.specs.Boundaries.{Boundary, Side, boundaries_where, of_first, of_second}
+use Rattle.conflict_rules.specs.References.{StaticPhase}
 
 -- ---- the boundaries that pass a test
 

@@ -20,7 +20,7 @@ use Rattle.nest_model.specs.Accesses.{access_cell, item_loads, subscript_values,
 use Rattle.nest_model.specs.Ranges.{is_access_inside}
 use Rattle.comm_system.specs.Meetings.{AreFree, subscripts_at}
 use Rattle.comm_system.specs.PairRows.{free_bounds}
-use Rattle.comm_system.specs.References.{variable_of}
+use Rattle.conflict_rules.specs.References.{variable_of}
 use Rattle.comm_system.proofs.Lists.{contains_cases, contains_here, contains_later, contains_nothing, range_contains}
 
 -- ---- an element's place tells its subscripts

@@ -10,10 +10,10 @@ use Rattle.nest_rows.proofs.Nesting.{all-at, all-weaker}
 use Rattle.owner_partition.specs.Marks.{enters_outer}
 use Rattle.owner_partition.specs.Phases.{phases}
 use Rattle.sync_plan.specs.declared.plan.Plan.{Plan}
-use Rattle.comm_system.specs.Boundaries.{Boundary, Side, is_before_second, is_behind_first, is_prefix, of_first, of_second}
+use Rattle.conflict_rules.specs.Boundaries.{Boundary, Side, is_before_second, is_behind_first, is_prefix, of_first, of_second}
 use Rattle.comm_system.specs.Levels.{common}
 use Rattle.comm_system.specs.Meetings.{IsEarlier}
-use Rattle.comm_system.specs.References.{StaticPhase}
+use Rattle.conflict_rules.specs.References.{StaticPhase}
 use Rattle.comm_system.proofs.Accesses.{station_known, visits_are}
 use Rattle.comm_system.proofs.Between.{AreRising, Pairs, outer_in, pairs_rising, side_heads, side_trips}
 use Rattle.comm_system.proofs.Chains.{AreHops, HopAt, IsBetween}
@@ -21,6 +21,7 @@ use Rattle.comm_system.proofs.Contexts.{at_first}
 use Rattle.comm_system.proofs.KnownHeads.{AreKnown, IsKnown, heads_among, known_among}
 use Rattle.comm_system.proofs.Lists.{mapped_get}
 use Rattle.comm_system.proofs.StationFacts.{AreValid, IsStation}
+use Rattle.comm_system.proofs.FewLoops.{common_within}
 use Rattle.comm_system.proofs.StationOrder.{Rises, comes, comes_at, comes_back, differ_test, never_both, rises_in}
 use Rattle.comm_system.proofs.Stations.{Station, at_trip, stations_in, text_among, visit_in}
 use Rattle.comm_system.proofs.StationsThere.{IsStop, there_in}
@@ -277,14 +278,6 @@ module _ (tree : Tree) (plan : Plan) (ex ey : ℕ) (sx sy : Station) (two : AreT
   -- ---- where a loop is at an earlier trip
 
   module _ (k : ℕ) (agree : Agree k sx.heads sx.trips sy.heads sy.trips) (earlier : IsEarlier k sx.trips sy.trips) (less : k < common sx.heads sy.heads) where
-    common_within : (hs gs : List Head) → (common hs gs ≤ length hs) × (common hs gs ≤ length gs)
-    common_within [] gs = (omega arith, omega arith)
-    common_within (h ∷ hs) [] = (omega arith, omega arith)
-    common_within (h ∷ hs) (g ∷ gs) = elim (cases_eq h.number g.number) [
-      | inl same ↦ let c = common_same h g hs gs same in let w = common_within hs gs in (omega (arith, c, w.0), omega (arith, c, w.1))
-      | inr ne ↦ let c : common (h ∷ hs) (g ∷ gs) ≡ 0 = ap (λ b. if b then suc (common hs gs) else 0) (differ_test h.number g.number ne) in (omega (arith, c), omega (arith, c))
-    ]
-
     pub record IsCarriedBeside (side : Side) (b : Boundary) : Type 0 where
       pub beside : IsBeside b
       pub side_is : b.side ≡ side

@@ -6,10 +6,10 @@ use Rattle.nest_tree.specs.Tree.{Head, Tree}
 use Rattle.nest_rows.proofs.Nesting.{all-append, all-weaker}
 use Rattle.owner_partition.specs.Marks.{enters_outer}
 use Rattle.sync_plan.specs.declared.plan.Plan.{Plan}
-use Rattle.comm_system.specs.Boundaries.{Boundary, Side, boundaries_where, certain_boundaries, is_before_second, is_behind_first, is_prefix, of_first, of_second}
+use Rattle.conflict_rules.specs.Boundaries.{Boundary, Side, boundaries_where, certain_boundaries, is_before_second, is_behind_first, is_prefix, of_first, of_second}
 use Rattle.comm_system.specs.Levels.{common}
 use Rattle.comm_system.specs.Meetings.{IsEarlier}
-use Rattle.comm_system.specs.References.{StaticPhase}
+use Rattle.conflict_rules.specs.References.{StaticPhase}
 use Rattle.comm_system.specs.Signatures.{kind_at, left_waits, right_waits}
 use Rattle.comm_system.proofs.Between.{IsMerged, IsWhere, merged-sum, merged_known, merged_where, outer_in, pairs_append, pairs_rising, side_heads, side_test, where_known}
 use Rattle.comm_system.proofs.Certain.{AreTwo, IsBeside, IsCarriedBeside, IsPlainBeside, IsSided, across, carried_first, carried_second, first_sided, heads_x, heads_y, hops_of, known_at, one_side_before, outer, plain_apart, plain_before, plain_first, plain_second, plain_sided, second_sided, trips}

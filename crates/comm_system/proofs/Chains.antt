@@ -15,7 +15,7 @@ use Rattle.sync_plan.specs.declared.plan.Kind.TheVariants.{Nothing, Producer, Le
 use Rattle.sync_plan.specs.declared.plan.Plan.{Plan}
 use Rattle.sync_plan.specs.Ordered.{Hop, IsChain, awaited_in, awaited_in_front}
 use Rattle.sync_plan.specs.Waits.{awaited_behind, does_wait_at, kind_owner, waits_at}
-use Rattle.comm_system.specs.Boundaries.{Boundary}
+use Rattle.conflict_rules.specs.Boundaries.{Boundary}
 use Rattle.comm_system.specs.Signatures.{is_barrier, kind_at, left_waits, right_waits}
 use Rattle.comm_system.proofs.Lists.{in_filter, range_there}
 use Rattle.comm_system.proofs.StationOrder.{differ_test, equal_test}

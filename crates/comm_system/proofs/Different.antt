@@ -10,7 +10,7 @@ use Rattle.nest_model.specs.Instances.{Instance, no_values}
 use Rattle.nest_model.specs.Visits.{Visit}
 use Rattle.nest_rows.proofs.Dots.{numbers}
 use Rattle.nest_rows.proofs.GoodNesting.{AreAmong, form-among}
-use Rattle.nest_rows.proofs.Nesting.{all-append, all-weaker}
+use Rattle.nest_rows.proofs.Nesting.{all-append, all-weaker, IsBefore}
 use Rattle.farkas_cert.specs.Inequalities.{HasNoWholeSolution}
 use Rattle.owner_partition.specs.declared.anchor.Anchor.{Anchor}
 use Rattle.owner_partition.specs.Marks.{enters_outer}
@@ -21,20 +21,20 @@ use Rattle.sync_plan.specs.declared.plan.Version.{Version}
 use Rattle.sync_plan.specs.declared.plan.Version.TheVariants.{One, Two, Three, Four, Five}
 use Rattle.sync_plan.specs.Fit.{IsFit}
 use Rattle.sync_plan.specs.Ordered.{Hop, IsChain}
-use Rattle.comm_system.specs.Boundaries.{Boundary, Side, certain_boundaries, of_first, of_second}
+use Rattle.conflict_rules.specs.Boundaries.{Boundary, Side, certain_boundaries, of_first, of_second}
 use Rattle.comm_system.specs.Levels.{common, order_at}
 use Rattle.comm_system.specs.Meetings.{AreHolders, AreSame, Holder, Holds, IsHolder, LiesBeside, Meet, Point, around_at, loops_at}
-use Rattle.comm_system.specs.Obligations.{Slot, Task, anchor_at, lasts_at, piece_task, slot_signature, slots_of, tasks_of}
+use Rattle.conflict_rules.specs.Slots.{Slot}
+use Rattle.comm_system.specs.Obligations.{Task, anchor_at, lasts_at, piece_task, slot_signature, slots_of, tasks_of}
 use Rattle.comm_system.specs.OwnerRows.{Direction, Piece, above, below, distance, pieces}
 use Rattle.comm_system.specs.Pairs.{Pair, pairs_of}
-use Rattle.comm_system.specs.References.{phases_of}
+use Rattle.conflict_rules.specs.References.{phases_of}
 use Rattle.comm_system.specs.Signatures.{blocked, counted, is_barrier, kind_at, last_three, left_waits, producers_at, right_waits, signature_of, waits}
 use Rattle.comm_system.proofs.Accesses.{phase_there, phases_are, station_known}
 use Rattle.comm_system.proofs.Between.{side_heads, side_trips}
 use Rattle.comm_system.proofs.Certain.{AreTwo, IsSided, between_of, outer, stop_of, trips, valid-length}
 use Rattle.comm_system.proofs.CertainLists.{AreCertain}
 use Rattle.comm_system.proofs.Chains.{IsBetween, barrier_chain, kind_of, left_chain, producer_chain, right_chain}
-use Rattle.nest_rows.proofs.Nesting.{IsBefore}
 use Rattle.comm_system.proofs.Holders.{form_keeps}
 use Rattle.comm_system.proofs.Lists.{all_dropped, get_contains}
 use Rattle.comm_system.proofs.Meets.{owners_meet}

@@ -18,7 +18,7 @@ use Rattle.own_scalars.specs.OwnScalars.{has_access, is_of, is_plain_statement, 
 use Rattle.own_scalars.proofs.Stored.{neither}
 use Rattle.sync_plan.specs.Conflicts.{works_before}
 use Rattle.sync_plan.proofs.Gets.{get-behind}
-use Rattle.comm_system.specs.References.{Reference, reference_of, references_in, variable_of}
+use Rattle.conflict_rules.specs.References.{Reference, reference_of, references_in, variable_of}
 use Rattle.comm_system.specs.Shown.{is_among, shown_among}
 use Rattle.comm_system.proofs.GoodReferences.{IsGoodLoaded, loaded_good, stored_good}
 use Rattle.comm_system.proofs.Lists.{all_split, contains_cases, contains_nothing}

@@ -15,7 +15,7 @@ use Rattle.nest_rows.specs.Nested.{Nested, nested_among, nested_in}
 use Rattle.nest_rows.proofs.Dots.{numbers}
 use Rattle.nest_rows.proofs.GoodNesting.{AreAmong, IsGoodNested, form-among, works_good}
 use Rattle.nest_rows.proofs.Nesting.{all-append, all-weaker}
-use Rattle.comm_system.specs.References.{StaticPhase, phases_among, phases_in, reference_of, references_in, references_of}
+use Rattle.conflict_rules.specs.References.{StaticPhase, phases_among, phases_in, reference_of, references_in, references_of}
 use Rattle.comm_system.proofs.Lists.{all_split}
 use Rattle.comm_system.proofs.Solved.{AreNamed, IsGoodReference}
 

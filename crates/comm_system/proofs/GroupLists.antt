@@ -11,11 +11,12 @@ use Rattle.owner_partition.specs.declared.anchor.Anchor.{Anchor}
 use Rattle.sync_plan.specs.declared.plan.Plan.{Plan}
 use Rattle.sync_plan.specs.Fit.{is_dealt}
 use Rattle.sync_plan.proofs.Gets.{get-behind, get-front}
-use Rattle.comm_system.specs.Boundaries.{Side}
-use Rattle.comm_system.specs.Obligations.{Slot, Task, numbered_from, obligations_of, pair_tasks, piece_task, pieces_from, slot_signature, slot_tasks, slots_of, tasks_of, trips_task, trips_tasks}
+use Rattle.conflict_rules.specs.Boundaries.{Side}
+use Rattle.conflict_rules.specs.Slots.{Slot}
+use Rattle.comm_system.specs.Obligations.{Task, numbered_from, obligations_of, pair_tasks, piece_task, pieces_from, slot_signature, slot_tasks, slots_of, tasks_of, trips_task, trips_tasks}
 use Rattle.comm_system.specs.OwnerRows.{Piece, pieces}
 use Rattle.comm_system.specs.Pairs.{Pair, pairs_of, pairs_within}
-use Rattle.comm_system.specs.References.{StaticPhase, phases_of}
+use Rattle.conflict_rules.specs.References.{StaticPhase, phases_of}
 use Rattle.comm_system.specs.Signatures.{Signature, blocked, waits}
 use Rattle.comm_system.specs.Subjects.{Group, Listed, Subject, count_about, groups_of, obligations_in, of_slot, of_trips, slot_subjects, subjects_of, tasks_about, trips_subjects, with_subject, with_subjects}
 use Rattle.comm_system.specs.declared.obligation.Obligation.{Obligation}

@@ -4,8 +4,8 @@ use Rattle.std.specs.List.{filter, flat_map}
 use Rattle.std.proofs.lemmas.Bool.{le-leb, lt-leb}
 use Rattle.std.proofs.lemmas.List.{map-append}
 use Rattle.comm_system.specs.GroupViews.{paired}
-use Rattle.comm_system.specs.Pairs.{conflict}
-use Rattle.comm_system.specs.References.{Reference}
+use Rattle.conflict_rules.specs.Conflicts.{conflict}
+use Rattle.conflict_rules.specs.References.{Reference}
 use Rattle.comm_system.specs.Subjects.{Listed, Subject, count_about, with_subject, with_subjects}
 use Rattle.comm_system.specs.SubjectViews.{subject_at}
 use Rattle.comm_system.specs.declared.subject.Scene.{Scene}

@@ -10,11 +10,12 @@ use Rattle.nest_rows.specs.More.{HasMore}
 use Rattle.nest_rows.specs.declared.constraint.Constraint.{Constraint}
 use Rattle.owner_partition.specs.declared.anchor.Anchor.{Anchor}
 use Rattle.sync_plan.specs.declared.plan.Plan.{Plan}
-use Rattle.comm_system.specs.Boundaries.{Side}
-use Rattle.comm_system.specs.Obligations.{Slot, Task, last_of, numbered, numbered_from, piece_task, pieces_from}
+use Rattle.conflict_rules.specs.Boundaries.{Side}
+use Rattle.conflict_rules.specs.Slots.{Slot}
+use Rattle.comm_system.specs.Obligations.{Task, last_of, numbered, numbered_from, piece_task, pieces_from}
 use Rattle.comm_system.specs.OwnerRows.{Piece, above, below, distance}
 use Rattle.comm_system.specs.Pairs.{Pair}
-use Rattle.comm_system.specs.References.{variable_of}
+use Rattle.conflict_rules.specs.References.{variable_of}
 use Rattle.comm_system.specs.SystemViews.{Begins, IsShared}
 use Rattle.comm_system.specs.declared.obligation.Obligation.{Obligation}
 use Rattle.comm_system.specs.declared.pair_systems.Shared.{Shared}

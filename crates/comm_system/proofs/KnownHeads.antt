@@ -8,7 +8,7 @@ use Rattle.nest_tree.specs.WellFormed.{Scope, are_good_statements, is_good_state
 use Rattle.nest_tree.proofs.Good.{good_loop}
 use Rattle.nest_rows.proofs.Nesting.{all-append, all-weaker}
 use Rattle.sync_plan.proofs.Gets.{get-behind, get-front}
-use Rattle.comm_system.specs.References.{StaticPhase}
+use Rattle.conflict_rules.specs.References.{StaticPhase}
 use Rattle.comm_system.proofs.Lists.{all_mapped}
 use Rattle.comm_system.proofs.Stations.{inside, text_among, text_of}
 

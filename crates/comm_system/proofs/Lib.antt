@@ -18,6 +18,7 @@ pub mod Meets
 pub mod Cells
 pub mod Places
 pub mod Timeline
+pub mod FewLoops
 pub mod Holders
 pub mod InPlace
 pub mod Zips

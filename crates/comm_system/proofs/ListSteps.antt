@@ -2,7 +2,7 @@
 use Rattle.std.proofs.Common.{◌≡◌, ℕ, suc, ◌+◌, ◌<◌, List, ◌++◌, append_assoc, length, map, drop, get_or, ap, sym, ◌∙◌, arith}
 use Rattle.comm_system.specs.Obligations.{slots_before, slots_between, slots_from}
 use Rattle.comm_system.specs.PhaseViews.{phase_seen}
-use Rattle.comm_system.specs.References.{StaticPhase}
+use Rattle.conflict_rules.specs.References.{StaticPhase}
 use Rattle.comm_system.specs.declared.phase.Phase.{Phase}
 use Rattle.comm_system.proofs.RowSteps.{left_more}
 

@@ -10,13 +10,14 @@ use Rattle.std.proofs.lemmas.List.Folds.{list_any-append}
 use Rattle.std.proofs.lemmas.List.Sums.{sum_by-append, sum_by-cons}
 use Rattle.std.proofs.lemmas.Grind.{flat_map-append}
 use Rattle.sync_plan.specs.declared.plan.Kind.{Kind}
-use Rattle.comm_system.specs.Boundaries.{Boundary, Side}
+use Rattle.conflict_rules.specs.Boundaries.{Boundary, Side}
 use Rattle.owner_partition.specs.declared.anchor.Anchor.{Anchor}
 use Rattle.sync_plan.specs.declared.plan.Version.{Version}
 use Rattle.comm_system.specs.Signatures.{blocked, counted, has_places_in, is_barrier, kind_at, last_three, left_waits, or_nothing, producers_at, right_waits, signature_of, waits}
-use Rattle.comm_system.specs.SideViews.{boundary_seen, producer_seen}
+use Rattle.comm_system.specs.SideViews.{boundary_seen}
+use Rattle.conflict_rules.specs.SideViews.{producer_seen}
 use Rattle.comm_system.specs.SignatureViews.{Adds, HasSeen}
-use Rattle.comm_system.specs.declared.producer.Producer.{Producer}
+use Rattle.conflict_rules.specs.declared.producer.Producer.{Producer}
 use Rattle.comm_system.specs.declared.signature.Seen.{Seen}
 use Rattle.comm_system.specs.declared.boundary.Boundary.{Boundary as Held}
 

@@ -7,13 +7,14 @@ use Rattle.farkas_cert.specs.Inequalities.{IsWholeSolution}
 use Rattle.owner_partition.specs.declared.anchor.Anchor.{Anchor}
 use Rattle.sync_plan.specs.declared.plan.Plan.{Plan}
 use Rattle.sync_plan.specs.Fit.{IsFit}
-use Rattle.comm_system.specs.Boundaries.{Side, of_first, of_second}
+use Rattle.conflict_rules.specs.Boundaries.{Side, of_first, of_second}
 use Rattle.comm_system.specs.Levels.{common, order_at, two_trips}
 use Rattle.comm_system.specs.Meetings.{AreHolders, Holder, LiesAmong, LiesBeside, Meet, Point, holders_values, values_of}
-use Rattle.comm_system.specs.Obligations.{Slot, anchor_at, lasts_at, owners_of, piece_task, trips_task}
+use Rattle.conflict_rules.specs.Slots.{Slot}
+use Rattle.comm_system.specs.Obligations.{anchor_at, lasts_at, owners_of, piece_task, trips_task}
 use Rattle.comm_system.specs.OwnerRows.{Piece, distance}
 use Rattle.comm_system.specs.Pairs.{Pair, pairs_of, pairs_within}
-use Rattle.comm_system.specs.References.{StaticPhase, phases_of}
+use Rattle.conflict_rules.specs.References.{StaticPhase, phases_of}
 use Rattle.comm_system.proofs.PairLists.{fit_conditions, pair_good, within_good}
 use Rattle.comm_system.proofs.Systems.{holders_named, owners_solved, trips_solved}
 

@@ -22,8 +22,9 @@ use Rattle.sync_plan.proofs.Fits.{fit_parts}
 use Rattle.comm_system.specs.Levels.{Order, order_at}
 use Rattle.comm_system.specs.Meetings.{AreSame, IsEarlier, IsEarlierWhere, IsInLastTripWhere, Meet}
 use Rattle.comm_system.specs.Obligations.{anchor_at}
-use Rattle.comm_system.specs.Pairs.{conflict, pairs_of}
-use Rattle.comm_system.specs.References.{Reference, StaticPhase, variable_of}
+use Rattle.conflict_rules.specs.Conflicts.{conflict}
+use Rattle.comm_system.specs.Pairs.{pairs_of}
+use Rattle.conflict_rules.specs.References.{Reference, StaticPhase, variable_of}
 use Rattle.comm_system.specs.Shown.{shown_of}
 use Rattle.comm_system.proofs.Accesses.{IsAccessAt, elements_same, pair_there, point_at}
 use Rattle.comm_system.proofs.Lists.{some_there}

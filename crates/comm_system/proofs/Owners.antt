@@ -17,7 +17,7 @@ use Rattle.nest_model.proofs.Within.{IsInEnds, in_ends-step}
 use Rattle.nest_walk.specs.Texts.{placed}
 use Rattle.nest_rows.proofs.Dots.{numbers}
 use Rattle.nest_rows.proofs.GoodNesting.{AreAmong, form-among}
-use Rattle.nest_rows.proofs.Nesting.{all-append, all-weaker}
+use Rattle.nest_rows.proofs.Nesting.{all-append, all-weaker, IsBefore}
 use Rattle.owner_partition.specs.declared.anchor.Anchor.{Anchor}
 use Rattle.owner_partition.specs.declared.anchor.Dist.{Dist}
 use Rattle.owner_partition.specs.declared.cut.Mark.{Mark}
@@ -33,9 +33,8 @@ use Rattle.sync_plan.proofs.FitOwners.{good_each}
 use Rattle.sync_plan.proofs.Fits.{fit_parts}
 use Rattle.sync_plan.proofs.PhasePlaces.{IsThereFrom, own_ends, visit_there}
 use Rattle.comm_system.specs.Meetings.{Holder, Holds}
-use Rattle.comm_system.specs.References.{phases_of}
+use Rattle.conflict_rules.specs.References.{phases_of}
 use Rattle.comm_system.proofs.Accesses.{phase_there, station_known, visits_are}
-use Rattle.nest_rows.proofs.Nesting.{IsBefore}
 use Rattle.comm_system.proofs.Contexts.{IsInFront}
 use Rattle.comm_system.proofs.Holders.{anchor_placed, form_keeps, kind_placed, placed_holds, placed_keeps, round_of}
 use Rattle.comm_system.proofs.Lists.{mapped_get}

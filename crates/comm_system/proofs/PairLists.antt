@@ -14,8 +14,9 @@ use Rattle.sync_plan.specs.declared.plan.Plan.{Plan}
 use Rattle.sync_plan.specs.declared.plan.Version.{Version}
 use Rattle.sync_plan.specs.Fit.{IsFit, as_misfit, condition, misplaced_print, placed_anchors, placement, print_place, shape, unmet}
 use Rattle.sync_plan.specs.Shape.{are_good_conditions, has_rows, is_good_row, static_phases, wrong_field}
-use Rattle.comm_system.specs.Pairs.{Pair, conflict, pairs_among, pairs_of, pairs_within}
-use Rattle.comm_system.specs.References.{Reference, StaticPhase, phases_of, references_of, variable_of}
+use Rattle.comm_system.specs.Pairs.{Pair, pairs_among, pairs_of, pairs_within}
+use Rattle.conflict_rules.specs.Conflicts.{conflict}
+use Rattle.conflict_rules.specs.References.{Reference, StaticPhase, phases_of, references_of, variable_of}
 use Rattle.comm_system.specs.Shown.{is_among, is_own_in, privates_in, shared_of, shown_among, shown_of}
 use Rattle.owner_partition.specs.Marks.{enters_outer}
 use Rattle.comm_system.proofs.GoodReferences.{references_good}

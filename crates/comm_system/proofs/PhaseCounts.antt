@@ -7,7 +7,7 @@ use Rattle.nest_tree.specs.Tree.{Head, Statement, Statements, do_loop, work, con
 use Rattle.nest_tree.specs.WellFormed.{IsWellFormed, are_good_statements, is_good_constant, is_good_declaration, most_statements, scope_of, statement_count, statements_in}
 use Rattle.owner_partition.specs.declared.cut.Mark.{Mark}
 use Rattle.owner_partition.specs.Marks.{enters_outer}
-use Rattle.comm_system.specs.References.{phases_among, phases_in, phases_of}
+use Rattle.conflict_rules.specs.References.{phases_among, phases_in, phases_of}
 use Rattle.comm_system.specs.PhaseViews.{phase_seen}
 use Rattle.comm_system.specs.declared.phase.Phase.{Phase}
 

@@ -10,11 +10,10 @@ use Rattle.nest_model.specs.Instances.{Instance, is_executed, works_in, works_of
 use Rattle.nest_model.specs.Visits.{Visit, every, executed_at, instances_at, stops_in, stops_of}
 use Rattle.nest_walk.proofs.InstanceLists.{one_same}
 use Rattle.nest_rows.specs.Nested.{AreTrips, Nested, nested_among, nested_in}
-use Rattle.nest_rows.proofs.Nesting.{all-append, all-at, all-weaker}
+use Rattle.nest_rows.proofs.Nesting.{all-append, all-at, all-weaker, IsBefore, kept-number}
 use Rattle.owner_partition.specs.Phases.{Execution, executions_from, phase_instances}
 use Rattle.sync_plan.proofs.Gets.{get-behind, get-front}
-use Rattle.comm_system.specs.References.{StaticPhase, phases_among, phases_in}
-use Rattle.nest_rows.proofs.Nesting.{IsBefore, kept-number}
+use Rattle.conflict_rules.specs.References.{StaticPhase, phases_among, phases_in}
 use Rattle.comm_system.proofs.Contexts.{IsInFront}
 use Rattle.comm_system.proofs.Lists.{all_in_range, all_mapped, get_contains, mapped_get}
 use Rattle.comm_system.proofs.StationFacts.{Deepens, IsStation, each_of, loops_after}

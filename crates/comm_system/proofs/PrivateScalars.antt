@@ -20,7 +20,7 @@ use Rattle.sync_plan.specs.Fit.{IsFit}
 use Rattle.sync_plan.specs.Shape.{are_good_privates, do_rise, has_good_privates, has_privates, have_good_privates}
 use Rattle.sync_plan.proofs.Fits.{fit_parts}
 use Rattle.comm_system.specs.Meetings.{AreFree}
-use Rattle.comm_system.specs.References.{StaticPhase, phases_among, phases_in, phases_of}
+use Rattle.conflict_rules.specs.References.{StaticPhase, phases_among, phases_in, phases_of}
 use Rattle.comm_system.specs.Shown.{is_among}
 use Rattle.comm_system.proofs.Cells.{IsElement}
 use Rattle.comm_system.proofs.FirstStores.{first_store, stored_rank}

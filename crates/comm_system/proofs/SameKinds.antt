@@ -9,9 +9,10 @@ use Rattle.owner_partition.specs.declared.anchor.Anchor.{Anchor}
 use Rattle.sync_plan.specs.declared.plan.Kind.{Kind}
 use Rattle.sync_plan.specs.declared.plan.Plan.{Plan}
 use Rattle.sync_plan.specs.declared.plan.Version.{Version}
-use Rattle.comm_system.specs.Boundaries.{Boundary, Side, certain_boundaries}
-use Rattle.comm_system.specs.Obligations.{Slot, slot_signature, slot_tasks}
-use Rattle.comm_system.specs.References.{StaticPhase}
+use Rattle.conflict_rules.specs.Boundaries.{Boundary, Side, certain_boundaries}
+use Rattle.conflict_rules.specs.Slots.{Slot}
+use Rattle.comm_system.specs.Obligations.{slot_signature, slot_tasks}
+use Rattle.conflict_rules.specs.References.{StaticPhase}
 use Rattle.comm_system.specs.Signatures.{Signature, blocked, waits, counted, is_barrier, kind_at, last_three, left_waits, producers_at, right_waits, signature_of}
 
 same_any : {X Y : Type 0} (p : Y → Bool) (f g : X → Y) (xs : List X) → AllByRecursion (λ x. f x ≡ g x) xs → list_any (λ x. p (f x)) xs ≡ list_any (λ x. p (g x)) xs

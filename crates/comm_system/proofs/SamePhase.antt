@@ -27,7 +27,7 @@ use Rattle.comm_system.specs.Levels.{two_trips}
 use Rattle.comm_system.specs.Meetings.{AreSame, IsEarlier, IsPast, values_of}
 use Rattle.comm_system.specs.Obligations.{Task, anchor_at, slot_signature, slot_tasks, slots_of, tasks_of, trips_task, trips_tasks}
 use Rattle.comm_system.specs.Pairs.{Pair, pairs_within}
-use Rattle.comm_system.specs.References.{StaticPhase, phases_of, references_of, variable_of}
+use Rattle.conflict_rules.specs.References.{StaticPhase, phases_of, references_of, variable_of}
 use Rattle.comm_system.specs.Shown.{is_own_in, is_private_in, is_summed, shared_of}
 use Rattle.comm_system.proofs.Accesses.{IsExecutedAt, executed_at_station, pair_there, phase_there, point_at, station_known}
 use Rattle.comm_system.proofs.Certain.{valid-length}

@@ -28,7 +28,7 @@ use Rattle.sync_plan.specs.Fit.{IsFit}
 use Rattle.sync_plan.specs.Own.{OwnLoop, is_cell_of, own_loop, own_loop_at, own_loop_of, own_of}
 use Rattle.sync_plan.specs.Shape.{static_phases}
 use Rattle.comm_system.specs.Meetings.{IsInLastTrip, IsInLastTripWhere, IsPast}
-use Rattle.comm_system.specs.References.{Reference, StaticPhase, phases_of, reference_of, references_in, references_of, variable_of}
+use Rattle.conflict_rules.specs.References.{Reference, StaticPhase, phases_of, reference_of, references_in, references_of, variable_of}
 use Rattle.comm_system.specs.Shown.{is_among, is_private_in, is_summed, privates_in, shown_among, shown_of}
 use Rattle.comm_system.proofs.Accesses.{IsAccessAt, IsExecutedAt, load_access, nested_good, phase_there, store_access}
 use Rattle.comm_system.proofs.FirstStores.{first_at, first_store, store_shown}

@@ -2,7 +2,7 @@
 use Rattle.std.proofs.Common.{◌≡◌, ℕ, Bool, true, false, true≢false, ◌==◌, ◌||◌, List, [], ◌∷◌, ◌++◌, if◌then◌else◌, refl, ap, sym, ◌∙◌, subst, inl, inr}
 use Rattle.std.specs.List.{AllByRecursion, Contains}
 use Rattle.std.proofs.lemmas.List.Folds.{list_any-append}
-use Rattle.comm_system.specs.References.{Reference, variable_of}
+use Rattle.conflict_rules.specs.References.{Reference, variable_of}
 use Rattle.comm_system.specs.Shown.{is_among, shown_among}
 use Rattle.comm_system.proofs.Lists.{contains_cases, contains_here, contains_later, contains_nothing}
 

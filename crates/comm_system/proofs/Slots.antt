@@ -7,12 +7,13 @@ use Rattle.nest_tree.specs.Tree.{Tree}
 use Rattle.nest_rows.proofs.Nesting.{all-weaker}
 use Rattle.owner_partition.specs.declared.anchor.Anchor.{Anchor}
 use Rattle.sync_plan.specs.declared.plan.Plan.{Plan}
-use Rattle.comm_system.specs.Boundaries.{Side}
+use Rattle.conflict_rules.specs.Boundaries.{Side}
 use Rattle.comm_system.specs.Levels.{common, levels}
-use Rattle.comm_system.specs.Obligations.{Slot, Task, pair_tasks, piece_task, pieces_from, slot_signature, slot_tasks, slots_before, slots_between, slots_from, slots_of, tasks_of, trips_tasks}
+use Rattle.conflict_rules.specs.Slots.{Slot}
+use Rattle.comm_system.specs.Obligations.{Task, pair_tasks, piece_task, pieces_from, slot_signature, slot_tasks, slots_before, slots_between, slots_from, slots_of, tasks_of, trips_tasks}
 use Rattle.comm_system.specs.OwnerRows.{Piece, pieces}
 use Rattle.comm_system.specs.Pairs.{Pair, pairs_of}
-use Rattle.comm_system.specs.References.{StaticPhase, phases_of}
+use Rattle.conflict_rules.specs.References.{StaticPhase, phases_of}
 use Rattle.comm_system.specs.Signatures.{waits}
 use Rattle.comm_system.proofs.Lists.{contains_here, contains_later, in_flat_map, in_map, range_there}
 

@@ -11,7 +11,7 @@ use Rattle.nest_tree.specs.WellFormed.{IsWellFormed, Scope, are_good_statements,
 use Rattle.nest_tree.specs.declared.tree.Item.{Item}
 use Rattle.nest_rows.specs.Views.{heads_of}
 use Rattle.nest_rows.specs.declared.terms.Around.{Around}
-use Rattle.comm_system.specs.SmallSteps.{are_small_steps, has_small_steps, have_small_steps}
+use Rattle.conflict_rules.specs.SmallSteps.{are_small_steps, has_small_steps, have_small_steps}
 
 mutual
   small_in : (scope : Scope) (around : List ℕ) (first : ℕ) (s : Statement) → is_good_statement scope around first s ≡ true → has_small_steps s ≡ true

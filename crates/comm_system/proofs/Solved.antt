@@ -13,9 +13,9 @@ use Rattle.nest_rows.specs.Constraints.{IsMet}
 use Rattle.nest_rows.specs.Groups.{guard_has, loops_have}
 use Rattle.nest_rows.specs.Nested.{AreTrips}
 use Rattle.nest_rows.specs.Places.{AreLaid, laid}
-use Rattle.nest_rows.proofs.Dots.{AreConstants, numbers}
+use Rattle.nest_rows.proofs.Dots.{AreConstants, numbers, constants-in-front, dot-constants}
 use Rattle.nest_rows.proofs.GroupsMet.{both_met, constants_met, guard_met, is_head_among, loops_met}
-use Rattle.nest_rows.proofs.Over.{constants_have-over, form-over, guard-over, loops_have-over}
+use Rattle.nest_rows.proofs.Over.{constants_have-over, form-over, guard-over, loops_have-over, number-from}
 use Rattle.nest_rows.proofs.Sums.{is_over}
 use Rattle.sync_plan.specs.declared.plan.ConditionRow.{ConditionRow}
 use Rattle.sync_plan.specs.declared.plan.Conditions.{Conditions}
@@ -27,13 +27,11 @@ use Rattle.comm_system.specs.Meetings.{AreFree, AreSame, Holder, IsEarlier, IsEa
 use Rattle.comm_system.specs.OwnerRows.{Placed, owners_unknowns}
 use Rattle.comm_system.specs.PairRows.{behind_pair, conditions_have, first_of, free_bounds, free_have, instance_has, last_has, ordered_so, pair_rows, same_element, second_of, subscripts_of, sum_of, unknowns_of}
 use Rattle.comm_system.specs.Pairs.{Pair}
-use Rattle.comm_system.specs.References.{Reference}
+use Rattle.conflict_rules.specs.References.{Reference}
 use Rattle.comm_system.proofs.Lies.{LiesAt, laid-length, laid_there, lies-left, lies-right, lies_behind}
 use Rattle.comm_system.proofs.OwnersMet.{AreSeated, holder-length}
 use Rattle.comm_system.proofs.PairMet.{element_met, forms_valued, free_met, free_valued, last_trip_met, order_met, sum_value}
 use Rattle.comm_system.proofs.PairOver.{IsSumOver, are_over, depth_of, element_over, free_over, free_sums_over, last_trip_over, lists_over, order_over}
-use Rattle.nest_rows.proofs.Dots.{constants-in-front, dot-constants}
-use Rattle.nest_rows.proofs.Over.{number-from}
 
 -- ---- the conditions on the named constants
 

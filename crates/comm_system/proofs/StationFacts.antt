@@ -9,7 +9,7 @@ use Rattle.nest_model.specs.Instances.{works_in}
 use Rattle.nest_model.specs.Visits.{stops_in}
 use Rattle.nest_rows.proofs.Nesting.{all-append, all-weaker}
 use Rattle.sync_plan.proofs.Gets.{get-behind, get-front}
-use Rattle.comm_system.specs.References.{StaticPhase}
+use Rattle.conflict_rules.specs.References.{StaticPhase}
 use Rattle.comm_system.proofs.Contexts.{AreInFront, IsInFront, behind, entered, front, loop_number}
 use Rattle.comm_system.proofs.Lists.{all_in_range, all_mapped, mapped_get}
 use Rattle.comm_system.proofs.Stations.{Station, at_trip, inside, push, stations_in, stations_of, text-length, text_among, text_of, trips_of}

@@ -6,7 +6,7 @@ use Rattle.nest_tree.specs.Form.{form_value}
 use Rattle.nest_tree.specs.Tree.{Head, Statement, Statements, do_loop, work, continue, done, next}
 use Rattle.nest_model.specs.Instances.{head_trips, trip_count, with_loop, works_in}
 use Rattle.nest_model.specs.Visits.{Visit, stops_in, stops_of, visits_in, visits_of}
-use Rattle.comm_system.specs.References.{StaticPhase, phases_among, phases_in}
+use Rattle.conflict_rules.specs.References.{StaticPhase, phases_among, phases_in}
 
 -- a stop, and the loops that the walk is in there with their trips, from the outermost
 pub record Station : Type 0 where

@@ -7,7 +7,7 @@ use Rattle.nest_tree.specs.Tree.{Head, Statement, Statements, do_loop, work, con
 use Rattle.nest_model.specs.Instances.{works_in}
 use Rattle.nest_model.specs.Visits.{stops_in}
 use Rattle.sync_plan.proofs.Gets.{get-behind, get-front}
-use Rattle.comm_system.specs.References.{StaticPhase}
+use Rattle.conflict_rules.specs.References.{StaticPhase}
 use Rattle.comm_system.proofs.Lists.{mapped_get}
 use Rattle.comm_system.proofs.Stations.{Station, at_trip, inside, push, stations_in, stations_of, text-length, text_among, text_of, trips_of}
 use Rattle.comm_system.proofs.StationFacts.{AreValid}

@@ -7,7 +7,7 @@ use Rattle.nest_tree.specs.declared.tree.Item.{Item}
 use Rattle.nest_tree.specs.Tree.{Head}
 use Rattle.nest_tree.specs.View.{statement_of, statements_from}
 use Rattle.nest_rows.specs.Nested.{nested_among, nested_in}
-use Rattle.comm_system.specs.References.{Reference, references_in}
+use Rattle.conflict_rules.specs.References.{Reference, references_in}
 
 -- behind what stood before, what is left of all is that of one thing less
 pub one_more : {A B : Type 0} (one : A → List B) (all : List A → List B) → ((x : A) (xs : List A) → all (x ∷ xs) ≡ one x ++ all xs) → (xs : List A) (k : ℕ) (x : A) → k < length xs → x ≡ get_or xs k x →

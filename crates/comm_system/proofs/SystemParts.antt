@@ -10,9 +10,10 @@ use Rattle.nest_rows.specs.declared.constraint.Constraint.{Constraint}
 use Rattle.nest_rows.proofs.RowLists.{more-both}
 use Rattle.owner_partition.specs.declared.anchor.Anchor.{Anchor}
 use Rattle.sync_plan.specs.declared.plan.Plan.{Plan}
-use Rattle.comm_system.specs.Boundaries.{Side}
+use Rattle.conflict_rules.specs.Boundaries.{Side}
 use Rattle.comm_system.specs.Levels.{Order, common, order_at}
-use Rattle.comm_system.specs.Obligations.{Slot, Task, lasts_at, last_of, numbered, numbered_from, owners_of, piece_task, pieces_from}
+use Rattle.conflict_rules.specs.Slots.{Slot}
+use Rattle.comm_system.specs.Obligations.{Task, lasts_at, last_of, numbered, numbered_from, owners_of, piece_task, pieces_from}
 use Rattle.comm_system.specs.OwnerRows.{Piece, Placed, beside, owner_numbers, owners_have, owners_unknowns, pieces, sign_of}
 use Rattle.comm_system.specs.PairRows.{apart, behind_pair, pair_rows}
 use Rattle.comm_system.specs.Pairs.{Pair}

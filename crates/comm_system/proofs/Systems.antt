@@ -13,7 +13,7 @@ use Rattle.farkas_cert.specs.Inequalities.{IsWholeSolution}
 use Rattle.owner_partition.specs.declared.anchor.Anchor.{Anchor}
 use Rattle.sync_plan.specs.declared.plan.Conditions.{Conditions}
 use Rattle.sync_plan.specs.Fit.{unmet}
-use Rattle.comm_system.specs.Boundaries.{Side, of_first, of_second}
+use Rattle.conflict_rules.specs.Boundaries.{Side, of_first, of_second}
 use Rattle.comm_system.specs.Levels.{Order}
 use Rattle.comm_system.specs.Meetings.{AreHolders, Holder, Holds, LiesAmong, LiesBeside, Meet, Point, around_at, holders_values, loops_at, values_of}
 use Rattle.comm_system.specs.Obligations.{last_of, placed_at}

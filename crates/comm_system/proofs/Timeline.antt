@@ -4,7 +4,7 @@ use Rattle.std.specs.List.{AllByRecursion}
 use Rattle.std.proofs.lemmas.Bool.{and_parts, cases_eq, eqb-true, lt-ltb, ltb-true}
 use Rattle.nest_tree.specs.Form.{numbered}
 use Rattle.nest_tree.specs.Tree.{Head}
-use Rattle.comm_system.specs.Boundaries.{is_prefix}
+use Rattle.conflict_rules.specs.Boundaries.{is_prefix}
 use Rattle.comm_system.specs.Levels.{common}
 use Rattle.comm_system.specs.Meetings.{AreSame, IsEarlier}
 use Rattle.comm_system.proofs.KnownHeads.{IsKnown, same_head}

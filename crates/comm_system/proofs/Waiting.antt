@@ -14,12 +14,12 @@ use Rattle.sync_plan.specs.declared.plan.Plan.{Plan}
 use Rattle.sync_plan.specs.Conflicts.{ConflictUnder, seen_store}
 use Rattle.sync_plan.specs.Fit.{IsFit}
 use Rattle.sync_plan.specs.Ordered.{Hop, IsChain, owner_under}
-use Rattle.comm_system.specs.Boundaries.{certain_boundaries, of_first, of_second}
+use Rattle.conflict_rules.specs.Boundaries.{certain_boundaries, of_first, of_second}
 use Rattle.comm_system.specs.Levels.{Order, common, levels, order_at}
 use Rattle.comm_system.specs.Meetings.{AreSame, IsEarlier, IsHolder, Meet}
 use Rattle.comm_system.specs.Obligations.{Task, anchor_at, tasks_of}
 use Rattle.comm_system.specs.Pairs.{Pair}
-use Rattle.comm_system.specs.References.{StaticPhase, phases_of}
+use Rattle.conflict_rules.specs.References.{StaticPhase, phases_of}
 use Rattle.comm_system.specs.Shown.{is_private_in}
 use Rattle.comm_system.proofs.Accesses.{IsExecutedAt, phase_there, point_at, station_known}
 use Rattle.comm_system.proofs.Certain.{AreTwo, heads_x, heads_y, long_x, long_y}

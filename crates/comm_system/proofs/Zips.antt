@@ -9,7 +9,7 @@ use Rattle.nest_rows.proofs.Dots.{numbers}
 use Rattle.nest_rows.proofs.GoodNesting.{AreAmong, any-left, any-more}
 use Rattle.sync_plan.specs.declared.plan.Kind.{Kind}
 use Rattle.sync_plan.specs.Shape.{are_good_kinds, is_good_kind}
-use Rattle.comm_system.specs.References.{StaticPhase, phases_among, phases_in}
+use Rattle.conflict_rules.specs.References.{StaticPhase, phases_among, phases_in}
 
 pub among_more : (xs : List ℕ) (heads others : List Head) → AreAmong xs (numbers heads) → AreAmong xs (numbers (heads ++ others))
 among_more xs heads others h n named = ap (list_any (λ l. l == n)) (map-append (λ (h : Head). h.number) heads others) ∙ any-left (numbers heads) (numbers others) n (h n named)

@@ -1,7 +1,7 @@
 -- Groups of systems as plain data.
 use Rattle.std.specs.Prelude.{map}
 use Rattle.comm_system.specs.Pairs.{Pair}
-use Rattle.comm_system.specs.References.{Reference}
+use Rattle.conflict_rules.specs.References.{Reference}
 use Rattle.comm_system.specs.Subjects.{Group, Listed}
 use Rattle.comm_system.specs.SubjectViews.{subject_seen}
 use Rattle.comm_system.specs.declared.group.Group.{Group as HeldGroup}

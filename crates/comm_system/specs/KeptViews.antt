@@ -1,6 +1,6 @@
 -- Accesses that are kept, as plain data.
-use Rattle.comm_system.specs.References.{Reference}
-use Rattle.comm_system.specs.Seen.{reference_seen}
+use Rattle.conflict_rules.specs.References.{Reference}
+use Rattle.conflict_rules.specs.Seen.{reference_seen}
 use Rattle.comm_system.specs.declared.own.Kept.{Kept}
 
 abbrev pub kept_seen : Kept → Reference

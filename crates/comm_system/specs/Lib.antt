@@ -1,8 +1,10 @@
-pub mod References
+pub use Rattle.conflict_rules.specs.References
+pub use Rattle.conflict_rules.specs.Boundaries
+pub use Rattle.conflict_rules.specs.StaticViews
+pub use Rattle.conflict_rules.specs.SmallSteps
 pub mod Shown
 pub mod Pairs
 pub mod Levels
-pub mod Boundaries
 pub mod Signatures
 pub mod PairRows
 pub mod OwnerRows
@@ -11,7 +13,6 @@ pub mod Meetings
 pub mod Rows
 pub mod Seen
 pub mod KeptViews
-pub mod StaticViews
 pub mod PhaseViews
 pub mod SlotViews
 pub mod SideViews
@@ -19,7 +20,6 @@ pub mod SignatureViews
 pub mod RowViews
 pub mod OwnerViews
 pub mod Certain
-pub mod SmallSteps
 pub mod Subjects
 pub mod SubjectViews
 pub mod GroupViews

@@ -11,12 +11,12 @@ use Rattle.nest_rows.specs.Places.{laid}
 use Rattle.owner_partition.specs.declared.anchor.Anchor.{Anchor}
 use Rattle.owner_partition.specs.declared.anchor.Dist.{Dist}
 use Rattle.owner_partition.specs.declared.anchor.Dist.TheVariants.{Block, Cyclic}
-use Rattle.comm_system.specs.Boundaries.{Side, of_first, of_second}
+use Rattle.conflict_rules.specs.Boundaries.{Side, of_first, of_second}
 use Rattle.comm_system.specs.Levels.{Order}
 use Rattle.comm_system.specs.OwnerRows.{Direction, Placed, below, above}
 use Rattle.comm_system.specs.PairRows.{free_bounds}
 use Rattle.comm_system.specs.Pairs.{Pair}
-use Rattle.comm_system.specs.References.{Reference}
+use Rattle.conflict_rules.specs.References.{Reference}
 
 -- where an access is made: the loops' values by number, the trips of those round it from the outermost, and its free subscripts
 pub record Point : Type 0 where

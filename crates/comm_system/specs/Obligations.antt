@@ -12,12 +12,13 @@ use Rattle.sync_plan.specs.declared.plan.Kind.{Kind}
 use Rattle.sync_plan.specs.declared.plan.Plan.{Plan}
 use Rattle.sync_plan.specs.declared.plan.Version.{Version}
 use Rattle.sync_plan.specs.Fit.{is_dealt}
-use Rattle.comm_system.specs.Boundaries.{Side, of_first, of_second, certain_boundaries}
+pub use Rattle.conflict_rules.specs.Slots.{Slot}
+use Rattle.conflict_rules.specs.Boundaries.{Side, of_first, of_second, certain_boundaries}
 use Rattle.comm_system.specs.Levels.{common, levels, order_at, two_trips}
 use Rattle.comm_system.specs.OwnerRows.{Piece, Placed, distance, last_rows, owner_numbers, owners_have, owners_unknowns, pieces, below, above}
 use Rattle.comm_system.specs.PairRows.{behind_pair, first_of, pair_rows, second_of}
 use Rattle.comm_system.specs.Pairs.{Pair, pairs_of, pairs_within}
-use Rattle.comm_system.specs.References.{StaticPhase, phases_of, variable_of}
+use Rattle.conflict_rules.specs.References.{StaticPhase, phases_of, variable_of}
 use Rattle.comm_system.specs.Shown.{is_private_in}
 use Rattle.comm_system.specs.Signatures.{Signature, blocked, waits, signature_of}
 use Rattle.comm_system.specs.declared.obligation.Obligation.{Obligation}
@@ -49,14 +50,6 @@ or_first None = record { form = record { constant = pos 0; loops = []; params = 
 
 abbrev pub anchor_at : Plan → ℕ → Anchor
 anchor_at plan s = or_first (slice_get plan.anchors (s - 1))
-
--- two static phases by their numbers, and a level
-pub record Slot : Type 0 where
-  pub s : ℕ
-  pub first : StaticPhase
-  pub t : ℕ
-  pub second : StaticPhase
-  pub level : ℕ
 
 -- the producers' anchors, each at the loops of its side
 abbrev pub placed_at : Tree → Pair → Anchor × Side → Placed

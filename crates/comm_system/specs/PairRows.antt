@@ -15,7 +15,7 @@ use Rattle.sync_plan.specs.declared.plan.Conditions.{Conditions}
 use Rattle.sync_plan.specs.declared.plan.Conditions.TheVariants.{Values, Rows}
 use Rattle.comm_system.specs.Levels.{Order}
 use Rattle.comm_system.specs.Pairs.{Pair}
-use Rattle.comm_system.specs.References.{Reference}
+use Rattle.conflict_rules.specs.References.{Reference}
 
 -- the conditions on the named constants: their values, or the plan's rows
 abbrev pub conditions_have : List ℤ → Conditions → List Constraint

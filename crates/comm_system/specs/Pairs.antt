@@ -2,12 +2,9 @@
 use Rattle.std.specs.Prelude.{◌==◌, Bool, ◌&&◌, ◌||◌, List, map}
 use Rattle.std.specs.List.{filter, flat_map}
 use Rattle.owner_partition.specs.Cuts.{Cutting}
-use Rattle.comm_system.specs.References.{Reference, StaticPhase, references_of, variable_of}
+pub use Rattle.conflict_rules.specs.Conflicts.{conflict}
+use Rattle.conflict_rules.specs.References.{Reference, StaticPhase, references_of}
 use Rattle.comm_system.specs.Shown.{shared_of, shown_of}
-
--- two accesses conflict under a plan: they name the same variable, and one of them stores
-abbrev pub conflict : Reference → Reference → Bool
-conflict a b = variable_of a.what == variable_of b.what && (a.stores || b.stores)
 
 -- an access of a first phase, and one of a second
 pub record Pair : Type 0 where

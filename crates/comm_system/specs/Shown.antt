@@ -5,7 +5,7 @@ use Rattle.nest_tree.specs.Tree.{Statement, do_loop, work, continue}
 use Rattle.own_scalars.specs.OwnScalars.{is_sum}
 use Rattle.owner_partition.specs.Cuts.{Cutting, privates_of}
 use Rattle.owner_partition.specs.Marks.{is_sum_mark, mark_of}
-use Rattle.comm_system.specs.References.{Reference, StaticPhase, references_of, variable_of}
+use Rattle.conflict_rules.specs.References.{Reference, StaticPhase, references_of, variable_of}
 
 -- the private scalars of a phase, and whether a variable is a sum scalar of it
 abbrev pub privates_in : Cutting → Statement → List ℕ

@@ -1,13 +1,12 @@
 -- What is seen of kinds, as plain data.
-use Rattle.std.specs.Prelude.{◌+◌, ◌≡◌, ◌||◌, List, ◌++◌, map}
+use Rattle.std.specs.Prelude.{◌+◌, ◌≡◌, ◌||◌, List, ◌++◌, map, sum_by}
 use Rattle.std.specs.List.{flat_map, list_any}
-use Rattle.std.specs.Prelude.{sum_by}
 use Rattle.sync_plan.specs.declared.plan.Kind.{Kind}
-use Rattle.comm_system.specs.Boundaries.{Boundary}
+use Rattle.conflict_rules.specs.Boundaries.{Boundary}
 use Rattle.comm_system.specs.Signatures.{Signature, blocked, waits, is_barrier, kind_at, left_waits, producers_at, right_waits}
-use Rattle.comm_system.specs.SideViews.{producer_seen, side_seen}
+use Rattle.conflict_rules.specs.SideViews.{producer_seen, side_seen}
 use Rattle.comm_system.specs.declared.signature.Seen.{Seen}
-use Rattle.comm_system.specs.declared.producer.Side.{Side}
+use Rattle.conflict_rules.specs.declared.producer.Side.{Side}
 use Rattle.comm_system.specs.declared.signature.Signature.{Signature as Held}
 use Rattle.comm_system.specs.declared.signature.Signature.TheVariants.{Blocked, Waits as Wait}
 

@@ -1,8 +1,7 @@
 -- What the certain boundaries of a slot make of the plan's kinds.
-use Rattle.std.specs.Prelude.{ℕ, ◌-◌, min, Bool, true, false, List, drop, length, Option, Some, None, slice_get, if◌then◌else◌}
+use Rattle.std.specs.Prelude.{ℕ, ◌-◌, min, Bool, true, false, List, drop, length, Option, Some, None, slice_get, if◌then◌else◌, sum_by}
 use Rattle.std.specs.List.{flat_map, list_any}
 use Rattle.std.specs.Option.{option_map, option_map_or, option_to_list}
-use Rattle.std.specs.Prelude.{sum_by}
 use Rattle.owner_partition.specs.declared.anchor.Anchor.{Anchor}
 use Rattle.sync_plan.specs.declared.plan.Kind.{Kind}
 use Rattle.sync_plan.specs.declared.plan.Kind.TheVariants.{Nothing, Producer, Left, Right, Both, Barrier, Join}
@@ -10,7 +9,7 @@ use Rattle.sync_plan.specs.declared.plan.Version.{Version}
 use Rattle.sync_plan.specs.declared.plan.Version.TheVariants.{One, Two, Three, Four, Five}
 use Rattle.sync_plan.specs.Kinds.{anchor_in}
 use Rattle.sync_plan.specs.Shape.{has_places}
-use Rattle.comm_system.specs.Boundaries.{Boundary, Side}
+use Rattle.conflict_rules.specs.Boundaries.{Boundary, Side}
 
 -- a barrier stands between the instances; or so many waits for the processor to the left, so many for the one to the right, and the last three producers that are waited for, each with the side of its boundary
 pub data Signature : Type 0 where

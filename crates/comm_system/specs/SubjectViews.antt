@@ -3,7 +3,7 @@ use Rattle.std.specs.Prelude.{map}
 use Rattle.comm_system.specs.Pairs.{Pair}
 use Rattle.comm_system.specs.PhaseViews.{phase_seen}
 use Rattle.comm_system.specs.Seen.{pair_of}
-use Rattle.comm_system.specs.SideViews.{producer_seen}
+use Rattle.conflict_rules.specs.SideViews.{producer_seen}
 use Rattle.comm_system.specs.SlotViews.{slot_seen}
 use Rattle.comm_system.specs.Subjects.{Subject, of_slot, of_trips}
 use Rattle.comm_system.specs.declared.subject.Subject.{Subject as HeldSubject}

@@ -6,11 +6,12 @@ use Rattle.owner_partition.specs.Cuts.{Cutting}
 use Rattle.owner_partition.specs.declared.anchor.Anchor.{Anchor}
 use Rattle.sync_plan.specs.declared.plan.Plan.{Plan}
 use Rattle.sync_plan.specs.Fit.{is_dealt}
-use Rattle.comm_system.specs.Boundaries.{Side}
-use Rattle.comm_system.specs.Obligations.{Slot, Task, numbered_from, pair_tasks, slot_signature, slots_of, trips_task}
+use Rattle.conflict_rules.specs.Boundaries.{Side}
+use Rattle.conflict_rules.specs.Slots.{Slot}
+use Rattle.comm_system.specs.Obligations.{Task, numbered_from, pair_tasks, slot_signature, slots_of, trips_task}
 use Rattle.comm_system.specs.OwnerRows.{pieces}
 use Rattle.comm_system.specs.Pairs.{Pair, pairs_of, pairs_within}
-use Rattle.comm_system.specs.References.{StaticPhase, phases_of}
+use Rattle.conflict_rules.specs.References.{StaticPhase, phases_of}
 use Rattle.comm_system.specs.Signatures.{Signature, blocked, waits}
 use Rattle.comm_system.specs.declared.obligation.Obligation.{Obligation}
 

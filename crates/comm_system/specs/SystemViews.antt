@@ -7,8 +7,9 @@ use Rattle.nest_rows.specs.More.{HasMore}
 use Rattle.nest_rows.specs.declared.constraint.Constraint.{Constraint}
 use Rattle.owner_partition.specs.declared.anchor.Anchor.{Anchor}
 use Rattle.sync_plan.specs.declared.plan.Plan.{Plan}
-use Rattle.comm_system.specs.Boundaries.{Side}
-use Rattle.comm_system.specs.Obligations.{Slot, Task, last_of, numbered_from, owners_of, pieces_from, shared_system}
+use Rattle.conflict_rules.specs.Boundaries.{Side}
+use Rattle.conflict_rules.specs.Slots.{Slot}
+use Rattle.comm_system.specs.Obligations.{Task, last_of, numbered_from, owners_of, pieces_from, shared_system}
 use Rattle.comm_system.specs.OwnerRows.{Piece, owner_numbers}
 use Rattle.comm_system.specs.PairRows.{behind_pair, first_of, second_of}
 use Rattle.comm_system.specs.Pairs.{Pair}

@@ -3,13 +3,15 @@
 ghost use Rattle.std.specs.Prelude.{◌≡◌, ◌+◌, ◌*◌, ◌++◌, ◌<◌, ◌≤◌, ◌^◌, IfOk, OnOk, length, map};
 ghost use Rattle.comm_system.specs.Certain.{certain_of, certain_on};
 ghost use Rattle.comm_system.specs.PhaseViews.{phase_seen};
-ghost use Rattle.comm_system.specs.SideViews.{boundary_seen, side_seen};
-ghost use Rattle.comm_system.specs.SlotViews.{level_seen, slot_seen};
+ghost use Rattle.comm_system.specs.SideViews.{boundary_seen};
+ghost use Rattle.conflict_rules.specs.SideViews.{side_seen};
+ghost use Rattle.conflict_rules.specs.SlotViews.{level_seen};
+ghost use Rattle.comm_system.specs.SlotViews.{slot_seen};
 
-use crate::level::Level;
 use crate::phase::Phase;
-use crate::producer::Side;
 use crate::slot::Slot;
+use conflict_rules::level::Level;
+use conflict_rules::producer::Side;
 use std::alloc::{AllocError, Global};
 
 /// The boundary in front of the static phase with this number, from 1, where the Outer loops have

@@ -7,15 +7,15 @@ ghost use Rattle.sync_plan.specs.Shape.{wrong_field};
 ghost use Rattle.comm_system.specs.Obligations.{numbered_from, pair_tasks};
 ghost use Rattle.comm_system.specs.OwnerRows.{pieces as pieces_of};
 ghost use Rattle.comm_system.specs.Seen.{pair_of};
-ghost use Rattle.comm_system.specs.SideViews.{producer_seen};
+ghost use Rattle.conflict_rules.specs.SideViews.{producer_seen};
 ghost use Rattle.comm_system.specs.SlotViews.{slot_seen};
 
 use crate::obligation::Obligation;
 use crate::pair_systems::{Shared, make_shared, push_last, range};
 use crate::pieces::{Piece, pieces};
-use crate::reference::Reference;
 use crate::slot::Slot;
 use crate::waits::Waits;
+use conflict_rules::reference::Reference;
 use farkas_cert::{Rows, System};
 use nest_tree::Program;
 use std::alloc::{AllocError, Global};
@@ -60,7 +60,7 @@ impl<'w, 'p> PairSystems<'w, 'p> {
     ghost use Rattle.comm_system.specs.Obligations.{numbered, numbered_from, pair_tasks, shared_task};
     ghost use Rattle.comm_system.specs.OwnerRows.{pieces as pieces_of};
     ghost use Rattle.comm_system.specs.Seen.{pair_of};
-    ghost use Rattle.comm_system.specs.SideViews.{producer_seen};
+    ghost use Rattle.conflict_rules.specs.SideViews.{producer_seen};
     ghost use Rattle.comm_system.specs.SlotViews.{slot_seen};
     ghost use Rattle.comm_system.specs.SystemViews.{last_made, none_made, obligations_seen};
     ghost use Rattle.comm_system.specs.declared.obligation.Obligation.{Obligation as Obligations};

@@ -20,12 +20,10 @@
 #![tactic(auto)]
 
 pub mod boundary;
-pub mod conflict;
 pub mod group;
 pub mod groups;
 pub mod in_place;
 pub mod laws;
-pub mod level;
 pub mod obligation;
 pub mod obligations;
 pub mod own;
@@ -35,8 +33,6 @@ pub mod phase;
 pub mod phases;
 mod pieces;
 mod place;
-pub mod producer;
-pub mod reference;
 mod references;
 mod rows;
 pub mod signature;
@@ -45,6 +41,7 @@ pub mod slot_list;
 pub mod subject;
 pub mod waits;
 
+pub use conflict_rules::{conflict, level, producer, reference};
 pub use laws::{
     groups_make_obligations, meeting_owners_solve, meeting_trips_solve, obligations_order,
     slots_see_certain_boundaries,

@@ -4,12 +4,12 @@ ghost use Rattle.std.specs.Prelude.{◌≡◌, IfOk, map};
 ghost use Rattle.nest_tree.specs.View.{statement_of};
 ghost use Rattle.comm_system.specs.KeptViews.{kept_seen};
 ghost use Rattle.comm_system.specs.PhaseViews.{phase_seen};
-ghost use Rattle.comm_system.specs.References.{references_of};
-ghost use Rattle.comm_system.specs.Seen.{reference_seen};
+ghost use Rattle.conflict_rules.specs.References.{references_of};
+ghost use Rattle.conflict_rules.specs.Seen.{reference_seen};
 ghost use Rattle.comm_system.specs.Shown.{is_own_in, is_private_in, is_summed, privates_in, shared_of, shown_of};
 
 use crate::phase::Phase;
-use crate::reference::Reference;
+use conflict_rules::reference::Reference;
 use nest_tree::Item;
 use own_scalars::is_sum;
 use owner_partition::Cut;

@@ -11,7 +11,7 @@ ghost use Rattle.owner_partition.specs.declared.anchor.Dist.TheVariants.{Cyclic}
 ghost use Rattle.sync_plan.specs.Shape.{has_places, wrong_field};
 ghost use Rattle.comm_system.specs.Levels.{common as in_common, order_at, two_trips as two_trips_of};
 ghost use Rattle.comm_system.specs.Obligations.{anchor_at as anchor_under, last_of, numbered, placed_at, range_of, trips_task};
-ghost use Rattle.comm_system.specs.Boundaries.{of_first, of_second};
+ghost use Rattle.conflict_rules.specs.Boundaries.{of_first, of_second};
 ghost use Rattle.comm_system.specs.OwnerRows.{beside, distance as distance_of};
 ghost use Rattle.comm_system.specs.PairRows.{behind_pair};
 ghost use Rattle.comm_system.specs.OwnerViews.{fits_owner, placed_seen};
@@ -19,7 +19,7 @@ ghost use Rattle.comm_system.specs.PhaseViews.{phase_seen};
 ghost use Rattle.comm_system.specs.PieceViews.{direction_seen, piece_seen};
 ghost use Rattle.comm_system.specs.RowViews.{order_seen};
 ghost use Rattle.comm_system.specs.Seen.{pair_of};
-ghost use Rattle.comm_system.specs.SideViews.{producer_seen, side_seen};
+ghost use Rattle.conflict_rules.specs.SideViews.{producer_seen, side_seen};
 ghost use Rattle.comm_system.specs.SlotViews.{slot_seen};
 ghost use Rattle.comm_system.specs.SystemViews.{AreUnknowns, Begins, IsShared};
 
@@ -28,11 +28,11 @@ use crate::own::is_private_in;
 use crate::owner_rows::{Placed, owners_unknowns, push_owners};
 use crate::phase::Phase;
 use crate::pieces::{Direction, Piece};
-use crate::producer::Side;
-use crate::reference::Reference;
 use crate::rows::{Instance, Order, apart, push_pair, unknowns};
 use crate::slot::Slot;
 use crate::waits::Waits;
+use conflict_rules::producer::Side;
+use conflict_rules::reference::Reference;
 use farkas_cert::{NarrowSystem, System};
 use nest_rows::Constraint;
 use nest_rows::rows::row;
@@ -136,14 +136,13 @@ pub fn trips_obligation(
     })
 }
 
-// How the loops round the phases of a slot stand. 2^29 and more, or a level of 2^29 and more, have
-// no room.
+// How the loops round the phases of a slot stand. A level of 2^29 and more has no room.
 fn order(slot: &Slot) -> Result<Order, AllocError>
     ensures order { IfOk result (λ o. order_seen o ≡ order_at (in_common (phase_seen slot.now.first.now).outer (phase_seen slot.now.second.now).outer) slot.now.level) }
     ensures few { IfOk result (λ o. o.equal < 2 ^ 29) }
-    ensures only { IfErr result (λ _. (2 ^ 29 ≤ in_common (phase_seen slot.now.first.now).outer (phase_seen slot.now.second.now).outer) ⊎ (2 ^ 29 ≤ slot.now.level)) }
+    ensures only { IfErr result (λ _. 2 ^ 29 ≤ slot.now.level) }
 {
-    let loops = slot.common()?;
+    let loops = slot.common();
     if slot.level >= 536_870_912 {
         return Err(AllocError);
     }

@@ -1,11 +1,11 @@
 // A static phase with its accesses.
 
 ghost use Rattle.std.specs.Prelude.{◌≡◌, map};
-ghost use Rattle.comm_system.specs.References.{references_of};
-ghost use Rattle.comm_system.specs.Seen.{reference_seen};
-ghost use Rattle.comm_system.specs.StaticViews.{static_phase_seen};
+ghost use Rattle.conflict_rules.specs.References.{references_of};
+ghost use Rattle.conflict_rules.specs.Seen.{reference_seen};
+ghost use Rattle.conflict_rules.specs.StaticViews.{static_phase_seen};
 
-use crate::reference::Reference;
+use conflict_rules::reference::Reference;
 use owner_partition::StaticPhase;
 
 /// A static phase with its accesses, in text order.

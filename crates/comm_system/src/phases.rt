@@ -5,10 +5,10 @@ ghost use Rattle.nest_tree.specs.View.{statement_of, statements_from, tree_of};
 ghost use Rattle.nest_tree.specs.WellFormed.{IsWellFormed, Scope, are_good_statements, is_good_statement};
 ghost use Rattle.nest_walk.specs.Walks.{enters_but};
 ghost use Rattle.nest_rows.specs.Views.{heads_of};
-ghost use Rattle.comm_system.specs.References.{phases_among, phases_in, phases_of};
-ghost use Rattle.comm_system.specs.SmallSteps.{are_small_steps, has_small_steps, have_small_steps};
+ghost use Rattle.conflict_rules.specs.References.{phases_among, phases_in, phases_of};
+ghost use Rattle.conflict_rules.specs.SmallSteps.{are_small_steps, has_small_steps, have_small_steps};
 ghost use Rattle.comm_system.specs.PhaseViews.{phase_seen};
-ghost use Rattle.comm_system.specs.StaticViews.{static_phase_seen};
+ghost use Rattle.conflict_rules.specs.StaticViews.{static_phase_seen};
 ghost use Rattle.owner_partition.specs.StaticPhases.{loops_of};
 
 use crate::phase::Phase;

@@ -2,7 +2,7 @@
 
 ghost use Rattle.std.specs.Prelude.{IsTrue};
 ghost use Rattle.nest_rows.specs.Views.{heads_of};
-ghost use Rattle.comm_system.specs.SmallSteps.{are_small_steps};
+ghost use Rattle.conflict_rules.specs.SmallSteps.{are_small_steps};
 
 use nest_rows::Around;
 use nest_tree::Guard;

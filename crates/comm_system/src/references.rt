@@ -7,12 +7,13 @@ ghost use Rattle.nest_tree.specs.View.{expression_of, expressions_from, printed_
 ghost use Rattle.nest_walk.specs.Tables.{element, loaded_in_item};
 ghost use Rattle.nest_rows.specs.Nested.{nested_among, nested_in};
 ghost use Rattle.nest_rows.specs.Views.{heads_of};
-ghost use Rattle.comm_system.specs.References.{references_in};
-ghost use Rattle.comm_system.specs.SmallSteps.{are_small_steps, has_small_steps, have_small_steps};
-ghost use Rattle.comm_system.specs.Seen.{reference_seen, referred, target_seen};
+ghost use Rattle.conflict_rules.specs.References.{references_in};
+ghost use Rattle.conflict_rules.specs.SmallSteps.{are_small_steps, has_small_steps, have_small_steps};
+ghost use Rattle.conflict_rules.specs.Seen.{reference_seen, target_seen};
+ghost use Rattle.comm_system.specs.Seen.{referred};
 
 use crate::place::Place;
-use crate::reference::{Reference, Target};
+use conflict_rules::reference::{Reference, Target};
 use nest_rows::Around;
 use nest_tree::{Expr, Item, PrintItem};
 use std::alloc::{AllocError, Global};

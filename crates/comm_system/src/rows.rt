@@ -16,11 +16,12 @@ ghost use Rattle.nest_rows.specs.declared.constraint.Sign.TheVariants.{Minus, Pl
 ghost use Rattle.sync_plan.specs.Shape.{are_good_conditions, is_good_row};
 ghost use Rattle.sync_plan.specs.declared.plan.Version.{Version};
 ghost use Rattle.comm_system.specs.PairRows.{apart as apart_of, behind_pair, conditions_have, first_of, free_bounds as free_bounds_of, free_have, free_sums as free_sums_of, instance_has, last_has, no_more as no_more_of, ordered_so, pair_rows, past_next as past_next_of, same_element, same_loops, second_of, subscripts_of, sum_of, unknowns_of};
-ghost use Rattle.comm_system.specs.Seen.{pair_of, reference_seen, target_seen};
-ghost use Rattle.comm_system.specs.SmallSteps.{are_small_steps};
+ghost use Rattle.comm_system.specs.Seen.{pair_of};
+ghost use Rattle.conflict_rules.specs.Seen.{reference_seen, target_seen};
+ghost use Rattle.conflict_rules.specs.SmallSteps.{are_small_steps};
 ghost use Rattle.comm_system.specs.RowViews.{bounds_have, condition_of, free_at, is_small_sum, order_seen, sum_seen};
 
-use crate::reference::{Reference, Target};
+use conflict_rules::reference::{Reference, Target};
 use farkas_cert::NarrowSystem;
 use nest_rows::groups::{bounded, push_constants, push_guard, push_loops};
 use nest_rows::rows::push_row;

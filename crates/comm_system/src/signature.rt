@@ -4,7 +4,7 @@ ghost use Rattle.std.specs.Prelude.{◌≡◌, ◌+◌, ◌<◌, ◌≤◌, ◌^
 ghost use Rattle.std.specs.List.{list_all};
 ghost use Rattle.std.specs.Option.{option_copied};
 ghost use Rattle.sync_plan.specs.declared.plan.Kind.{Kind as Kinds};
-ghost use Rattle.comm_system.specs.Boundaries.{Boundary as BoundarySeen};
+ghost use Rattle.conflict_rules.specs.Boundaries.{Boundary as BoundarySeen};
 ghost use Rattle.comm_system.specs.Signatures.{counted as counted_in, has_places_in, or_nothing, signature_of};
 ghost use Rattle.comm_system.specs.Obligations.{slot_signature as signature_under};
 ghost use Rattle.comm_system.specs.PhaseViews.{phase_seen};
@@ -14,9 +14,9 @@ ghost use Rattle.comm_system.specs.SignatureViews.{Adds, HasSeen, signature_seen
 
 use crate::boundary::{Boundary, certain_boundaries};
 use crate::phase::Phase;
-use crate::producer::{Producer, Side};
 use crate::slot::Slot;
 use crate::waits::Waits;
+use conflict_rules::producer::{Producer, Side};
 use std::alloc::{AllocError, Global};
 use sync_plan::{Kind, Version};
 

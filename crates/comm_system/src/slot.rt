@@ -1,14 +1,14 @@
 // Slots: two static phases and a level.
 
-ghost use Rattle.std.specs.Prelude.{◌≡◌, ◌<◌, ◌≤◌, ◌^◌, IfErr, IfOk};
+ghost use Rattle.std.specs.Prelude.{◌≡◌, ◌≤◌};
 ghost use Rattle.comm_system.specs.Levels.{common as common_of};
 ghost use Rattle.comm_system.specs.PhaseViews.{phase_seen};
-ghost use Rattle.comm_system.specs.SlotViews.{level_seen, slot_seen};
+ghost use Rattle.conflict_rules.specs.SlotViews.{level_seen};
+ghost use Rattle.comm_system.specs.SlotViews.{slot_seen};
 
-use crate::level::Level;
 use crate::phase::Phase;
+use conflict_rules::level::Level;
 use nest_rows::common;
-use std::alloc::AllocError;
 
 /// Two static phases by their numbers, from 1, and a level: the common loop, from 1, that is at an
 /// earlier trip for the first; 0 where all common loops are equal.
@@ -22,21 +22,17 @@ pub struct Slot<'b, 'a> {
 }
 
 impl<'a> Slot<'_, 'a> {
-    // How many loops the two phases have in common. 2^29 and more have no room.
-    pub(crate) fn common(&self) -> Result<u32, AllocError>
-        ensures count { IfOk result (λ n. n ≡ common_of (phase_seen self.now.first.now).outer (phase_seen self.now.second.now).outer) }
-        ensures few { IfOk result (λ n. n < 2 ^ 29) }
-        ensures only { IfErr result (λ _. 2 ^ 29 ≤ common_of (phase_seen self.now.first.now).outer (phase_seen self.now.second.now).outer) }
+    // How many loops the two phases have in common: at most six are round one.
+    #[tactic(auto, using(crate::proofs::FewLoops::few_in_common))]
+    pub(crate) fn common(&self) -> u32
+        ensures count { result ≡ common_of (phase_seen self.now.first.now).outer (phase_seen self.now.second.now).outer }
+        ensures few { result ≤ 6 }
     {
         let loops = common(
             self.first.text.outer.as_slice(),
             self.second.text.outer.as_slice(),
         );
-        if loops < 536_870_912 {
-            Ok(loops as u32)
-        } else {
-            Err(AllocError)
-        }
+        loops as u32
     }
 
     // The two phases in the text, at the level.

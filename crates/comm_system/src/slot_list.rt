@@ -10,8 +10,7 @@ use crate::phase::Phase;
 use crate::slot::Slot;
 use std::alloc::{AllocError, Global};
 
-/// The slots of these static phases, in order: the second phase, the first, the level. Two phases
-/// with 2^29 loops in common have more levels than there is room for.
+/// The slots of these static phases, in order: the second phase, the first, the level.
 pub fn slots<'b, 'a>(
     alloc: Global,
     phases: &'b [Phase<'a>],
@@ -57,7 +56,7 @@ fn push_between<'b, 'a>(slot: Slot<'b, 'a>, found: &mut Vec<Slot<'b, 'a>>) -> Re
     requires { slot.level ≡ 0 }
     ensures { OnOk result (map slot_seen found.new.items ≡ map slot_seen found.old.items ++ slots_between slot.entry.s (phase_seen slot.entry.first.now) slot.entry.t (phase_seen slot.entry.second.now)) }
 {
-    push_carried(slot, slot.common()?, found)?;
+    push_carried(slot, slot.common(), found)?;
     if slot.s < slot.t {
         found.push(slot)?;
     }

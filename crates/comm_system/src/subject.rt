@@ -7,9 +7,9 @@ ghost use Rattle.comm_system.specs.Subjects.{count_about};
 ghost use Rattle.comm_system.specs.SubjectViews.{subject_at, subject_seen};
 
 use crate::phase::Phase;
-use crate::reference::Reference;
 use crate::slot::Slot as PhasePair;
 use crate::waits::Waits;
+use conflict_rules::reference::Reference;
 use std::alloc::{AllocError, Global};
 
 /// What the systems of a group speak of: two accesses that conflict.

@@ -2,7 +2,7 @@
 
 ghost use Rattle.std.specs.Prelude.{◌<◌, ◌≤◌, ◌^◌, length};
 
-use crate::producer::Producer;
+use conflict_rules::producer::Producer;
 
 /// How often the neighbours to the left and to the right are waited for, and the last three
 /// producers.

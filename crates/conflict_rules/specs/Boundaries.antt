@@ -2,7 +2,7 @@
 use Rattle.std.specs.Prelude.{ℕ, suc, ◌==◌, Bool, ◌&&◌, not, nat_le, nat_lt, List, [], ◌∷◌, ◌++◌, length, if◌then◌else◌}
 pub use Rattle.nest_rows.specs.InCommon.{is_prefix}
 use Rattle.nest_tree.specs.Tree.{Head}
-use Rattle.comm_system.specs.References.{StaticPhase}
+use Rattle.conflict_rules.specs.References.{StaticPhase}
 
 -- at the Outer values of which instance a boundary stands
 pub data Side : Type 0 where

@@ -3,7 +3,7 @@ use Rattle.nest_tree.specs.View.{statement_of}
 use Rattle.nest_rows.specs.Views.{heads_of}
 use Rattle.owner_partition.specs.StaticPhases.{loops_of}
 use Rattle.owner_partition.specs.declared.static_phase.StaticPhase.{StaticPhase as Held}
-use Rattle.comm_system.specs.References.{StaticPhase}
+use Rattle.conflict_rules.specs.References.{StaticPhase}
 
 abbrev pub static_phase_seen : Held → StaticPhase
 static_phase_seen p = record { what = statement_of p.item.now; outer = heads_of (loops_of p.outer) }

@@ -1,8 +1,8 @@
 // Which two accesses conflict.
 
 ghost use Rattle.std.specs.Prelude.{◌≡◌};
-ghost use Rattle.comm_system.specs.Pairs.{conflict as conflict_under};
-ghost use Rattle.comm_system.specs.Seen.{reference_seen};
+ghost use Rattle.conflict_rules.specs.Conflicts.{conflict as conflict_under};
+ghost use Rattle.conflict_rules.specs.Seen.{reference_seen};
 
 use crate::reference::Reference;
 

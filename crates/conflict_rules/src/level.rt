@@ -1,10 +1,10 @@
 // Two static phases at a level.
 
 ghost use Rattle.std.specs.Prelude.{◌≡◌};
-ghost use Rattle.comm_system.specs.Boundaries.{is_before_second as stands_before_second, is_behind_first as stands_behind_first};
-ghost use Rattle.comm_system.specs.Certain.{is_certain as stands_certain};
-ghost use Rattle.comm_system.specs.SideViews.{side_seen};
-ghost use Rattle.comm_system.specs.SlotViews.{level_seen};
+ghost use Rattle.conflict_rules.specs.Boundaries.{is_before_second as stands_before_second, is_behind_first as stands_behind_first};
+ghost use Rattle.conflict_rules.specs.Slots.{is_certain as stands_certain};
+ghost use Rattle.conflict_rules.specs.SideViews.{side_seen};
+ghost use Rattle.conflict_rules.specs.SlotViews.{level_seen};
 ghost use Rattle.owner_partition.specs.StaticPhases.{loops_of};
 ghost use Rattle.nest_rows.specs.Views.{heads_of};
 

@@ -1,7 +1,7 @@
 // Producers that are waited for.
 
 ghost use Rattle.std.specs.Prelude.{IsTrue};
-ghost use Rattle.sync_plan.specs.Shape.{has_places};
+ghost use Rattle.owner_partition.specs.Owners.{has_places};
 
 use owner_partition::Anchor;
 

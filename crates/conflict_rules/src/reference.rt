@@ -2,7 +2,7 @@
 
 ghost use Rattle.std.specs.Prelude.{IsTrue};
 ghost use Rattle.nest_rows.specs.Views.{heads_of};
-ghost use Rattle.comm_system.specs.SmallSteps.{are_small_steps};
+ghost use Rattle.conflict_rules.specs.SmallSteps.{are_small_steps};
 
 use nest_rows::Around;
 use nest_tree::{Access, Guard};
@@ -18,8 +18,8 @@ pub enum Target<'a> {
 
 impl Target<'_> {
     ghost use Rattle.std.specs.Prelude.{◌≡◌};
-    ghost use Rattle.comm_system.specs.References.{variable_of};
-    ghost use Rattle.comm_system.specs.Seen.{target_seen};
+    ghost use Rattle.conflict_rules.specs.References.{variable_of};
+    ghost use Rattle.conflict_rules.specs.Seen.{target_seen};
 
     /// The variable, from 1.
     pub fn variable(&self) -> u32

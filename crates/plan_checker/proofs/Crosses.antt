@@ -15,7 +15,7 @@ use Rattle.nest_tree.proofs.tree.Expr.TheLaws.TheKnot as expr
 use Rattle.nest_tree.proofs.tree.Item.TheLaws.TheKnot as item
 use Rattle.nest_rows.specs.contracts.terms.Around as Around
 use Rattle.comm_system.proofs.reference.Target.TheSendSync as target
-use Rattle.comm_system.specs.contracts.reference.Reference as Reference
+use Rattle.conflict_rules.specs.contracts.reference.Reference as Reference
 use Rattle.owner_partition.specs.contracts.outer_loops.Six as Six
 use Rattle.owner_partition.specs.contracts.outer_loops.OuterLoops as OuterLoops
 use Rattle.owner_partition.specs.contracts.static_phase.StaticPhase as StaticPhase

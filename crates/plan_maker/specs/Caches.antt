@@ -11,7 +11,7 @@ use Rattle.comm_system.specs.Obligations.{Slot}
 use Rattle.comm_system.specs.SideViews.{boundary_seen, producer_seen, side_seen}
 use Rattle.comm_system.specs.SlotViews.{slot_seen}
 use Rattle.comm_system.specs.Signatures.{Signature, waits}
-use Rattle.comm_system.specs.declared.producer.Side.{Side as HeldSide}
+use Rattle.conflict_rules.specs.declared.producer.Side.{Side as HeldSide}
 use Rattle.comm_system.specs.declared.waits.Waits.{Waits}
 use Rattle.plan_maker.specs.Asked.{IsCause, slot_asked}
 use Rattle.plan_maker.specs.Judged.{IsVerdict}

@@ -1,9 +1,9 @@
 use Rattle.std.proofs.Common.{◌++◌, map, ap, ◌∙◌}
-use Rattle.comm_system.specs.Boundaries.{of_first, of_second}
+use Rattle.conflict_rules.specs.Boundaries.{of_first, of_second}
 use Rattle.comm_system.specs.Certain.{certain_on}
 use Rattle.comm_system.specs.PhaseViews.{phase_seen}
 use Rattle.comm_system.specs.SideViews.{boundary_seen}
-use Rattle.comm_system.specs.SlotViews.{level_seen}
+use Rattle.conflict_rules.specs.SlotViews.{level_seen}
 use Rattle.comm_system.proofs.boundary.certain_boundaries.Goals as goal
 
 pub returns-clause-boundaries : goal.returns-clause-boundaries

@@ -1,9 +1,11 @@
 use Rattle.std.proofs.Common.{◌≡◌, ◌≤◌, ◌+◌, ◌++◌, drop, length, map}
-use Rattle.comm_system.specs.Boundaries.{boundaries_where}
-use Rattle.comm_system.specs.Certain.{certain_on, is_certain}
+use Rattle.conflict_rules.specs.Boundaries.{boundaries_where}
+use Rattle.comm_system.specs.Certain.{certain_on}
+use Rattle.conflict_rules.specs.Slots.{is_certain}
 use Rattle.comm_system.specs.PhaseViews.{phase_seen}
-use Rattle.comm_system.specs.SideViews.{boundary_seen, side_seen}
-use Rattle.comm_system.specs.SlotViews.{level_seen}
+use Rattle.comm_system.specs.SideViews.{boundary_seen}
+use Rattle.conflict_rules.specs.SideViews.{side_seen}
+use Rattle.conflict_rules.specs.SlotViews.{level_seen}
 use Rattle.comm_system.proofs.boundary.push_certain.Given as goal
 
 abbrev pub invariant-loop-index : goal.invariant-loop-index

@@ -2,7 +2,8 @@ use Rattle.std.proofs.Common.{◌≡◌, [], map, List, ap, sym, ◌∙◌}
 use Rattle.std.specs.List.{flat_map}
 use Rattle.nest_tree.specs.View.{tree_of}
 use Rattle.comm_system.specs.GroupViews.{group_seen, listed_seen}
-use Rattle.comm_system.specs.Obligations.{Slot, slot_signature, slots_of}
+use Rattle.conflict_rules.specs.Slots.{Slot}
+use Rattle.comm_system.specs.Obligations.{slot_signature, slots_of}
 use Rattle.comm_system.specs.PhaseViews.{phase_seen}
 use Rattle.comm_system.specs.SlotViews.{slot_seen}
 use Rattle.comm_system.specs.Subjects.{Listed, Subject, groups_among, slot_subjects, trips_subjects, with_subjects}

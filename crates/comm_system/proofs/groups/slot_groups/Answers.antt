@@ -1,6 +1,6 @@
 use Rattle.std.proofs.Common.{map, ap, ◌∙◌}
 use Rattle.comm_system.specs.GroupViews.{group_seen}
-use Rattle.comm_system.specs.SideViews.{producer_seen}
+use Rattle.conflict_rules.specs.SideViews.{producer_seen}
 use Rattle.comm_system.specs.Signatures.{waits}
 use Rattle.comm_system.specs.SlotViews.{slot_seen}
 use Rattle.comm_system.specs.Subjects.{slot_subjects, with_subjects}

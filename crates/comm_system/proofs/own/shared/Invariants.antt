@@ -2,7 +2,7 @@ use Rattle.std.proofs.Common.{◌≡◌, ◌++◌, drop, map, not}
 use Rattle.std.specs.List.{filter}
 use Rattle.comm_system.specs.PhaseViews.{phase_seen}
 use Rattle.comm_system.specs.KeptViews.{kept_seen}
-use Rattle.comm_system.specs.Seen.{reference_seen}
+use Rattle.conflict_rules.specs.Seen.{reference_seen}
 use Rattle.comm_system.specs.Shown.{is_own_in}
 use Rattle.comm_system.proofs.own.shared.Given as goal
 

@@ -1,7 +1,7 @@
 use Rattle.std.proofs.Common.{◌≡◌, ◌+◌, ◌++◌, [], ◌∷◌, drop, map, ap, sym, ◌∙◌}
 use Rattle.std.proofs.lemmas.List.{map-append}
 use Rattle.comm_system.specs.KeptViews.{kept_seen}
-use Rattle.comm_system.specs.Seen.{reference_seen}
+use Rattle.conflict_rules.specs.Seen.{reference_seen}
 use Rattle.comm_system.specs.Shown.{is_among, shown_among}
 use Rattle.comm_system.proofs.RowSteps.{left_more, list_more}
 use Rattle.comm_system.proofs.ShownLists.{shown_left_out, shown_other, shown_taken}

@@ -1,6 +1,6 @@
 use Rattle.std.proofs.Common.{◌≡◌, ◌++◌, drop, map, []}
 use Rattle.comm_system.specs.KeptViews.{kept_seen}
-use Rattle.comm_system.specs.Seen.{reference_seen}
+use Rattle.conflict_rules.specs.Seen.{reference_seen}
 use Rattle.comm_system.specs.Shown.{shown_among}
 use Rattle.comm_system.proofs.own.shown.Given as goal
 

@@ -1,13 +1,13 @@
 use Rattle.std.proofs.Common.{◌∷◌, arith, length, map, ap, ap₂, ◌∙◌}
 use Rattle.farkas_cert.specs.Inequalities.{Inequalities}
 use Rattle.nest_tree.specs.View.{tree_of}
-use Rattle.comm_system.specs.Boundaries.{of_first, of_second}
+use Rattle.conflict_rules.specs.Boundaries.{of_first, of_second}
 use Rattle.comm_system.specs.Obligations.{anchor_at, placed_at}
 use Rattle.comm_system.specs.OwnerRows.{owners_unknowns}
 use Rattle.comm_system.specs.OwnerViews.{placed_seen}
 use Rattle.comm_system.specs.RowViews.{order_seen}
 use Rattle.comm_system.specs.Seen.{pair_of}
-use Rattle.comm_system.specs.SideViews.{producer_seen}
+use Rattle.conflict_rules.specs.SideViews.{producer_seen}
 use Rattle.comm_system.specs.SlotViews.{slot_seen}
 use Rattle.comm_system.proofs.ShapeParts.{shaped}
 use Rattle.comm_system.proofs.SystemParts.{shared_numbers, shared_system}

@@ -1,11 +1,11 @@
 use Rattle.std.proofs.Common.{◌≡◌, ◌+◌, ◌≤◌, ◌++◌, ◌∷◌, drop, map, IsTrue, length}
 use Rattle.std.specs.List.{list_all}
 use Rattle.nest_tree.specs.Tree.{Tree}
-use Rattle.comm_system.specs.Boundaries.{of_first, of_second}
+use Rattle.conflict_rules.specs.Boundaries.{of_first, of_second}
 use Rattle.comm_system.specs.Obligations.{placed_at}
 use Rattle.comm_system.specs.OwnerViews.{fits_owner, placed_seen}
 use Rattle.comm_system.specs.Seen.{pair_of}
-use Rattle.comm_system.specs.SideViews.{producer_seen}
+use Rattle.conflict_rules.specs.SideViews.{producer_seen}
 use Rattle.comm_system.specs.SystemViews.{AreUnknowns}
 use Rattle.comm_system.proofs.pair_systems.placed_anchors.Given as goal
 

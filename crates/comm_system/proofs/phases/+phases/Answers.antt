@@ -6,7 +6,7 @@ use Rattle.std.proofs.lemmas.Bool.{and_parts}
 use Rattle.nest_tree.specs.Form.{is_small}
 use Rattle.nest_tree.specs.declared.tree.Item.{Item, Loop, the_lemmas}
 use Rattle.nest_tree.specs.declared.tree.Nest.{Nest}
-use Rattle.comm_system.specs.SmallSteps.{has_small_steps, have_small_steps}
+use Rattle.conflict_rules.specs.SmallSteps.{has_small_steps, have_small_steps}
 use Rattle.comm_system.proofs.SmallLoops.{good_at, small_at, small_behind}
 use Rattle.std.proofs.lemmas.List.{map-append}
 use Rattle.nest_tree.specs.Tree.{Head, do_loop}
@@ -17,7 +17,7 @@ use Rattle.nest_tree.proofs.Rows.{statement_of-Loop}
 use Rattle.nest_walk.specs.Walks.{enters_but}
 use Rattle.nest_rows.specs.Views.{heads_of}
 use Rattle.nest_rows.specs.declared.terms.Around.{Around}
-use Rattle.comm_system.specs.References.{StaticPhase, phases_among, phases_in}
+use Rattle.conflict_rules.specs.References.{StaticPhase, phases_among, phases_in}
 use Rattle.comm_system.specs.PhaseViews.{phase_seen}
 use Rattle.owner_partition.specs.StaticPhases.{loops_of}
 use Rattle.comm_system.proofs.phases.+phases.Goals as goal

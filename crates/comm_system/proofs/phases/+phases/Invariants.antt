@@ -2,7 +2,7 @@ use Rattle.std.proofs.Common.{◌≡◌, ◌++◌, drop, map}
 use Rattle.nest_tree.specs.View.{statements_from}
 use Rattle.nest_walk.specs.Walks.{enters_but}
 use Rattle.nest_rows.specs.Views.{heads_of}
-use Rattle.comm_system.specs.References.{phases_among}
+use Rattle.conflict_rules.specs.References.{phases_among}
 use Rattle.comm_system.specs.PhaseViews.{phase_seen}
 use Rattle.owner_partition.specs.StaticPhases.{loops_of}
 use Rattle.comm_system.proofs.phases.+phases.Given as goal

@@ -4,10 +4,10 @@ use Rattle.nest_tree.specs.WellFormed.{are_good_statements, scope_of}
 use Rattle.nest_tree.proofs.Cells.{well_formed_parts}
 use Rattle.nest_walk.specs.Walks.{enters_but}
 use Rattle.nest_rows.specs.Views.{heads_of}
-use Rattle.comm_system.specs.References.{phases_among}
+use Rattle.conflict_rules.specs.References.{phases_among}
 use Rattle.comm_system.specs.PhaseViews.{phase_seen}
 use Rattle.owner_partition.specs.StaticPhases.{loops_of}
-use Rattle.comm_system.specs.SmallSteps.{have_small_steps}
+use Rattle.conflict_rules.specs.SmallSteps.{have_small_steps}
 use Rattle.comm_system.proofs.PhaseCounts.{few_phases}
 use Rattle.comm_system.proofs.SmallLoops.{small_program}
 use Rattle.comm_system.proofs.phases.phases.Goals as goal

@@ -3,7 +3,8 @@ use Rattle.nest_tree.specs.Loads.{loads_among, loads_in}
 use Rattle.nest_tree.specs.View.{expression_of, expressions_from}
 use Rattle.nest_tree.proofs.Rows.{expression_of-Max, expression_of-Min}
 use Rattle.nest_walk.specs.Tables.{element}
-use Rattle.comm_system.specs.Seen.{reference_seen, referred}
+use Rattle.conflict_rules.specs.Seen.{reference_seen}
+use Rattle.comm_system.specs.Seen.{referred}
 use Rattle.comm_system.proofs.references.+loads.Goals as goal
 
 pub push_loads-returns-in-Min : goal.push_loads-returns-in-Min

@@ -1,9 +1,8 @@
-use Rattle.std.proofs.Common.{◌≡◌, ◌++◌, ◌∷◌, [], List, map, ap, sym, ◌∙◌}
-use Rattle.std.proofs.Common.{rules}
+use Rattle.std.proofs.Common.{◌≡◌, ◌++◌, ◌∷◌, [], List, map, ap, sym, ◌∙◌, rules}
 use Rattle.std.proofs.lemmas.Bool.{and_parts}
 use Rattle.nest_tree.specs.Form.{is_small}
 use Rattle.nest_tree.specs.declared.tree.Item.{the_lemmas}
-use Rattle.comm_system.specs.SmallSteps.{are_small_steps, has_small_steps, have_small_steps}
+use Rattle.conflict_rules.specs.SmallSteps.{are_small_steps, has_small_steps, have_small_steps}
 use Rattle.comm_system.proofs.SmallLoops.{small_at, small_behind}
 use Rattle.std.specs.List.{flat_map}
 use Rattle.std.proofs.lemmas.List.{map-append}
@@ -13,8 +12,8 @@ use Rattle.nest_tree.proofs.Rows.{statement_of-Loop}
 use Rattle.nest_rows.specs.Nested.{Nested, nested_among, nested_in}
 use Rattle.nest_rows.specs.Views.{heads_of}
 use Rattle.nest_rows.specs.declared.terms.Around.{Around}
-use Rattle.comm_system.specs.References.{references_in}
-use Rattle.comm_system.specs.Seen.{reference_seen}
+use Rattle.conflict_rules.specs.References.{references_in}
+use Rattle.conflict_rules.specs.Seen.{reference_seen}
 use Rattle.comm_system.proofs.references.+works.Goals as goal
 
 pub push_references-returns-in_ok-push_all_references-in-Loop-clause-found : goal.push_references-returns-in_ok-push_all_references-in-Loop-clause-found

@@ -1,6 +1,6 @@
 use Rattle.std.proofs.Common.{◌≡◌, ◌++◌, drop, map}
 use Rattle.nest_rows.specs.Views.{heads_of}
-use Rattle.comm_system.specs.Seen.{reference_seen}
+use Rattle.conflict_rules.specs.Seen.{reference_seen}
 use Rattle.comm_system.proofs.Steps.{references_among}
 use Rattle.comm_system.proofs.references.+works.Given as goal
 

@@ -2,7 +2,8 @@ use Rattle.std.proofs.Common.{◌≡◌, ◌++◌, drop, map, false}
 use Rattle.std.specs.List.{flat_map}
 use Rattle.nest_tree.specs.View.{printed_of}
 use Rattle.nest_walk.specs.Tables.{loaded_in_item}
-use Rattle.comm_system.specs.Seen.{reference_seen, referred}
+use Rattle.conflict_rules.specs.Seen.{reference_seen}
+use Rattle.comm_system.specs.Seen.{referred}
 use Rattle.comm_system.proofs.references.push_items.Given as goal
 
 abbrev pub invariant-loop-item : goal.invariant-loop-item

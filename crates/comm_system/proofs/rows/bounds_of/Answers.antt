@@ -1,7 +1,6 @@
-use Rattle.std.proofs.Common.{ap, sym, ◌∙◌, arith, ◌<◌, ◌≤◌, length}
+use Rattle.std.proofs.Common.{ap, sym, ◌∙◌, arith, ◌<◌, ◌≤◌, length, map}
 use Rattle.nest_tree.specs.Layout.{bounds_at}
 use Rattle.nest_tree.specs.View.{declaration_of}
-use Rattle.std.proofs.Common.{map}
 use Rattle.comm_system.proofs.RowSteps.{bounds_none, bounds_there}
 use Rattle.comm_system.proofs.rows.bounds_of.Goals as goal
 

@@ -5,7 +5,7 @@ use Rattle.comm_system.specs.Signatures.{has_places_in, or_nothing}
 use Rattle.comm_system.specs.SideViews.{boundary_seen}
 use Rattle.comm_system.specs.SignatureViews.{HasSeen}
 use Rattle.comm_system.specs.declared.boundary.Boundary.{Boundary}
-use Rattle.comm_system.specs.declared.producer.Side.TheVariants.{First}
+use Rattle.conflict_rules.specs.declared.producer.Side.TheVariants.{First}
 use Rattle.comm_system.proofs.Looks.{places_at, seen_more}
 use Rattle.comm_system.proofs.signature.signature_at.Goals as goal
 

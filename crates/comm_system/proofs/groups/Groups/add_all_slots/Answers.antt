@@ -1,7 +1,8 @@
 use Rattle.std.proofs.Common.{◌+◌, drop, map, List}
 use Rattle.std.specs.List.{flat_map}
 use Rattle.comm_system.specs.GroupViews.{listed_seen}
-use Rattle.comm_system.specs.Obligations.{Slot, slot_signature}
+use Rattle.conflict_rules.specs.Slots.{Slot}
+use Rattle.comm_system.specs.Obligations.{slot_signature}
 use Rattle.comm_system.specs.PhaseViews.{phase_seen}
 use Rattle.comm_system.specs.SlotViews.{slot_seen}
 use Rattle.comm_system.specs.Subjects.{Subject, slot_subjects, with_subjects}

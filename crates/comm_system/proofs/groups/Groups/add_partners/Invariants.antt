@@ -1,7 +1,7 @@
 use Rattle.std.proofs.Common.{◌≡◌, drop, map}
 use Rattle.comm_system.specs.GroupViews.{listed_seen}
 use Rattle.comm_system.specs.KeptViews.{kept_seen}
-use Rattle.comm_system.specs.Seen.{reference_seen}
+use Rattle.conflict_rules.specs.Seen.{reference_seen}
 use Rattle.comm_system.specs.Subjects.{with_subjects}
 use Rattle.comm_system.proofs.GroupSteps.{partners}
 use Rattle.comm_system.proofs.groups.Groups.add_partners.Given as goal

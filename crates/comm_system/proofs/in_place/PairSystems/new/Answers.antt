@@ -7,7 +7,7 @@ use Rattle.comm_system.specs.Obligations.{numbered_from, piece_task, pieces_from
 use Rattle.comm_system.specs.OwnerRows.{pieces}
 use Rattle.comm_system.specs.PieceViews.{piece_seen}
 use Rattle.comm_system.specs.Seen.{pair_of}
-use Rattle.comm_system.specs.SideViews.{producer_seen}
+use Rattle.conflict_rules.specs.SideViews.{producer_seen}
 use Rattle.comm_system.specs.SlotViews.{slot_seen}
 use Rattle.comm_system.proofs.InPlace.{piece_same}
 use Rattle.comm_system.proofs.SystemParts.{few_made, pieces_same}

@@ -1,5 +1,5 @@
 use Rattle.std.proofs.Common.{◌≡◌, ◌-◌, map, length, arith}
-use Rattle.comm_system.specs.SideViews.{producer_seen}
+use Rattle.conflict_rules.specs.SideViews.{producer_seen}
 use Rattle.comm_system.proofs.Looks.{last_seen, signature_is}
 use Rattle.comm_system.proofs.signature.Seen.signature.Goals as goal
 

@@ -1,0 +1,9 @@
+pub mod References
+pub mod Conflicts
+pub mod Boundaries
+pub mod Slots
+pub mod SmallSteps
+pub mod Seen
+pub mod StaticViews
+pub mod SideViews
+pub mod SlotViews
