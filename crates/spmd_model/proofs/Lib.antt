@@ -12,6 +12,7 @@ pub mod Runs
 pub mod Ends
 pub mod StateAt
 pub mod Rounds
+pub mod RoundCounts
 pub mod Quiet
 pub mod Shared
 pub mod OwnPhases

@@ -1,5 +1,5 @@
-//! What a run of several processors is, and what holds of every run: definitions and laws, with
-//! nothing to call.
+//! What a run of several processors is, and what holds of every run: definitions and laws. All that
+//! there is to call are the rounds of a barrier by signals.
 //!
 //! - `specs/Cells.antt`: what an act leaves in a cell.
 //! - `specs/Timelines.antt`: what stands on the timeline of a run, and each processor's acts.
@@ -17,10 +17,12 @@
 //! - `specs/Closings.antt`, `specs/Styled.antt`, `specs/StyledDeeds.antt`: the same where processors
 //!   have cells of their own for a phase's scalars, and pass barriers in either style.
 //! - [`style`]: the two styles.
+//! - [`rounds`]: how many rounds a barrier by signals has, and whom a processor awaits in one.
 //! - `laws`: no state is stuck, and runs of ordered plans are sequential.
 #![tactic(auto)]
 
 mod laws;
+pub mod rounds;
 pub mod style;
 
 pub use laws::{

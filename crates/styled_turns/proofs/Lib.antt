@@ -8,7 +8,6 @@ pub mod PhaseByPhase
 pub mod OwnSlots
 pub mod OwnPlaces
 pub mod SumMarks
-pub mod RoundCounts
 pub mod MarkedPlaces
 pub mod LastTrips
 pub mod KnownOwn

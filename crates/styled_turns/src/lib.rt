@@ -2,13 +2,12 @@
 //! scalars of phases, and passes barriers in one of two styles.
 //!
 //! - [`turns`]: the turns that a processor has left.
-//! - [`rounds`]: the rounds of a barrier by signals.
 //! - [`laws`]: what turns have to do with acts.
 #![tactic(auto)]
 
 pub mod laws;
 mod pending;
-pub mod rounds;
 pub mod turns;
 
+pub use spmd_model::rounds;
 pub use turns::{NextOrPhase, StyledNext, StyledTurns};

@@ -20,12 +20,12 @@ ghost use Rattle.sync_plan.specs.declared.plan.Plan.{Plan};
 ghost use Rattle.styled_turns.specs.StyledLeft.{IsPlaced};
 
 use crate::pending::{first_pending, mark_first, mark_place};
-use crate::rounds::{awaited_in_round, rounds_of};
 use nest_tree::{Item, Nest, Program};
 use nest_walk::{Path, Stop, Strip};
 use own_cells::{OWN_PLACES, OwnCells, is_final};
 use owner_partition::{Mark, PhaseCursor, Privates, StaticPhase};
 use spmd_model::Style;
+use spmd_model::rounds::{awaited_in_round, rounds_of};
 use spmd_turns::{Boundary, Next, Turns};
 use sync_plan::Plan;
 

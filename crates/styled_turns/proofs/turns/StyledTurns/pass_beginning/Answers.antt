@@ -13,7 +13,7 @@ use Rattle.spmd_turns.proofs.TurnLists.{next_phase}
 use Rattle.styled_turns.specs.StyledTurns.{has_signals, has_signals_at, place_of}
 use Rattle.styled_turns.specs.StyledLeft.{AreNumbered, styled_plan, styled_tree}
 use Rattle.styled_turns.proofs.KnownOwn.{few_own, signals_at}
-use Rattle.styled_turns.proofs.RoundCounts.{few_rounds}
+use Rattle.spmd_model.proofs.RoundCounts.{few_rounds}
 use Rattle.styled_turns.proofs.Steps.{begin_passed, none_among}
 use Rattle.styled_turns.proofs.turns.StyledTurns.pass_beginning.Goals.{then-by_signals, else-by_signals}
 use Rattle.styled_turns.proofs.turns.StyledTurns.pass_beginning.Goals as goal

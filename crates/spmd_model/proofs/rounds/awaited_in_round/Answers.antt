@@ -1,6 +1,6 @@
 use Rattle.std.proofs.Common.{◌<◌, arith}
-use Rattle.styled_turns.proofs.RoundCounts.{few_rounds, round_below, small_power}
-use Rattle.styled_turns.proofs.rounds.awaited_in_round.Goals as goal
+use Rattle.spmd_model.proofs.RoundCounts.{few_rounds, round_below, small_power}
+use Rattle.spmd_model.proofs.rounds.awaited_in_round.Goals as goal
 
 pub overflow_sub-result : goal.overflow_sub-result
 overflow_sub-result c =

@@ -1,6 +1,6 @@
 use Rattle.std.proofs.Common.{◌≤◌, ◌<◌, ◌^◌, sym, ◌∙◌, arith}
-use Rattle.styled_turns.proofs.RoundCounts.{enough, one_more, small_power}
-use Rattle.styled_turns.proofs.rounds.rounds_of.Goals as goal
+use Rattle.spmd_model.proofs.RoundCounts.{enough, one_more, small_power}
+use Rattle.spmd_model.proofs.rounds.rounds_of.Goals as goal
 
 pub returns-then-workers-rounds-clause-rounds : goal.returns-then-workers-rounds-clause-rounds
 returns-then-workers-rounds-clause-rounds c =
