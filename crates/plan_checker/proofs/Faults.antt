@@ -19,7 +19,7 @@ use Rattle.plan_checker.specs.declared.refusal.PlanRefusal.TheVariants.{Bad, Sha
 use Rattle.plan_checker.specs.Certificates.{fault_in, fault_of, fault_with, first_of}
 use Rattle.plan_checker.specs.Failures.{failure_with, first_uncertified, surplus}
 use Rattle.plan_checker.proofs.Certified.{false_where_few, true_where_more}
-use Rattle.plan_checker.proofs.Texts.{from_place, past_end}
+use Rattle.plan_shape.proofs.Texts.{from_place, past_end}
 
 -- ---- groups one behind another
 

@@ -1,18 +1,17 @@
 -- What a plan of a fitting shape names is the program's.
-use Rattle.std.proofs.Common.{◌≡◌, ℕ, ◌+◌, true, nat_le, nat_lt, ℤ, List, [], ◌∷◌, ◌++◌, length, Option, Some, None, refl, ap, ◌∙◌, arith}
+use Rattle.std.proofs.Common.{◌≡◌, ℕ, ◌+◌, true, List, [], ◌∷◌, ◌++◌, length, Option, Some, None, refl, ap, ◌∙◌, arith}
 use Rattle.std.specs.List.{list_all}
 use Rattle.std.specs.Option.{option_map_or, option_or}
 use Rattle.std.proofs.lemmas.Bool.{and_from, and_parts}
-use Rattle.nest_tree.specs.Form.{is_given, is_small, reach_within, rises_above}
+use Rattle.nest_tree.specs.Form.{is_given}
 use Rattle.nest_tree.specs.Tree.{Tree}
-use Rattle.nest_tree.specs.WellFormed.{IsWellFormed, is_number_of, loops_of, names_only}
+use Rattle.nest_tree.specs.WellFormed.{IsWellFormed, loops_of, names_only}
 use Rattle.nest_tree.proofs.Good.{form-given}
 use Rattle.nest_walk.specs.Texts.{Placed}
 use Rattle.owner_partition.specs.declared.anchor.Anchor.{Anchor}
 use Rattle.owner_partition.specs.declared.cut.Mark.{Mark}
 use Rattle.owner_partition.specs.declared.placement.Placement.{Placement}
 use Rattle.owner_partition.specs.Placement.{misplaced, unplaced}
-use Rattle.sync_plan.specs.declared.plan.ConditionRow.{ConditionRow}
 use Rattle.sync_plan.specs.declared.plan.Conditions.{Conditions}
 use Rattle.sync_plan.specs.declared.plan.Conditions.TheVariants.{Values, Rows}
 use Rattle.sync_plan.specs.declared.plan.Kind.{Kind}
@@ -78,25 +77,6 @@ shape_parts tree plan formed none =
       given_kinds = kinds_given n constants text plan.kinds within fits.good_kinds fits.many_kinds;
       conditions = conditions_three constants plan.version plan.conditions fits.conditions;
     }
-
--- numbers of so many things are within so many
-pub numbers_within : (count : ℕ) (pairs : List (ℕ × ℤ)) → list_all (λ (p : ℕ × ℤ). is_number_of count p.0) pairs ≡ true → reach_within count pairs ≡ true
-numbers_within count [] h = refl
-numbers_within count (p ∷ pairs) h =
-    let parts = and_parts (is_number_of count p.0) (list_all (λ (q : ℕ × ℤ). is_number_of count q.0) pairs) h in
-    and_from (nat_le p.0 count) (reach_within count pairs) (and_parts (nat_le 1 p.0) (nat_le p.0 count) parts.0).1 (numbers_within count pairs parts.1)
-
--- the parts of a good row of conditions
-pub record RowParts (constants : ℕ) (row : ConditionRow) : Type 0 where
-  pub rising : rises_above 0 row.coefs ≡ true
-  pub given : reach_within constants row.coefs ≡ true
-
-pub row_parts : (constants : ℕ) (row : ConditionRow) → is_good_row constants row ≡ true → RowParts constants row
-row_parts constants row good =
-    let a = and_parts _ (is_small row.bound) good in
-    let b = and_parts _ (list_all (λ (p : ℕ × ℤ). is_number_of constants p.0) row.coefs) a.0 in
-    let c = and_parts (nat_lt 0 (length row.coefs)) (rises_above 0 row.coefs) b.0 in
-    record { rising = c.1; given = numbers_within constants row.coefs b.1 }
 
 -- the anchors of phases stand in front of those of kinds
 pub unplaced-append : (tree : Tree) (marks : List Mark) (workers : ℕ) (xs ys : List (ℕ × Anchor)) → unplaced tree marks workers (xs ++ ys) ≡ option_or (unplaced tree marks workers xs) (unplaced tree marks workers ys)

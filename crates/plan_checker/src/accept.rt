@@ -11,10 +11,10 @@ ghost use Rattle.plan_checker.specs.declared.refusal.PlanRefusal.TheVariants.{No
 use crate::certificates::first_fault;
 use crate::fit::check_fit;
 use crate::refusal::PlanRefusal;
-use crate::shape::wrong_field;
 use comm_system::groups::list_groups;
 use comm_system::phases::phases;
 use nest_tree::Program;
+use plan_shape::wrong_field;
 use std::alloc::{AllocError, Global};
 use std::thread::Threads;
 use sync_plan::Plan;

@@ -7,12 +7,11 @@ ghost use Rattle.nest_tree.specs.View.{tree_of};
 ghost use Rattle.nest_tree.specs.WellFormed.{IsWellFormed};
 ghost use Rattle.plan_checker.specs.Refusals.{first_refusal};
 
-use crate::conditions::unmet;
 use crate::places::{check_places, misplaced_print};
 use crate::refusal::PlanRefusal;
-use crate::shape::wrong_field;
 use nest_tree::Program;
 use owner_partition::Placement;
+use plan_shape::{unmet, wrong_field};
 use sync_plan::Plan;
 
 /// Whether a plan fits a program; else the first reason why not: its shape, then the placement of

@@ -11,7 +11,7 @@ use Rattle.owner_partition.specs.Placement.{phase_ends}
 use Rattle.sync_plan.specs.Fit.{has_print}
 use Rattle.sync_plan.specs.Shape.{is_doall, mark_of, own_loops}
 use Rattle.plan_maker.specs.declared.scope.Scope.{Scope}
-use Rattle.plan_checker.specs.Named.{with_own}
+use Rattle.plan_shape.specs.Named.{with_own}
 use Rattle.plan_maker.specs.Anchors.{anchors_from, element_anchor, first_processor, if_one_good, own_anchor, phase_anchor, placed_anchor, span_of, stored_anchor, value_anchor}
 use Rattle.plan_maker.specs.Scopes.{constants_at, found_anchor, loops_at, own_value}
 

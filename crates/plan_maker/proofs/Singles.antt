@@ -12,7 +12,7 @@ use Rattle.comm_system.specs.PhaseViews.{phase_seen}
 use Rattle.comm_system.specs.References.{StaticPhase}
 use Rattle.comm_system.specs.declared.phase.Phase.{Phase}
 use Rattle.plan_maker.specs.Candidates.{each_once, single_anchors, single_more}
-use Rattle.plan_checker.proofs.Texts.{from_place, past_end}
+use Rattle.plan_shape.proofs.Texts.{from_place, past_end}
 
 module _ (marks : List Mark) (t : StaticPhase) where
   no_anchors : (phases : List StaticPhase) → single_anchors marks t phases [] ≡ []

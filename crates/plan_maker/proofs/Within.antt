@@ -13,7 +13,7 @@ use Rattle.owner_partition.specs.declared.anchor.Anchor.{Anchor}
 use Rattle.owner_partition.specs.declared.cut.Mark.{Mark}
 use Rattle.sync_plan.specs.Shape.{has_places, is_good_anchor, own_loops, static_phases}
 use Rattle.sync_plan.proofs.NamedLoops.{are_numbers, is_within, own_within, text_within, up_to}
-use Rattle.plan_checker.specs.Named.{with_own}
+use Rattle.plan_shape.specs.Named.{with_own}
 
 there : (test : Placed → Bool) (text : List Placed) (k : ℕ) (p : Placed) → list_all test text ≡ true → slice_get text k ≡ Some p → test p ≡ true
 there test [] k p all at = absurd (cc)

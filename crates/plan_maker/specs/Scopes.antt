@@ -8,7 +8,7 @@ use Rattle.owner_partition.specs.declared.anchor.Anchor.{Anchor}
 use Rattle.owner_partition.specs.declared.cut.Mark.{Mark}
 use Rattle.owner_partition.specs.Placement.{phase_ends}
 use Rattle.owner_partition.specs.StaticPhases.{loops_round}
-use Rattle.plan_checker.specs.Named.{with_own}
+use Rattle.plan_shape.specs.Named.{with_own}
 use Rattle.plan_maker.specs.Anchors.{element_anchor, if_one_good, span_of, stored_anchor, value_anchor}
 use Rattle.plan_maker.specs.declared.scope.Scope.{Scope}
 

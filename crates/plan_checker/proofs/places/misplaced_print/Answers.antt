@@ -4,7 +4,7 @@ use Rattle.nest_tree.specs.View.{statement_of, tree_of}
 use Rattle.owner_partition.specs.StaticPhases.{loops_round}
 use Rattle.sync_plan.specs.Fit.{misplaced_print}
 use Rattle.sync_plan.specs.Shape.{static_phases}
-use Rattle.plan_checker.proofs.Texts.{prints-end, prints-past, prints-step}
+use Rattle.plan_checker.proofs.Prints.{prints-end, prints-past, prints-step}
 use Rattle.plan_checker.proofs.places.misplaced_print.Goals as goal
 use Rattle.plan_checker.proofs.places.misplaced_print.Goals.{After-is_misplaced}
 

@@ -4,7 +4,7 @@ use Rattle.nest_tree.specs.WellFormed.{loops_of}
 use Rattle.owner_partition.specs.StaticPhases.{loops_round}
 use Rattle.sync_plan.specs.Shape.{own_loops}
 use Rattle.plan_maker.specs.declared.scope.Scope.{Scope}
-use Rattle.plan_checker.specs.Named.{with_own}
+use Rattle.plan_shape.specs.Named.{with_own}
 use Rattle.plan_maker.specs.Anchors.{placed_anchor}
 use Rattle.plan_maker.specs.Scopes.{constants_at, loops_at}
 use Rattle.plan_maker.proofs.Found.{found_good}
