@@ -10,11 +10,11 @@ use Rattle.owner_partition.specs.declared.cut.Mark.{Mark}
 use Rattle.plan_maker.specs.declared.cause.Cause.{Cause}
 use Rattle.plan_maker.specs.declared.reasons.Bar.TheVariants.{Meeting}
 use Rattle.plan_maker.specs.declared.reasons.LoopReason.{LoopReason}
-use Rattle.plan_maker.specs.declared.tries.Tried.{Tried}
+use Rattle.maker_marks.specs.declared.tries.Tried.{Tried}
 use Rattle.plan_maker.specs.Asked.{IsCause}
 use Rattle.plan_maker.specs.Bars.{IsFirst, IsLoopReason, all_attempts, attempt, attempts_of, loop_prints, open_loop}
 use Rattle.plan_maker.specs.Cut.{loop_asked}
-use Rattle.plan_maker.specs.Tries.{body_among, body_of, tries_of}
+use Rattle.maker_marks.specs.Tries.{body_among, body_of, tries_of}
 use Rattle.plan_maker.proofs.Lists.{take_got}
 
 pub body_there : (tree : Tree) (n : ℕ) (body : Statements) → body_among n tree.items ≡ Some body → body_of tree n ≡ body

@@ -21,12 +21,12 @@ use Rattle.sync_plan.specs.Barriers.{least_version}
 use Rattle.sync_plan.specs.declared.plan.Version.{Version}
 use Rattle.sync_plan.specs.declared.plan.Version.TheVariants.{Two, Four, Five}
 use Rattle.sync_plan.specs.Shape.{are_good_privates, are_marked_well, fits_mark, has_good_privates, has_good_sums, has_privates, has_sums, have_good_privates, have_good_sums, is_good_sum, is_marked_well, static_phases}
-use Rattle.plan_maker.specs.declared.tries.Tried.{Tried}
-use Rattle.plan_maker.specs.declared.tries.Tried.TheVariants as tries
+use Rattle.maker_marks.specs.declared.tries.Tried.{Tried}
+use Rattle.maker_marks.specs.declared.tries.Tried.TheVariants as tries
 use Rattle.plan_maker.specs.Cut.{IsTriedCut}
-use Rattle.plan_maker.specs.Marks.{has_free, have_free, inner_in, inner_of, marks_by, marks_of}
-use Rattle.plan_maker.specs.Privates.{none_in, none_of, privates_by, privates_in, privates_of}
-use Rattle.plan_maker.specs.Tries.{IsMadeOf, body_among, body_in, has_few_sums, has_no_privates, is_admitted, tried_mark, tried_privates}
+use Rattle.maker_marks.specs.Marks.{has_free, have_free, inner_in, inner_of, marks_by, marks_of}
+use Rattle.maker_marks.specs.Privates.{none_in, none_of, privates_by, privates_in, privates_of}
+use Rattle.maker_marks.specs.Tries.{IsMadeOf, body_among, body_in, has_few_sums, has_no_privates, is_admitted, tried_mark, tried_privates}
 use Rattle.plan_maker.proofs.DealtPhases.{HasIn, HasOf, has-all, has-first, has-rest, tried-closed}
 use Rattle.plan_maker.proofs.Marked.{inner-count_in, marks_count}
 use Rattle.plan_maker.proofs.OwnRising.{privates_good}

@@ -13,13 +13,14 @@ use Rattle.owner_partition.specs.declared.cut.Mark.TheVariants.{Outer, Single}
 use Rattle.owner_partition.specs.Cuts.{Cutting, privates_of as own_privates}
 use Rattle.owner_partition.specs.Marks.{enters_outer, is_closed, is_doall, mark_of}
 use Rattle.comm_system.specs.References.{StaticPhase, phases_among, phases_in}
-use Rattle.plan_maker.specs.declared.tries.Tried.{Tried}
-use Rattle.plan_maker.specs.declared.tries.Tried.TheVariants as tries
+use Rattle.maker_marks.specs.declared.tries.Tried.{Tried}
+use Rattle.maker_marks.specs.declared.tries.Tried.TheVariants as tries
 use Rattle.plan_maker.specs.Loops.{by_number}
-use Rattle.plan_maker.specs.Marks.{has_free, have_free, inner_in, inner_of, marks_by, marks_in, marks_of}
-use Rattle.plan_maker.specs.Privates.{none_of, privates_by, privates_in, privates_of}
-use Rattle.plan_maker.specs.Tries.{tried_mark, tried_privates}
-use Rattle.plan_maker.proofs.Marked.{IsLoopAt, loop_at, marks_count_in}
+use Rattle.maker_marks.specs.Marks.{has_free, have_free, inner_in, inner_of, marks_by, marks_in, marks_of}
+use Rattle.maker_marks.specs.Privates.{none_of, privates_by, privates_in, privates_of}
+use Rattle.maker_marks.specs.Tries.{tried_mark, tried_privates}
+use Rattle.maker_marks.proofs.LoopsThere.{IsLoopAt, loop_at}
+use Rattle.plan_maker.proofs.Marked.{marks_count_in}
 use Rattle.plan_maker.proofs.Standing.{StandsAt, all_stand, enters_at, front_stands, mark_at, more_stand, one_stands, privates_count_in, rest_stands}
 
 -- loops with these numbers aren't dealt out

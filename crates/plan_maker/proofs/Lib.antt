@@ -15,7 +15,6 @@ pub mod Caches
 pub mod TakenKinds
 pub mod Verdicts
 pub mod Marked
-pub mod LoopsThere
 pub mod Standing
 pub mod DealtPhases
 pub mod LoopTrips

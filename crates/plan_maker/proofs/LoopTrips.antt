@@ -19,12 +19,13 @@ use Rattle.comm_system.specs.Obligations.{trips_task}
 use Rattle.comm_system.specs.Pairs.{pairs_among}
 use Rattle.comm_system.specs.References.{Reference, StaticPhase, phases_of, references_of, variable_of}
 use Rattle.comm_system.specs.Shown.{is_among}
-use Rattle.plan_maker.specs.declared.tries.Tried.{Tried}
+use Rattle.maker_marks.specs.declared.tries.Tried.{Tried}
 use Rattle.plan_maker.specs.Asked.{AreRefuted, Asked, all_trips_asked, asked, trips_asked}
-use Rattle.plan_maker.specs.Cut.{cut_asked, cut_of, cut_of_try, only}
+use Rattle.maker_marks.specs.Cut.{cut_of, cut_of_try, only}
+use Rattle.plan_maker.specs.Cut.{cut_asked}
 use Rattle.plan_maker.specs.Loops.{LoopVerdict, loops_asked, marked_asked, tried_asked, tried_in}
 use Rattle.plan_maker.specs.Trials.{HasMoreCertificates}
-use Rattle.plan_maker.specs.Tries.{tried_at}
+use Rattle.maker_marks.specs.Tries.{tried_at}
 use Rattle.plan_maker.proofs.DealtPhases.{IsOnly, asked_at, asked_of, by_number-append, by_number-same, laid, laid-one, laid_from, whole-by}
 use Rattle.plan_maker.proofs.Lists.{take_got}
 use Rattle.plan_maker.proofs.Marked.{tried_is}

@@ -26,13 +26,13 @@ use Rattle.plan_maker.specs.Anchors.{maker_anchors}
 use Rattle.plan_maker.specs.Asked.{AreRefuted, Asked, IsCause, all_trips_asked, asked, owners_dealt, slot_asked, trips_asked}
 use Rattle.plan_maker.specs.Bars.{IsChosen, IsLoopReason, IsReasonedCut, all_attempts, open_loops}
 use Rattle.plan_maker.specs.Candidates.{kinds_taken, weaker_from}
-use Rattle.plan_maker.specs.Cut.{cut_of}
+use Rattle.maker_marks.specs.Cut.{cut_of}
 use Rattle.plan_maker.specs.Loops.{AreLoopVerdicts, IsLoopVerdict, LoopVerdict, tried_in}
 use Rattle.plan_maker.specs.Made.{IsBarrierPlan, IsMade, with_found}
 use Rattle.plan_maker.specs.Numbers.{IsShown}
 use Rattle.plan_maker.specs.PhaseCauses.{IsPhaseCause}
 use Rattle.plan_maker.specs.Trials.{asked_of_slot, slots_asked}
-use Rattle.plan_maker.specs.Tries.{tried_at}
+use Rattle.maker_marks.specs.Tries.{tried_at}
 use Rattle.plan_maker.specs.Weakest.{IsPhaseReason, IsWeakest, asked_under, candidates_in}
 use Rattle.plan_maker.proofs.CandidatesFit.{candidates_fit}
 use Rattle.plan_maker.proofs.Verdicts.{trips_same}

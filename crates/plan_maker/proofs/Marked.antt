@@ -1,17 +1,18 @@
 -- The marks of a program's loops: there is one for each, and a loop whose mark is Outer or Single may not be dealt out.
-use Rattle.std.proofs.Common.{◌≡◌, ℕ, zero, suc, ◌+◌, ◌-◌, ◌≤◌, ◌++◌, ◌==◌, ◌⊎◌, Bool, true, false, List, [], ◌∷◌, length, length-append, map, get_or, refl, ap, ap₂, sym, ◌∙◌, inl, inr, arith}
+use Rattle.std.proofs.Common.{◌≡◌, ℕ, zero, suc, ◌+◌, ◌-◌, ◌≤◌, ◌++◌, ◌⊎◌, Bool, true, false, List, [], ◌∷◌, length, length-append, map, get_or, refl, ap, ap₂, sym, ◌∙◌, inl, inr, arith}
 use Rattle.std.specs.Prelude.{Option, Some, None, slice_get, unwrap_or}
-use Rattle.std.proofs.lemmas.Bool.{and_parts, eqb-true}
-use Rattle.nest_tree.specs.Tree.{Head, Statement, Statements, do_loop, work, continue, done, next, Tree}
-use Rattle.nest_tree.specs.WellFormed.{IsWellFormed, Scope, are_good_statements, is_good_head, is_good_statement, loops_in, loops_of, scope_of}
+use Rattle.std.proofs.lemmas.Bool.{and_parts}
+use Rattle.nest_tree.specs.Tree.{Statement, Statements, do_loop, work, continue, done, next, Tree}
+use Rattle.nest_tree.specs.WellFormed.{IsWellFormed, Scope, are_good_statements, is_good_statement, loops_in, loops_of, scope_of}
 use Rattle.owner_partition.specs.declared.cut.Mark.{Mark}
 use Rattle.owner_partition.specs.declared.cut.Mark.TheVariants.{Inner}
-use Rattle.plan_maker.specs.declared.tries.Tried.{Tried}
-use Rattle.plan_maker.specs.declared.tries.Tried.TheVariants as tries
+use Rattle.maker_marks.specs.declared.tries.Tried.{Tried}
+use Rattle.maker_marks.specs.declared.tries.Tried.TheVariants as tries
 use Rattle.plan_maker.specs.Bars.{is_open}
 use Rattle.plan_maker.specs.Loops.{AreOpenBarred, LoopVerdict, tried_in}
-use Rattle.plan_maker.specs.Marks.{have_free, inner_in, inner_of, marks_by, marks_in, marks_of}
-use Rattle.plan_maker.specs.Tries.{tried_at, tried_mark}
+use Rattle.maker_marks.specs.Marks.{have_free, inner_in, inner_of, marks_by, marks_in, marks_of}
+use Rattle.maker_marks.specs.Tries.{tried_at, tried_mark}
+use Rattle.maker_marks.proofs.LoopsThere.{loop_at}
 
 mutual
   pub inner-count_in : (s : Statement) → length (inner_in s) ≡ loops_in s
@@ -58,18 +59,6 @@ dealt-closed : (t : Tried) → is_open (tried_mark t) ≡ false
 dealt-closed tries.Doall = refl
 dealt-closed tries.Private = refl
 dealt-closed tries.Sum = refl
-
--- the number of a loop is the first of its own and those inside
-pub record IsLoopAt (scope : Scope) (around : List ℕ) (first : ℕ) (head : Head) (body : Statements) : Type 0 where
-  pub number : head.number ≡ first
-  pub inside : are_good_statements scope (head.number ∷ around) (first + 1) body ≡ true
-
-pub loop_at : (scope : Scope) (around : List ℕ) (first : ℕ) (head : Head) (body : Statements) → is_good_statement scope around first (do_loop head body) ≡ true → IsLoopAt scope around first head body
-loop_at scope around first head body good =
-    let parts = and_parts _ (are_good_statements scope (head.number ∷ around) (first + 1) body) good in
-    let headed = and_parts _ (is_good_head scope around head) parts.0 in
-    let numbered = and_parts (head.number == first) _ headed.0 in
-    record { number = eqb-true head.number first numbered.0; inside = parts.1 }
 
 module _ (dealt : ℕ → Option Tried) where
   loop-count : (o : Option Tried) (free : Bool) (body : Statements) → length (marks_of dealt body) ≡ loops_of body → length (marks_by o free body (marks_of dealt body)) ≡ 1 + loops_of body

@@ -12,7 +12,7 @@ use Rattle.owner_partition.specs.declared.cut.Mark.{Mark}
 use Rattle.owner_partition.specs.Marks.{is_doall}
 use Rattle.sync_plan.specs.declared.plan.Version.{Version}
 use Rattle.sync_plan.specs.Shape.{are_good_privates, do_rise, has_privates}
-use Rattle.plan_maker.specs.Tries.{first_privates}
+use Rattle.maker_marks.specs.Tries.{first_privates}
 
 -- no variable has the number 0
 module _ (scope : Scope) (around : List ℕ) where

@@ -7,8 +7,8 @@ use Rattle.nest_tree.specs.WellFormed.{loops_in, loops_of}
 use Rattle.owner_partition.specs.declared.cut.Mark.{Mark}
 use Rattle.owner_partition.specs.Marks.{enters_outer, is_closed, mark_of, marked}
 use Rattle.sync_plan.proofs.Gets.{get-behind, get-front}
-use Rattle.plan_maker.specs.declared.tries.Tried.{Tried}
-use Rattle.plan_maker.specs.Privates.{none_in, none_of, privates_by, privates_in, privates_of}
+use Rattle.maker_marks.specs.declared.tries.Tried.{Tried}
+use Rattle.maker_marks.specs.Privates.{none_in, none_of, privates_by, privates_in, privates_of}
 
 -- the items of one list stand in another, the first of them as that with this number, from 1
 pub record StandsAt {X : Type 0} (xs : List X) (first : ℕ) (ys : List X) : Type 0 where

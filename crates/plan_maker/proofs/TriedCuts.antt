@@ -7,11 +7,12 @@ use Rattle.nest_tree.specs.Tree.{Statements, Tree}
 use Rattle.nest_tree.specs.WellFormed.{IsWellFormed, scope_of}
 use Rattle.nest_tree.proofs.Cells.{well_formed_parts}
 use Rattle.owner_partition.specs.Cuts.{Cutting}
-use Rattle.plan_maker.specs.declared.tries.Tried.{Tried}
-use Rattle.plan_maker.specs.declared.tries.Tried.TheVariants.{Doall, Private, Sum}
+use Rattle.maker_marks.specs.declared.tries.Tried.{Tried}
+use Rattle.maker_marks.specs.declared.tries.Tried.TheVariants.{Doall, Private, Sum}
 use Rattle.plan_maker.specs.Bars.{IsChosen, IsFirst, IsReasonedCut}
-use Rattle.plan_maker.specs.Cut.{IsTriedCut, cut_of_try, only}
-use Rattle.plan_maker.specs.Tries.{IsMadeOf, body_among, body_of, is_admitted, tried_at}
+use Rattle.maker_marks.specs.Cut.{cut_of_try, only}
+use Rattle.plan_maker.specs.Cut.{IsTriedCut}
+use Rattle.maker_marks.specs.Tries.{IsMadeOf, body_among, body_of, is_admitted, tried_at}
 use Rattle.plan_maker.proofs.Attempts.{body_there}
 use Rattle.plan_maker.proofs.CutFits.{found_within}
 use Rattle.plan_maker.proofs.LoopTrips.{only-is}

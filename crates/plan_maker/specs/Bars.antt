@@ -10,10 +10,11 @@ use Rattle.owner_partition.specs.declared.cut.Mark.TheVariants.{Outer, Doall, Su
 use Rattle.plan_maker.specs.declared.reasons.Bar.{Bar}
 use Rattle.plan_maker.specs.declared.reasons.Bar.TheVariants.{Print, Meeting}
 use Rattle.plan_maker.specs.declared.reasons.LoopReason.{LoopReason}
-use Rattle.plan_maker.specs.declared.tries.Tried.{Tried}
+use Rattle.maker_marks.specs.declared.tries.Tried.{Tried}
 use Rattle.plan_maker.specs.Asked.{IsCause}
-use Rattle.plan_maker.specs.Cut.{cut_of, loop_asked}
-use Rattle.plan_maker.specs.Tries.{all_tries, body_of, tries_of}
+use Rattle.maker_marks.specs.Cut.{cut_of}
+use Rattle.plan_maker.specs.Cut.{loop_asked}
+use Rattle.maker_marks.specs.Tries.{all_tries, body_of, tries_of}
 
 -- a try of the loop with this number
 pub record Attempt : Type 0 where

@@ -1,26 +1,14 @@
 -- Which loops are what in a made plan.
-use Rattle.std.specs.Prelude.{ℕ, ◌-◌, ◌≡◌, List, [], ◌∷◌, ◌++◌, replicate, Option, Some, None}
+use Rattle.std.specs.Prelude.{ℕ, ◌≡◌, List, [], Option, Some}
 use Rattle.std.specs.List.{flat_map}
 use Rattle.nest_tree.specs.Tree.{Statements, Tree}
 use Rattle.owner_partition.specs.Cuts.{Cutting}
 use Rattle.sync_plan.specs.Barriers.{barrier_plan}
 use Rattle.comm_system.specs.References.{phases_of}
-use Rattle.plan_maker.specs.declared.tries.Tried.{Tried}
+use Rattle.maker_marks.specs.declared.tries.Tried.{Tried}
 use Rattle.plan_maker.specs.Asked.{Asked, trips_asked}
-use Rattle.plan_maker.specs.Marks.{marks_of}
-use Rattle.plan_maker.specs.Privates.{privates_of}
-use Rattle.plan_maker.specs.Tries.{IsMadeOf, body_among, tried_at}
-
--- the cut in which loops are dealt out so, by number
-abbrev pub cut_of : (ℕ → Option Tried) → Tree → Cutting
-cut_of dealt tree = record { marks = marks_of dealt tree.items; privates = privates_of dealt tree.items }
-
--- the loop with this number is dealt out by this try, and no other loop: those round it are Outer
-abbrev pub only : ℕ → Tried → List (Option Tried)
-only n t = replicate (n - 1) None ++ Some t ∷ []
-
-abbrev pub cut_of_try : Tree → ℕ → Tried → Cutting
-cut_of_try tree n t = cut_of (tried_at (only n t)) tree
+use Rattle.maker_marks.specs.Cut.{cut_of, cut_of_try}
+use Rattle.maker_marks.specs.Tries.{IsMadeOf, body_among}
 
 -- a cut in which each loop that is dealt out is so by a try that is made of it
 pub record IsTriedCut (tree : Tree) (cut : Cutting) : Type 0 where

@@ -1,8 +1,5 @@
 pub mod Anchors
 pub mod Scopes
-pub mod Tries
-pub mod Marks
-pub mod Privates
 pub mod Orders
 pub mod Asked
 pub mod Askable

@@ -7,7 +7,7 @@ use Rattle.owner_partition.specs.declared.cut.Mark.{Mark}
 use Rattle.owner_partition.specs.Marks.{is_doall}
 use Rattle.plan_maker.specs.declared.loops.Dealt.{Dealt}
 use Rattle.plan_maker.specs.declared.reasons.LoopReason.{LoopReason}
-use Rattle.plan_maker.specs.declared.tries.Tried.{Tried}
+use Rattle.maker_marks.specs.declared.tries.Tried.{Tried}
 use Rattle.plan_maker.specs.declared.verdict.Verdict.{Verdict}
 use Rattle.plan_maker.specs.declared.verdict.Verdict.TheVariants.{Refuted, Kept}
 use Rattle.plan_maker.specs.Asked.{AreRefuted, Asked}

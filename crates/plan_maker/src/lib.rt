@@ -4,7 +4,8 @@
 //! - [`make`]: the plan with its reasons.
 //! - [`reasons`], [`cause`]: why loops aren't dealt out, and why nothing weaker stands in front of a
 //!   phase.
-//! - [`tries`], [`cut`]: how a loop may be dealt out, and the cut of a program by how its loops are.
+//! - [`tries`], [`cut`]: how a loop may be dealt out, and the cut of a program by how its loops are;
+//!   both are those of `maker_marks`.
 //! - [`candidates`]: which phases another may wait for.
 //! - [`anchors`]: the anchors of the static phases under a cut.
 #![tactic(auto)]
@@ -14,27 +15,24 @@ mod beginnings;
 mod cache;
 pub mod candidates;
 pub mod cause;
-pub mod cut;
 mod dealt;
 mod decided;
 mod findings;
 mod judge;
 mod loops;
 mod maker;
-mod marks;
-mod nests;
 mod numbers;
 mod orders;
 mod partners;
 mod places;
-mod privates;
 mod problem;
 pub mod reasons;
 mod scope;
 mod search;
-pub mod tries;
 mod verdict;
 
 pub use anchors::anchors_of;
-pub use cut::{cut_of, cut_of_try};
 pub use maker::{make, make_barrier};
+pub use maker_marks::cut;
+pub use maker_marks::tries;
+pub use maker_marks::{cut_of, cut_of_try};

@@ -15,7 +15,6 @@ ghost use Rattle.plan_maker.specs.Made.{IsBarrierPlan, IsMade, with_found};
 ghost use Rattle.plan_maker.specs.Weakest.{IsWeakest};
 
 use crate::anchors::anchors_of;
-use crate::cut::cut_of;
 use crate::findings::Findings;
 use crate::loops::{dealt_loops, judge_loops, loop_reasons, trip_certificates};
 use crate::numbers::read_plan;
@@ -24,6 +23,7 @@ use crate::reasons::{LoopReason, PhaseReason, Reasons};
 use crate::search::Search;
 use comm_system::phases::phases;
 use farkas_cert::Certificate;
+use maker_marks::cut_of;
 use nest_tree::{Listed, Program};
 use owner_partition::Cut;
 use std::alloc::{AllocError, Global};

@@ -1,7 +1,7 @@
 // Why loops aren't dealt out, and why no weaker kind stands in front of a phase.
 
 use crate::cause::Cause;
-use crate::tries::Tried;
+use maker_marks::tries::Tried;
 use sync_plan::Kind;
 
 /// Why a loop isn't dealt out by a try.

@@ -28,11 +28,11 @@ use Rattle.plan_maker.proofs.DealtPhases.{tried_dealt}
 use Rattle.plan_maker.proofs.Marked.{marks_count_in}
 use Rattle.plan_maker.proofs.Standing.{privates_count_in}
 use Rattle.plan_maker.specs.Bars.{IsReasonedCut}
-use Rattle.plan_maker.specs.Marks.{have_free, has_free, inner_of, marks_by, marks_in, marks_of}
+use Rattle.maker_marks.specs.Marks.{have_free, has_free, inner_of, marks_by, marks_in, marks_of}
 use Rattle.plan_maker.specs.Numbers as numbers
-use Rattle.plan_maker.specs.Privates.{none_in, none_of, privates_by, privates_in, privates_of}
-use Rattle.plan_maker.specs.Tries.{tried_mark, tried_privates}
-use Rattle.plan_maker.specs.declared.tries.Tried.{Tried}
+use Rattle.maker_marks.specs.Privates.{none_in, none_of, privates_by, privates_in, privates_of}
+use Rattle.maker_marks.specs.Tries.{tried_mark, tried_privates}
+use Rattle.maker_marks.specs.declared.tries.Tried.{Tried}
 use Rattle.plan_text.proofs.Counts.{counts_of_fit}
 use Rattle.plan_text.proofs.Written.{zipped-length}
 use Rattle.plan_text.specs.PlanText.{HasText, cut_loops, has_loop, is_32, is_anchor_shown, is_dist_shown, is_form_shown, is_kind_shown, is_loop_shown, is_phase_shown, zipped}

@@ -12,8 +12,8 @@ use Rattle.plan_maker.specs.declared.reasons.Bar.TheVariants.{Print, Meeting}
 use Rattle.plan_maker.specs.declared.reasons.LoopReason.{LoopReason}
 use Rattle.plan_maker.specs.declared.reasons.PhaseReason.{PhaseReason}
 use Rattle.plan_maker.specs.declared.reasons.Reasons.{Reasons}
-use Rattle.plan_maker.specs.declared.tries.Tried.{Tried}
-use Rattle.plan_maker.specs.declared.tries.Tried.TheVariants.{Doall, Private, Sum}
+use Rattle.maker_marks.specs.declared.tries.Tried.{Tried}
+use Rattle.maker_marks.specs.declared.tries.Tried.TheVariants.{Doall, Private, Sum}
 
 -- the name of a variable by its number from 1; an empty one where there is no such variable
 abbrev pub declared_name : Option Declaration → List ℕ

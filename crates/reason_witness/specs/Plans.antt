@@ -11,8 +11,8 @@ use Rattle.comm_system.specs.SlotViews.{slot_seen}
 use Rattle.comm_system.specs.declared.phase.Phase.{Phase}
 use Rattle.comm_system.specs.declared.slot.Slot.{Slot}
 use Rattle.plan_maker.specs.Anchors.{maker_anchors}
-use Rattle.plan_maker.specs.Cut.{cut_of_try}
-use Rattle.plan_maker.specs.declared.tries.Tried.{Tried}
+use Rattle.maker_marks.specs.Cut.{cut_of_try}
+use Rattle.maker_marks.specs.declared.tries.Tried.{Tried}
 
 -- the plan with these kinds in front of its phases
 abbrev pub with_kinds : Plan → List Kind → Plan

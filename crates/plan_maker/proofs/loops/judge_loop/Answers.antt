@@ -4,7 +4,7 @@ use Rattle.nest_tree.specs.Prints.{have_print}
 use Rattle.nest_tree.specs.View.{statements_from, tree_of}
 use Rattle.plan_maker.specs.Bars.{loop_prints}
 use Rattle.plan_maker.specs.Loops.{IsLoopVerdict}
-use Rattle.plan_maker.specs.Tries.{body_among, nest_body}
+use Rattle.maker_marks.specs.Tries.{body_among, nest_body}
 use Rattle.plan_maker.proofs.Attempts.{body_there}
 use Rattle.plan_maker.proofs.loops.judge_loop.Goals as goal
 use Rattle.plan_maker.proofs.loops.judge_loop.Goals.{After-have_print}

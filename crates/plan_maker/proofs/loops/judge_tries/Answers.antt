@@ -7,7 +7,7 @@ use Rattle.plan_maker.specs.Asked.{AreRefuted, IsCause}
 use Rattle.plan_maker.specs.Bars.{IsLoopReason, attempt}
 use Rattle.plan_maker.specs.Cut.{cut_asked}
 use Rattle.plan_maker.specs.Judged.{IsVerdict}
-use Rattle.plan_maker.specs.Tries.{nest_body}
+use Rattle.maker_marks.specs.Tries.{nest_body}
 use Rattle.plan_maker.proofs.Attempts.{fails_more, first_of}
 use Rattle.plan_maker.proofs.TriedCuts.{alone_tried}
 use Rattle.plan_maker.proofs.loops.judge_tries.Goals as goal

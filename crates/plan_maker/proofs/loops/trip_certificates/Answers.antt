@@ -5,7 +5,7 @@ use Rattle.std.proofs.lemmas.Iterator.Consumers.{YieldsList-end, YieldsList-turn
 use Rattle.std.proofs.Math.Seq.{take-length}
 use Rattle.plan_maker.specs.Asked.{AreRefuted}
 use Rattle.plan_maker.specs.Loops.{loops_asked, tried_in}
-use Rattle.plan_maker.specs.Tries.{tried_at}
+use Rattle.maker_marks.specs.Tries.{tried_at}
 use Rattle.plan_maker.proofs.Lists.{get_there}
 use Rattle.plan_maker.proofs.LoopTrips.{loops_more}
 use Rattle.plan_maker.proofs.loops.trip_certificates.Goals as goal

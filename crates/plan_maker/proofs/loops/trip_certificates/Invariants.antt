@@ -2,7 +2,7 @@ use Rattle.std.proofs.Common.{◌≡◌, length, map, take}
 use Rattle.nest_tree.specs.Tree.{Tree}
 use Rattle.plan_maker.specs.Asked.{AreRefuted}
 use Rattle.plan_maker.specs.Loops.{AreLoopVerdicts, loops_asked, tried_in}
-use Rattle.plan_maker.specs.Tries.{tried_at}
+use Rattle.maker_marks.specs.Tries.{tried_at}
 use Rattle.plan_maker.proofs.loops.trip_certificates.Given as goal
 
 abbrev pub invariant-loop-verdict : goal.invariant-loop-verdict

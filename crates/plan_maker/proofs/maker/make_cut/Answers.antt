@@ -2,10 +2,10 @@ use Rattle.std.proofs.Common.{◌≡◌, List, length, map, ap, sym, ◌∙◌, 
 use Rattle.nest_tree.specs.View.{tree_of}
 use Rattle.owner_partition.specs.declared.cut.Mark.{Mark}
 use Rattle.plan_maker.specs.Asked.{AreRefuted}
-use Rattle.plan_maker.specs.Cut.{cut_of}
+use Rattle.maker_marks.specs.Cut.{cut_of}
 use Rattle.plan_maker.specs.Loops.{AreOpenBarred, loops_asked, tried_in}
-use Rattle.plan_maker.specs.Marks.{marks_of}
-use Rattle.plan_maker.specs.Tries.{tried_at}
+use Rattle.maker_marks.specs.Marks.{marks_of}
+use Rattle.maker_marks.specs.Tries.{tried_at}
 use Rattle.plan_maker.proofs.LoopTrips.{trips_laid}
 use Rattle.plan_maker.proofs.Made.{reasoned}
 use Rattle.plan_maker.proofs.Marked.{marks_count, open_are_barred}

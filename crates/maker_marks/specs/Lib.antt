@@ -1,0 +1,4 @@
+pub mod Tries
+pub mod Marks
+pub mod Privates
+pub mod Cut
