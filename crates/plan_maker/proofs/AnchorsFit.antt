@@ -21,10 +21,10 @@ use Rattle.sync_plan.specs.Barriers.{barrier_plan}
 use Rattle.sync_plan.specs.declared.plan.Kind.TheVariants.{Barrier}
 use Rattle.sync_plan.specs.Fit.{IsFit, is_zero_form, kind_anchors, misplaced_print, numbered_anchors}
 use Rattle.sync_plan.specs.Shape.{are_good_anchors, are_good_kinds, has_places, is_good_anchor, own_loops, static_phases}
-use Rattle.plan_maker.specs.Anchors.{anchors_from, element_anchor, first_processor, if_one_good, own_anchor, phase_anchor, placed_anchor, stored_anchor, unless_misplaced}
+use Rattle.maker_anchors.specs.Anchors.{anchors_from, element_anchor, first_processor, if_one_good, own_anchor, phase_anchor, placed_anchor, stored_anchor, unless_misplaced}
 use Rattle.plan_maker.proofs.CutFits.{IsFittingCut, is_silent}
 use Rattle.plan_maker.proofs.FitParts.{fits_by_parts}
-use Rattle.plan_maker.proofs.Found.{either, if_good_good, stored_good}
+use Rattle.maker_anchors.proofs.Found.{either, if_good_good, stored_good}
 
 -- an anchor of the static phase with this number
 pub record IsFineAnchor (tree : Tree) (marks : List Mark) (workers u : ℕ) (s : Placed) (a : Anchor) : Type 0 where

@@ -1,5 +1,5 @@
 -- Verdicts on slots that are remembered.
-use Rattle.std.proofs.Common.{◌≡◌, ℕ, zero, suc, List, [], ◌∷◌, ◌++◌, length, Some, None, refl, ap, sym, ◌∙◌, subst, inl, inr}
+use Rattle.std.proofs.Common.{◌≡◌, ℕ, List, [], ◌∷◌, ◌++◌, length, Some, None, refl, ap, sym, ◌∙◌, subst, inl, inr}
 use Rattle.std.specs.Global.{Vec}
 use Rattle.std.specs.Prelude.{slice_get}
 use Rattle.farkas_cert.specs.declared.certificate.Certificate.{Certificate}
@@ -12,12 +12,9 @@ use Rattle.plan_maker.specs.declared.verdict.Verdict.TheVariants.{Refuted, Kept}
 use Rattle.plan_maker.specs.Asked.{slot_asked}
 use Rattle.plan_maker.specs.Caches.{IsEntry, IsHeld, IsRecalled, key_seen}
 use Rattle.plan_maker.specs.Judged.{IsVerdict, Judged, cause_in}
+use Rattle.std.proofs.lemmas.Option.{slice_get_within}
+use Rattle.sync_plan.proofs.Gets.{get-front}
 use Rattle.plan_maker.proofs.Lists.{get_pushed}
-
-get-front : {X : Type 0} (xs ys : List X) (k : ℕ) (x : X) → slice_get xs k ≡ Some x → slice_get (xs ++ ys) k ≡ Some x
-get-front [] ys k x at = absurd (let no : None ≡ Some x = at in cc)
-get-front (y ∷ xs) ys zero x at = at
-get-front (y ∷ xs) ys (suc k) x at = get-front xs ys k x at
 
 pub got_last : {X : Type 0} (xs : List X) (x : X) → slice_get (xs ++ x ∷ []) (length xs) ≡ Some x
 got_last [] x = refl
@@ -37,7 +34,7 @@ held_more tree plan slot g old new more behind (inl none) = inl none
 held_more tree plan slot g old new more behind (inr h) = inr (record {
   place = h.place;
   entry = h.entry;
-  at = ap (λ es. slice_get es h.place) behind ∙ get-front old more h.place h.entry h.at;
+  at = ap (λ es. slice_get es h.place) behind ∙ get-front old more h.place (slice_get_within old h.place h.entry h.at) ∙ h.at;
   key = h.key;
   certificates = h.certificates;
   refuted = h.refuted;

@@ -1,9 +1,3 @@
-pub mod Within
-pub mod Counts
-pub mod Spans
-pub mod NearEnds
-pub mod Found
-pub mod Phases
 pub mod OrderOnce
 pub mod Questions
 pub mod Askable

@@ -22,7 +22,7 @@ use Rattle.plan_maker.specs.declared.verdict.Verdict.TheVariants.{Refuted, Kept}
 use Rattle.plan_maker.specs.declared.maker.Weakest.{Weakest}
 use Rattle.plan_maker.specs.declared.reasons.PhaseReason.{PhaseReason}
 use Rattle.plan_maker.specs.declared.reasons.Reasons.{Reasons}
-use Rattle.plan_maker.specs.Anchors.{maker_anchors}
+use Rattle.maker_anchors.specs.Anchors.{maker_anchors}
 use Rattle.plan_maker.specs.Asked.{AreRefuted, Asked, IsCause, all_trips_asked, asked, owners_dealt, slot_asked, trips_asked}
 use Rattle.plan_maker.specs.Bars.{IsChosen, IsLoopReason, IsReasonedCut, all_attempts, open_loops}
 use Rattle.plan_maker.specs.Candidates.{kinds_taken, weaker_from}

@@ -8,10 +8,11 @@ use Rattle.std.proofs.lemmas.Grind.{flat_map-append}
 use Rattle.std.proofs.lemmas.List.{append-nil, at_drop_more, take-append-drop, take_more}
 use Rattle.std.proofs.lemmas.List.Concat.{flat_map_single}
 use Rattle.std.proofs.lemmas.List.Folds.{flat_map-map}
+use Rattle.std.proofs.lemmas.Option.{slice_get_within}
 use Rattle.nest_walk.proofs.Grown.{AllZip-append}
 use Rattle.plan_maker.specs.Asked.{AreRefuted, Asked, IsCause, IsSaid}
 use Rattle.plan_maker.specs.declared.cause.Cause.{Cause}
-use Rattle.sync_plan.proofs.Gets.{get-behind}
+use Rattle.sync_plan.proofs.Gets.{get-behind, get-front}
 
 pub refuted-append : (qs rs : List Asked) (cs ds : List Certificate) → AreRefuted qs cs → AreRefuted rs ds → AreRefuted (qs ++ rs) (cs ++ ds)
 refuted-append qs rs cs ds h k = AllZip-append (λ (q : Asked) (c : Certificate). IsGood q.task.system c) qs rs cs ds h k
@@ -24,11 +25,6 @@ take-front : {X : Type 0} (xs ys : List X) (n : ℕ) (x : X) → slice_get xs n 
 take-front [] ys n x at = absurd (cc)
 take-front (z ∷ xs) ys zero x at = refl
 take-front (z ∷ xs) ys (suc n) x at = ap (λ zs. z ∷ zs) (take-front xs ys n x at)
-
-get-front : {X : Type 0} (xs ys : List X) (n : ℕ) (x : X) → slice_get xs n ≡ Some x → slice_get (xs ++ ys) n ≡ Some x
-get-front [] ys n x at = absurd (cc)
-get-front (z ∷ xs) ys zero x at = at
-get-front (z ∷ xs) ys (suc n) x at = get-front xs ys n x at
 
 -- behind systems that are refuted
 pub cause-behind : (qs rs : List Asked) (cs : List Certificate) (cause : Cause) → AreRefuted qs cs → IsCause rs cause → IsCause (qs ++ rs) cause
@@ -48,7 +44,7 @@ cause-front qs rs cause k = record {
   certificates = k.certificates;
   before = subst (λ zs. AreRefuted zs k.certificates) (sym (take-front qs rs k.place k.question k.at)) k.before;
   question = k.question;
-  at = get-front qs rs k.place k.question k.at;
+  at = get-front qs rs k.place (slice_get_within qs k.place k.question k.at) ∙ k.at;
   said = k.said;
 }
 

@@ -1,5 +1,3 @@
-pub mod Anchors
-pub mod Scopes
 pub mod Orders
 pub mod Asked
 pub mod Askable

@@ -10,7 +10,7 @@ use Rattle.sync_plan.specs.declared.plan.Kind.TheVariants.{Barrier}
 use Rattle.sync_plan.specs.declared.plan.Plan.{Plan}
 use Rattle.plan_checker.specs.Accepted.{IsAccepted}
 use Rattle.plan_maker.specs.declared.reasons.Reasons.{Reasons}
-use Rattle.plan_maker.specs.Anchors.{maker_anchors}
+use Rattle.maker_anchors.specs.Anchors.{maker_anchors}
 use Rattle.plan_maker.specs.Candidates.{ArePlaces, kinds_taken, weaker_from}
 use Rattle.plan_maker.specs.Bars.{IsLoopReason, IsReasonedCut, all_attempts, open_loops}
 use Rattle.plan_maker.specs.Numbers.{IsShown}

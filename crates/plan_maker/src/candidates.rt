@@ -9,8 +9,8 @@ ghost use Rattle.comm_system.specs.Boundaries.{is_prefix as are_first_of};
 ghost use Rattle.comm_system.specs.PhaseViews.{phase_seen};
 ghost use Rattle.plan_maker.specs.Candidates.{candidate as candidate_of, candidates_at, each_once, kinds_taken, last_places, or_barrier, single_anchors, single_more};
 
-use crate::places::item_at;
 use comm_system::phase::Phase;
+use maker_anchors::places::item_at;
 use nest_rows::is_prefix;
 use nest_tree::Listed;
 use owner_partition::{Anchor, Cut};

@@ -9,9 +9,9 @@ ghost use Rattle.plan_maker.specs.Orders.{elimination_order as order_of};
 
 use crate::beginnings::Beginning;
 use crate::decided::{Found, find};
-use crate::places::item_at;
 use crate::verdict::Verdict;
 use farkas_cert::{CertRefusal, Certificate, Row, System, check_cert};
+use maker_anchors::places::item_at;
 use owner_partition::Dist;
 use std::alloc::{AllocError, Global};
 

@@ -7,10 +7,9 @@
 //! - [`tries`], [`cut`]: how a loop may be dealt out, and the cut of a program by how its loops are;
 //!   both are those of `maker_marks`.
 //! - [`candidates`]: which phases another may wait for.
-//! - [`anchors`]: the anchors of the static phases under a cut.
+//! - [`anchors`]: the anchors of the static phases under a cut, those of `maker_anchors`.
 #![tactic(auto)]
 
-pub mod anchors;
 mod beginnings;
 mod cache;
 pub mod candidates;
@@ -24,15 +23,11 @@ mod maker;
 mod numbers;
 mod orders;
 mod partners;
-mod places;
 mod problem;
 pub mod reasons;
-mod scope;
 mod search;
 mod verdict;
 
-pub use anchors::anchors_of;
 pub use maker::{make, make_barrier};
-pub use maker_marks::cut;
-pub use maker_marks::tries;
-pub use maker_marks::{cut_of, cut_of_try};
+pub use maker_anchors::{anchors, anchors_of};
+pub use maker_marks::{cut, cut_of, cut_of_try, tries};

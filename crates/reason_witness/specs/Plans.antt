@@ -10,7 +10,7 @@ use Rattle.comm_system.specs.References.{phases_of}
 use Rattle.comm_system.specs.SlotViews.{slot_seen}
 use Rattle.comm_system.specs.declared.phase.Phase.{Phase}
 use Rattle.comm_system.specs.declared.slot.Slot.{Slot}
-use Rattle.plan_maker.specs.Anchors.{maker_anchors}
+use Rattle.maker_anchors.specs.Anchors.{maker_anchors}
 use Rattle.maker_marks.specs.Cut.{cut_of_try}
 use Rattle.maker_marks.specs.declared.tries.Tried.{Tried}
 

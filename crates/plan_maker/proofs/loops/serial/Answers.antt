@@ -5,7 +5,7 @@ use Rattle.nest_tree.specs.View.{tree_of}
 use Rattle.sync_plan.specs.Barriers.{barrier_plan}
 use Rattle.sync_plan.specs.Fit.{IsFit}
 use Rattle.sync_plan.specs.Shape.{static_phases}
-use Rattle.plan_maker.specs.Anchors.{first_processor}
+use Rattle.maker_anchors.specs.Anchors.{first_processor}
 use Rattle.plan_maker.proofs.AnchorsFit.{AreFineAnchors, barrier_fits, first-all}
 use Rattle.plan_maker.proofs.CutFits.{cut_fits}
 use Rattle.plan_maker.proofs.loops.serial.Goals as goal

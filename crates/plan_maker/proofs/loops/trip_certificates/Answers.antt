@@ -1,12 +1,12 @@
-use Rattle.std.proofs.Common.{◌≡◌, ◌+◌, ◌-◌, length, length-append, map, take, ap, ◌∙◌, subst, arith}
+use Rattle.std.proofs.Common.{◌≡◌, ◌+◌, ◌-◌, length, length-append, map, take, refl, ap, ◌∙◌, subst, arith}
 use Rattle.std.specs.Prelude.{Some, slice_get}
 use Rattle.std.proofs.lemmas.Iterator.Adapters.{YieldsList-from_vec}
 use Rattle.std.proofs.lemmas.Iterator.Consumers.{YieldsList-end, YieldsList-turn}
+use Rattle.std.proofs.lemmas.Option.{slice_get_read}
 use Rattle.std.proofs.Math.Seq.{take-length}
 use Rattle.plan_maker.specs.Asked.{AreRefuted}
 use Rattle.plan_maker.specs.Loops.{loops_asked, tried_in}
 use Rattle.maker_marks.specs.Tries.{tried_at}
-use Rattle.plan_maker.proofs.Lists.{get_there}
 use Rattle.plan_maker.proofs.LoopTrips.{loops_more}
 use Rattle.plan_maker.proofs.loops.trip_certificates.Goals as goal
 
@@ -26,7 +26,7 @@ loop-verdict-preserved c =
     let k = c.loop-verdict.place in
     let v = c.in-Some.verdict in
     let place = c.loop-verdict.invariant.place in
-    let there : slice_get vs k ≡ Some v = ap (slice_get vs) place ∙ get_there vs (length c.loop-verdict.yielded) v turn.0 turn.1 in
+    let there : slice_get vs k ≡ Some v = ap (slice_get vs) place ∙ slice_get_read vs (length vs) (length c.loop-verdict.yielded) v refl turn.0 turn.1 in
     let number : k + 1 - 1 ≡ k = omega arith in
     record {
       place = simp length-append (omega (arith, place));

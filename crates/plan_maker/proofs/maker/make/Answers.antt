@@ -3,7 +3,7 @@ use Rattle.nest_tree.specs.View.{tree_of}
 use Rattle.plan_checker.proofs.Certified.{fit_shape}
 use Rattle.plan_maker.specs.declared.maker.Weakest.{Weakest}
 use Rattle.plan_maker.specs.declared.reasons.Reasons.{Reasons}
-use Rattle.plan_maker.specs.Anchors.{maker_anchors}
+use Rattle.maker_anchors.specs.Anchors.{maker_anchors}
 use Rattle.plan_maker.proofs.LoopTrips.{cut_trips}
 use Rattle.plan_maker.proofs.Made.{made_is}
 use Rattle.plan_maker.proofs.maker.make.Goals as goal

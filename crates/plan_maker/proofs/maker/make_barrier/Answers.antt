@@ -1,7 +1,7 @@
 use Rattle.std.proofs.Common.{◌≡◌, ap, ◌∙◌}
 use Rattle.nest_tree.specs.View.{tree_of}
 use Rattle.sync_plan.specs.Barriers.{barrier_plan}
-use Rattle.plan_maker.specs.Anchors.{maker_anchors}
+use Rattle.maker_anchors.specs.Anchors.{maker_anchors}
 use Rattle.plan_maker.proofs.LoopTrips.{cut_trips}
 use Rattle.plan_maker.proofs.Made.{barriers_are}
 use Rattle.plan_maker.proofs.maker.make_barrier.Goals as goal

@@ -1,11 +1,12 @@
-use Rattle.std.proofs.Common.{◌≡◌, ◌+◌, ◌++◌, ◌∷◌, [], map, take, ap, sym, ◌∙◌, subst}
+use Rattle.std.proofs.Common.{◌≡◌, ◌+◌, ◌++◌, ◌∷◌, [], length, map, take, refl, ap, sym, ◌∙◌, subst}
 use Rattle.std.proofs.lemmas.List.{map-append}
+use Rattle.std.proofs.lemmas.Option.{slice_get_read}
 use Rattle.comm_system.specs.PhaseViews.{phase_seen}
 use Rattle.comm_system.specs.SlotViews.{slot_seen}
 use Rattle.plan_maker.specs.declared.cache.SlotCache.{SlotCache}
 use Rattle.plan_maker.specs.Searches.{AreFresh, IsFresh}
 use Rattle.plan_maker.proofs.Fresh.{fresh_more, fresh_none}
-use Rattle.plan_maker.proofs.Lists.{get_there, take_got}
+use Rattle.plan_maker.proofs.Lists.{take_got}
 use Rattle.plan_maker.proofs.search.slot_caches.Goals as goal
 use Rattle.plan_maker.proofs.search.slot_caches.Goals.{then-meets+in_ok-new+in_ok-push, else-meets}
 
@@ -16,7 +17,7 @@ loop-slot-preserved c =
     let x = c.slot-item.result in
     let ps = map phase_seen c.args.phases.now in
     let old = c.loop-slot.found.items in
-    let split : map slot_seen (take (k + 1) slots) ≡ map slot_seen (take k slots) ++ slot_seen x ∷ [] = ap (map slot_seen) (take_got slots k x (get_there slots k x c.loop-slot-test.true c.slot-item.is)) ∙ map-append slot_seen (take k slots) (x ∷ []) in
+    let split : map slot_seen (take (k + 1) slots) ≡ map slot_seen (take k slots) ++ slot_seen x ∷ [] = ap (map slot_seen) (take_got slots k x (slice_get_read slots (length slots) k x refl c.loop-slot-test.true c.slot-item.is)) ∙ map-append slot_seen (take k slots) (x ∷ []) in
     elim c.if-meets.branch [
       | then-meets+in_ok-new+in_ok-push w ↦
           let new : SlotCache = w.in_ok-new.field-0 in

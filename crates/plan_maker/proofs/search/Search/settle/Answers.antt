@@ -1,7 +1,8 @@
-use Rattle.std.proofs.Common.{◌≡◌, ◌+◌, ◌++◌, ◌∷◌, List, suc, [], append_assoc, refl, ap, ap₂, sym, ◌∙◌, subst, arith}
+use Rattle.std.proofs.Common.{◌≡◌, ◌+◌, ◌++◌, ◌∷◌, List, suc, [], length, append_assoc, refl, ap, ap₂, sym, ◌∙◌, subst, arith}
 use Rattle.std.specs.Global.{Vec}
 use Rattle.std.specs.Prelude.{Some, slice_get, slice_set}
 use Rattle.std.specs.List.{All, AllZip}
+use Rattle.std.proofs.lemmas.Option.{slice_get_read}
 use Rattle.nest_tree.specs.View.{tree_of}
 use Rattle.nest_walk.proofs.Grown.{AllZip-append}
 use Rattle.sync_plan.specs.declared.plan.Kind.{Kind}
@@ -11,7 +12,6 @@ use Rattle.plan_maker.specs.Candidates.{Choice, kinds_taken, weaker_at}
 use Rattle.plan_maker.specs.PhaseCauses.{IsPhaseCause}
 use Rattle.plan_maker.specs.Searches.{IsReady, IsTrial, IsTrialReason, kinds_with, slots_in}
 use Rattle.plan_maker.proofs.Choices.{weaker_next}
-use Rattle.plan_maker.proofs.Lists.{get_there}
 use Rattle.plan_maker.proofs.Ready.{reason_same, same_twice, taken_search}
 use Rattle.plan_maker.proofs.search.Search.settle.Goals as goal
 
@@ -27,7 +27,7 @@ returns-in-None-clause-search c =
     let new : Search = record old { taken = Rattle.std.specs.Vec.with_item old.taken t i } in
     let j = c.index-place-end.result.now in
     let items : old.taken.items ≡ first.taken.items = has.taken ∙ c.loop-place.invariant.taken in
-    let at : slice_get old.taken.items t ≡ Some j = ap (λ ts. slice_get ts t) items ∙ get_there first.taken.items t j c.requires.phase c.index-place-end.ensures in
+    let at : slice_get old.taken.items t ≡ Some j = ap (λ ts. slice_get ts t) items ∙ slice_get_read first.taken.items (length first.taken.items) t j refl c.requires.phase c.index-place-end.ensures in
     let kinds : kinds_with old choice ≡ kinds_with was choice = ap₂ (λ (cs : Vec (List Kind)) ts. kinds_taken cs.items (slice_set ts t i)) has.same.candidates has.taken in
     let trial : All (IsReady old.problem (kinds_with was choice)) old.slots.items = subst (IsTrial old (t + 1) (kinds_with was choice)) c.in-None.is has.trial in
     taken_search old new t i j refl refl refl refl at c.loop-place-test.true has.search (subst (λ ks. All (IsReady old.problem ks) old.slots.items) (sym kinds) trial)
