@@ -11,7 +11,7 @@ pub mod Unstuck
 pub mod Runs
 pub mod Ends
 pub mod StateAt
-pub mod Rounds
+pub mod RoundChains
 pub mod RoundCounts
 pub mod Quiet
 pub mod Shared

@@ -19,7 +19,7 @@ use Rattle.spmd_model.specs.Styled.{boundaries_by, is_by_signals, machine_by, pa
 use Rattle.spmd_model.specs.declared.style.Style.{Style}
 use Rattle.spmd_model.proofs.Parts.{part_at, part_length, part_rises, part_step, part_there, passed_before}
 use Rattle.spmd_model.proofs.PlannedOrder.{awaited_below, from_worker, phase_there}
-use Rattle.spmd_model.proofs.Rounds.{rounds_lead}
+use Rattle.spmd_model.proofs.RoundChains.{rounds_lead}
 use Rattle.spmd_model.proofs.StyledPlaces.{first_round, rounds_there}
 
 -- a chain and one behind it

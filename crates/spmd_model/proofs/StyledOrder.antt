@@ -29,7 +29,7 @@ use Rattle.spmd_model.specs.declared.style.Style.{Style}
 use Rattle.spmd_model.proofs.Lists.{one_element}
 use Rattle.spmd_model.proofs.OwnTexts.{not_both, own_in_phase}
 use Rattle.spmd_model.proofs.Parts.{part_rises, passed_before}
-use Rattle.spmd_model.proofs.Rounds.{rounds_enough, posted_by_all}
+use Rattle.spmd_model.proofs.RoundChains.{rounds_enough, posted_by_all}
 use Rattle.spmd_model.proofs.Stands.{Has, Shows, Sorts, an_instance, a_keeping, a_total, Stands, execution_place, execution_rises, execution_there, in_phase, job_stands}
 use Rattle.spmd_model.proofs.StyledChains.{chain_by, jobs_at, jobs_end, last_phase, barrier_rounds}
 use Rattle.spmd_model.proofs.StyledPlaces.{IsJobIn, front_length, job_in, first_round}

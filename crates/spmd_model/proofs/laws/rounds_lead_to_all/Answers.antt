@@ -1,4 +1,4 @@
-use Rattle.spmd_model.proofs.Rounds.{posted_by_all, rounds_lead}
+use Rattle.spmd_model.proofs.RoundChains.{posted_by_all, rounds_lead}
 use Rattle.spmd_model.proofs.laws.rounds_lead_to_all.Goals as goal
 
 pub returns-clause-chain : goal.returns-clause-chain
