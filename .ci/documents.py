@@ -11,7 +11,10 @@
 - In the text of every document: a clause that is named with its call (`call`'s clause `name`, or
   `module::call` (`name`, ..)) stands in that call's contract, and one that is named alone (the
   clause `name`) in the contract of some call.
+- In a table with a column "Edit", each wrong body is there, in the crates of the column "Crate".
 - Each crate has its README.md, which docs/CRATES.md links.
+- The picture of docs/CRATES.md, below "The layers", has each crate once, and none but these, above
+  those that crates.txt names for it.
 
 Nothing is looked up below a heading "To come".
 """
@@ -107,13 +110,15 @@ def calls_of(crate):
 
 
 def crates():
+    """The crates, each with those that it names."""
     for line in text_of("crates.txt").split("\n"):
-        name = re.match(r"[a-z0-9_]+", line)
-        if name:
-            yield name[0]
+        name, _, below = line.partition(":")
+        if re.fullmatch(r"[a-z0-9_]+", name):
+            yield name, below.split()
 
 
-CODE = {it: calls_of(it) for it in crates()}
+BELOW = dict(crates())
+CODE = {it: calls_of(it) for it in BELOW}
 
 
 def named_calls(crate, words):
@@ -261,6 +266,40 @@ def missing_in_cells(document, columns, cells, calls, reading):
         yield from missing_in_row(crate, calls, clause)
 
 
+def missing_in_edits(document):
+    columns = None
+    for number, line in lines_of(document):
+        if not line.startswith("|"):
+            columns = None
+            continue
+        cells = [it.strip() for it in re.split(r"(?<!\\)\|", line.strip()[1:-1])]
+        if columns is None:
+            columns = {it: place for place, it in enumerate(cells) if it in ("Crate", "Edit")}
+        elif len(columns) == 2 and len(cells) > max(columns.values()):
+            for crate in re.findall(NAME, cells[columns["Crate"]]):
+                for edit in re.findall(NAME, cells[columns["Edit"]]):
+                    path = f"crates/{crate}/must-fail/{edit}.edit"
+                    if not os.path.exists(path):
+                        yield number, f"the wrong body {path}"
+
+
+def missing_in_picture():
+    """What is wrong with the picture of the crates' layers, from the top."""
+    picture = re.search(r"(?ms)^## The layers\n.*?^```\n(.*?)^```", text_of("docs/CRATES.md"))
+    rows = {}
+    for row, line in enumerate(picture[1].split("\n") if picture else []):
+        for name in re.findall(r"[a-z0-9]+(?:_[a-z0-9]+)+", line):
+            if name in rows or name not in BELOW:
+                yield f"one crate {name} in the picture"
+            rows[name] = row
+    for name, below in BELOW.items():
+        if name not in rows:
+            yield f"{name} in the picture"
+        for it in below:
+            if rows.get(name, -1) >= rows.get(it, len(rows)):
+                yield f"{it} below {name} in the picture"
+
+
 def missing_in_text(document):
     crate = crate_of(document)
     every = {it for name in CODE for call in CODE[name] for it in call.clauses}
@@ -283,8 +322,9 @@ def missing_in_text(document):
 def main():
     found = []
     for document in documents():
-        for look_up in (missing_files, missing_in_tables, missing_in_text):
+        for look_up in (missing_files, missing_in_tables, missing_in_edits, missing_in_text):
             found += [(document, number, what) for number, what in look_up(document)]
+    found += [("docs/CRATES.md", 1, what) for what in missing_in_picture()]
     for crate in CODE:
         if not os.path.exists(f"crates/{crate}/README.md"):
             found.append(("crates.txt", 1, f"crates/{crate}/README.md"))
