@@ -6,3 +6,5 @@ pub mod Entries
 pub mod Faults
 pub mod Units
 pub mod Verdict
+pub mod Forgotten
+pub mod LastUses

@@ -1,5 +1,5 @@
 -- A certificate is good exactly where it has no fault.
-use Rattle.std.proofs.Common.{◌≡◌, ◌≢◌, ℕ, zero, suc, ◌+◌, ◌-◌, ◌≤◌, ◌<◌, ℤ, pos, ◌≤ℤ◌, int_lt, int_div, int_rem, Bool, true, false, ◌&&◌, not, nat_le, if◌then◌else◌, IsSomeAnd, OnOk, IfErr, IsOkUnless, Result, Ok, Err, Option, Some, None, List, [], ◌∷◌, ◌++◌, length, get_or, slice_get, refl, ◌∙◌, add-one, append_assoc, drop, arith}
+use Rattle.std.proofs.Common.{◌≡◌, ◌≢◌, ℕ, zero, suc, ◌+◌, ◌-◌, ◌≤◌, ◌<◌, ℤ, pos, ◌≤ℤ◌, int_lt, int_rem, Bool, true, false, ◌&&◌, not, nat_le, if◌then◌else◌, IsSomeAnd, OnOk, IfErr, IsOkUnless, Result, Ok, Err, Option, Some, None, List, [], ◌∷◌, ◌++◌, length, get_or, slice_get, refl, ◌∙◌, add-one, append_assoc, drop, arith}
 use Rattle.std.specs.Option.{option_or}
 use Rattle.std.specs.Ordering.{int_eq}
 use Rattle.std.specs.List.{All, list_all, range_with_len}
@@ -8,15 +8,14 @@ use Rattle.std.proofs.lemmas.Bool.{and_parts}
 use Rattle.std.proofs.lemmas.Bool.Decides.{nat_tests, Decides-int_eq}
 use Rattle.std.proofs.lemmas.List.Folds.{list_any_none}
 use Rattle.std.proofs.lemmas.List.Sums.{AllPass-from_list_all, list_all-from_AllPass}
-use Rattle.std.proofs.lemmas.List.FromFn.{get_or-range_with_len, length-range_with_len, length-map-range_with_len}
-use Rattle.std.proofs.lemmas.List.Elements.{All-push}
+use Rattle.std.proofs.lemmas.List.FromFn.{get_or-range_with_len, length-range_with_len}
 use Rattle.std.proofs.Math.Seq.{drop-cons}
 use Rattle.farkas_cert.specs.declared.system.Row.{Row}
 use Rattle.farkas_cert.specs.declared.certificate.Step.{Step}
 use Rattle.farkas_cert.specs.declared.certificate.Certificate.{Certificate}
 use Rattle.farkas_cert.specs.declared.certificate.CertRefusal.{CertRefusal}
 use Rattle.farkas_cert.specs.declared.certificate.CertRefusal.TheVariants.{NegativeMultiplier, BadRow, BadDivisor, Wide, NoContradiction, NoMemory}
-use Rattle.farkas_cert.specs.Inequalities.{Inequalities, AreFull, HasNoWholeSolution}
+use Rattle.farkas_cert.specs.Inequalities.{Inequalities, HasNoWholeSolution}
 use Rattle.farkas_cert.specs.Combination.{products_at, sum_at, made_row, stays_narrow}
 use Rattle.farkas_cert.specs.Good.{IsGoodStep, AreGoodSteps, rows_after, IsContradiction, EndInContradiction, IsGood}
 use Rattle.farkas_cert.specs.Fault.{has_negative, names_bad_row, first_wide, divides, number_fault, step_fault, is_contradiction, last_fault, fault_from, first_fault}
@@ -180,8 +179,3 @@ module _ {T : Type 0} (system : Inequalities) (certificate : Certificate) where
 pub fault_from-step : (vars : ℕ) (rows made : List Row) (n i : ℕ) (steps : List Step) (step : Step) (row : Row) → i < length steps → step ≡ get_or steps i step → step_fault vars (rows ++ made) n step ≡ None → row ≡ made_row vars (rows ++ made) step → fault_from vars (rows ++ made) n (drop i steps) ≡ fault_from vars (rows ++ (made ++ row ∷ [])) (n + 1) (drop (i + 1) steps)
 fault_from-step vars rows made n i steps step row within at good made_is =
     rw (add-one i, drop-cons steps i step within, ← at, good, ← append_assoc, made_is) refl
-
--- a made row has a coefficient for each variable
-pub AreFull-step : (vars : ℕ) (rows made : List Row) (step : Step) (row : Row) → AreFull vars made → row ≡ made_row vars (rows ++ made) step → AreFull vars (made ++ row ∷ [])
-AreFull-step vars rows made step row full made_is =
-    All-push (λ r. length r.coefs ≡ vars) made row full (rw made_is (length-map-range_with_len (λ k. int_div (sum_at vars (rows ++ made) step.terms k) step.divisor) 0 vars))

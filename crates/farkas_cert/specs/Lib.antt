@@ -4,3 +4,4 @@ pub mod Narrow
 pub mod Good
 pub mod Fault
 pub mod Units
+pub mod Named

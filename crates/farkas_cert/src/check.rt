@@ -4,7 +4,7 @@ ghost use Rattle.std.specs.Prelude.{◌≡◌, ◌≢◌, ℕ, ◌+◌, ◌*◌,
 ghost use Rattle.std.specs.Int.{int_div_euclid};
 ghost use Rattle.std.specs.Ordering.{int_eq};
 ghost use Rattle.std.specs.List.{list_all, range_with_len};
-ghost use Rattle.farkas_cert.specs.Inequalities.{AreFull, HasNoWholeSolution};
+ghost use Rattle.farkas_cert.specs.Inequalities.{HasNoWholeSolution};
 ghost use Rattle.farkas_cert.specs.Combination.{stays_narrow, total, products_at, made_row};
 ghost use Rattle.farkas_cert.specs.Combination.{row_at as row_of, entry_at as entry_of, sum_at as sum_of};
 ghost use Rattle.farkas_cert.specs.Good.{IsGood};
@@ -13,6 +13,7 @@ ghost use Rattle.farkas_cert.specs.Fault.{is_contradiction as contradiction, nam
 
 use crate::certificate::{CertRefusal, Certificate, Step};
 use crate::system::{Coefs, Row, System};
+use crate::uses::Uses;
 use cert_arithmetic::Steps;
 use cert_arithmetic::division::floor_quotient;
 use cert_arithmetic::terms::{has_negative, names_bad_row, with_product};
@@ -29,10 +30,8 @@ fn row_count(system: &System, made: &[Row]) -> usize
 
 // The row with this number, from 1, among the system's rows and the made ones behind them.
 fn row_at<'a>(system: &'a System, made: &'a [Row], number: u64) -> &'a Row
-    requires full { AreFull system.now.vars made.now }
-    requires there { (1 ≤ number) × (number ≤ length system.now.rows + length made.now) }
-    ensures row { result.now ≡ row_of (system.now.rows ++ made.now) number }
-    ensures full { length result.now.coefs ≡ system.now.vars }
+    requires { (1 ≤ number) × (number ≤ length system.now.rows + length made.now) }
+    ensures { result.now ≡ row_of (system.now.rows ++ made.now) number }
 {
     let given = system.rows();
     let place = (number - 1) as usize;
@@ -45,11 +44,10 @@ fn row_at<'a>(system: &'a System, made: &'a [Row], number: u64) -> &'a Row
 
 // The entry k of a row: its coefficients, then the bound.
 fn entry_at(row: &Row, vars: usize, k: usize) -> i128
-    requires { length row.now.coefs ≡ vars }
     ensures { result ≡ entry_of vars row.now k }
 {
     if k < vars {
-        row.coefs.as_slice()[k]
+        row.coefs.as_slice().get(k).copied().unwrap_or(0)
     } else {
         row.bound
     }
@@ -63,8 +61,7 @@ fn sum_at<L: Ledger>(
     k: usize,
     steps: &mut Steps<L>,
 ) -> Option<i128>
-    requires full { AreFull system.now.vars made.now }
-    requires named { bad_row (length system.now.rows + length made.now) terms.now ≡ false }
+    requires { bad_row (length system.now.rows + length made.now) terms.now ≡ false }
     ensures sum { let products = products_at system.now.vars (system.now.rows ++ made.now) terms.now k in result ≡ (if stays_narrow (pos 0) products then Some (total products) else None) }
     ensures units { RoseWithin (length terms.now) steps.old steps.new }
     ensures all { IsSome result → steps.new ≡ steps.old + length terms.now }
@@ -87,8 +84,7 @@ fn summed<L: Ledger>(
     terms: &[(u64, i128)],
     steps: &mut Steps<L>,
 ) -> Result<Row, CertRefusal>
-    requires full { AreFull system.now.vars made.now }
-    requires named { bad_row (length system.now.rows + length made.now) terms.now ≡ false }
+    requires { bad_row (length system.now.rows + length made.now) terms.now ≡ false }
 
     ensures narrow { OnOk result (first_wide system.now.vars (system.now.rows ++ made.now) terms.now (range_with_len 0 (system.now.vars + 1)) ≡ None) }
     ensures coefs { IfOk result (λ row. row.coefs ≡ map (sum_of system.now.vars (system.now.rows ++ made.now) terms.now) (range_with_len 0 system.now.vars)) }
@@ -137,7 +133,6 @@ fn check_step<L: Ledger>(
     step: &Step,
     steps: &mut Steps<L>,
 ) -> Result<Row, CertRefusal>
-    requires { AreFull system.now.vars made.now }
     ensures good { OnOk result (step_fault system.now.vars (system.now.rows ++ made.now) number step.now ≡ None) }
     ensures made { IfOk result (λ row. row ≡ made_row system.now.vars (system.now.rows ++ made.now) step.now) }
     ensures refused { IfErr result (λ e. e ≢ CertRefusal.NoMemory → step_fault system.now.vars (system.now.rows ++ made.now) number step.now ≡ Some e) }
@@ -174,7 +169,6 @@ fn is_contradiction(row: &Row) -> bool
 
 // The last row is a contradiction.
 fn check_last(system: &System, made: &[Row]) -> Result<(), CertRefusal>
-    requires { AreFull system.now.vars made.now }
     ensures good { let rows = system.now.rows ++ made.now in OnOk result (last_fault (length rows) (slice_get rows (length rows - 1)) ≡ None) }
     ensures refused { let rows = system.now.rows ++ made.now in IfErr result (λ e. last_fault (length rows) (slice_get rows (length rows - 1)) ≡ Some e) }
 {
@@ -186,7 +180,7 @@ fn check_last(system: &System, made: &[Row]) -> Result<(), CertRefusal>
     }
 }
 
-// The rows that the steps make, if each is good.
+// The rows that the steps make, if each is good: those that no step left names are empty.
 #[tactic(auto, using(crate::proofs::Units::most_units_step))]
 fn check_steps<L: Ledger>(
     alloc: Global,
@@ -194,18 +188,19 @@ fn check_steps<L: Ledger>(
     certificate: &Certificate,
     steps: &mut Steps<L>,
 ) -> Result<Vec<Row>, CertRefusal>
-    ensures full { IfOk result (λ made. AreFull system.now.vars made.items) }
     ensures good { IfOk result (λ made. let rows = system.now.rows ++ made.items in first_fault system.now certificate.now ≡ last_fault (length rows) (slice_get rows (length rows - 1))) }
     ensures refused { IfErr result (λ e. e ≢ CertRefusal.NoMemory → first_fault system.now certificate.now ≡ Some e) }
     ensures units { RoseWithin (most_units system.now.vars certificate.now.steps) steps.old steps.new }
     ensures all { OnOk result (steps.new ≡ steps.old + most_units system.now.vars certificate.now.steps) }
 {
     let taken = certificate.steps.as_slice();
+    let uses = Uses::new(alloc, system.rows().len(), taken)?;
     let mut made = Vec::with_capacity(alloc, taken.len())?;
     for (index, step) in taken.iter().enumerate() {
         let number = index as u64 + 1;
         let row = check_step(alloc, system, made.as_slice(), number, step, steps)?;
         made.push(row)?;
+        uses.forget(alloc, &mut made);
     }
     Ok(made)
 }
@@ -220,7 +215,8 @@ fn check_steps<L: Ledger>(
 ///
 /// `steps` rises by one for each multiplication, which has an addition with it, and for each
 /// division: by (terms + steps) * (variables + 1) where the certificate is good, and else by no
-/// more. The check takes memory for one row a step, and gives it back.
+/// more. The check takes memory for one row a step, and gives it back; the coefficients of a row it
+/// gives back behind the last step that names it.
 pub fn check_cert_counted<L: Ledger>(
     alloc: Global,
     system: &System,

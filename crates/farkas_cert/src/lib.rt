@@ -21,6 +21,7 @@ mod law;
 pub mod narrow;
 pub mod narrow_system;
 pub mod system;
+mod uses;
 
 pub use cert_arithmetic::{Steps, counting};
 pub use certificate::{CertRefusal, Certificate, Step, StepList, Terms};

@@ -43,6 +43,15 @@ impl Coefs {
         })
     }
 
+    /// No coefficient. It takes no memory.
+    pub(crate) fn none(alloc: Global) -> Self
+        ensures { result ≡ [] }
+    {
+        Coefs {
+            items: SmallVec::new(alloc),
+        }
+    }
+
     /// These coefficients.
     pub fn from_slice(alloc: Global, coefs: &[i128]) -> Result<Self, AllocError>
         ensures { IfOk result (λ copy. copy ≡ coefs.now) }

@@ -5,8 +5,8 @@ use Rattle.farkas_cert.specs.Combination.{entry_at, row_at, products_at, stays_n
 use Rattle.farkas_cert.proofs.Products.{named-at, wide_where_none, narrow_where_some}
 use Rattle.farkas_cert.proofs.check.sum_at.Goals as goal
 
-pub row_at-row-requires-clause-there : goal.row_at-row-requires-clause-there
-row_at-row-requires-clause-there g c = named-at _ c.args.terms.now c.loop-term.term-index (0, pos 0) c.requires.named c.loop-term-test.true
+pub row_at-row-requires : goal.row_at-row-requires
+row_at-row-requires g c = named-at _ c.args.terms.now c.loop-term.term-index (0, pos 0) c.requires c.loop-term-test.true
 
 pub returns-in_err-sum-clause-sum : goal.returns-in_err-sum-clause-sum
 returns-in_err-sum-clause-sum g c =
