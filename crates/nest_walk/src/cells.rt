@@ -1,6 +1,6 @@
 // Cells as forms of the loops' values by depth.
 
-ghost use Rattle.std.specs.Prelude.{◌≡◌, ◌-◌, ◌+ℤ◌, ◌-ℤ◌, ◌*ℤ◌, IsTrue, length, map, pos};
+ghost use Rattle.std.specs.Prelude.{◌≡◌, ◌-◌, ◌<◌, ◌+ℤ◌, ◌-ℤ◌, ◌*ℤ◌, IsTrue, length, map, pos};
 ghost use Rattle.std.specs.List.{list_all};
 ghost use Rattle.nest_tree.specs.Limits.{IsWithinLimits};
 ghost use Rattle.nest_tree.specs.Values.{wrapped};
@@ -23,7 +23,7 @@ pub struct CellForm {
 }
 
 impl CellForm {
-    ghost use Rattle.nest_walk.specs.CellForms.{IsCellForm, cell_at};
+    ghost use Rattle.nest_walk.specs.CellForms.{IsCellForm, cell_at, start_at, step_at};
 
     /// The form of an access inside these loops, whatever their values.
     pub fn of_access(program: &Program, access: &Access, path: &Path) -> Self
@@ -44,11 +44,30 @@ impl CellForm {
     pub fn at(&self, values: &[i64; MOST_LOOPS]) -> usize
         ensures { result ≡ cell_at self.now values.now }
     {
+        let sum = self.start(values);
+        if sum > 0 { sum as usize } else { 0 }
+    }
+
+    /// The sum that gives the cell where the loops have these values by depth, in 64 bits: the cell
+    /// itself where it isn't below 0.
+    #[inline(always)]
+    pub fn start(&self, values: &[i64; MOST_LOOPS]) -> i64
+        ensures { result ≡ start_at self.now values.now }
+    {
         let mut sum = self.base;
         for depth in 0..MOST_LOOPS {
             sum = with_product(sum, self.steps[depth], values[depth]);
         }
-        if sum > 0 { sum as usize } else { 0 }
+        sum
+    }
+
+    /// How much that sum grows with the value of the loop at this depth, from 0.
+    pub fn along(&self, depth: usize) -> i64
+        requires { depth < 6 }
+        ensures step { result ≡ step_at self.now depth }
+        ensures six { length self.now.steps ≡ 6 }
+    {
+        self.steps[depth]
     }
 }
 

@@ -42,8 +42,8 @@ fn with_params(sum: i64, pairs: &[(u32, i64)], params: &[Parameter]) -> i64
     total
 }
 
-// A sum and one product more, wrapped to 64 bits.
-pub(crate) fn with_product(sum: i64, coefficient: i64, value: i64) -> i64
+/// A sum and one product more, modulo 2^64.
+pub fn with_product(sum: i64, coefficient: i64, value: i64) -> i64
     ensures { result ≡ wrapped (sum +ℤ (coefficient *ℤ value)) }
 {
     sum.wrapping_add(coefficient.wrapping_mul(value))

@@ -1,33 +1,15 @@
-use Rattle.std.proofs.Common.{◌≡◌, ◌<◌, get_or, length, pos, ap, ◌∙◌, w64, rules, FitsSigned, to_z}
+use Rattle.std.proofs.Common.{ap, ◌∙◌, FitsSigned, of_z, rules, to_z, w64}
 use Rattle.std.proofs.lemmas.Int.{to_z-of_z}
 use Rattle.nest_tree.specs.Layout.{count_of}
-use Rattle.nest_walk.proofs.CellSums.{dot_step, sum_done}
 use Rattle.nest_walk.proofs.Steps.{count_none, count_some}
 use Rattle.nest_walk.proofs.cells.CellForm.at.Goals as goal
 
-pub loop-depth-preserved : goal.loop-depth-preserved
-loop-depth-preserved c =
-    let i = c.loop-depth.depth in
-    let steps = c.args.self.now.steps in
-    let values = c.args.values.now in
-    let f : FitsSigned w64 c.with_product-sum.result = search rules in
-    let g : FitsSigned w64 (get_or steps i (pos 0)) = search rules in
-    let h : FitsSigned w64 (get_or values i (pos 0)) = search rules in
-    let e = simp to_z-of_z at c.with_product-sum.ensures in
-    let within : i < length steps = search rules in
-    let within' : i < length values = search rules in
-    simp to_z-of_z (dot_step steps values i _ _ within within' e ∙ c.loop-depth.invariant)
-
 pub returns-then-sum-gt0 : goal.returns-then-sum-gt0
 returns-then-sum-gt0 c =
-    let six : length c.args.self.now.steps ≡ 6 = search rules in
-    let fits : FitsSigned w64 c.loop-depth.sum = search rules in
-    let sum = sum_done c.args.self.now.steps c.args.values.now c.loop-depth.depth _ _ six c.loop-depth-test.false (rw (← c.loop-depth.sum-is) at fits) c.loop-depth.invariant in
-    count_some (to_z w64 c.loop-depth.sum-bits) c.if-sum-gt0.true ∙ ap count_of sum
+    let fits : FitsSigned w64 c.start-sum.result = search rules in
+    count_some (to_z w64 (of_z w64 c.start-sum.result)) c.if-sum-gt0.true ∙ ap count_of (to_z-of_z w64 c.start-sum.result fits ∙ c.start-sum.ensures)
 
 pub returns-else-sum-gt0 : goal.returns-else-sum-gt0
 returns-else-sum-gt0 c =
-    let six : length c.args.self.now.steps ≡ 6 = search rules in
-    let fits : FitsSigned w64 c.loop-depth.sum = search rules in
-    let sum = sum_done c.args.self.now.steps c.args.values.now c.loop-depth.depth _ _ six c.loop-depth-test.false (rw (← c.loop-depth.sum-is) at fits) c.loop-depth.invariant in
-    count_none (to_z w64 c.loop-depth.sum-bits) c.if-sum-gt0.false ∙ ap count_of sum
+    let fits : FitsSigned w64 c.start-sum.result = search rules in
+    count_none (to_z w64 (of_z w64 c.start-sum.result)) c.if-sum-gt0.false ∙ ap count_of (to_z-of_z w64 c.start-sum.result fits ∙ c.start-sum.ensures)
