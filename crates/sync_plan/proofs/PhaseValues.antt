@@ -1,5 +1,5 @@
 -- The values of the loops in a phase, as a search finds them.
-use Rattle.std.proofs.Common.{◌≡◌, ℕ, ◌-◌, ◌<◌, ◌≤◌, ℤ, pos, length, take, Bool, true, false, nat_lt, List, Some, None, refl, sym, ap, ◌∙◌, inl, inr, arith}
+use Rattle.std.proofs.Common.{◌≡◌, ℕ, ◌-◌, ◌≤◌, ℤ, pos, length, take, Bool, true, false, nat_lt, List, Some, None, refl, sym, ap, ◌∙◌, inl, inr, arith}
 use Rattle.std.specs.Prelude.{if◌then◌else◌, replicate, unwrap_or}
 use Rattle.std.proofs.lemmas.Bool.{cases_lt, le-ltb, lt-ltb}
 use Rattle.std.proofs.lemmas.List.{length-replicate, take-replicate}
@@ -8,7 +8,6 @@ use Rattle.nest_tree.specs.WellFormed.{loops_of}
 use Rattle.nest_model.specs.Instances.{no_values}
 use Rattle.nest_model.specs.Visits.{stops_in, stops_of}
 use Rattle.sync_plan.specs.PhaseLoops.{loops_among, loops_in}
-use Rattle.sync_plan.specs.Points.{zeros}
 
 -- no static phase stands behind a text
 among_past : (enters : ℕ → Bool) (loops outer : List ℤ) (ss : Statements) (place : ℕ) → stops_of enters ss ≤ place → loops_among enters loops outer ss place ≡ None
@@ -27,13 +26,8 @@ left_behind enters loops outer ss place found after here there kept = elim (case
 ]
 
 -- the front of a room of zeros
-pub front_of_zeros : (tree : Tree) (n : ℕ) (room : List ℤ) → room ≡ zeros → n ≡ loops_of tree.items → loops_of tree.items < 400 → take n room ≡ no_values tree
-unfolding zeros
-front_of_zeros tree n room is all few = ap (take n) is ∙ take-replicate n 400 (pos 0) (omega arith) ∙ ap (λ k. replicate k (pos 0)) all
-
-pub zeros-length : length zeros ≡ 400
-unfolding zeros
-zeros-length = length-replicate 400 (pos 0)
+pub front_of_zeros : (tree : Tree) (n : ℕ) (room : List ℤ) → room ≡ replicate (length room) (pos 0) → n ≡ loops_of tree.items → n ≤ length room → take n room ≡ no_values tree
+front_of_zeros tree n room is all enough = ap (take n) is ∙ take-replicate n (length room) (pos 0) enough ∙ ap (λ k. replicate k (pos 0)) all
 
 pub no_values-length : (tree : Tree) → length (no_values tree) ≡ loops_of tree.items
 no_values-length tree = length-replicate (loops_of tree.items) (pos 0)

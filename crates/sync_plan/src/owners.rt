@@ -1,7 +1,7 @@
 // The owner that a kind's anchor names in a phase.
 
-ghost use Rattle.std.specs.Prelude.{◌≡◌, ◌==◌, ◌-◌, ◌<◌, ◌≤◌, pos, IsTrue, nat_lt, drop, length, map, min, true, false, slice_get, slice_index_or};
-ghost use Rattle.nest_tree.specs.Form.{is_given};
+ghost use Rattle.std.specs.Prelude.{◌≡◌, ◌==◌, ◌-◌, ◌<◌, ◌≤◌, pos, IsTrue, nat_lt, drop, length, map, min, replicate, true, false, slice_get, slice_index_or};
+ghost use Rattle.nest_tree.specs.Form.{form_value, is_given};
 ghost use Rattle.nest_tree.specs.Layout.{count_of};
 ghost use Rattle.nest_tree.specs.Tree.{param_values};
 ghost use Rattle.nest_tree.specs.View.{loop_of, statement_of, statements_from, tree_of};
@@ -12,16 +12,19 @@ ghost use Rattle.nest_walk.specs.Walks.{enters_but};
 ghost use Rattle.owner_partition.specs.Owners.{anchor_owner, dealt};
 ghost use Rattle.sync_plan.specs.Fit.{IsFit};
 ghost use Rattle.sync_plan.specs.PhaseLoops.{loops_among, loops_in, phase_loops};
-ghost use Rattle.sync_plan.specs.Points.{points, zeros};
+ghost use Rattle.sync_plan.specs.Points.{points};
 ghost use Rattle.sync_plan.specs.Shape.{has_places};
 ghost use Rattle.sync_plan.specs.Waits.{kind_owner};
 
 use crate::plan::{Kind, Plan};
-use nest_tree::{Item, Nest, Parameter, Program};
+use nest_tree::{Affine, Item, Nest, Parameter, Program};
 use owner_partition::{Anchor, Dist, Phase, is_closed_at};
 
 // No program has so many loops.
 const MOST_LOOPS: usize = 400;
+
+// Most programs have no more: room is cleared before it is used, so little is taken.
+const FEW_LOOPS: usize = 16;
 
 /// The processor that the kind in front of a phase names there: the number of workers where that
 /// is none of them, and 0 where the kind has no anchor.
@@ -34,19 +37,36 @@ pub(crate) fn producer(program: &Program, plan: &Plan, kind: &Kind, phase: &Phas
     let Some(anchor) = kind.anchor() else {
         return 0;
     };
+    if plan.cut.as_slice().len() <= FEW_LOOPS {
+        let mut few = [0; FEW_LOOPS];
+        return owner_in(program, plan, anchor, phase, &mut few);
+    }
+    owner_among_many(program, plan, anchor, phase)
+}
+
+// The same, whatever number of loops the program has.
+fn owner_among_many(program: &Program, plan: &Plan, anchor: &Anchor, phase: &Phase) -> u32
+    requires formed { IsWellFormed (tree_of program.now) }
+    requires given { IsTrue (is_given anchor.now.form (loops_of (tree_of program.now).items) (length (tree_of program.now).params)) }
+    requires places { IsTrue (has_places anchor.now.dist) }
+    requires some { 1 ≤ plan.now.workers }
+    requires marks { length plan.now.cut.marks ≡ loops_of (tree_of program.now).items }
+    ensures { result ≡ min (anchor_owner anchor.now plan.now.workers (phase_loops (tree_of program.now) plan.now.cut.marks phase.now.place phase.now.outer) (param_values (tree_of program.now))) plan.now.workers }
+{
     let mut all = [0; MOST_LOOPS];
     owner_in(program, plan, anchor, phase, &mut all)
 }
 
 // The processor that the anchor names in a phase, or the number of workers where that is none of
-// them. The room for the loops' values holds zeros.
+// them. There is room for the loops' values, which holds zeros.
 fn owner_in(program: &Program, plan: &Plan, anchor: &Anchor, phase: &Phase, room: &mut [i64]) -> u32
     requires formed { IsWellFormed (tree_of program.now) }
     requires given { IsTrue (is_given anchor.now.form (loops_of (tree_of program.now).items) (length (tree_of program.now).params)) }
     requires places { IsTrue (has_places anchor.now.dist) }
     requires some { 1 ≤ plan.now.workers }
     requires marks { length plan.now.cut.marks ≡ loops_of (tree_of program.now).items }
-    requires room { room.old ≡ zeros }
+    requires zeros { room.old ≡ replicate (length room.old) (pos 0) }
+    requires room { length plan.now.cut.marks ≤ length room.old }
     ensures { result ≡ min (anchor_owner anchor.now plan.now.workers (phase_loops (tree_of program.now) plan.now.cut.marks phase.now.place phase.now.outer) (param_values (tree_of program.now))) plan.now.workers }
 {
     let loops = &mut room[..plan.cut.as_slice().len()];
@@ -174,11 +194,40 @@ fn owner_at(anchor: &Anchor, loops: &[i64], constants: &[Parameter], workers: u3
     requires some { 1 ≤ workers }
     ensures { result ≡ min (anchor_owner anchor.now workers loops.now (map (λ p. p.value) constants.now)) workers }
 {
-    let mut all = [(0, 0); MOST_LOOPS];
-    let ends = &mut all[..loops.len()];
-    set_points(ends, loops);
-    let (value, _) = anchor.form.interval_among(ends, constants);
+    let value = if loops.len() <= FEW_LOOPS {
+        let mut few = [(0, 0); FEW_LOOPS];
+        value_at_points(&anchor.form, loops, constants, &mut few)
+    } else {
+        value_among_many(&anchor.form, loops, constants)
+    };
     dealt(anchor.dist, value, workers)
+}
+
+// The value of a form where so many loops at most have these values.
+fn value_among_many(form: &Affine, loops: &[i64], constants: &[Parameter]) -> i128
+    requires given { IsTrue (is_given form.now (length loops.now) (length constants.now)) }
+    requires few { length loops.now ≤ 400 }
+    ensures { result ≡ form_value form.now loops.now (map (λ p. p.value) constants.now) }
+{
+    let mut all = [(0, 0); MOST_LOOPS];
+    value_at_points(form, loops, constants, &mut all)
+}
+
+// The same, by the interval of each loop's value alone, for which there is room.
+fn value_at_points(
+    form: &Affine,
+    loops: &[i64],
+    constants: &[Parameter],
+    room: &mut [(i64, i64)],
+) -> i128
+    requires given { IsTrue (is_given form.now (length loops.now) (length constants.now)) }
+    requires room { length loops.now ≤ length room.old }
+    ensures { result ≡ form_value form.now loops.now (map (λ p. p.value) constants.now) }
+{
+    let ends = &mut room[..loops.len()];
+    set_points(ends, loops);
+    let (value, _) = form.interval_among(ends, constants);
+    value
 }
 
 // The processor to whom a place is dealt, 0 below the first, and the number of workers past them.

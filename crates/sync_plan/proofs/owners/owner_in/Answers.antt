@@ -12,22 +12,22 @@ use Rattle.owner_partition.specs.Marks.{is_closed}
 use Rattle.owner_partition.specs.Owners.{anchor_owner}
 use Rattle.sync_plan.specs.PhaseLoops.{loops_among, phase_loops}
 use Rattle.std.specs.Prelude.{unwrap_or}
-use Rattle.sync_plan.proofs.PhaseValues.{front_of_zeros, left_behind, no_values-length, zeros-length}
+use Rattle.sync_plan.proofs.PhaseValues.{front_of_zeros, left_behind, no_values-length}
 use Rattle.sync_plan.proofs.owners.owner_in.Goals as goal
 
 pub slice_bounds-loops-end : goal.slice_bounds-loops-end
 slice_bounds-loops-end c =
-    omega (arith, loops-few (tree_of c.args.program.now) c.requires.formed, c.requires.marks, ap length c.as_slice.ensures, ap length c.requires.room, zeros-length)
+    omega (arith, ap length c.as_slice.ensures, c.requires.room)
 
 pub slice_bounds-loops-end-2 : goal.slice_bounds-loops-end-2
 slice_bounds-loops-end-2 c =
     let tree = tree_of c.args.program.now in
-    ap length c.as_slice.ensures ∙ c.requires.marks ∙ sym (ap length (front_of_zeros tree (length c.as_slice.result.now) c.args.room.now c.requires.room (ap length c.as_slice.ensures ∙ c.requires.marks) (loops-few tree c.requires.formed)) ∙ no_values-length tree)
+    ap length c.as_slice.ensures ∙ c.requires.marks ∙ sym (ap length (front_of_zeros tree (length c.as_slice.result.now) c.args.room.now c.requires.zeros (ap length c.as_slice.ensures ∙ c.requires.marks) (omega (arith, ap length c.as_slice.ensures, c.requires.room))) ∙ no_values-length tree)
 
 pub owner_at-requires-clause-given : goal.owner_at-requires-clause-given
 owner_at-requires-clause-given c =
     let tree = tree_of c.args.program.now in
-    let start = front_of_zeros tree (length c.as_slice.result.now) c.args.room.now c.requires.room (ap length c.as_slice.ensures ∙ c.requires.marks) (loops-few tree c.requires.formed) in
+    let start = front_of_zeros tree (length c.as_slice.result.now) c.args.room.now c.requires.zeros (ap length c.as_slice.ensures ∙ c.requires.marks) (omega (arith, ap length c.as_slice.ensures, c.requires.room)) in
     let long = c.set_loops.ensures.long ∙ ap length start ∙ no_values-length tree in
     let many : length (tree.params) ≡ length c.deref-2.result.now = length-map c.args.program.now.params.items constant_of ∙ sym (ap length c.deref-2.ensures.value) in
     ap (λ n. is_given c.args.anchor.now.form n (length c.deref-2.result.now)) long ∙ ap (is_given c.args.anchor.now.form (loops_of tree.items)) (sym many) ∙ c.requires.given
@@ -35,7 +35,7 @@ owner_at-requires-clause-given c =
 pub owner_at-requires-clause-few : goal.owner_at-requires-clause-few
 owner_at-requires-clause-few c =
     let tree = tree_of c.args.program.now in
-    let start = front_of_zeros tree (length c.as_slice.result.now) c.args.room.now c.requires.room (ap length c.as_slice.ensures ∙ c.requires.marks) (loops-few tree c.requires.formed) in
+    let start = front_of_zeros tree (length c.as_slice.result.now) c.args.room.now c.requires.zeros (ap length c.as_slice.ensures ∙ c.requires.marks) (omega (arith, ap length c.as_slice.ensures, c.requires.room)) in
     let long = c.set_loops.ensures.long ∙ ap length start ∙ no_values-length tree in
     omega (arith, long, loops-few tree c.requires.formed)
 
@@ -46,7 +46,7 @@ returns c =
     let plan = c.args.plan.now in
     let place = c.args.phase.now.place in
     let outer = c.args.phase.now.outer in
-    let start = front_of_zeros tree (length c.as_slice.result.now) c.args.room.now c.requires.room (ap length c.as_slice.ensures ∙ c.requires.marks) (loops-few tree c.requires.formed) in
+    let start = front_of_zeros tree (length c.as_slice.result.now) c.args.room.now c.requires.zeros (ap length c.as_slice.ensures ∙ c.requires.marks) (omega (arith, ap length c.as_slice.ensures, c.requires.room)) in
     let found = left_behind (enters_but c.closed.result.now) _ outer (statements_from c.deref.result.now) c.saturating_sub-left.result c.set_loops.result c.set_loops.new.loops c.set_loops.ensures.here c.set_loops.ensures.values c.set_loops.ensures.kept in
     let read = found
     ∙ ap (λ loops. unwrap_or (loops_among (enters_but c.closed.result.now) loops outer (statements_from c.deref.result.now) c.saturating_sub-left.result) loops) start
