@@ -117,7 +117,7 @@ impl Text<'_> {
             1,
             "word e = 0, rounds = 0;            // the phase that it is at; barriers that it has passed",
         )?;
-        self.line(1, "(void)p; (void)e; (void)rounds;")?;
+        self.line(1, "(void)p; (void)e; (void)rounds; PUNCTUAL();")?;
         self.codes(&code.codes, 1)?;
         self.line(1, "return 0;")?;
         self.line(0, "}")

@@ -8,6 +8,12 @@ pub const RUNTIME: &str = r#"
 #include <pthread.h>
 #include <stdio.h>
 #include <time.h>
+#ifdef __linux__
+#include <sys/prctl.h>
+#define PUNCTUAL() prctl(PR_SET_TIMERSLACK, 1UL) /* naps end on time */
+#else
+#define PUNCTUAL() ((void)0)
+#endif
 #if defined(__x86_64__) || defined(__i386__)
 #define RELAX() __builtin_ia32_pause()
 #elif defined(__aarch64__)
@@ -37,20 +43,28 @@ FAST void linger(void) {
 #define linger() ((void)0)
 #endif
 
-/* a source may compare a form with itself, and have loops that are never reached */
+/* a source may compare a form with itself, store a variable to itself, and have loops that are never
+   reached, where a subscript may be anything */
 #pragma GCC diagnostic ignored "-Wtautological-compare"
-#if defined(__GNUC__) && !defined(__clang__)
+#pragma GCC diagnostic ignored "-Warray-bounds"
+#ifdef __clang__
+#pragma GCC diagnostic ignored "-Wself-assign"
+#else
 #pragma GCC diagnostic ignored "-Waggressive-loop-optimizations"
+/* where a short loop lies makes it up to twice as slow */
+#pragma GCC optimize ("align-loops=32")
 #endif
 
 /* a word that others wait for has two cache lines to itself */
 struct line { _Alignas(128) word n; };
 static struct line counter[P], arrivals; /* counter[p]: phases that p has left behind; arrivals: at barriers, of all */
 
+/* naps grow from 4 to 256 microseconds: a short stall costs a short one, and a busy machine is left alone */
 FAST void await(const word *it, word wanted) {
-  const struct timespec nap = { 0, 50000 };
+  struct timespec nap = { 0, 4000 };
   for (long polls = 0; __atomic_load_n(it, __ATOMIC_ACQUIRE) < wanted; polls++)
-    if (polls < SPINS) RELAX(); else nanosleep(&nap, 0);
+    if (polls < SPINS) RELAX();
+    else { nanosleep(&nap, 0); if (nap.tv_nsec < 256000) nap.tv_nsec *= 2; }
   linger();
 }
 FAST void post(long p, word e) { __atomic_store_n(&(counter + p)->n, e - 1, __ATOMIC_RELEASE); }
