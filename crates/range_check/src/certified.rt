@@ -14,6 +14,7 @@ ghost use Rattle.range_check.specs.Certified.{AreCertified, IsCertified};
 ghost use Rattle.range_check.specs.Sites.{site_of};
 
 use crate::accesses::accesses_in;
+use crate::effort::Effort;
 use crate::proof::dimension_proof;
 use fm_elim::NoMemory;
 use nest_rows::{Nested, nested_works};
@@ -26,6 +27,7 @@ fn is_access_certified(
     program: &Program,
     nested: &Nested,
     access: &Access,
+    effort: &mut Effort,
 ) -> Result<bool, NoMemory>
     requires formed { IsWellFormed (tree_of program.now) }
     requires seen { (n : NestedWork) × IsView n nested.now }
@@ -34,7 +36,7 @@ fn is_access_certified(
     ensures { (n : NestedWork) → IsView n nested.now → IfOk result (λ b. IsTrue b → IsCertified (tree_of program.now) (site_of n access.now)) }
 {
     for index in 0..access.subscripts.as_slice().len() as u32 {
-        if dimension_proof(alloc, program, nested, access, index + 1)?.is_none() {
+        if dimension_proof(alloc, program, nested, access, index + 1, effort)?.is_none() {
             return Ok(false);
         }
     }
@@ -42,14 +44,19 @@ fn is_access_certified(
 }
 
 // Whether each access of a piece of work is certified.
-fn is_work_certified(alloc: Global, program: &Program, nested: &Nested) -> Result<bool, NoMemory>
+fn is_work_certified(
+    alloc: Global,
+    program: &Program,
+    nested: &Nested,
+    effort: &mut Effort,
+) -> Result<bool, NoMemory>
     requires formed { IsWellFormed (tree_of program.now) }
     requires seen { (n : NestedWork) × IsView n nested.now × IsGoodNested (scope_of (tree_of program.now)) n }
     ensures { (n : NestedWork) → IsView n nested.now → IfOk result (λ b. IsTrue b → AreCertified (tree_of program.now) n) }
 {
     let found = accesses_in(alloc, nested.item)?;
     for one in found.iter() {
-        if !is_access_certified(alloc, program, nested, one.access)? {
+        if !is_access_certified(alloc, program, nested, one.access, effort)? {
             return Ok(false);
         }
     }
@@ -63,8 +70,9 @@ pub(crate) fn certified_works(alloc: Global, program: &Program) -> Result<Vec<bo
 {
     let works = nested_works(alloc, program)?;
     let mut certified = Vec::new(alloc);
+    let mut effort = Effort::little(alloc);
     for nested in works.iter() {
-        let is_certified = is_work_certified(alloc, program, nested)?;
+        let is_certified = is_work_certified(alloc, program, nested, &mut effort)?;
         push_flag(&mut certified, is_certified)?;
     }
     Ok(certified)

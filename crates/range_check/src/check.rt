@@ -19,6 +19,7 @@ ghost use Rattle.range_check.specs.Certified.{AreCertified};
 ghost use Rattle.range_check.specs.Outside.{access_outside, accesses_outside, are_sound_accesses, instances_outside, is_small_instance, is_sound_access, outside_of, subscript_outside};
 
 use crate::certified::{are_certified, certified_works, is_certified_at, mark};
+use crate::cost::is_short;
 use crate::outside::OutOfRange;
 use fm_elim::NoMemory;
 use nest_tree::{Access, Expr, Item, PrintItem, Program};
@@ -30,14 +31,19 @@ const MOST_STATEMENTS: usize = 400;
 
 /// The first subscript that is out of range: of the first instance in sequential order, in it of
 /// the first access, its loads in text order and then its store, in it of the first dimension.
-/// Pieces of work all of whose subscripts are certified are not looked at, and a loop round nothing
-/// else isn't entered. Where memory runs out each instance is looked at.
+///
+/// Where a walk through all instances is long it looks for certificates first: pieces of work all of
+/// whose subscripts are certified are not looked at, and a loop round nothing else isn't entered.
+/// Where memory runs out each instance is looked at.
 pub fn check_ranges(alloc: Global, program: &Program) -> Result<(), OutOfRange>
     requires formed { IsWellFormed (tree_of program.now) }
     requires limits { IsWithinLimits (tree_of program.now) }
     ensures first { result_err result ≡ outside_of (tree_of program.now) }
     ensures inside { IsOk result ↔ IsInRange (tree_of program.now) }
 {
+    if is_short(alloc, program) {
+        return check_others(program, &[]);
+    }
     match certified_works(alloc, program) {
         Ok(certified) => check_others(program, certified.as_slice()),
         Err(NoMemory) => check_others(program, &[]),

@@ -13,6 +13,8 @@
 mod accesses;
 mod certified;
 pub mod check;
+mod cost;
+mod effort;
 pub mod laws;
 pub mod outside;
 pub mod proof;

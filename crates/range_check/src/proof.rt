@@ -1,9 +1,8 @@
 // Whether certificates keep a subscript within its bounds.
 
-ghost use Rattle.std.specs.Prelude.{◌≡◌, ◌⊎◌, ◌-◌, ◌<◌, ◌≤◌, IfOk, IfNone, IfSome, IsTrue, length, pos, slice_index_or};
+ghost use Rattle.std.specs.Prelude.{◌≡◌, ◌⊎◌, ◌-◌, ◌<◌, ◌≤◌, IfOk, IfNone, IfSome, IsTrue, length, pos, slice_index_or, true};
 ghost use Rattle.std.specs.List.{list_all};
 ghost use Rattle.farkas_cert.specs.Good.{IsGood};
-ghost use Rattle.fm_elim.specs.Answers.{NamesEachOnce};
 ghost use Rattle.nest_tree.specs.Form.{is_small};
 ghost use Rattle.nest_tree.specs.Layout.{bounds_of};
 ghost use Rattle.nest_tree.specs.Limits.{IsWithinLimits};
@@ -17,28 +16,13 @@ ghost use Rattle.range_check.specs.RangeSystems.{AreProof, IsKeptAs, above, belo
 ghost use Rattle.range_check.specs.Sites.{IsSite, Site, site_of, sites};
 
 use crate::accesses::accesses_in;
+use crate::effort::Effort;
 use crate::systems::{elimination_order, high_limit, low_limit, side_system, unknown_count};
-use farkas_cert::{Certificate, NarrowSystem};
-use fm_elim::{Answer, NoMemory, decide};
+use farkas_cert::Certificate;
+use fm_elim::NoMemory;
 use nest_rows::{Nested, Sign, nested_works};
 use nest_tree::{Access, Program};
 use std::alloc::Global;
-
-// A certificate that refutes the system; None where elimination keeps it.
-fn refuted(
-    alloc: Global,
-    system: &NarrowSystem,
-    order: &[u32],
-) -> Result<Option<Certificate>, NoMemory>
-    requires { NamesEachOnce system.now.vars order.now }
-    ensures good { IfOk result (λ o. IfSome o (λ c. IsGood system.now c)) }
-    ensures kept { IfOk result (λ o. IfNone o (IsKeptAs system.now order.now)) }
-{
-    match decide(alloc, system.as_system(), order)? {
-        Answer::Infeasible(certificate) => Ok(Some(certificate)),
-        Answer::Open | Answer::Wide { .. } | Answer::Many { .. } => Ok(None),
-    }
-}
 
 // The bounds of a dimension, by its place from 0.
 fn bounds_at(program: &Program, access: &Access, place: usize) -> (i64, i64)
@@ -58,12 +42,14 @@ fn side_proof(
     nested: &Nested,
     access: &Access,
     side: (Sign, usize, i64),
+    effort: &mut Effort,
 ) -> Result<Option<Certificate>, NoMemory>
     requires seen { (n : NestedWork) × IsView n nested.now }
     requires steps { IsTrue (list_all (λ (h : Head). is_small h.step) (heads_of nested.now.around.items)) }
     requires there { side.1 < length access.now.subscripts }
     ensures good { (n : NestedWork) → IsView n nested.now → IfOk result (λ o. IfSome o (IsGood (side_system (tree_of program.now) (site_of n access.now) side.0 side.1 side.2))) }
-    ensures kept { (n : NestedWork) → IsView n nested.now → IfOk result (λ o. IfNone o (IsKeptAs (side_system (tree_of program.now) (site_of n access.now) side.0 side.1 side.2) (order_of (tree_of program.now) (site_of n access.now)))) }
+    ensures kept { effort.old.whole ≡ true → (n : NestedWork) → IsView n nested.now → IfOk result (λ o. IfNone o (IsKeptAs (side_system (tree_of program.now) (site_of n access.now) side.0 side.1 side.2) (order_of (tree_of program.now) (site_of n access.now)))) }
+    ensures same { effort.new.whole ≡ effort.old.whole }
 {
     let around = nested.around.as_slice();
     let Some(vars) = unknown_count(program, around) else {
@@ -71,7 +57,7 @@ fn side_proof(
     };
     let order = elimination_order(alloc, program.params.len() as u32, around.len() as u32)?;
     let system = side_system(alloc, program, nested, access, side, vars)?;
-    refuted(alloc, &system, order.as_slice())
+    effort.refute(alloc, &system, order.as_slice())
 }
 
 // The two certificates of an access's subscript in a dimension, from 1.
@@ -81,6 +67,7 @@ pub(crate) fn dimension_proof(
     nested: &Nested,
     access: &Access,
     dimension: u32,
+    effort: &mut Effort,
 ) -> Result<Option<(Certificate, Certificate)>, NoMemory>
     requires formed { IsWellFormed (tree_of program.now) }
     requires seen { (n : NestedWork) × IsView n nested.now }
@@ -89,16 +76,16 @@ pub(crate) fn dimension_proof(
     requires low { 1 ≤ dimension }
     requires high { dimension ≤ length (bounds_of (tree_of program.now) access.now.variable) }
     ensures good { (n : NestedWork) → IsView n nested.now → IfOk result (λ o. IfSome o (AreProof (tree_of program.now) (site_of n access.now) dimension)) }
-    ensures kept { (n : NestedWork) → IsView n nested.now → IfOk result (λ o. IfNone o (IsKeptAs (below (tree_of program.now) (site_of n access.now) dimension) (order_of (tree_of program.now) (site_of n access.now)) ⊎ IsKeptAs (above (tree_of program.now) (site_of n access.now) dimension) (order_of (tree_of program.now) (site_of n access.now)))) }
+    ensures kept { effort.old.whole ≡ true → (n : NestedWork) → IsView n nested.now → IfOk result (λ o. IfNone o (IsKeptAs (below (tree_of program.now) (site_of n access.now) dimension) (order_of (tree_of program.now) (site_of n access.now)) ⊎ IsKeptAs (above (tree_of program.now) (site_of n access.now) dimension) (order_of (tree_of program.now) (site_of n access.now)))) }
 {
     let place = dimension as usize - 1;
     let bounds = bounds_at(program, access, place);
     let side = (Sign::Plus, place, low_limit(bounds));
-    let Some(low) = side_proof(alloc, program, nested, access, side)? else {
+    let Some(low) = side_proof(alloc, program, nested, access, side, effort)? else {
         return Ok(None);
     };
     let side = (Sign::Minus, place, high_limit(bounds));
-    let Some(high) = side_proof(alloc, program, nested, access, side)? else {
+    let Some(high) = side_proof(alloc, program, nested, access, side, effort)? else {
         return Ok(None);
     };
     Ok(Some((low, high)))
@@ -129,7 +116,9 @@ pub fn range_proof(
     for nested in works.iter() {
         let found = accesses_in(alloc, nested.item)?;
         if before < found.len() {
-            return dimension_proof(alloc, program, nested, found[before].access, dimension);
+            let access = found[before].access;
+            let mut effort = Effort::whole(alloc);
+            return dimension_proof(alloc, program, nested, access, dimension, &mut effort);
         }
         before -= found.len();
     }

@@ -9,8 +9,8 @@ use Rattle.range_check.specs.RangeSystems.{elimination_order}
 use Rattle.range_check.proofs.Orders.{order-once}
 use Rattle.range_check.proofs.proof.side_proof.Goals as goal
 
-pub refuted-requires : goal.refuted-requires
-refuted-requires c =
+pub refute-requires : goal.refute-requires
+refute-requires c =
     let n = c.requires.seen.0 in
     let view = c.requires.seen.1 in
     let params = c.args.program.now.params in
