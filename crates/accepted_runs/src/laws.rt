@@ -1,6 +1,6 @@
 // Every interleaving of an accepted plan.
 
-ghost use Rattle.std.specs.Prelude.{ℕ, false, List, Some, All, Contains, slice_get, take, ◌≡◌, ◌<◌, ◌⊎◌, ◌++◌};
+ghost use Rattle.std.specs.Prelude.{ℕ, false, List, Some, All, Contains, length, slice_get, take, ◌≡◌, ◌<◌, ◌≤◌, ◌⊎◌, ◌++◌};
 ghost use Rattle.nest_tree.specs.Layout.{cell_count};
 ghost use Rattle.nest_tree.specs.Tree.{Tree};
 ghost use Rattle.nest_tree.specs.WellFormed.{IsWellFormed};
@@ -12,8 +12,9 @@ ghost use Rattle.owner_partition.specs.Phases.{Execution};
 ghost use Rattle.sync_plan.specs.Own.{own_cell, own_of};
 ghost use Rattle.sync_plan.specs.declared.plan.Plan.{Plan};
 ghost use Rattle.plan_checker.specs.Accepted.{IsAccepted};
+ghost use Rattle.spmd_model.specs.Fair.{IsBlock, IsFair, acts_to_go, blocks_in, first_of};
 ghost use Rattle.spmd_model.specs.Reached.{CanGo};
-ghost use Rattle.spmd_model.specs.States.{IsEnded, next_act, run_of};
+ghost use Rattle.spmd_model.specs.States.{IsEnded, first_state, next_act, run_of};
 ghost use Rattle.spmd_model.specs.Styled.{instances_in_front, job_under, machine_by, timeline_by};
 ghost use Rattle.spmd_model.specs.Timelines.{Job, job, load};
 ghost use Rattle.spmd_model.specs.declared.style.Style.{Style};
@@ -24,7 +25,8 @@ ghost use Rattle.spmd_model.specs.declared.style.Style.{Style};
 /// its cell what the sequential program's memory has there in front of its instance; the output is
 /// at all times a front of the sequential one; and where all acts are done, the cells that all
 /// share, and the output, are the sequential program's. At all times all acts are done, or the next
-/// act of some processor is possible, whatever the subscripts.
+/// act of some processor is possible, and where each processor's turn comes again and again, all
+/// acts are done behind some number of steps: both whatever the subscripts.
 pub fn accepted_plans_run_in_styles()
     ensures loads { (style : Style) → (tree : Tree) → (plan : Plan) → (schedule : List ℕ)
         → (p place : ℕ) → (j : Job) → IsWellFormed tree → IsInRange tree → IsAccepted tree plan
@@ -56,4 +58,13 @@ pub fn accepted_plans_run_in_styles()
         → IsWellFormed tree → IsAccepted tree plan → All (λ q. q < plan.workers) schedule
         → IsEnded (machine_by style tree plan) (run_of (machine_by style tree plan) schedule)
         ⊎ CanGo (machine_by style tree plan) (run_of (machine_by style tree plan) schedule) }
+    ensures ends { (style : Style) → (tree : Tree) → (plan : Plan) → (order : ℕ → ℕ)
+        → IsWellFormed tree → IsAccepted tree plan → IsFair plan.workers order → (n : ℕ)
+        × IsEnded (machine_by style tree plan) (run_of (machine_by style tree plan)
+        (first_of order n)) }
+    ensures soon { (style : Style) → (tree : Tree) → (plan : Plan) → (blocks : List (List ℕ))
+        → IsWellFormed tree → IsAccepted tree plan → All (IsBlock plan.workers) blocks
+        → acts_to_go (machine_by style tree plan) (first_state (machine_by style tree plan))
+        ≤ length blocks → IsEnded (machine_by style tree plan)
+        (run_of (machine_by style tree plan) (blocks_in blocks)) }
 {}

@@ -17,7 +17,7 @@ use Rattle.spmd_model.specs.StyledDeeds.{closing_deeds, deeds_by, own_deeds, par
 use Rattle.spmd_model.specs.declared.style.Style.TheVariants.{Arrive}
 use Rattle.spmd_model.specs.Lawful.{IsPosted, Moves}
 use Rattle.spmd_model.specs.Timelines.{await, counter, post}
-use Rattle.spmd_model.proofs.PlannedSound.{awaited_posts}
+use Rattle.spmd_model.proofs.PlannedOrder.{awaited_posts}
 use Rattle.spmd_laws.specs.Protocols.{Protocol, act_at}
 use Rattle.fork_join.specs.Joins.{IsSafe, all_deeds, begun, begun_from, deeds_begun, deeds_behind, in_front, mixed, protocol, put}
 use Rattle.fork_join.proofs.Acts.{await_there, post_there}

@@ -11,7 +11,7 @@ use Rattle.spmd_model.proofs.ActLists.{act_of_moment, found, in_front-more, in_f
 use Rattle.spmd_model.proofs.MomentActs.{IsPostIn, await_there, tells}
 
 -- boundaries with one number are one
-one_boundary : (m : Machine) (w : Word) (s t n : ℕ) (f g : ℕ → Bool) (a b : ℕ → List ℕ) → IsSound m → slice_get m.timeline s ≡ Some (boundary w n f a) → slice_get m.timeline t ≡ Some (boundary w n g b) → s ≡ t
+pub one_boundary : (m : Machine) (w : Word) (s t n : ℕ) (f g : ℕ → Bool) (a b : ℕ → List ℕ) → IsSound m → slice_get m.timeline s ≡ Some (boundary w n f a) → slice_get m.timeline t ≡ Some (boundary w n g b) → s ≡ t
 one_boundary m w s t n f g a b sound at at' = ⊎_elim (λ lt. absurd (omega (arith, sound.rising w s t n n f g a b lt at at'))) (λ le.
     ⊎_elim (λ lt. absurd (omega (arith, sound.rising w t s n n g f b a lt at' at))) (λ le'. omega (arith, le, le')) (cases_lt t s)) (cases_lt s t)
 

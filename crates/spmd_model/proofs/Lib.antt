@@ -2,13 +2,15 @@ pub mod Lists
 pub mod ActLists
 pub mod MomentActs
 pub mod Registers
-mod Chains
+pub mod Chains
 mod LastValues
 pub mod Keeps
 pub mod ActLaws
 pub mod Counters
 pub mod Unstuck
 pub mod Runs
+mod Free
+pub mod Fair
 pub mod Ends
 pub mod StateAt
 pub mod RoundChains
@@ -19,11 +21,8 @@ pub mod OwnPhases
 pub mod Trips
 pub mod OwnRuns
 pub mod SumForms
-pub mod PlannedMoments
-mod PlannedOrder
+pub mod PlannedOrder
 pub mod PlannedMemory
-pub mod PlannedInstances
-pub mod PlannedSound
 pub mod Deeds
 pub mod CellsThere
 pub mod Parts

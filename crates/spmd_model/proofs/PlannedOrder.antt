@@ -1,4 +1,4 @@
--- Whoever is awaited under a plan, and whoever a chain of it leads from, is one of the workers.
+-- Whoever is awaited under a plan is one of the workers and posts, and whoever a chain of it leads from is a worker.
 use Rattle.std.proofs.Common.{◌≡◌, ℕ, zero, suc, ◌+◌, ◌-◌, ◌<◌, Bool, true, false, cond, List, [], ◌∷◌, Option, Some, None, refl, ap, sym, subst, ◌∙◌, arith}
 use Rattle.std.specs.Prelude.{slice_get}
 use Rattle.std.specs.List.{Contains, filter, range_with_len}
@@ -8,7 +8,8 @@ use Rattle.owner_partition.specs.Phases.{phases}
 use Rattle.sync_plan.specs.declared.plan.Kind.{Kind}
 use Rattle.sync_plan.specs.declared.plan.Plan.{Plan}
 use Rattle.sync_plan.specs.Ordered.{IsChain as IsPlanChain, Hop as PlanHop, awaited_in as awaited_in_plan, awaited_in_front}
-use Rattle.sync_plan.specs.Waits.{awaited_behind, does_wait_at, kind_owner}
+use Rattle.sync_plan.specs.Waits.{awaited_behind, does_wait_at, is_awaited_behind, kind_owner, posts_at, waits_for}
+use Rattle.sync_plan.proofs.ProcessorSets.{any_from}
 
 -- ---- an awaited processor is one of the workers
 
@@ -38,6 +39,17 @@ awaited_below tree plan p e q among = by_phase (slice_get (phases tree plan.cut.
     by_phase : (o : Option Visit) → Contains (awaited_in_plan tree plan p o) q → q < plan.workers
     by_phase None (k, lt, h) = absurd (omega (arith, lt))
     by_phase (Some v) found = by_kind (slice_get plan.kinds (v.place - 1)) v found
+
+-- and it posts there
+pub awaited_posts : (tree : Tree) (plan : Plan) (v : Visit) (p q : ℕ) → p < plan.workers → Contains (waits_for tree plan p v.place v.loops) q → (q < plan.workers) × (posts_at tree plan q v.place v.loops ≡ true)
+awaited_posts tree plan v p q inside among = by (slice_get plan.kinds (v.place - 1)) among
+  where
+    by : (o : Option Kind) → Contains (awaited_behind o plan.workers v.loops (param_values tree) p) q → (q < plan.workers) × (is_awaited_behind o plan.workers v.loops (param_values tree) q ≡ true)
+    by None (k, lt, e) = absurd (omega (arith, lt))
+    by (Some kind) found =
+        let owner = kind_owner kind plan.workers v.loops (param_values tree) in
+        let f = filtered (does_wait_at kind owner p) 0 plan.workers q found in
+        (omega (arith, f.1), any_from (λ o. does_wait_at kind owner o q) 0 plan.workers p (omega arith) (omega (arith, inside)) f.0)
 
 -- ---- chains
 

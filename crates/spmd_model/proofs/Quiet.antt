@@ -11,7 +11,7 @@ use Rattle.spmd_model.specs.States.{State, acted, first_state, is_possible, move
 use Rattle.spmd_model.specs.Quiet.{first_turn, is_quiet, quiet_first, quiet_next, past_quiet, turned, turns_of}
 use Rattle.spmd_model.specs.Reached.{HasCome}
 use Rattle.spmd_model.proofs.Lists.{drop_more}
-use Rattle.spmd_model.proofs.Runs.{come_first, come_stepped}
+use Rattle.spmd_model.proofs.Runs.{come_first, come_folded, come_stepped}
 
 -- ---- runs by turns are runs
 
@@ -126,12 +126,8 @@ settles_all m shared p (a ∷ rest) s lt come left = by (is_quiet shared a) refl
         let count : quiet_first shared (a ∷ rest) ≡ 0 = ap (λ b. if b then suc (quiet_first shared rest) else 0) loud in
         (ap (λ n. quiet_next m shared (fold (stepped m) s (replicate n p)) p) count ∙ ap (quiet_first shared) left ∙ count, λ q ne. ap (λ n. slice_index (fold (stepped m) s (replicate n p)).positions q) count)
 
-come_folded : (m : Machine) (schedule : List ℕ) (s : State) → HasCome m s → All (λ p. p < m.workers) schedule → HasCome m (fold (stepped m) s schedule)
-come_folded m [] s come all = come
-come_folded m (p ∷ rest) s come all = come_folded m rest (stepped m s p) (come_stepped m s p (All-head (λ q. q < m.workers) p rest all) come) (All-tail (λ q. q < m.workers) p rest all)
-
 come_led : (m : Machine) (s t : State) → HasCome m s → Leads m s t → HasCome m t
-come_led m s t come leads = subst (HasCome m) (sym leads.is) (come_folded m leads.schedule s come leads.workers)
+come_led m s t come leads = subst (HasCome m) (sym leads.is) (come_folded m s leads.schedule come leads.workers)
 
 -- the processors of which no quiet act stands next stay so, and this one becomes one
 abbrev pub AreSettled : Machine → ℕ → State → ℕ → ℕ → Type 0

@@ -230,7 +230,7 @@ sequential_stepped m s p lt sound ordered come seq = sequential_by m s p (next_a
 
 -- ---- schedules
 
-come_folded : (m : Machine) (s : State) (schedule : List ℕ) → HasCome m s → All (λ p. p < m.workers) schedule → HasCome m (fold (stepped m) s schedule)
+pub come_folded : (m : Machine) (s : State) (schedule : List ℕ) → HasCome m s → All (λ p. p < m.workers) schedule → HasCome m (fold (stepped m) s schedule)
 come_folded m s [] come all = come
 come_folded m s (p ∷ rest) come all =
     come_folded m (stepped m s p) rest (come_stepped m s p (All-head (λ p. p < m.workers) p rest all) come) (All-tail (λ p. p < m.workers) p rest all)

@@ -15,7 +15,7 @@ use Rattle.spmd_model.specs.Rounds.{awaited_in_round, round_boundary, rounds_of}
 use Rattle.spmd_model.specs.Styled.{part_place, parts_by, signal_barriers, timeline_by}
 use Rattle.spmd_model.specs.declared.style.Style.{Style}
 use Rattle.spmd_model.proofs.Parts.{part_rises, passed_before, passed_rises, passed_step}
-use Rattle.spmd_model.proofs.PlannedSound.{awaited_posts}
+use Rattle.spmd_model.proofs.PlannedOrder.{awaited_posts}
 use Rattle.spmd_model.proofs.StyledPlaces.{Fronts, by_counters, by_signals, IsBoundaryIn, boundary_in, first_round}
 
 mod_less : (n k : ℕ) → 0 < k → n % k < k

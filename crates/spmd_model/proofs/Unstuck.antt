@@ -15,7 +15,7 @@ use Rattle.spmd_model.proofs.Counters.{counter_reaches}
 use Rattle.spmd_model.proofs.Chains.{post_moment}
 
 -- where a processor's next act is an await at a boundary that isn't in front of this one, or it has none left, its post there is done
-passed_post : (m : Machine) (w : Word) (q k l t n : ℕ) (posts : ℕ → Bool) (awaits : ℕ → List ℕ) → IsSound m → slice_get m.timeline t ≡ Some (boundary w n posts awaits) → l ≡ acts_in_front m q t → act_at m q l ≡ Some (post w n) →
+pub passed_post : (m : Machine) (w : Word) (q k l t n : ℕ) (posts : ℕ → Bool) (awaits : ℕ → List ℕ) → IsSound m → slice_get m.timeline t ≡ Some (boundary w n posts awaits) → l ≡ acts_in_front m q t → act_at m q l ≡ Some (post w n) →
     ((act_at m q k ≡ None) ⊎ ((v : Word) × (o : ℕ) × (i : ℕ) × (e : act_at m q k ≡ Some (await v o i)) × (t ≤ (found m q k (await v o i) e).place))) → l < k
 passed_post m w q k l t n posts awaits sound at first e (inl none) = ⊎_elim (λ lt. lt) (λ le. let clash = inside k le in absurd (cc)) (cases_lt l k)
   where

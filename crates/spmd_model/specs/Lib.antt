@@ -5,6 +5,8 @@ pub mod Sequential
 pub mod Ordered
 pub mod Lawful
 pub mod Reached
+pub mod Free
+pub mod Fair
 pub mod Rounds
 pub mod Quiet
 pub mod Shared

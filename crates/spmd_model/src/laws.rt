@@ -12,9 +12,10 @@ ghost use Rattle.sync_plan.specs.Ordered.{IsOrdered as IsOrderedPlan};
 ghost use Rattle.sync_plan.specs.declared.plan.Plan.{Plan};
 ghost use Rattle.owner_partition.specs.Phases.{Execution, phases};
 ghost use Rattle.spmd_model.specs.Deeds.{can_do, deed_of, deeds_from, did};
+ghost use Rattle.spmd_model.specs.Fair.{IsBlock, IsFair, acts_to_go, blocks_in, first_of};
+ghost use Rattle.spmd_model.specs.Free.{IsFree};
 ghost use Rattle.spmd_model.specs.Lawful.{IsLawful, Moves, acts_in_front};
 ghost use Rattle.spmd_model.specs.Ordered.{Hop, IsChain, IsOrdered, IsSound};
-ghost use Rattle.spmd_model.specs.Planned.{job_of, jobs_in_front, machine_of, timeline_of};
 ghost use Rattle.std.specs.List.{AllByRecursion};
 ghost use Rattle.spmd_model.specs.OwnPhases.{AreApart, Come, IsGoodLoad, IsSumJob, Own, adds_total, behind_job, clears, keeps_private, own_cell, own_job, put, without};
 ghost use Rattle.spmd_model.specs.Trips.{IsTrip, last_behind};
@@ -38,6 +39,24 @@ ghost use Rattle.spmd_model.specs.Timelines.{Act, Job, Machine, act_at, acts_of,
 pub fn no_state_is_stuck()
     ensures { (m : Machine) (schedule : List ℕ) → IsSound m → All (λ p. p < m.workers) schedule
         → IsEnded m (run_of m schedule) ⊎ CanGo m (run_of m schedule) }
+{}
+
+/// On a sound timeline, wherever its processors stand, all have ended, or some processor has an act
+/// left and doesn't stand in vain: that act is no await, or all that it awaits there is posted.
+pub fn rounds_go_on()
+    ensures { (m : Machine) (at : ℕ → ℕ) → IsSound m → ((p : ℕ) → p < m.workers
+        → length (acts_of m p) ≤ at p) ⊎ IsFree m at }
+{}
+
+/// Every fair run ends. A run whose schedule is blocks, each of which names every processor, has
+/// ended behind as many blocks as there are acts. And in an endless order in which each processor
+/// comes again and again, the run has ended behind some number of steps.
+pub fn fair_runs_end()
+    ensures blocks { (m : Machine) (blocks : List (List ℕ)) → IsSound m
+        → All (IsBlock m.workers) blocks → acts_to_go m (first_state m) ≤ length blocks
+        → IsEnded m (run_of m (blocks_in blocks)) }
+    ensures fair { (m : Machine) (order : ℕ → ℕ) → IsSound m → IsFair m.workers order → (n : ℕ)
+        × IsEnded m (run_of m (first_of order n)) }
 {}
 
 /// On an ordered timeline, in whatever order the processors go, every load that stands next finds
@@ -165,22 +184,16 @@ pub fn stored_values()
         → stored_at m p n ≡ value_at m place }
 {}
 
-/// A plan that fits a well-formed program has a sound timeline.
-pub fn timelines_of_plans()
-    ensures { (tree : Tree) → (plan : Plan) → IsWellFormed tree → IsFit tree plan
-        → IsSound (machine_of tree plan) }
-{}
-
 /// Where processors have cells of their own for the own scalars of phases, and pass barriers in
 /// either style: a plan that fits a well-formed program has a sound timeline, an ordered plan of a
 /// program in range an ordered one; and a processor's acts do, phase by phase, what stands in front
 /// of the phase, then each instance that it owns, then its closings. Where no loop has own scalars,
-/// and barriers are passed by counters, they do what they do along the plain timeline. Nobody is
-/// behind the last round of a barrier by signals unless all others are behind their first signal in
-/// it. Of a program in range, the cells that all share have its last memory behind all, and the
-/// output is its own; a job that counts as an instance is the one whose number is that of the
-/// instances in front, and each of its loads, but of a sum scalar of its phase, gives what the
-/// program's memory has there in front of it.
+/// and barriers are passed by counters, these are the deeds of the boundary and of the program's
+/// own instances alone. Nobody is behind the last round of a barrier by signals unless all others
+/// are behind their first signal in it. Of a program in range, the cells that all share have its
+/// last memory behind all, and the output is its own; a job that counts as an instance is the one
+/// whose number is that of the instances in front, and each of its loads, but of a sum scalar of
+/// its phase, gives what the program's memory has there in front of it.
 pub fn timelines_in_styles()
     ensures sound { (style : Style) → (tree : Tree) → (plan : Plan) → IsWellFormed tree
         → IsFit tree plan → IsSound (machine_by style tree plan) }
@@ -218,32 +231,9 @@ pub fn timelines_in_styles()
         place)) c) }
 {}
 
-/// The sequential values along a plan's timeline are the program's: memory in front of a job is
-/// the program's in front of the instance with as many jobs in front of it, memory behind all is
-/// the program's last one, and the output is the program's. The program's last memory has each of
-/// its cells.
-pub fn timelines_are_sequential()
-    ensures memory { (tree : Tree) → (plan : Plan) → (place : ℕ)
-        → memory_at (machine_of tree plan) place ≡ memory_before tree (jobs_in_front tree plan
-        place) }
-    ensures last { (tree : Tree) → (plan : Plan)
-        → last_memory (machine_of tree plan) ≡ Memory.last_memory tree }
-    ensures output { (tree : Tree) → (plan : Plan)
-        → whole_output (machine_of tree plan) ≡ output_of tree }
-    ensures instance { (tree : Tree) → (plan : Plan) → (place : ℕ) → (j : Job)
-        → slice_get (timeline_of tree plan) place ≡ Some (job j)
-        → (x : Execution) × (j ≡ job_of tree plan x)
-        × (slice_get (instances tree) (jobs_in_front tree plan place) ≡ Some x.instance) }
-    ensures size { (tree : Tree) → length (Memory.last_memory tree) ≡ cell_count tree }
-{}
-
-/// What a processor's acts do under a plan that fits, phase by phase: the boundary's post and
-/// awaits, and then the loads and the store or the PRINT of each instance that it owns. And what an
-/// act does to a state, and whether it is possible, follows from that alone.
+/// What an act does to a state, and whether it is possible, follows from what it does alone, without
+/// its place on the timeline.
 pub fn acts_by_their_deeds()
-    ensures phases { (tree : Tree) → (plan : Plan) → (p : ℕ) → IsWellFormed tree → IsFit tree plan
-        → map (deed_of (machine_of tree plan)) (acts_of (machine_of tree plan) p)
-        ≡ deeds_from tree plan p 1 (phases tree plan.cut.marks) }
     ensures acted { (m : Machine) → (s : State) → (p : ℕ) → (a : Act)
         → acted m s p a ≡ did s p (deed_of m a) }
     ensures possible { (m : Machine) → (s : State) → (a : Act)

@@ -7,12 +7,13 @@
 //! - `specs/Sequential.antt`: what one processor alone would compute.
 //! - `specs/Ordered.antt`: ordered timelines, by chains of waits.
 //! - `specs/Lawful.antt`: what holds of memory wherever the processors have come to.
+//! - `specs/Free.antt`: who doesn't wait in vain; `specs/Fair.antt`: fair orders of steps.
 //! - `specs/Rounds.antt`: a barrier by signals, round by round.
 //! - `specs/Quiet.antt`: acts on a processor's own cells, and runs by turns.
 //! - `specs/Shared.antt`: lawful shared cells, with own cells behind them.
 //! - `specs/OwnPhases.antt`, `specs/Trips.antt`: phases in which each processor has cells of its
 //!   own for some scalars, and their closings.
-//! - `specs/Planned.antt`: the timeline of a program under a plan.
+//! - `specs/Planned.antt`: an instance as a job, and the boundary in front of a phase.
 //! - `specs/Deeds.antt`: what acts do, phase by phase.
 //! - `specs/Closings.antt`, `specs/Styled.antt`, `specs/StyledDeeds.antt`: the same where processors
 //!   have cells of their own for a phase's scalars, and pass barriers in either style.
@@ -26,9 +27,8 @@ pub mod rounds;
 pub mod style;
 
 pub use laws::{
-    acts_are_steps, acts_by_their_deeds, every_load_is_sequential, no_state_is_stuck,
-    own_cells_follow, rounds_lead_to_all, runs_are_sequential, stored_values,
-    timelines_are_sequential, timelines_in_styles, timelines_of_plans, trips_keep_privates,
-    turns_are_runs,
+    acts_are_steps, acts_by_their_deeds, every_load_is_sequential, fair_runs_end,
+    no_state_is_stuck, own_cells_follow, rounds_go_on, rounds_lead_to_all, runs_are_sequential,
+    stored_values, timelines_in_styles, trips_keep_privates, turns_are_runs,
 };
 pub use style::Style;

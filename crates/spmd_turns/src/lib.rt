@@ -6,12 +6,10 @@
 //! - [`progress`]: how many deeds are done, for proofs.
 //! - [`loads`], [`load_place`]: the values that a piece of work loads, one by one.
 //! - [`room`]: how much room a run needs.
-//! - [`laws`]: what turns have to do with acts.
 #![tactic(auto)]
 
 pub mod deeds;
 pub mod execute;
-pub mod laws;
 pub mod load_place;
 pub mod loads;
 pub mod progress;

@@ -1,8 +1,5 @@
-use Rattle.spmd_model.proofs.Deeds.{acted_is, plan_deeds, possible_is}
+use Rattle.spmd_model.proofs.Deeds.{acted_is, possible_is}
 use Rattle.spmd_model.proofs.laws.acts_by_their_deeds.Goals as goal
-
-pub returns-clause-phases : goal.returns-clause-phases
-returns-clause-phases c = plan_deeds
 
 pub returns-clause-acted : goal.returns-clause-acted
 returns-clause-acted c = acted_is
