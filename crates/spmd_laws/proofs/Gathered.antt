@@ -1,9 +1,8 @@
 -- Barriers of a plan: what is gathered there, and how often.
 use Rattle.std.proofs.Common.{◌≡◌, ◌≢◌, ◌&&◌, not, ℕ, zero, suc, ◌+◌, ◌-◌, ◌^◌, ◌<◌, ◌≤◌, ◌⊎◌, nat_lt, Bool, true, false, true≢false, cond, List, [], ◌∷◌, length, map, take, drop, fold, Option, Some, None, refl, ap, sym, subst, ◌∙◌, inl, inr, ⊎_elim, arith, if◌then◌else◌, take_all, drop-cons, zero-add}
 use Rattle.std.specs.Prelude.{slice_get}
-use Rattle.std.specs.List.{All, filter, range_with_len}
-use Rattle.std.proofs.lemmas.Bool.{and_parts, cases_Bool, cases_lt, ltb-true, ne_eqb}
-use Rattle.std.proofs.lemmas.List.Elements.{All-cons, All-nil}
+use Rattle.std.specs.List.{Contains, filter, range_with_len}
+use Rattle.std.proofs.lemmas.Bool.{and_parts, cases_Bool, cases_eq, cases_lt, ltb-true, ne_eqb}
 use Rattle.std.proofs.lemmas.List.Sums.{fold-append}
 use Rattle.std.proofs.lemmas.Option.{get_or_from_slice_get, slice_get_cases, slice_get_within}
 use Rattle.nest_tree.specs.Limits.{IsWithinLimits}
@@ -27,7 +26,8 @@ use Rattle.spmd_model.proofs.Counters.{counter_posted, counter_reaches, lower_in
 use Rattle.spmd_model.proofs.Lists.{one_element, take-more}
 use Rattle.spmd_laws.specs.Protocols.{is_arrival, passed_first, settled, shown, shown_behind}
 use Rattle.sync_plan.specs.Boundaries.{gathers, is_barrier, kind_before}
-use Rattle.spmd_laws.proofs.Arrivals.{Joins, arrivals, boundaries, few_arrivals, front, weights}
+use Rattle.spmd_laws.proofs.Arrivals.{arrivals, boundaries, few_arrivals, front, weights}
+use Rattle.spmd_laws.proofs.Barriers.{AwaitsAll}
 
 -- ---- at a barrier each processor awaits another
 
@@ -36,15 +36,25 @@ other_than : (p workers : ℕ) → 1 < workers → p < workers → (o : ℕ) × 
 other_than zero workers some lt = (1, some, λ e. omega (arith, e))
 other_than (suc p) workers some lt = (0, omega (arith, some), λ e. omega (arith, e))
 
-passes : (test : ℕ → Bool) (a n o : ℕ) → a ≤ o → o < a + n → test o ≡ true → (c : ℕ) × (rest : List ℕ) × (filter test (range_with_len a n) ≡ c ∷ rest)
-passes test a zero o low high h = absurd (omega (arith, low, high))
-passes test a (suc n) o low high h = elim (cases_Bool (test a)) [
-  | inl here ↦ (a, filter test (range_with_len (a + 1) n), ap (λ b. cond b (a ∷ filter test (range_with_len (a + 1) n)) (filter test (range_with_len (a + 1) n))) here)
-  | inr not_here ↦
-      let apart : o ≢ a = λ e. true≢false (sym h ∙ ap test e ∙ not_here) in
-      let later = passes test (a + 1) n o (omega (arith, low, apart)) (omega (arith, high)) h in
-      (later.0, later.1, ap (λ b. cond b (a ∷ filter test (range_with_len (a + 1) n)) (filter test (range_with_len (a + 1) n))) not_here ∙ later.2)
-]
+kept_among : (test : ℕ → Bool) (a n o : ℕ) → a ≤ o → o < a + n → test o ≡ true → Contains (filter test (range_with_len a n)) o
+kept_among test a zero o low high h = absurd (omega (arith, low, high))
+kept_among test a (suc n) o low high h = by (λ more. kept_among test (a + 1) n o more (omega (arith, high)) h) (test a) refl
+  where
+    later : List ℕ
+    later = filter test (range_with_len (a + 1) n)
+
+    by : (a + 1 ≤ o → Contains later o) → (b : Bool) → test a ≡ b → Contains (filter test (range_with_len a (suc n))) o
+    by rest true here = subst (λ xs. Contains xs o) (sym (ap (λ b. cond b (a ∷ later) later) here)) (elim (cases_eq a o) [
+      | inl e ↦ (0, omega arith, e)
+      | inr other ↦ let more = rest (omega (arith, low, other)) in (suc more.0, omega (arith, more.1), more.2)
+    ])
+    by rest false not_here =
+        let other : o ≢ a = λ e. true≢false (sym h ∙ ap test e ∙ not_here) in
+        subst (λ xs. Contains xs o) (sym (ap (λ b. cond b (a ∷ later) later) not_here)) (rest (omega (arith, low, other)))
+
+first_among : (xs : List ℕ) (o : ℕ) → Contains xs o → (c : ℕ) × (rest : List ℕ) × (xs ≡ c ∷ rest)
+first_among [] o among = absurd (omega (arith, among.1))
+first_among (x ∷ xs) o among = (x, xs, refl)
 
 apart_waits : (p q : ℕ) → p ≢ q → does_wait_at Barrier 0 p q ≡ true
 apart_waits p q apart = ap (λ b. not b && true) (ne_eqb p q apart)
@@ -63,25 +73,23 @@ pub parts_of : (tree : Tree) (plan : Plan) (e n : ℕ) (v : Visit) (posts : ℕ 
     (n ≡ e - 1) × (posts ≡ (λ q. posts_at tree plan q v.place v.loops)) × (awaits ≡ (λ q. waits_for tree plan q v.place v.loops))
 parts_of tree plan e n v posts awaits same = (cc, cc, cc)
 
--- at a phase's boundary where its number is gathered each processor posts, and awaits another
-pub joins_boundary : (tree : Tree) (plan : Plan) (p k n : ℕ) (v : Visit) (posts : ℕ → Bool) (awaits : ℕ → List ℕ) → p < plan.workers → slice_get (phases tree plan.cut.marks) k ≡ Some v → boundary counter n posts awaits ≡ boundary_of tree plan (1 + k) v →
-    Joins (gathers tree plan) p (boundary counter n posts awaits)
-joins_boundary tree plan p k n v posts awaits inside at is g =
+-- at a phase's boundary where its number is gathered each processor posts, and awaits all others
+pub all_at_boundary : (tree : Tree) (plan : Plan) (p k n : ℕ) (v : Visit) (posts : ℕ → Bool) (awaits : ℕ → List ℕ) → p < plan.workers → slice_get (phases tree plan.cut.marks) k ≡ Some v → boundary counter n posts awaits ≡ boundary_of tree plan (1 + k) v →
+    gathers tree plan n ≡ true → AwaitsAll plan.workers p posts awaits
+all_at_boundary tree plan p k n v posts awaits inside at is g =
     let parts = parts_of tree plan (1 + k) n v posts awaits is in
     let number : n ≡ k = omega (arith, parts.0) in
     let both = and_parts (is_barrier (kind_before plan (slice_get (phases tree plan.cut.marks) n))) (nat_lt 1 plan.workers) g in
     let kind : slice_get plan.kinds (v.place - 1) ≡ Some Barrier =
     barrier_is (slice_get plan.kinds (v.place - 1)) (sym (ap (λ o. is_barrier (kind_before plan o)) (ap (slice_get (phases tree plan.cut.marks)) number ∙ at)) ∙ both.0) in
     let o = other_than p plan.workers (ltb-true 1 plan.workers both.1) inside in
-    let waits = passes (does_wait_at Barrier 0 p) 0 plan.workers o.0 (omega arith) (omega (arith, o.1)) (apart_waits p o.0 (λ e. o.2 (sym e))) in
-    let posts_here = any_from (λ q. does_wait_at Barrier 0 q p) 0 plan.workers o.0 (omega arith) (omega (arith, o.1)) (apart_waits o.0 p o.2) in (
-      ap (λ f. f p) parts.1 ∙ ap (λ k. is_awaited_behind k plan.workers v.loops (param_values tree) p) kind ∙ posts_here,
-      (waits.0, waits.1, ap (λ f. f p) parts.2 ∙ ap (λ k. awaited_behind k plan.workers v.loops (param_values tree) p) kind ∙ waits.2),
-    )
-
-pub all_from : {X : Type 0} (P : X → Type 0) (xs : List X) → ((t : ℕ) (x : X) → slice_get xs t ≡ Some x → P x) → All P xs
-all_from P [] h = All-nil P
-all_from P (x ∷ xs) h = All-cons P x xs (h 0 x refl) (all_from P xs (λ t y e. h (suc t) y e))
+    let awaited : awaits p ≡ filter (does_wait_at Barrier 0 p) (range_with_len 0 plan.workers) = ap (λ f. f p) parts.2 ∙ ap (λ k. awaited_behind k plan.workers v.loops (param_values tree) p) kind in
+    let each : (q : ℕ) → q < plan.workers → q ≢ p → Contains (awaits p) q = λ q below apart. subst (λ xs. Contains xs q) (sym awaited) (kept_among (does_wait_at Barrier 0 p) 0 plan.workers q (omega arith) (omega (arith, below)) (apart_waits p q (λ e. apart (sym e)))) in
+    let posts_here = any_from (λ q. does_wait_at Barrier 0 q p) 0 plan.workers o.0 (omega arith) (omega (arith, o.1)) (apart_waits o.0 p o.2) in record {
+      does_post = ap (λ f. f p) parts.1 ∙ ap (λ k. is_awaited_behind k plan.workers v.loops (param_values tree) p) kind ∙ posts_here;
+      some = first_among (awaits p) o.0 (each o.0 o.1 o.2);
+      each = each;
+    }
 
 pub await_settled : (cells : ℕ) (acts : List Act) (i o n : ℕ) → slice_get acts i ≡ Some (await counter o n) → settled cells acts i ≡ i
 await_settled cells acts i o n e =

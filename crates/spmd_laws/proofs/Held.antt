@@ -18,11 +18,12 @@ use Rattle.spmd_model.proofs.Shared as shared
 use Rattle.spmd_model.proofs.Runs.{printed_more, registers_more}
 use Rattle.spmd_model.proofs.Ends.{prints_whole}
 use Rattle.spmd_model.specs.Lawful.{act_line, printed_at}
-use Rattle.std.specs.List.{All, flat_map}
+use Rattle.std.specs.List.{flat_map}
 use Rattle.spmd_model.proofs.Counters as counters
 use Rattle.spmd_laws.specs.Laws.{Laws}
 use Rattle.spmd_laws.specs.Protocols.{Protocol, is_gathered, is_print}
-use Rattle.spmd_laws.proofs.Arrivals.{Joins, arrivals, await_behind, seen}
+use Rattle.spmd_laws.proofs.Arrivals.{arrivals, await_behind, seen}
+use Rattle.spmd_laws.proofs.Barriers.{AreAll, all_join, awaits_all, has_arrived}
 use Rattle.spmd_laws.proofs.Gathered.{await_settled, shows_less, shows_post}
 use Rattle.spmd_laws.proofs.Passed.{by_passed, first_settled, none_passed}
 
@@ -48,7 +49,7 @@ pub record Suits (m : Machine) (shared : ℕ) (gathered : ℕ → Bool) (last : 
   pub some : shared ≤ m.cells
   pub few : m.workers ≤ 64
   pub added : (p n place cell : ℕ) → act_at m p n ≡ Some (add place cell) → cell < shared
-  pub joins : (p : ℕ) → p < m.workers → All (Joins gathered p) m.timeline
+  pub all : AreAll m gathered
   pub arrive : (p n : ℕ) → arrivals gathered (take n (acts_of m p)) ≤ 2 ^ 40
   pub ends : take shared (last_memory m) ≡ last
   pub prints : whole_output m ≡ output
@@ -73,6 +74,7 @@ held m c gathered last output s =
     let sound = s.sound in
     let ordered = s.ordered in
     let whole : Protocol = protocol_along m c gathered last output in
+    let joins = all_join m gathered s.all in
     record {
       first = λ at none. shared.first m c at sound s.some none;
       first_settled = λ at settles. first_settled m c sound ordered s.some at settles;
@@ -91,9 +93,11 @@ held m c gathered last output s =
       posted = λ w p n on wanted k lt e.
           ((counters.awaited_post m w p n on wanted sound lt e).0, λ come. (counters.posted m w p n on wanted k sound lt e (no_less come (shows_less m gathered w on sound k))).1);
       shows = λ w q number k plain posted. shows_post m gathered w q sound number k posted.0 plain posted.2 posted.1;
-      arrival = λ p n number lt e g. let next = await_behind gathered p 0 m.timeline (s.joins p lt) n counter number e g in
+      arrival = λ p n number lt e g. let next = await_behind gathered p 0 m.timeline (joins p lt) n counter number e g in
           ap (λ i. is_gathered whole (act_at m p i)) (await_settled c (acts_of m p) (n + 1) next.0 number next.1) ∙ ap (is_gathered whole) next.1 ∙ g;
-      gathered = λ p n on wanted k lt e g. let below = (counters.awaited_post m counter p n on wanted sound lt e).0 in (below, λ le. seen gathered p on 0 m.timeline (s.joins p lt) (s.joins on below) n k counter on wanted e g le);
+      gathered = λ p n on wanted k lt e g. let below = (counters.awaited_post m counter p n on wanted sound lt e).0 in (below, λ le. seen gathered p on 0 m.timeline (joins p lt) (joins on below) n k counter on wanted e g le);
+      awaits_all = λ p q n on wanted lt below apart e g. awaits_all m gathered sound s.all p q n on wanted lt below apart e g;
+      arrived = λ p q n on wanted k lt below e g posted. has_arrived m gathered sound s.all p q n on wanted k lt below e g posted;
       few_workers = s.few;
       few_arrivals = λ p n. s.arrive p n;
       size = λ cells at lawful. lawful.count;

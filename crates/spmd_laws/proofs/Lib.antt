@@ -1,6 +1,7 @@
 mod Lists
 mod Passed
 mod Arrivals
+mod Barriers
 mod Gathered
 mod Held
 mod States

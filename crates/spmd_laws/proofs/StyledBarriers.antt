@@ -23,7 +23,8 @@ use Rattle.spmd_model.proofs.Parts.{passed_before}
 use Rattle.spmd_model.proofs.StyledPlaces.{Fronts, IsBoundaryIn, boundary_in, by_counters, by_signals, first_round}
 use Rattle.spmd_laws.specs.Viewed.{barriers_in_front}
 use Rattle.spmd_laws.proofs.Arrivals.{Joins, arrivals, await_reached, boundaries, post_reached, weights, weights-append}
-use Rattle.spmd_laws.proofs.Gathered.{all_from, joins_boundary, no_weight, parts_of}
+use Rattle.spmd_laws.proofs.Barriers.{AreAll, all_join}
+use Rattle.spmd_laws.proofs.Gathered.{all_at_boundary, no_weight, parts_of}
 
 -- a round stands on signals
 no_round : (workers first r n : ℕ) (posts : ℕ → Bool) (awaits : ℕ → List ℕ) → boundary counter n posts awaits ≡ round_boundary workers first r → ⊥
@@ -48,13 +49,12 @@ in_front_at style tree plan t n posts awaits at = by x.is
     by (by_counters plain first is) = record { number = x.number; visit = x.visit; at = x.at; place = omega (arith, x.place, first); plain = plain; is = is }
     by (by_signals held lt is) = absurd (no_round plan.workers (first_round plan (0 + passed_before style plan (phases tree plan.cut.marks) x.number)) x.spot n posts awaits is)
 
-pub joins_by : (style : Style) (tree : Tree) (plan : Plan) (p : ℕ) → p < plan.workers → All (Joins (gathers tree plan) p) (timeline_by style tree plan)
-joins_by style tree plan p inside = all_from (Joins (gathers tree plan) p) (timeline_by style tree plan) joins_at
-  where
-    joins_at : (t : ℕ) (x : Moment) → slice_get (timeline_by style tree plan) t ≡ Some x → Joins (gathers tree plan) p x
-    joins_at t (job j) at = tt
-    joins_at t (boundary signal n posts awaits) at = λ g. absurd (true≢false (sym g))
-    joins_at t (boundary counter n posts awaits) at = let f = in_front_at style tree plan t n posts awaits at in joins_boundary tree plan p f.number n f.visit posts awaits inside f.at f.is
+pub all_by : (style : Style) (tree : Tree) (plan : Plan) → AreAll (machine_by style tree plan) (gathers tree plan)
+all_by style tree plan t signal n p posts awaits at g inside = absurd (true≢false (sym g))
+all_by style tree plan t counter n p posts awaits at g inside = let f = in_front_at style tree plan t n posts awaits at in all_at_boundary tree plan p f.number n f.visit posts awaits inside f.at f.is g
+
+joins_by : (style : Style) (tree : Tree) (plan : Plan) (p : ℕ) → p < plan.workers → All (Joins (gathers tree plan) p) (timeline_by style tree plan)
+joins_by style tree plan p inside = all_join (machine_by style tree plan) (gathers tree plan) (all_by style tree plan) p inside
 
 -- ---- how many boundaries on counters there are
 

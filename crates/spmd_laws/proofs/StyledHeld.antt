@@ -20,7 +20,7 @@ use Rattle.spmd_laws.specs.Laws.{Laws}
 use Rattle.spmd_laws.specs.Styled.{AreLawfulBy, acts_by, loaded_by, printed_by, protocol_by, registers_by, stored_by}
 use Rattle.spmd_laws.proofs.Gathered.{arrive_few, phases_few}
 use Rattle.spmd_laws.proofs.Held.{held}
-use Rattle.spmd_laws.proofs.StyledBarriers.{joins_by, timeline_few}
+use Rattle.spmd_laws.proofs.StyledBarriers.{all_by, timeline_few}
 use Rattle.spmd_laws.proofs.StyledCells.{add_there}
 
 pub laws_by : (style : Style) (tree : Tree) (plan : Plan) → IsWellFormed tree → IsWithinLimits tree → IsInRange tree → IsFit tree plan → IsOrdered tree plan → Laws (protocol_by style tree plan)
@@ -32,7 +32,7 @@ laws_by style tree plan formed limits ranges fits ordered =
       some = omega arith;
       few = (fit_parts tree plan fits).few;
       added = λ p n place cell e. add_there style tree plan p n place cell formed fits e;
-      joins = λ p lt. joins_by style tree plan p lt;
+      all = all_by style tree plan;
       arrive = arrive_few (machine_by style tree plan) (gathers tree plan) (2 ^ 40) (let few = timeline_few style tree plan in let all = phases_few tree plan formed limits in omega (arith, few, all));
       ends = shared_last style tree plan formed fits ranges;
       prints = output_by style tree plan formed fits ranges;

@@ -1,5 +1,5 @@
 -- What holds of a protocol whose every interleaving is sequential, as the words that processors share cite it.
-use Rattle.std.specs.Prelude.{◌^◌, true, false, ℕ, ◌+◌, ◌≡◌, ◌≤◌, ◌<◌, ◌⊎◌, ℤ, pos, List, [], ◌∷◌, ◌++◌, Some, length, replicate, slice_set}
+use Rattle.std.specs.Prelude.{◌^◌, true, false, ℕ, ◌+◌, ◌≡◌, ◌≢◌, ◌≤◌, ◌<◌, ◌⊎◌, ℤ, pos, List, [], ◌∷◌, ◌++◌, Some, length, replicate, slice_set}
 use Rattle.nest_model.specs.Memory.{cell_value}
 use Rattle.spmd_model.specs.Cells.{plus}
 use Rattle.spmd_model.specs.Timelines.{Act, Word, counter, post, await, load, store, add, print}
@@ -48,6 +48,10 @@ pub record Laws (m : Protocol) : Type 0 where
   pub arrival : (p n number : ℕ) → p < m.workers → act_at m p n ≡ Some (post counter number) → m.gathers number ≡ true → is_gathered m (act_at m p (settled m.cells (m.acts p) (n + 1))) ≡ true
   -- who is awaited at a barrier is a processor, and it has done the post that is awaited once it has arrived as often as the one who awaits
   pub gathered : (p n on wanted k : ℕ) → p < m.workers → act_at m p n ≡ Some (await counter on wanted) → m.gathers wanted ≡ true → (on < m.workers) × (arrivals_at m p n ≤ arrivals_at m on k → IsPosted (m.acts on) counter wanted k)
+  -- who awaits somebody at a barrier awaits all others there
+  pub awaits_all : (p q n on wanted : ℕ) → p < m.workers → q < m.workers → q ≢ p → act_at m p n ≡ Some (await counter on wanted) → m.gathers wanted ≡ true → (i : ℕ) × (act_at m p i ≡ Some (await counter q wanted))
+  -- who has posted there has arrived as often as whoever awaits there
+  pub arrived : (p q n on wanted k : ℕ) → p < m.workers → q < m.workers → act_at m p n ≡ Some (await counter on wanted) → m.gathers wanted ≡ true → IsPosted (m.acts q) counter wanted k → arrivals_at m p n ≤ arrivals_at m q k
   -- 64 processors arrive at most 2 ^ 40 times each, so that all arrivals are counted on one word
   pub few_workers : m.workers ≤ 64
   pub few_arrivals : (p n : ℕ) → arrivals_at m p n ≤ 2 ^ 40
