@@ -23,15 +23,17 @@ use comm_system::phase::Phase;
 use comm_system::slot::Slot;
 use comm_system::slot_list::slots;
 use farkas_cert::Certificate;
+use maker_anchors::places::item_at;
 use nest_tree::Listed;
 use std::alloc::{AllocError, Global};
 use sync_plan::Kind;
 
-/// The kinds that stand in front of the phases of a plan, each by its place among its candidates, and
-/// the slots of the plan with accesses that conflict, with what is known of them.
+/// The phases of a plan, the kinds that stand in front of them, each by its place among its
+/// candidates, and the slots of the plan with accesses that conflict, with what is known of them.
 #[derive(Drop)]
 pub(crate) struct Search<'b, 'a> {
     problem: Problem<'b>,
+    phases: &'b [Phase<'a>],
     candidates: Vec<Listed<Kind>>,
     slots: Vec<SlotCache<'b, 'a>>,
     findings: Findings,
@@ -56,6 +58,20 @@ fn slot_caches<'b, 'a>(
     Ok(found)
 }
 
+// How many Outer loops stand round a phase.
+fn depth_of(phase: &Phase) -> usize {
+    phase.text.outer.as_slice().len()
+}
+
+// How many Outer loops stand round the deepest of these phases.
+fn greatest_depth(phases: &[Phase]) -> usize {
+    let mut greatest = 0;
+    for phase in phases {
+        greatest = greatest.max(depth_of(phase));
+    }
+    greatest
+}
+
 impl<'b, 'a> Search<'b, 'a> {
     /// At first a barrier, the last candidate, stands in front of each phase.
     pub(crate) fn new(
@@ -77,6 +93,7 @@ impl<'b, 'a> Search<'b, 'a> {
         let taken = last_places(alloc, candidates.as_slice())?;
         Ok(Search {
             problem,
+            phases,
             candidates,
             slots,
             findings,
@@ -186,14 +203,86 @@ impl<'b, 'a> Search<'b, 'a> {
         if changed { Ok(None) } else { Ok(Some(reasons)) }
     }
 
-    /// Passes until one changes nothing: its reasons. Each change takes an earlier candidate, so they
-    /// end.
+    // Whether a phase, by its place from 0, has more than so many Outer loops round it.
+    fn is_deeper(&self, phase: usize, depth: usize) -> bool {
+        match item_at(self.phases, phase) {
+            Some(phase) => depth < depth_of(phase),
+            None => false,
+        }
+    }
+
+    // The same of a phase with more than so many Outer loops round it; of another one nothing is taken.
+    fn settle_inside(
+        &mut self,
+        alloc: Global,
+        phase: usize,
+        depth: usize,
+    ) -> Result<bool, AllocError>
+        requires search { IsSearch self.old }
+        requires phase { phase < length self.old.taken.items }
+        ensures search { OnOk result (IsSearch self.new) }
+        ensures same { OnOk result (IsSameSearch self.old self.new) }
+        ensures taken { IfOk result (λ changed. changed ≡ false → self.new.taken.items ≡ self.old.taken.items) }
+        ensures weaker { IfOk result (λ changed. changed ≡ true → sum self.new.taken.items < sum self.old.taken.items) }
+    {
+        if !self.is_deeper(phase, depth) {
+            return Ok(false);
+        }
+        let mut reasons = Vec::new(alloc);
+        self.settle(alloc, phase, &mut reasons)
+    }
+
+    // A pass over the phases with more than so many Outer loops round them: whether it changed
+    // anything.
+    fn pass_inside(&mut self, alloc: Global, depth: usize) -> Result<bool, AllocError>
+        requires { IsSearch self.old }
+        ensures search { OnOk result (IsSearch self.new) }
+        ensures same { OnOk result (IsSameSearch self.old self.new) }
+        ensures weaker { IfOk result (λ changed. changed ≡ true → sum self.new.taken.items < sum self.old.taken.items) }
+    {
+        let mut changed = false;
+        for phase in 0..self.taken.len() {
+            if self.settle_inside(alloc, phase, depth)? {
+                changed = true;
+            }
+        }
+        Ok(changed)
+    }
+
+    // Such passes until one changes nothing.
+    fn settle_all_inside(&mut self, alloc: Global, depth: usize) -> Result<(), AllocError>
+        requires { IsSearch self.old }
+        ensures search { OnOk result (IsSearch self.new) }
+        ensures same { OnOk result (IsSameSearch self.old self.new) }
+    {
+        loop {
+            if !self.pass_inside(alloc, depth)? {
+                return Ok(());
+            }
+        }
+    }
+
+    // The deepest phases first, and then those with fewer and fewer Outer loops round them too.
+    fn settle_by_depth(&mut self, alloc: Global) -> Result<(), AllocError>
+        requires { IsSearch self.old }
+        ensures search { OnOk result (IsSearch self.new) }
+        ensures same { OnOk result (IsSameSearch self.old self.new) }
+    {
+        for depth in (0..greatest_depth(self.phases)).rev() {
+            self.settle_all_inside(alloc, depth)?;
+        }
+        Ok(())
+    }
+
+    /// Passes over the deepest phases first, and then over all until one changes nothing: its reasons.
+    /// Each change takes an earlier candidate, so they end.
     pub(crate) fn settle_all(&mut self, alloc: Global) -> Result<Vec<PhaseReason>, AllocError>
         requires { IsSearch self.old }
         ensures search { OnOk result (IsSearch self.new) }
         ensures same { OnOk result (IsSameSearch self.old self.new) }
         ensures reasons { IfOk result (λ reasons. AllZip (IsTrialReason self.new) (weaker_from 0 self.new.taken.items) reasons.items) }
     {
+        self.settle_by_depth(alloc)?;
         loop {
             if let Some(reasons) = self.pass(alloc)? {
                 return Ok(reasons);

@@ -17,7 +17,7 @@ use Rattle.plan_maker.proofs.search.Search.new.Goals as goal
 pub returns-clause-search : goal.returns-clause-search
 returns-clause-search c =
     let p = c.args.problem in
-    let s : Search = record { problem = p; candidates = c.in_ok-candidates.candidates; slots = c.in_ok-slots.slots; findings = c.args.findings; taken = c.in_ok-taken.taken } in
+    let s : Search = record { problem = p; phases = c.args.phases; candidates = c.in_ok-candidates.candidates; slots = c.in_ok-slots.slots; findings = c.args.findings; taken = c.in_ok-taken.taken } in
     let ps = phases_in p in
     let seen = map phase_seen c.args.phases.now in
     let marks = p.plan.now.cut.marks in
