@@ -6,11 +6,15 @@ ghost use Rattle.plan_checker.specs.declared.refusal.PlanRefusal.{PlanRefusal};
 ghost use Rattle.nest_tree.specs.View.{tree_of};
 ghost use Rattle.sync_plan.specs.Shape.{wrong_field};
 ghost use Rattle.comm_system.specs.GroupViews.{group_seen};
+ghost use Rattle.comm_system.specs.SystemViews.{obligations_seen};
 ghost use Rattle.plan_checker.specs.Certificates.{fault_in as stands_fault_in, fault_of as stands_fault_of, first_of};
 
 use crate::refusal::PlanRefusal;
 use comm_system::Obligation;
 use comm_system::group::Group;
+use comm_system::in_place::PairSystems;
+use comm_system::pair_systems::trips_obligation;
+use comm_system::subject::Subject;
 use farkas_cert::{CertRefusal, Certificate, check_cert};
 use nest_tree::Program;
 use rayon::prelude::*;
@@ -40,6 +44,25 @@ fn fault_of(
     }
 }
 
+// The first of a pair's obligations whose certificate is missing or bad: each is made in the place
+// of the one before.
+fn fault_in_place(
+    alloc: Global,
+    certificates: &[Certificate],
+    systems: &mut PairSystems,
+) -> Result<Option<PlanRefusal>, AllocError>
+    ensures { IfOk result (λ found. found ≡ first_of (stands_fault_of certificates.now) (obligations_seen systems.old)) }
+{
+    for index in 0..systems.count() {
+        systems.make(alloc, index)?;
+        let found = fault_of(alloc, certificates, systems.obligation())?;
+        if found.is_some() {
+            return Ok(found);
+        }
+    }
+    Ok(None)
+}
+
 // The first of a group's obligations whose certificate is missing or bad.
 fn fault_in(
     alloc: Global,
@@ -50,14 +73,18 @@ fn fault_in(
     requires { wrong_field (tree_of program.now) plan.now ≡ None }
     ensures { IfOk result (λ found. found ≡ stands_fault_in (tree_of program.now) plan.now (group_seen group.now)) }
 {
-    let obligations = group.obligations(alloc, program, plan)?;
-    for obligation in &obligations {
-        let found = fault_of(alloc, plan.certificates.as_slice(), obligation)?;
-        if found.is_some() {
-            return Ok(found);
+    let certificates = plan.certificates.as_slice();
+    let number = group.number;
+    match &group.subject {
+        Subject::Trips(phase, a, b) => {
+            let obligation = trips_obligation(alloc, program, plan, phase, a, b, number)?;
+            fault_of(alloc, certificates, &obligation)
+        }
+        Subject::Slot(slot, waits, a, b) => {
+            let mut systems = PairSystems::new(alloc, program, plan, slot, waits, a, b, number)?;
+            fault_in_place(alloc, certificates, &mut systems)
         }
     }
-    Ok(None)
 }
 
 // The same of several groups, one after the other.
