@@ -24,7 +24,8 @@ use Rattle.nest_walk.specs.declared.path.Path.{Path}
 use Rattle.nest_walk.specs.declared.table.LoadCells.{LoadCells}
 use Rattle.nest_walk.specs.declared.table.LoadCells.TheVariants.{Element, Array}
 use Rattle.nest_walk.specs.declared.table.WorkCells.{WorkCells}
-use Rattle.seq_meaning.specs.Loads.{cells_of_load, first_of_load, is_first_within, is_load_within, is_store_within}
+use Rattle.flat_code.specs.Lines.{first_of_load}
+use Rattle.seq_meaning.specs.Loads.{cells_of_load, is_first_within, is_load_within, is_store_within}
 
 -- the cells of a load, and whether it is in range
 abbrev loaded_cells : Tree → List ℤ → Loaded → List ℕ

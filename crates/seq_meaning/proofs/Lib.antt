@@ -7,3 +7,4 @@ pub mod Meanings
 pub mod RunSteps
 pub mod RunInstances
 pub mod Written
+pub mod TextAssigns

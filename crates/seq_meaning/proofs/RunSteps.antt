@@ -7,6 +7,8 @@ use Rattle.std.proofs.Props.{props}
 use Rattle.std.proofs.lemmas.Bool.{and_from, and_parts, cases_Bool, eqb-true, leb-true, ltb-true}
 use Rattle.std.proofs.lemmas.Bool.Decides.{nat_tests}
 use Rattle.std.proofs.lemmas.List.{drop_all, length-map, take_all}
+use Rattle.std.proofs.lemmas.List.Elements.{All-get_or}
+use Rattle.std.proofs.lemmas.Option.{get_or_from_slice_get, slice_get_within}
 use Rattle.std.proofs.lemmas.List.FromFn.{length-range_with_len}
 use Rattle.std.proofs.lemmas.List.Sums.{sum_by-cons}
 use Rattle.nest_tree.specs.Form.{numbered}
@@ -35,7 +37,12 @@ use Rattle.nest_walk.proofs.PlacedWorks.{standing-good, standing-number, standin
 use Rattle.nest_walk.proofs.ByNumberLists.{with_rounds-length, with_rounds-numbered}
 use Rattle.seq_meaning.specs.Executions.{IsPlacedWork, loaded_at, memory_behind}
 use Rattle.seq_meaning.specs.Lines.{has_text, item_load_count, items_load_count}
-use Rattle.seq_meaning.specs.Loads.{cells_of_load, first_of_load, is_first_within, is_load_within, is_store_within}
+use Rattle.flat_code.specs.Codes.{IsCodeOf, registers_of}
+use Rattle.flat_code.specs.CodeTables.{IsCodeTable, codes_of, most_registers}
+use Rattle.flat_code.specs.Lines.{first_of_load}
+use Rattle.flat_code.specs.declared.code.Code.{Code}
+use Rattle.flat_code.specs.declared.table.CodeTable.{CodeTable}
+use Rattle.seq_meaning.specs.Loads.{cells_of_load, is_first_within, is_load_within, is_store_within}
 use Rattle.seq_meaning.proofs.Found.{Found, FoundFirsts, assign_firsts, work_found}
 use Rattle.seq_meaning.proofs.Meanings.{good_has_value, value_same}
 
@@ -227,3 +234,27 @@ module _ (tree : Tree) (path : Path) (number : ℕ) (s : Statement) (placed : Is
   firsts_within a loads found memory read values listed long same depth is =
       ap (λ n. list_all (is_first_within n values) listed) (ap (λ (m : List ℤ). length m) same ∙ long) ∙ ap (λ vs. list_all (is_first_within (cell_count tree) vs) listed) depth
       ∙ ap (list_all (is_first_within (cell_count tree) (by_depth (rounds_of path)))) is ∙ found.within
+
+  -- it names what is there
+  pub placed-valued : IsWellFormed tree → (a : Assignment) → placed.what ≡ assign a → (written : List ℤ) → (loops params : List ℤ) → loops_of tree.items ≤ length written → loops ≡ with_rounds written (rounds_of path) → params ≡ param_values tree →
+      has_value (length loops) (length params) a.value ≡ true
+  placed-valued formed a what written loops params long here constants =
+      let good = sym (ap (is_good_work (scope_of tree) (numbers_of (rounds_of path))) what) ∙ placed-good formed in
+      ap (λ (xs : List ℤ). has_value (length xs) (length params) a.value) here ∙ ap (λ (xs : List ℤ). has_value (length (with_rounds written (rounds_of path))) (length xs) a.value) constants
+      ∙ assign_valued tree (rounds_of path) placed.numbered written long a good
+
+  -- the value of its code is what it assigns
+  pub assign_here : IsWellFormed tree → (a : Assignment) → placed.what ≡ assign a → (code : Code) → IsCodeOf a.value code → (written loops params registers memory : List ℤ) (v : ℤ) → loops_of tree.items ≤ length written →
+      loops ≡ with_rounds written (rounds_of path) → params ≡ param_values tree → take (length (loads_in a.value)) registers ≡ loaded_at tree (loops_in tree (rounds_of path)) (assign a) memory →
+      v ≡ value_of a.value loops params (take code.loads registers) → v ≡ assigned tree (loops_in tree (rounds_of path)) placed.what (loaded_at tree (loops_in tree (rounds_of path)) placed.what memory)
+  assign_here formed a what code is written loops params registers memory v long here constants loaded given =
+      let good = sym (ap (is_good_work (scope_of tree) (numbers_of (rounds_of path))) what) ∙ placed-good formed in
+      let by_number = loops_in tree (rounds_of path) in
+      given ∙ ap (λ xs. value_of a.value xs params (take code.loads registers)) here ∙ ap (λ xs. value_of a.value (with_rounds written (rounds_of path)) xs (take code.loads registers)) constants
+      ∙ ap (λ n. value_of a.value (with_rounds written (rounds_of path)) (param_values tree) (take n registers)) is.loads ∙ ap (value_of a.value (with_rounds written (rounds_of path)) (param_values tree)) loaded
+      ∙ assign_same tree (rounds_of path) placed.numbered written long a (loaded_at tree by_number (assign a) memory) good ∙ ap (λ w. assigned tree by_number w (loaded_at tree by_number w memory)) (sym what)
+
+-- a code has room in the registers
+pub code_room : (tree : Tree) (codes : CodeTable) (code : Code) (n : ℕ) → IsCodeTable tree codes → slice_get (codes_of codes) n ≡ Some code → registers_of code ≤ most_registers codes
+code_room tree codes code n are at =
+    subst (λ c. registers_of c ≤ most_registers codes) (get_or_from_slice_get (codes_of codes) n code code at) (All-get_or (λ c. registers_of c ≤ most_registers codes) (codes_of codes) n code (slice_get_within (codes_of codes) n code at) are.room)

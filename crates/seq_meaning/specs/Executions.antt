@@ -14,6 +14,7 @@ use Rattle.nest_walk.specs.Paths.{Round}
 use Rattle.nest_walk.specs.Places.{numbers_of}
 use Rattle.nest_walk.specs.Tables.{IsCellTable}
 use Rattle.nest_walk.specs.Texts.{StandFrom, works}
+use Rattle.flat_code.specs.CodeTables.{IsCodeTable, most_registers}
 use Rattle.seq_meaning.specs.declared.run.Run.{Run}
 
 -- what its loads give in a memory
@@ -40,7 +41,9 @@ pub record IsPlacedWork (tree : Tree) (rounds : List Round) (number : ℕ) (s : 
 pub record IsReady (run : Run) : Type 0 where
   pub table : IsCellTable (tree_of run.program.now) run.table
   pub params : run.params.items ≡ param_values (tree_of run.program.now)
+  pub codes : IsCodeTable (tree_of run.program.now) run.codes
   pub loops : loops_of (tree_of run.program.now).items ≤ length run.loops.items
+  pub registers : most_registers run.codes ≤ length run.registers.items
   pub memory : length run.memory.items ≡ cell_count (tree_of run.program.now)
 
 -- its values of loops by number are those of these loops, and of others whatever they were

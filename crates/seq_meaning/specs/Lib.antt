@@ -3,4 +3,3 @@ pub mod Lines
 pub mod Loads
 pub mod Executions
 pub mod Room
-pub mod Sources

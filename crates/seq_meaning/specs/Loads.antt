@@ -2,6 +2,7 @@
 use Rattle.std.specs.Prelude.{ℕ, ◌+◌, ℤ, Bool, nat_le, nat_lt, List, [], ◌∷◌}
 use Rattle.std.specs.List.{range_with_len}
 use Rattle.nest_walk.specs.CellForms.{cell_at}
+use Rattle.flat_code.specs.Lines.{first_of_load}
 use Rattle.nest_walk.specs.declared.cells.CellForm.{CellForm}
 use Rattle.nest_walk.specs.declared.table.LoadCells.{LoadCells}
 use Rattle.nest_walk.specs.declared.table.LoadCells.TheVariants.{Element, Array}
@@ -20,11 +21,6 @@ is_load_within cells values (Array first count) = nat_le (first + count) cells
 abbrev pub is_store_within : ℕ → List ℤ → CellForm → Bool
 is_store_within cells values form = nat_lt (cell_at form values) cells
 
--- the first cell of a load
-abbrev pub first_of_load : List ℤ → LoadCells → ℕ
-first_of_load values (Element form) = cell_at form values
-first_of_load values (Array first count) = first
-
--- it is among so many
+-- the first cell of a load is among so many
 abbrev pub is_first_within : ℕ → List ℤ → LoadCells → Bool
 is_first_within cells values load = nat_lt (first_of_load values load) cells

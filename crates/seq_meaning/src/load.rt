@@ -1,12 +1,12 @@
 // Loads and stores of cells.
 
-ghost use Rattle.std.specs.Prelude.{◌≡◌, ◌++◌, IsTrue, OnOk, length, map};
+ghost use Rattle.std.specs.Prelude.{◌≡◌, ◌++◌, ◌≤◌, IsTrue, OnOk, length, map, take};
 ghost use Rattle.std.specs.List.{flat_map, list_all};
-ghost use Rattle.std.specs.Option.{option_to_list};
 ghost use Rattle.nest_model.specs.Memory.{cell_value};
-ghost use Rattle.seq_meaning.specs.Loads.{cells_of_load, first_of_load, is_load_within, is_store_within};
+ghost use Rattle.flat_code.specs.Lines.{first_of_load};
+ghost use Rattle.seq_meaning.specs.Loads.{cells_of_load, is_first_within, is_load_within};
 
-use nest_walk::{CellForm, LoadCells, MOST_LOOPS};
+use nest_walk::{LoadCells, MOST_LOOPS};
 use std::alloc::AllocError;
 
 // What loads give in a memory where the loops have these values by depth.
@@ -46,6 +46,24 @@ fn push_loaded(
             loaded.extend_from_slice(&memory[first..][..*count as usize])?;
             Ok(())
         }
+    }
+}
+
+// What the first cells of loads hold where the loops have these values by depth, into the first
+// registers.
+pub(crate) fn load_firsts(
+    memory: &[i64],
+    loads: &[LoadCells],
+    values: &[i64; MOST_LOOPS],
+    registers: &mut [i64],
+)
+    requires there { IsTrue (list_all (is_first_within (length memory.now) values.now) loads.now) }
+    requires room { length loads.now ≤ length registers.old }
+    ensures loaded { take (length loads.now) registers.new ≡ map (λ l. cell_value memory.now (first_of_load values.now l)) loads.now }
+    ensures room { length registers.new ≡ length registers.old }
+{
+    for (k, load) in loads.iter().enumerate() {
+        registers[k] = memory[first_cell(load, values)];
     }
 }
 

@@ -1,13 +1,11 @@
 // The sequential run.
 
-ghost use Rattle.std.specs.Prelude.{◌≡◌, ◌++◌, ℕ, IfOk, IsTrue, OnOk, Option, fold};
+ghost use Rattle.std.specs.Prelude.{◌≡◌, ◌++◌, IfOk, IsTrue, OnOk, fold};
 ghost use Rattle.std.specs.List.{list_all};
 ghost use Rattle.nest_tree.specs.Limits.{IsWithinLimits};
-ghost use Rattle.nest_tree.specs.Tree.{Work, work};
+ghost use Rattle.nest_tree.specs.Tree.{Assignment, Work, assign, work};
 ghost use Rattle.nest_tree.specs.View.{statement_of, tree_of};
 ghost use Rattle.nest_tree.specs.WellFormed.{IsWellFormed};
-ghost use Rattle.nest_tree.specs.declared.tree.Access.{Access};
-ghost use Rattle.nest_tree.specs.declared.tree.Guard.{Guard};
 ghost use Rattle.nest_model.specs.Memory.{last_memory, memory_after, output_from, output_of};
 ghost use Rattle.nest_model.specs.Ranges.{IsInRange, is_instance_inside};
 ghost use Rattle.nest_walk.specs.CellForms.{cell_at};
@@ -16,10 +14,11 @@ ghost use Rattle.nest_walk.specs.InstancesLeft.{instances_left, instances_tree};
 ghost use Rattle.nest_walk.specs.Strips.{strip_left, strip_tree};
 ghost use Rattle.nest_walk.specs.RoundsOf.{rounds_of};
 
-use crate::load::load;
+use crate::load::{load, load_firsts};
 use crate::output::Output;
-use crate::value::{Given, Source, Valuation};
-use nest_tree::{Expr, Item, Program};
+use crate::value::Given;
+use flat_code::{CodeTable, run_code};
+use nest_tree::{Item, Program};
 use nest_walk::{CellTable, Instances, Path, Stop, Strip};
 use std::alloc::{AllocError, Global};
 
@@ -41,14 +40,16 @@ pub fn run_sequential(alloc: Global, program: &Program) -> Result<(Vec<i64>, Out
     Ok((memory, output))
 }
 
-/// A run: the program with its cells, the values of its named constants and of loops by number,
-/// what the last loads gave, memory and the output.
+/// A run: the program with its cells and codes, the values of its named constants and of loops by
+/// number, registers, what the last PRINT loaded, memory and the output.
 #[derive(Drop)]
 struct Run<'a> {
     program: &'a Program,
     table: CellTable,
+    codes: CodeTable,
     params: Vec<i64>,
     loops: Vec<i64>,
+    registers: Vec<i64>,
     loaded: Vec<i64>,
     memory: Vec<i64>,
     output: Output,
@@ -72,11 +73,15 @@ impl<'a> Run<'a> {
         for parameter in &program.params {
             params.push(parameter.value)?;
         }
+        let codes = CodeTable::new(alloc, program)?;
+        let most = codes.registers() as usize;
         Ok(Run {
             program,
             table: CellTable::new(alloc, program)?,
+            codes,
             params,
             loops: vec![in alloc; 0; MOST_STATEMENTS]?,
+            registers: vec![in alloc; 0; most]?,
             loaded: Vec::new(alloc),
             memory: vec![in alloc; 0; program.cell_count() as usize]?,
             output: Output::new(alloc),
@@ -119,22 +124,21 @@ impl<'a> Run<'a> {
     {
         let mut left = strip;
         let stop = left.stop();
-        let e = left.value();
         let place = left.number() as usize - 1;
         left.path().write_to(&mut self.loops);
         while let Some(value) = left.next() {
             self.loops[place] = value;
-            self.assign(stop, e, left.path());
+            self.assign(stop, left.path());
         }
     }
 
     // The execution of an assignment with these loops round it, whose values are written.
-    fn assign(&mut self, stop: Stop, e: &Expr, path: &Path)
+    fn assign(&mut self, stop: Stop, path: &Path)
         requires formed { IsWellFormed (tree_of self.old.program.now) }
         requires ready { IsReady self.old }
         requires written { IsWritten self.old (rounds_of path.now) }
         requires placed { IsPlacedWork (tree_of self.old.program.now) (rounds_of path.now) stop.first (statement_of stop.item.now) }
-        requires statement { (target : Access) × (guard : Option Guard) × (line : ℕ) × (stop.item.now ≡ Item.Assign target e.now guard line) }
+        requires statement { (a : Assignment) × (statement_of stop.item.now ≡ work (assign a)) }
         ensures ready { IsReady self.new }
         ensures program { self.new.program.now ≡ self.old.program.now }
         ensures loops { self.new.loops.items ≡ self.old.loops.items }
@@ -142,16 +146,14 @@ impl<'a> Run<'a> {
         ensures output { self.new.output.bytes ≡ self.old.output.bytes }
     {
         let cells = self.table.work(stop.first);
-        let valuation = Valuation {
-            loops: &self.loops,
-            params: &self.params,
-            source: Source::Memory {
-                memory: &self.memory,
-                loads: &cells.loads,
-                values: path.values(),
-            },
-        };
-        let value = valuation.value(e, &mut 0);
+        let code = self.codes.work(stop.first);
+        load_firsts(
+            &self.memory,
+            &cells.loads,
+            path.values(),
+            &mut self.registers,
+        );
+        let value = run_code(code, &self.loops, &self.params, &mut self.registers);
         if let Some(form) = &cells.store {
             self.memory[form.at(path.values())] = value;
         }
@@ -169,8 +171,8 @@ impl<'a> Run<'a> {
     {
         path.write_to(&mut self.loops);
         match stop.item {
-            Item::Assign(_, e, _, _) => {
-                self.assign(stop, e, path);
+            Item::Assign(..) => {
+                self.assign(stop, path);
                 Ok(())
             }
             Item::Print(items, _) => {

@@ -1,17 +1,12 @@
 // The value of an expression.
 
-ghost use Rattle.std.specs.Prelude.{◌≡◌, ◌+◌, ◌≤◌, ◌<◌, IsTrue, drop, length, map, slice_index_or, ℤ, pos, ◌+ℤ◌, ◌-ℤ◌, ◌*ℤ◌, neg_ℤ, unsigned_abs};
-ghost use Rattle.std.specs.List.{list_all};
+ghost use Rattle.std.specs.Prelude.{◌≡◌, ◌+◌, ◌≤◌, ◌<◌, IsTrue, drop, length, slice_index_or, pos};
 ghost use Rattle.nest_tree.specs.Loads.{loads_among, loads_in};
-ghost use Rattle.nest_tree.specs.Values.{quotient, wrapped};
 ghost use Rattle.nest_tree.specs.View.{expression_of, expressions_from};
-ghost use Rattle.nest_model.specs.Memory.{cell_value};
-ghost use Rattle.seq_meaning.specs.Loads.{first_of_load, is_first_within};
 ghost use Rattle.nest_model.specs.Meaning.{greatest, has_value, have_values, least, value_of, values_of};
 
-use crate::load::first_cell;
+use flat_code::arithmetic::{difference, negated, product, sum, truncated_quotient};
 use nest_tree::Expr;
-use nest_walk::{LoadCells, MOST_LOOPS};
 
 /// The value of an expression, in whole numbers of 64 bits: sums, differences, negatives and
 /// products wrap (modulo 2^64), and a quotient is truncated toward zero (ANSI X3.9-1978, 6.1.5),
@@ -43,109 +38,18 @@ pub struct Given<'a> {
 
 impl Given<'_> {
     // The value of an expression whose loads gave what stands from `at` on, which moves past them.
+    #[cycle(value)]
     pub(crate) fn value(&self, e: &Expr, at: &mut usize) -> i64
         requires valued { IsTrue (has_value (length self.now.loops.now) (length self.now.params.now) (expression_of e.now)) }
         requires loads { length (loads_in (expression_of e.now)) ≤ length (drop at.old self.now.loaded.now) }
         ensures value { result ≡ value_of (expression_of e.now) self.now.loops.now self.now.params.now (drop at.old self.now.loaded.now) }
         ensures rest { drop at.new self.now.loaded.now ≡ drop (length (loads_in (expression_of e.now))) (drop at.old self.now.loaded.now) }
     {
-        let valuation = Valuation {
-            loops: self.loops,
-            params: self.params,
-            source: Source::Values(self.loaded),
-        };
-        valuation.value(e, at)
-    }
-}
-
-// Where loads find their values, in text order.
-#[derive(Clone, Copy)]
-pub(crate) enum Source<'a> {
-    // In a list.
-    Values(&'a [i64]),
-    // In a memory, each in its first cell where the loops have these values by depth.
-    Memory {
-        memory: &'a [i64],
-        loads: &'a [LoadCells],
-        values: &'a [i64; MOST_LOOPS],
-    },
-}
-
-impl Source<'_> {
-    ghost use Rattle.seq_meaning.specs.Sources.{are_there, found_in};
-
-    // What the load with this number finds, from 0; the number goes to the next.
-    fn next(&self, at: &mut usize) -> i64
-        requires there { IsTrue (are_there self.now) }
-        requires some { at.old < length (found_in self.now) }
-        ensures value { result ≡ slice_index_or (drop at.old (found_in self.now)) 0 (pos 0) }
-        ensures moved { at.new ≡ at.old + 1 }
-    {
-        match self {
-            Source::Values(values) => listed(values, at),
-            Source::Memory {
-                memory,
-                loads,
-                values,
-            } => remembered(memory, loads, values, at),
-        }
-    }
-}
-
-// The value with this number of a list.
-fn listed(values: &[i64], at: &mut usize) -> i64
-    requires { at.old < length values.now }
-    ensures value { result ≡ slice_index_or (drop at.old values.now) 0 (pos 0) }
-    ensures moved { at.new ≡ at.old + 1 }
-{
-    let value = values[*at];
-    *at += 1;
-    value
-}
-
-// What a memory has in the first cell of the load with this number.
-fn remembered(
-    memory: &[i64],
-    loads: &[LoadCells],
-    values: &[i64; MOST_LOOPS],
-    at: &mut usize,
-) -> i64
-    requires there { IsTrue (list_all (is_first_within (length memory.now) values.now) loads.now) }
-    requires some { at.old < length loads.now }
-    ensures value { result ≡ slice_index_or (drop at.old (map (λ l. cell_value memory.now (first_of_load values.now l)) loads.now)) 0 (pos 0) }
-    ensures moved { at.new ≡ at.old + 1 }
-{
-    let load = &loads[*at];
-    *at += 1;
-    memory[first_cell(load, values)]
-}
-
-// What expressions are evaluated from: the values of loops and of named constants by number, and
-// where loads find theirs.
-#[derive(Clone, Copy)]
-pub(crate) struct Valuation<'a> {
-    pub(crate) loops: &'a [i64],
-    pub(crate) params: &'a [i64],
-    pub(crate) source: Source<'a>,
-}
-
-impl Valuation<'_> {
-    ghost use Rattle.seq_meaning.specs.Sources.{are_there, found_in};
-
-    // The value of an expression whose loads have the numbers from `at` on, which moves past them.
-    #[cycle(value)]
-    pub(crate) fn value(&self, e: &Expr, at: &mut usize) -> i64
-        requires valued { IsTrue (has_value (length self.now.loops.now) (length self.now.params.now) (expression_of e.now)) }
-        requires there { IsTrue (are_there self.now.source) }
-        requires loads { length (loads_in (expression_of e.now)) ≤ length (drop at.old (found_in self.now.source)) }
-        ensures value { result ≡ value_of (expression_of e.now) self.now.loops.now self.now.params.now (drop at.old (found_in self.now.source)) }
-        ensures rest { drop at.new (found_in self.now.source) ≡ drop (length (loads_in (expression_of e.now))) (drop at.old (found_in self.now.source)) }
-    {
         match e {
             Expr::Number(n) => *n,
             Expr::LoopValue(l) => self.loops[*l as usize - 1],
             Expr::Param(p) => self.params[*p as usize - 1],
-            Expr::Load(_) => self.source.next(at),
+            Expr::Load(_) => listed(self.loaded, at),
             Expr::Neg(a) => negated(self.operand(a, at)),
             Expr::Add(a, b) => {
                 let x = self.operand(a, at);
@@ -170,16 +74,15 @@ impl Valuation<'_> {
     #[inline(always)]
     fn operand(&self, e: &Expr, at: &mut usize) -> i64
         requires valued { IsTrue (has_value (length self.now.loops.now) (length self.now.params.now) (expression_of e.now)) }
-        requires there { IsTrue (are_there self.now.source) }
-        requires loads { length (loads_in (expression_of e.now)) ≤ length (drop at.old (found_in self.now.source)) }
-        ensures value { result ≡ value_of (expression_of e.now) self.now.loops.now self.now.params.now (drop at.old (found_in self.now.source)) }
-        ensures rest { drop at.new (found_in self.now.source) ≡ drop (length (loads_in (expression_of e.now))) (drop at.old (found_in self.now.source)) }
+        requires loads { length (loads_in (expression_of e.now)) ≤ length (drop at.old self.now.loaded.now) }
+        ensures value { result ≡ value_of (expression_of e.now) self.now.loops.now self.now.params.now (drop at.old self.now.loaded.now) }
+        ensures rest { drop at.new self.now.loaded.now ≡ drop (length (loads_in (expression_of e.now))) (drop at.old self.now.loaded.now) }
     {
         match e {
             Expr::Number(n) => *n,
             Expr::LoopValue(l) => self.loops[*l as usize - 1],
             Expr::Param(p) => self.params[*p as usize - 1],
-            Expr::Load(_) => self.source.next(at),
+            Expr::Load(_) => listed(self.loaded, at),
             _ => self.value(e, at),
         }
     }
@@ -189,10 +92,9 @@ impl Valuation<'_> {
     fn least(&self, arguments: &[Expr], at: &mut usize) -> i64
         requires some { 0 < length arguments.now }
         requires valued { IsTrue (have_values (length self.now.loops.now) (length self.now.params.now) (expressions_from arguments.now)) }
-        requires there { IsTrue (are_there self.now.source) }
-        requires loads { length (loads_among (expressions_from arguments.now)) ≤ length (drop at.old (found_in self.now.source)) }
-        ensures value { result ≡ least (values_of (expressions_from arguments.now) self.now.loops.now self.now.params.now (drop at.old (found_in self.now.source))) }
-        ensures rest { drop at.new (found_in self.now.source) ≡ drop (length (loads_among (expressions_from arguments.now))) (drop at.old (found_in self.now.source)) }
+        requires loads { length (loads_among (expressions_from arguments.now)) ≤ length (drop at.old self.now.loaded.now) }
+        ensures value { result ≡ least (values_of (expressions_from arguments.now) self.now.loops.now self.now.params.now (drop at.old self.now.loaded.now)) }
+        ensures rest { drop at.new self.now.loaded.now ≡ drop (length (loads_among (expressions_from arguments.now))) (drop at.old self.now.loaded.now) }
     {
         let mut best = self.value(&arguments[0], at);
         for e in &arguments[1..] {
@@ -206,10 +108,9 @@ impl Valuation<'_> {
     fn greatest(&self, arguments: &[Expr], at: &mut usize) -> i64
         requires some { 0 < length arguments.now }
         requires valued { IsTrue (have_values (length self.now.loops.now) (length self.now.params.now) (expressions_from arguments.now)) }
-        requires there { IsTrue (are_there self.now.source) }
-        requires loads { length (loads_among (expressions_from arguments.now)) ≤ length (drop at.old (found_in self.now.source)) }
-        ensures value { result ≡ greatest (values_of (expressions_from arguments.now) self.now.loops.now self.now.params.now (drop at.old (found_in self.now.source))) }
-        ensures rest { drop at.new (found_in self.now.source) ≡ drop (length (loads_among (expressions_from arguments.now))) (drop at.old (found_in self.now.source)) }
+        requires loads { length (loads_among (expressions_from arguments.now)) ≤ length (drop at.old self.now.loaded.now) }
+        ensures value { result ≡ greatest (values_of (expressions_from arguments.now) self.now.loops.now self.now.params.now (drop at.old self.now.loaded.now)) }
+        ensures rest { drop at.new self.now.loaded.now ≡ drop (length (loads_among (expressions_from arguments.now))) (drop at.old self.now.loaded.now) }
     {
         let mut best = self.value(&arguments[0], at);
         for e in &arguments[1..] {
@@ -219,33 +120,13 @@ impl Valuation<'_> {
     }
 }
 
-fn negated(a: i64) -> i64
-    ensures { result ≡ wrapped (neg_ℤ a) }
+// The value with this number of a list.
+fn listed(values: &[i64], at: &mut usize) -> i64
+    requires { at.old < length values.now }
+    ensures value { result ≡ slice_index_or (drop at.old values.now) 0 (pos 0) }
+    ensures moved { at.new ≡ at.old + 1 }
 {
-    a.wrapping_neg()
-}
-
-fn sum(a: i64, b: i64) -> i64
-    ensures { result ≡ wrapped (a +ℤ b) }
-{
-    a.wrapping_add(b)
-}
-
-fn difference(a: i64, b: i64) -> i64
-    ensures { result ≡ wrapped (a -ℤ b) }
-{
-    a.wrapping_sub(b)
-}
-
-fn product(a: i64, b: i64) -> i64
-    ensures { result ≡ wrapped (a *ℤ b) }
-{
-    a.wrapping_mul(b)
-}
-
-fn truncated_quotient(a: i64, divisor: i64) -> i64
-    requires { 0 < unsigned_abs divisor }
-    ensures { result ≡ quotient a divisor }
-{
-    a.wrapping_div(divisor)
+    let value = values[*at];
+    *at += 1;
+    value
 }

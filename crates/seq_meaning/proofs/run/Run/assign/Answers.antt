@@ -1,17 +1,19 @@
-use Rattle.std.proofs.Common.{◌≡◌, ℤ, List, length, map, set, w64, FitsSigned, to_z, of_z, ap, sym, ◌∙◌, subst, rules, arith}
+use Rattle.std.proofs.Common.{◌≡◌, ◌+◌, ◌-◌, ◌≤◌, ℤ, List, [], ◌∷◌, length, set, take, w64, FitsSigned, to_z, of_z, ap, sym, ◌∙◌, subst, rules, arith}
+use Rattle.std.specs.Vec.{with_items}
 use Rattle.std.proofs.lemmas.Int.{to_z-of_z}
-use Rattle.nest_tree.specs.Tree.{Assignment, assign, param_values}
-use Rattle.nest_tree.specs.View.{expression_of, statement_of, tree_of}
-use Rattle.nest_tree.specs.WellFormed.{is_good_work, scope_of}
-use Rattle.nest_model.specs.Meaning.{has_value, value_of}
-use Rattle.nest_model.specs.Memory.{assigned, cell_value}
-use Rattle.nest_walk.specs.ByNumber.{with_rounds}
+use Rattle.std.proofs.lemmas.List.{length-set}
+use Rattle.nest_tree.specs.Loads.{loads_in}
+use Rattle.nest_tree.specs.Tree.{assign, work}
+use Rattle.nest_tree.specs.View.{statement_of, tree_of}
 use Rattle.nest_walk.specs.Cursors.{loops_in}
 use Rattle.nest_walk.specs.Places.{numbers_of}
 use Rattle.nest_walk.specs.RoundsOf.{rounds_of}
-use Rattle.seq_meaning.specs.Loads.{first_of_load}
+use Rattle.nest_walk.specs.Texts.{StandFrom, works}
+use Rattle.nest_walk.specs.declared.table.LoadCells.{LoadCells}
+use Rattle.flat_code.specs.CodeTables.{HasCode, codes_of, most_registers}
 use Rattle.seq_meaning.specs.Executions.{loaded_at, memory_behind}
-use Rattle.seq_meaning.proofs.RunSteps.{assign_count, assign_same, assign_valued, firsts_are, firsts_within, no_store, placed-firsts, placed-found, placed-good, placed-high, placed-low, same_work, store_is, store_within}
+use Rattle.seq_meaning.proofs.RunSteps.{assign_here, code_room, firsts_are, firsts_within, no_store, placed-firsts, placed-found, placed-high, placed-low, placed-valued, same_work, store_is, store_within, written_back}
+use Rattle.seq_meaning.proofs.TextAssigns.{text-code, text-high, text-loads}
 use Rattle.seq_meaning.proofs.run.Run.assign.Goals as goal
 
 pub work-cells-requires-clause-low : goal.work-cells-requires-clause-low
@@ -22,54 +24,93 @@ pub work-cells-requires-clause-high : goal.work-cells-requires-clause-high
 work-cells-requires-clause-high c =
     placed-high (tree_of c.args.self.now.program.now) c.args.path.now c.args.stop.first (statement_of c.args.stop.item.now) c.requires.placed c.args.self.now.table c.requires.ready.table
 
-pub value-value-requires-clause-valued : goal.value-value-requires-clause-valued
-value-value-requires-clause-valued c =
+pub work-code-requires-clause-high : goal.work-code-requires-clause-high
+work-code-requires-clause-high c =
     let tree = tree_of c.args.self.now.program.now in
     let path = c.args.path.now in
     let number = c.args.stop.first in
     let s = statement_of c.args.stop.item.now in
     let placed = c.requires.placed in
+    let a = c.requires.statement.0 in
+    let what = same_work placed.what (assign a) (sym placed.is ∙ c.requires.statement.1) in
+    let text = subst (λ w. StandFrom (works tree) number (record { what = work w; around = numbers_of (rounds_of path) } ∷ [])) what placed.text in
+    text-high tree (numbers_of (rounds_of path)) number a text HasCode (codes_of c.args.self.now.codes) c.requires.ready.codes.each
+
+pub load_firsts-requires-clause-there : goal.load_firsts-requires-clause-there
+load_firsts-requires-clause-there c =
+    let tree = tree_of c.args.self.now.program.now in
+    let path = c.args.path.now in
+    let number = c.args.stop.first in
+    let s = statement_of c.args.stop.item.now in
+    let placed = c.requires.placed in
+    let a = c.requires.statement.0 in
+    let what = same_work placed.what (assign a) (sym placed.is ∙ c.requires.statement.1) in
     let cells = c.work-cells.result.now in
-    let st = c.requires.statement in
-    let a : Assignment = record { target = st.0; value = expression_of c.args.e.now; guard = st.1; line = st.2 } in
-    let what = same_work placed.what (assign a) (sym placed.is ∙ ap statement_of st.3) in
-    let good = sym (ap (is_good_work (scope_of tree) (numbers_of (rounds_of path))) what) ∙ placed-good tree path number s placed c.requires.formed in
+    let firsts = placed-firsts tree path number s placed a what c.args.self.now.table cells c.requires.ready.table c.work-cells.ensures in
+    firsts_within tree path number s placed a cells.loads.items firsts c.args.self.now.memory.items c.deref.result.now c.values.result.now c.deref-2.result.now c.requires.ready.memory c.deref.ensures.value c.values.ensures c.deref-2.ensures.value
+
+pub load_firsts-requires-clause-room : goal.load_firsts-requires-clause-room
+load_firsts-requires-clause-room c =
+    let tree = tree_of c.args.self.now.program.now in
+    let path = c.args.path.now in
+    let number = c.args.stop.first in
+    let s = statement_of c.args.stop.item.now in
+    let placed = c.requires.placed in
+    let a = c.requires.statement.0 in
+    let what = same_work placed.what (assign a) (sym placed.is ∙ c.requires.statement.1) in
+    let cells = c.work-cells.result.now in
+    let text = subst (λ w. StandFrom (works tree) number (record { what = work w; around = numbers_of (rounds_of path) } ∷ [])) what placed.text in
+    let code = c.work-code.result.now in
+    let is = text-code tree (numbers_of (rounds_of path)) number a text c.args.self.now.codes code c.requires.ready.codes c.work-code.ensures in
+    let many = text-loads tree (numbers_of (rounds_of path)) number a text c.args.self.now.table cells c.requires.ready.table c.work-cells.ensures in
+    let listed = ap (λ (ls : List LoadCells). length ls) c.deref-2.ensures.value in
+    let enough : code.loads + length code.steps.items ≤ most_registers c.args.self.now.codes = code_room tree c.args.self.now.codes code (number - 1) c.requires.ready.codes c.work-code.ensures in
+    let lent = ap (λ (xs : List ℤ). length xs) c.deref_mut.ensures.value in
+    omega (arith, many, listed, lent, is.loads, enough, c.requires.ready.registers)
+
+pub run_code-value-requires-clause-room : goal.run_code-value-requires-clause-room
+run_code-value-requires-clause-room c =
+    let tree = tree_of c.args.self.now.program.now in
+    let path = c.args.path.now in
+    let number = c.args.stop.first in
+    let s = statement_of c.args.stop.item.now in
+    let placed = c.requires.placed in
+    let code = c.work-code.result.now in
+    let enough : code.loads + length code.steps.items ≤ most_registers c.args.self.now.codes = code_room tree c.args.self.now.codes code (number - 1) c.requires.ready.codes c.work-code.ensures in
+    let long = c.load_firsts.ensures.room ∙ ap (λ (xs : List ℤ). length xs) c.deref_mut.ensures.value in
+    let back = written_back c.args.self.now.registers.len c.load_firsts.new.registers c.args.self.now.registers.items c.args.self.now.registers.ok.0 long in
+    let registers : c.deref_mut-2.result.now ≡ c.load_firsts.new.registers = c.deref_mut-2.ensures.value ∙ back in
+    let now = ap (λ (xs : List ℤ). length xs) registers in
+    omega (arith, enough, now, long, c.requires.ready.registers)
+
+pub run_code-value-requires-clause-inside : goal.run_code-value-requires-clause-inside
+run_code-value-requires-clause-inside c =
+    let tree = tree_of c.args.self.now.program.now in
+    let path = c.args.path.now in
+    let number = c.args.stop.first in
+    let s = statement_of c.args.stop.item.now in
+    let placed = c.requires.placed in
+    let a = c.requires.statement.0 in
+    let what = same_work placed.what (assign a) (sym placed.is ∙ c.requires.statement.1) in
+    let text = subst (λ w. StandFrom (works tree) number (record { what = work w; around = numbers_of (rounds_of path) } ∷ [])) what placed.text in
+    let code = c.work-code.result.now in
+    let is = text-code tree (numbers_of (rounds_of path)) number a text c.args.self.now.codes code c.requires.ready.codes c.work-code.ensures in
+    is.inside
+
+pub run_code-value-requires-clause-good : goal.run_code-value-requires-clause-good
+run_code-value-requires-clause-good c =
+    let tree = tree_of c.args.self.now.program.now in
+    let path = c.args.path.now in
+    let number = c.args.stop.first in
+    let s = statement_of c.args.stop.item.now in
+    let placed = c.requires.placed in
+    let a = c.requires.statement.0 in
+    let what = same_work placed.what (assign a) (sym placed.is ∙ c.requires.statement.1) in
+    let text = subst (λ w. StandFrom (works tree) number (record { what = work w; around = numbers_of (rounds_of path) } ∷ [])) what placed.text in
+    let code = c.work-code.result.now in
+    let is = text-code tree (numbers_of (rounds_of path)) number a text c.args.self.now.codes code c.requires.ready.codes c.work-code.ensures in
     let written = c.requires.written in
-    let loops = c.deref.ensures.value ∙ written.is in
-    let params = c.deref-2.ensures.value ∙ c.requires.ready.params in
-    ap (λ (xs : List ℤ). has_value (length xs) (length c.deref-2.result.now) a.value) loops ∙ ap (λ (xs : List ℤ). has_value (length (with_rounds written.before (rounds_of path))) (length xs) a.value) params
-    ∙ assign_valued tree (rounds_of path) placed.numbered written.before written.long a good
-
-pub value-value-requires-clause-there : goal.value-value-requires-clause-there
-value-value-requires-clause-there c =
-    let tree = tree_of c.args.self.now.program.now in
-    let path = c.args.path.now in
-    let number = c.args.stop.first in
-    let s = statement_of c.args.stop.item.now in
-    let placed = c.requires.placed in
-    let cells = c.work-cells.result.now in
-    let st = c.requires.statement in
-    let a : Assignment = record { target = st.0; value = expression_of c.args.e.now; guard = st.1; line = st.2 } in
-    let what = same_work placed.what (assign a) (sym placed.is ∙ ap statement_of st.3) in
-    let firsts = placed-firsts tree path number s placed a what c.args.self.now.table cells c.requires.ready.table c.work-cells.ensures in
-    firsts_within tree path number s placed a cells.loads.items firsts c.args.self.now.memory.items c.deref-3.result.now c.values.result.now c.deref-4.result.now c.requires.ready.memory c.deref-3.ensures.value c.values.ensures c.deref-4.ensures.value
-
-pub value-value-requires-clause-loads : goal.value-value-requires-clause-loads
-value-value-requires-clause-loads c =
-    let tree = tree_of c.args.self.now.program.now in
-    let path = c.args.path.now in
-    let number = c.args.stop.first in
-    let s = statement_of c.args.stop.item.now in
-    let placed = c.requires.placed in
-    let cells = c.work-cells.result.now in
-    let st = c.requires.statement in
-    let a : Assignment = record { target = st.0; value = expression_of c.args.e.now; guard = st.1; line = st.2 } in
-    let what = same_work placed.what (assign a) (sym placed.is ∙ ap statement_of st.3) in
-    let firsts = placed-firsts tree path number s placed a what c.args.self.now.table cells c.requires.ready.table c.work-cells.ensures in
-    let memory = c.args.self.now.memory.items in
-    let gave = firsts_are tree path number s placed a cells.loads.items firsts memory c.deref-3.result.now c.values.result.now c.deref-4.result.now c.deref-3.ensures.value c.values.ensures c.deref-4.ensures.value in
-    let count = ap (λ (xs : List ℤ). length xs) gave ∙ assign_count tree (loops_in tree (rounds_of path)) a memory in
-    omega (arith, count)
+    is.good _ _ (placed-valued tree path number s placed c.requires.formed a what written.before c.deref-3.result.now c.deref-4.result.now written.long (c.deref-3.ensures.value ∙ written.is) (c.deref-4.ensures.value ∙ c.requires.ready.params))
 
 pub index_mut-requires : goal.index_mut-requires
 index_mut-requires c =
@@ -83,37 +124,66 @@ index_mut-requires c =
     let within = store_within tree path number s placed cells found c.in-Some.form c.values-in-Some.result.now c.args.self.now.memory.items c.at.result c.in-Some.is c.at.ensures c.values-in-Some.ensures c.requires.ready.memory in
     omega (arith, within, c.args.self.now.memory.ok.0)
 
+pub returns-in-Some-clause-ready : goal.returns-in-Some-clause-ready
+returns-in-Some-clause-ready c =
+    let ready = c.requires.ready in
+    let kept = (with_items (with_items c.args.self.now.registers c.load_firsts.new.registers) c.run_code-value.new.registers).ok.0 in
+    record {
+      table = ready.table;
+      params = ready.params;
+      codes = ready.codes;
+      loops = ready.loops;
+      registers = omega (arith, ready.registers, c.args.self.now.registers.ok.0, kept);
+      memory = length-set c.args.self.now.memory.items c.at.result _ ∙ ready.memory;
+    }
+
 pub returns-in-Some-clause-memory : goal.returns-in-Some-clause-memory
-returns-in-Some-clause-memory c = λ w is.
+returns-in-Some-clause-memory c = λ w same.
     let tree = tree_of c.args.self.now.program.now in
     let path = c.args.path.now in
     let number = c.args.stop.first in
     let s = statement_of c.args.stop.item.now in
     let placed = c.requires.placed in
+    let a = c.requires.statement.0 in
+    let what = same_work placed.what (assign a) (sym placed.is ∙ c.requires.statement.1) in
     let cells = c.work-cells.result.now in
     let found = placed-found tree path number s placed c.args.self.now.table cells c.requires.ready.table c.work-cells.ensures in
-    let st = c.requires.statement in
-    let a : Assignment = record { target = st.0; value = expression_of c.args.e.now; guard = st.1; line = st.2 } in
-    let what = same_work placed.what (assign a) (sym placed.is ∙ ap statement_of st.3) in
-    let good = sym (ap (is_good_work (scope_of tree) (numbers_of (rounds_of path))) what) ∙ placed-good tree path number s placed c.requires.formed in
+    let text = subst (λ w. StandFrom (works tree) number (record { what = work w; around = numbers_of (rounds_of path) } ∷ [])) what placed.text in
+    let code = c.work-code.result.now in
+    let is = text-code tree (numbers_of (rounds_of path)) number a text c.args.self.now.codes code c.requires.ready.codes c.work-code.ensures in
     let firsts = placed-firsts tree path number s placed a what c.args.self.now.table cells c.requires.ready.table c.work-cells.ensures in
+    let many = text-loads tree (numbers_of (rounds_of path)) number a text c.args.self.now.table cells c.requires.ready.table c.work-cells.ensures in
+    let listed = ap (λ (ls : List LoadCells). length ls) c.deref-2.ensures.value in
+    let long = c.load_firsts.ensures.room ∙ ap (λ (xs : List ℤ). length xs) c.deref_mut.ensures.value in
+    let back = written_back c.args.self.now.registers.len c.load_firsts.new.registers c.args.self.now.registers.items c.args.self.now.registers.ok.0 long in
+    let registers : c.deref_mut-2.result.now ≡ c.load_firsts.new.registers = c.deref_mut-2.ensures.value ∙ back in
     let memory = c.args.self.now.memory.items in
-    let given = firsts_are tree path number s placed a cells.loads.items firsts memory c.deref-3.result.now c.values.result.now c.deref-4.result.now c.deref-3.ensures.value c.values.ensures c.deref-4.ensures.value in
-    let written = c.requires.written in
     let loops = loops_in tree (rounds_of path) in
-    let gave = loaded_at tree loops (assign a) memory in
-    let inside = with_rounds written.before (rounds_of path) in
-    let by_number = c.deref.ensures.value ∙ written.is in
-    let params = c.deref-2.ensures.value ∙ c.requires.ready.params in
-    let loaded = map (λ l. cell_value c.deref-3.result.now (first_of_load c.values.result.now l)) c.deref-4.result.now in
-    let fits : FitsSigned w64 c.value-value.result = search rules in
-    let value = to_z-of_z w64 c.value-value.result fits ∙ c.value-value.ensures.value ∙ ap (λ xs. value_of a.value xs c.deref-2.result.now loaded) by_number
-    ∙ ap (λ xs. value_of a.value inside xs loaded) params ∙ ap (value_of a.value inside (param_values tree)) given
-    ∙ assign_same tree (rounds_of path) placed.numbered written.before written.long a gave good ∙ ap (λ x. assigned tree loops x (loaded_at tree loops x memory)) (sym what) in
-    let this = same_work w placed.what (sym is ∙ placed.is) in
-    let new = set memory c.at.result (to_z w64 (of_z w64 c.value-value.result)) in
+    let given = firsts_are tree path number s placed a cells.loads.items firsts memory c.deref.result.now c.values.result.now c.deref-2.result.now c.deref.ensures.value c.values.ensures c.deref-2.ensures.value in
+    let loaded : take (length (loads_in a.value)) c.deref_mut-2.result.now ≡ loaded_at tree loops (assign a) memory =
+    ap (λ n. take n c.deref_mut-2.result.now) (many ∙ sym listed) ∙ ap (take (length c.deref-2.result.now)) registers ∙ c.load_firsts.ensures.loaded ∙ given in
+    let written = c.requires.written in
+    let fits : FitsSigned w64 c.run_code-value.result = search rules in
+    let result = to_z-of_z w64 c.run_code-value.result fits ∙ c.run_code-value.ensures.value a.value is in
+    let value = assign_here tree path number s placed c.requires.formed a what code is written.before c.deref-3.result.now c.deref-4.result.now c.deref_mut-2.result.now memory (to_z w64 (of_z w64 c.run_code-value.result)) written.long
+    (c.deref-3.ensures.value ∙ written.is) (c.deref-4.ensures.value ∙ c.requires.ready.params) loaded result in
+    let this = same_work w placed.what (sym same ∙ placed.is) in
+    let new = set memory c.at.result (to_z w64 (of_z w64 c.run_code-value.result)) in
     subst (λ x. new ≡ memory_behind tree loops x memory) (sym this)
-    (store_is tree path number s placed cells found c.in-Some.form c.values-in-Some.result.now memory c.at.result (to_z w64 (of_z w64 c.value-value.result)) c.in-Some.is c.at.ensures c.values-in-Some.ensures value)
+    (store_is tree path number s placed cells found c.in-Some.form c.values-in-Some.result.now memory c.at.result (to_z w64 (of_z w64 c.run_code-value.result)) c.in-Some.is c.at.ensures c.values-in-Some.ensures value)
+
+pub returns-in_default-clause-ready : goal.returns-in_default-clause-ready
+returns-in_default-clause-ready c =
+    let ready = c.requires.ready in
+    let kept = (with_items (with_items c.args.self.now.registers c.load_firsts.new.registers) c.run_code-value.new.registers).ok.0 in
+    record {
+      table = ready.table;
+      params = ready.params;
+      codes = ready.codes;
+      loops = ready.loops;
+      registers = omega (arith, ready.registers, c.args.self.now.registers.ok.0, kept);
+      memory = ready.memory;
+    }
 
 pub returns-in_default-clause-memory : goal.returns-in_default-clause-memory
 returns-in_default-clause-memory c = λ w is.

@@ -106,3 +106,6 @@ returns-in_ok-load-in-Print-clause-output c =
     let whole = ap (λ t. output ++ (t ++ 10 ∷ [])) text ∙ ap (λ x. output ++ printed_text tree loops x gave) (sym what) in
     on_ok_weaker c.push_line.result
     (λ said w is. subst (λ x. c.push_line.new.self.bytes ≡ output ++ printed_behind tree loops x memory) (sym (same_work w placed.what (sym is ∙ placed.is))) (said ∙ whole)) c.push_line.ensures.line
+
+pub assign-requires-clause-statement : goal.assign-requires-clause-statement
+assign-requires-clause-statement c = (_, ap statement_of c.in-Assign.is)

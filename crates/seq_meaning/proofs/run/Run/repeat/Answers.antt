@@ -1,4 +1,4 @@
-use Rattle.std.proofs.Common.{◌-◌, ◌≤◌, ℤ, IsTrue, None, List, length, set, w64, FitsSigned, to_z, of_z, ap, sym, ◌∙◌, subst, rules}
+use Rattle.std.proofs.Common.{◌-◌, ◌≤◌, ℤ, IsTrue, List, length, set, w64, FitsSigned, to_z, of_z, ap, sym, ◌∙◌, subst, rules}
 use Rattle.std.specs.List.{list_all}
 use Rattle.std.proofs.lemmas.Bool.{and_parts}
 use Rattle.std.proofs.lemmas.Int.{to_z-of_z}
@@ -11,11 +11,11 @@ use Rattle.nest_walk.specs.RoundsOf.{rounds_of}
 use Rattle.nest_walk.specs.Strips.{at_value, strip_left, strip_rounds, strip_tree}
 use Rattle.nest_walk.specs.declared.cursor.Stop.{Stop}
 use Rattle.nest_walk.proofs.PlacedWorks.{reached_numbered}
-use Rattle.nest_walk.proofs.Strips.{sole}
 use Rattle.seq_meaning.specs.Executions.{IsPlacedWork}
 use Rattle.seq_meaning.proofs.RunInstances.{assigned_quiet, memory_rest, memory_step, output_rest, output_step, placed_work}
 use Rattle.seq_meaning.proofs.RunSteps.{numbered_more}
 use Rattle.seq_meaning.proofs.Written.{innermost, innermost_at, innermost_is, written_again}
+use Rattle.seq_meaning.proofs.TextAssigns.{plain_assign}
 use Rattle.seq_meaning.proofs.run.Run.repeat.Goals as goal
 
 pub write_to-requires : goal.write_to-requires
@@ -29,8 +29,8 @@ write_to-requires c =
 
 pub assign-requires-clause-statement : goal.assign-requires-clause-statement
 assign-requires-clause-statement c =
-    let e = c.value-e.ensures in
-    (e.0, None, e.1, ap (λ (s : Stop). s.item.now) c.stop-stop.ensures ∙ e.2)
+    let a = plain_assign (statement_of c.args.strip.stop.item.now) c.args.strip.plain in
+    (a.0, ap (λ (s : Stop). statement_of s.item.now) c.stop-stop.ensures ∙ a.1)
 
 pub assign-requires-clause-written : goal.assign-requires-clause-written
 assign-requires-clause-written c =
@@ -83,12 +83,11 @@ loop-value-preserved c =
     let insides = and_parts (is_instance_inside tree i) (list_all (is_instance_inside tree) (strip_left new)) (sym (ap (list_all (is_instance_inside tree)) next.instance.2) ∙ inv.inside) in
     let stop = c.stop-stop.ensures ∙ sym inv.stop ∙ sym next.stop in
     let same = ap (λ (x : Stop). statement_of x.item.now) stop in
-    let e = c.value-e.ensures in
-    let a = sole e.0 c.value-e.result.now e.1 in
-    let what = sym same ∙ ap (λ (x : Stop). statement_of x.item.now) c.stop-stop.ensures ∙ ap statement_of e.2 in
+    let plain = plain_assign (statement_of c.args.strip.stop.item.now) c.args.strip.plain in
+    let what = sym same ∙ ap (λ (x : Stop). statement_of x.item.now) c.stop-stop.ensures ∙ plain.1 in
     let path = rounds_of c.path-in-Some.result.now in
     let memory = memory_step tree (strip_tree new) (tree_of before.program.now) path rounds new.stop.first s i before.memory.items after.memory.items walked run c.path-in-Some.ensures next.instance.1 (λ w is. c.assign.ensures.memory w (same ∙ is)) in
-    let quiet = assigned_quiet (tree_of before.program.now) path s a before.output.bytes after.output.bytes before.memory.items what c.assign.ensures.output in
+    let quiet = assigned_quiet (tree_of before.program.now) path s plain.0 before.output.bytes after.output.bytes before.memory.items what c.assign.ensures.output in
     let output = output_step tree (strip_tree new) (tree_of before.program.now) path rounds new.stop.first s i before.memory.items before.output.bytes after.output.bytes walked run c.path-in-Some.ensures next.instance.1 quiet in
     record {
       ready = c.assign.ensures.ready;
