@@ -7,4 +7,6 @@ pub mod Meanings
 pub mod RunSteps
 pub mod RunInstances
 pub mod Written
+pub mod Registers
 pub mod TextAssigns
+pub mod Trips

@@ -138,7 +138,7 @@ pub print_count : (tree : Tree) (loops : List ℤ) (p : Printing) (memory : List
 print_count tree loops p memory = length-map (flat_map (item_loads tree loops) p.items) (cell_value memory) ∙ items_loads-length tree loops p.items
 
 -- what is written through a slice of a whole list is that list then
-pub written_back : (count : ℕ) (new items : List ℤ) → count ≡ length items → length new ≡ length items → take count (new ++ drop (length new) items) ≡ new
+pub written_back : {A : Type 0} (count : ℕ) (new items : List A) → count ≡ length items → length new ≡ length items → take count (new ++ drop (length new) items) ≡ new
 written_back count new items all same =
     ap (λ xs. take count (new ++ xs)) (drop_all (length new) items (omega (arith, same))) ∙ ap (take count) (append-nil new) ∙ take_all count new (omega (arith, all, same))
 
@@ -253,6 +253,11 @@ module _ (tree : Tree) (path : Path) (number : ℕ) (s : Statement) (placed : Is
       given ∙ ap (λ xs. value_of a.value xs params (take code.loads registers)) here ∙ ap (λ xs. value_of a.value (with_rounds written (rounds_of path)) xs (take code.loads registers)) constants
       ∙ ap (λ n. value_of a.value (with_rounds written (rounds_of path)) (param_values tree) (take n registers)) is.loads ∙ ap (value_of a.value (with_rounds written (rounds_of path)) (param_values tree)) loaded
       ∙ assign_same tree (rounds_of path) placed.numbered written long a (loaded_at tree by_number (assign a) memory) good ∙ ap (λ w. assigned tree by_number w (loaded_at tree by_number w memory)) (sym what)
+
+  -- as many loads as the expression has
+  pub firsts-many : (a : Assignment) (loads : List LoadCells) → FoundFirsts tree path placed.numbered a loads → length loads ≡ length (loads_in a.value)
+  firsts-many a loads found =
+      sym (length-map loads (first_of_load (by_depth (rounds_of path)))) ∙ ap (λ (cs : List ℕ). length cs) found.firsts ∙ length-map (loads_in a.value) (access_cell tree (loops_in tree (rounds_of path)))
 
 -- a code has room in the registers
 pub code_room : (tree : Tree) (codes : CodeTable) (code : Code) (n : ℕ) → IsCodeTable tree codes → slice_get (codes_of codes) n ≡ Some code → registers_of code ≤ most_registers codes

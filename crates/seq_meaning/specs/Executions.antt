@@ -43,6 +43,7 @@ pub record IsReady (run : Run) : Type 0 where
   pub params : run.params.items ≡ param_values (tree_of run.program.now)
   pub codes : IsCodeTable (tree_of run.program.now) run.codes
   pub loops : loops_of (tree_of run.program.now).items ≤ length run.loops.items
+  pub lines : most_registers run.codes ≤ length run.lines.items
   pub registers : most_registers run.codes ≤ length run.registers.items
   pub memory : length run.memory.items ≡ cell_count (tree_of run.program.now)
 

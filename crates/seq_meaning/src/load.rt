@@ -1,11 +1,12 @@
 // Loads and stores of cells.
 
-ghost use Rattle.std.specs.Prelude.{◌≡◌, ◌++◌, ◌≤◌, IsTrue, OnOk, length, map, take};
+ghost use Rattle.std.specs.Prelude.{◌≡◌, ◌++◌, ◌≤◌, IsTrue, OnOk, length, map, nat_lt, take};
 ghost use Rattle.std.specs.List.{flat_map, list_all};
 ghost use Rattle.nest_model.specs.Memory.{cell_value};
-ghost use Rattle.flat_code.specs.Lines.{first_of_load};
+ghost use Rattle.flat_code.specs.Lines.{cell_on, first_of_load};
 ghost use Rattle.seq_meaning.specs.Loads.{cells_of_load, is_first_within, is_load_within};
 
+use flat_code::Line;
 use nest_walk::{LoadCells, MOST_LOOPS};
 use std::alloc::AllocError;
 
@@ -64,6 +65,19 @@ pub(crate) fn load_firsts(
 {
     for (k, load) in loads.iter().enumerate() {
         registers[k] = memory[first_cell(load, values)];
+    }
+}
+
+// What the cells of lines hold where their loop has this value, into the first registers.
+#[inline(always)]
+pub(crate) fn load_lines(memory: &[i64], lines: &[Line], value: i64, registers: &mut [i64])
+    requires there { IsTrue (list_all (λ line. nat_lt (cell_on line value) (length memory.now)) lines.now) }
+    requires room { length lines.now ≤ length registers.old }
+    ensures loaded { take (length lines.now) registers.new ≡ map (λ line. cell_value memory.now (cell_on line value)) lines.now }
+    ensures room { length registers.new ≡ length registers.old }
+{
+    for (k, line) in lines.iter().enumerate() {
+        registers[k] = memory[line.at(value)];
     }
 }
 

@@ -14,10 +14,10 @@ ghost use Rattle.nest_walk.specs.InstancesLeft.{instances_left, instances_tree};
 ghost use Rattle.nest_walk.specs.Strips.{strip_left, strip_tree};
 ghost use Rattle.nest_walk.specs.RoundsOf.{rounds_of};
 
-use crate::load::{load, load_firsts};
+use crate::load::{load, load_firsts, load_lines};
 use crate::output::Output;
 use crate::value::Given;
-use flat_code::{CodeTable, run_code};
+use flat_code::{CodeTable, Line, lay_lines, line_of, run_code};
 use nest_tree::{Item, Program};
 use nest_walk::{CellTable, Instances, Path, Stop, Strip};
 use std::alloc::{AllocError, Global};
@@ -41,7 +41,7 @@ pub fn run_sequential(alloc: Global, program: &Program) -> Result<(Vec<i64>, Out
 }
 
 /// A run: the program with its cells and codes, the values of its named constants and of loops by
-/// number, registers, what the last PRINT loaded, memory and the output.
+/// number, the lines of a strip, registers, what the last PRINT loaded, memory and the output.
 #[derive(Drop)]
 struct Run<'a> {
     program: &'a Program,
@@ -49,6 +49,7 @@ struct Run<'a> {
     codes: CodeTable,
     params: Vec<i64>,
     loops: Vec<i64>,
+    lines: Vec<Line>,
     registers: Vec<i64>,
     loaded: Vec<i64>,
     memory: Vec<i64>,
@@ -75,12 +76,17 @@ impl<'a> Run<'a> {
         }
         let codes = CodeTable::new(alloc, program)?;
         let most = codes.registers() as usize;
+        let none = Line {
+            origin: 0,
+            stride: 0,
+        };
         Ok(Run {
             program,
             table: CellTable::new(alloc, program)?,
             codes,
             params,
             loops: vec![in alloc; 0; MOST_STATEMENTS]?,
+            lines: vec![in alloc; none; most]?,
             registers: vec![in alloc; 0; most]?,
             loaded: Vec::new(alloc),
             memory: vec![in alloc; 0; program.cell_count() as usize]?,
@@ -112,6 +118,7 @@ impl<'a> Run<'a> {
     }
 
     // The trips of a loop round one assignment, which is always executed.
+    #[inline(never)]
     fn repeat(&mut self, strip: Strip)
         requires formed { IsWellFormed (tree_of self.old.program.now) }
         requires ready { IsReady self.old }
@@ -123,12 +130,23 @@ impl<'a> Run<'a> {
         ensures output { self.new.output.bytes ≡ self.old.output.bytes ++ output_from (tree_of self.old.program.now) self.old.memory.items (strip_left strip.entry) }
     {
         let mut left = strip;
+        let path = left.path();
         let stop = left.stop();
+        let cells = self.table.work(stop.first);
+        let Some(form) = &cells.store else {
+            unreachable!()
+        };
+        let code = self.codes.work(stop.first);
+        let store = line_of(form, path);
+        lay_lines(&cells.loads, path, &mut self.lines);
+        let lines = &self.lines[..cells.loads.len()];
+        path.write_to(&mut self.loops);
         let place = left.number() as usize - 1;
-        left.path().write_to(&mut self.loops);
         while let Some(value) = left.next() {
             self.loops[place] = value;
-            self.assign(stop, left.path());
+            load_lines(&self.memory, lines, value, &mut self.registers);
+            let result = run_code(code, &self.loops, &self.params, &mut self.registers);
+            self.memory[store.at(value)] = result;
         }
     }
 

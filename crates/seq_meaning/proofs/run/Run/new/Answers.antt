@@ -12,12 +12,14 @@ returns-clause-ready c =
     let tree = tree_of c.args.program.now in
     let all = take_all c.loop-parameter.parameter-index c.deref-parameter-items.result.now c.loop-parameter-test.false in
     let loops = ap (λ xs. length xs) (c.in_ok-vec.ensures.items_if_clones_equal (λ y e. e)) ∙ length-replicate 400 (pos 0) in
-    let registers = ap (λ xs. length xs) (c.in_ok-vec-2.ensures.items_if_clones_equal (λ y e. e)) ∙ length-replicate c.registers-most.result (pos 0) in
-    let cells = ap (λ xs. length xs) (c.in_ok-vec-3.ensures.items_if_clones_equal (λ y e. e)) ∙ length-replicate c.cell_count.result (pos 0) in
+    let lines = ap (λ xs. length xs) (c.in_ok-vec-2.ensures.items_if_clones_equal (λ y e. e)) ∙ length-replicate c.registers-most.result _ in
+    let registers = ap (λ xs. length xs) (c.in_ok-vec-3.ensures.items_if_clones_equal (λ y e. e)) ∙ length-replicate c.registers-most.result (pos 0) in
+    let cells = ap (λ xs. length xs) (c.in_ok-vec-4.ensures.items_if_clones_equal (λ y e. e)) ∙ length-replicate c.cell_count.result (pos 0) in
     record {
       table = c.in_ok-new.ensures;
       params = c.loop-parameter.invariant ∙ ap (map (λ (p : Parameter). p.value)) (all ∙ c.deref-parameter-items.ensures.value) ∙ sym (values_are c.args.program.now.params.items);
       codes = c.in_ok-codes.ensures;
+      lines = omega (arith, lines, c.registers-most.ensures);
       registers = omega (arith, registers, c.registers-most.ensures);
       loops = omega (arith, loops, loops-few tree c.requires.formed);
       memory = omega (arith, cells, c.cell_count.ensures, few_cells tree c.requires.limits);
