@@ -31,6 +31,7 @@
 //! NAME OPEN                 a rational solution
 //! NAME WIDE level           a number past 2 ^ 126 in size at this level
 //! NAME MANY level count     so many rows, or more, at this level
+//! NAME WORK level pairs     so many pairs in all, up to this level
 //! ```
 //!
 //! Its times are a line for each system in order: the decision, without the reading and without the
@@ -67,7 +68,6 @@ use plan_input::Stop;
 use spmd_model::Style;
 use std::io::{ErrorKind, Read, Write};
 use std::process::ExitCode;
-use std::sync::Wait;
 use std::thread::Threads;
 use std::{env, io};
 
@@ -135,12 +135,7 @@ fn part_of(word: &str) -> Option<Part> {
     }
 }
 
-fn timed<R: Threads + Wait + Sync>(
-    rt: &HostRuntime,
-    threads: &R,
-    part: Part,
-    times: bool,
-) -> Ending {
+fn timed<R: Threads + Sync>(rt: &HostRuntime, threads: &R, part: Part, times: bool) -> Ending {
     match over_input(rt, threads, part, times) {
         Ok(ending) => ending,
         Err(error) if error.kind() == ErrorKind::OutOfMemory => Ending::NoMemory,
@@ -148,7 +143,7 @@ fn timed<R: Threads + Wait + Sync>(
     }
 }
 
-fn over_input<R: Threads + Wait + Sync>(
+fn over_input<R: Threads + Sync>(
     rt: &HostRuntime,
     threads: &R,
     part: Part,
@@ -166,7 +161,7 @@ fn over_input<R: Threads + Wait + Sync>(
 }
 
 // What is told of a part, over these bytes.
-fn measure_of<R: Threads + Wait + Sync>(
+fn measure_of<R: Threads + Sync>(
     rt: &HostRuntime,
     threads: &R,
     part: Part,

@@ -19,7 +19,6 @@ use plan_input::{Stop, read_fitting};
 use spmd_model::Style;
 use spmd_ports::NoGate;
 use std::alloc::Global;
-use std::sync::Wait;
 use std::thread::Threads;
 use styled_run::run_spmd_with;
 use sync_plan::Plan;
@@ -74,12 +73,12 @@ pub(crate) fn join<R: Threads + Sync>(
 {
     let (program, plan) = case_of(threads, rt.alloc(), bytes)?;
     let begun = now(rt)?;
-    let (_memory, output) = run_join(threads, rt.alloc(), &program, &plan, &NoGate)?;
+    let (_receipt, output) = run_join(threads, rt.alloc(), &program, &plan, &NoGate)?;
     measured(rt, "join", &begun, output.as_slice())
 }
 
 /// The run over shared words in a style of barriers, which writes the output.
-pub(crate) fn spmd<R: Threads + Wait + Sync>(
+pub(crate) fn spmd<R: Threads + Sync>(
     rt: &HostRuntime,
     threads: &R,
     bytes: &[u8],

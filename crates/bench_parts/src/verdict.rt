@@ -18,6 +18,7 @@ pub enum Verdict {
     Open,
     Wide(u32),
     Many(u32, u64),
+    Work(u32, u128),
 }
 
 // The variables 1 to `variables`, in this order.
@@ -55,6 +56,7 @@ fn verdict_of(alloc: Global, system: &System, answer: &Answer) -> Result<Verdict
         Answer::Open => Ok(Verdict::Open),
         Answer::Wide { level, .. } => Ok(Verdict::Wide(*level)),
         Answer::Many { level, count } => Ok(Verdict::Many(*level, *count)),
+        Answer::Work { level, pairs } => Ok(Verdict::Work(*level, *pairs)),
     }
 }
 
@@ -66,6 +68,7 @@ fn verdict_text(alloc: Global, verdict: Verdict) -> Result<String, AllocError>
         Verdict::Open => String::from_str(alloc, "OPEN"),
         Verdict::Wide(level) => format!(in alloc; "WIDE {level}"),
         Verdict::Many(level, count) => format!(in alloc; "MANY {level} {count}"),
+        Verdict::Work(level, pairs) => format!(in alloc; "WORK {level} {pairs}"),
     }
 }
 

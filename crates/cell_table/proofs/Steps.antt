@@ -26,18 +26,18 @@ same_places m words at p n e shown = subst (λ (f : ℕ → ℕ). AreShown m wor
       | inr ne ↦ sym ((put_moves at p n).others q ne)
     ]
 
-module _ (m : Protocol) (laws : Laws m) (words : List ℕ) (roles : List Role) (r : AreOne m words roles) (id p n misses : ℕ) (there : IsSeatAt roles id p n misses) where
+module _ (m : Protocol) (laws : Laws m) (words : List ℕ) (roles : List Role) (r : AreOne m words roles) (id p n misses seen : ℕ) (there : IsSeatAt roles id p n misses seen) where
   here : (p < m.workers) × (r.at p ≡ n)
   here = let said = r.seated.says id _ there in (said.0, said.3)
 
   next_here : (a : Act) → act_at m p n ≡ Some a → act_at m p (r.at p) ≡ Some a
   next_here a next = ap (act_at m p) here.1 ∙ next
 
-  comes : (after : List ℕ) (k misses' : ℕ) → AreShown m after (put r.at p k) → ComesTo r after id p k misses'
-  comes after k misses' shown = record { one = record { at = put r.at p k; shown = shown; seated = moves_on m roles r.at id p n misses k misses' r.seated there }; moves = put_moves r.at p k }
+  comes : (after : List ℕ) (k misses' seen' : ℕ) → AreShown m after (put r.at p k) → ComesTo r after id p k misses' seen'
+  comes after k misses' seen' shown = record { one = record { at = put r.at p k; shown = shown; seated = moves_on m roles r.at id p n misses seen k misses' seen' r.seated there }; moves = put_moves r.at p k }
 
   goes : (after : List ℕ) → AreShown m after (put r.at p (behind m p (r.at p))) → GoesOn r after id p n
-  goes after shown = comes after (behind m p n) 0 (subst (λ k. AreShown m after (put r.at p (behind m p k))) here.1 shown)
+  goes after shown = comes after (behind m p n) 0 0 (subst (λ k. AreShown m after (put r.at p (behind m p k))) here.1 shown)
 
   pub load_step : (place c : ℕ) → act_at m p n ≡ Some (load place c) → c < m.cells → GoesOn r words id p n × (word_value (slice_index words c) ≡ m.loaded_at p n)
   load_step place c next inside = (
@@ -58,8 +58,8 @@ module _ (m : Protocol) (laws : Laws m) (words : List ℕ) (roles : List Role) (
   pub poll_step : (w : Word) (q wanted : ℕ) → act_at m p n ≡ Some (await w q wanted) → is_arrival m.gathers w wanted ≡ false → wanted ≤ slice_index words (word_of m w q) → GoesOn r words id p n
   poll_step w q wanted next plain come = goes words (by_poll m laws words r.at w p q wanted here.0 r.shown (next_here (await w q wanted) next) plain come)
 
-  pub miss_step : ComesTo r words id p n (misses + 1)
-  miss_step = comes words n (misses + 1) (same_places m words r.at p n here.1 r.shown)
+  pub miss_step : (found : ℕ) → ComesTo r words id p n (misses + 1) found
+  miss_step found = comes words n (misses + 1) found (same_places m words r.at p n here.1 r.shown)
 
   pub arrive_step : (k : ℕ) → act_at m p n ≡ Some (post counter k) → m.gathers k ≡ true → GoesOn r (set words (arrival_word m) (slice_index words (arrival_word m) + 1)) id p n × (slice_index words (arrival_word m) + 1 < 2 ^ 64)
   arrive_step k next joint =
@@ -70,7 +70,7 @@ module _ (m : Protocol) (laws : Laws m) (words : List ℕ) (roles : List Role) (
         omega arith,
       )
 
-  pub row_step : m.workers * arrivals_at m p n ≤ slice_index words (arrival_word m) → ComesTo r words id p (behind_row m p n) 0
+  pub row_step : m.workers * arrivals_at m p n ≤ slice_index words (arrival_word m) → ComesTo r words id p (behind_row m p n) 0 0
   row_step come =
-      comes words (behind_row m p n) 0
+      comes words (behind_row m p n) 0 0
       (subst (λ j. AreShown m words (put r.at p (behind_row m p j))) here.1 (by_row m laws words r.at p here.0 r.shown (subst (λ j. m.workers * arrivals_at m p j ≤ slice_index words (arrival_word m)) (sym here.1) come)))

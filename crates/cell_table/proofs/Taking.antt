@@ -34,12 +34,12 @@ rests_staged m stages at p now inside mine old q stage is = elim (cases_eq q p) 
 ]
 
 module _ (m : Protocol) (words : List ℕ) (roles : List Role) (r : AreOne m words roles) where
-  pub splits : (id p : ℕ) (st : List Stage) → get_elem? roles id ≡ some (Main st) → slice_get st p ≡ Some NotOut → (after : AreOne m words (set roles id (Main (set st p Out)) ++ Cell p (settled_at m p 0) 0 ∷ [])) × (after.at ≡ r.at)
+  pub splits : (id p : ℕ) (st : List Stage) → get_elem? roles id ≡ some (Main st) → slice_get st p ≡ Some NotOut → (after : AreOne m words (set roles id (Main (set st p Out)) ++ Cell p (settled_at m p 0) 0 0 ∷ [])) × (after.at ≡ r.at)
   splits id p st at idle =
       let seated = r.seated in let main = seated.says id (Main st) at in let stages : List Stage = seated.stages in
       let idle' : slice_get stages p ≡ Some NotOut = ap (λ l. slice_get l p) (sym main.1) ∙ idle in
       let inside : p < length stages = slice_get_within stages p NotOut idle' in let all = seated.all in let worker : p < m.workers = omega (arith, inside, all) in
-      let left : Role = Main (set st p Out) in let right : Role = Cell p (settled_at m p 0) 0 in
+      let left : Role = Main (set st p Out) in let right : Role = Cell p (settled_at m p 0) 0 0 in
       let vs : List Role = set roles id left in let end : ℕ = length vs in let seats' : ℕ → ℕ = put seated.seats p end in
       let stages' : List Stage = set stages p Out in (
         record {
@@ -56,7 +56,7 @@ module _ (m : Protocol) (words : List ℕ) (roles : List Role) (r : AreOne m wor
                 let said = seated.says j v u.1 in
                 says_staged m stages seated.seats seats' r.at p end j Out inside (put_moves seated.seats p end) worker (λ e. let clash : Some NotOut ≡ Some Ended = sym idle' ∙ e in absurd (cc)) v
                 (λ mine e. u.0 ((subst (Says m stages seated.seats r.at j) e said).0 ∙ sym main.0))
-                (λ n misses e. let clash : Some NotOut ≡ Some Out = sym idle' ∙ (subst (Says m stages seated.seats r.at j) e said).1 in absurd (cc)) said)
+                (λ n misses seen e. let clash : Some NotOut ≡ Some Out = sym idle' ∙ (subst (Says m stages seated.seats r.at j) e said).1 in absurd (cc)) said)
                 (at_set roles id j left v t.1))
                 (λ (t : (j ≡ length vs) × (right ≡ v)). subst (Says m stages' seats' r.at j) t.1
                 (worker, stage_here stages p Out inside, (put_moves seated.seats p end).here ∙ sym t.0, seated.rests p NotOut idle'))
@@ -67,12 +67,12 @@ module _ (m : Protocol) (words : List ℕ) (roles : List Role) (r : AreOne m wor
         refl,
       )
 
-  pub joins : (id p n misses other : ℕ) (st : List Stage) → n ≡ length (m.acts p) → get_elem? roles id ≡ some (Main st) → other ≢ id → get_elem? (set roles id (Main (set st p Ended))) other ≡ some (Cell p n misses)
+  pub joins : (id p n misses seen other : ℕ) (st : List Stage) → n ≡ length (m.acts p) → get_elem? roles id ≡ some (Main st) → other ≢ id → get_elem? (set roles id (Main (set st p Ended))) other ≡ some (Cell p n misses seen)
       → (after : AreOne m words (set (set roles id (Main (set st p Ended))) other Spent)) × (after.at ≡ r.at)
-  joins id p n misses other st end at apart there =
+  joins id p n misses seen other st end at apart there =
       let seated = r.seated in let main = seated.says id (Main st) at in let stages : List Stage = seated.stages in
       let both : Role = Main (set st p Ended) in let vs : List Role = set roles id both in
-      let theirs = seated.says other (Cell p n misses) (sym (set_else roles id other both apart) ∙ there) in
+      let theirs = seated.says other (Cell p n misses seen) (sym (set_else roles id other both apart) ∙ there) in
       let inside : p < length stages = slice_get_within stages p Out theirs.1 in
       let stages' : List Stage = set stages p Ended in (
         record {
@@ -90,7 +90,7 @@ module _ (m : Protocol) (words : List ℕ) (roles : List Role) (r : AreOne m wor
                 let said = seated.says j v u.1 in
                 says_staged m stages seated.seats seated.seats r.at p (seated.seats p) j Ended inside record { here = refl; others = λ q ne. refl } theirs.0 (λ e. let clash : Some Out ≡ Some Ended = sym theirs.1 ∙ e in absurd (cc)) v
                 (λ mine e. u.0 ((subst (Says m stages seated.seats r.at j) e said).0 ∙ sym main.0))
-                (λ k mi e. t.0 (sym (subst (Says m stages seated.seats r.at j) e said).2 ∙ theirs.2)) said)
+                (λ k mi se e. t.0 (sym (subst (Says m stages seated.seats r.at j) e said).2 ∙ theirs.2)) said)
                 (at_set roles id j both v t.1))
                 (at_set vs other j Spent v is);
             rests = rests_staged m stages r.at p Ended inside (theirs.3 ∙ end) seated.rests;
@@ -99,23 +99,47 @@ module _ (m : Protocol) (words : List ℕ) (roles : List Role) (r : AreOne m wor
         refl,
       )
 
+  -- a seat more, which says nothing of processors
+  pub spares : (after : AreOne m words (roles ++ Spent ∷ [])) × (after.at ≡ r.at)
+  spares =
+      let seated = r.seated in (
+        record {
+          at = r.at;
+          shown = r.shown;
+          seated = record {
+            stages = seated.stages;
+            seats = seated.seats;
+            all = seated.all;
+            says = λ j v is. ⊎_elim
+                (λ (t : (j < length roles) × (get_elem? roles j ≡ some v)). seated.says j v t.1)
+                (λ (t : (j ≡ length roles) × (Spent ≡ v)). subst (Says m seated.stages seated.seats r.at j) t.1 tt)
+                (at_new roles Spent v j is);
+            rests = seated.rests;
+          };
+        },
+        refl,
+      )
+
   -- a seat more, which knows that all have ended
-  pub ends : (id : ℕ) (st : List Stage) → get_elem? roles id ≡ some (Main st) → ((p : ℕ) → p < m.workers → slice_get st p ≡ Some Ended) → AreOne m words (roles ++ Over ∷ [])
+  pub ends : (id : ℕ) (st : List Stage) → get_elem? roles id ≡ some (Main st) → ((p : ℕ) → p < m.workers → slice_get st p ≡ Some Ended) → (after : AreOne m words (roles ++ Over ∷ [])) × (after.at ≡ r.at)
   ends id st at ended =
-      let seated = r.seated in let main = seated.says id (Main st) at in record {
-        at = r.at;
-        shown = r.shown;
-        seated = record {
-          stages = seated.stages;
-          seats = seated.seats;
-          all = seated.all;
-          says = λ j v is. ⊎_elim
-              (λ (t : (j < length roles) × (get_elem? roles j ≡ some v)). seated.says j v t.1)
-              (λ (t : (j ≡ length roles) × (Over ≡ v)). subst (Says m seated.stages seated.seats r.at j) t.1 (λ q lt. ap (λ l. slice_get l q) (sym main.1) ∙ ended q lt))
-              (at_new roles Over v j is);
-          rests = seated.rests;
-        };
-      }
+      let seated = r.seated in let main = seated.says id (Main st) at in (
+        record {
+          at = r.at;
+          shown = r.shown;
+          seated = record {
+            stages = seated.stages;
+            seats = seated.seats;
+            all = seated.all;
+            says = λ j v is. ⊎_elim
+                (λ (t : (j < length roles) × (get_elem? roles j ≡ some v)). seated.says j v t.1)
+                (λ (t : (j ≡ length roles) × (Over ≡ v)). subst (Says m seated.stages seated.seats r.at j) t.1 (λ q lt. ap (λ l. slice_get l q) (sym main.1) ∙ ended q lt))
+                (at_new roles Over v j is);
+            rests = seated.rests;
+          };
+        },
+        refl,
+      )
 
   pub closes : Laws m → (id : ℕ) → get_elem? roles id ≡ some Over → cells_in m words ≡ m.last
   closes laws id at = laws.ended (cells_in m words) r.at r.shown.cells (λ p lt. r.seated.rests p Ended (r.seated.says id Over at p lt))

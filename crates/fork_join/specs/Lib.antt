@@ -4,3 +4,4 @@ pub mod Joins
 pub mod SeenDeeds
 pub mod Cursors
 pub mod Workers
+pub mod Ends

@@ -3,6 +3,7 @@
 //! laid in, and their own cells of own scalars closed, worker by worker.
 //!
 //! - [`run_join`]: the run.
+//! - [`Receipt`]: that a run has come to its end.
 //! - `worker`: one worker, phase by phase.
 //! - `walk`: the instances of a phase, one behind another.
 //! - `cursor`: the turns that a worker has left.
@@ -13,9 +14,11 @@
 mod cursor;
 mod overlay;
 mod own_overlay;
+mod receipt;
 mod run;
 mod stores;
 mod walk;
 mod worker;
 
+pub use receipt::Receipt;
 pub use run::run_join;

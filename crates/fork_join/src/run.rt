@@ -16,6 +16,7 @@ ghost use Rattle.nest_model.specs.Ranges.{IsInRange};
 ghost use Rattle.sync_plan.specs.Fit.{IsFit};
 ghost use Rattle.sync_plan.specs.Ordered.{IsOrdered};
 
+use crate::receipt::Receipt;
 use crate::worker::{Lent, Worker};
 use crossbeam_utils::CachePadded;
 use nest_tree::Program;
@@ -33,24 +34,26 @@ use sync_plan::Plan;
 // The most statements that a program has, and so the most loops.
 const MOST_STATEMENTS: usize = 400;
 
-/// Runs a program under an ordered plan by fork and join, from a memory of zeros: the last memory,
-/// by cells, and the whole output. For each phase the plan's workers are forked, each by halves in
-/// a thread of its own where one can be made; each passes the gate, once for each phase, before its
-/// first instance there and also where it has none. `AllocError` comes where memory runs out, which
-/// all is asked for before the first fork.
+/// Runs a program under an ordered plan by fork and join, from a memory of zeros: the receipt, with
+/// the last memory, and the whole output. For each phase the plan's workers are forked, each by
+/// halves in a thread of its own where one can be made; each passes the gate, once for each phase,
+/// before its first instance there and also where it has none. `AllocError` comes where memory runs
+/// out, which all is asked for before the first fork.
 pub fn run_join<R: Threads + Sync, G: Gate + Sync>(
     rt: &R,
     alloc: Global,
     program: &Program,
     plan: &Plan,
     gate: &G,
-) -> Result<(Vec<i64>, Output), AllocError>
+) -> Result<(Receipt, Output), AllocError>
     requires formed { IsWellFormed (tree_of program.now) }
     requires limits { IsWithinLimits (tree_of program.now) }
     requires ranges { IsInRange (tree_of program.now) }
     requires fits { IsFit (tree_of program.now) plan.now }
     requires ordered { IsOrdered (tree_of program.now) plan.now }
-    ensures memory { IfOk result (λ end. end.0.items ≡ last_memory (tree_of program.now)) }
+    ensures program { IfOk result (λ end. end.0.program ≡ program.now) }
+    ensures plan { IfOk result (λ end. end.0.plan ≡ plan.now) }
+    ensures memory { IfOk result (λ end. end.0.memory ≡ last_memory (tree_of program.now)) }
     ensures output { IfOk result (λ end. end.1.bytes ≡ output_of (tree_of program.now)) }
 {
     laws_in_styles();
@@ -67,8 +70,7 @@ pub fn run_join<R: Threads + Sync, G: Gate + Sync>(
     let mut workers = workers_of(alloc, lent)?;
     let mut memory = vec![in alloc; 0; program.cell_count() as usize]?;
     execute(rt, lent, &mut workers, &mut memory, gate);
-    let output = workers.swap_remove(0).into_inner().into_output();
-    Ok((memory, output))
+    Ok(Receipt::of(lent, workers, memory))
 }
 
 // The values of a program's named constants.

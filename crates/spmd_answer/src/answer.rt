@@ -30,7 +30,6 @@ use nest_tree::Program;
 use plan_maker::make;
 use spmd_ports::Gate;
 use std::alloc::{AllocError, Global};
-use std::sync::Wait;
 use std::thread::Threads;
 use styled_table::Receipt;
 
@@ -38,7 +37,7 @@ use styled_table::Receipt;
 /// refused the line that says so; else of a plan that is given and refused the line that says so;
 /// else what its program's run writes, or that the plan is accepted; and the receipt of a run by
 /// spmd. Workers pass the gate. The error is that memory ran out.
-pub fn answer_to<R: Threads + Wait + Sync, G: Gate + Sync>(
+pub fn answer_to<R: Threads + Sync, G: Gate + Sync>(
     host: &Host<'_, R, G>,
     request: &Request,
     settings: &[Setting],
@@ -86,7 +85,7 @@ pub(crate) fn answer_in(stop: Stop) -> Result<Answer, AllocError>
 
 /// What is due for a request on a program, which was read from this input, and the receipt of a run
 /// by spmd. Workers pass the gate. The error is that memory ran out.
-pub fn answer_on<R: Threads + Wait + Sync, G: Gate + Sync>(
+pub fn answer_on<R: Threads + Sync, G: Gate + Sync>(
     host: &Host<'_, R, G>,
     request: &Request,
     program: &Program,
@@ -112,7 +111,7 @@ pub fn answer_on<R: Threads + Wait + Sync, G: Gate + Sync>(
 }
 
 // The run by a plan.
-fn planned_run<R: Threads + Wait + Sync, G: Gate + Sync>(
+fn planned_run<R: Threads + Sync, G: Gate + Sync>(
     host: &Host<'_, R, G>,
     program: &Program,
     bytes: &[u8],
@@ -137,7 +136,7 @@ fn planned_run<R: Threads + Wait + Sync, G: Gate + Sync>(
 }
 
 // The run of the program of `bench`, by spmd.
-fn benched<R: Threads + Wait + Sync, G: Gate + Sync>(
+fn benched<R: Threads + Sync, G: Gate + Sync>(
     host: &Host<'_, R, G>,
     program: &Program,
     sizes: Bench,

@@ -18,7 +18,6 @@ use spmd_model::Style;
 use spmd_ports::Gate;
 use std::alloc::{AllocError, Global};
 use std::fmt::Write;
-use std::sync::Wait;
 use std::thread::Threads;
 use styled_table::Receipt;
 use sync_plan::{Kind, Plan};
@@ -40,7 +39,7 @@ pub fn bench_source(alloc: Global, bench: Bench) -> Result<Vec<u8>, AllocError>
 
 /// What `bench` writes of a program's run by the plan that is made, by spmd, and its receipt.
 /// Workers pass the gate. The error is that memory ran out.
-pub fn bench_run<R: Threads + Wait + Sync, G: Gate + Sync>(
+pub fn bench_run<R: Threads + Sync, G: Gate + Sync>(
     host: &Host<'_, R, G>,
     program: &Program,
     bench: Bench,

@@ -41,6 +41,3 @@ pub use crate::run::{output_by, sequential_output, text_of_plan, text_of_run};
 pub use crate::source::{Behind, behind_of, lines_of};
 pub use crate::status::{Answer, Status, Stop};
 pub use crate::tree::check_tree;
-
-#[cfg(test)]
-mod tests;

@@ -24,7 +24,6 @@ use spmd_machine::Machine;
 use spmd_model::Style;
 use spmd_ports::Gate;
 use std::alloc::{AllocError, Global};
-use std::sync::Wait;
 use std::thread::Threads;
 use styled_run::run_spmd_with;
 use styled_table::Receipt;
@@ -44,7 +43,7 @@ pub fn sequential_output(alloc: Global, program: &Program) -> Result<Vec<u8>, Al
 /// The text of a plan, and then the output of the run by it, which is the sequential one; and of a
 /// run by spmd the receipt. A run by join or by spmd passes the gate. The error is that memory ran
 /// out.
-pub fn text_of_run<R: Threads + Wait + Sync, G: Gate + Sync>(
+pub fn text_of_run<R: Threads + Sync, G: Gate + Sync>(
     host: &Host<'_, R, G>,
     program: &Program,
     plan: &Plan,
@@ -74,7 +73,7 @@ pub fn joined(mut front: Vec<u8>, behind: &[u8]) -> Result<Vec<u8>, AllocError>
 
 /// The output of the run by an ordered plan, and of a run by spmd the receipt. The error is that
 /// memory ran out.
-pub fn output_by<R: Threads + Wait + Sync, G: Gate + Sync>(
+pub fn output_by<R: Threads + Sync, G: Gate + Sync>(
     host: &Host<'_, R, G>,
     program: &Program,
     plan: &Plan,

@@ -1,3 +1,4 @@
 pub mod Processors
 pub mod Machines
 pub mod Promises
+pub mod Ends

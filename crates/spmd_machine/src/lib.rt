@@ -2,12 +2,15 @@
 //!
 //! - [`machine`]: the machine, its step and its runs.
 //! - [`answer`]: what a step answers.
+//! - [`receipt`]: that a run has come to its end.
 //! - `processor`: a processor of the machine.
 #![tactic(auto)]
 
 pub mod answer;
 pub mod machine;
 mod processor;
+pub mod receipt;
 
 pub use answer::StepAnswer;
 pub use machine::Machine;
+pub use receipt::Receipt;

@@ -26,18 +26,18 @@ const MOST_STATEMENTS: usize = 400;
 /// The pure machine of a program under a plan that fits it, where barriers are passed in a style.
 #[derive(Drop)]
 pub struct Machine<'a> {
-    program: &'a Program,
-    plan: &'a Plan,
-    style: Style,
+    pub(crate) program: &'a Program,
+    pub(crate) plan: &'a Plan,
+    pub(crate) style: Style,
     // The cells of all accesses.
-    table: CellTable,
+    pub(crate) table: CellTable,
     // The values of the named constants, and those of loops, by number.
-    params: Vec<i64>,
-    loops: Vec<i64>,
-    processors: Vec<Processor<'a>>,
+    pub(crate) params: Vec<i64>,
+    pub(crate) loops: Vec<i64>,
+    pub(crate) processors: Vec<Processor<'a>>,
     // The cells that all share.
-    memory: Vec<i64>,
-    output: Output,
+    pub(crate) memory: Vec<i64>,
+    pub(crate) output: Output,
 }
 
 impl<'a> Machine<'a> {

@@ -20,7 +20,6 @@ use spmd_answer::{Answer, Host, Status, answer_to, bench_source};
 use spmd_ports::{Gate, Source};
 use std::alloc::{AllocError, Global};
 use std::fmt::Write;
-use std::sync::Wait;
 use std::thread::Threads;
 use styled_table::Receipt;
 
@@ -44,7 +43,7 @@ impl From<AllocError> for Trouble {
 /// The answer to words, which stand without the program's name, from the bytes of the source, and
 /// the receipt of a run by spmd, whose workers pass the gate. The source is read only where the words
 /// stand for a request that reads it and its settings have the form of settings.
-pub fn answer_in<R: Threads + Wait + Sync, S: Source, G: Gate + Sync>(
+pub fn answer_in<R: Threads + Sync, S: Source, G: Gate + Sync>(
     host: &Host<'_, R, G>,
     words: &[&str],
     source: &mut S,
@@ -69,7 +68,7 @@ pub fn answer_in<R: Threads + Wait + Sync, S: Source, G: Gate + Sync>(
 }
 
 // The answer to a request, and the receipt of a run by spmd.
-fn answer_for<R: Threads + Wait + Sync, S: Source, G: Gate + Sync>(
+fn answer_for<R: Threads + Sync, S: Source, G: Gate + Sync>(
     host: &Host<'_, R, G>,
     request: &Request,
     source: &mut S,

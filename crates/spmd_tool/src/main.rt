@@ -79,8 +79,3 @@ fn number_of(status: Status) -> u8
         Status::TooLong => 7,
     }
 }
-
-#[cfg(test)]
-mod runs;
-#[cfg(test)]
-mod tests;

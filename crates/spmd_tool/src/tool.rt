@@ -15,7 +15,6 @@ use crate::outside::write_all;
 use spmd_answer::{Host, Status};
 use spmd_ports::{Failed, Gate, Sink, Source};
 use std::alloc::Global;
-use std::sync::Wait;
 use std::thread::Threads;
 use styled_table::Receipt;
 
@@ -34,7 +33,7 @@ use styled_table::Receipt;
 /// first fault counts: of the words, of the settings' form, of the reading and the length, of the
 /// source and the settings' names, of the plan, of the writing. The receipt is there exactly where
 /// the status is `Done` and `run` or `bench` went by spmd.
-pub fn tool<R: Threads + Wait + Sync, S: Source, K: Sink, G: Gate + Sync>(
+pub fn tool<R: Threads + Sync, S: Source, K: Sink, G: Gate + Sync>(
     rt: &R,
     alloc: Global,
     words: &[&str],

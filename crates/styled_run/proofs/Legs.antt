@@ -1,9 +1,11 @@
 -- A leg, turn by turn.
-use Rattle.std.proofs.Common.{◌≡◌, ◌==◌, ℕ, zero, suc, ◌+◌, ◌-◌, ◌<◌, ◌≤◌, true, List, [], ◌∷◌, ◌++◌, length, drop, Option, Some, None, refl, sym, ◌∙◌, ap, subst, inl, inr, arith, if◌then◌else◌, Bool, sum_by, IsTrue, append_assoc}
+use Rattle.std.proofs.Common.{◌≡◌, ◌==◌, ℕ, zero, suc, ◌+◌, ◌-◌, ◌<◌, ◌≤◌, ◌⊎◌, true, List, [], ◌∷◌, ◌++◌, length, drop, Option, Some, None, refl, sym, ◌∙◌, ap, subst, inl, inr, arith, if◌then◌else◌, Bool, sum_by, IsTrue, append_assoc}
 use Rattle.std.specs.List.{list_all}
 use Rattle.std.proofs.lemmas.Bool.{cases_Bool, eqb-true}
 use Rattle.nest_tree.specs.Layout.{cell_count}
-use Rattle.spmd_laws.specs.Protocols.{passed_first}
+use Rattle.sync_plan.specs.Boundaries.{joins}
+use Rattle.spmd_model.specs.Timelines.{counter, post}
+use Rattle.spmd_laws.specs.Protocols.{act_at, passed_first}
 use Rattle.spmd_turns.specs.Executors.{executor_output, executor_room}
 use Rattle.styled_turns.specs.StyledTurns.{StyledTurn, styled_room}
 use Rattle.styled_turns.specs.StyledLeft.{IsNextOrPhase, beginnings_left, styled_left}
@@ -11,11 +13,14 @@ use Rattle.styled_turns.specs.declared.turns.NextOrPhase.{NextOrPhase}
 use Rattle.styled_turns.specs.declared.turns.NextOrPhase.TheVariants as Coming
 use Rattle.styled_turns.specs.declared.turns.StyledTurns.{StyledTurns}
 use Rattle.cell_table.specs.Places.{settled_at}
-use Rattle.styled_table.specs.Homes.{CellView, Home, protocol_at}
+use Rattle.cell_table.proofs.Vain.{within}
+use Rattle.styled_table.specs.Calls.{StandsInVain}
+use Rattle.styled_table.specs.Homes.{CellView, Home, Subject, protocol_at, seat_in}
 use Rattle.styled_run.specs.Held.{AreHeld}
 use Rattle.styled_run.specs.Legs.{IsFurther, IsJoined, IsSameSeat, IsWaiting, answered_last}
-use Rattle.styled_run.specs.Places.{deeds_at, deeds_in, held_cells, place_of, tree_at}
+use Rattle.styled_run.specs.Places.{deeds_at, deeds_in, held_cells, place_of, plan_at, printed_behind, tree_at}
 use Rattle.styled_run.specs.Walks.{Answers, EndsLeg, GoesTo, IsAtEnd, IsReady, LeadsOn, TurnTells, is_styled_there, to_go, walk_place}
+use Rattle.styled_run.specs.Workers.{IsInside, IsOver}
 use Rattle.styled_run.specs.declared.patience.Patience.{Patience}
 use Rattle.styled_run.specs.declared.walk.Walk.{Walk}
 use Rattle.styled_run.specs.declared.worker.Leg.{Leg}
@@ -39,6 +44,8 @@ waits_more a b c on wanted seen (inl stays) le w = subst (λ (v : CellView). IsW
 waits_more a b c on wanted seen (inr goes) le w = record {
   next = w.next;
   low = w.low;
+  found = w.found;
+  vain = w.vain;
   misses = elim (cases_Bool (a.position == c.position)) [
     | inl same ↦ (let at = eqb-true a.position c.position same in let less = goes.0 in absurd (omega (arith, at, less, le)))
     | inr apart ↦ (let none : (if a.position == c.position then a.misses else 0) ≡ 0 = ap (λ b. if b then a.misses else 0) apart in let many = w.misses in omega (arith, none, many))
@@ -157,3 +164,77 @@ module _ (x : Walk) (ready : IsReady x) (held : AreHeld x.seat.home) (none : sty
 
   pub ended_ready : IsReady (record x { ended = true })
   ended_ready = looked x ready x.turns (record { sound = ready.sound; same = record { program = refl; plan = refl; processor = refl; style = refl }; begun = []; begins = refl }) refl true x.patience (λ _. at_end)
+
+-- ---- behind a leg
+
+-- who has ended has printed all lines
+pub is_over : (x : Walk) → IsReady x → x.ended ≡ true → IsOver (record { seat = x.seat; answered = x.answered; legs = x.patience.legs; output = executor_output x.executor; ended = x.ended })
+is_over x ready e = record { ended = (ready.over e).seat; printed = ready.output ∙ ap (printed_behind x.seat) (ready.over e).placed }
+
+-- its seat is inside its acts
+pub ready_inside : (x : Walk) → IsReady x → AreHeld x.seat.home → IsInside x.seat
+ready_inside x ready held =
+    let count = held.count x.seat.processor (its_worker x ready) in
+    subst (λ n. n ≤ length ((protocol_at x.seat.home).acts x.seat.processor)) ready.settled (within (protocol_at x.seat.home) x.seat.processor (walk_place x) (omega (arith, count)))
+
+-- a leg that stays where it was has ended, or stands in vain: behind a join a place is another
+pub stays_where : (x y : Walk) (leg : Leg) → IsReady x → GoesTo x y → EndsLeg x y leg → y.seat.position ≡ x.seat.position → (y.ended ≡ true) ⊎ StandsInVain x.seat
+stays_where x y leg ready goes ends here = by leg ends.answers
+  where
+    by : (l : Leg) → Answers x y l → (y.ended ≡ true) ⊎ StandsInVain x.seat
+    by Ended r = inl r.1
+    by (Joined e) r = absurd (
+        let j = r.1 in
+        let n = j.posted.0 in
+        let place = j.posted.1 in
+        let posted : act_at (protocol_at x.seat.home) x.seat.processor n ≡ Some (post counter (e - 1)) = sym (λ i. act_at (protocol_at (goes.seat.home i)) (goes.seat.processor i) n) ∙ j.posted.2 in
+        let join : joins (tree_at x.seat.home) (plan_at x.seat.home) (e - 1) ≡ true = sym (ap (λ (h : Home). joins (tree_at h) (plan_at h) (e - 1)) goes.seat.home) ∙ j.join in
+        let less = ready.answered n (e - 1) (omega (arith, place, here)) posted join in
+        let above = j.above in
+        omega (arith, less, above)
+        )
+    by (Waiting on wanted seen) r = inr (subst (λ (v : CellView). StandsInVain v) (λ i. record x.seat { home = goes.seat.home i; processor = goes.seat.processor i; position = here i }) r.1.vain)
+
+-- ---- in another home of its table
+
+pub noted_ready : (x : Walk) (h : Home) → h.given ≡ x.seat.home.given → IsReady x → IsReady (record x { seat = seat_in h x.seat })
+unfolding deeds_at
+noted_ready x h same ready =
+    let s : IsReady (record x { seat = seat_in (record { table = x.seat.home.table; given = h.given; known = x.seat.home.known }) x.seat }) =
+    subst (λ (g : Option Subject). IsReady (record x { seat = seat_in (record { table = x.seat.home.table; given = g; known = x.seat.home.known }) x.seat })) (sym same) ready in record {
+      front = s.front;
+      behind = s.behind;
+      begun = s.begun;
+      begins = s.begins;
+      sound = s.sound;
+      tree = s.tree;
+      plan = s.plan;
+      processor = s.processor;
+      style = s.style;
+      settled = s.settled;
+      idle = s.idle;
+      own = s.own;
+      can = s.can;
+      executes = s.executes;
+      output = s.output;
+      room = s.room;
+      there = s.there;
+      answered = s.answered;
+      over = λ e. let was = s.over e in record { none = was.none; seat = was.seat; placed = was.placed };
+    }
+
+-- what holds of the processors of a table holds in another home of it
+pub noted_held : (g h : Home) → g.given ≡ h.given → AreHeld h → AreHeld g
+unfolding deeds_at
+noted_held g h same held =
+    let s : AreHeld (record { table = h.table; given = g.given; known = h.known }) = subst (λ (x : Option Subject). AreHeld (record { table = h.table; given = x; known = h.known })) (sym same) held in record {
+      run = s.run;
+      laws = s.laws;
+      acts = s.acts;
+      count = s.count;
+      stored = s.stored;
+      added = s.added;
+      printed = s.printed;
+      own = s.own;
+      arrived = s.arrived;
+    }

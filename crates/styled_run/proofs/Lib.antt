@@ -16,4 +16,6 @@ pub mod Legs
 pub mod Joins
 pub mod Starts
 pub mod Teams
+pub mod Telling
+pub mod Rounds
 pub mod Crosses

@@ -24,26 +24,31 @@ use Rattle.styled_run.proofs.OwnHeld.{add_keeps, held_there, load_keeps, print_k
 -- ---- where a seat stands that stood there
 
 pub on_same : (v : CellView) → is_on v v ≡ true
-on_same v = or_left (v.position == v.position && v.misses == v.misses) (nat_lt v.position v.position && v.misses == 0) (and_from (v.position == v.position) (v.misses == v.misses) (eq-eqb v.position v.position refl) (eq-eqb v.misses v.misses refl))
+on_same v =
+    or_left (v.position == v.position && (v.misses == v.misses && v.seen == v.seen)) (nat_lt v.position v.position && v.misses == 0)
+    (and_from (v.position == v.position) (v.misses == v.misses && v.seen == v.seen) (eq-eqb v.position v.position refl) (and_from (v.misses == v.misses) (v.seen == v.seen) (eq-eqb v.misses v.misses refl) (eq-eqb v.seen v.seen refl)))
 
 on_cases : (a b : Bool) → (a || b) ≡ true → (a ≡ true) ⊎ (b ≡ true)
 on_cases true b is = inl refl
 on_cases false b is = inr is
 
-pub on_is : (from v : CellView) → is_on from v ≡ true → ((v.position ≡ from.position) × (v.misses ≡ from.misses)) ⊎ ((from.position < v.position) × (v.misses ≡ 0))
+pub on_is : (from v : CellView) → is_on from v ≡ true → ((v.position ≡ from.position) × (v.misses ≡ from.misses) × (v.seen ≡ from.seen)) ⊎ ((from.position < v.position) × (v.misses ≡ 0))
 on_is from v on = ⊎_elim
-    (λ stays. let both = and_parts (v.position == from.position) (v.misses == from.misses) stays in inl (eqb-true v.position from.position both.0, eqb-true v.misses from.misses both.1))
+    (λ stays.
+    let both = and_parts (v.position == from.position) (v.misses == from.misses && v.seen == from.seen) stays in
+    let polls = and_parts (v.misses == from.misses) (v.seen == from.seen) both.1 in
+    inl (eqb-true v.position from.position both.0, eqb-true v.misses from.misses polls.0, eqb-true v.seen from.seen polls.1))
     (λ goes. let both = and_parts (nat_lt from.position v.position) (v.misses == 0) goes in inr (ltb-true from.position v.position both.0, eqb-true v.misses 0 both.1))
-    (on_cases (v.position == from.position && v.misses == from.misses) (nat_lt from.position v.position && v.misses == 0) on)
+    (on_cases (v.position == from.position && (v.misses == from.misses && v.seen == from.seen)) (nat_lt from.position v.position && v.misses == 0) on)
 
 pub on_gone : (from v : CellView) → is_on from v ≡ true → is_on from (gone v) ≡ true
 on_gone from v on =
     let low : from.position ≤ v.position = ⊎_elim (λ stays. omega (arith, stays.0)) (λ goes. omega (arith, goes.0)) (on_is from v on) in
     let more : from.position < (gone v).position = omega (arith, low) in
-    or_right ((gone v).position == from.position && 0 == from.misses) (nat_lt from.position (gone v).position && true) (and_from (nat_lt from.position (gone v).position) true (lt-ltb from.position (gone v).position more) refl)
+    or_right ((gone v).position == from.position && (0 == from.misses && 0 == from.seen)) (nat_lt from.position (gone v).position && true) (and_from (nat_lt from.position (gone v).position) true (lt-ltb from.position (gone v).position more) refl)
 
 pub on_further : (from v : CellView) → IsSameSeat from v → is_on from v ≡ true → IsFurther from v
-on_further from v same on = ⊎_elim (λ stays. inl (λ i. record { home = same.home i; processor = same.processor i; position = stays.0 i; misses = stays.1 i })) (λ goes. inr goes) (on_is from v on)
+on_further from v same on = ⊎_elim (λ stays. inl (λ i. record { home = same.home i; processor = same.processor i; position = stays.0 i; misses = stays.1 i; seen = stays.2 i })) (λ goes. inr goes) (on_is from v on)
 
 -- what is left where the seat and the own cells show so many done
 module _ (from v : CellView) (own : List ℤ) (n : ℕ) where

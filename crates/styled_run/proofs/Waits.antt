@@ -7,17 +7,27 @@ use Rattle.spmd_laws.specs.Protocols.{act_at, arrivals_at}
 use Rattle.spmd_turns.specs.Executors.{CanExecute, executor_output, executor_room, executor_tree}
 use Rattle.styled_turns.specs.StyledTurns.{StyledTurn, sets, waits}
 use Rattle.styled_turns.specs.StyledLeft.{AreStyled, IsSameRun, beginnings_left, styled_left, styled_plan, styled_processor, styled_style, styled_tree}
-use Rattle.styled_table.specs.Calls.{AwaitsNext, AwaitsSignalNext, GathersNext, all_arrivals}
-use Rattle.styled_table.specs.Homes.{CellView, Home, gone, protocol_at}
+use Rattle.styled_table.specs.Calls.{AwaitsNext, AwaitsSignalNext, GathersNext, StandsInVain, all_arrivals}
+use Rattle.styled_table.specs.Homes.{CellView, Home, gone, missed, protocol_at}
 use Rattle.cell_table.specs.Places.{settled_at}
 use Rattle.styled_run.specs.Held.{AreHeld}
-use Rattle.styled_run.specs.Legs.{AreAnswered, IsAwaited, IsSameSeat}
+use Rattle.styled_run.specs.Legs.{AreAnswered, HasMissed, IsAwaited, IsSameSeat}
 use Rattle.styled_run.specs.Places.{deeds_in, held_cells, plan_at, printed_behind, registers_behind, tree_at}
 use Rattle.styled_run.specs.Walks.{EndsLeg, GoesTo, IsReady, LeadsOn, walk_place}
 use Rattle.styled_run.specs.declared.walk.Walk.{Walk}
 use Rattle.styled_run.specs.declared.worker.Leg.TheVariants.{Joined, Waiting}
 use Rattle.styled_run.proofs.Steps.{await_answered, await_here, await_next, await_passes, come_on, join_answered, leads_on, post_here, post_next, post_passes, seat_gone}
 use Rattle.styled_run.proofs.Walks.{HasCome, Passes, further_place, passed_ready}
+
+-- a poll more that found this in vain, behind so many misses
+pub has_missed : (old before new : CellView) (misses seen : ℕ) → before.home ≡ old.home → before.processor ≡ old.processor → before.position ≡ old.position → before.misses ≡ old.misses + misses → 1000 ≤ misses + 1 → new ≡ missed seen before → StandsInVain before → HasMissed old new seen
+has_missed old before new misses seen home processor position count many is vain = record {
+  same = record { home = ap (λ (v : CellView). v.home) is ∙ home; processor = ap (λ (v : CellView). v.processor) is ∙ processor };
+  stays = ap (λ (v : CellView). v.position) is ∙ position;
+  misses = (let more : new.misses ≡ before.misses + 1 = ap (λ (v : CellView). v.misses) is in omega (arith, more, count, many));
+  found = ap (λ (v : CellView). v.seen) is;
+  vain = subst StandsInVain (sym is) vain;
+}
 
 -- what is awaited next of a seat is awaited next of another at the same place
 pub awaits_same : (v w : CellView) → IsSameSeat v w → w.position ≡ v.position → (on wanted : ℕ) → AwaitsNext v on wanted → AwaitsNext w on wanted
@@ -109,13 +119,13 @@ module _ (x : Walk) (ready : IsReady x) (held : AreHeld x.seat.home) where
     pub still_goes : y.patience.legs ≡ x.patience.legs → GoesTo x y
     still_goes legs = record { ready = still_ready; seat = same; answered = omega (arith, answered); legs = legs }
 
-    pub waits_tells : (word : Word) (on number : ℕ) (rest : List StyledTurn) → styled_left x.turns ≡ waits word on number ∷ rest → (who wanted seen : ℕ) → IsAwaited y.seat who wanted → seen < wanted → 1000 + x.seat.misses ≤ y.seat.misses → EndsLeg x y (Waiting who wanted seen)
+    pub waits_tells : (word : Word) (on number : ℕ) (rest : List StyledTurn) → styled_left x.turns ≡ waits word on number ∷ rest → (who wanted seen : ℕ) → IsAwaited y.seat who wanted → seen < wanted → HasMissed x.seat y.seat seen → EndsLeg x y (Waiting who wanted seen)
     waits_tells word on number rest next who wanted seen awaited low missed =
         let there : AreHeld y.seat.home = subst AreHeld (sym same.home) held in
         let here = await_here y still_ready there word on number rest (ap styled_left turns ∙ next) in
         let mine : (if x.seat.position == y.seat.position then x.seat.misses else 0) ≡ x.seat.misses = ap (λ b. if b then x.seat.misses else 0) (eq-eqb x.seat.position y.seat.position (sym stays)) in
         record {
-          answers = (omega (arith, stays), record { next = awaited; low = low; misses = omega (arith, mine, missed) });
+          answers = (omega (arith, stays), record { next = awaited; low = low; found = missed.found; vain = missed.vain; misses = (let many = missed.misses in omega (arith, mine, many)) });
           answered = λ several. answered;
           placed = sym here;
         }

@@ -3,7 +3,7 @@ use Rattle.std.specs.Prelude.{ℕ, suc, ◌+◌, ◌-◌, ◌==◌, ◌≡◌, �
 use Rattle.sync_plan.specs.Boundaries.{joins}
 use Rattle.spmd_model.specs.Timelines.{await, counter, post}
 use Rattle.spmd_laws.specs.Protocols.{act_at}
-use Rattle.styled_table.specs.Calls.{AwaitsNext, AwaitsSignalNext, GathersNext, all_arrivals}
+use Rattle.styled_table.specs.Calls.{AwaitsNext, AwaitsSignalNext, GathersNext, StandsInVain, all_arrivals}
 use Rattle.styled_table.specs.Homes.{CellView, next_act, protocol_at}
 use Rattle.styled_run.specs.Places.{plan_at, tree_at}
 use Rattle.styled_run.specs.declared.worker.Leg.{Leg}
@@ -23,20 +23,24 @@ abbrev pub AreAnswered : CellView → ℕ → Type 0
 AreAnswered v answered =
     (n number : ℕ) → n < v.position → act_at (protocol_at v.home) v.processor n ≡ Some (post counter number) → joins (tree_at v.home) (plan_at v.home) number ≡ true → number < answered
 
--- its last polls found too little, and there were at least 1000 of them
-pub record HasMissed (old new : CellView) : Type 0 where
+-- its last polls found too little, and there were at least 1000 of them: the last one found this, in vain
+pub record HasMissed (old new : CellView) (seen : ℕ) : Type 0 where
   pub same : IsSameSeat old new
   pub stays : new.position ≡ old.position
   pub misses : 1000 + old.misses ≤ new.misses
+  pub found : new.seen ≡ seen
+  pub vain : StandsInVain new
 
 -- the counter of another is awaited next, or its signal, or all arrivals at a barrier
 abbrev pub IsAwaited : CellView → ℕ → ℕ → Type 0
 IsAwaited v on wanted = AwaitsNext v on wanted ⊎ (AwaitsSignalNext v on wanted ⊎ ((number : ℕ) × GathersNext v number × (on ≡ (protocol_at v.home).workers) × (wanted ≡ all_arrivals v)))
 
--- that is awaited next, the last poll found less, and there were 1000 misses in a row or more, those before aside
+-- that is awaited next, the last poll found this, which is less, in vain, and there were 1000 misses in a row or more, those before aside
 pub record IsWaiting (old new : CellView) (on wanted seen : ℕ) : Type 0 where
   pub next : IsAwaited new on wanted
   pub low : seen < wanted
+  pub found : new.seen ≡ seen
+  pub vain : StandsInVain new
   pub misses : 1000 + (if old.position == new.position then old.misses else 0) ≤ new.misses
 
 -- exactly the acts up to the post in front of the join are done, which is none of those that were answered before

@@ -57,7 +57,7 @@ held_cells h p n = map (λ k. held_at (protocol_at h) p (own_place h p k) n) (ra
 
 -- a seat stands where it stood, or further on, behind an act that was done
 abbrev pub is_on : CellView → CellView → Bool
-is_on old new = (new.position == old.position && new.misses == old.misses) || (nat_lt old.position new.position && new.misses == 0)
+is_on old new = (new.position == old.position && (new.misses == old.misses && new.seen == old.seen)) || (nat_lt old.position new.position && new.misses == 0)
 
 -- a seat that stood there, and own cells, show that so many deeds are done, and those behind them that nobody else sees
 abbrev pub is_behind : CellView → CellView → List ℤ → ℕ → Bool

@@ -27,7 +27,7 @@ pub(crate) fn poll_until(
     requires next { AwaitsNext seat.old awaited.on awaited.wanted }
     ensures came { IfOk result (λ misses. seat.new ≡ gone seat.old) }
     ensures low { IfErr result (λ seen. seen < awaited.wanted) }
-    ensures missed { IfErr result (λ seen. HasMissed seat.old seat.new) }
+    ensures missed { IfErr result (λ seen. HasMissed seat.old seat.new seen) }
 {
     let mut misses = 0;
     while let Poll::NotYet { seen } = cells.poll(seat, awaited.on, awaited.wanted) {
@@ -50,7 +50,7 @@ pub(crate) fn poll_signal_until(
     requires next { AwaitsSignalNext seat.old awaited.on awaited.wanted }
     ensures came { IfOk result (λ misses. seat.new ≡ gone seat.old) }
     ensures low { IfErr result (λ seen. seen < awaited.wanted) }
-    ensures missed { IfErr result (λ seen. HasMissed seat.old seat.new) }
+    ensures missed { IfErr result (λ seen. HasMissed seat.old seat.new seen) }
 {
     let mut misses = 0;
     while let Poll::NotYet { seen } = cells.poll_signal(seat, awaited.on, awaited.wanted) {
@@ -73,7 +73,7 @@ pub(crate) fn poll_arrivals_until(
     requires next { GathersNext seat.old (phase - 1) }
     ensures came { IfOk result (λ misses. seat.new ≡ through seat.old) }
     ensures low { IfErr result (λ seen. seen < all_arrivals seat.old) }
-    ensures missed { IfErr result (λ seen. HasMissed seat.old seat.new) }
+    ensures missed { IfErr result (λ seen. HasMissed seat.old seat.new seen) }
 {
     let mut misses = 0;
     while let Poll::NotYet { seen } = cells.poll_arrivals(seat, phase) {

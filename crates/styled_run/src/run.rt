@@ -1,6 +1,6 @@
 // All workers of a plan, on threads.
 
-ghost use Rattle.std.specs.Prelude.{◌≡◌, true, IfOk, OnOk, Some};
+ghost use Rattle.std.specs.Prelude.{◌≡◌, ◌≤◌, false, true, IfOk, OnOk, Some, length};
 ghost use Rattle.nest_tree.specs.Limits.{IsWithinLimits};
 ghost use Rattle.nest_tree.specs.View.{tree_of};
 ghost use Rattle.nest_tree.specs.WellFormed.{IsWellFormed};
@@ -12,19 +12,20 @@ ghost use Rattle.spmd_model.specs.declared.style.Style.TheVariants.{Arrive};
 ghost use Rattle.crossbeam_utils.specs.Padded.{padded_value};
 ghost use Rattle.styled_table.specs.Calls.{AreAllEnded, main_seat};
 ghost use Rattle.styled_table.specs.Ends.{IsLast};
-ghost use Rattle.styled_table.specs.Homes.{protocol_at};
-ghost use Rattle.styled_run.specs.Teams.{AreOut, AreOver, AreWorkersOf};
+ghost use Rattle.styled_table.specs.Homes.{IsSameTable, protocol_at};
+ghost use Rattle.styled_run.specs.Teams.{AreInside, AreOut, AreOver, AreSeatedIn, AreWorkersOf, HasTold, IsGoing, WentAll, WentOn};
+ghost use Rattle.styled_run.specs.Workers.{IsInside};
 
 use crate::laws::laws_of;
 use crate::tables::Tables;
 use crate::worker::Worker;
+use cell_table::rounds_leave_less;
 use crossbeam_utils::CachePadded;
 use nest_tree::Program;
 use seq_meaning::Output;
 use spmd_model::Style;
 use spmd_ports::Gate;
 use std::alloc::{AllocError, Global};
-use std::sync::Wait;
 use std::thread;
 use std::thread::Threads;
 use styled_table::{Cells, Closed, MainSeat};
@@ -32,7 +33,7 @@ use sync_plan::Plan;
 
 /// Runs a program under a plan whose barriers are passed by arrivals: the same as
 /// [`run_spmd_with`] in that style.
-pub fn run_spmd<R: Threads + Wait + Sync, G: Gate + Sync>(
+pub fn run_spmd<R: Threads + Sync, G: Gate + Sync>(
     rt: &R,
     alloc: Global,
     program: &Program,
@@ -54,8 +55,9 @@ pub fn run_spmd<R: Threads + Wait + Sync, G: Gate + Sync>(
 /// Runs a program under a plan, each processor by a worker of its own, over words that all share,
 /// and cells of its own for own scalars, with the plan's barriers passed in a style: the table at
 /// its end, which has the sequential program's last memory, and its output. The workers are forked
-/// by halves and joined, in rounds of one leg each, until all have ended.
-pub fn run_spmd_with<R: Threads + Wait + Sync, G: Gate + Sync>(
+/// by halves and joined, in rounds of one leg each, until all have ended: in each round one makes an
+/// act or ends, so there are at most as many as acts and workers.
+pub fn run_spmd_with<R: Threads + Sync, G: Gate + Sync>(
     rt: &R,
     alloc: Global,
     program: &Program,
@@ -73,13 +75,15 @@ pub fn run_spmd_with<R: Threads + Wait + Sync, G: Gate + Sync>(
     ensures output { IfOk result (λ r. r.1.bytes ≡ output_of (tree_of program.now)) }
 {
     let tables = Tables::new(alloc, program, plan, style)?;
-    let (cells, mut main) = Cells::new_with(alloc, program, plan, style)?;
+    let (mut cells, mut main) = Cells::new_with(alloc, program, plan, style)?;
     let mut workers = workers_of(alloc, &tables, &cells, &mut main)?;
-    for _ in rt.forever() {
+    while !have_ended(&workers) {
+        laws_of(&cells);
+        rounds_leave_less();
+        tell(&cells, &mut main, &mut workers);
+        tell(&cells, &mut main, &mut workers);
+        cells.renew(&main);
         round(rt, &cells, &mut workers, gate);
-        if have_ended(&workers) {
-            break;
-        }
     }
     let output = gathered(&cells, &mut main, workers);
     match cells.close(alloc, main) {
@@ -112,6 +116,19 @@ pub fn workers_of<'a>(
     Ok(workers)
 }
 
+// The main seat learns where each worker is, and tells it the places that it knows: all of them, the
+// second time.
+fn tell(cells: &Cells<'_>, main: &mut MainSeat, workers: &mut Vec<CachePadded<Worker<'_>>>)
+    requires home { IsSameTable main.old.home cells.now }
+    requires workers { AreSeatedIn main.old.home workers.old.items }
+    requires long { length workers.old.items ≤ length main.old.home.known }
+    ensures { HasTold main.old main.new workers.old.items workers.new.items (length workers.old.items) }
+{
+    for p in 0..workers.len() {
+        workers[p].note(cells, main);
+    }
+}
+
 // A leg of each worker that hasn't ended, side by side.
 fn round<R: Threads + Sync, G: Gate + Sync>(
     rt: &R,
@@ -120,7 +137,10 @@ fn round<R: Threads + Sync, G: Gate + Sync>(
     gate: &G,
 )
     requires workers { AreWorkersOf cells.now workers.old }
+    requires inside { AreInside workers.old }
     ensures workers { AreWorkersOf cells.now workers.new }
+    ensures inside { AreInside workers.new }
+    ensures went { WentAll workers.old workers.new }
 {
     let count = workers.len();
     if count == 0 {
@@ -132,8 +152,11 @@ fn round<R: Threads + Sync, G: Gate + Sync>(
         count,
         &|_: usize, worker: &mut CachePadded<Worker>|
             requires own { (padded_value worker.now).seat.home ≡ cells.now }
+            requires inside { IsInside (padded_value worker.now).seat }
             ensures home { (padded_value worker.exit.now).seat.home ≡ (padded_value worker.entry.now).seat.home }
             ensures processor { (padded_value worker.exit.now).seat.processor ≡ (padded_value worker.entry.now).seat.processor }
+            ensures inside { IsInside (padded_value worker.exit.now).seat }
+            ensures went { WentOn (padded_value worker.entry.now) (padded_value worker.exit.now) }
         {
             if !worker.has_ended() {
                 worker.leg(cells, gate);
@@ -144,7 +167,8 @@ fn round<R: Threads + Sync, G: Gate + Sync>(
 
 /// Whether all workers have ended.
 pub fn have_ended(workers: &[CachePadded<Worker<'_>>]) -> bool
-    ensures { result ≡ true → AreOver workers.now }
+    ensures over { result ≡ true → AreOver workers.now }
+    ensures going { result ≡ false → IsGoing workers.now }
 {
     for worker in workers {
         if !worker.has_ended() {

@@ -1,11 +1,11 @@
 // One processor's worker.
 
-ghost use Rattle.std.specs.Prelude.{◌≡◌, ◌+◌, ◌%◌, ◌^◌, ◌≤◌, ◌<◌, ◌↔◌, true, ℕ, [], IfErr, IfOk};
-ghost use Rattle.styled_table.specs.Calls.{IsEndedSeat, first_seat};
-ghost use Rattle.styled_table.specs.Homes.{protocol_at};
+ghost use Rattle.std.specs.Prelude.{◌≡◌, ◌+◌, ◌%◌, ◌^◌, ◌≤◌, ◌<◌, ◌↔◌, ◌⊎◌, false, true, ℕ, [], IfErr, IfOk};
+ghost use Rattle.styled_table.specs.Calls.{IsEndedSeat, StandsInVain, first_seat};
+ghost use Rattle.styled_table.specs.Homes.{IsSameTable, at_place, main_in, protocol_at};
 ghost use Rattle.styled_run.specs.Legs.{AreAnswered, IsJoined, IsWaiting, answered_last};
 ghost use Rattle.styled_run.specs.Places.{printed_behind};
-ghost use Rattle.styled_run.specs.Workers.{IsOver};
+ghost use Rattle.styled_run.specs.Workers.{IsInside, IsOver, IsPlaced, worker_in};
 ghost use Rattle.styled_run.specs.declared.worker.Leg.TheVariants.{Ended, Joined, Waiting};
 
 use crate::laws::laws_of;
@@ -18,7 +18,7 @@ use spmd_ports::Gate;
 use spmd_turns::Executor;
 use std::alloc::Global;
 use std::marker::Model;
-use styled_table::{CellSeat, Cells};
+use styled_table::{CellSeat, Cells, MainSeat};
 use styled_turns::StyledTurns;
 
 /// Why a leg ended.
@@ -51,7 +51,7 @@ impl<'a> Model for Worker<'a> {
 
     ghost coded = { worker_code };
 
-    ghost view = { λ w. record { seat = w.walk.seat; answered = w.walk.answered; legs = w.walk.patience.legs; output = executor_output w.walk.executor } };
+    ghost view = { λ w. record { seat = w.walk.seat; answered = w.walk.answered; legs = w.walk.patience.legs; output = executor_output w.walk.executor; ended = w.walk.ended } };
 
     ghost invariant = { λ w. IsReady w.walk };
 }
@@ -78,6 +78,7 @@ impl<'a> Worker<'a> {
         ensures answered { IfOk result (λ w. w.answered ≡ 0) }
         ensures legs { IfOk result (λ w. w.legs ≡ 0) }
         ensures output { IfOk result (λ w. w.output ≡ []) }
+        ensures ended { IfOk result (λ w. w.ended ≡ false) }
         ensures refused { IfErr result (λ r. r.seat ≡ seat) }
     {
         laws_of(cells);
@@ -115,14 +116,31 @@ impl<'a> Worker<'a> {
         ensures ended { (result ≡ Ended) ↔ IsEndedSeat self.new.seat }
         ensures joined { (e : ℕ) → result ≡ Joined e → IsJoined self.old.answered self.new.seat e }
         ensures waiting { (on wanted seen : ℕ) → result ≡ Waiting on wanted seen → IsWaiting self.old.seat self.new.seat on wanted seen }
+        ensures inside { IsInside self.new.seat }
+        ensures goes { self.new.seat.position ≡ self.old.seat.position → (self.new.ended ≡ true) ⊎ StandsInVain self.old.seat }
     {
+        laws_of(cells);
         self.walk.patience = self.walk.patience.next_leg();
         self.walk.leg(cells, gate)
     }
 
+    /// Between two legs the main seat learns where its processor is, and tells it the places of others
+    /// that it knows.
+    pub fn note(&mut self, cells: &Cells<'_>, main: &mut MainSeat)
+        requires main { IsSameTable main.old.home cells.now }
+        requires seat { IsSameTable self.old.seat.home cells.now }
+        ensures main { main.new ≡ main_in (at_place self.old.seat.processor self.old.seat.position main.old.home) main.old }
+        ensures seat { self.new ≡ worker_in main.new.home self.old }
+        ensures placed { IsPlaced self.new }
+    {
+        laws_of(cells);
+        cells.note(main, &mut self.walk.seat);
+    }
+
     /// Whether a leg has answered that it ended.
     pub fn has_ended(&self) -> bool
-        ensures { result ≡ true → IsOver self.now }
+        ensures ended { result ≡ self.now.ended }
+        ensures over { result ≡ true → IsOver self.now }
     {
         self.walk.ended
     }

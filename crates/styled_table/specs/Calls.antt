@@ -1,9 +1,10 @@
 -- What the calls of a table ask and tell.
-use Rattle.std.specs.Prelude.{ℕ, ℤ, ◌+◌, ◌-◌, ◌*◌, ◌≡◌, ◌<◌, true, false, Contains, Some, length, replicate, slice_get, slice_set}
+use Rattle.std.specs.Prelude.{ℕ, ℤ, ◌+◌, ◌-◌, ◌*◌, ◌≡◌, ◌<◌, true, false, Contains, Some, length, replicate, slice_get, slice_index, slice_set}
 use Rattle.nest_model.specs.Accesses.{loads_of}
 use Rattle.nest_model.specs.Instances.{Instance, instances}
 use Rattle.nest_model.specs.Memory.{cell_value, memory_before}
 use Rattle.spmd_model.specs.Styled.{instances_in_front}
+use Rattle.spmd_model.specs.Free.{IsInVain}
 use Rattle.spmd_model.specs.Timelines.{counter, signal, post, await, load, store, add}
 use Rattle.spmd_laws.specs.Viewed.{barriers_in_front}
 use Rattle.styled_table.specs.declared.poll.Poll.{Poll}
@@ -51,10 +52,14 @@ IsInMemory v cell z =
     (place : ℕ) → next_act v ≡ Some (load place cell) → let tree = tree_given v.home.given in let number = instances_in_front (style_given v.home.given) tree (plan_given v.home.given) place in
     (i : Instance) × (slice_get (instances tree) number ≡ Some i) × Contains (loads_of tree i) cell × (z ≡ cell_value (memory_before tree number) cell)
 
--- a poll that is ready goes on; another one is a miss, and shows what it found, which is less than what was wanted
+-- not all that the seat's processor awaits with its next act was posted at the places that its table knows
+abbrev pub StandsInVain : CellView → Type 0
+StandsInVain v = IsInVain (protocol_at v.home).acts (slice_index v.home.known) v.processor v.position
+
+-- a poll that is ready goes on; another one is a miss, and shows the word that it found, which is less than what was wanted: so the seat stood in vain
 abbrev pub PollTells : CellView → CellView → ℕ → Poll → CellView → Type 0
 PollTells old further wanted Ready new = new ≡ further
-PollTells old further wanted (NotYet seen) new = (seen < wanted) × (new ≡ missed old)
+PollTells old further wanted (NotYet seen) new = (seen < wanted) × (new ≡ missed seen old) × StandsInVain old
 
 -- how many arrivals there are once all have arrived as often as the seat's processor
 abbrev pub all_arrivals : CellView → ℕ
@@ -69,7 +74,7 @@ with_stage p stage v = record { home = v.home; stages = slice_set v.stages p sta
 
 -- a processor's seat at its first act
 abbrev pub first_seat : Home → ℕ → CellView
-first_seat h p = record { home = h; processor = p; position = settled_at (protocol_at h) p 0; misses = 0 }
+first_seat h p = record { home = h; processor = p; position = settled_at (protocol_at h) p 0; misses = 0; seen = 0 }
 
 -- all acts of the seat's processor are done
 abbrev pub IsEndedSeat : CellView → Type 0

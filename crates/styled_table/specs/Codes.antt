@@ -14,12 +14,12 @@ abbrev pub given_code : Coded (Option Subject)
 given_code = coded_option (coded× programs.the_row.coded (coded× plans.the_row.coded styles.the_row.coded))
 
 abbrev pub home_code : Coded Home
-home_code = code_by (TableId × Option Subject) (coded× table_id_coded given_code) (λ h. (h.table, h.given)) (λ x. record { table = x.0; given = x.1 }) (λ _. refl)
+home_code = code_by (TableId × (Option Subject × List ℕ)) (coded× table_id_coded (coded× given_code (coded_list coded_ℕ))) (λ h. (h.table, (h.given, h.known))) (λ x. record { table = x.0; given = x.1.0; known = x.1.1 }) (λ _. refl)
 
 abbrev pub cell_view_code : Coded CellView
 cell_view_code =
-    code_by (Home × (ℕ × (ℕ × ℕ))) (coded× home_code (coded× coded_ℕ (coded× coded_ℕ coded_ℕ))) (λ v. (v.home, (v.processor, (v.position, v.misses))))
-    (λ x. record { home = x.0; processor = x.1.0; position = x.1.1.0; misses = x.1.1.1 }) (λ _. refl)
+    code_by (Home × (ℕ × (ℕ × (ℕ × ℕ)))) (coded× home_code (coded× coded_ℕ (coded× coded_ℕ (coded× coded_ℕ coded_ℕ)))) (λ v. (v.home, (v.processor, (v.position, (v.misses, v.seen)))))
+    (λ x. record { home = x.0; processor = x.1.0; position = x.1.1.0; misses = x.1.1.1.0; seen = x.1.1.1.1 }) (λ _. refl)
 
 abbrev pub main_view_code : Coded MainView
 main_view_code = code_by (Home × List Stage) (coded× home_code (coded_list stages.the_row.coded)) (λ v. (v.home, v.stages)) (λ x. record { home = x.0; stages = x.1 }) (λ _. refl)

@@ -1,6 +1,6 @@
 // The shared words, and the calls on them.
 
-ghost use Rattle.std.specs.Prelude.{◌≡◌, ◌<◌, ◌-◌, IfOk, IfErr, Some, slice_get};
+ghost use Rattle.std.specs.Prelude.{◌≡◌, ◌<◌, ◌-◌, IfOk, IfErr, Some, replicate, slice_get};
 ghost use Rattle.nest_tree.specs.View.{tree_of};
 ghost use Rattle.nest_tree.specs.Limits.{IsWithinLimits};
 ghost use Rattle.nest_tree.specs.WellFormed.{IsWellFormed};
@@ -12,7 +12,7 @@ ghost use Rattle.styled_table.specs.Calls.{AddsNext, AreAllEnded, ArrivesNext, A
 ghost use Rattle.styled_table.specs.Ends.{IsLast};
 ghost use Rattle.spmd_model.specs.Timelines.{counter, signal};
 ghost use Rattle.spmd_model.specs.declared.style.Style.TheVariants.{Arrive};
-ghost use Rattle.styled_table.specs.Homes.{gone, loaded_next, plan_given, protocol_at, stored_next, style_given, through, tree_given};
+ghost use Rattle.styled_table.specs.Homes.{IsSameTable, at_place, gone, loaded_next, main_in, plan_given, protocol_at, seat_in, stored_next, style_given, through, tree_given};
 ghost use Rattle.cell_table.specs.Runs.{IsRunnable};
 ghost use Rattle.cell_table.specs.Words.{word_of};
 ghost use Rattle.cell_table.specs.declared.view.Stage.{Stage};
@@ -20,7 +20,7 @@ ghost use Rattle.cell_table.specs.declared.view.Stage.TheVariants.{Ended, NotOut
 
 use crate::closed::{Closed, read_words};
 use crate::poll::Poll;
-use crate::rule::{Cut, Glue, Go, Load, Look, LookAround, Rule, Twin, Which};
+use crate::rule::{Cut, Glue, Go, Learn, Load, Look, LookAround, Rule, Tell, Twin, Which};
 use crate::view::{Given, View};
 use atomic_table::{Seat, Table};
 use nest_tree::Program;
@@ -28,10 +28,12 @@ use spmd_laws::{arrivals_in_styles, laws_in_styles, loads_in_styles};
 use spmd_model::Style;
 use std::alloc::{AllocError, Global};
 use std::marker::{Brand, Model};
+use std::snapshot::Snapshot;
 use sync_plan::Plan;
 
 /// The cells, the counters, the signals and the arrival word of a program under a plan, as words
-/// that threads share. Contracts see which table it is, and of which program, plan and style.
+/// that threads share. Contracts see which table it is, of which program, plan and style, and places
+/// that its processors have come to.
 #[derive(Drop)]
 pub struct Cells<'a> {
     program: &'a Program,
@@ -42,6 +44,8 @@ pub struct Cells<'a> {
     // where all arrivals are counted
     arrivals: usize,
     table: Table<u8, View, Given<'a>, Rule, Global>,
+    // proofs alone: the main seat when its places were made known last
+    round: Snapshot<MainSeat>,
 }
 
 impl<'a> Model for Cells<'a> {
@@ -53,13 +57,13 @@ impl<'a> Model for Cells<'a> {
 
     ghost coded = { home_code };
 
-    ghost view = { λ c. record { table = c.table.shared.table_id; given = Some (c.program.now, (c.plan.now, c.style)) } };
+    ghost view = { λ c. record { table = c.table.shared.table_id; given = Some (c.program.now, (c.plan.now, c.style)); known = c.round.value.home.known } };
 
     ghost invariant = { λ c. IsTableOf (c.program.now, (c.plan.now, c.style)) c.table.shared.table_id c.cells c.arrivals };
 }
 
-/// The seat of one processor. Contracts see the processor, how many of its acts are done, and its
-/// misses.
+/// The seat of one processor. Contracts see the processor, how many of its acts are done, its misses,
+/// and what the last of them found.
 #[derive(Drop)]
 pub struct CellSeat {
     seat: Seat<u8, View>,
@@ -146,6 +150,7 @@ impl<'a> Cells<'a> {
         requires ordered { IsOrdered (tree_of program.now) plan.now }
         ensures given { IfOk result (λ t. t.0.given ≡ Some (program.now, (plan.now, Arrive))) }
         ensures main { IfOk result (λ t. t.1 ≡ main_seat t.0) }
+        ensures known { IfOk result (λ t. t.0.known ≡ replicate plan.now.workers 0) }
     {
         Cells::new_with(alloc, program, plan, Style::Arrive)
     }
@@ -165,6 +170,7 @@ impl<'a> Cells<'a> {
         requires ordered { IsOrdered (tree_of program.now) plan.now }
         ensures given { IfOk result (λ t. t.0.given ≡ Some (program.now, (plan.now, style))) }
         ensures main { IfOk result (λ t. t.1 ≡ main_seat t.0) }
+        ensures known { IfOk result (λ t. t.0.known ≡ replicate plan.now.workers 0) }
     {
         laws_in_styles();
         let cells = program.cell_count() as u32;
@@ -176,6 +182,8 @@ impl<'a> Cells<'a> {
             style,
         };
         let (table, seat) = Table::of_words(alloc, zeros.as_slice(), &given)?;
+        let main = MainSeat { seat };
+        let round = Snapshot::of(&main);
         Ok((
             Cells {
                 program,
@@ -184,8 +192,9 @@ impl<'a> Cells<'a> {
                 cells,
                 arrivals: count - 8,
                 table,
+                round,
             },
-            MainSeat { seat },
+            main,
         ))
     }
 
@@ -228,6 +237,7 @@ impl<'a> Cells<'a> {
             cells: _,
             arrivals: _,
             table,
+            round: _,
         } = self;
         let words = table.close_with(over);
         read_words(&words, &mut memory);
@@ -348,14 +358,14 @@ impl<'a> Cells<'a> {
         ensures wanted { all_arrivals seat.old ≡ arrivals_up_to self.now e }
     {
         arrivals_in_styles();
-        let seen = self
+        let arrived = self
             .table
             .shared
             .load::<LookAround>(&mut seat.seat, self.arrivals);
-        if seat.all <= seen {
+        if seat.all <= arrived {
             Poll::Ready
         } else {
-            Poll::NotYet { seen }
+            Poll::NotYet { seen: arrived }
         }
     }
 
@@ -398,6 +408,28 @@ impl<'a> Cells<'a> {
             all: _,
         } = seat;
         self.table.shared.join_seat::<Glue>(&mut main.seat, seat);
+    }
+
+    /// The main seat and a processor's tell each other the places that they know, and the main seat
+    /// learns where the processor is.
+    pub fn note(&self, main: &mut MainSeat, seat: &mut CellSeat)
+        requires main { IsSameTable main.old.home self.now }
+        requires seat { IsSameTable seat.old.home self.now }
+        ensures main { main.new ≡ main_in (at_place seat.old.processor seat.old.position main.old.home) main.old }
+        ensures seat { seat.new ≡ seat_in main.new.home seat.old }
+    {
+        let news = self.table.shared.split_seat::<Tell>(&mut main.seat);
+        self.table.shared.join_seat::<Learn>(&mut seat.seat, news);
+        let place = self.table.shared.split_seat::<Tell>(&mut seat.seat);
+        self.table.shared.join_seat::<Learn>(&mut main.seat, place);
+    }
+
+    /// The places that the main seat knows are those of the table: so a poll in vain was so at them.
+    pub fn renew(&mut self, main: &MainSeat)
+        requires main { IsSameTable main.now.home self.old }
+        ensures { self.new ≡ main.now.home }
+    {
+        self.round = Snapshot::of(main);
     }
 
     // Where the counter of this processor lies.

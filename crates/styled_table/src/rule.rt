@@ -1,7 +1,7 @@
 // The rule of the table, and what each of its steps tells.
 
 ghost use Rattle.std.specs.Prelude.{ℕ};
-ghost use Rattle.styled_table.specs.Rule.{Shown, first_of, first_view, goes, loads, polls, rows, taken_in, taken_out, with_role};
+ghost use Rattle.styled_table.specs.Rule.{Shown, first_of, first_view, goes, learnt, loads, polls, rows, taken_in, taken_out, told, with_role};
 ghost use Rattle.cell_table.specs.declared.view.Role.TheVariants.{Over};
 ghost use Rattle.styled_table.specs.declared.view.View.TheVariants.{Away};
 
@@ -82,4 +82,22 @@ impl Split<View> for Twin {
     ghost left = { λ v. v };
 
     ghost right = { λ v. with_role v Over };
+}
+
+/// A seat more, which knows what the other knows, and is nobody's.
+pub struct Tell;
+
+impl Split<View> for Tell {
+    ghost left = { λ v. v };
+
+    ghost right = { told };
+}
+
+/// A seat learns it, and adds its own place.
+pub struct Learn;
+
+impl Join<View> for Learn {
+    ghost both = { learnt };
+
+    ghost spent = { Away };
 }

@@ -3,12 +3,13 @@
 use cell_table::Role;
 use nest_tree::Program;
 use spmd_model::Style;
+use std::collections::LinkedList;
 use sync_plan::Plan;
 
-/// What a seat knows: of which program, plan and style it is, and whose. A seat that was joined to
-/// another knows nothing.
+/// What a seat knows: of which program, plan and style it is, places that all processors have come
+/// to, by processor, and whose it is. A seat that was joined to another knows nothing.
 pub enum View {
-    Seated(Program, Plan, Style, Role),
+    Seated(Program, Plan, Style, LinkedList<u64>, Role),
     Away,
 }
 

@@ -52,4 +52,4 @@ returns-in-Err-clause-tells c =
     let y = record x { seat = c.poll_until.new.seat; patience = c.behind_leg-self.result } in
     let next = c.requires.next.0 in
     let awaited = inl (awaits_same x.seat y.seat missed.same missed.stays c.args.on c.args.wanted (await_next x ready held counter c.args.on c.args.wanted next.0 next.1, no_barrier_here x ready c.args.wanted c.requires.boundary)) in
-    waits_tells x ready held y missed.same missed.stays refl refl refl refl refl counter c.args.on c.args.wanted next.0 next.1 c.args.on c.args.wanted c.in-Err.seen awaited c.in-Err.ensures.low missed.misses
+    waits_tells x ready held y missed.same missed.stays refl refl refl refl refl counter c.args.on c.args.wanted next.0 next.1 c.args.on c.args.wanted c.in-Err.seen awaited c.in-Err.ensures.low missed

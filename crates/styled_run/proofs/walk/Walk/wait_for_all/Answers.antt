@@ -86,4 +86,4 @@ returns-in-Err-clause-tells c =
     let awaited = gathers_same x.seat y.seat missed.same missed.stays number c.workers-on.result c.all_arrivals-wanted.result gathers who c.all_arrivals-wanted.ensures in
     let low = c.in-Err.ensures.low in
     let all = c.all_arrivals-wanted.ensures in
-    waits_tells x ready held y missed.same missed.stays refl refl refl refl refl counter on number next.0 next.1 c.workers-on.result c.all_arrivals-wanted.result c.in-Err.seen awaited (omega (arith, low, all)) missed.misses
+    waits_tells x ready held y missed.same missed.stays refl refl refl refl refl counter on number next.0 next.1 c.workers-on.result c.all_arrivals-wanted.result c.in-Err.seen awaited (omega (arith, low, all)) missed

@@ -52,4 +52,4 @@ returns-in-Err-clause-tells c =
     let y = record x { seat = c.poll_signal_until.new.seat; patience = c.behind_leg-self.result } in
     let next = c.requires.next.0 in
     let awaited = inr (inl (signals_same x.seat y.seat missed.same missed.stays c.args.on c.args.wanted (await_next x ready held signal c.args.on c.args.wanted next.0 next.1))) in
-    waits_tells x ready held y missed.same missed.stays refl refl refl refl refl signal c.args.on c.args.wanted next.0 next.1 c.args.on c.args.wanted c.in-Err.seen awaited c.in-Err.ensures.low missed.misses
+    waits_tells x ready held y missed.same missed.stays refl refl refl refl refl signal c.args.on c.args.wanted next.0 next.1 c.args.on c.args.wanted c.in-Err.seen awaited c.in-Err.ensures.low missed

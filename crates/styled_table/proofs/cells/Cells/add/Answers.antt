@@ -2,7 +2,7 @@ use Rattle.std.proofs.Common.{List, ℕ, sym, ◌∙◌, ap, subst, arith}
 use Rattle.spmd_model.specs.Timelines.{add}
 use Rattle.styled_table.specs.declared.view.View.{View}
 use Rattle.cell_table.specs.Words.{word_count}
-use Rattle.styled_table.specs.Homes.{IsSeatOf, misses_of, position_of, role_in}
+use Rattle.styled_table.specs.Homes.{IsSeatOf, misses_of, position_of, role_in, seen_of}
 use Rattle.styled_table.proofs.Keeps.{add_allowed}
 use Rattle.styled_table.proofs.Calls.{stands, same, same_table, add_inside, its_laws, its_next, gone_seat, gone_here, added_here}
 use Rattle.std.specs.Int.{w64, cast_unsigned}
@@ -18,7 +18,7 @@ fetch_add-requires c =
     let wide = c.self.invariant.words ∙ ap word_count (sym (same k)) in (
       same_table k,
       omega (arith, inside, wide),
-      add_allowed c.self.inside.table.shared.key c.self.inside.table.shared.table_id.slots s.seat.id s.seat.me (its_laws k c.self.invariant.laws) s.processor (position_of (role_in s.seat.me.0)) (misses_of (role_in s.seat.me.0)) c.seat.invariant.0.role c.requires.next.0 c.args.cell _ next inside
+      add_allowed c.self.inside.table.shared.key c.self.inside.table.shared.table_id.slots s.seat.id s.seat.me (its_laws k c.self.invariant.laws) s.processor (position_of (role_in s.seat.me.0)) (misses_of (role_in s.seat.me.0)) (seen_of (role_in s.seat.me.0)) c.seat.invariant.0.role c.requires.next.0 c.args.cell _ next inside
           (added_here k c.args.amount _ c.ranges.amount c.requires.amount (c.cast_unsigned.ensures ∙ ap (cast_unsigned w64) (to_z-of_z w64 c.args.amount c.ranges.amount))),
     )
 

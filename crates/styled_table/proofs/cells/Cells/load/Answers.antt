@@ -3,7 +3,7 @@ use Rattle.spmd_model.specs.Timelines.{load}
 use Rattle.styled_table.specs.declared.view.View.{View}
 use Rattle.cell_table.specs.Words.{word_count}
 use Rattle.cell_table.specs.Runs.{IsRunnable}
-use Rattle.styled_table.specs.Homes.{CellView, Home, IsSeatOf, protocol_at, misses_of, plan_given, position_of, role_in, style_given, tree_given}
+use Rattle.styled_table.specs.Homes.{CellView, Home, IsSeatOf, protocol_at, misses_of, plan_given, position_of, role_in, seen_of, style_given, tree_given}
 use Rattle.styled_table.proofs.Keeps.{load_allowed}
 use Rattle.styled_table.proofs.Calls.{stands, same, same_table, load_inside, its_laws, its_next, gone_seat, gone_here, loaded_here}
 use Rattle.styled_table.proofs.cells.Cells.load.Goals as goal
@@ -17,7 +17,7 @@ load-requires c =
     let wide = c.self.invariant.words ∙ ap word_count (sym (same k)) in (
       same_table k,
       omega (arith, inside, wide),
-      load_allowed c.self.inside.table.shared.key c.self.inside.table.shared.table_id.slots s.seat.id s.seat.me (its_laws k c.self.invariant.laws) s.processor (position_of (role_in s.seat.me.0)) (misses_of (role_in s.seat.me.0)) c.seat.invariant.0.role c.requires.next.0 c.args.cell next inside,
+      load_allowed c.self.inside.table.shared.key c.self.inside.table.shared.table_id.slots s.seat.id s.seat.me (its_laws k c.self.invariant.laws) s.processor (position_of (role_in s.seat.me.0)) (misses_of (role_in s.seat.me.0)) (seen_of (role_in s.seat.me.0)) c.seat.invariant.0.role c.requires.next.0 c.args.cell next inside,
     )
 
 pub invariant_of-seat : goal.invariant_of-seat

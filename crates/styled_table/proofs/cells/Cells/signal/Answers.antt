@@ -2,7 +2,7 @@ use Rattle.std.proofs.Common.{List, ℕ, refl, sym, ◌∙◌, ap, subst, arith}
 use Rattle.spmd_model.specs.Timelines.{signal, post}
 use Rattle.styled_table.specs.declared.view.View.{View}
 use Rattle.cell_table.specs.Words.{word_count, word_of}
-use Rattle.styled_table.specs.Homes.{IsSeatOf, protocol_at, misses_of, position_of, role_in}
+use Rattle.styled_table.specs.Homes.{IsSeatOf, protocol_at, misses_of, position_of, role_in, seen_of}
 use Rattle.styled_table.proofs.Keeps.{post_allowed}
 use Rattle.styled_table.proofs.Calls.{stands, same, same_table, its_laws, its_next, gone_seat, gone_here}
 use Rattle.styled_table.proofs.cells.Cells.signal.Goals as goal
@@ -17,7 +17,7 @@ store-requires c =
     let wide = c.self.invariant.words ∙ ap word_count (sym (same k)) in (
       same_table k,
       omega (arith, word, wide, below),
-      post_allowed c.self.inside.table.shared.key c.self.inside.table.shared.table_id.slots s.seat.id s.seat.me (its_laws k c.self.invariant.laws) s.processor (position_of (role_in s.seat.me.0)) (misses_of (role_in s.seat.me.0)) c.seat.invariant.0.role signal c.args.number _ next refl word,
+      post_allowed c.self.inside.table.shared.key c.self.inside.table.shared.table_id.slots s.seat.id s.seat.me (its_laws k c.self.invariant.laws) s.processor (position_of (role_in s.seat.me.0)) (misses_of (role_in s.seat.me.0)) (seen_of (role_in s.seat.me.0)) c.seat.invariant.0.role signal c.args.number _ next refl word,
     )
 
 pub invariant_of-seat : goal.invariant_of-seat

@@ -1,7 +1,7 @@
 use Rattle.std.proofs.Common.{◌≡◌, sym, ◌∙◌, ap, subst, arith}
 use Rattle.std.proofs.Common.{length}
 use Rattle.styled_table.specs.Calls.{IsEndedSeat}
-use Rattle.styled_table.specs.Homes.{protocol_in, misses_of, position_of, processor_of, role_in, stages_of}
+use Rattle.styled_table.specs.Homes.{protocol_in, misses_of, position_of, processor_of, role_in, seen_of, stages_of}
 use Rattle.styled_table.proofs.Seating.{join_allowed}
 use Rattle.styled_table.specs.Homes.{CellView, Home, MainView}
 use Rattle.styled_table.proofs.cells.Cells.take_in.Goals as goal
@@ -16,5 +16,5 @@ join_seat-requires c =
       ap (λ (h : Home). h.table) theirs,
       c.seat.invariant.1,
       omega (arith, wide),
-      join_allowed c.self.inside.table.shared.key s.seat.id t.seat.id s.seat.me.0 v (stages_of (role_in s.seat.me.0)) t.processor (position_of (role_in v)) (misses_of (role_in v)) c.main.invariant.0 mine.role end,
+      join_allowed c.self.inside.table.shared.key s.seat.id t.seat.id s.seat.me.0 v (stages_of (role_in s.seat.me.0)) t.processor (position_of (role_in v)) (misses_of (role_in v)) (seen_of (role_in v)) c.main.invariant.0 mine.role end,
     )

@@ -1,0 +1,79 @@
+// That a run of the machine has come to its end.
+
+ghost use Rattle.std.specs.Prelude.{◌≡◌, take};
+ghost use Rattle.nest_tree.specs.View.{tree_of};
+ghost use Rattle.nest_model.specs.Memory.{last_memory};
+ghost use Rattle.sync_plan.specs.Ordered.{IsOrdered};
+ghost use Rattle.spmd_model.specs.States.{IsEnded};
+ghost use Rattle.spmd_machine.specs.Ends.{HasRun};
+ghost use Rattle.spmd_machine.specs.Machines.{IsReady, model_of, plan_in, shared_in, shown, style_in, tree_in};
+
+use crate::machine::Machine;
+use nest_tree::Program;
+use proof_note::Note;
+use spmd_model::Style;
+use std::marker::Model;
+use sync_plan::Plan;
+
+/// That a program was run under a plan in a style until all processors had done all their acts;
+/// with the memory that this left. None is made but of a machine at its end.
+#[derive(Drop)]
+pub struct Receipt {
+    program: Note<Program>,
+    plan: Note<Plan>,
+    style: Style,
+    memory: Vec<i64>,
+}
+
+impl Model for Receipt {
+    ghost use Rattle.spmd_machine.specs.Ends.{End, HasRun, end_code};
+
+    ghost Value = { End };
+
+    ghost coded = { end_code };
+
+    ghost view = { λ r. record { program = r.program.value; plan = r.plan.value; style = r.style; memory = r.memory.items } };
+
+    ghost invariant = { λ r. HasRun (record { program = r.program.value; plan = r.plan.value; style = r.style; memory = r.memory.items }) };
+}
+
+impl Receipt {
+    /// The receipt of a machine whose processors have all ended.
+    pub fn of(machine: Machine<'_>) -> Receipt
+        requires ready { IsReady machine }
+        requires ended { IsEnded (model_of machine) (shown machine) }
+        ensures program { tree_of result.program ≡ tree_in machine.entry }
+        ensures plan { result.plan ≡ plan_in machine.entry }
+        ensures style { result.style ≡ style_in machine.entry }
+        ensures memory { result.memory ≡ take (shared_in machine.entry) (shown machine.entry).memory }
+        ensures last { IsOrdered (tree_in machine.entry) (plan_in machine.entry) → result.memory ≡ last_memory (tree_in machine.entry) }
+    {
+        let Machine {
+            program,
+            plan,
+            style,
+            table: _,
+            params: _,
+            loops: _,
+            processors: _,
+            memory,
+            output: _,
+        } = machine;
+        let program = Note::of(program);
+        let plan = Note::of(plan);
+        Receipt {
+            program,
+            plan,
+            style,
+            memory,
+        }
+    }
+
+    /// The last memory, by cells, of those that all share.
+    pub fn memory(&self) -> &[i64]
+        ensures memory { result.now ≡ self.now.memory }
+        ensures run { HasRun self.now }
+    {
+        self.memory.as_slice()
+    }
+}
