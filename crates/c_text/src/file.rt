@@ -1,5 +1,8 @@
 // The whole file.
 
+ghost use Rattle.std.specs.Prelude.{IfOk};
+ghost use Rattle.c_text.specs.Files.{EndsWithPlan};
+
 use crate::runtime::{MAIN, RUNTIME};
 use crate::source::SourceLines;
 use crate::text::Text;
@@ -12,17 +15,20 @@ use thread_code::ThreadCode;
 /// What a file is made of: the source's bytes and the settings of its named constants, as they are
 /// written, its program, a plan for it with its text, and what each processor does under the plan.
 #[derive(Clone, Copy)]
-pub struct Emitted<'a> {
+pub struct Emitted<'a, 'p> {
     pub source: &'a [u8],
     pub settings: &'a [&'a str],
     pub program: &'a Program,
     pub plan: &'a Plan,
     pub plan_text: &'a [u8],
-    pub code: &'a ThreadCode<'a>,
+    pub code: &'a ThreadCode<'p>,
 }
 
-/// The C file of a program under a plan. The error is that memory ran out.
-pub fn write_c(alloc: Global, it: Emitted) -> Result<Vec<u8>, AllocError> {
+/// The C file of a program under a plan, which ends with the plan's text in a comment. The error is
+/// that memory ran out.
+pub fn write_c(alloc: Global, it: Emitted) -> Result<Vec<u8>, AllocError>
+    ensures { IfOk result (λ file. EndsWithPlan it.entry.plan_text.now file.items) }
+{
     let mut text = Text {
         alloc,
         program: it.program,
@@ -36,9 +42,15 @@ pub fn write_c(alloc: Global, it: Emitted) -> Result<Vec<u8>, AllocError> {
     text.cells()?;
     text.worker(it.code)?;
     text.words(MAIN)?;
-    let mut file = text.out.into_bytes();
-    file.extend_from_slice(b"\n/* The plan with its certificates.\n")?;
-    file.extend_from_slice(it.plan_text)?;
+    text.words("\n/* The plan with its certificates.\n")?;
+    with_plan(text.out.into_bytes(), it.plan_text)
+}
+
+// A file with the text of a plan behind it, and the end of the comment that it stands in.
+fn with_plan(mut file: Vec<u8>, plan_text: &[u8]) -> Result<Vec<u8>, AllocError>
+    ensures { IfOk result (λ whole. EndsWithPlan plan_text.now whole.items) }
+{
+    file.extend_from_slice(plan_text)?;
     file.extend_from_slice(b"*/\n")?;
     Ok(file)
 }

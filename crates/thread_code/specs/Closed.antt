@@ -1,5 +1,5 @@
 -- A processor's own trips of a loop in closed form: what the emitted text computes, by C's operations on whole numbers, and the values that a `for` over them takes.
-use Rattle.std.specs.Prelude.{ℕ, suc, ◌*◌, ◌+◌, ◌/◌, ◌%◌, ◌==◌, ℤ, pos, negsuc, ◌+ℤ◌, ◌-ℤ◌, ◌*ℤ◌, int_div, int_rem, int_lt, Bool, true, false, List, [], ◌∷◌, if◌then◌else◌, ◌≡◌, refl}
+use Rattle.std.specs.Prelude.{ℕ, suc, ◌*◌, ◌+◌, ◌/◌, ◌%◌, ◌==◌, ◌<◌, ℤ, pos, negsuc, ◌+ℤ◌, ◌-ℤ◌, ◌*ℤ◌, int_div, int_rem, int_lt, Bool, true, false, List, [], ◌∷◌, if◌then◌else◌, ◌≡◌, refl}
 use Rattle.std.specs.Int.{int_max, int_min, int_rem_euclid, ◌∣◌}
 use Rattle.nest_tree.specs.Layout.{count_of}
 use Rattle.nest_model.specs.Instances.{trips}
@@ -55,6 +55,10 @@ pub record IsTurningOf (workers rest : ℕ) (t : Turning) : Type 0 where
 -- it is right for a form that rises so far with each trip
 abbrev pub IsTurning : ℕ → ℤ → Turning → Type 0
 IsTurning workers rise t = IsTurningOf workers (count_of (int_rem_euclid rise (pos workers))) t
+
+-- what is known of each rise, by its remainder, is right
+abbrev pub AreTurnings : ℕ → (ℕ → Turning) → Type 0
+AreTurnings workers table = (rest : ℕ) → rest < workers → IsTurningOf workers rest (table rest)
 
 -- two places are of the same processor in turn
 abbrev pub IsSamePlace : ℕ → ℤ → ℤ → Type 0

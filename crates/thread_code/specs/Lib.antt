@@ -1,1 +1,4 @@
 pub mod Closed
+pub mod Tables
+pub mod Code
+pub mod View

@@ -1,18 +1,29 @@
 // The tree of a program under a plan.
 
-ghost use Rattle.std.specs.Prelude.{◌≤◌};
-ghost use Rattle.nest_tree.specs.View.{tree_of};
+ghost use Rattle.std.specs.Prelude.{◌≡◌, ◌+◌, ◌+ℤ◌, ◌*ℤ◌, ◌++◌, ◌≤◌, ◌<◌, ◌^◌, pos, unsigned_abs, IfOk, OnOk};
+ghost use Rattle.std.specs.Int.{int_rem_euclid};
+ghost use Rattle.std.specs.Option.{option_copied};
+ghost use Rattle.nest_tree.specs.View.{head_of, statement_of, statements_from, tree_of};
 ghost use Rattle.nest_tree.specs.WellFormed.{IsWellFormed};
+ghost use Rattle.nest_model.specs.Visits.{stops_in, stops_of};
+ghost use Rattle.owner_partition.specs.Cuts.{privates_of};
+ghost use Rattle.owner_partition.specs.Marks.{enters_outer};
+ghost use Rattle.owner_partition.specs.OwnInstances.{coefficient_of};
+ghost use Rattle.thread_code.specs.Closed.{AreTurnings};
+ghost use Rattle.thread_code.specs.Code.{code_in, codes_in, codes_of, finding_by, phase_at, plus_times, reduced, reduced_pairs, share_by, sums_in, times_pairs, without};
+ghost use Rattle.thread_code.specs.Tables.{table_of};
+ghost use Rattle.thread_code.specs.View.{code_view, codes_view, finding_view, form_view, share_view};
 
 use crate::code::{Code, OwnTrips, Part, Place, ThreadCode, Trips};
 use crate::turnings::Turnings;
 use nest_tree::{Affine, Item, Nest, Pairs, Program};
 use own_scalars::sum_scalars;
-use owner_partition::{Anchor, Dist};
+use owner_partition::{Anchor, Dist, is_closed_at};
 use std::alloc::{AllocError, Global};
 use sync_plan::Plan;
 
-/// What each processor does of a program under a plan. The error is that memory ran out.
+/// What each processor does of a program under a plan: the defined tree, with turnings that are right.
+/// The error is that memory ran out.
 pub fn code_of<'p>(
     alloc: Global,
     program: &'p Program,
@@ -20,6 +31,8 @@ pub fn code_of<'p>(
 ) -> Result<ThreadCode<'p>, AllocError>
     requires some { 1 ≤ plan.now.workers }
     requires few { plan.now.workers ≤ 64 }
+    ensures turnings { IfOk result (λ c. AreTurnings plan.now.workers (table_of c.turnings)) }
+    ensures tree { IsWellFormed (tree_of program.now) → IfOk result (λ c. codes_view c.codes.items ≡ codes_of (table_of c.turnings) (tree_of program.now) plan.now) }
 {
     let turnings = Turnings::new(alloc, plan.workers)?;
     let maker = Maker {
@@ -27,8 +40,7 @@ pub fn code_of<'p>(
         plan,
         turnings: &turnings,
     };
-    let mut codes = Vec::new(alloc);
-    maker.push_codes(&program.items, 1, &mut codes)?;
+    let (codes, _) = maker.codes(&program.items, 1)?;
     Ok(ThreadCode { turnings, codes })
 }
 
@@ -41,75 +53,77 @@ struct Maker<'a> {
 }
 
 impl Maker<'_> {
-    // The codes of statements, behind those that are there, where the first phase has this number;
-    // the number of the first phase behind them.
+    // The codes of statements, of which the first phase has this number, and the number of the first
+    // phase behind them.
     #[cycle(codes)]
-    fn push_codes<'p>(
-        &self,
-        items: &'p [Item],
-        first: u32,
-        codes: &mut Vec<Code<'p>>,
-    ) -> Result<u32, AllocError> {
+    fn codes<'p>(&self, items: &'p [Item], first: u32) -> Result<(Vec<Code<'p>>, u32), AllocError>
+        requires some { 1 ≤ self.now.plan.now.workers }
+        ensures codes { first + stops_of (enters_outer self.now.plan.now.cut.marks) (statements_from items.now) < 2 ^ 32 → IfOk result (λ r. codes_view r.0.items ≡ codes_in (table_of self.now.turnings.now) self.now.plan.now (statements_from items.now) first) }
+        ensures behind { first + stops_of (enters_outer self.now.plan.now.cut.marks) (statements_from items.now) < 2 ^ 32 → IfOk result (λ r. r.1 ≡ first + stops_of (enters_outer self.now.plan.now.cut.marks) (statements_from items.now)) }
+    {
+        let mut codes = Vec::new(self.alloc);
         let mut place = first;
         for item in items {
-            place = self.push_code(item, place, codes)?;
+            let (code, behind) = self.code(item, place)?;
+            codes.push(code)?;
+            place = behind;
         }
-        Ok(place)
+        Ok((codes, place))
     }
 
     #[cycle(codes)]
-    fn push_code<'p>(
-        &self,
-        item: &'p Item,
-        place: u32,
-        codes: &mut Vec<Code<'p>>,
-    ) -> Result<u32, AllocError> {
+    fn code<'p>(&self, item: &'p Item, place: u32) -> Result<(Code<'p>, u32), AllocError>
+        requires some { 1 ≤ self.now.plan.now.workers }
+        ensures code { place + stops_in (enters_outer self.now.plan.now.cut.marks) (statement_of item.now) < 2 ^ 32 → IfOk result (λ r. code_view r.0 ≡ code_in (table_of self.now.turnings.now) self.now.plan.now (statement_of item.now) place) }
+        ensures behind { place + stops_in (enters_outer self.now.plan.now.cut.marks) (statement_of item.now) < 2 ^ 32 → IfOk result (λ r. r.1 ≡ place + stops_in (enters_outer self.now.plan.now.cut.marks) (statement_of item.now)) }
+    {
         match item {
             Item::Loop(nest) => {
-                if self.plan.cut.mark(nest.number).is_closed() {
-                    codes.push(self.phase(item, place)?)?;
-                    return Ok(place.saturating_add(1));
+                if is_closed_at(self.plan.cut.closed(), nest.number) {
+                    return Ok((self.phase(item, place)?, place.saturating_add(1)));
                 }
-                let mut inside = Vec::new(self.alloc);
-                let behind = self.push_codes(&nest.items, place, &mut inside)?;
-                codes.push(Code::Each(nest, inside))?;
-                Ok(behind)
+                let (inside, behind) = self.codes(&nest.items, place)?;
+                Ok((Code::Each(nest, inside), behind))
             }
             Item::Assign(..) | Item::Print(..) => {
-                codes.push(self.phase(item, place)?)?;
-                Ok(place.saturating_add(1))
+                Ok((self.phase(item, place)?, place.saturating_add(1)))
             }
-            Item::Continue(_) => {
-                codes.push(Code::Nothing)?;
-                Ok(place)
-            }
+            Item::Continue(_) => Ok((Code::Nothing, place)),
         }
     }
 
     // The phase with this number, from 1.
-    fn phase<'p>(&self, item: &'p Item, place: u32) -> Result<Code<'p>, AllocError> {
+    fn phase<'p>(&self, item: &'p Item, place: u32) -> Result<Code<'p>, AllocError>
+        requires some { 1 ≤ self.now.plan.now.workers }
+        ensures { IfOk result (λ c. code_view c ≡ phase_at (table_of self.now.turnings.now) self.now.plan.now (statement_of item.now) place) }
+    {
         let kind = match self.plan.kind(place) {
             Some(kind) => Some(kind.copy(self.alloc)?),
             None => None,
         };
-        let part = match self.plan.anchor(place) {
-            Some(anchor) => self.part(anchor, item)?,
-            None => Part::Nothing,
-        };
+        let part = self.part(self.plan.anchor(place), item)?;
         Ok(Code::Phase(kind, part))
     }
 
-    // A processor's part of a phase with this anchor.
-    fn part<'p>(&self, anchor: &Anchor, item: &'p Item) -> Result<Part<'p>, AllocError> {
+    // A processor's part of a phase with this anchor, if it has one.
+    fn part<'p>(&self, anchor: Option<&Anchor>, item: &'p Item) -> Result<Part<'p>, AllocError>
+        requires some { 1 ≤ self.now.plan.now.workers }
+        ensures { IfOk result (λ part. share_view part ≡ share_by (table_of self.now.turnings.now) self.now.plan.now (option_copied anchor.entry) (statement_of item.now)) }
+    {
+        let Some(anchor) = anchor else {
+            return Ok(Part::Nothing);
+        };
         match item {
             Item::Loop(nest) => {
-                let privates = self.plan.cut.privates_of(nest.number).to_vec(self.alloc)?;
+                let trips = self.trips(anchor, nest)?;
+                let privates = self.privates(nest)?;
+                let sums = self.sums(nest)?;
                 Ok(Part::Trips(OwnTrips {
                     anchor: anchor.copy(self.alloc)?,
-                    trips: self.trips(anchor, nest)?,
+                    trips,
                     nest,
                     privates,
-                    sums: self.sums(nest)?,
+                    sums,
                 }))
             }
             Item::Assign(..) | Item::Print(..) => Ok(Part::Work(anchor.copy(self.alloc)?, item)),
@@ -117,8 +131,17 @@ impl Maker<'_> {
         }
     }
 
+    // The scalars of which each processor has a cell of its own in a loop.
+    fn privates(&self, nest: &Nest) -> Result<Vec<u32>, AllocError>
+        ensures { IfOk result (λ scalars. scalars.items ≡ privates_of self.now.plan.now.cut.privates nest.now.number) }
+    {
+        self.plan.cut.privates_of(nest.number).to_vec(self.alloc)
+    }
+
     // The scalars that each processor sums up in a loop by itself.
-    fn sums(&self, nest: &Nest) -> Result<Vec<u32>, AllocError> {
+    fn sums(&self, nest: &Nest) -> Result<Vec<u32>, AllocError>
+        ensures { IfOk result (λ sums. sums.items ≡ sums_in self.now.plan.now.cut (head_of nest.now) (statements_from nest.now.items.items)) }
+    {
         if self.plan.cut.mark(nest.number).is_sum() {
             if let Some(sums) = sum_scalars(nest) {
                 return sums.as_slice().to_vec(self.alloc);
@@ -128,80 +151,120 @@ impl Maker<'_> {
     }
 
     // How a processor finds its own trips of a loop.
-    fn trips(&self, anchor: &Anchor, nest: &Nest) -> Result<Trips, AllocError> {
+    fn trips(&self, anchor: &Anchor, nest: &Nest) -> Result<Trips, AllocError>
+        requires some { 1 ≤ self.now.plan.now.workers }
+        ensures { IfOk result (λ trips. finding_view trips ≡ finding_by (table_of self.now.turnings.now) self.now.plan.now.workers anchor.now (head_of nest.now)) }
+    {
         let rise = coefficient_of(anchor.form.loops(), nest.number);
         if rise == 0 {
             return Ok(Trips::All(anchor.copy(self.alloc)?));
         }
         match anchor.dist {
             Dist::Block(length) => {
-                Ok(Trips::Block(length, self.rest(&anchor.form, nest.number)?, rise))
+                let rest = rest(self.alloc, &anchor.form, nest.number)?;
+                Ok(Trips::Block(length, rest, rise))
             }
             Dist::Cyclic => {
-                let turning = self.turnings.at(self.remainder(rise, nest.step));
+                let turning = self.turnings.at(self.remainder(times(rise, nest.step)));
                 Ok(Trips::Turn(self.start(&anchor.form, rise, nest)?, turning))
             }
         }
     }
 
-    // A form without a loop.
-    fn rest(&self, form: &Affine, number: u32) -> Result<Place, AllocError> {
-        let mut loops = Pairs::new(self.alloc);
-        for &(named, coefficient) in form.loops() {
-            if named != number {
-                loops.push(named, coefficient)?;
-            }
-        }
-        Ok(Place {
-            constant: form.constant(),
-            loops,
-            params: Pairs::from_slice(self.alloc, form.params())?,
-        })
-    }
-
     // Where the places of a loop's trips begin: the form without the loop, and so many times the
     // loop's first value, each number by its remainder.
-    fn start(&self, form: &Affine, rise: i64, nest: &Nest) -> Result<Place, AllocError> {
-        let rest = self.rest(form, nest.number)?;
-        let mut loops = Pairs::new(self.alloc);
-        self.push_remainders(rest.loops.as_slice(), 1, &mut loops)?;
-        self.push_remainders(nest.m1.loops(), rise, &mut loops)?;
-        let mut params = Pairs::new(self.alloc);
-        self.push_remainders(rest.params.as_slice(), 1, &mut params)?;
-        self.push_remainders(nest.m1.params(), rise, &mut params)?;
-        let constant = rise
-            .wrapping_mul(nest.m1.constant())
-            .wrapping_add(rest.constant);
+    fn start(&self, form: &Affine, rise: i64, nest: &Nest) -> Result<Place, AllocError>
+        requires some { 1 ≤ self.now.plan.now.workers }
+        ensures { IfOk result (λ place. form_view place ≡ reduced self.now.plan.now.workers (plus_times (without nest.now.number form.now) rise nest.now.m1)) }
+    {
+        let rest = rest(self.alloc, form, nest.number)?;
+        let loops = self.start_pairs(rest.loops.as_slice(), nest.m1.loops(), rise)?;
+        let params = self.start_pairs(rest.params.as_slice(), nest.m1.params(), rise)?;
+        let constant = self.remainder(with_product(rest.constant, rise, nest.m1.constant()));
         Ok(Place {
-            constant: self.remainder(constant, 1),
+            constant,
             loops,
             params,
         })
     }
 
-    // Pairs times a number, by their remainders.
+    // Pairs, and a factor times others, by their remainders.
+    fn start_pairs(
+        &self,
+        own: &[(u32, i64)],
+        first: &[(u32, i64)],
+        factor: i64,
+    ) -> Result<Pairs, AllocError>
+        requires some { 1 ≤ self.now.plan.now.workers }
+        ensures { IfOk result (λ pairs. pairs ≡ reduced_pairs self.now.plan.now.workers (own.now ++ times_pairs factor first.now)) }
+    {
+        let mut pairs = Pairs::new(self.alloc);
+        self.push_remainders(own, 1, &mut pairs)?;
+        self.push_remainders(first, factor, &mut pairs)?;
+        Ok(pairs)
+    }
+
+    // Pairs times a number, by their remainders, behind those that are there.
     fn push_remainders(
         &self,
         pairs: &[(u32, i64)],
-        times: i64,
+        factor: i64,
         found: &mut Pairs,
-    ) -> Result<(), AllocError> {
+    ) -> Result<(), AllocError>
+        requires some { 1 ≤ self.now.plan.now.workers }
+        ensures { OnOk result (found.new ≡ found.old ++ reduced_pairs self.now.plan.now.workers (times_pairs factor pairs.now)) }
+    {
         for &(number, coefficient) in pairs {
-            found.push(number, self.remainder(times, coefficient))?;
+            found.push(number, self.remainder(times(factor, coefficient)))?;
         }
         Ok(())
     }
 
-    // The remainder of a product by the number of processors, from 0 on. The product of two numbers of
-    // forms keeps within 64 bits.
-    fn remainder(&self, a: i64, b: i64) -> i64 {
-        let workers = i64::from(self.plan.workers.max(1));
-        a.wrapping_mul(b).rem_euclid(workers)
+    // The remainder by the number of processors, from 0 on.
+    fn remainder(&self, value: i128) -> i64
+        requires some { 1 ≤ self.now.plan.now.workers }
+        ensures { result ≡ int_rem_euclid value (pos self.now.plan.now.workers) }
+    {
+        value.rem_euclid(i128::from(self.plan.workers)) as i64
     }
 }
 
+// A form without a loop.
+fn rest(alloc: Global, form: &Affine, number: u32) -> Result<Place, AllocError>
+    ensures { IfOk result (λ place. form_view place ≡ without number form.now) }
+{
+    let mut loops = Pairs::new(alloc);
+    for &(named, coefficient) in form.loops() {
+        if named != number {
+            loops.push(named, coefficient)?;
+        }
+    }
+    Ok(Place {
+        constant: form.constant(),
+        loops,
+        params: Pairs::from_slice(alloc, form.params())?,
+    })
+}
+
+// A product.
+fn times(a: i64, b: i64) -> i128
+    ensures product { result ≡ a *ℤ b }
+    ensures near { unsigned_abs result ≤ 2 ^ 126 }
+{
+    i128::from(a) * i128::from(b)
+}
+
+// A number and a product.
+fn with_product(start: i64, a: i64, b: i64) -> i128
+    ensures { result ≡ start +ℤ (a *ℤ b) }
+{
+    i128::from(start) + times(a, b)
+}
+
 // The coefficient of the loop with this number, 0 where it isn't named.
-fn coefficient_of(pairs: &[(u32, i64)], number: u32) -> i64 {
+fn coefficient_of(pairs: &[(u32, i64)], number: u32) -> i64
+    ensures { result ≡ coefficient_of pairs.now number }
+{
     for &(named, coefficient) in pairs {
         if named == number {
             return coefficient;

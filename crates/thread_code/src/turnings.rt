@@ -1,11 +1,14 @@
 // Congruences modulo the number of processors.
 
-ghost use Rattle.std.specs.Prelude.{◌≡◌, ◌*◌, ◌<◌, ◌≤◌, ◌^◌, IfOk};
+ghost use Rattle.std.specs.Prelude.{◌≡◌, ◌*◌, ◌<◌, ◌≤◌, IfOk};
 ghost use Rattle.std.specs.Int.{IsGcd};
 ghost use Rattle.owner_partition.specs.OwnTrips.{IsSame};
-ghost use Rattle.thread_code.specs.Closed.{IsTurningOf};
+ghost use Rattle.nest_tree.specs.Layout.{count_of};
+ghost use Rattle.thread_code.specs.Closed.{AreTurnings, IsTurningOf};
+ghost use Rattle.thread_code.specs.Tables.{table_of};
 
 use std::alloc::{AllocError, Global};
+use std::marker::Model;
 
 /// How the places of a loop's trips, which rise by the same with each trip, come to one processor in
 /// turn: the greatest common divisor of the rise and of the number of processors, a factor that takes
@@ -17,10 +20,19 @@ pub struct Turning {
     pub stride: u32,
 }
 
-/// The turnings of all rises from 0 to below the number of processors.
+/// The turnings of all rises from 0 to below the number of processors. Contracts see the list.
 #[derive(Drop)]
 pub struct Turnings {
     by_rise: Vec<Turning>,
+}
+
+impl Model for Turnings {
+    ghost use Rattle.std.specs.Prelude.{List};
+    ghost use Rattle.thread_code.specs.declared.turnings.Turning.{Turning};
+
+    ghost Value = { List Turning };
+
+    ghost view = { λ t. t.by_rise.items };
 }
 
 impl Turnings {
@@ -28,6 +40,7 @@ impl Turnings {
     pub fn new(alloc: Global, workers: u32) -> Result<Self, AllocError>
         requires some { 1 ≤ workers }
         requires few { workers ≤ 64 }
+        ensures { IfOk result (λ made. AreTurnings workers (table_of made)) }
     {
         let mut by_rise = Vec::new(alloc);
         for rise in 0..workers {
@@ -38,7 +51,9 @@ impl Turnings {
 
     /// The one of a rise from 0 to below the number of processors. There is none of another rise: it is
     /// answered with one processor's.
-    pub fn at(&self, rise: i64) -> Turning {
+    pub fn at(&self, rise: i64) -> Turning
+        ensures { result ≡ table_of self.now (count_of rise) }
+    {
         let place = usize::try_from(rise).unwrap_or(0);
         match self.by_rise.get(place) {
             Some(turning) => *turning,

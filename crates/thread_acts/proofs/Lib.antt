@@ -1,0 +1,12 @@
+pub mod Good
+pub mod Shares
+pub mod LastTrips
+pub mod Closings
+pub mod Waits
+pub mod Producers
+pub mod Threads
+pub mod Parts
+pub mod Acts
+pub mod Runs
+pub mod Shorter
+pub mod SumTexts

@@ -1,0 +1,3 @@
+pub mod ThreadDeeds
+pub mod ThreadRuns
+pub mod Sums

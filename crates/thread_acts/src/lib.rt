@@ -1,0 +1,4 @@
+//! Thread code does the machine's acts: laws alone.
+#![tactic(auto)]
+
+pub mod laws;
