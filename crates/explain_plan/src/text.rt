@@ -223,6 +223,7 @@ impl Page<'_> {
                         Word::Open => b": elimination leaves it open".as_slice(),
                         Word::Wide => b": numbers of elimination grow too large",
                         Word::Many => b": rows of elimination grow too many",
+                        Word::Work => b": elimination gave up after 65,536 pairs of rows",
                     },
                 )?;
                 push_words(

@@ -1,12 +1,19 @@
 -- The statuses of the process, and what is told.
 use Rattle.std.specs.Prelude.{ℕ, Bool, true, false}
+use Rattle.f77_program.specs.declared.refusal.Refusal.{Refusal}
+use Rattle.f77_program.specs.declared.refusal.Refusal.TheVariants as refusals
 use Rattle.plan_input.specs.declared.stop.Stop.{Stop}
 use Rattle.plan_input.specs.declared.stop.Stop.TheVariants.{BadWords, Limit, Line, Misfit, NoMemory, Range, ReadFault, Statement, Syntax, TooLong, WriteFault}
+
+-- of a refusal of a statement, or of a setting
+abbrev pub statement_code : Refusal → ℕ
+statement_code (refusals.BadSetting index) = 2
+statement_code _ = 1
 
 -- the number with which the process ends where it stops so
 abbrev pub code_of : Stop → ℕ
 code_of (Line refusal) = 1
-code_of (Statement refusal) = 1
+code_of (Statement refusal) = statement_code refusal
 code_of (Limit limit) = 1
 code_of (Range outside) = 1
 code_of BadWords = 2

@@ -5,5 +5,5 @@
 mod reading;
 mod stop;
 
-pub use reading::{read_fitting, read_source};
+pub use reading::{read_fitting, read_inside, read_source};
 pub use stop::{Stop, code_of_write};

@@ -1,22 +1,26 @@
 // A program and a plan that fits it, read from bytes.
 
-ghost use Rattle.std.specs.Prelude.{◌≡◌, ◌≤◌, [], IfErr, IfOk, None, OnOk, length};
+ghost use Rattle.std.specs.Prelude.{◌≡◌, ◌≤◌, ℕ, ℤ, List, [], IfErr, IfOk, None, OnOk, length, map};
 ghost use Rattle.f77_lines.specs.Columns as columns;
-ghost use Rattle.f77_lines.specs.Listing.{size_to_end};
+ghost use Rattle.f77_lines.specs.Listing.{Lists, entry_of, size_to_end};
 ghost use Rattle.f77_scene.specs.Reading.{Reads};
+ghost use Rattle.f77_source.specs.Sources.{setting_of};
+ghost use Rattle.nest_model.specs.Ranges.{IsInRange};
 ghost use Rattle.nest_tree.specs.Limits.{IsWithinLimits};
 ghost use Rattle.nest_tree.specs.View.{tree_of};
 ghost use Rattle.nest_tree.specs.WellFormed.{IsWellFormed};
 ghost use Rattle.sync_plan.specs.Fit.{IsFit};
 ghost use Rattle.sync_plan.specs.Shape.{wrong_field};
-ghost use Rattle.plan_input.specs.Stops.{IsPlanStop, IsSourceStop, IsTextOf};
+ghost use Rattle.plan_input.specs.Sources.{HasProgramWith};
+ghost use Rattle.plan_input.specs.Stops.{IsClear, IsPlanStop, IsSourceStop, IsStop, IsStopWith, IsTextOf};
 
 use crate::stop::Stop;
-use f77_lines::{MOST_BYTES, statements};
-use f77_source::read_program;
+use f77_lines::{Line, LineRefusal, MOST_BYTES, first_behind, statements};
+use f77_source::{Setting, read_program};
 use nest_tree::{Program, program_limits};
 use plan_checker::check_fit;
 use plan_text::read_plan;
+use range_check::check_ranges;
 use std::alloc::Global;
 use sync_plan::Plan;
 
@@ -32,11 +36,67 @@ pub fn read_source(alloc: Global, bytes: &[u8]) -> Result<(Program, usize), Stop
     ensures refused { IfErr result (IsSourceStop bytes.now) }
 {
     let (lines, rest) = statements(alloc, bytes)?;
-    let program = read_program(alloc, &lines, &[])?;
+    let program = program_of(alloc, &lines, &[])?;
+    Ok((program, rest))
+}
+
+// The program of what is listed, within its limits.
+fn program_of(alloc: Global, lines: &[Line], settings: &[Setting]) -> Result<Program, Stop>
+    requires { (bytes : List ℕ) × (rest : ℕ) × Lists bytes (map entry_of lines.now) rest }
+    ensures program { (bytes : List ℕ) (rest : ℕ) → Lists bytes (map entry_of lines.now) rest → IfOk result (λ p. Reads bytes (map setting_of settings.now) (tree_of p)) }
+    ensures formed { (bytes : List ℕ) (rest : ℕ) → Lists bytes (map entry_of lines.now) rest → IfOk result (λ p. IsWellFormed (tree_of p)) }
+    ensures limits { IfOk result (λ p. IsWithinLimits (tree_of p)) }
+    ensures refused { (bytes : List ℕ) (rest : ℕ) → Lists bytes (map entry_of lines.now) rest → IfErr result (IsStopWith (map setting_of settings.now) bytes) }
+{
+    let program = read_program(alloc, lines, settings)?;
     match program_limits(&program) {
-        Ok(()) => Ok((program, rest)),
+        Ok(()) => Ok(program),
         Err(limit) => Err(Stop::Limit(limit)),
     }
+}
+
+/// The program of the source that the bytes begin with, with these settings, all of whose subscripts
+/// are in range, and where the rest begins, behind the line end of END; where `alone` says so, only
+/// comments may stand there. The error is the first reason why there is none, or that memory ran out.
+pub fn read_inside(
+    alloc: Global,
+    bytes: &[u8],
+    settings: &[Setting],
+    alone: bool,
+) -> Result<(Program, usize), Stop>
+    requires { length bytes.now ≤ MOST_BYTES }
+    ensures program { IfOk result (λ read. HasProgramWith (map setting_of settings.now) bytes.now (tree_of read.0)) }
+    ensures inside { IfOk result (λ read. IsInRange (tree_of read.0)) }
+    ensures clear { OnOk result (IsClear alone bytes.now) }
+    ensures rest { IfOk result (λ read. read.1 ≡ size_to_end (columns.lines_of bytes.now)) }
+    ensures within { IfOk result (λ read. read.1 ≤ length bytes.now) }
+    ensures formed { IfOk result (λ read. IsWellFormed (tree_of read.0)) }
+    ensures refused { IfErr result (IsStop alone bytes.now (map setting_of settings.now)) }
+{
+    let (lines, rest) = lines_of(alloc, bytes, alone)?;
+    let program = program_of(alloc, &lines, settings)?;
+    match check_ranges(alloc, &program) {
+        Ok(()) => Ok((program, rest)),
+        Err(outside) => Err(Stop::Range(outside)),
+    }
+}
+
+// The statements and directives of the bytes, and where the rest begins; where `alone` says so, only
+// comments may stand there.
+fn lines_of(alloc: Global, bytes: &[u8], alone: bool) -> Result<(Vec<Line>, usize), Stop>
+    requires { length bytes.now ≤ MOST_BYTES }
+    ensures lists { IfOk result (λ read. Lists bytes.now (map entry_of read.0.items) read.1) }
+    ensures within { IfOk result (λ read. read.1 ≤ length bytes.now) }
+    ensures clear { OnOk result (IsClear alone bytes.now) }
+    ensures refused { (settings : List (List ℕ × ℤ)) → IfErr result (IsStop alone bytes.now settings) }
+{
+    let (lines, rest) = statements(alloc, bytes)?;
+    if alone {
+        if let Some(line) = first_behind(bytes, rest) {
+            return Err(Stop::Line(LineRefusal::AfterEnd(line)));
+        }
+    }
+    Ok((lines, rest))
 }
 
 /// The plan whose text the bytes are, where it fits the program. The error is the first reason why

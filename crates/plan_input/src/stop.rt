@@ -1,11 +1,12 @@
 // Why there is no program or no plan, and how the process ends then.
 
-ghost use Rattle.std.specs.Prelude.{◌≡◌, ◌⊎◌, OnErr, OnOk};
+ghost use Rattle.std.specs.Prelude.{◌≡◌, ◌⊎◌, OnErr, OnOk, Some};
 ghost use Rattle.f77_lines.specs.declared.refusal.LineRefusal.TheVariants as line_refusals;
 ghost use Rattle.f77_program.specs.declared.refusal.Refusal.TheVariants as refusals;
 ghost use Rattle.plan_checker.specs.declared.refusal.PlanRefusal.TheVariants as misfits;
 ghost use Rattle.plan_text.specs.declared.syntax.PlanSyntax.TheVariants as syntaxes;
 ghost use Rattle.plan_input.specs.Statuses.{code_of, is_told};
+ghost use Rattle.plan_input.specs.StopText.{text_of_stop};
 ghost use Rattle.plan_input.specs.Stops.{IsToldAs};
 ghost use Rattle.plan_input.specs.declared.stop.Stop.TheVariants as stops;
 
@@ -27,7 +28,7 @@ pub enum Stop {
     TooLong,
     /// The source is refused by its lines.
     Line(LineRefusal),
-    /// The source is refused by a statement.
+    /// The source is refused by a statement, or a setting is wrong.
     Statement(Refusal),
     /// The program passes a limit.
     Limit(nest_tree::Limit),
@@ -74,8 +75,8 @@ impl Stop {
         ensures { result ≡ code_of self }
     {
         match self {
+            Stop::Statement(Refusal::BadSetting(_)) | Stop::BadWords => 2,
             Stop::Line(_) | Stop::Statement(_) | Stop::Limit(_) | Stop::Range(_) => 1,
-            Stop::BadWords => 2,
             Stop::ReadFault => 3,
             Stop::WriteFault => 4,
             Stop::NoMemory => 5,
@@ -99,6 +100,8 @@ impl Stop {
 
 /// The line that tells it, without its line end.
 impl fmt::Display for Stop {
+    ghost output = { λ stop. Some (text_of_stop stop) };
+
     fn fmt<W: fmt::Write>(&self, f: &mut fmt::Formatter<W>) -> fmt::Result {
         match self {
             Stop::BadWords => write!(f, "WORDS 0"),

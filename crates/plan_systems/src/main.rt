@@ -22,7 +22,7 @@ mod lines;
 
 ghost use Rattle.std.specs.Prelude.{◌≡◌, ◌⊎◌, IfErr, IfOk};
 ghost use Rattle.plan_input.specs.declared.stop.Stop.TheVariants as stops;
-ghost use Rattle.plan_systems.specs.Systems.{AreObligations, IsStop};
+ghost use Rattle.plan_systems.specs.Systems.{AreObligations, AreSystems, IsStop};
 
 use crate::lines::text_of;
 use comm_system::Obligation;
@@ -43,15 +43,26 @@ fn main(rt: HostRuntime) -> ExitCode {
     ExitCode::from(code)
 }
 
-// The systems' text.
+// The systems' text, of standard input.
 fn systems(rt: &HostRuntime) -> Result<Vec<u8>, Stop> {
     let times = asks_for_times(rt)?;
     let mut bytes = Vec::new(rt.alloc());
     if let Err(error) = rt.stdin().read_to_end(&mut bytes) {
         return Err(Stop::from_fault(error, Stop::ReadFault));
     }
-    let found = obligations_in(rt, &bytes, times)?;
-    Ok(text_of(rt.alloc(), found.as_slice())?)
+    systems_in(rt, &bytes, times)
+}
+
+// The text of the obligations of the plan behind a source.
+fn systems_in(rt: &HostRuntime, bytes: &[u8], times: bool) -> Result<Vec<u8>, Stop>
+    ensures systems { IfOk result (λ text. AreSystems bytes.now text.items) }
+    ensures refused { IfErr result (IsStop bytes.now times) }
+{
+    let found = obligations_in(rt, bytes, times)?;
+    match text_of(rt.alloc(), found.as_slice()) {
+        Ok(text) => Ok(text),
+        Err(_) => Err(Stop::NoMemory),
+    }
 }
 
 // Whether the words ask for times.

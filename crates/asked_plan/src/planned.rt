@@ -1,0 +1,122 @@
+// A program and the plan of it that is asked for.
+
+ghost use Rattle.std.specs.Prelude.{◌≡◌, ◌≤◌, IfErr, IfOk, length, map};
+ghost use Rattle.f77_source.specs.Sources.{setting_of};
+ghost use Rattle.nest_tree.specs.Limits.{IsWithinLimits};
+ghost use Rattle.nest_tree.specs.View.{tree_of};
+ghost use Rattle.nest_tree.specs.WellFormed.{IsWellFormed};
+ghost use Rattle.plan_text.specs.PlanText.{HasCounts};
+ghost use Rattle.asked_plan.specs.Plans.{IsPlanFor, IsPlanned, IsPlanStopFor, IsRefused, IsStop, IsTaken, stands_alone};
+
+use command_words::PlanChoice;
+use f77_lines::MOST_BYTES;
+use f77_source::Setting;
+use nest_tree::Program;
+use plan_checker::{PlanRefusal, check};
+use plan_input::{Stop, read_inside};
+use plan_maker::{make, make_barrier};
+use plan_text::read_plan;
+use std::alloc::Global;
+use std::thread::Threads;
+use sync_plan::Plan;
+
+/// Which plan of a source's program is asked for.
+#[derive(Clone, Copy, Debug)]
+pub struct Asked<'a> {
+    /// For so many processors, 1 to 64,
+    pub workers: u32,
+    /// this one,
+    pub choice: PlanChoice,
+    /// with these settings of named constants.
+    pub settings: &'a [Setting],
+}
+
+/// A program and a plan for it.
+#[derive(Drop)]
+pub struct Planned {
+    pub program: Program,
+    pub plan: Plan,
+}
+
+/// The program of the source that the bytes begin with, and the plan that is asked for. The error is
+/// the first reason why there is none, or that memory ran out.
+pub fn plan_program<R: Threads + Sync>(
+    rt: &R,
+    alloc: Global,
+    asked: &Asked,
+    bytes: &[u8],
+) -> Result<Planned, Stop>
+    requires short { length bytes.now ≤ MOST_BYTES }
+    requires some { 1 ≤ asked.now.workers }
+    requires few { asked.now.workers ≤ 64 }
+    ensures planned { IfOk result (λ p. IsPlanned asked.now.workers asked.now.choice bytes.now (map setting_of asked.now.settings.now) (tree_of p.program) p.plan) }
+    ensures workers { IfOk result (λ p. p.plan.workers ≡ asked.now.workers) }
+    ensures counts { IfOk result (λ p. HasCounts p.plan) }
+    ensures refused { IfErr result (IsStop asked.now.workers asked.now.choice bytes.now (map setting_of asked.now.settings.now)) }
+{
+    let alone = stands_alone(asked.choice);
+    let (program, rest) = read_inside(alloc, bytes, asked.settings, alone)?;
+    let plan = plan_for(rt, alloc, &program, asked, &bytes[rest..])?;
+    Ok(Planned { program, plan })
+}
+
+// Whether only comments may stand behind END, where no plan does.
+fn stands_alone(choice: PlanChoice) -> bool
+    ensures { result ≡ stands_alone choice }
+{
+    match choice {
+        PlanChoice::Made | PlanChoice::Barrier => true,
+        PlanChoice::Given => false,
+    }
+}
+
+// The plan of a program that is asked for: the one that is made, the one with barriers, or the one
+// whose text these bytes are.
+fn plan_for<R: Threads + Sync>(
+    rt: &R,
+    alloc: Global,
+    program: &Program,
+    asked: &Asked,
+    bytes: &[u8],
+) -> Result<Plan, Stop>
+    requires short { length bytes.now ≤ MOST_BYTES }
+    requires formed { IsWellFormed (tree_of program.now) }
+    requires limits { IsWithinLimits (tree_of program.now) }
+    requires some { 1 ≤ asked.now.workers }
+    requires few { asked.now.workers ≤ 64 }
+    ensures plan { IfOk result (IsPlanFor asked.now.choice asked.now.workers (tree_of program.now) bytes.now) }
+    ensures workers { IfOk result (λ plan. plan.workers ≡ asked.now.workers) }
+    ensures counts { IfOk result HasCounts }
+    ensures refused { IfErr result (IsPlanStopFor asked.now.choice asked.now.workers (tree_of program.now) bytes.now) }
+{
+    match asked.choice {
+        PlanChoice::Made => {
+            let (plan, _) = make(alloc, program, asked.workers)?;
+            Ok(plan)
+        }
+        PlanChoice::Barrier => Ok(make_barrier(alloc, program, asked.workers)?),
+        PlanChoice::Given => given_plan(rt, alloc, program, asked.workers, bytes),
+    }
+}
+
+// The plan whose text the bytes are, where it has so many workers and is accepted.
+fn given_plan<R: Threads + Sync>(
+    rt: &R,
+    alloc: Global,
+    program: &Program,
+    workers: u32,
+    bytes: &[u8],
+) -> Result<Plan, Stop>
+    requires short { length bytes.now ≤ MOST_BYTES }
+    requires formed { IsWellFormed (tree_of program.now) }
+    requires limits { IsWithinLimits (tree_of program.now) }
+    ensures taken { IfOk result (IsTaken workers (tree_of program.now) bytes.now) }
+    ensures refused { IfErr result (IsRefused workers (tree_of program.now) bytes.now) }
+{
+    let plan = read_plan(alloc, bytes)?;
+    if plan.workers != workers {
+        return Err(Stop::Misfit(PlanRefusal::Shape(1)));
+    }
+    check(rt, alloc, program, &plan)?;
+    Ok(plan)
+}

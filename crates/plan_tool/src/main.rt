@@ -1,0 +1,133 @@
+//! Reads a source on standard input and writes what the words ask for of its plan: with `emit` the
+//! program under the plan as one C11 file.
+//!
+//! It ends with one of these statuses.
+//!
+//! | Status | Comes | Standard output |
+//! |---|---|---|
+//! | 0 | all was told | what is told; the help, or the version |
+//! | 1 | the source is refused | `REFUSED`, a code, and what it says |
+//! | 2 | the words or the i-th setting are wrong | `WORDS 0`; `WORDS i` |
+//! | 3 | a read failed | nothing |
+//! | 4 | a write failed | the beginning of what was due |
+//! | 5 | memory ran out | nothing |
+//! | 6 | the plan that is given is refused | `PLAN SYNTAX n`; `PLAN P1 n` and others |
+//! | 7 | the input is too long | `TOO LONG` |
+#![tactic(auto)]
+
+mod emit;
+
+ghost use Rattle.std.specs.Prelude.{◌≡◌, ◌≤◌, IfOk, length, map, string_bytes};
+ghost use Rattle.clap.specs.Walk.{texts};
+ghost use Rattle.plan_words.specs.Wanted.{IsCounted, wanted};
+
+use crate::emit::emitted;
+use asked_plan::Asked;
+use command_words::{Refused, SettingFault, read_settings};
+use f77_lines::MOST_BYTES;
+use f77_program::Refusal;
+use f77_source::Setting;
+use plan_input::{Stop, code_of_write};
+use plan_words::{PlanRequest, read_plan_words};
+use std::alloc::{AllocError, Global};
+use std::io::{Read, Write};
+use std::process::ExitCode;
+use std::thread::Threads;
+use std::{env, io};
+
+fn main(rt: HostRuntime) -> ExitCode {
+    let text = match words_of(&rt) {
+        Ok(words) => told(&rt, rt.alloc(), &words, rt.stdin()),
+        Err(error) => Err(Stop::from_fault(error, Stop::BadWords)),
+    };
+    let code = match text {
+        Ok(text) => code_of_write(rt.stdout().write_all(&text), 0),
+        Err(stop) if stop.is_told() => code_of_write(println!(rt; "{stop}"), stop.code()),
+        Err(stop) => stop.code(),
+    };
+    ExitCode::from(code)
+}
+
+// The words behind the program's name.
+fn words_of(rt: &HostRuntime) -> io::Result<Vec<String>> {
+    let mut words = Vec::new(rt.alloc());
+    for word in env::args(rt)?.skip(1) {
+        words.push(word)?;
+    }
+    Ok(words)
+}
+
+// What is told, by the words behind the program's name and a source.
+fn told<R: Threads + Sync, S: Read + Drop>(
+    rt: &R,
+    alloc: Global,
+    words: &[String],
+    source: S,
+) -> Result<Vec<u8>, Stop> {
+    let texts = texts_of(alloc, words)?;
+    match read_plan_words(alloc, &texts) {
+        Ok(request) => answer(rt, alloc, &request, source),
+        Err(Refused::Shown(error)) => Ok(format!(in alloc; "{error}")?.into_bytes()),
+        Err(Refused::NoMemory) => Err(Stop::NoMemory),
+        Err(Refused::Faulty | Refused::WrongSweep) => Err(Stop::BadWords),
+    }
+}
+
+// The texts of words.
+fn texts_of(alloc: Global, words: &[String]) -> Result<Vec<&str>, AllocError>
+    ensures { IfOk result (λ refs. texts refs.items ≡ map string_bytes words.now) }
+{
+    let mut refs = Vec::new(alloc);
+    for word in words {
+        refs.push(word.as_str())?;
+    }
+    Ok(refs)
+}
+
+// What is told for a request. Settings are looked at in front of the source.
+fn answer<R: Threads + Sync, S: Read + Drop>(
+    rt: &R,
+    alloc: Global,
+    request: &PlanRequest,
+    source: S,
+) -> Result<Vec<u8>, Stop>
+    requires { IsCounted (wanted request.now) }
+{
+    match request {
+        PlanRequest::Emit(workers, choice, words) => {
+            let settings = settings_of(alloc, words)?;
+            let bytes = read_all(alloc, source)?;
+            let asked = Asked {
+                workers: *workers,
+                choice: *choice,
+                settings: &settings,
+            };
+            emitted(rt, alloc, &asked, words, &bytes)
+        }
+    }
+}
+
+// The settings that words write.
+fn settings_of(alloc: Global, words: &[&str]) -> Result<Vec<Setting>, Stop> {
+    match read_settings(alloc, words) {
+        Ok(settings) => Ok(settings),
+        Err(SettingFault::Word(index)) => Err(Stop::Statement(Refusal::BadSetting(index))),
+        Err(SettingFault::NoMemory) => Err(Stop::NoMemory),
+    }
+}
+
+// All bytes of a source, of which there are at most so many.
+fn read_all<S: Read + Drop>(alloc: Global, source: S) -> Result<Vec<u8>, Stop>
+    ensures { IfOk result (λ bytes. length bytes.items ≤ MOST_BYTES) }
+{
+    let mut bytes = Vec::new(alloc);
+    let most = MOST_BYTES as u64 + 1;
+    if let Err(error) = source.take(most).read_to_end(&mut bytes) {
+        return Err(Stop::from_fault(error, Stop::ReadFault));
+    }
+    if bytes.len() > MOST_BYTES {
+        Err(Stop::TooLong)
+    } else {
+        Ok(bytes)
+    }
+}
