@@ -4,3 +4,4 @@ pub mod Spans
 pub mod NearEnds
 pub mod Found
 pub mod Phases
+pub mod Kept

@@ -12,7 +12,7 @@ use Rattle.nest_walk.specs.Texts.{Placed}
 use Rattle.owner_partition.specs.declared.anchor.Anchor.{Anchor}
 use Rattle.owner_partition.specs.declared.cut.Mark.{Mark}
 use Rattle.sync_plan.specs.Shape.{has_places, is_good_anchor, own_loops, static_phases}
-use Rattle.sync_plan.proofs.NamedLoops.{are_numbers, is_within, own_within, text_within, up_to}
+use Rattle.sync_plan.proofs.NamedLoops.{are_numbers, around_within, is_within, own_within, text_within, up_to}
 use Rattle.plan_shape.specs.Named.{with_own}
 
 there : (test : Placed → Bool) (text : List Placed) (k : ℕ) (p : Placed) → list_all test text ≡ true → slice_get text k ≡ Some p → test p ≡ true
@@ -26,6 +26,11 @@ there test (x ∷ text) (suc k) p all at = there test text k p (and_parts (test 
 pub allowed_within : (tree : Tree) (marks : List Mark) (k : ℕ) (p : Placed) → IsWellFormed tree → slice_get (static_phases tree marks) k ≡ Some p → are_numbers (loops_of tree.items) (own_loops marks p.what p.around) ≡ true
 allowed_within tree marks k p formed at =
     own_within (loops_of tree.items) marks p.what p.around (there (is_within (loops_of tree.items)) (static_phases tree marks) k p (text_within tree marks formed) at)
+
+-- the Outer loops round it
+pub round_within : (tree : Tree) (marks : List Mark) (k : ℕ) (p : Placed) → IsWellFormed tree → slice_get (static_phases tree marks) k ≡ Some p → are_numbers (loops_of tree.items) p.around ≡ true
+round_within tree marks k p formed at =
+    around_within (loops_of tree.items) p.what p.around (there (is_within (loops_of tree.items)) (static_phases tree marks) k p (text_within tree marks formed) at)
 
 -- a good anchor names what the program has
 pub good_given : (n constants : ℕ) (loops : List ℕ) (a : Anchor) → are_numbers n loops ≡ true → is_good_anchor constants loops a ≡ true → IsTrue (is_given a.form n constants)

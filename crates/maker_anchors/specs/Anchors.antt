@@ -1,7 +1,8 @@
 -- The anchors of a made plan: the owner of an element computes what is stored in it.
-use Rattle.std.specs.Prelude.{ℕ, suc, ◌-◌, ℤ, pos, ◌-ℤ◌, nat_le, max, length, List, [], ◌∷◌, Option, Some, None, slice_get, if◌then◌else◌}
+use Rattle.std.specs.Prelude.{ℕ, suc, ◌-◌, ◌==◌, ℤ, pos, ◌-ℤ◌, nat_le, max, length, List, [], ◌∷◌, Option, Some, None, slice_get, if◌then◌else◌}
 use Rattle.std.specs.Int.{div_ceil}
-use Rattle.std.specs.Option.{option_or}
+use Rattle.std.specs.List.{list_any}
+use Rattle.std.specs.Option.{option_map, option_or}
 use Rattle.nest_tree.specs.declared.tree.Access.{Access}
 use Rattle.nest_tree.specs.declared.tree.Spread.{Spread}
 use Rattle.nest_tree.specs.declared.tree.Spread.TheVariants.{Block as Blocks, Cyclic as InTurn}
@@ -9,7 +10,8 @@ use Rattle.nest_tree.specs.Form.{Form}
 use Rattle.nest_tree.specs.Intervals.{ends_of}
 use Rattle.nest_tree.specs.Layout.{extent}
 use Rattle.nest_tree.specs.Limits.{is_empty}
-use Rattle.nest_tree.specs.Tree.{Declaration, Statement, Statements, assign, continue, do_loop, done, next, print, work, Tree}
+use Rattle.nest_tree.specs.Loads.{loads_in}
+use Rattle.nest_tree.specs.Tree.{Assignment, Declaration, Statement, Statements, assign, continue, do_loop, done, next, print, work, Tree}
 use Rattle.nest_walk.specs.Texts.{Placed}
 use Rattle.owner_partition.specs.declared.anchor.Anchor.{Anchor}
 use Rattle.owner_partition.specs.declared.anchor.Dist.{Dist}
@@ -18,7 +20,7 @@ use Rattle.owner_partition.specs.declared.cut.Mark.{Mark}
 use Rattle.owner_partition.specs.declared.placement.Placement.{Placement}
 use Rattle.owner_partition.specs.Placement.{misplaced, phase_ends}
 use Rattle.sync_plan.specs.Fit.{has_print}
-use Rattle.sync_plan.specs.Shape.{is_doall, is_good_anchor, mark_of, own_loops, static_phases}
+use Rattle.sync_plan.specs.Shape.{is_doall, is_good_anchor, is_sum_mark, mark_of, own_loops, static_phases}
 
 -- processor 0, whatever the loops' values
 abbrev pub first_processor : Anchor
@@ -60,17 +62,45 @@ abbrev pub if_one_good : ℕ → List ℕ → Option Anchor → Option Anchor
 if_one_good constants loops None = None
 if_one_good constants loops (Some a) = if_good constants loops a
 
--- the first assignment in text order whose element's place is such an anchor
+-- what the first assignment in text order has that has something
 abbrev mutual
-  pub stored_anchor : (Access → Option Anchor) → Statement → Option Anchor
-  stored_anchor f (do_loop head body) = stored_among f body
-  stored_anchor f (work (assign a)) = f a.target
-  stored_anchor f (work (print p)) = None
-  stored_anchor f (continue line) = None
+  pub first_found : (Assignment → Option Anchor) → Statement → Option Anchor
+  first_found f (do_loop head body) = first_among f body
+  first_found f (work (assign a)) = f a
+  first_found f (work (print p)) = None
+  first_found f (continue line) = None
 
-  pub stored_among : (Access → Option Anchor) → Statements → Option Anchor
-  stored_among f done = None
-  stored_among f (next s rest) = option_or (stored_anchor f s) (stored_among f rest)
+  pub first_among : (Assignment → Option Anchor) → Statements → Option Anchor
+  first_among f done = None
+  first_among f (next s rest) = option_or (first_found f s) (first_among f rest)
+
+-- the same of accesses
+abbrev pub first_of : (Access → Option Anchor) → List Access → Option Anchor
+first_of f [] = None
+first_of f (a ∷ rest) = option_or (f a) (first_of f rest)
+
+-- the first element that these statements store whose place is such an anchor
+abbrev pub stored_anchor : (Access → Option Anchor) → Statement → Option Anchor
+stored_anchor f s = first_found (λ (a : Assignment). f a.target) s
+
+-- the first that they load
+abbrev pub loaded_anchor : (Access → Option Anchor) → Statement → Option Anchor
+loaded_anchor f s = first_found (λ (a : Assignment). first_of f (loads_in a.value)) s
+
+-- an anchor, if it names this loop
+abbrev pub if_names : ℕ → Anchor → Option Anchor
+if_names n a = if list_any (λ (p : ℕ × ℤ). p.0 == n) a.form.loops then Some a else None
+
+abbrev pub if_one_names : ℕ → Option Anchor → Option Anchor
+if_one_names n None = None
+if_one_names n (Some a) = if_names n a
+
+-- of a Sum loop: the first element that it loads whose place is such an anchor and names the loop, so that its trips are added up where their data lies
+abbrev pub summed_anchor : List Mark → (Access → Option Anchor) → Statement → Option Anchor
+summed_anchor marks f (do_loop head body) =
+    if is_sum_mark (mark_of marks head.number) then loaded_anchor (λ a. if_one_names head.number (f a)) (do_loop head body) else None
+summed_anchor marks f (work w) = None
+summed_anchor marks f (continue line) = None
 
 -- the least value of a loop and how many values lie from there to the greatest; 0 and 0 where it is empty, or one round it
 abbrev pub span_within : ℤ × ℤ → ℤ × ℕ
@@ -102,13 +132,22 @@ abbrev pub placed_anchor : Tree → List Mark → ℕ → ℕ → Option Anchor 
 placed_anchor tree marks workers u None = first_processor
 placed_anchor tree marks workers u (Some a) = unless_misplaced (misplaced tree marks workers u a) a
 
--- the anchor of the static phase with this number: processor 0 where it prints; else the first that is good, of what it stores and then its own loop's value; else processor 0
+-- the anchor of an element's owner in front of the static phase with this number, where it names no loop but these
+abbrev pub element_owner : Tree → List Mark → ℕ → ℕ → List ℕ → Access → Option Anchor
+element_owner tree marks workers u loops a = option_map (λ b. unless_misplaced (misplaced tree marks workers u b) b) (if_one_good (length tree.params) loops (element_anchor tree workers a))
+
+-- the first that is good: of what a phase stores, of what a Sum phase loads, and its own loop's value
+abbrev pub anchor_sought : Tree → List Mark → ℕ → ℕ → List ℕ → Statement → Option Anchor
+anchor_sought tree marks workers u loops what =
+    let good = if_one_good (length tree.params) loops in
+    option_or (stored_anchor (λ a. good (element_anchor tree workers a)) what)
+    (option_or (summed_anchor marks (λ a. good (element_anchor tree workers a)) what) (good (own_anchor tree marks workers u what)))
+
+-- the anchor of the static phase with this number: processor 0 where it prints; else the one that is sought; else processor 0
 abbrev pub phase_anchor : Tree → List Mark → ℕ → ℕ → Placed → Anchor
 phase_anchor tree marks workers u s =
-    let constants = length tree.params in
-    let loops = own_loops marks s.what s.around in
     if has_print s.what then first_processor
-    else placed_anchor tree marks workers u (option_or (stored_anchor (λ a. if_one_good constants loops (element_anchor tree workers a)) s.what) (if_one_good constants loops (own_anchor tree marks workers u s.what)))
+    else placed_anchor tree marks workers u (anchor_sought tree marks workers u (own_loops marks s.what s.around) s.what)
 
 abbrev pub anchors_from : Tree → List Mark → ℕ → ℕ → List Placed → List Anchor
 anchors_from tree marks workers u [] = []

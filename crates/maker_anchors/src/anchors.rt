@@ -1,23 +1,26 @@
 //! The anchors of the static phases.
 
-ghost use Rattle.std.specs.Prelude.{◌≡◌, ◌≤◌, ◌<◌, ◌-◌, IfOk, IfSome, IsTrue, Some, slice_get, length};
+ghost use Rattle.std.specs.Prelude.{◌≡◌, ◌≤◌, ◌<◌, ◌-◌, ◌==◌, IfOk, IfSome, IsTrue, Some, slice_get, length};
+ghost use Rattle.std.specs.List.{list_any};
 ghost use Rattle.nest_tree.specs.Limits.{IsWithinLimits};
-ghost use Rattle.nest_tree.specs.View.{declaration_of, statement_of, statements_from, tree_of};
+ghost use Rattle.nest_tree.specs.Loads.{loads_among, loads_in};
+ghost use Rattle.nest_tree.specs.View.{declaration_of, expression_of, expressions_from, statement_of, statements_from, tree_of};
 ghost use Rattle.nest_tree.specs.WellFormed.{IsWellFormed, loops_of};
 ghost use Rattle.nest_walk.specs.Texts.{placed};
 ghost use Rattle.owner_partition.specs.Marks.{enters_outer};
 ghost use Rattle.owner_partition.specs.Placement.{phase_ends};
 ghost use Rattle.owner_partition.specs.StaticPhases.{loops_round};
 ghost use Rattle.nest_tree.specs.Form.{is_given};
-ghost use Rattle.maker_anchors.specs.Anchors.{along, along_axis, if_good, if_one_good, less, maker_anchors, phase_anchor, placed_anchor, span_of, stored_among, stored_anchor, value_of};
-ghost use Rattle.maker_anchors.specs.Scopes.{constants_at, found_anchor, good_element_anchor, good_own_anchor, loops_at};
+ghost use Rattle.maker_anchors.specs.Anchors.{along, along_axis, element_owner, first_among, first_found, first_of, if_good, if_one_good, less, maker_anchors, phase_anchor, placed_anchor, span_of, value_of};
+ghost use Rattle.maker_anchors.specs.Scopes.{constants_at, found_anchor, good_element_anchor, good_load_anchor, good_own_anchor, loops_at, sought_in, sum_anchor};
 
 use crate::places::{dealt_as, extent, extent_between, first_processor, in_blocks, item_at, less};
-use crate::scope::Scope;
-use nest_tree::{Access, Affine, Item, Pairs, Program, Spread, Variable};
+use crate::scope::{Scope, Sought};
+use nest_tree::{Access, Affine, Expr, Item, Pairs, Program, Spread, Variable};
 use owner_partition::{Anchor, Cut, Dist, StaticPhase, check_anchor};
 use plan_shape::own_loop;
 use std::alloc::{AllocError, Global};
+use sync_plan::Plan;
 
 /// The anchors of a program's static phases under a cut, in text order, for so many workers.
 pub fn anchors_of(
@@ -72,7 +75,40 @@ fn phase_anchor(
     }
 }
 
-// The first good anchor of what a phase stores, and then of its own loop's value.
+/// The anchor of an element's owner in front of a static phase, the one with this number, where it
+/// names no loop but the Outer ones round it: its place along its array's distributed dimension, as
+/// its array is spread; in turn where blocks of it would be left.
+pub fn element_owner(
+    alloc: Global,
+    program: &Program,
+    plan: &Plan,
+    number: u32,
+    phase: &StaticPhase,
+    access: &Access,
+) -> Result<Option<Anchor>, AllocError>
+    requires formed { IsWellFormed (tree_of program.now) }
+    requires limits { IsWithinLimits (tree_of program.now) }
+    requires some { 1 ≤ plan.now.workers }
+    requires phase { slice_get (placed (tree_of program.now) (enters_outer plan.now.cut.marks)) (number - 1) ≡ Some (record { what = statement_of phase.now.item.now; around = loops_round phase.now }) }
+    ensures { IfOk result (λ o. o ≡ element_owner (tree_of program.now) plan.now.cut.marks plan.now.workers number (loops_round phase.now) access.now) }
+{
+    let scope = Scope {
+        program,
+        phase,
+        own: None,
+        workers: plan.workers,
+    };
+    match element_anchor(alloc, scope, access)? {
+        Some(anchor) => {
+            let anchor = placed(program, &plan.cut, plan.workers, number, anchor);
+            Ok(Some(anchor))
+        }
+        None => Ok(None),
+    }
+}
+
+// The first good anchor of what a phase stores, of what a Sum phase loads, and of its own loop's
+// value.
 fn found_anchor(
     alloc: Global,
     scope: Scope,
@@ -85,7 +121,10 @@ fn found_anchor(
     requires own { IfSome scope.own (λ n. (1 ≤ n) × (n ≤ loops_of (tree_of scope.program.now).items)) }
     ensures { IfOk result (λ o. o ≡ found_anchor scope.entry cut.now.marks number (statement_of scope.entry.phase.now.item.now)) }
 {
-    if let Some(anchor) = stored_anchor(alloc, scope, scope.phase.item)? {
+    if let Some(anchor) = first_found(alloc, scope, Sought::Stored, scope.phase.item)? {
+        return Ok(Some(anchor));
+    }
+    if let Some(anchor) = sum_anchor(alloc, scope, cut)? {
         return Ok(Some(anchor));
     }
     own_anchor(alloc, scope, cut, number)
@@ -107,30 +146,125 @@ fn placed(program: &Program, cut: &Cut, workers: u32, number: u32, anchor: Ancho
     }
 }
 
-// The first good anchor of what these statements store.
-#[cycle(stored)]
-fn stored_among(alloc: Global, scope: Scope, items: &[Item]) -> Result<Option<Anchor>, AllocError>
+// The first good anchor of what a Sum phase loads that names its loop.
+fn sum_anchor(alloc: Global, scope: Scope, cut: &Cut) -> Result<Option<Anchor>, AllocError>
     requires { 1 ≤ scope.workers }
-    ensures { IfOk result (λ o. o ≡ stored_among (good_element_anchor scope.entry) (statements_from items.now)) }
+    ensures { IfOk result (λ o. o ≡ sum_anchor scope.entry cut.now.marks (statement_of scope.entry.phase.now.item.now) scope.entry.own) }
+{
+    match scope.own {
+        Some(own) if cut.mark(own).is_sum() => {
+            first_found(alloc, scope, Sought::Loaded(own), scope.phase.item)
+        }
+        Some(_) | None => Ok(None),
+    }
+}
+
+// The first anchor that is sought in these statements.
+#[cycle(found)]
+fn first_among(
+    alloc: Global,
+    scope: Scope,
+    sought: Sought,
+    items: &[Item],
+) -> Result<Option<Anchor>, AllocError>
+    requires { 1 ≤ scope.workers }
+    ensures { IfOk result (λ o. o ≡ first_among (sought_in scope.entry sought) (statements_from items.now)) }
 {
     for item in items {
-        if let Some(anchor) = stored_anchor(alloc, scope, item)? {
+        if let Some(anchor) = first_found(alloc, scope, sought, item)? {
             return Ok(Some(anchor));
         }
     }
     Ok(None)
 }
 
-#[cycle(stored)]
-fn stored_anchor(alloc: Global, scope: Scope, item: &Item) -> Result<Option<Anchor>, AllocError>
+#[cycle(found)]
+fn first_found(
+    alloc: Global,
+    scope: Scope,
+    sought: Sought,
+    item: &Item,
+) -> Result<Option<Anchor>, AllocError>
     requires { 1 ≤ scope.workers }
-    ensures { IfOk result (λ o. o ≡ stored_anchor (good_element_anchor scope.entry) (statement_of item.now)) }
+    ensures { IfOk result (λ o. o ≡ first_found (sought_in scope.entry sought) (statement_of item.now)) }
 {
     match item {
-        Item::Loop(nest) => stored_among(alloc, scope, &nest.items),
-        Item::Assign(target, ..) => element_anchor(alloc, scope, target),
+        Item::Loop(nest) => first_among(alloc, scope, sought, &nest.items),
+        Item::Assign(target, value, ..) => match sought {
+            Sought::Stored => element_anchor(alloc, scope, target),
+            Sought::Loaded(own) => first_loaded(alloc, scope, own, value),
+        },
         Item::Print(..) | Item::Continue(_) => Ok(None),
     }
+}
+
+// The first anchor of what an expression loads that is good and names a loop.
+#[cycle(loaded)]
+#[tactic(auto, using(crate::proofs::Found::first_append))]
+fn first_loaded(
+    alloc: Global,
+    scope: Scope,
+    own: u32,
+    value: &Expr,
+) -> Result<Option<Anchor>, AllocError>
+    requires { 1 ≤ scope.workers }
+    ensures { IfOk result (λ o. o ≡ first_of (good_load_anchor scope.entry own) (loads_in (expression_of value.now))) }
+{
+    match value {
+        Expr::Number(_) | Expr::LoopValue(_) | Expr::Param(_) => Ok(None),
+        Expr::Load(access) => load_anchor(alloc, scope, own, access),
+        Expr::Neg(a) | Expr::Div(a, _) => first_loaded(alloc, scope, own, a),
+        Expr::Add(a, b) | Expr::Sub(a, b) | Expr::Mul(a, b) => {
+            if let Some(anchor) = first_loaded(alloc, scope, own, a)? {
+                return Ok(Some(anchor));
+            }
+            first_loaded(alloc, scope, own, b)
+        }
+        Expr::Min(arguments) => first_loaded_among(alloc, scope, own, arguments),
+        Expr::Max(arguments) => first_loaded_among(alloc, scope, own, arguments),
+    }
+}
+
+// The same of what arguments load.
+#[cycle(loaded)]
+fn first_loaded_among(
+    alloc: Global,
+    scope: Scope,
+    own: u32,
+    arguments: &[Expr],
+) -> Result<Option<Anchor>, AllocError>
+    requires { 1 ≤ scope.workers }
+    ensures { IfOk result (λ o. o ≡ first_of (good_load_anchor scope.entry own) (loads_among (expressions_from arguments.now))) }
+{
+    for argument in arguments {
+        if let Some(anchor) = first_loaded(alloc, scope, own, argument)? {
+            return Ok(Some(anchor));
+        }
+    }
+    Ok(None)
+}
+
+// The place of an element, if it is a good anchor that names a loop.
+fn load_anchor(
+    alloc: Global,
+    scope: Scope,
+    own: u32,
+    access: &Access,
+) -> Result<Option<Anchor>, AllocError>
+    requires { 1 ≤ scope.workers }
+    ensures { IfOk result (λ o. o ≡ good_load_anchor scope.entry own access.now) }
+{
+    match element_anchor(alloc, scope, access)? {
+        Some(anchor) if names(&anchor, own) => Ok(Some(anchor)),
+        Some(_) | None => Ok(None),
+    }
+}
+
+// Whether an anchor names this loop.
+fn names(anchor: &Anchor, own: u32) -> bool
+    ensures { result ≡ list_any (λ p. p.0 == own) anchor.now.form.loops }
+{
+    anchor.form.loops().iter().any(|pair| pair.0 == own)
 }
 
 // The place of an element along its array's distributed dimension, if it is a good anchor.

@@ -9,4 +9,4 @@ pub mod anchors;
 pub mod places;
 mod scope;
 
-pub use anchors::anchors_of;
+pub use anchors::{anchors_of, element_owner};

@@ -17,6 +17,14 @@ pub(crate) struct Scope<'b, 'a> {
     pub(crate) workers: u32,
 }
 
+// What of an assignment is sought: the element that it stores, or the first that it loads whose
+// anchor names the loop with this number.
+#[derive(Clone, Copy)]
+pub(crate) enum Sought {
+    Stored,
+    Loaded(u32),
+}
+
 impl Scope<'_, '_> {
     ghost use Rattle.maker_anchors.specs.Scopes.{constants_at, loops_at};
 

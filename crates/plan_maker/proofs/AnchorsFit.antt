@@ -1,30 +1,27 @@
 -- Anchors that are good at their phases, keep within their blocks, and name processor 0 where there is a PRINT: those of a made plan are so.
-use Rattle.std.proofs.Common.{◌≡◌, ℕ, zero, suc, ◌-◌, ◌≤◌, ℤ, Bool, true, false, ◌&&◌, ◌||◌, not, List, [], ◌∷◌, ◌++◌, length, Option, Some, None, if◌then◌else◌, refl, ap, sym, ◌∙◌, subst}
+use Rattle.std.proofs.Common.{◌≡◌, ℕ, zero, suc, ◌-◌, ◌≤◌, Bool, true, false, ◌&&◌, ◌||◌, not, List, [], ◌∷◌, ◌++◌, length, Option, Some, None, if◌then◌else◌, refl, ap, sym, ◌∙◌, subst}
 use Rattle.std.specs.Prelude.{replicate}
 use Rattle.std.specs.List.{list_all}
 use Rattle.std.specs.Option.{option_or}
 use Rattle.std.proofs.lemmas.Bool.{and_from, and_parts}
 use Rattle.std.proofs.lemmas.List.{append-nil, length-replicate}
-use Rattle.nest_tree.specs.Form.{Form}
 use Rattle.nest_tree.specs.Prints.{has_print}
-use Rattle.nest_tree.specs.Tree.{Tree, param_values}
-use Rattle.nest_tree.specs.WellFormed.{names_only}
+use Rattle.nest_tree.specs.Tree.{Tree}
 use Rattle.nest_walk.specs.Texts.{Placed}
 use Rattle.owner_partition.specs.declared.anchor.Anchor.{Anchor}
-use Rattle.owner_partition.specs.declared.anchor.Dist.TheVariants.{Cyclic}
 use Rattle.owner_partition.specs.declared.cut.Mark.{Mark}
-use Rattle.owner_partition.specs.declared.placement.Placement.{Placement}
 use Rattle.owner_partition.specs.Cuts.{Cutting}
 use Rattle.owner_partition.specs.Marks.{is_dealt}
-use Rattle.owner_partition.specs.Placement.{misplaced, misplaced_at, names_empty, phase_ends, unplaced}
+use Rattle.owner_partition.specs.Placement.{misplaced, phase_ends, unplaced}
 use Rattle.sync_plan.specs.Barriers.{barrier_plan}
 use Rattle.sync_plan.specs.declared.plan.Kind.TheVariants.{Barrier}
 use Rattle.sync_plan.specs.Fit.{IsFit, is_zero_form, kind_anchors, misplaced_print, numbered_anchors}
-use Rattle.sync_plan.specs.Shape.{are_good_anchors, are_good_kinds, has_places, is_good_anchor, own_loops, static_phases}
-use Rattle.maker_anchors.specs.Anchors.{anchors_from, element_anchor, first_processor, if_one_good, own_anchor, phase_anchor, placed_anchor, stored_anchor, unless_misplaced}
+use Rattle.sync_plan.specs.Shape.{are_good_anchors, are_good_kinds, is_good_anchor, own_loops, static_phases}
+use Rattle.maker_anchors.specs.Anchors.{anchor_sought, anchors_from, first_processor, phase_anchor, placed_anchor}
 use Rattle.plan_maker.proofs.CutFits.{IsFittingCut, is_silent}
 use Rattle.plan_maker.proofs.FitParts.{fits_by_parts}
-use Rattle.maker_anchors.proofs.Found.{either, if_good_good, stored_good}
+use Rattle.maker_anchors.proofs.Found.{sought_good}
+use Rattle.maker_anchors.proofs.Kept.{IsKept, kept_placed, turned}
 
 -- an anchor of the static phase with this number
 pub record IsFineAnchor (tree : Tree) (marks : List Mark) (workers u : ℕ) (s : Placed) (a : Anchor) : Type 0 where
@@ -70,14 +67,10 @@ module _ (tree : Tree) (marks : List Mark) (workers : ℕ) where
       let parts = and_parts (is_silent marks s) (list_all (is_silent marks) text) silent in
       ap (λ b. if b then Some u else misplaced_print (suc u) marks text anchors) (silent-or-first (has_print s.what) (is_dealt marks s.what) (is_zero_form a.form) parts.0 h.0.first) ∙ fine-prints (suc u) text anchors parts.1 h.1
 
-  -- ---- places in turn have no end
-
-  turned : (u : ℕ) (f : Form) (o : Option (List (ℤ × ℤ))) → misplaced_at (param_values tree) workers u (record { form = f; dist = Cyclic }) o ≡ None
-  turned u f None = refl
-  turned u f (Some ends) = elim (names_empty ends f.loops) as (λ b. ◌≡◌ {A = Option Placement} (if b then None else None) None) [ true ↦ refl | false ↦ refl ]
+  -- ---- processor 0
 
   first-fine : (u : ℕ) (s : Placed) → IsFineAnchor tree marks workers u s first_processor
-  first-fine u s = record { good = refl; placed = turned u first_processor.form (phase_ends tree marks (u - 1)); first = λ prints. refl }
+  first-fine u s = record { good = refl; placed = turned tree marks workers u first_processor.form (phase_ends tree marks (u - 1)); first = λ prints. refl }
 
   pub first-all : (u : ℕ) (text : List Placed) → AreFineAnchors u text (replicate (length text) first_processor)
   first-all u [] = tt
@@ -85,44 +78,25 @@ module _ (tree : Tree) (marks : List Mark) (workers : ℕ) where
 
   -- ---- those of a made plan
 
-  abbrev IsGood : List ℕ → Anchor → Type 0
-  IsGood loops a = is_good_anchor (length tree.params) loops a ≡ true
+  placed-fine : (u : ℕ) (loops : List ℕ) (o : Option Anchor) → ((a : Anchor) → o ≡ Some a → is_good_anchor (length tree.params) loops a ≡ true) → IsKept tree marks workers u loops (placed_anchor tree marks workers u o)
+  placed-fine u loops None good = record { good = refl; placed = turned tree marks workers u first_processor.form (phase_ends tree marks (u - 1)) }
+  placed-fine u loops (Some a) good = kept_placed tree marks workers u loops a (misplaced tree marks workers u a) refl (good a refl)
 
-  kept-placed : (u : ℕ) (loops : List ℕ) (a : Anchor) (o : Option Placement) → misplaced tree marks workers u a ≡ o → IsGood loops a → IsGood loops (unless_misplaced o a) × (misplaced tree marks workers u (unless_misplaced o a) ≡ None)
-  kept-placed u loops a None e good = (good, e)
-  kept-placed u loops a (Some why) e good =
-      let named = names_only (length tree.params) loops a.form in
-      (and_from named true (and_parts named (has_places a.dist) good).0 refl, turned u a.form (phase_ends tree marks (u - 1)))
-
-  placed-fine : (u : ℕ) (loops : List ℕ) (o : Option Anchor) → ((a : Anchor) → o ≡ Some a → IsGood loops a) → IsGood loops (placed_anchor tree marks workers u o) × (misplaced tree marks workers u (placed_anchor tree marks workers u o) ≡ None)
-  placed-fine u loops None good = (refl, turned u first_processor.form (phase_ends tree marks (u - 1)))
-  placed-fine u loops (Some a) good = kept-placed u loops a (misplaced tree marks workers u a) refl (good a refl)
-
-  -- what is looked for: the first element that the phase stores, and its own loop's value
   abbrev allowed : Placed → List ℕ
   allowed s = own_loops marks s.what s.around
 
-  abbrev stored : Placed → Option Anchor
-  stored s = stored_anchor (λ a. if_one_good (length tree.params) (allowed s) (element_anchor tree workers a)) s.what
-
-  abbrev own : ℕ → Placed → Option Anchor
-  own u s = if_one_good (length tree.params) (allowed s) (own_anchor tree marks workers u s.what)
-
-  found-good : (u : ℕ) (s : Placed) (a : Anchor) → option_or (stored s) (own u s) ≡ Some a → IsGood (allowed s) a
-  found-good u s a e =
-      either (IsGood (allowed s)) (stored s) (own u s) a
-      (stored_good (λ x. if_one_good (length tree.params) (allowed s) (element_anchor tree workers x)) (IsGood (allowed s)) (λ x b h. if_good_good (length tree.params) (allowed s) (element_anchor tree workers x) b h) s.what)
-      (λ b h. if_good_good (length tree.params) (allowed s) (own_anchor tree marks workers u s.what) b h) e
+  abbrev sought : ℕ → Placed → Option Anchor
+  sought u s = anchor_sought tree marks workers u (allowed s) s.what
 
   phase-fine : (u : ℕ) (s : Placed) → IsFineAnchor tree marks workers u s (phase_anchor tree marks workers u s)
   phase-fine u s = by (has_print s.what) refl
     where
       by : (b : Bool) → has_print s.what ≡ b → IsFineAnchor tree marks workers u s (phase_anchor tree marks workers u s)
-      by true e = subst (IsFineAnchor tree marks workers u s) (sym (ap (λ b. if b then first_processor else placed_anchor tree marks workers u (option_or (stored s) (own u s))) e)) (first-fine u s)
+      by true e = subst (IsFineAnchor tree marks workers u s) (sym (ap (λ b. if b then first_processor else placed_anchor tree marks workers u (sought u s)) e)) (first-fine u s)
       by false e =
-          let fine = placed-fine u (allowed s) (option_or (stored s) (own u s)) (found-good u s) in
-          subst (IsFineAnchor tree marks workers u s) (sym (ap (λ b. if b then first_processor else placed_anchor tree marks workers u (option_or (stored s) (own u s))) e))
-          (record { good = fine.0; placed = fine.1; first = λ prints. absurd (let no : false ≡ true = sym e ∙ prints in cc) })
+          let fine = placed-fine u (allowed s) (sought u s) (sought_good tree marks workers u (allowed s) s.what) in
+          subst (IsFineAnchor tree marks workers u s) (sym (ap (λ b. if b then first_processor else placed_anchor tree marks workers u (sought u s)) e))
+          (record { good = fine.good; placed = fine.placed; first = λ prints. absurd (let no : false ≡ true = sym e ∙ prints in cc) })
 
   pub made-all : (u : ℕ) (text : List Placed) → AreFineAnchors u text (anchors_from tree marks workers u text)
   made-all u [] = tt

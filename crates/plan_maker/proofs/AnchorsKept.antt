@@ -3,14 +3,13 @@ use Rattle.std.proofs.Common.{◌≡◌, ℕ, zero, suc, ◌+◌, ◌-◌, ◌<�
 use Rattle.std.specs.Prelude.{slice_get}
 use Rattle.std.specs.List.{AllByRecursion}
 use Rattle.std.proofs.lemmas.Bool.{and_parts, cases_lt, le-ltb, lt-ltb}
-use Rattle.std.proofs.lemmas.List.{append-nil, get_or-set_other, map-append}
+use Rattle.std.proofs.lemmas.List.{append-nil, get_or-set_other}
 use Rattle.nest_tree.specs.Intervals.{ends_of, head_interval, with_ends}
 use Rattle.nest_tree.specs.Limits.{is_empty}
 use Rattle.nest_tree.specs.Tree.{Head, Statement, Statements, do_loop, work, continue, done, next}
 use Rattle.nest_tree.specs.WellFormed.{Scope, are_good_statements, is_good_statement, loops_in, names_only}
 use Rattle.nest_tree.proofs.Good.{good_loop}
 use Rattle.nest_model.specs.Visits.{stops_in, stops_of}
-use Rattle.nest_walk.specs.Texts.{Placed, placed_in, placed_of}
 use Rattle.nest_rows.proofs.Dots.{numbers}
 use Rattle.nest_rows.proofs.Nesting.{all-append, all-weaker}
 use Rattle.owner_partition.specs.declared.anchor.Anchor.{Anchor}
@@ -25,37 +24,6 @@ use Rattle.comm_system.proofs.Holders.{placed_keeps}
 use Rattle.comm_system.proofs.Lists.{all_mapped}
 use Rattle.comm_system.proofs.Stations.{inside, text_among, text_of, text-length}
 use Rattle.comm_system.proofs.Timeline.{IsFrontOf}
-
--- ---- the static phases in either form
-
--- the numbers of loops, the innermost first, in front of those round them
-abbrev pub inward : List Head → List ℕ → List ℕ
-inward [] around = around
-inward (h ∷ hs) around = inward hs (h.number ∷ around)
-
-abbrev pub stop : List ℕ → StaticPhase → Placed
-stop around p = record { what = p.what; around = inward p.outer around }
-
-stop-inside : (around : List ℕ) (h : Head) (ps : List StaticPhase) → map (stop around) (map (inside h) ps) ≡ map (stop (h.number ∷ around)) ps
-stop-inside around h [] = refl
-stop-inside around h (p ∷ ps) = ap (λ rest. stop (h.number ∷ around) p ∷ rest) (stop-inside around h ps)
-
-module _ (enters : ℕ → Bool) where
-  mutual
-    stops-are_in : (around : List ℕ) (s : Statement) → placed_in enters around s ≡ map (stop around) (text_of enters s)
-    stops-are_in around (do_loop head body) =
-        elim (enters head.number) as (λ b. (if b then placed_of enters (head.number ∷ around) body else record { what = do_loop head body; around = around } ∷ []) ≡ map (stop around) (if b then map (inside head) (text_among enters body) else record { what = do_loop head body; outer = [] } ∷ [])) [
-          | true ↦ stops-are (head.number ∷ around) body ∙ sym (stop-inside around head (text_among enters body))
-          | false ↦ refl
-        ]
-    stops-are_in around (work w) = refl
-    stops-are_in around (continue line) = refl
-
-    pub stops-are : (around : List ℕ) (ss : Statements) → placed_of enters around ss ≡ map (stop around) (text_among enters ss)
-    stops-are around done = refl
-    stops-are around (next s rest) =
-        ap (λ ps. ps ++ placed_of enters around rest) (stops-are_in around s) ∙ ap (λ ps. map (stop around) (text_of enters s) ++ ps) (stops-are around rest)
-        ∙ sym (map-append (stop around) (text_of enters s) (text_among enters rest))
 
 -- ---- the intervals of the loops at a static phase, loop by loop
 

@@ -1,7 +1,7 @@
 -- The beginning of a search: a barrier stands in front of each phase, so no slot has a system; and what the candidates are.
-use Rattle.std.proofs.Common.{◌≡◌, ◌^◌, ap₂, ℕ, zero, suc, ◌-◌, ◌<◌, Bool, true, false, ◌&&◌, not, List, [], ◌∷◌, ◌++◌, length, map, append_assoc, Some, None, if◌then◌else◌, refl, ap, sym, ◌∙◌, subst, inl, arith}
+use Rattle.std.proofs.Common.{◌≡◌, ◌^◌, ap₂, ℕ, zero, suc, ◌+◌, ◌-◌, ◌<◌, Bool, true, false, ◌&&◌, List, [], ◌∷◌, ◌++◌, length, map, append_assoc, Some, None, if◌then◌else◌, refl, ap, sym, ◌∙◌, subst, inl, arith}
 use Rattle.std.specs.Prelude.{slice_get}
-use Rattle.std.specs.List.{All, AllByRecursion, AllZip, filter, flat_map, list_all, list_any}
+use Rattle.std.specs.List.{All, AllByRecursion, AllZip, filter, flat_map, list_all}
 use Rattle.std.proofs.lemmas.Bool.{and_from, and_parts}
 use Rattle.std.proofs.lemmas.List.Folds.{list_all-append}
 use Rattle.std.proofs.lemmas.List.{append-nil, length-append, length-map}
@@ -9,28 +9,29 @@ use Rattle.std.proofs.lemmas.List.Elements.{filter-append}
 use Rattle.nest_walk.proofs.Grown.{AllZip-append}
 use Rattle.nest_tree.specs.Tree.{Tree}
 use Rattle.nest_tree.specs.View.{tree_of}
+use Rattle.nest_tree.specs.WellFormed.{names_only}
 use Rattle.owner_partition.specs.declared.anchor.Anchor.{Anchor}
 use Rattle.owner_partition.specs.declared.cut.Mark.{Mark}
-use Rattle.owner_partition.specs.Owners.{is_same_anchor}
 use Rattle.sync_plan.specs.declared.plan.Kind.{Kind}
 use Rattle.sync_plan.specs.declared.plan.Kind.TheVariants.{Nothing, Producer, Left, Right, Both, Barrier}
 use Rattle.sync_plan.specs.declared.plan.Plan.{Plan}
-use Rattle.sync_plan.specs.Fit.{is_dealt}
 use Rattle.sync_plan.specs.Shape.{has_places, wrong_field}
-use Rattle.comm_system.specs.Boundaries.{is_prefix}
 use Rattle.comm_system.specs.Certain.{certain_of}
 use Rattle.comm_system.specs.Obligations.{Slot, slot_signature, slot_tasks, slots_of}
 use Rattle.comm_system.specs.References.{StaticPhase, phases_of}
 use Rattle.comm_system.specs.Signatures.{Signature, blocked, has_places_in, waits}
 use Rattle.comm_system.specs.SlotViews.{slot_seen}
-use Rattle.comm_system.proofs.Lists.{mapped_get}
 use Rattle.comm_system.proofs.ShapeParts.{shaped}
 use Rattle.plan_checker.proofs.Blocked.{none_of_slots}
 use Rattle.plan_maker.specs.declared.cache.SlotCache.{SlotCache}
 use Rattle.plan_maker.specs.declared.problem.Problem.{Problem}
 use Rattle.plan_maker.specs.Asked.{asked, owners_dealt, slot_asked}
 use Rattle.plan_maker.specs.Caches.{IsEntry}
-use Rattle.plan_maker.specs.Candidates.{ArePlaces, candidates_at, each_once, kinds_taken, last_places, or_barrier, single_anchors}
+use Rattle.maker_anchors.proofs.Kept.{owner_kept}
+use Rattle.maker_candidates.specs.Candidates.{candidates_at, candidates_from, producers_at, round}
+use Rattle.maker_candidates.proofs.Lists.{candidates_get, candidates_long}
+use Rattle.maker_candidates.proofs.Owned.{producers_all}
+use Rattle.plan_maker.specs.Candidates.{ArePlaces, kinds_taken, last_places, or_barrier}
 use Rattle.plan_maker.specs.Meeting.{meets}
 use Rattle.plan_maker.specs.declared.search.Search.{Search}
 use Rattle.plan_maker.specs.Searches.{AreFresh, IsFresh, IsReady, IsSearch, kinds_in, phases_in}
@@ -43,15 +44,15 @@ use Rattle.plan_maker.proofs.Ready.{seen}
 last-of : {X : Type 0} (xs : List X) (x : X) → slice_get (xs ++ x ∷ []) (length (xs ++ x ∷ []) - 1) ≡ Some x
 last-of xs x = let at : length (xs ++ x ∷ []) - 1 ≡ length xs = omega (arith, length-append xs (x ∷ [])) in ap (slice_get (xs ++ x ∷ [])) at ∙ got_last xs x
 
-pub barrier_last : (marks : List Mark) (phases : List StaticPhase) (anchors : List Anchor) (t : StaticPhase) → slice_get (candidates_at marks phases anchors t) (length (candidates_at marks phases anchors t) - 1) ≡ Some Barrier
-barrier_last marks phases anchors t =
-    let producers = map Producer (each_once [] (single_anchors marks t phases anchors)) in
-    let split : candidates_at marks phases anchors t ≡ (Nothing ∷ (producers ++ Left ∷ Right ∷ Both ∷ [])) ++ Barrier ∷ [] = ap (λ ks. Nothing ∷ ks) (sym (append_assoc producers (Left ∷ Right ∷ Both ∷ []) (Barrier ∷ []))) in
+barrier_last : (tree : Tree) (marks : List Mark) (workers : ℕ) (anchors : List Anchor) (phases : List StaticPhase) (u : ℕ) (t : StaticPhase) → slice_get (candidates_at tree marks workers anchors phases u t) (length (candidates_at tree marks workers anchors phases u t) - 1) ≡ Some Barrier
+barrier_last tree marks workers anchors phases u t =
+    let producers = map Producer (producers_at tree marks workers anchors phases u t) in
+    let split : candidates_at tree marks workers anchors phases u t ≡ (Nothing ∷ (producers ++ Left ∷ Right ∷ Both ∷ [])) ++ Barrier ∷ [] = ap (λ ks. Nothing ∷ ks) (sym (append_assoc producers (Left ∷ Right ∷ Both ∷ []) (Barrier ∷ []))) in
     ap (λ (ks : List Kind). slice_get ks (length ks - 1)) split ∙ last-of (Nothing ∷ (producers ++ Left ∷ Right ∷ Both ∷ [])) Barrier
 
-pub places_last : (marks : List Mark) (phases : List StaticPhase) (anchors : List Anchor) (ts : List StaticPhase) → ArePlaces (map (candidates_at marks phases anchors) ts) (last_places (map (candidates_at marks phases anchors) ts))
-places_last marks phases anchors [] = tt
-places_last marks phases anchors (t ∷ ts) = (omega arith, places_last marks phases anchors ts)
+places_last : (tree : Tree) (marks : List Mark) (workers : ℕ) (anchors : List Anchor) (phases : List StaticPhase) (u : ℕ) (ts : List StaticPhase) → ArePlaces (candidates_from tree marks workers anchors phases u ts) (last_places (candidates_from tree marks workers anchors phases u ts))
+places_last tree marks workers anchors phases u [] = tt
+places_last tree marks workers anchors phases u (t ∷ ts) = (omega arith, places_last tree marks workers anchors phases (suc u) ts)
 
 taken-last : (candidates : List (List Kind)) (k : ℕ) (ks : List Kind) → slice_get candidates k ≡ Some ks → slice_get (kinds_taken candidates (last_places candidates)) k ≡ Some (or_barrier (slice_get ks (length ks - 1)))
 taken-last [] k ks at = absurd (let no : None ≡ Some ks = at in cc)
@@ -95,8 +96,7 @@ module _ (tree : Tree) (plan : Plan) where
 
   barriers : (k : ℕ) (x : StaticPhase) → slice_get phases k ≡ Some x → slice_get kinds k ≡ Some Barrier
   barriers k x at =
-      let made = candidates_at plan.cut.marks phases plan.anchors in
-      taken-last (candidates_in tree plan) k (made x) (mapped_get made phases k x at) ∙ ap (λ o. Some (or_barrier o)) (barrier_last plan.cut.marks phases plan.anchors x)
+      taken-last (candidates_in tree plan) k (candidates_at tree plan.cut.marks plan.workers plan.anchors phases (1 + k) x) (candidates_get tree plan.cut.marks plan.workers plan.anchors phases 1 phases k x at) ∙ ap (λ o. Some (or_barrier o)) (barrier_last tree plan.cut.marks plan.workers plan.anchors phases (1 + k) x)
 
   unasked-at : (slot : Slot) (g : Signature) → slot_tasks tree barred slot g ≡ [] → slot_asked tree plan slot g ≡ []
   unasked-at slot blocked none = refl
@@ -155,54 +155,38 @@ new_search s is last few fresh =
     let all = candidates_in tree plan in
     let taken : s.taken.items ≡ last_places all = last ∙ ap last_places is in
     let kinds : kinds_in s ≡ kinds_taken all (last_places all) = ap₂ kinds_taken is taken in
-    let long : length all ≡ length (phases_in s.problem) = length-map (phases_in s.problem) (candidates_at plan.cut.marks (phases_in s.problem) plan.anchors) in
+    let long : length all ≡ length (phases_in s.problem) = candidates_long tree plan.cut.marks plan.workers plan.anchors (phases_in s.problem) 1 (phases_in s.problem) in
     let places : length (last_places all) ≡ length all = length-map all (λ ks. length ks - 1) in
     record {
       candidates = is;
-      places = subst (λ (cs : List (List Kind)). ArePlaces cs s.taken.items) (sym is) (subst (ArePlaces all) (sym taken) (places_last plan.cut.marks (phases_in s.problem) plan.anchors (phases_in s.problem)));
+      places = subst (λ (cs : List (List Kind)). ArePlaces cs s.taken.items) (sym is) (subst (ArePlaces all) (sym taken) (places_last tree plan.cut.marks plan.workers plan.anchors (phases_in s.problem) 1 (phases_in s.problem)));
       few = omega (arith, ap length taken, places, long, few);
       ready = subst (λ ks. All (IsReady s.problem ks) s.slots.items) (sym kinds) (fresh_ready s.problem (kinds_taken all (last_places all)) (filter meets (slots_of (phases_in s.problem))) s.slots.items fresh (none_asked tree plan));
     }
 
 -- ---- the blocks of the candidates' producers have places
 
-abbrev are-placed : List Anchor → Bool
-are-placed anchors = list_all (λ (a : Anchor). has_places a.dist) anchors
-
-once-placed : (seen' rest : List Anchor) → are-placed rest ≡ true → are-placed (each_once seen' rest) ≡ true
-once-placed seen' [] h = refl
-once-placed seen' (a ∷ rest) h =
-    let parts = and_parts (has_places a.dist) (are-placed rest) h in
-    by (list_any (is_same_anchor a) seen') (once-placed seen' rest parts.1) parts.0 (once-placed (seen' ++ a ∷ []) rest parts.1)
-  where
-    by : (b : Bool) → are-placed (each_once seen' rest) ≡ true → has_places a.dist ≡ true → are-placed (each_once (seen' ++ a ∷ []) rest) ≡ true → are-placed (if b then each_once seen' rest else a ∷ each_once (seen' ++ a ∷ []) rest) ≡ true
-    by true without here more = without
-    by false without here more = and_from (has_places a.dist) (are-placed (each_once (seen' ++ a ∷ []) rest)) here more
-
-singles-placed : (marks : List Mark) (t : StaticPhase) (ps : List StaticPhase) (anchors : List Anchor) → are-placed anchors ≡ true → are-placed (single_anchors marks t ps anchors) ≡ true
-singles-placed marks t [] anchors h = refl
-singles-placed marks t (s ∷ ps) [] h = refl
-singles-placed marks t (s ∷ ps) (a ∷ anchors) h =
-    let parts = and_parts (has_places a.dist) (are-placed anchors) h in
-    by (not (is_dealt marks s.what) && is_prefix s.outer t.outer) parts.0 (singles-placed marks t ps anchors parts.1)
-  where
-    by : (b : Bool) → has_places a.dist ≡ true → are-placed (single_anchors marks t ps anchors) ≡ true → are-placed (if b then a ∷ single_anchors marks t ps anchors else single_anchors marks t ps anchors) ≡ true
-    by true here rest = and_from (has_places a.dist) (are-placed (single_anchors marks t ps anchors)) here rest
-    by false here rest = rest
-
-producers-have : (anchors : List Anchor) → are-placed anchors ≡ true → list_all has_places_in (map Producer anchors) ≡ true
+producers-have : (anchors : List Anchor) → AllByRecursion (λ (a : Anchor). has_places a.dist ≡ true) anchors → list_all has_places_in (map Producer anchors) ≡ true
 producers-have [] h = refl
-producers-have (a ∷ anchors) h =
-    let parts = and_parts (has_places a.dist) (are-placed anchors) h in
-    and_from (has_places a.dist) (list_all has_places_in (map Producer anchors)) parts.0 (producers-have anchors parts.1)
+producers-have (a ∷ anchors) h = and_from (has_places a.dist) (list_all has_places_in (map Producer anchors)) h.0 (producers-have anchors h.1)
 
-candidates-have : (marks : List Mark) (all : List StaticPhase) (anchors : List Anchor) (ts : List StaticPhase) → are-placed anchors ≡ true → list_all (λ ks. list_all has_places_in ks) (map (candidates_at marks all anchors) ts) ≡ true
-candidates-have marks all anchors [] h = refl
-candidates-have marks all anchors (t ∷ ts) h =
-    let producers = each_once [] (single_anchors marks t all anchors) in
-    let made = producers-have producers (once-placed [] (single_anchors marks t all anchors) (singles-placed marks t all anchors h)) in
-    let here : list_all has_places_in (candidates_at marks all anchors t) ≡ true = list_all-append has_places_in (map Producer producers) (Left ∷ Right ∷ Both ∷ Barrier ∷ []) ∙ ap (λ b. b && true) made in
-    and_from (list_all has_places_in (candidates_at marks all anchors t)) (list_all (λ ks. list_all has_places_in ks) (map (candidates_at marks all anchors) ts)) here (candidates-have marks all anchors ts h)
+placed-get : (anchors : List Anchor) (k : ℕ) (a : Anchor) → list_all (λ (a : Anchor). has_places a.dist) anchors ≡ true → slice_get anchors k ≡ Some a → has_places a.dist ≡ true
+placed-get [] k a h at = absurd (let no : None ≡ Some a = at in cc)
+placed-get (b ∷ anchors) zero a h at =
+    let same : b ≡ a = cc in
+    subst (λ (x : Anchor). has_places x.dist ≡ true) same (and_parts (has_places b.dist) (list_all (λ (x : Anchor). has_places x.dist) anchors) h).0
+placed-get (b ∷ anchors) (suc k) a h at = placed-get anchors k a (and_parts (has_places b.dist) (list_all (λ (x : Anchor). has_places x.dist) anchors) h).1 at
+
+candidates-have : (tree : Tree) (marks : List Mark) (workers : ℕ) (anchors : List Anchor) (all : List StaticPhase) (u : ℕ) (ts : List StaticPhase) → list_all (λ (a : Anchor). has_places a.dist) anchors ≡ true →
+    list_all (λ ks. list_all has_places_in ks) (candidates_from tree marks workers anchors all u ts) ≡ true
+candidates-have tree marks workers anchors all u [] h = refl
+candidates-have tree marks workers anchors all u (t ∷ ts) h =
+    let producers = producers_at tree marks workers anchors all u t in
+    let P : Anchor → Type 0 = λ a. has_places a.dist ≡ true in
+    let owners = producers_all tree marks workers u t P anchors all (λ j s a at anchor can. placed-get anchors j a h anchor)
+    (λ x a e. (and_parts (names_only (length tree.params) (round t) a.form) (has_places a.dist) (owner_kept tree marks workers u (round t) x a e).good).1) in
+    let here : list_all has_places_in (candidates_at tree marks workers anchors all u t) ≡ true = list_all-append has_places_in (map Producer producers) (Left ∷ Right ∷ Both ∷ Barrier ∷ []) ∙ ap (λ b. b && true) (producers-have producers owners) in
+    and_from (list_all has_places_in (candidates_at tree marks workers anchors all u t)) (list_all (λ ks. list_all has_places_in ks) (candidates_from tree marks workers anchors all (suc u) ts)) here (candidates-have tree marks workers anchors all (suc u) ts h)
 
 pub all_have : (tree : Tree) (plan : Plan) → wrong_field tree plan ≡ None → list_all (λ ks. list_all has_places_in ks) (candidates_in tree plan) ≡ true
-all_have tree plan none = candidates-have plan.cut.marks (phases_of tree plan.cut.marks) plan.anchors (phases_of tree plan.cut.marks) (shaped tree plan none).anchors
+all_have tree plan none = candidates-have tree plan.cut.marks plan.workers plan.anchors (phases_of tree plan.cut.marks) 1 (phases_of tree plan.cut.marks) (shaped tree plan none).anchors

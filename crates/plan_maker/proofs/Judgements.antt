@@ -11,7 +11,7 @@ use Rattle.owner_partition.specs.declared.anchor.Dist.{Dist}
 use Rattle.comm_system.specs.declared.obligation.Obligation.{Obligation}
 use Rattle.plan_maker.specs.declared.cause.Cause.{Cause}
 use Rattle.plan_maker.specs.declared.cause.Word.{Word}
-use Rattle.plan_maker.specs.declared.cause.Word.TheVariants.{Open, Wide, Many}
+use Rattle.plan_maker.specs.declared.cause.Word.TheVariants.{Open, Wide, Many, Work}
 use Rattle.plan_maker.specs.declared.verdict.Verdict.TheVariants.{Kept}
 use Rattle.plan_maker.specs.Beginnings.{IsLevelOf}
 use Rattle.plan_maker.specs.Found.{IsFound}
@@ -27,6 +27,9 @@ module _ (system : Inequalities) (order : List ℕ) where
 
   pub found_many : (k count : ℕ) → IsKept system order (answers.Many k count) → IsFound system order (Kept Many)
   found_many k count h = inl (answers.Many k count, h, refl)
+
+  pub found_work : (k pairs : ℕ) → IsKept system order (answers.Work k pairs) → IsFound system order (Kept Work)
+  found_work k pairs h = inl (answers.Work k pairs, h, refl)
 
   pub found_witness : (x : List ℤ) → IsWholeSolution system x → IsFound system order (Kept Open)
   found_witness x h = inr (x, h, refl)

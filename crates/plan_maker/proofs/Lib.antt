@@ -17,7 +17,6 @@ pub mod Choices
 pub mod Meeting
 pub mod Weakest
 pub mod Made
-pub mod Singles
 pub mod Ready
 pub mod Fresh
 pub mod FitParts

@@ -17,7 +17,7 @@ use Rattle.comm_system.specs.References.{StaticPhase, phases_of}
 use Rattle.comm_system.specs.Signatures.{Signature, blocked, waits}
 use Rattle.plan_maker.specs.declared.cause.Cause.{Cause}
 use Rattle.plan_maker.specs.declared.cause.Word.{Word}
-use Rattle.plan_maker.specs.declared.cause.Word.TheVariants.{Open, Wide, Many}
+use Rattle.plan_maker.specs.declared.cause.Word.TheVariants.{Open, Wide, Many, Work}
 use Rattle.plan_maker.specs.Orders.{elimination_order}
 
 -- a system with the order of its unknowns
@@ -56,6 +56,7 @@ word_for (answers.Infeasible certificate) = None
 word_for answers.Open = Some Open
 word_for (answers.Wide level upper lower) = Some Wide
 word_for (answers.Many level count) = Some Many
+word_for (answers.Work level pairs) = Some Work
 
 -- elimination in this order keeps the system, by an answer with this word
 abbrev pub IsKeptBy : Inequalities → List ℕ → Word → Type 0

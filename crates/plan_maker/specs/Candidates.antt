@@ -1,39 +1,8 @@
--- What may stand in front of a phase of a made plan, from the weakest on.
-use Rattle.std.specs.Prelude.{ℕ, suc, ◌-◌, ◌<◌, length, not, ◌&&◌, List, [], ◌∷◌, ◌++◌, map, Option, Some, None, slice_get, if◌then◌else◌}
-use Rattle.std.specs.List.{AllZip, list_any, range_with_len}
-use Rattle.nest_tree.specs.Tree.{Tree}
-use Rattle.owner_partition.specs.declared.anchor.Anchor.{Anchor}
-use Rattle.owner_partition.specs.declared.cut.Mark.{Mark}
-use Rattle.owner_partition.specs.Owners.{is_same_anchor}
+-- The candidates that are taken in front of the phases.
+use Rattle.std.specs.Prelude.{ℕ, suc, ◌-◌, ◌<◌, length, List, [], ◌∷◌, ◌++◌, map, Option, Some, None, slice_get}
+use Rattle.std.specs.List.{AllZip, range_with_len}
 use Rattle.sync_plan.specs.declared.plan.Kind.{Kind}
-use Rattle.sync_plan.specs.declared.plan.Kind.TheVariants.{Nothing, Producer, Left, Right, Both, Barrier}
-use Rattle.sync_plan.specs.Fit.{is_dealt}
-use Rattle.comm_system.specs.Boundaries.{is_prefix}
-use Rattle.comm_system.specs.References.{StaticPhase, phases_of}
-
--- each of these anchors once, where those before them have been seen
-abbrev pub each_once : List Anchor → List Anchor → List Anchor
-each_once seen [] = []
-each_once seen (a ∷ rest) = if list_any (is_same_anchor a) seen then each_once seen rest else a ∷ each_once (seen ++ a ∷ []) rest
-
--- the anchors of the phases that aren't dealt out and whose Outer loops are the first of those round this phase, in text order
-abbrev pub single_anchors : List Mark → StaticPhase → List StaticPhase → List Anchor → List Anchor
-single_anchors marks t [] anchors = []
-single_anchors marks t (s ∷ phases) [] = []
-single_anchors marks t (s ∷ phases) (a ∷ anchors) =
-    if not (is_dealt marks s.what) && is_prefix s.outer t.outer then a ∷ single_anchors marks t phases anchors else single_anchors marks t phases anchors
-
--- that of one phase more, behind those that were seen
-abbrev pub single_more : List Mark → StaticPhase → List Anchor → StaticPhase → Anchor → List Anchor
-single_more marks t seen s a =
-    if not (is_dealt marks s.what) && is_prefix s.outer t.outer then (if list_any (is_same_anchor a) seen then seen else seen ++ a ∷ []) else seen
-
--- the candidates in front of a phase, from the weakest on
-abbrev pub candidates_at : List Mark → List StaticPhase → List Anchor → StaticPhase → List Kind
-candidates_at marks phases anchors t = Nothing ∷ (map Producer (each_once [] (single_anchors marks t phases anchors)) ++ Left ∷ Right ∷ Both ∷ Barrier ∷ [])
-
-abbrev pub candidates_of : Tree → List Mark → List Anchor → List (List Kind)
-candidates_of tree marks anchors = map (candidates_at marks (phases_of tree marks) anchors) (phases_of tree marks)
+use Rattle.sync_plan.specs.declared.plan.Kind.TheVariants.{Barrier}
 
 -- the kinds that are taken, each by its place among the candidates
 abbrev pub or_barrier : Option Kind → Kind

@@ -9,6 +9,8 @@ pub enum Word {
     Wide,
     /// A level has too many rows.
     Many,
+    /// Levels are formed of too many pairs of rows.
+    Work,
 }
 
 /// A system that is kept: what it speaks of, and the answer.

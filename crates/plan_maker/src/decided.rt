@@ -79,6 +79,7 @@ fn found_by(answer: Answer) -> Found
         Answer::Open => Verdict::Kept(Word::Open),
         Answer::Wide { .. } => Verdict::Kept(Word::Wide),
         Answer::Many { .. } => Verdict::Kept(Word::Many),
+        Answer::Work { .. } => Verdict::Kept(Word::Work),
     }
 }
 

@@ -6,13 +6,12 @@
 //!   phase.
 //! - [`tries`], [`cut`]: how a loop may be dealt out, and the cut of a program by how its loops are;
 //!   both are those of `maker_marks`.
-//! - [`candidates`]: which phases another may wait for.
 //! - [`anchors`]: the anchors of the static phases under a cut, those of `maker_anchors`.
 #![tactic(auto)]
 
 mod beginnings;
 mod cache;
-pub mod candidates;
+mod candidates;
 pub mod cause;
 mod dealt;
 mod decided;

@@ -143,6 +143,7 @@ fn find_weakest(
     findings: Findings,
 ) -> Result<Weakest, AllocError>
     requires formed { IsWellFormed (tree_of problem.program.now) }
+    requires limits { IsWithinLimits (tree_of problem.program.now) }
     requires fits { IsFit (tree_of problem.program.now) problem.plan.now }
     requires trips { AreRefuted (all_trips_asked (tree_of problem.program.now) problem.plan.now) trips.items }
     ensures { IfOk result (IsWeakest (tree_of problem.entry.program.now) problem.entry.plan.now) }

@@ -1,8 +1,10 @@
 // The search for the weakest kinds in front of the phases of a plan.
 
-ghost use Rattle.std.specs.Prelude.{◌≡◌, ◌+◌, ◌<◌, ◌^◌, IfOk, IfSome, IsTrue, None, OnOk, false, length, map, slice_index_or, true};
+ghost use Rattle.std.specs.Prelude.{◌≡◌, ◌+◌, ◌≤◌, ◌<◌, ◌^◌, IfOk, IfSome, IsTrue, None, OnOk, false, length, map, slice_index_or, true};
 ghost use Rattle.std.specs.List.{AllZip, filter, list_all, sum};
+ghost use Rattle.nest_tree.specs.Limits.{IsWithinLimits};
 ghost use Rattle.nest_tree.specs.View.{tree_of};
+ghost use Rattle.nest_tree.specs.WellFormed.{IsWellFormed};
 ghost use Rattle.comm_system.specs.Obligations.{slots_of};
 ghost use Rattle.comm_system.specs.PhaseViews.{phase_seen};
 ghost use Rattle.comm_system.specs.References.{phases_of};
@@ -13,7 +15,7 @@ ghost use Rattle.plan_maker.specs.Meeting.{meets};
 ghost use Rattle.plan_maker.specs.Searches.{AreElsewhere, AreFresh, AreMoreReasons, HasCertificates, IsSameSearch, IsSearch, IsTrial, IsTrialReason, kinds_in, kinds_with, slots_in};
 
 use crate::cache::{SlotCache, Trial};
-use crate::candidates::{all_candidates, candidate, kinds_taken, last_places};
+use crate::candidates::{candidate, kinds_taken, last_places};
 use crate::cause::Cause;
 use crate::findings::Findings;
 use crate::partners::meets;
@@ -24,6 +26,7 @@ use comm_system::slot::Slot;
 use comm_system::slot_list::slots;
 use farkas_cert::Certificate;
 use maker_anchors::places::item_at;
+use maker_candidates::all_candidates;
 use nest_tree::Listed;
 use std::alloc::{AllocError, Global};
 use sync_plan::Kind;
@@ -80,6 +83,9 @@ impl<'b, 'a> Search<'b, 'a> {
         phases: &'b [Phase<'a>],
         findings: Findings,
     ) -> Result<Self, AllocError>
+        requires formed { IsWellFormed (tree_of problem.program.now) }
+        requires limits { IsWithinLimits (tree_of problem.program.now) }
+        requires some { 1 ≤ problem.plan.now.workers }
         requires phases { map phase_seen phases.now ≡ phases_of (tree_of problem.program.now) problem.plan.now.cut.marks }
         requires few { length phases.now < 2 ^ 20 }
         ensures search { IfOk result IsSearch }
@@ -88,8 +94,7 @@ impl<'b, 'a> Search<'b, 'a> {
     {
         let all = slots(alloc, phases)?;
         let slots = slot_caches(alloc, phases, all.as_slice())?;
-        let anchors = problem.plan.anchors.as_slice();
-        let candidates = all_candidates(alloc, &problem.plan.cut, phases, anchors)?;
+        let candidates = all_candidates(alloc, problem.program, problem.plan, phases)?;
         let taken = last_places(alloc, candidates.as_slice())?;
         Ok(Search {
             problem,

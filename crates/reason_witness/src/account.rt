@@ -1,12 +1,14 @@
 // What is told of a plan: why its loops aren't dealt out, and why no weaker wait stands in it.
 
-ghost use Rattle.std.specs.Prelude.{◌≡◌, ◌≤◌, IfOk, None, OnOk};
+ghost use Rattle.std.specs.Prelude.{◌≡◌, ◌≤◌, ◌<◌, ◌^◌, IfOk, None, OnOk, length, map};
 ghost use Rattle.std.specs.List.{All};
 ghost use Rattle.nest_tree.specs.Limits.{IsWithinLimits};
 ghost use Rattle.nest_tree.specs.View.{tree_of};
 ghost use Rattle.nest_tree.specs.WellFormed.{IsWellFormed};
 ghost use Rattle.sync_plan.specs.Fit.{IsFit};
 ghost use Rattle.comm_system.specs.Obligations.{obligations_of};
+ghost use Rattle.comm_system.specs.PhaseViews.{phase_seen};
+ghost use Rattle.comm_system.specs.References.{phases_of};
 ghost use Rattle.reason_witness.specs.Reasons.{AreReasons, IsMadePlan, IsReason, IsWhyIn, why_of};
 ghost use Rattle.reason_witness.specs.Plans.{AreSlotsOf, alone_plan};
 
@@ -17,6 +19,7 @@ use comm_system::Obligation;
 use comm_system::phase::Phase;
 use comm_system::phases::phases;
 use comm_system::slot_list::slots;
+use maker_candidates::all_candidates;
 use nest_tree::Program;
 use owner_partition::Mark;
 use plan_checker::{PlanRefusal, check_fit};
@@ -122,7 +125,13 @@ impl Asked {
         program: &Program,
         plan: &Plan,
         phases: &[Phase],
-    ) -> Result<Asked, AllocError> {
+    ) -> Result<Asked, AllocError>
+        requires formed { IsWellFormed (tree_of program.now) }
+        requires limits { IsWithinLimits (tree_of program.now) }
+        requires some { 1 ≤ plan.now.workers }
+        requires phases { map phase_seen phases.now ≡ phases_of (tree_of program.now) plan.now.cut.marks }
+        requires few { length phases.now < 2 ^ 20 }
+    {
         let wanted = Wanted::First;
         let mut loops = Vec::new(alloc);
         let mut number = 0u32;
@@ -139,11 +148,12 @@ impl Asked {
                 }
             }
         }
+        let candidates = all_candidates(alloc, program, plan, phases)?;
         let mut weaker = Vec::new(alloc);
         let mut phase = 0u32;
         for place in 0..phases.len() {
             phase = phase.saturating_add(1);
-            for kind in weaker_kinds(alloc, plan, phases, place)? {
+            for kind in weaker_kinds(alloc, plan, candidates.as_slice(), place)? {
                 weaker.push(Candidate {
                     phase,
                     kind,

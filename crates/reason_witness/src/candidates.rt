@@ -1,8 +1,6 @@
 // What may stand in front of a phase in place of a stronger wait.
 
-use comm_system::phase::Phase;
-use owner_partition::Anchor;
-use plan_maker::candidates::can_produce;
+use nest_tree::Listed;
 use std::alloc::{AllocError, Global};
 use sync_plan::{Kind, Plan};
 
@@ -18,48 +16,25 @@ fn strength(kind: &Kind) -> u32 {
     }
 }
 
-// Whether a wait for the owner that this anchor names is among these.
-fn is_among(anchor: &Anchor, kinds: &[Kind]) -> bool {
-    kinds.iter().any(|kind| match kind.anchor() {
-        Some(other) => anchor.is_same(other),
-        None => false,
-    })
-}
-
-// A kind behind the others, where it is weaker than this one.
-fn push_weaker(found: &mut Vec<Kind>, kind: &Kind, weaker: Kind) -> Result<(), AllocError> {
-    if strength(&weaker) < strength(kind) {
-        found.push(weaker)?;
-    }
-    Ok(())
-}
-
-/// What is weaker than the wait in front of the static phase at a place, from 0, from the weakest on:
-/// nothing; a wait for the owner of each phase that isn't dealt out and whose Outer loops are the
-/// first of those round this phase, each owner once; and those for neighbours. An error says that
-/// memory ran out.
+/// Of the candidates in front of the static phase at a place, from 0, those that are weaker than the
+/// wait there, from the weakest on. An error says that memory ran out.
 pub(crate) fn weaker_kinds(
     alloc: Global,
     plan: &Plan,
-    phases: &[Phase],
+    candidates: &[Listed<Kind>],
     place: usize,
 ) -> Result<Vec<Kind>, AllocError> {
     let mut found = Vec::new(alloc);
     let Some(kind) = plan.kinds.as_slice().get(place) else {
         return Ok(found);
     };
-    let Some(phase) = phases.get(place) else {
+    let Some(candidates) = candidates.get(place) else {
         return Ok(found);
     };
-    push_weaker(&mut found, kind, Kind::Nothing)?;
-    for (anchor, one) in plan.anchors.as_slice().iter().zip(phases) {
-        if can_produce(&plan.cut, one, phase) && !is_among(anchor, found.as_slice()) {
-            let producer = Kind::Producer(anchor.copy(alloc)?);
-            push_weaker(&mut found, kind, producer)?;
+    for candidate in candidates.as_slice() {
+        if strength(candidate) < strength(kind) {
+            found.push(candidate.copy(alloc)?)?;
         }
-    }
-    for weaker in [Kind::Left, Kind::Right, Kind::Both] {
-        push_weaker(&mut found, kind, weaker)?;
     }
     Ok(found)
 }

@@ -7,8 +7,8 @@ use Rattle.maker_anchors.specs.declared.scope.Scope.{Scope}
 use Rattle.plan_shape.specs.Named.{with_own}
 use Rattle.maker_anchors.specs.Anchors.{placed_anchor}
 use Rattle.maker_anchors.specs.Scopes.{constants_at, loops_at}
-use Rattle.maker_anchors.proofs.Found.{found_good}
-use Rattle.maker_anchors.proofs.Phases.{phase_is}
+use Rattle.maker_anchors.proofs.Found.{sought_good}
+use Rattle.maker_anchors.proofs.Phases.{found_is, phase_is}
 use Rattle.sync_plan.proofs.NamedLoops.{are_numbers}
 use Rattle.maker_anchors.proofs.Within.{allowed_within, good_given, own_numbered}
 use Rattle.maker_anchors.proofs.anchors.phase_anchor.Goals as goal
@@ -37,7 +37,8 @@ unfolding scope
 placed-requires-clause-given c =
     let a = (goal.at.placed-requires-clause-given c).After-own_loop in
     let what = statement_of c.args.phase.now.item.now in
-    let good = found_good (scope a) c.args.cut.now.marks c.args.number what c.in-Some.anchor (sym c.in_ok-anchor.ensures ∙ c.in-Some.is) in
+    let found = sym (found_is (scope a) c.args.cut.now.marks c.args.number what (loops a [])) ∙ sym c.in_ok-anchor.ensures ∙ c.in-Some.is in
+    let good = sought_good (tree_of c.args.program.now) c.args.cut.now.marks c.args.workers c.args.number (loops_at (scope a)) what c.in-Some.anchor found in
     good_given (loops_of (tree_of c.args.program.now).items) (constants_at (scope a)) (loops_at (scope a)) c.in-Some.anchor (within a) good
 
 pub returns-in-Some : goal.returns-in-Some

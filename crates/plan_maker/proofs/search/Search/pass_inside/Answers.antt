@@ -1,4 +1,4 @@
-use Rattle.std.proofs.Common.{◌≡◌, ◌<◌, ◌≤◌, length, ap, sym, ◌∙◌, arith}
+use Rattle.std.proofs.Common.{◌≤◌, ap, sym, ◌∙◌, arith}
 use Rattle.std.specs.List.{sum}
 use Rattle.plan_maker.proofs.Choices.{no_more}
 use Rattle.plan_maker.proofs.Ready.{same_twice, taken_long}
