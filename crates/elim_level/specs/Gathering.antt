@@ -1,5 +1,5 @@
 -- Candidates of the next level: where they come from, and what they cover.
-use Rattle.std.specs.Prelude.{ℕ, ◌≤◌, ◌<◌, ℤ, pos, ◌<ℤ◌, int_lt, unsigned_abs, IsTrue, List, [], map, length, ◌⊎◌, ◌≡◌}
+use Rattle.std.specs.Prelude.{ℕ, ◌*◌, ◌≤◌, ◌<◌, ℤ, pos, ◌<ℤ◌, int_lt, unsigned_abs, IsTrue, List, [], map, length, ◌⊎◌, ◌≡◌}
 use Rattle.std.specs.List.{All, AllPairs, Contains, filter}
 use Rattle.std.specs.Ordering.{int_eq}
 use Rattle.farkas_cert.specs.declared.system.Row.{Row}
@@ -63,6 +63,10 @@ apart_of variable level = filter (λ h. int_eq (coef_of variable h.row) (pos 0))
 pub record IsSplit (variable : ℕ) (level uppers lowers : List Held) : Type 0 where
   pub uppers_from : uppers ≡ filter (λ h. int_lt (pos 0) (coef_of variable h.row)) level
   pub lowers_from : lowers ≡ filter (λ h. int_lt (coef_of variable h.row) (pos 0)) level
+
+-- how many pairs the rows have of one that bounds the variable from above and one that bounds it from below
+abbrev pub pair_count : ℕ → List Held → ℕ
+pair_count variable level = length (filter (λ h. int_lt (pos 0) (coef_of variable h.row)) level) * length (filter (λ h. int_lt (coef_of variable h.row) (pos 0)) level)
 
 -- the rows have what the pair makes
 abbrev pub CoversPair : ℕ → List Row → Row → Row → Type 0

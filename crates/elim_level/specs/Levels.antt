@@ -1,5 +1,5 @@
 -- The levels of Fourier's elimination, as sets of rows.
-use Rattle.std.specs.Prelude.{ℕ, zero, suc, ◌<◌, ℤ, pos, ◌≤ℤ◌, ◌<ℤ◌, List, length, slice_index, ◌⊎◌, ◌≡◌}
+use Rattle.std.specs.Prelude.{ℕ, zero, suc, ◌+◌, ◌*◌, ◌<◌, ℤ, pos, ◌≤ℤ◌, ◌<ℤ◌, List, length, slice_index, ◌⊎◌, ◌≡◌}
 use Rattle.std.specs.List.{All, AllPairs, Contains}
 use Rattle.farkas_cert.specs.declared.system.Row.{Row}
 use Rattle.farkas_cert.specs.Inequalities.{Inequalities}
@@ -40,3 +40,24 @@ IsClearTo system order k = (j : ℕ) (row : Row) → j < suc k → IsDerived sys
 -- more than so many different rows are in the set
 abbrev pub HasMoreThan : ℕ → (Row → Type 0) → Type 0
 HasMoreThan limit set = (rows : List Row) × (limit < length rows) × AllPairs (λ r s. r ≡ s → ⊥) rows × All set rows
+
+-- the set has exactly so many rows
+pub record HasCount (set : Row → Type 0) (count : ℕ) : Type 0 where
+  pub rows : List Row
+  pub has : (r : Row) → set r → Contains rows r
+  pub only : (r : Row) → Contains rows r → set r
+  pub apart : AllPairs (λ r s. r ≡ s → ⊥) rows
+  pub counted : length rows ≡ count
+
+-- level k + 1 is formed of so many pairs: of each row of level k that bounds the removed variable from above, with each that bounds it from below
+pub record HasPairs (system : Inequalities) (order : List ℕ) (k pairs : ℕ) : Type 0 where
+  pub uppers : ℕ
+  pub lowers : ℕ
+  pub above : HasCount (λ r. IsDerived system order k r × (pos 0 <ℤ coef_of (slice_index order k) r)) uppers
+  pub below : HasCount (λ r. IsDerived system order k r × (coef_of (slice_index order k) r <ℤ pos 0)) lowers
+  pub product : pairs ≡ uppers * lowers
+
+-- the levels 1 to k are formed of so many pairs in all
+abbrev pub IsWork : Inequalities → List ℕ → ℕ → ℕ → Type 0
+IsWork system order zero pairs = pairs ≡ 0
+IsWork system order (suc k) pairs = (before : ℕ) × (here : ℕ) × IsWork system order k before × HasPairs system order k here × (pairs ≡ before + here)

@@ -2,7 +2,8 @@
 //!
 //! - [`level`]: level 0, and each level from the one before it.
 //! - [`forming`]: the candidates of the next level.
-//! - [`pairs`]: the search for a pair whose least combination is wide.
+//! - [`pairs`]: how many pairs of opposite sign there are, and the search for one whose least combination
+//!   is wide.
 #![tactic(auto)]
 
 pub mod forming;

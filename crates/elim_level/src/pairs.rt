@@ -1,11 +1,11 @@
-// Pairs of opposite sign whose least combination is wide.
+// Pairs of opposite sign: how many there are, and whether the least combination of one is wide.
 
-ghost use Rattle.std.specs.Prelude.{◌≡◌, ◌*◌, ◌≤◌, ◌^◌, nat_le, unsigned_abs, IsTrue, MatchOption, length};
+ghost use Rattle.std.specs.Prelude.{◌≡◌, ◌-◌, ◌*◌, ◌≤◌, ◌^◌, nat_le, unsigned_abs, IsTrue, MatchOption, length};
 ghost use Rattle.std.specs.Bool.{MatchBool};
 ghost use Rattle.std.specs.List.{All, Contains};
 ghost use Rattle.farkas_cert.specs.declared.system.Row.{Row};
 ghost use Rattle.elim_rows.specs.Pairs.{coef_of as coef, IsPair};
-ghost use Rattle.elim_level.specs.Gathering.{IsWithin, IsOpposed, IsNarrowPair, IsTooWide};
+ghost use Rattle.elim_level.specs.Gathering.{IsWithin, IsOpposed, IsNarrowPair, IsTooWide, pair_count};
 
 use crate::level::{Held, coef_of};
 use elim_rows::combination::{is_narrow_combination, multipliers};
@@ -145,4 +145,34 @@ pub fn wide_pair<'a>(
         }
     }
     None
+}
+
+// The product of two counts.
+fn product(count: usize, other: usize) -> u128
+    ensures product { result ≡ count * other }
+    ensures small { result ≤ (2 ^ 64 - 1) * (2 ^ 64 - 1) }
+{
+    count as u128 * other as u128
+}
+
+/// How many pairs the rows have of one that bounds the variable from above and one that bounds it from
+/// below.
+pub fn count_pairs(rows: &[Held], variable: u32) -> u128
+    requires from_one { 1 ≤ variable }
+    requires known { All (λ h. variable ≤ length h.row.coefs) rows.now }
+    ensures count { result ≡ pair_count variable rows.now }
+    ensures small { result ≤ (2 ^ 64 - 1) * (2 ^ 64 - 1) }
+{
+    let mut uppers = 0;
+    let mut lowers = 0;
+    for held in rows {
+        let coef = coef_of(&held.row, variable);
+        if coef > 0 {
+            uppers += 1;
+        }
+        if coef < 0 {
+            lowers += 1;
+        }
+    }
+    product(uppers, lowers)
 }

@@ -2,7 +2,7 @@
 use Rattle.std.proofs.Common.{◌≡◌, ℕ, zero, suc, ◌+◌, ◌-◌, ◌≤◌, ◌<◌, ℤ, pos, ◌*ℤ◌, ◌≤ℤ◌, int_div, int_rem, IsTrue, List, [], ◌∷◌, ◌++◌, map, take, length, get_or, slice_index, refl, ap, sym, ◌∙◌, subst, length-append, arith}
 use Rattle.std.specs.Int.{int_div_euclid}
 use Rattle.std.specs.List.{All, range_with_len}
-use Rattle.std.proofs.lemmas.List.{get_or_at, get_or-map, length-map, append_assoc, append-nil}
+use Rattle.std.proofs.lemmas.List.{get_or_at, get_or-map, length-map, append_assoc}
 use Rattle.std.proofs.lemmas.List.Elements.{All-head, All-tail, All-map}
 use Rattle.farkas_cert.specs.declared.system.Row.{Row}
 use Rattle.farkas_cert.specs.declared.certificate.Step.{Step}

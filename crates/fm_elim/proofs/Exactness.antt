@@ -1,8 +1,7 @@
 -- A list that is formed from a level's raw rows has exactly the rows of the next level.
-use Rattle.std.proofs.Common.{◌≡◌, ℕ, suc, ◌/◌, max, ℤ, pos, ◌<ℤ◌, unsigned_abs, slice_index, ⊎_elim, inl, inr, List, get_or, ap, sym, ◌∙◌, subst, arith}
+use Rattle.std.proofs.Common.{◌≡◌, ℕ, suc, pos, ◌<ℤ◌, slice_index, ⊎_elim, inl, inr, List, get_or, ap, sym, ◌∙◌, subst, arith}
 use Rattle.std.specs.List.{All, AllPairs, Contains}
 use Rattle.std.proofs.lemmas.Int.{ints}
-use Rattle.std.proofs.lemmas.Nat.Gcd.{dvd_antisymm, same_from_IsGcd}
 use Rattle.std.proofs.lemmas.List.{get_or_default}
 use Rattle.std.proofs.lemmas.List.Elements.{All-contains}
 use Rattle.farkas_cert.specs.declared.system.Row.{Row}

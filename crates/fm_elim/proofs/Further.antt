@@ -119,7 +119,7 @@ module _ (v : ℕ) (D : Row → Type 0) (more : List Row) (lowest : (r : Row) �
       (λ d. let one : h.reduced.0 ≡ r = IsReduced-unique h.reduced.0 h.reduced.0 r (lowest h.reduced.0 d) h.reduced.2 in subst D one d)
       (λ m. absurd (some (gone_at r h.reduced.0 m h.reduced.2))) h.reduced.1
 
-  with_back : (r : Row) → D r → (coef_of v r ≡ pos 0 → ⊥) → IsLevelRow (λ s. D s ⊎ Contains more s) r
+  pub with_back : (r : Row) → D r → (coef_of v r ≡ pos 0 → ⊥) → IsLevelRow (λ s. D s ⊎ Contains more s) r
   with_back r d some = record {
     reduced = (r, inl d, lowest r d);
     least = λ raw other has made e. ⊎_elim
@@ -263,7 +263,7 @@ module _ (small whole : Inequalities) (order : List ℕ) (more : List Row) (is :
   abbrev pub joined : ℕ → Row → Type 0
   joined k r = IsLevelRow (λ s. IsDerived small order k s ⊎ Contains more s) r
 
-  derived_same : (k : ℕ) (r s : Row) → IsDerived small order k r → IsDerived small order k s → r.coefs ≡ s.coefs → r ≡ s
+  pub derived_same : (k : ℕ) (r s : Row) → IsDerived small order k r → IsDerived small order k s → r.coefs ≡ s.coefs → r ≡ s
   derived_same zero r s a b e = level_same (λ q. Contains small.rows q) r s a b e
   derived_same (suc k) r s a b e = level_same (IsRaw (slice_index order k) (λ q. IsDerived small order k q)) r s a b e
 

@@ -20,3 +20,4 @@ pub mod Joining
 pub mod Extending
 pub mod Whole
 pub mod OppositeHashes
+pub mod Work

@@ -12,11 +12,11 @@ use Rattle.elim_level.specs.declared.level.Held.{Held}
 use Rattle.elim_level.specs.declared.level.HeldRows.{HeldRows}
 use Rattle.elim_rows.specs.Pairs.{IsPair, IsWide}
 use Rattle.elim_rows.specs.Candidates.{IsEmpty}
-use Rattle.elim_level.specs.Levels.{IsLevelRow, IsRaw, IsDerived, IsClearTo, HasMoreThan}
+use Rattle.elim_level.specs.Levels.{IsLevelRow, IsRaw, IsDerived, IsClearTo, HasMoreThan, IsWork}
 use Rattle.elim_level.specs.Forming.{IsFormed}
 use Rattle.elim_rows.specs.Table.{IsTable}
 use Rattle.elim_level.specs.Logs.{IsLog, IsHeld, rows_of}
-use Rattle.fm_elim.specs.Answers.{NamesEachOnce, HasRationalSolution, IsWidePair, HasNoWidePair, IsPassedTo, IsOpen, IsWideAt, IsManyAt, IsFreeOfClashes}
+use Rattle.fm_elim.specs.Answers.{NamesEachOnce, HasRationalSolution, IsWidePair, HasNoWidePair, IsPassedTo, IsOpen, IsWideAt, IsManyAt, IsWorkAt, IsSoon, IsFreeOfClashes}
 use Rattle.elim_level.specs.Next.{AreNowhereWide, IsNextLevel}
 use Rattle.fm_elim.specs.Reached.{IsExact, IsReached}
 use Rattle.fm_elim.proofs.AtMost.{at_most}
@@ -68,7 +68,7 @@ module _ (system : Inequalities) (order : List ℕ) (k most : ℕ) (log : List D
   useful_here i d h = let there = Contains-get_or level.rows.items i d h in
       derived_useful system order k (get_or level.rows.items i d).row (reached.exact.only (get_or level.rows.items i d).row (Contains-map (λ (h : Held). h.row) level.rows.items (get_or level.rows.items i d) there))
 
-module _ (system : Inequalities) (order : List ℕ) (k most : ℕ) (log : List Derivation) (level : HeldRows) (reached : IsReached system order k most log level) (none : All (λ h. IsEmpty h.row → ⊥) level.rows.items) where
+module _ (system : Inequalities) (order : List ℕ) (k most : ℕ) (log : List Derivation) (level : HeldRows) (reached : IsReached system order k most log level) (none : All (λ h. IsEmpty h.row → ⊥) level.rows.items) (soon : IsSoon system order k) where
   -- no row of this level is without coefficients
   none_derived : (row : Row) → IsDerived system order k row → IsEmpty row → ⊥
   none_derived row derived = All-contains (λ r. IsEmpty r → ⊥) (rows_of level.rows.items) row (All-map (λ r. IsEmpty r → ⊥) (λ (h : Held). h.row) level.rows.items none) (reached.exact.has row derived)
@@ -78,7 +78,7 @@ module _ (system : Inequalities) (order : List ℕ) (k most : ℕ) (log : List D
 
   -- so the levels up to this one are whole
   pub passed_here : IsPassedTo system order k
-  passed_here = record { clear = clear_here; few = λ j low high more. reached.few j low high (more_than_less most 20000 (IsDerived system order j) reached.limit more); narrow = reached.narrow }
+  passed_here = record { clear = clear_here; few = λ j low high more. reached.few j low high (more_than_less most 20000 (IsDerived system order j) reached.limit more); soon = soon; narrow = reached.narrow }
 
   -- no pair of this level is wide, where none of the list is
   no_wide_pair : (v : ℕ) → v ≡ slice_index order k → AreNowhereWide system.vars v (rows_of level.rows.items) → HasNoWidePair system order k
@@ -113,13 +113,14 @@ module _ (system : Inequalities) (order : List ℕ) (k most : ℕ) (log : List D
       }
 
   -- two rows with a wide combination
-  pub wide_here : (v number : ℕ) (upper lower : Row) → v ≡ slice_index order k → number ≡ k + 1 → k < system.vars → Contains (rows_of level.rows.items) upper → Contains (rows_of level.rows.items) lower → ((m : ℤ) × (n : ℤ) × IsPair v upper lower m n × IsWide system.vars m upper n lower) → IsWideAt system order number upper lower
-  wide_here v number upper lower is e within has_upper has_lower pair =
+  pub wide_here : (v number : ℕ) (upper lower : Row) → v ≡ slice_index order k → number ≡ k + 1 → k < system.vars → IsSoon system order (k + 1) → Contains (rows_of level.rows.items) upper → Contains (rows_of level.rows.items) lower → ((m : ℤ) × (n : ℤ) × IsPair v upper lower m n × IsWide system.vars m upper n lower) → IsWideAt system order number upper lower
+  wide_here v number upper lower is e within more has_upper has_lower pair =
       let place : k ≡ number - 1 = omega arith in
       record {
         low = omega arith;
         high = omega arith;
         passed = subst (IsPassedTo system order) place passed_here;
+        soon = subst (IsSoon system order) (sym e) more;
         pair = subst (λ i. IsWidePair system order i upper lower) place (record {
           m = pair.0;
           n = pair.1;
@@ -131,8 +132,8 @@ module _ (system : Inequalities) (order : List ℕ) (k most : ℕ) (log : List D
       }
 
   -- too many rows
-  pub many_here : (v number count : ℕ) → v ≡ slice_index order k → number ≡ k + 1 → k < system.vars → count ≡ 20001 → HasMoreThan 20000 (IsLevelRow (IsRaw v (Contains (rows_of level.rows.items)))) → AreNowhereWide system.vars v (rows_of level.rows.items) → IsManyAt system order number count
-  many_here v number count is e within counted more narrow =
+  pub many_here : (v number count : ℕ) → v ≡ slice_index order k → number ≡ k + 1 → k < system.vars → IsSoon system order (k + 1) → count ≡ 20001 → HasMoreThan 20000 (IsLevelRow (IsRaw v (Contains (rows_of level.rows.items)))) → AreNowhereWide system.vars v (rows_of level.rows.items) → IsManyAt system order number count
+  many_here v number count is e within further counted more narrow =
       let place : k ≡ number - 1 = omega arith in
       let next : suc k ≡ number = omega arith in
       let w = slice_index order k in
@@ -145,9 +146,22 @@ module _ (system : Inequalities) (order : List ℕ) (k most : ℕ) (log : List D
         low = omega arith;
         high = omega arith;
         passed = subst (IsPassedTo system order) place passed_here;
+        soon = subst (IsSoon system order) (sym e) further;
         narrow = subst (HasNoWidePair system order) place (no_wide_pair v is narrow);
         count_is = counted;
         more = subst (λ i. HasMoreThan 20000 (IsDerived system order i)) next (more'.0, more'.1, more'.2, All-weaker (IsLevelRow here) (IsLevelRow there) (kept_of_other here there forth back) more'.0 more'.3);
+      }
+
+  -- too many pairs
+  pub work_here : (number pairs : ℕ) → number ≡ k + 1 → k < system.vars → IsWork system order (k + 1) pairs → 65536 < pairs → IsWorkAt system order number pairs
+  work_here number pairs e within work more =
+      let place : k ≡ number - 1 = omega arith in
+      record {
+        low = omega arith;
+        high = omega arith;
+        passed = subst (IsPassedTo system order) place passed_here;
+        work = subst (λ j. IsWork system order j pairs) (sym e) work;
+        more = more;
       }
 
   -- after the last level nothing is left, and the system has a solution

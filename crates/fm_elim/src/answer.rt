@@ -16,6 +16,9 @@ pub enum Answer {
     Wide { level: u32, upper: Row, lower: Row },
     /// This level, from 1, has so many rows or more. It is the first count past the limit.
     Many { level: u32, count: u64 },
+    /// The levels up to this one, from 1, are formed of so many pairs of rows in all. It is the first
+    /// sum past the limit.
+    Work { level: u32, pairs: u128 },
 }
 
 /// Memory ran out. It says nothing of the system.

@@ -4,19 +4,23 @@ ghost use Rattle.std.specs.Prelude.{◌≡◌, ◌+◌, ◌-◌, nat_le, IfOk};
 ghost use Rattle.farkas_cert.specs.Narrow.{AreNarrow};
 ghost use Rattle.elim_level.specs.Levels.{IsDerived};
 ghost use Rattle.fm_elim.specs.Lean.{IsLean};
-ghost use Rattle.fm_elim.specs.Answers.{NamesEachOnce, IsDecided, IfInfeasible, IfWide, IfMany, IsFreeOfClashes};
+ghost use Rattle.fm_elim.specs.Answers.{NamesEachOnce, IsDecided, IfInfeasible, IfWide, IfMany, IfWork, IsFreeOfClashes};
 ghost use Rattle.fm_elim.specs.Advances.{IsLevel, IsExtension, IsAdvance, system_of, order_of, gone_of, most_of};
 
 use crate::answer::{Answer, NoMemory};
 use crate::extension::{extended_rows, moved_log};
 use crate::refutation::refutation;
 use elim_level::level::{Formed, HeldRows, MOST_ROWS, first_level, next_level};
+use elim_level::pairs::count_pairs;
 use elim_rows::derivation::Derivation;
 use farkas_cert::System;
 use std::alloc::Global;
 
 /// How many derived rows there is room for at first.
 const DERIVED: usize = 100;
+
+/// Elimination is given up before its levels are formed of more pairs of rows in all.
+const MOST_PAIRS: u128 = 65_536;
 
 /// A level of the elimination of a system's variables in an order: its rows, and how each of them
 /// follows from the system's. Level 0 comes first, and each level removes one variable more.
@@ -28,6 +32,8 @@ pub struct Level<'a> {
     gone: usize,
     // No level from 1 on has had more rows than this.
     most: usize,
+    // Of how many pairs of rows the levels from 1 on are formed.
+    pairs: u128,
     rows: HeldRows,
     log: Vec<Derivation>,
 }
@@ -61,6 +67,7 @@ impl<'a> Level<'a> {
             order,
             gone: 0,
             most: 0,
+            pairs: 0,
             rows,
             log,
         })
@@ -106,14 +113,16 @@ impl<'a> Level<'a> {
             order,
             gone: self.gone,
             most: self.most + further,
+            pairs: self.pairs,
             rows,
             log,
         })
     }
 
     /// Removes the next variable of the order. The answer is Infeasible where the level holds a
-    /// contradiction or two rows that clash, Open where no variable is left, and else Wide or Many
-    /// where the next level has no whole form. An error says that memory ran out.
+    /// contradiction or two rows that clash, Open where no variable is left, Work where the levels up to
+    /// the next one are formed of more than 65,536 pairs, and else Wide or Many where the next level has
+    /// no whole form. An error says that memory ran out.
     pub fn advance(self, alloc: Global) -> Result<Advance<'a>, NoMemory>
         requires level { IsLevel self }
         ensures advance { IfOk result (λ advance. IsAdvance self.entry advance) }
@@ -123,6 +132,7 @@ impl<'a> Level<'a> {
             order,
             gone,
             most,
+            pairs,
             rows,
             log,
         } = self;
@@ -135,12 +145,17 @@ impl<'a> Level<'a> {
         }
         let variable = order[gone];
         let level = gone as u32 + 1;
+        let pairs = pairs + count_pairs(rows.rows.as_slice(), variable);
+        if pairs > MOST_PAIRS {
+            return Ok(Advance::Answer(Answer::Work { level, pairs }));
+        }
         match next_level(alloc, system, rows, variable, &mut log)? {
             Formed::Level(rows) => Ok(Advance::Level(Level {
                 system,
                 order,
                 gone: gone + 1,
                 most: most.max(rows.rows.len()),
+                pairs,
                 rows,
                 log,
             })),
@@ -164,6 +179,7 @@ impl<'a> Level<'a> {
         ensures lean { IfOk result (λ a. IfInfeasible a (λ c. IsLean (system_of self.entry) c)) }
         ensures before_wide { IfOk result (λ a. IfWide a (λ k upper lower. IsFreeOfClashes (IsDerived (system_of self.entry) (order_of self.entry) (k - 1)))) }
         ensures before_many { IfOk result (λ a. IfMany a (λ k count. IsFreeOfClashes (IsDerived (system_of self.entry) (order_of self.entry) (k - 1)))) }
+        ensures before_work { IfOk result (λ a. IfWork a (λ k pairs. IsFreeOfClashes (IsDerived (system_of self.entry) (order_of self.entry) (k - 1)))) }
     {
         let mut level = self;
         loop {
@@ -180,11 +196,12 @@ impl<'a> Level<'a> {
 /// Infeasible comes with a certificate that is good for the system, and in which each step but the
 /// last is needed by a later one. With any other answer the system is kept: each level before the
 /// answer was formed whole, with no row without coefficients, no pair whose least combination passes
-/// 2 ^ 126 in size, and at most 20,000 rows; and Open says that the system has a rational solution.
+/// 2 ^ 126 in size, at most 20,000 rows, and of at most 65,536 pairs with those before it; and Open says
+/// that the system has a rational solution.
 ///
 /// Opposites whose bounds add to less than 0 are looked up among all rows of a level, those without
 /// the variable that is removed too. So Infeasible may come a level earlier than a row without
-/// coefficients does, and in place of a Wide or Many of that level.
+/// coefficients does, and in place of a Wide, Many or Work of that level.
 ///
 /// The order names each variable, from 1, once. The coefficients and the bounds are at most 2 ^ 126
 /// in size. An error says that memory ran out, and nothing of the system.
@@ -195,6 +212,7 @@ pub fn decide(alloc: Global, system: &System, order: &[u32]) -> Result<Answer, N
     ensures lean { IfOk result (λ a. IfInfeasible a (λ c. IsLean system.now c)) }
     ensures before_wide { IfOk result (λ a. IfWide a (λ k upper lower. IsFreeOfClashes (IsDerived system.now order.now (k - 1)))) }
     ensures before_many { IfOk result (λ a. IfMany a (λ k count. IsFreeOfClashes (IsDerived system.now order.now (k - 1)))) }
+    ensures before_work { IfOk result (λ a. IfWork a (λ k pairs. IsFreeOfClashes (IsDerived system.now order.now (k - 1)))) }
 {
     Level::start(alloc, system, order)?.answer(alloc)
 }

@@ -66,7 +66,7 @@ order_of tree site = elimination_order (constant_count tree) (length site.around
 abbrev pub AreProof : Tree → Site → ℕ → Certificate × Certificate → Type 0
 AreProof tree site dimension (low, high) = IsGood (below tree site dimension) low × IsGood (above tree site dimension) high
 
--- elimination keeps a system, as Open, Wide or Many
+-- elimination keeps a system, as Open, Wide, Many or Work
 abbrev pub IsKeptAs : Inequalities → List ℕ → Type 0
 IsKeptAs system order = (answer : Answer) × IsKept system order answer
 

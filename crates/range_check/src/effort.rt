@@ -174,7 +174,7 @@ fn refuted(
 {
     match decide(alloc, system.as_system(), order)? {
         Answer::Infeasible(certificate) => Ok(Some(certificate)),
-        Answer::Open | Answer::Wide { .. } | Answer::Many { .. } => Ok(None),
+        Answer::Open | Answer::Wide { .. } | Answer::Many { .. } | Answer::Work { .. } => Ok(None),
     }
 }
 

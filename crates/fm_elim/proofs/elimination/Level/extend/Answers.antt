@@ -10,6 +10,7 @@ use Rattle.elim_level.specs.Logs.{step_of, rows_of}
 use Rattle.fm_elim.specs.Reached.{IsReached}
 use Rattle.fm_elim.proofs.Reached.{order_length}
 use Rattle.fm_elim.proofs.Extending.{reached_extended, log_moved, held_moved, moved_terms}
+use Rattle.fm_elim.proofs.Work.{work_agree, work_extended}
 use Rattle.fm_elim.proofs.elimination.Level.extend.Goals as goal
 
 pub moved_log-requires : goal.moved_log-requires
@@ -73,4 +74,6 @@ returns-clause-level c =
       order = c.requires.order;
       gone = omega (arith, c.requires.level.gone, order_length small.vars level.order.now c.requires.level.order, order_length whole.vars order c.requires.order, ext.vars);
       reached = subst (λ n. IsReached whole order level.gone (level.most + n) c.extended_rows.new.log.items c.in_ok-rows.rows) (sym m) reached;
+      work = work_extended small whole order ext.further ext.rows level.gone ext.without level.pairs (work_agree small level.order.now order level.gone ext.begins level.pairs c.requires.level.work);
+      soon = c.requires.level.soon;
     }

@@ -1,4 +1,4 @@
-use Rattle.std.proofs.Common.{arith}
+use Rattle.std.proofs.Common.{refl, arith}
 use Rattle.fm_elim.proofs.Reached.{reached_first}
 use Rattle.fm_elim.proofs.elimination.Level.start.Goals as goal
 
@@ -10,4 +10,6 @@ returns-clause-level c =
       order = c.requires.order;
       gone = omega arith;
       reached = reached_first system c.args.order.now c.first_level.new.log.items c.in_ok-rows.rows c.rows.ensures.full made.formed made.table made.log made.held;
+      work = refl;
+      soon = omega arith;
     }
