@@ -2,13 +2,19 @@
 //! are proved once.
 //!
 //! - `streams`: sources and sinks, by their traits.
-//! - `lines`, `sources`: what a source lists, which program it is, and which fault it has.
+//! - `lines`: what a source lists, or which line of it is refused.
 //! - `systems`: certificates, and what elimination says.
-//! - `plans`: what the checker answers, and which text is no plan's.
-//! - `runs`: accepted plans run on threads, by fork and join and over shared words.
+//! - `plans`: which obligations a plan has.
+//! - `runs`: accepted plans run on threads of the caller's, and where each leg of a worker ends.
+//! - `gates`: workers run beside one another, by fork and join and over shared words.
 //! - `shared_words`: two processors of a straight line, step by step on the words that they share.
+//! - `examples`: those on the pages of the crates that serve alone.
 #![tactic(auto)]
 
+#[cfg(test)]
+mod examples;
+#[cfg(test)]
+mod gates;
 #[cfg(test)]
 mod lines;
 #[cfg(test)]
@@ -18,8 +24,7 @@ mod runs;
 #[cfg(test)]
 mod shared_words;
 #[cfg(test)]
-mod sources;
-pub mod straight_line;
+mod straight_line;
 #[cfg(test)]
 mod streams;
 #[cfg(test)]

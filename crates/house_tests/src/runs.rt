@@ -1,5 +1,4 @@
-// Accepted plans run on threads: what they print and leave, and where legs end. That workers run
-// beside one another is tested by the command.
+// Accepted plans run on threads of the caller's: what they print and leave, and where legs end.
 
 ghost use Rattle.std.specs.Prelude.{◌≡◌, ◌≤◌, ◌<◌, IfOk, length};
 ghost use Rattle.nest_model.specs.Ranges.{IsInRange};
@@ -16,7 +15,6 @@ use crate::plans::{MIRROR, ROUNDING};
 use bstr::ByteSlice;
 use crossbeam_utils::CachePadded;
 use f77_lines::MOST_BYTES;
-use fork_join::run_join;
 use nest_tree::Program;
 use plan_checker::check;
 use plan_checker::laws::accepted_plans_are_ordered;
@@ -25,27 +23,25 @@ use range_check::check_ranges;
 use spmd_model::Style;
 use spmd_ports::NoGate;
 use std::alloc::Global;
-use std::sync::Wait;
 use std::test::Fail;
 use std::thread::{self, Threads};
 use styled_run::run::{gathered, have_ended, workers_of};
-use styled_run::{Leg, Tables, Worker, run_spmd_with};
+use styled_run::{Leg, Tables, Worker};
 use styled_table::{Cells, CloseRefused, Closed, MainSeat};
 use sync_plan::Plan;
 
 // So many legs a worker has.
 const MOST_LEGS: u32 = 10_000_000;
 
-// What the plan whose certificates round prints, and the memory behind it.
-const ROUNDED: &[u8] = b" 5 5 0 0 0 0 0 0\n";
-
-const ROUNDED_CELLS: &[i64] = &[5, 5, 0, 0, 0, 0, 0, 0];
-
 // The cells of the two arrays, one behind the other, of which one is the other back to front.
 const MIRRORED_CELLS: &[i64] = &[1, 2, 3, 4, 5, 6, 6, 5, 4, 3, 2, 1];
 
 // The program of a source, whose subscripts are in range, and the plan behind it, which is accepted.
-fn case_of<R: Threads + Sync>(rt: &R, alloc: Global, bytes: &[u8]) -> Result<(Program, Plan), Fail>
+pub(crate) fn case_of<R: Threads + Sync>(
+    rt: &R,
+    alloc: Global,
+    bytes: &[u8],
+) -> Result<(Program, Plan), Fail>
     ensures formed { IfOk result (λ r. IsWellFormed (tree_of r.0)) }
     ensures limits { IfOk result (λ r. IsWithinLimits (tree_of r.0)) }
     ensures ranges { IfOk result (λ r. IsInRange (tree_of r.0)) }
@@ -90,50 +86,7 @@ fn accepted<R: Threads + Sync>(
 }
 
 // What a run leaves: its memory and what it prints.
-type Left = (Vec<i64>, Vec<u8>);
-
-// A run by fork and join of a source by the plan behind it.
-fn left_by_join<R: Threads + Sync>(rt: &R, alloc: Global, bytes: &[u8]) -> Result<Left, Fail> {
-    let (program, plan) = case_of(rt, alloc, bytes)?;
-    let (memory, output) = run_join(rt, alloc, &program, &plan, &NoGate)?;
-    Ok((memory, output.as_slice().to_vec(alloc)?))
-}
-
-// The same over shared words, with barriers in a style.
-fn left_by_spmd<R: Threads + Wait + Sync>(
-    rt: &R,
-    alloc: Global,
-    bytes: &[u8],
-    style: Style,
-) -> Result<Left, Fail> {
-    let (program, plan) = case_of(rt, alloc, bytes)?;
-    let (closed, output) = run_spmd_with(rt, alloc, &program, &plan, &NoGate, style)?;
-    let memory = closed.memory().to_vec(alloc)?;
-    Ok((memory, output.as_slice().to_vec(alloc)?))
-}
-
-// One text with one change, by each way: what is printed, and the memory.
-#[test]
-fn runs_end_as_the_program_does(rt: HostRuntime) -> Result<(), Fail> {
-    let alloc = rt.alloc();
-    let rows: [(&[u8], &[u8]); 3] = [
-        (b"", b""),
-        (b"1 BARRIER", b"1 NOTHING"),
-        (b"3 BARRIER", b"3 JOIN"),
-    ];
-    for &(old, new) in &rows {
-        let text = ROUNDING.replacen(alloc, old, new, 1)?;
-        let (memory, output) = left_by_join(&rt, alloc, text.as_slice())?;
-        assert_eq!(rt; output.as_slice(), ROUNDED);
-        assert_eq!(rt; memory.as_slice(), ROUNDED_CELLS);
-        for style in [Style::Arrive, Style::Dissemination] {
-            let (memory, output) = left_by_spmd(&rt, alloc, text.as_slice(), style)?;
-            assert_eq!(rt; output.as_slice(), ROUNDED);
-            assert_eq!(rt; memory.as_slice(), ROUNDED_CELLS);
-        }
-    }
-    Ok(())
-}
+pub(crate) type Left = (Vec<i64>, Vec<u8>);
 
 // The legs of a worker, until it has ended.
 fn to_the_end(cells: &Cells<'_>, worker: &mut Worker<'_>)

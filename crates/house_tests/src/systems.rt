@@ -128,6 +128,7 @@ fn decided(alloc: Global, system: &System) -> Result<String, NoMemory>
         Answer::Open => Ok(format!(in alloc; "open")?),
         Answer::Wide { level, .. } => Ok(format!(in alloc; "wide {level}")?),
         Answer::Many { level, count } => Ok(format!(in alloc; "many {level} {count}")?),
+        Answer::Work { level, pairs } => Ok(format!(in alloc; "work {level} {pairs}")?),
     }
 }
 
@@ -154,13 +155,13 @@ fn systems_are_decided(rt: HostRuntime) -> Result<(), Fail> {
     Ok(())
 }
 
-// 150 rows that bound the first variable from above, and 150 from below: all 22,500 combinations
-// differ.
-fn crowd(alloc: Global) -> Result<System, AllocError>
+// So many rows that bound the first variable from above, and as many from below. Of 150 all 22,500
+// combinations differ.
+fn crowd(alloc: Global, count: u16) -> Result<System, AllocError>
     ensures { IfOk result (λ system. system.vars ≡ 3) }
 {
     let mut system = System::empty(alloc, 3);
-    for index in 0..150u8 {
+    for index in 0..count {
         let coef = i128::from(index) + 1;
         for coefs in [[1, coef, 1], [-1, 151 * coef, 0]] {
             system.push(Row {
@@ -175,8 +176,12 @@ fn crowd(alloc: Global) -> Result<System, AllocError>
 #[test]
 fn too_many_rows_are_given_up(rt: HostRuntime) -> Result<(), Fail> {
     let alloc = rt.alloc();
-    let system = crowd(alloc)?;
+    let system = crowd(alloc, 150)?;
     assert_eq!(rt; decided(alloc, &system)?.as_str(), "many 1 20001");
+    let system = crowd(alloc, 256)?;
+    assert_eq!(rt; decided(alloc, &system)?.as_str(), "many 1 20001");
+    let system = crowd(alloc, 257)?;
+    assert_eq!(rt; decided(alloc, &system)?.as_str(), "work 1 66049");
     Ok(())
 }
 
@@ -222,7 +227,7 @@ fn systems_are_settled(rt: HostRuntime) -> Result<(), Fail> {
 #[test]
 fn many_rows_are_settled(rt: HostRuntime) -> Result<(), Fail> {
     let alloc = rt.alloc();
-    let system = crowd(alloc)?;
+    let system = crowd(alloc, 150)?;
     let more = Budget {
         rows: 300,
         made: 1000,

@@ -14,4 +14,4 @@ gathered-output-requires-clause-workers g c =
     subst (λ (l : List (CachePadded WorkerView)). AreWorkersOf c.in_ok-cells.cells l) (sym whole) its
 
 pub gathered-output-requires-clause-over : goal.gathered-output-requires-clause-over
-gathered-output-requires-clause-over g c = subst (λ (l : List (CachePadded WorkerView)). AreOver l) c.deref.ensures.value (c.have_ended.ensures c.if-not-have_ended.false)
+gathered-output-requires-clause-over g c = subst (λ (l : List (CachePadded WorkerView)). AreOver l) c.deref.ensures.value (c.have_ended.ensures.over c.if-not-have_ended.false)

@@ -10,7 +10,7 @@ use Rattle.sync_plan.specs.declared.plan.Plan.{Plan}
 use Rattle.spmd_model.specs.Timelines.{counter, post, await}
 use Rattle.spmd_laws.specs.Protocols.{act_at}
 use Rattle.styled_table.specs.Calls.{ArrivesNext, GathersNext, with_stage}
-use Rattle.styled_table.specs.Homes.{CellView, MainView, gone, missed}
+use Rattle.styled_table.specs.Homes.{CellView, MainView, gone}
 use Rattle.cell_table.specs.declared.view.Stage.TheVariants.{NotOut, Out}
 use Rattle.house_tests.specs.StraightLine.{barriers, plan_with}
 use Rattle.house_tests.proofs.StraightLine as lines
@@ -89,11 +89,12 @@ pub same-second : goal.same-second
 same-second g c = refl
 
 pub poll_arrivals-found-requires-clause-own : goal.poll_arrivals-found-requires-clause-own
-poll_arrivals-found-requires-clause-own g c = ap (λ (x : CellView). x.home) (c.in-NotYet.ensures.tells.1 ∙ ap missed (c.arrive.ensures.goes ∙ ap gone c.seat_for-second.ensures.seat))
+poll_arrivals-found-requires-clause-own g c = ap (λ (x : CellView). x.home) c.in-NotYet.ensures.tells.1 ∙ ap (λ (x : CellView). x.home) (c.arrive.ensures.goes ∙ ap gone c.seat_for-second.ensures.seat)
 
 pub poll_arrivals-found-requires-clause-next : goal.poll_arrivals-found-requires-clause-next
-poll_arrivals-found-requires-clause-next g c = subst (λ (v : CellView). GathersNext v 0) (sym (c.in-NotYet.ensures.tells.1 ∙ ap missed (c.arrive.ensures.goes ∙ ap gone c.seat_for-second.ensures.seat)))
-    (let there = of_table (λ m. (act_at m 1 (place m 1 1) ≡ Some (await counter 0 0)) × (m.gathers 0 ≡ true)) barriers c.in_ok-cells.cells c.in_ok-program.program c.in_ok-plan.plan (c.in_ok-cells.ensures.given) c.in_ok-program.ensures (c.in_ok-plan.ensures ∙ ap plan_with (search rules)) lines.gathers in (0, there.0, there.1))
+poll_arrivals-found-requires-clause-next g c = subst (λ (v : CellView). GathersNext v 0) (sym c.in-NotYet.ensures.tells.1)
+    (subst (λ (v : CellView). GathersNext v 0) (sym (c.arrive.ensures.goes ∙ ap gone c.seat_for-second.ensures.seat))
+    (let there = of_table (λ m. (act_at m 1 (place m 1 1) ≡ Some (await counter 0 0)) × (m.gathers 0 ≡ true)) barriers c.in_ok-cells.cells c.in_ok-program.program c.in_ok-plan.plan (c.in_ok-cells.ensures.given) c.in_ok-program.ensures (c.in_ok-plan.ensures ∙ ap plan_with (search rules)) lines.gathers in (0, there.0, there.1)))
 
 pub unreachable-assert_eq-2 : goal.unreachable-assert_eq-2
 unreachable-assert_eq-2 g c = search rules

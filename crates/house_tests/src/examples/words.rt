@@ -6,7 +6,7 @@ ghost use Rattle.styled_table.specs.Calls.{ArrivesNext, GathersNext};
 ghost use Rattle.styled_table.specs.Homes.{gone, through};
 ghost use Rattle.house_tests.specs.StraightLine.{barriers, line, plan_with};
 
-use house_tests::straight_line::{line, plan_with};
+use crate::straight_line::{line, plan_with};
 use nest_tree::Program;
 use std::alloc::{AllocError, Global};
 use std::thread::{Threads, join, yield_now};

@@ -5,8 +5,8 @@ use Rattle.styled_table.specs.Calls.{ArrivesNext, GathersNext}
 use Rattle.styled_table.specs.Homes.{CellView, gone}
 use Rattle.styled_table.proofs.cells.CellSeat.TheSendSync as seat
 use Rattle.house_tests.proofs.StraightLine.{meets}
-use Rattle.library_use.proofs.Sharing.{Cells-sync}
-use Rattle.library_use.proofs.words.two_threads.Goals as goal
+use Rattle.house_tests.proofs.Sharing.{Cells-sync}
+use Rattle.house_tests.proofs.examples.words.two_threads.Goals as goal
 
 pub join-requires-send-F : goal.join-requires-send-F
 join-requires-send-F g c κs within = search (sendable, crosses, Cells-sync, seat.the_send) depth 20

@@ -1,6 +1,6 @@
 use Rattle.nest_tree.specs.View.{tree_of}
 use Rattle.plan_text.proofs.Counts.{counts_of_fit}
-use Rattle.library_use.proofs.plans.made.Goals as goal
+use Rattle.house_tests.proofs.examples.plans.made.Goals as goal
 
 pub write_plan-requires : goal.write_plan-requires
 write_plan-requires c =

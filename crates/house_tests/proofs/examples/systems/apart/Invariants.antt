@@ -1,5 +1,5 @@
 use Rattle.std.proofs.Common.{◌≡◌}
-use Rattle.library_use.proofs.systems.apart.Given as goal
+use Rattle.house_tests.proofs.examples.systems.apart.Given as goal
 
 abbrev pub invariant-loop-coef : goal.invariant-loop-coef
 invariant-loop-coef l = l.system.vars ≡ 1

@@ -1,7 +1,7 @@
 use Rattle.std.proofs.Common.{◌≡◌}
 use Rattle.styled_table.specs.Calls.{GathersNext}
 use Rattle.styled_table.specs.Homes.{gone, through}
-use Rattle.library_use.proofs.words.meet.Given as goal
+use Rattle.house_tests.proofs.examples.words.meet.Given as goal
 
 abbrev pub invariant-loop : goal.invariant-loop
 invariant-loop l = record {
