@@ -12,7 +12,7 @@ import sys
 import tempfile
 
 ROOT = os.path.dirname(os.path.dirname(os.path.abspath(__file__)))
-BUILT = {"SEAGRYNT_UNPROVED": "no", "PLAN_SYSTEMS_BUILD": "no", "BENCH_PARTS_BUILD": "no"}
+BUILT = {"SEAGRYNT_UNPROVED": "no", "EXPLAIN_PLAN_BUILD": "no", "PLAN_SYSTEMS_BUILD": "no", "BENCH_PARTS_BUILD": "no"}
 
 
 def commands_of(document):
@@ -48,9 +48,14 @@ def main(documents):
                 print(f"{document}: it has no block with commands")
             for number, command, due in found:
                 tried += 1
-                done = subprocess.run(
-                    ["bash", "-c", command], cwd=room, capture_output=True, timeout=120, env={**os.environ, **BUILT}
-                )
+                try:
+                    done = subprocess.run(
+                        ["bash", "-c", command], cwd=room, capture_output=True, timeout=120, env={**os.environ, **BUILT}
+                    )
+                except subprocess.TimeoutExpired:
+                    failed += 1
+                    print(f"{document}:{number}: {command} takes more than 120 seconds")
+                    continue
                 wrote = done.stdout.decode("utf-8", "replace")
                 if not re.fullmatch(pattern_of(due), wrote):
                     failed += 1

@@ -1,8 +1,8 @@
 """Looks at what the pages of the crates that serve alone say under "As a library".
 
 The crates that come with one are those that crates.txt has below it; each signature stands in the
-crate's sources; each example is a function of 20 lines at most of the program library_use, so that
-it is proved and run. The recipe of docs/CRATES.md takes each of them, one after the other, into one
+crate's sources; each example is a function of 20 lines at most of house_tests, so that it is proved
+and run. The recipe of docs/CRATES.md takes each of them, one after the other, into one
 new repository: then each crate that it names is there, once, with those that it stands on.
 """
 
@@ -54,8 +54,8 @@ def faults_in(crate, section):
     if not examples:
         yield "there is no example"
     for it in examples:
-        if it not in sources_of("library_use"):
-            yield f"this is no function of library_use: {it}"
+        if it not in sources_of("house_tests"):
+            yield f"this is no function of house_tests: {it}"
         if it.count("\n") > 20:
             yield f"this example has {it.count(chr(10))} lines"
 

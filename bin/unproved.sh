@@ -5,6 +5,7 @@
 #
 #   find_kept           sets `kept`, where the program is kept, or is to be
 #   is_kept             no source is newer than the kept program
+#   await_builder       waits while another run builds it, and then is the only one; whether it is kept then
 #   keep_fast           builds it optimised, and keeps it
 #   try_and_keep WORD.. runs the sources on these words by `rt try`, and keeps the slow program that it links
 
@@ -27,6 +28,15 @@ can_write() {
 }
 
 is_kept() { is_built "$name" "$kept"; }
+
+await_builder() {
+    command -v flock >/dev/null 2>&1 && exec 9>"${kept%/*}/.building" || return
+    if ! flock -n 9; then
+        say "another run is building the unproved program; waiting for it"
+        flock 9
+    fi
+    is_kept
+}
 
 # Takes a program that was built as the kept one.
 keep() {

@@ -62,16 +62,17 @@ def why_no_directive(directive, program):
 
 
 def empty_loops(program):
-    """Loops that never have a trip."""
+    """Loops that never have a trip, also where their bounds go with those of loops outside."""
     reader = counts.Counts(program)
     for loop in program.loops:
         try:
             low, high, step = reader.bounds(loop)
-            if not low.loops and not high.loops and not reader.trips(loop, {}):
-                goes = f"from {reader.value(low, {})} to {reader.value(high, {})}" + (f" by {step}" if step != 1 else "")
-                yield f"line {loop.line}: this loop has no trips: it goes {goes}"
         except counts.TooMany:
             continue
+        length = high.plus(low, -1)
+        if not length.loops and (reader.value(length, {}) + step) // step <= 0:
+            ends = loop.bounds[:2] if low.loops else [reader.value(it, {}) for it in (low, high)]
+            yield f"line {loop.line}: this loop has no trips: it goes from {ends[0]} to {ends[1]}" + (f" by {step}" if step != 1 else "")
 
 
 def never_stored(program):
@@ -90,14 +91,24 @@ def never_stored(program):
 
 def plan_warnings(program, plan, ask):
     """Warnings on a plan; `ask` gives the plan of a changed source, or None."""
-    used = {next((it.target for it in phase.actions if phase.text in program.anchor_of(it, plan.workers)), None) for phase in plan.phases}
-    for name, (line, axis, how) in sorted(program.axes.items(), key=lambda it: it[1][0]):
-        if name not in used:
-            yield f"line {line}: this C$DIST deals out no phase: none takes its owners from {name}"
+    ends = time.monotonic() + MOST_SECONDS
+    yield from idle_directives(program, plan, ask, ends)
     idle = idle_processors(program, plan)
     if idle:
         yield idle
-    yield from serial_warnings(program, plan, ask)
+    yield from serial_warnings(program, plan, ask, ends)
+
+
+def idle_directives(program, plan, ask, ends):
+    """Directives without which the same plan is made, of arrays that no phase is seen to take its owners from."""
+    used = {next((it.target for it in phase.actions if phase.text in program.anchor_of(it, plan.workers)), None) for phase in plan.phases}
+    lines = [line for name, (line, _, _) in program.axes.items() if name not in used]
+    source = [*program.source.lines[: program.source.end], ""]
+    made = ask("\n".join(source), ends - time.monotonic()) if lines else None
+    for line in sorted(lines) if made else []:
+        other = ask("\n".join([*source[: line - 1], "C", *source[line:]]), ends - time.monotonic())
+        if other and other.told == made.told:
+            yield f"line {line}: this C$DIST changes nothing: the same plan is made without it"
 
 
 def idle_processors(program, plan):
@@ -109,16 +120,16 @@ def idle_processors(program, plan):
     except counts.TooMany:
         return None
     idle = sorted(set(range(plan.workers)) - owners)
-    if not idle:
+    if not idle or not plan.phases:
         return None
     told = f"processors {idle[0]} to {idle[-1]} of {plan.workers} own" if len(idle) > 2 and idle[-1] - idle[0] == len(idle) - 1 else (
         f"processor{'s' * (len(idle) > 1)} {in_words([str(it) for it in idle])} of {plan.workers} own{'s' * (len(idle) == 1)}")
     return f"{told} nothing in any phase: fewer workers do the same"
 
 
-def serial_warnings(program, plan, ask):
+def serial_warnings(program, plan, ask, ends):
     """Scalars that keep loops from being dealt out, where nothing else does; else what does."""
-    ends, asked = time.monotonic() + MOST_SECONDS, 0
+    asked = 0
     for loop in program.loops:
         mark = plan.mark(loop)
         name = serial_scalar(program, loop)
@@ -218,8 +229,10 @@ def why_kept(program, loop, name):
     if all(it.target == name and re.match(r"(MAX|MIN)\(", it.value) for it in uses):
         which = uses[0].value[:3]
         return f"a {which} over trips is not dealt out; what it is taken of can be, stored in an array by a loop in front of this one"
-    if all(it.target == name and is_read(name, it) for it in uses):
+    if all(it.target == name and (is_sum(name, it) or is_turned_sum(name, it)) for it in uses):
         return f"a sum that can be dealt out is written {name} = {name} + .. or {name} = {name} - .."
+    if all(it.target == name and is_read(name, it) and not it.guard for it in uses):
+        return f"a trip needs what another one stored, and only sums, {name} = {name} + .., are dealt out all the same"
     return "a trip needs what another one stored"
 
 
@@ -228,14 +241,29 @@ def is_plain_store(name, action):
 
 
 def is_read(name, action):
-    text = " ".join([action.value, *action.subscripts])
+    return is_named(name, " ".join([action.value, *action.subscripts]))
+
+
+def is_named(name, text):
     return re.search(rf"(?<![A-Z0-9]){name}(?![A-Z0-9(])", text) is not None
 
 
 def is_sum(name, action):
     """Whether a statement adds to a scalar and does nothing else with it, K = K + .. or K = K - .."""
     found = re.match(rf"{name}[+-](.*)", action.value)
-    return action.target == name and found is not None and not re.search(rf"(?<![A-Z0-9]){name}(?![A-Z0-9(])", found[1])
+    return action.target == name and found is not None and not is_named(name, found[1])
+
+
+def is_turned_sum(name, action):
+    """Whether a statement adds to a scalar, and names it behind what it adds."""
+    parts, depth = [""], 0
+    for c in action.value:
+        depth += (c == "(") - (c == ")")
+        if depth == 0 and c in "+-":
+            parts.append("")
+        parts[-1] += c
+    others = [it for it in parts if it.lstrip("+") != name]
+    return action.target == name and not action.guard and len(others) == len(parts) - 1 and not any(is_named(name, it) for it in [*others, *action.subscripts])
 
 
 # ---- the summary

@@ -40,6 +40,7 @@ class Mending:
         self.settings = settings
         self.moved = {}  # how far what stands in a line was moved to the right, or None where it is another text
         self.guessed = set()  # names of statements that are passed over
+        self.labels = set()  # those that are given to loops without one
         self.no_ranges = False  # a loop's bounds are guessed
         self.read()
 
@@ -92,6 +93,17 @@ class Mending:
             target = re.match(sources.NAME, code)
             self.guessed |= {target[0]} if target and len(target[0]) > 6 else set()
             self.lines[line - 1] = f"{statement.label or '':>5} CONTINUE"
+
+    def leave_out(self, statement):
+        """Makes a DO that can't be one a comment."""
+        do = re.match(rf"DO\d+,?({sources.NAME})=", statement.code)
+        self.guessed |= {do[1]} if do else set()
+        for number in statement.lines:
+            self.put(number, "C")
+
+    def new_label(self, line):
+        self.labels.add(80000 + line % 9999)
+        return 80000 + line % 9999
 
     def rename(self, name, shorter):
         """Gives a name another one in the whole source."""
@@ -184,12 +196,19 @@ class Mending:
         elif name == "end-do" and self.loops_at(line):
             self.put(line, f"{self.loops_at(line)[-1].label:>5} CONTINUE")
         elif name == "missing_label":
-            self.write(statement, f"DO {80000 + line % 9999} {statement.text[2:]}")
+            self.write(statement, f"DO {self.new_label(line)} {statement.text[2:]}")
         elif name in ("do-while", "concurrent"):
-            self.write(statement, f"DO{80000 + line % 9999}IQ{line % 9999}=1,1")
+            self.write(statement, f"DO{self.new_label(line)}IQ{line % 9999}=1,1")
+        elif name == "long-label" or (name == "limit" and code.startswith("DO")):
+            self.leave_out(statement)
+        elif name == "label_columns":
+            found = re.match(r" *(\d+)(.*)", self.lines[line - 1])
+            self.put(line, f"{found[1][:5]:>5} {found[2].strip()}")
         elif name == "comment" and len(statement.lines) == 1:
             self.put(line, self.lines[line - 1].partition("!")[0], 0)
         elif name == "semicolon" and len(statement.lines) == 1:
+            self.guessed |= {it for it, _ in hints.names_in(code.partition(";")[2])}
+            self.guessed |= set(re.findall(rf"DO\d*({sources.NAME})=", code))
             self.put(line, self.lines[line - 1].partition(";")[0], 0)
         elif name == "quotes":
             for number in statement.lines:
@@ -233,6 +252,8 @@ class Mending:
         """Whether a fault may come of what was passed over alone: one of form doesn't."""
         if fault.code in ("F1", "F2", "F11"):
             return False
+        if fault.code == "F9" and fault.hint:
+            return self.is_guessed_label(fault.hint)
         if fault.code == "S1":
             return self.no_ranges or bool(self.guessed)
         hint = fault.hint
@@ -243,6 +264,11 @@ class Mending:
         found = re.match(r"[A-Z][A-Z0-9]*", statement.code[at:]) if at is not None else None
         names = {found[0]} if found else {name for name, _ in hints.names_in(statement.code)}
         return bool(names & self.guessed)
+
+    def is_guessed_label(self, hint):
+        """Whether what is told of a label is of one that stands in no line of the source."""
+        loop, line = re.search(r"DO (\d+)", hint.say), re.search(r"stands in line (\d+) already", hint.say)
+        return bool(loop and int(loop[1]) in self.labels) or bool(line and self.moved.get(int(line[1]), 0) is None)
 
     def place(self, hint):
         """The line and the column of a hint in the source as it is."""

@@ -14,7 +14,6 @@ from source import FUNCTIONS, NAME, closing, split_outside
 STATEMENTS = (
     "PROGRAM INTEGER DIMENSION PARAMETER CONTINUE STOP END PRINT DO IF".split()
 )
-OTHER_TYPES = "REAL DOUBLEPRECISION COMPLEX LOGICAL CHARACTER".split()
 LABELLED = "DO 10 I = 1, N closes with a line 10 CONTINUE, its label in columns 1 to 5"
 ONE_IF = "an IF does one assignment, IF (I .LT. 5) K = I: give each assignment an IF of its own"
 REPLACED = {
@@ -29,6 +28,8 @@ INTRINSICS = (
     "SQRT INT NINT FLOAT REAL DBLE ISIGN SIGN EXP LOG SIN COS TAN ATAN IFIX SNGL CHAR ICHAR LEN INDEX "
     "IAND IOR IEOR NOT BTEST IBSET IBCLR ISHFTC COUNT ANY ALL MATMUL TRANSPOSE RESHAPE FLOOR CEILING HUGE"
 ).split()
+AFFINE = "a subscript or a side of a comparison is a sum of multiples of loop variables and constants"
+COMPARISONS = r"\.(LT|LE|EQ|GE|GT|NE)\."
 COLUMNS = "a statement begins in column 7, behind six blanks; columns 1 to 5 are for its label"
 
 # name, codes, pattern, what to write
@@ -37,15 +38,17 @@ PATTERNS = [
     ("do-while", "F1 F2", r"DOWHILE\(", f"there is no DO WHILE: trips are counted; {LABELLED}"),
     ("end-if", "F1 F2", r"(ENDIF|ELSE|ELSEIF\(.*)$", f"there is no block IF, ELSE or END IF: {ONE_IF}"),
     ("block-if", "F1 F2", r"IF\(.*\)(?P<at>THEN)$", f"there is no block IF: {ONE_IF}"),
-    ("type", "F1 F2", rf"({'|'.join(OTHER_TYPES)})(?!\w*=)",
+    ("type", "F1 F2", r"(REAL|DOUBLEPRECISION|COMPLEX)(?!\w*=)",
      "all values are INTEGER: declare INTEGER, and count in thousandths, say, where fractions are needed"),
+    ("logical-type", "F1 F2", r"LOGICAL(?!\w*=)", "all values are INTEGER: declare INTEGER, and keep 1 or 0"),
+    ("character-type", "F1 F2", r"CHARACTER(?!\w*=)", "all values are INTEGER, and text stands in a PRINT alone: PRINT *, 'K', K"),
     ("implicit", "F1 F2", r"IMPLICIT",
      "leave it out: a name that no INTEGER statement has is INTEGER where it begins with I to N, and else refused"),
     ("concurrent", "F1 F2", r"DOCONCURRENT\(", f"a loop is dealt out where that is safe, with no word for it; {LABELLED}"),
     ("parameter", "F1 F2", r"PARAMETER(?P<at>[A-Z]\w*=)", "constants stand in parentheses: PARAMETER (N = 4, M = 2*N)"),
     ("allocate", "F1 F2 F4", r"(DE)?ALLOCATE\(|(ALLOCATABLE|POINTER|TARGET)(?!\w*=)", "an array has its bounds where it is declared, in constants: INTEGER A(N) behind PARAMETER (N = 8)"),
     ("include", "F1 F2", r"INCLUDE'|USE[A-Z]\w*$", "one program stands in a source: write what would be included in place"),
-    ("first-value", "F1 F2 F4", r"INTEGER(?P<at>[A-Z]\w*=)", "a declaration gives no value: write INTEGER N, and N = 4 as a statement or PARAMETER (N = 4)"),
+    ("first-value", "F1 F2 F4", r"INTEGER([A-Z][^=:]*,)?(?P<at>[A-Z]\w*=)", "a declaration gives no value: write INTEGER N, and N = 4 as a statement or PARAMETER (N = 4)"),
     ("kind", "F1 F2 F4 F12", r"INTEGER(?P<at>\*\d|\(KIND|\(\d+\)(::)?[A-Z])", "write INTEGER alone: it has 64 bits"),
     ("colons", "F1 F2 F4", r"[A-Z0-9,()*=:]*?(?P<at>::)",
      "leave :: out: INTEGER N, A(0:9), and constants apart, PARAMETER (N = 4)"),
@@ -64,9 +67,12 @@ PATTERNS = [
      "leave it out: each variable is seen by the whole program, and keeps its value"),
     ("comment", "F1 F2", r"[^!]*(?P<at>!)", "a comment is a line of its own, with C or * in column 1"),
     ("quotes", "F1 F2", r'[^"]*(?P<at>")', "text stands between apostrophes: PRINT *, 'K', K"),
+    ("do", "F1 F2", r"(?P<at>DO\d+=|(?!DO\d)[A-Z]{1,3}\d+[A-Z]\w*=)[^(]*,", "a DO has a label, a variable and bounds: DO 10 I = 1, 9"),
+    ("do-comma", "F1 F2 F3 F4", r"DO\d+,?[A-Z]\w*=(?P<at>[^,]*)$", "a comma stands between a DO's bounds: DO 10 I = 1, 9"),
     ("semicolon", "F1 F2", r"[^;]*(?P<at>;)", "one statement stands on a line"),
     ("ampersand", "F1 F2", r"[^&]*(?P<at>&)",
      "a statement goes on in the next line by any character but a blank or 0 in column 6 of that line"),
+    ("store", "F1 F2", r"[A-Z]\w*(\(.*?\))?(?P<at>[-+*/:]=|\+\+$|--$)", "a value is stored by = alone: K = K + 1"),
     ("not-equal", "F1 F2", r".*?(?P<at>\.NE\.|/=|<>)",
      "there is no .NE.: write two IFs, one with .LT. and one with .GT."),
     ("and", "F1 F2", r"IF\(.*?(?P<at>\.AND\.)",
@@ -75,17 +81,22 @@ PATTERNS = [
     ("not", "F1 F2", r"IF\(.*?(?P<at>\.NOT\.)", "write the opposite comparison: .GE. for .LT., .GT. for .LE., and the other way round"),
     ("logical", "F1 F2", r".*?(?P<at>\.(AND|OR|NOT|EQV|NEQV|TRUE|FALSE)\.)",
      "there are no logical values: keep 1 or 0, and compare it by a product: K = L*I + (1-L)*K"),
+    ("value", "F1 F2", rf"(?!IF).*?(?P<at>{COMPARISONS})", "a comparison stands in an IF alone: K = 0, and IF (I .EQ. 5) K = 1"),
+    ("no-parentheses", "F1 F2", rf"IF(?P<at>[A-Z0-9].*?{COMPARISONS})", "a comparison stands in parentheses: IF (I .LT. 5) K = I"),
+    ("else", "F1 F2", r"IF\(.*\).*?=.*?(?P<at>ELSE)[A-Z]\w*(\(.*?\))?=", f"there is no ELSE: {ONE_IF}"),
+    ("if-other", "F1 F2", r"IF\(.*\)(?P<at>STOP$|CONTINUE$|RETURN$|CALL|WRITE\(|READ[*(]|DO\d|IF\()", "an IF has one assignment and nothing else: IF (I .LT. 5) K = I"),
     ("if-print", "F1 F2", r"IF\(.*\)(?P<at>PRINT\*)", "a PRINT stands under no IF: let the bounds of its loop say when it comes"),
     ("double-parentheses", "F1 F2", r"IF\((?P<at>\()(?=[^()]*(\([^()]*\)[^()]*)*\.(LT|LE|EQ|GE|GT)\.)", "one pair of parentheses stands round a comparison: IF (I .LT. 5) K = I"),
-    ("do-comma", "F1 F2 F3 F4", r"DO\d+,?[A-Z]\w*=(?P<at>[^,]*)$", "a comma stands between a DO's bounds: DO 10 I = 1, 9"),
     ("implied-do", "F1 F2", r"PRINT\*,.*?(?P<at>\([^()]*(\([^()]*\)[^()]*)*,[A-Z]\w*=)",
      "a PRINT has no loop in it: print the whole array, PRINT *, A, or one element a line in a loop"),
+    ("item-comma", "F1 F2", r"PRINT\*,(?:'~*'|[^'])*?(?P<at>(?<=[A-Z0-9)])'|(?<=')[A-Z0-9(])", "a comma stands between two items: PRINT *, 'K', K"),
     ("print-comma", "F1 F2", r"PRINT\*(?P<at>[^,])", "a comma stands behind the star: PRINT *, K"),
     ("section", "F1 F2 F4", r"(?!INTEGER|DIMENSION).*?(?<![A-Z0-9])[A-Z][A-Z0-9]*\([^()=]*(?P<at>:)", "there are no parts of arrays: write a loop over the elements, DO 10 I = 1, 3 and 10 A(I) = 0"),
     ("comparison", "F1 F2", r"IF\(.*?(?P<at>==|>=|<=|<|>)", "a comparison is written .LT., .LE., .EQ., .GE. or .GT."),
-    ("power", "F1 F2", r".*?(?P<at>\*\*)", "there is no **: K*K"),
+    ("power", "F1 F2", r".*?(?P<at>\*\*|\^)", "there is no **: K*K"),
     ("real", "F1 F2", r".*?(?<![A-Z0-9])(?P<at>\d+\.\d*|\.\d+|\d+[ED][+-]?\d+)(?![A-Z])",
      "all values are whole: count in thousandths, say, where fractions are needed"),
+    ("long-label", "F1 F2", r"DO(?P<at>0*[1-9]\d{5,}|0+),?[A-Z]\w*=", "a label is 1 to 99999"),
     ("end-name", "F1 F2 L4", r"END(PROGRAM|[A-Z]+)", "the last line is END alone"),
     ("stop-code", "F1 F2", r"STOP(?P<at>[\d'].*)$", "STOP stands alone, directly in front of END: leave it out"),
     ("stop", "F1", r"STOP", "STOP stands directly in front of END alone, outside all loops: leave it out"),
@@ -138,6 +149,10 @@ def body_of(code):
     """Where what is declared, printed or assigned begins, behind a statement's first word."""
     found = re.match(rf"INTEGER|DIMENSION|PARAMETER\(|PRINT\*,?|PROGRAM|DO\d+,?|IF(?=\()|", code)
     return found.end()
+
+
+def becomes_constant(name, line):
+    return f"{name} becomes a constant below, in line {line}: put that line in front of this one"
 
 
 class Finders:
@@ -240,6 +255,8 @@ class Finders:
             if subscripts is None or name in self.program.arrays:
                 continue
             if name in ("MOD", "MODULO") and any(low <= at < high for low, high in in_forms):
+                if self.program.form_of(subscripts[0], self.loops) is None:
+                    return at, f"there is no function but MIN and MAX, and here no value that is computed: {AFFINE}"
                 return at, "there is no function but MIN and MAX, and here no remainder: for each second trip write a loop with step 2, DO 10 I = 1, N, 2"
             if name in REPLACED or name in INTRINSICS:
                 more = f": {REPLACED[name]}" if name in REPLACED else ""
@@ -258,6 +275,21 @@ class Finders:
         at = self.code.find("'")
         if at >= 0 and not self.code.startswith("PRINT*,"):
             return at, "text stands in a PRINT alone: PRINT *, 'K', K"
+
+    def label_columns(self):
+        """A label that goes on behind column 6, or begins there."""
+        line = self.program.source.lines[self.statement.line - 1]
+        found = re.match(r" *(\d{2,})(?= *[A-Za-z])", line)
+        if found and found.start(1) > 5:
+            return (self.statement.line, found.start(1) + 1), f"a label stands in columns 1 to 5: {COLUMNS}"
+        if found and found.end() > 6:
+            return (self.statement.line, 6), f"this label reaches column {found.end()}: labels end in column 5, and are 1 to 99999"
+
+    def no_operator(self):
+        begun = closing(self.code, 2) + 1 if self.code.startswith("IF(") else body_of(self.code)
+        found = re.search(r"(?:(?<![A-Z0-9])\d+(?=[A-Z(])|\)(?=[A-Z0-9(]))(?P<at>.)", self.code[begun:])
+        if found:
+            return begun + found.start("at"), "an operator is missing in front of this: 2*K"
 
     def no_statement(self):
         if not re.match(r"[A-Z0-9]+(\(.*\))?=|DO\d+,?[A-Z]\w*=.*,|IF\(.*\).*=", self.code):
@@ -289,7 +321,7 @@ class Finders:
                 continue
             below = self.program.constant_lines.get(name, 0)
             if below > self.statement.line:
-                return at + begun, f"{name} becomes a constant below, in line {below}: put that line in front of this one"
+                return at + begun, becomes_constant(name, below)
             if name not in self.program.constants:
                 return at + begun, f"{name} is no named constant; a line PARAMETER ({name} = 8) in front makes it one"
 
@@ -317,8 +349,18 @@ class Finders:
             bounds = self.program.arrays.get(name)
             if bounds and len(subscripts or []) != len(bounds):
                 had = len(subscripts or [])
-                if had or not self.code.startswith("PRINT"):
+                if had:
                     return at + begun, f"{name} has {len(bounds)} dimension{'s' * (len(bounds) > 1)}, and {had} subscript{'s' * (had != 1)} here"
+                if not self.code.startswith("PRINT"):
+                    return at + begun, f"{name} is an array, and whole arrays stand in a PRINT alone: write a loop over the elements, DO 10 I = 1, 3 and 10 {name}(I{', J, K'[:3 * len(bounds) - 3]}) = 0"
+
+    def constant_below(self):
+        """A named constant that is one behind this statement alone."""
+        begun = body_of(self.code)
+        for name, at, _ in reads(self.code[begun:]):
+            below = self.program.constant_lines.get(name, 0)
+            if below > self.statement.line:
+                return at + begun, becomes_constant(name, below)
 
     def divisor(self):
         for it in re.finditer("/", self.code):
@@ -453,8 +495,8 @@ FINDERS = [
     ("past_column", "F1"), ("missing_label", "F1 F2"), ("open_text", "F1 F2"), ("functions", "F4 F5 F1 F3"), ("misspelt", "F1 F2"), ("parentheses", "F1 F2"),
     ("trailing", "F1 F2"), ("out_of_order", "F1"), ("long_name", "F1 F2"), ("short_minimum", "F1"), ("gone_on", "F1 F2 F4"),
     ("declared_below", "F4"), ("no_array", "F4"), ("no_constant", "F4"), ("no_integer", "F3"), ("loop_variable", "F10"),
-    ("subscript_count", "F5"), ("divisor", "F8"), ("step", "F6 F7"), ("not_affine", "F6"),
-    ("text_outside", "F2"), ("no_statement", "F1"), ("twice_labelled", "F9"), ("column_six", "F9"), ("open_loop", "F9"), ("ends_here", "F9"), ("range", "S1"), ("limit", "F12"), ("missing_end", "L4"),
+    ("subscript_count", "F5"), ("constant_below", "F6 F8"), ("divisor", "F8"), ("step", "F6 F7"), ("not_affine", "F6"),
+    ("text_outside", "F2"), ("label_columns", "F1 F2"), ("no_operator", "F1"), ("no_statement", "F1"), ("twice_labelled", "F9"), ("column_six", "F9"), ("open_loop", "F9"), ("ends_here", "F9"), ("range", "S1"), ("limit", "F12"), ("missing_end", "L4"),
 ]
 
 # told without a finder of its own

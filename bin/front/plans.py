@@ -61,6 +61,7 @@ class Plan:
     def __init__(self, workers, marks, phases, privates):
         self.workers, self.marks, self.phases, self.privates = workers, marks, phases, privates
         self.loop_reasons = {}
+        self.told = []  # its lines up to the certificates
         self.is_made = False  # the reasons of a made plan stand behind it
 
     def mark(self, loop):
@@ -137,8 +138,10 @@ def read_plan(text):
         producer = anchor_of(found[3]) if found[3] else None
         phases.append(Phase(k + 1, found[2].split()[0], producer, anchor_of(found[7]), found[7]))
     plan = Plan(workers, [it[1] for it in loops], phases, privates)
+    plan.told = lines.lines[: lines.at]
     lines.take(r"CERTIFICATES (\d+)", "the number of certificates")
-    for line in lines.rest():
+    rest = lines.rest()
+    for line in rest[rest.index("END PLAN") :] if "END PLAN" in rest else rest:
         read_reason(plan, line)
         plan.is_made = plan.is_made or line == "END REASONS"
     return plan

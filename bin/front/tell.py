@@ -16,7 +16,7 @@ import source as sources
 from advice import listed
 
 ROOT = os.path.dirname(os.path.dirname(os.path.dirname(os.path.abspath(__file__))))
-COMMANDS = ("seq", "plan", "run", "verify", "bench")
+COMMANDS = ("seq", "plan", "run", "verify", "bench", "emit")
 CHOICES = {"--plan": ("made", "barrier", "given"), "--by": ("spmd", "join", "core"), "--barrier": ("arrive", "dissemination")}
 OPTIONS = {
     "seq": (),
@@ -24,14 +24,17 @@ OPTIONS = {
     "run": ("--workers", "--plan", "--by", "--barrier"),
     "verify": ("--sweep",),
     "bench": ("--workers",),
+    "emit": ("--workers", "--plan"),
 }
 SCRIPT_WORDS = ("--plan-only", "--output-only")
+MOST_BYTES = 4194304  # of a source with a plan behind it
 USAGE = (
     "seagrynt seq [NAME=VALUE..] < SOURCE",
     "seagrynt plan --workers P [--plan-only] [NAME=VALUE..] < SOURCE",
     "seagrynt run --workers P [--plan made|barrier|given] [--by spmd|join|core] [--barrier arrive|dissemination] [--plan-only|--output-only] [NAME=VALUE..] < SOURCE",
     "seagrynt verify [--sweep NAME=LOW:HIGH] [NAME=VALUE..] < SOURCE_AND_PLAN",
     "seagrynt bench --workers P N M",
+    "seagrynt emit --workers P [--plan made|barrier|given] [NAME=VALUE..] < SOURCE",
     "seagrynt --help, seagrynt run --help, seagrynt --version",
 )
 
@@ -91,8 +94,9 @@ def tell_refusal(line, data, words, program):
             where = sorted(set(it.lines)) if len(it.lines) > 1 else [it.place[0]]
             say(f"{line}: {said}" if place == 0 else f"also {listed(where)}, {it.code}: {said}")
             show_line(lines, *it.place)
-            if place == 0 and len(it.lines) > 1:
-                say(f"the same in {listed(sorted(set(it.lines[1:])))}")
+            others = sorted(set(it.lines[1:]) - {it.number})
+            if place == 0 and others:
+                say(f"the same in {listed(others)}")
             if place == 0 and it.place[0] != it.number and it.number <= len(lines):
                 show_line(lines, it.number, None)
         if more:
@@ -146,6 +150,8 @@ def from_a_file(words, file):
     rest = [it for it in words if it != file]
     if not rest or rest[0] not in COMMANDS:
         rest = ["seq", *rest]
+    if rest[0] == "verify":
+        return f"{file} is a file's name; a source and the plan behind it come on standard input: cat SOURCE PLAN | seagrynt verify"
     import shlex
 
     return f"{file} is a file's name; the source comes on standard input: seagrynt {shlex.join(rest)} < {shlex.quote(file)}"
@@ -158,6 +164,8 @@ def wrong_setting(words, number, program):
         return from_a_file(words, word)
     name, equals, value = word.partition("=")
     names = ", ".join(program.constants)
+    if not equals and number < len(others) and others[number].startswith("="):
+        return f"{word} is no setting: a setting is one word without blanks, {name.upper()}={others[number].strip('=') or ''.join(others[number + 1 : number + 2])}"
     if not equals:
         # nothing has been read then, but of a file
         has = f", one of {names}" if names else ""
@@ -204,6 +212,10 @@ def wrong_word(words):
             return f"a command is missing: {', '.join(COMMANDS[:-1])} or {COMMANDS[-1]}; seagrynt --help says what they do"
         if command.lower() in ("help", "-help", "-?", "usage"):
             return "seagrynt --help writes the help, seagrynt run --help that of run"
+        if command.lower() in ("version", "-version", "-v"):
+            return "seagrynt --version writes the version"
+        if command.partition("=")[0] in {it for options in OPTIONS.values() for it in options}:
+            return f"the command comes first: seagrynt run {command} .."
         if is_file(command):
             return from_a_file(words, command)
         close = close_to(command.lower(), COMMANDS)
@@ -214,6 +226,8 @@ def wrong_word(words):
 
 def wrong_option(words, command):
     options, others = parts_of(words)
+    if others[:1] == ["help"]:
+        return f"seagrynt {command} --help writes the help of {command}"
     seen = set()
     for name, value in options:
         if name in SCRIPT_WORDS and (command == "run" or (command == "plan" and name == "--plan-only")):
@@ -237,6 +251,8 @@ def wrong_option(words, command):
     for word in others:
         if is_file(word):
             return from_a_file(words, word)
+    if command == "bench":
+        return "bench wants two numbers, N points, 1 to 500000, and M sweeps, 0 to 1000000, in decimal digits without leading zeros"
     return "these words are none that is offered"
 
 
@@ -250,7 +266,8 @@ def tell_words(line, data, words):
         say(f"{line}: setting {number} is wrong: {wrong_setting(words, number, program)}")
         return
     say(f"{line}: {wrong_word(words)}")
-    for place, it in enumerate(USAGE):
+    own = [it for it in USAGE if words and it.startswith(f"seagrynt {words[0]} ")]
+    for place, it in enumerate(own or USAGE):
         say(("usage: " if place == 0 else "       ") + it)
     say("README.md has the words and the statuses, docs/LANGUAGE.md the source language")
 
@@ -298,6 +315,15 @@ def round_trip(behind, number):
 # ---- warnings and the summary
 
 
+def no_way_back(data, output):
+    """What to say of a plan that is too long to be read behind its source."""
+    last = "\nEND PLAN\n"
+    count = len(data) + output.find(last) + len(last)
+    if count <= MOST_BYTES:
+        return None
+    return f"source and plan have {count} bytes together, of which {MOST_BYTES} are read at most: neither verify nor run --plan given takes this plan"
+
+
 def tell_done(command, data, output, words, asked):
     source = sources.Source(data)
     program = sources.Program(source, settings_of(words))
@@ -308,6 +334,9 @@ def tell_done(command, data, output, words, asked):
     plan = plans.read_plan(output)
     if not plans.place_in_source(plan, program):
         return
+    said = no_way_back(data, output)
+    if said:
+        say(f"warning: {said}")
     given = [it for it in parts_of(words)[1] if "=" in it]
     ask = advice.asker(asked, ["--workers", str(plan.workers), *given])
     for it in advice.plan_warnings(program, plan, ask):

@@ -115,10 +115,18 @@ class Model:
         summed = [it for it in names if self.plan.mark(loop) == "SUM" and all(advice.is_sum(it, use) for use in uses[it])]
         return own[: len(given)], summed
 
+    def owner(self, phase, values):
+        """The processor that owns what a phase does for these values."""
+        workers = self.plan.workers
+        found = phase.anchor.owner_at(self.counts, values, workers)
+        if not 0 <= found < workers:
+            raise Fault(f"phase {phase.number} has an owner {found}, and the processors are 0 to {workers - 1}: no such plan is accepted")
+        return found
+
     def instance(self, phase, action, values, own, summed):
         if action.guard and not self.holds(action, values):
             return
-        owner = phase.anchor.owner_at(self.counts, values, self.plan.workers)
+        owner = self.owner(phase, values)
         for _ in range(sum(self.loads(name, whole, {*own, *summed}) for name, whole in self.reads(action))):
             self.add(owner, Act("work", phase.number))
         if action.target in own or action.target in summed:
@@ -149,7 +157,7 @@ class Model:
         """Behind a phase with scalars of its own these come to the shared cells."""
         trips = self.counts.trips(phase.loop, values) if own else []
         if trips:
-            last = phase.anchor.owner_at(self.counts, {**values, phase.loop.number: trips[-1]}, self.plan.workers)
+            last = self.owner(phase, {**values, phase.loop.number: trips[-1]})
             for _ in own:
                 self.add(last, Act("work", phase.number))
         for processor, names in enumerate(self.touched):

@@ -18,18 +18,18 @@ chosen : {X : Type 0} (P : X → Type 0) (b : Bool) (x y : X) → (b ≡ true �
 chosen P true x y h e = subst P (ap (λ o. unwrap_or o x) e) (h refl)
 chosen P false x y h e = absurd (true≢false (sym (ap is_some e)))
 
-bound : {X Y : Type 0} (P : Y → Type 0) (f : X → Option Y) (o : Option X) (y : Y) → ((x : X) → o ≡ Some x → f x ≡ Some y → P y) → option_and_then f o ≡ Some y → P y
+pub bound : {X Y : Type 0} (P : Y → Type 0) (f : X → Option Y) (o : Option X) (y : Y) → ((x : X) → o ≡ Some x → f x ≡ Some y → P y) → option_and_then f o ≡ Some y → P y
 bound P f None y h e = absurd (true≢false (sym (ap is_some e)))
 bound P f (Some x) y h e = h x refl e
 
-absent : {X : Type 0} (P : X → Type 0) (x : X) → None ≡ Some x → P x
+pub absent : {X : Type 0} (P : X → Type 0) (x : X) → None ≡ Some x → P x
 absent P x e = absurd (true≢false (sym (ap is_some e)))
 
-mapped : {X Y : Type 0} (P : Y → Type 0) (f : X → Y) (o : Option X) (y : Y) → ((x : X) → o ≡ Some x → P (f x)) → option_map f o ≡ Some y → P y
+pub mapped : {X Y : Type 0} (P : Y → Type 0) (f : X → Y) (o : Option X) (y : Y) → ((x : X) → o ≡ Some x → P (f x)) → option_map f o ≡ Some y → P y
 mapped P f None y h e = absent P y e
 mapped P f (Some x) y h e = subst P (ap (λ o. unwrap_or o (f x)) e) (h x refl)
 
-abbrev IsCount : ℕ → Type 0
+abbrev pub IsCount : ℕ → Type 0
 IsCount n = (1 ≤ n) × (n ≤ 64)
 
 within_counts : (n m : ℕ) → within n ≡ Some m → IsCount m
@@ -45,7 +45,7 @@ workers_count (d ∷ []) m e = perhaps_within (is_digit d) (d - 48) m e
 workers_count (c ∷ d ∷ []) m e = perhaps_within (nat_le 49 c && (nat_le c 57 && is_digit d)) (10 * (c - 48) + (d - 48)) m e
 workers_count (c ∷ d ∷ x ∷ rest) m e = absent IsCount m e
 
-workers_counted : (rows : List Row) (n : ℕ) → option_and_then workers_of (first_of (codes "workers") rows) ≡ Some n → IsCount n
+pub workers_counted : (rows : List Row) (n : ℕ) → option_and_then workers_of (first_of (codes "workers") rows) ≡ Some n → IsCount n
 workers_counted rows n = bound IsCount workers_of (first_of (codes "workers") rows) n (λ t t_is. workers_count t n)
 
 run_counted : (rows : List Row) (w : Wanted) → run_of rows ≡ Some w → IsCounted w

@@ -2,4 +2,4 @@ pub mod Counted
 mod Numbers
 mod PlainSweeps
 mod PlainWords
-mod Sorts
+pub mod Sorts

@@ -25,7 +25,7 @@ use Rattle.command_words.specs.Rule.{tool_app}
 use Rattle.clap.specs.Words.{subcommand_of}
 use Rattle.clap.specs.declared.error.Error.{Error}
 use Rattle.command_words.specs.Refusals.{IsRefused, IsValueFault, is_memory, refusal_by}
-use Rattle.command_words.specs.Wanted.{is_shown, asks_to_show, has_bad_sweep, is_fine, wanted_by}
+use Rattle.command_words.specs.Wanted.{is_shown, has_bad_sweep, is_fine, wanted_by}
 use Rattle.command_words.specs.declared.request.Refused.{Refused}
 use Rattle.command_words.specs.declared.request.Refused.TheVariants as refused
 
@@ -199,15 +199,15 @@ level_sort s names h words has_subcommand below e p =
 entered_sort : (a : App) (stop : Option (Text × List Text)) → IsOneSort (entered_fault a stop)
 entered_sort a stop = perhaps _ stop (λ p. perhaps _ (find (λ s. answers_to p.0 (label_of s)) a.subs) (λ s. level_sort s [] nothing_held p.1 false [] tt none))
 
+abbrev stop_of : App → List Text → Option (Text × List Text)
+stop_of app words = (walk (built app).top.rules (names_of (built app)) nothing_held (argument_words app words)).stopped
+
+pub words_sort : (app : App) (words : List Text) → IsOff (built app).top (names_of (built app)) → IsOneSort (fault_of app words)
+words_sort app words off = level_sort (built app).top (names_of (built app)) nothing_held (argument_words app words) (is_some (entered (built app) (stop_of app words))) (entered_fault (built app) (stop_of app words)) off (entered_sort (built app) (stop_of app words))
+
 is_off : IsOff (built tool_app).top (names_of (built tool_app))
 unfolding clap_on_literals
 is_off = refl
-
-abbrev stop_of : List Text → Option (Text × List Text)
-stop_of words = (walk (built tool_app).top.rules (names_of (built tool_app)) nothing_held (argument_words tool_app words)).stopped
-
-words_sort : (words : List Text) → IsOneSort (fault_of tool_app words)
-words_sort words = level_sort (built tool_app).top (names_of (built tool_app)) nothing_held (argument_words tool_app words) (is_some (entered (built tool_app) (stop_of words))) (entered_fault (built tool_app) (stop_of words)) is_off (entered_sort (built tool_app) (stop_of words))
 
 -- ---- what a kind among these tells
 
@@ -221,15 +221,16 @@ among_all k [] m h = elim m [ ]
 among_all k (x ∷ xs) (inl e) h = ap is_shown e ∙ (and_parts (is_shown x) _ h).0
 among_all k (x ∷ xs) (inr m) h = among_all k xs m (and_parts (is_shown x) _ h).1
 
-shows : (k : ErrorKind) (words : List Text) → IsAmong k (fault_of tool_app words) → is_shown k ≡ true → asks_to_show words ≡ true
-shows k words m h = among_any k (fault_of tool_app words) m h
+-- a kind that is shown among faults of one sort, and one that isn't
+pub shows : (k : ErrorKind) (ks : Kinds) → IsAmong k ks → is_shown k ≡ true → list_any is_shown ks ≡ true
+shows k ks m h = among_any k ks m h
 
-shows_not : (k : ErrorKind) (words : List Text) → IsAmong k (fault_of tool_app words) → is_shown k ≡ false → asks_to_show words ≡ false
-shows_not k words m h = by_cases (asks_to_show words) refl
+pub shows_not : (k : ErrorKind) (ks : Kinds) → IsOneSort ks → IsAmong k ks → is_shown k ≡ false → list_any is_shown ks ≡ false
+shows_not k ks sort m h = by_cases (list_any is_shown ks) refl
   where
-    by_cases : (b : Bool) → asks_to_show words ≡ b → b ≡ false
+    by_cases : (b : Bool) → list_any is_shown ks ≡ b → b ≡ false
     by_cases false e = refl
-    by_cases true e = absurd (true≢false (sym (among_all k (fault_of tool_app words) m ((words_sort words).all e)) ∙ h))
+    by_cases true e = absurd (true≢false (sym (among_all k ks m (sort.all e)) ∙ h))
 
 -- ---- refusals
 
@@ -245,11 +246,11 @@ refused_by_kind words k error h = by_cases (is_memory k) (is_shown k) refl refl
     by_cases true b p q = tt
     by_cases false true p q = elim h [
       | inl i ↦ absurd (true≢false (sym (ap is_memory i) ∙ p))
-      | inr m ↦ shows k words m q
+      | inr m ↦ shows k (fault_of tool_app words) m q
     ]
     by_cases false false p q = elim h [
       | inl i ↦ absurd (true≢false (sym (ap is_memory i) ∙ p))
-      | inr m ↦ ((shows_not k words m q, inl (λ empty. subst (IsAmong k) empty m)), ap (λ b. b && has_bad_sweep (subcommand_of tool_app words)) (unfine k (fault_of tool_app words) m))
+      | inr m ↦ ((shows_not k (fault_of tool_app words) (words_sort tool_app words is_off) m q, inl (λ empty. subst (IsAmong k) empty m)), ap (λ b. b && has_bad_sweep (subcommand_of tool_app words)) (unfine k (fault_of tool_app words) m))
     ]
 
 pub refused_by_value : (words : List Text) (sub : Option (Text × List Row)) (r : Refused) → fault_of tool_app words ≡ [] → subcommand_of tool_app words ≡ sub → IsValueFault sub r → IsRefused words r

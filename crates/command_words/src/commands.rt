@@ -1,4 +1,4 @@
-// The commands that are offered, with what their help says.
+// The commands that are offered, with what their help says, and the arguments of which they are made.
 
 ghost use Rattle.std.specs.Prelude.{◌≡◌, [], IfOk, codes, false};
 ghost use Rattle.clap.specs.Words.{app_of, rule_of};
@@ -8,7 +8,8 @@ ghost use Rattle.command_words.specs.Rule.{option_rule, top_shape, required_rule
 use clap::{Arg, Command};
 use std::alloc::{AllocError, Global};
 
-fn settings<'a>(alloc: Global) -> Arg<'a>
+/// Settings behind the options, NAME=VALUE.
+pub fn settings<'a>(alloc: Global) -> Arg<'a>
     ensures rule { rule_of result ≡ settings_rule }
     ensures local { result.global ≡ false }
 {
@@ -18,8 +19,8 @@ fn settings<'a>(alloc: Global) -> Arg<'a>
         .help("Values for named constants (PARAMETER): whole numbers of 64 bits")
 }
 
-// An option with one value.
-fn option<'a>(alloc: Global, name: &'a str, value: &'a str, help: &'a str) -> Arg<'a>
+/// An option with one value.
+pub fn option<'a>(alloc: Global, name: &'a str, value: &'a str, help: &'a str) -> Arg<'a>
     ensures rule { rule_of result ≡ option_rule name.entry.now }
     ensures local { result.global ≡ false }
 {
@@ -55,7 +56,8 @@ fn verify<'a>(alloc: Global) -> Result<Command<'a>, AllocError>
     ))
 }
 
-fn workers<'a>(alloc: Global) -> Arg<'a>
+/// The option `--workers P`, which must stand.
+pub fn workers<'a>(alloc: Global) -> Arg<'a>
     ensures rule { rule_of result ≡ required_rule (codes "workers") }
     ensures local { result.global ≡ false }
 {
@@ -127,8 +129,8 @@ fn bench<'a>(alloc: Global) -> Result<Command<'a>, AllocError>
     ))
 }
 
-// The command without its subcommands.
-fn top<'a>(alloc: Global) -> Result<Command<'a>, AllocError>
+/// The command without its subcommands. The error is that memory ran out.
+pub fn top<'a>(alloc: Global) -> Result<Command<'a>, AllocError>
     ensures { IfOk result (λ c. app_of c ≡ record { top = top_shape; subs = [] }) }
 {
     let named = Command::new(alloc, "seagrynt").bin_name("seagrynt")?;

@@ -3,11 +3,14 @@
 //! `read_words` gives the request that the words stand for: which command, how many processors,
 //! by which plan, run by what, and the settings as they are written. Words that ask for help or for
 //! the version are told apart from words that are no command.
+//!
+//! - [`commands`] and [`read`]: the parts of commands and of their reading that other programs of the
+//!   repository share.
 #![tactic(auto)]
 
-mod commands;
+pub mod commands;
 pub mod laws;
-mod read;
+pub mod read;
 mod request;
 mod settings;
 mod sweep;

@@ -41,8 +41,8 @@ pub fn read_words<'a>(alloc: Global, words: &'a [&'a str]) -> Result<Request<'a>
     }
 }
 
-// What an error of `clap` is here.
-fn refusal(error: Error) -> Refused
+/// What an error of `clap` is here.
+pub fn refusal(error: Error) -> Refused
     ensures { result ≡ refusal_of error }
 {
     match error.kind() {
@@ -155,15 +155,15 @@ fn sizes_in(words: &[&str]) -> Option<(u32, u32)>
     }
 }
 
-// The first value of an argument.
-fn text<'a>(inner: &ArgMatches<'a>, id: &str) -> Option<&'a str>
+/// The first value of an argument.
+pub fn text<'a>(inner: &ArgMatches<'a>, id: &str) -> Option<&'a str>
     ensures { option_map (λ s. s.now) result ≡ first_of id.now (rows_of (found_of inner.now)) }
 {
     inner.get_str(id)
 }
 
-// The words behind the options.
-fn rest<'a>(alloc: Global, inner: &ArgMatches<'a>, id: &str) -> Result<Vec<&'a str>, AllocError>
+/// The words behind the options, by the argument's name. The error is that memory ran out.
+pub fn rest<'a>(alloc: Global, inner: &ArgMatches<'a>, id: &str) -> Result<Vec<&'a str>, AllocError>
     ensures { IfOk result (λ v. texts v.items ≡ rest_of id.now (rows_of (found_of inner.now))) }
 {
     match inner.get_raw(id) {
@@ -172,13 +172,15 @@ fn rest<'a>(alloc: Global, inner: &ArgMatches<'a>, id: &str) -> Result<Vec<&'a s
     }
 }
 
-fn says(word: &str, text: &str) -> bool
+/// Whether a word is this text.
+pub fn says(word: &str, text: &str) -> bool
     ensures { result ≡ bytes_eq word.now text.now }
 {
     word == text
 }
 
-fn workers_in(word: &str) -> Option<u32>
+/// A number of workers: 1 to 64, in decimal digits without leading zeros.
+pub fn workers_in(word: &str) -> Option<u32>
     ensures { result ≡ workers_of word.now }
 {
     match word.as_bytes() {
@@ -196,7 +198,8 @@ fn within(n: u32) -> Option<u32>
     if 1 <= n && n <= 64 { Some(n) } else { None }
 }
 
-fn plan_in(word: Option<&str>) -> Option<PlanChoice>
+/// The plan that a word names: the one that is made, where there is no word.
+pub fn plan_in(word: Option<&str>) -> Option<PlanChoice>
     ensures { result ≡ choice_of (option_map (λ s. s.now) word.entry) }
 {
     match word {
