@@ -151,9 +151,12 @@ fn workers_run_beside_one_another(rt: HostRuntime) -> Result<(), Fail> {
     Ok(())
 }
 
-// Two loops of which neither needs the other, and a plan without a wait between them.
+// Two loops of which neither needs the other, and a plan without a wait in front of them.
 fn two_loops(alloc: Global) -> Result<Vec<u8>, Fail> {
     let text = MIRROR.replacen(alloc, b"A(7-I)", b"I", 1)?;
+    let text = text
+        .as_slice()
+        .replacen(alloc, b"1 BARRIER", b"1 NOTHING", 1)?;
     Ok(
         text.as_slice()
             .replacen(alloc, b"2 BARRIER", b"2 NOTHING", 1)?,
