@@ -11,7 +11,7 @@ ghost use Rattle.sync_plan.specs.Ordered.{IsOrdered};
 ghost use Rattle.spmd_model.specs.declared.style.Style.TheVariants.{Arrive};
 ghost use Rattle.crossbeam_utils.specs.Padded.{padded_value};
 ghost use Rattle.styled_table.specs.Calls.{AreAllEnded, main_seat};
-ghost use Rattle.styled_table.specs.Ends.{IsLast};
+ghost use Rattle.styled_table.specs.Ends.{HasEnded, IsLast};
 ghost use Rattle.styled_table.specs.Homes.{IsSameTable, protocol_at};
 ghost use Rattle.styled_run.specs.Teams.{AreInside, AreOut, AreOver, AreSeatedIn, AreWorkersOf, HasTold, IsGoing, WentAll, WentOn};
 ghost use Rattle.styled_run.specs.Workers.{IsInside};
@@ -46,6 +46,7 @@ pub fn run_spmd<R: Threads + Sync, G: Gate + Sync>(
     requires fits { IsFit (tree_of program.now) plan.now }
     requires ordered { IsOrdered (tree_of program.now) plan.now }
     ensures given { IfOk result (λ r. r.0.given ≡ Some (program.now, (plan.now, Arrive))) }
+    ensures ended { IfOk result (λ r. HasEnded r.0) }
     ensures last { IfOk result (λ r. IsLast r.0) }
     ensures output { IfOk result (λ r. r.1.bytes ≡ output_of (tree_of program.now)) }
 {
@@ -71,6 +72,7 @@ pub fn run_spmd_with<R: Threads + Sync, G: Gate + Sync>(
     requires fits { IsFit (tree_of program.now) plan.now }
     requires ordered { IsOrdered (tree_of program.now) plan.now }
     ensures given { IfOk result (λ r. r.0.given ≡ Some (program.now, (plan.now, style))) }
+    ensures ended { IfOk result (λ r. HasEnded r.0) }
     ensures last { IfOk result (λ r. IsLast r.0) }
     ensures output { IfOk result (λ r. r.1.bytes ≡ output_of (tree_of program.now)) }
 {

@@ -10,7 +10,6 @@ use Rattle.atomic_table.specs.Table.{Me, step, keeps, Allows}
 use Rattle.atomic_table.proofs.Lists.{at_set}
 use Rattle.spmd_model.specs.Cells.{plus}
 use Rattle.spmd_model.specs.Free.{IsInVain}
-use Rattle.spmd_model.specs.Lawful.{Moves}
 use Rattle.spmd_model.specs.Timelines.{Word, counter, post, await, load, store, add}
 use Rattle.spmd_laws.specs.Protocols.{Protocol, act_at, arrivals_at, is_arrival}
 use Rattle.spmd_laws.specs.Laws.{Laws}
@@ -25,7 +24,7 @@ use Rattle.cell_table.specs.Seats.{AreOne}
 use Rattle.cell_table.specs.Steps.{ComesTo, GoesOn}
 use Rattle.cell_table.specs.Vain.{AreReached}
 use Rattle.styled_table.specs.Homes.{Subject, known_in, protocol_given, protocol_in, processor_of, position_of, role_in}
-use Rattle.styled_table.specs.Rule.{Shown, IsAtHome, IsVainAt, VainWhere, AreAtHome, subject_of, table_protocol, roles_in, with_role, goes_to, wanted_by, polls_to, rows_to, loads, goes, polls, rows}
+use Rattle.styled_table.specs.Rule.{Shown, IsAtHome, VainWhere, AreAtHome, subject_of, table_protocol, roles_in, with_role, goes_to, wanted_by, polls_to, rows_to, loads, goes, polls, rows}
 use Rattle.cell_table.proofs.WordSteps.{map-set}
 use Rattle.cell_table.proofs.Steps.{load_step, store_step, add_step, post_step, poll_step, miss_step, arrive_step, row_step}
 use Rattle.cell_table.proofs.Vain.{in_vain, row_in_vain}

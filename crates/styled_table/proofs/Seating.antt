@@ -206,5 +206,5 @@ module _ {S : Type 0} (k : Given) where
 
   -- so is the memory that is read from the first of them
   pub last_words : (words : List ℕ) (slots : List S) (id : ℕ) (v u : View) (stages : List Stage) (memory : List ℤ) (n : ℕ) → role_in v ≡ Main stages → u ≡ with_role v Over → Laws (protocol_in v) → Final (Seen (Shown k) id u) words slots
-      → memory ≡ map word_value (take n words) → n ≡ (protocol_in v).cells → IsLast (record { given = given_in v; memory = memory })
+      → memory ≡ map word_value (take n words) → n ≡ (protocol_in v).cells → IsLast (record { given = given_in v; stages = stages; memory = memory })
   last_words words slots id v u stages memory n main is laws final read count = read ∙ ap (λ n. map word_value (take n words)) count ∙ over_words words slots id v u stages main is laws final

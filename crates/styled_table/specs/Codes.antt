@@ -25,4 +25,5 @@ abbrev pub main_view_code : Coded MainView
 main_view_code = code_by (Home × List Stage) (coded× home_code (coded_list stages.the_row.coded)) (λ v. (v.home, v.stages)) (λ x. record { home = x.0; stages = x.1 }) (λ _. refl)
 
 abbrev pub end_code : Coded End
-end_code = code_by (Option Subject × List ℤ) (coded× given_code (coded_list coded_ℤ)) (λ e. (e.given, e.memory)) (λ x. record { given = x.0; memory = x.1 }) (λ _. refl)
+end_code =
+    code_by (Option Subject × (List Stage × List ℤ)) (coded× given_code (coded× (coded_list stages.the_row.coded) (coded_list coded_ℤ))) (λ e. (e.given, (e.stages, e.memory))) (λ x. record { given = x.0; stages = x.1.0; memory = x.1.1 }) (λ _. refl)

@@ -1,10 +1,18 @@
 -- What contracts see of a table that is closed.
-use Rattle.std.specs.Prelude.{◌≡◌, ℤ, List, Option}
-use Rattle.styled_table.specs.Homes.{Subject, protocol_given}
+use Rattle.std.specs.Prelude.{ℕ, ℤ, ◌≡◌, ◌<◌, List, Option, Some, slice_get}
+use Rattle.cell_table.specs.declared.view.Stage.{Stage}
+use Rattle.cell_table.specs.declared.view.Stage.TheVariants.{Ended}
+use Rattle.styled_table.specs.Homes.{Subject, plan_given, protocol_given}
 
+-- for which program, plan and style it was made, how far the main seat had come with each processor's seat when it was closed, and what the cells held then
 pub record End : Type 0 where
   pub given : Option Subject
+  pub stages : List Stage
   pub memory : List ℤ
+
+-- the seats of all the plan's processors had been taken in, all their acts done
+abbrev pub HasEnded : End → Type 0
+HasEnded e = (p : ℕ) → p < (plan_given e.given).workers → slice_get e.stages p ≡ Some Ended
 
 -- its memory is the sequential program's last one
 abbrev pub IsLast : End → Type 0

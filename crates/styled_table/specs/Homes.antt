@@ -1,5 +1,5 @@
 -- What contracts see of a table and of its seats.
-use Rattle.std.specs.Prelude.{ℕ, ℤ, ◌+◌, ◌*◌, ◌≡◌, ◌<◌, List, [], Option, Some, None, slice_index, slice_set}
+use Rattle.std.specs.Prelude.{ℕ, ℤ, ◌+◌, ◌*◌, ◌≡◌, ◌<◌, List, [], Option, Some, None, slice_set}
 use Rattle.atomic_table.specs.Seated.{TableId}
 use Rattle.nest_tree.specs.declared.tree.Program.{Program}
 use Rattle.nest_tree.specs.Tree.{Tree, done}

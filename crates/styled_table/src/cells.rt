@@ -9,7 +9,7 @@ ghost use Rattle.sync_plan.specs.Fit.{IsFit};
 ghost use Rattle.sync_plan.specs.Ordered.{IsOrdered};
 ghost use Rattle.spmd_laws.specs.Laws.{Laws};
 ghost use Rattle.styled_table.specs.Calls.{AddsNext, AreAllEnded, ArrivesNext, AwaitsNext, AwaitsSignalNext, GathersNext, IsInMemory, LoadsNext, PollTells, PostsNext, IsEndedSeat, SignalsNext, StoresNext, all_arrivals, arrivals_up_to, first_seat, main_seat, with_stage};
-ghost use Rattle.styled_table.specs.Ends.{IsLast};
+ghost use Rattle.styled_table.specs.Ends.{HasEnded, IsLast};
 ghost use Rattle.spmd_model.specs.Timelines.{counter, signal};
 ghost use Rattle.spmd_model.specs.declared.style.Style.TheVariants.{Arrive};
 ghost use Rattle.styled_table.specs.Homes.{IsSameTable, at_place, gone, loaded_next, main_in, plan_given, protocol_at, seat_in, stored_next, style_given, through, tree_given};
@@ -219,6 +219,7 @@ impl<'a> Cells<'a> {
         requires own { main.home ≡ self }
         requires ended { AreAllEnded main }
         ensures given { IfOk result (λ c. c.given ≡ self.entry.given) }
+        ensures ended { IfOk result (λ c. HasEnded c) }
         ensures last { IfOk result (λ c. IsLast c) }
         ensures refused { IfErr result (λ r. (r.cells ≡ self.entry) × (r.seat ≡ main)) }
     {

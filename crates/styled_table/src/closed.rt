@@ -2,7 +2,7 @@
 
 ghost use Rattle.std.specs.Prelude.{◌≡◌, ◌≤◌, map, take, vec_len};
 ghost use Rattle.std.specs.Mem.Slots.{IsFull, slots_items, slots_len};
-ghost use Rattle.styled_table.specs.Ends.{IsLast};
+ghost use Rattle.styled_table.specs.Ends.{HasEnded, IsLast};
 ghost use Rattle.styled_table.specs.Homes.{plan_given};
 ghost use Rattle.cell_table.specs.Words.{word_value};
 
@@ -11,8 +11,8 @@ use atomic_table::Closed as Words;
 use std::alloc::Global;
 use std::marker::Model;
 
-/// What a table leaves: its program, its plan and its style, and the sequential program's last memory. None is
-/// made but where all processors have done all their acts.
+/// What a table leaves: its program, its plan and its style, that the seats of all processors were
+/// taken in at their ends, and the sequential program's last memory.
 #[derive(Drop)]
 pub struct Closed {
     pub(crate) seat: MainSeat,
@@ -22,7 +22,7 @@ pub struct Closed {
 
 impl Model for Closed {
     ghost use Rattle.std.specs.Prelude.{◌≡◌};
-    ghost use Rattle.styled_table.specs.Ends.{End, IsLast};
+    ghost use Rattle.styled_table.specs.Ends.{End, HasEnded, IsLast};
     ghost use Rattle.styled_table.specs.Homes.{plan_given};
     ghost use Rattle.styled_table.specs.Codes.{end_code};
 
@@ -30,9 +30,11 @@ impl Model for Closed {
 
     ghost coded = { end_code };
 
-    ghost view = { λ c. record { given = c.seat.home.given; memory = c.memory.items } };
+    ghost view = { λ c. record { given = c.seat.home.given; stages = c.seat.stages; memory = c.memory.items } };
 
-    ghost invariant = { λ c. (c.workers ≡ (plan_given c.seat.home.given).workers) × IsLast (record { given = c.seat.home.given; memory = c.memory.items }) };
+    ghost invariant = { λ c. (c.workers ≡ (plan_given c.seat.home.given).workers) ×
+        HasEnded (record { given = c.seat.home.given; stages = c.seat.stages; memory = c.memory.items }) ×
+        IsLast (record { given = c.seat.home.given; stages = c.seat.stages; memory = c.memory.items }) };
 }
 
 /// That a program was run under a plan in a style, its acts on shared words done to their end.
@@ -56,12 +58,13 @@ impl Closed {
     /// The last memory, by cells.
     pub fn memory(&self) -> &[i64]
         ensures memory { result.now ≡ self.now.memory }
+        ensures ended { HasEnded self.now }
         ensures last { IsLast self.now }
     {
         self.memory.as_slice()
     }
 
-    /// The receipt of this program, plan, style and memory.
+    /// The receipt of this program, plan, style and memory, and of these ends.
     pub fn into_receipt(self) -> Receipt
         ensures { result ≡ self }
     {
@@ -80,6 +83,7 @@ impl Receipt {
     /// The last memory, by cells.
     pub fn memory(&self) -> &[i64]
         ensures memory { result.now ≡ self.now.memory }
+        ensures ended { HasEnded self.now }
         ensures last { IsLast self.now }
     {
         self.closed.memory()

@@ -1,4 +1,4 @@
-use Rattle.std.proofs.Common.{◌≡◌, ◌++◌, ◌<◌, List, drop, length, sym, take, ◌∙◌, ap, subst}
+use Rattle.std.proofs.Common.{◌<◌, List, sym, ◌∙◌, ap, subst}
 use Rattle.crossbeam_utils.specs.declared.cache_padded.CachePadded.{CachePadded}
 use Rattle.fork_join.proofs.Running.{written_whole}
 use Rattle.cell_table.specs.Rounds.{LeaveLess}

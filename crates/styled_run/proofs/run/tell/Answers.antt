@@ -1,7 +1,6 @@
-use Rattle.std.proofs.Common.{refl, sym, ◌∙◌, ap, subst, arith}
-use Rattle.crossbeam_utils.specs.declared.cache_padded.CachePadded.{CachePadded}
+use Rattle.std.proofs.Common.{refl, ◌∙◌, ap, arith}
 use Rattle.crossbeam_utils.specs.Padded.{padded_value, padded_with_value}
-use Rattle.styled_table.specs.Homes.{MainView, at_place, main_in}
+use Rattle.styled_table.specs.Homes.{at_place, main_in}
 use Rattle.styled_run.specs.Workers.{WorkerView, worker_in}
 use Rattle.styled_run.proofs.Telling.{told_more, told_none}
 use Rattle.styled_run.proofs.run.tell.Goals as goal

@@ -1,6 +1,5 @@
 use Rattle.std.proofs.Common.{sym, ◌∙◌, ap, subst}
-use Rattle.styled_table.specs.Homes.{CellView, Home, MainView}
-use Rattle.styled_run.specs.Held.{AreHeld}
+use Rattle.styled_table.specs.Homes.{CellView, MainView}
 use Rattle.styled_run.specs.Walks.{IsReady}
 use Rattle.styled_run.specs.Workers.{WorkerView}
 use Rattle.styled_run.proofs.Legs.{is_over, noted_held, noted_ready, ready_inside}

@@ -1,13 +1,18 @@
-use Rattle.std.proofs.Common.{rules, List, map, take, vec_len, ◌≡◌, ℕ, ◌<◌, sym, ◌∙◌, ap, subst, arith}
-use Rattle.std.specs.Mem.Slots.{slots_items}
+use Rattle.std.proofs.Common.{rules, List, [], vec_len, ◌≡◌, ℕ, ℤ, ◌<◌, sym, ◌∙◌, ap, subst, arith}
 use Rattle.std.specs.Prelude.{slice_get}
 use Rattle.styled_table.specs.declared.view.View.{View}
+use Rattle.atomic_table.specs.Seated.{TableId}
 use Rattle.spmd_laws.specs.Laws.{Laws}
-use Rattle.styled_table.specs.Ends.{IsLast}
-use Rattle.cell_table.specs.Words.{word_value}
-use Rattle.styled_table.specs.Homes.{Home, MainView, protocol_at, protocol_in, given_in, plan_given, role_in, stages_of}
+use Rattle.spmd_laws.specs.Protocols.{Protocol}
+use Rattle.styled_table.specs.Calls.{AreAllEnded}
+use Rattle.styled_table.specs.Ends.{HasEnded, IsLast}
+use Rattle.styled_table.specs.Homes.{Home, MainView, main_view, protocol_at, given_in, plan_given, role_in, stages_of}
 use Rattle.styled_table.proofs.Seating.{over_allowed, last_words}
 use Rattle.styled_table.proofs.cells.Cells.close.Goals as goal
+
+-- what contracts see of the main seat says so of its own view
+all_ended : (table : TableId) (v : View) (now : MainView) (memory : List ℤ) → main_view table v ≡ now → AreAllEnded now → HasEnded (record { given = given_in v; stages = stages_of (role_in v); memory = memory })
+all_ended table v now memory is ended = λ p lt. ap (λ (x : MainView). slice_get x.stages p) is ∙ ended p (subst (λ (m : Protocol). p < m.workers) (ap protocol_at (ap (λ (x : MainView). x.home) is)) lt)
 
 pub split_seat-over-requires : goal.split_seat-over-requires
 split_seat-over-requires c =
@@ -16,7 +21,7 @@ split_seat-over-requires c =
       ap (λ (h : Home). h.table) own,
       omega (arith, wide),
       over_allowed c.self.inside.table.shared.key s.seat.id v (stages_of (role_in v)) c.main.invariant.0
-          (λ p lt. ap (λ (x : MainView). slice_get x.stages p) c.main.view_is ∙ c.requires.ended p (subst (λ m. p < m.workers) (ap protocol_at (ap (λ (x : MainView). x.home) c.main.view_is)) lt)),
+          (all_ended _ v _ [] c.main.view_is c.requires.ended),
     )
 
 pub free-requires : goal.free-requires
@@ -31,8 +36,15 @@ invariant_of-result-2 c =
     let last = last_words c.self.inside.table.shared.key _ _ _ v _ (stages_of (role_in v)) c.read_words.new.into.items _ c.main.invariant.0 (ap (λ (x : View × List (ℕ × ℕ)). x.0) c.split_seat-over.ensures.4) (subst Laws (ap protocol_at (sym own)) c.self.invariant.laws) c.close_with-words.ensures.values.2
     c.read_words.ensures (count ∙ c.self.invariant.cells ∙ ap (λ (h : Home). (protocol_at h).cells) (sym own)) in (
       ap (λ (h : Home). (plan_given h.given).workers) (sym own) ∙ ap (λ (x : View). (plan_given (given_in x)).workers) (sym same),
-      subst (λ (x : View). IsLast (record { given = given_in x; memory = c.read_words.new.into.items })) (sym same) last,
+      subst (λ (x : View). HasEnded (record { given = given_in x; stages = stages_of (role_in x); memory = c.read_words.new.into.items })) (sym same) (all_ended _ v _ c.read_words.new.into.items c.main.view_is c.requires.ended),
+      subst (λ (x : View). IsLast (record { given = given_in x; stages = stages_of (role_in x); memory = c.read_words.new.into.items })) (sym same) last,
     )
+
+pub returns-clause-ended : goal.returns-clause-ended
+returns-clause-ended c =
+    let v = c.main.inside.seat.me.0 in
+    let same = ap (λ (x : View × List (ℕ × ℕ)). x.0) c.split_seat-over.ensures.2 in
+    subst (λ (x : View). HasEnded (record { given = given_in x; stages = stages_of (role_in x); memory = c.read_words.new.into.items })) (sym same) (all_ended _ v _ c.read_words.new.into.items c.main.view_is c.requires.ended)
 
 pub returns-clause-last : goal.returns-clause-last
 returns-clause-last c =
@@ -42,4 +54,4 @@ returns-clause-last c =
     let count : vec_len c.in-Ok.memory ≡ c.self.inside.cells = search rules in
     let last = last_words c.self.inside.table.shared.key _ _ _ v _ (stages_of (role_in v)) c.read_words.new.into.items _ c.main.invariant.0 (ap (λ (x : View × List (ℕ × ℕ)). x.0) c.split_seat-over.ensures.4) (subst Laws (ap protocol_at (sym own)) c.self.invariant.laws) c.close_with-words.ensures.values.2
     c.read_words.ensures (count ∙ c.self.invariant.cells ∙ ap (λ (h : Home). (protocol_at h).cells) (sym own)) in
-    subst (λ (x : View). IsLast (record { given = given_in x; memory = c.read_words.new.into.items })) (sym same) last
+    subst (λ (x : View). IsLast (record { given = given_in x; stages = stages_of (role_in x); memory = c.read_words.new.into.items })) (sym same) last

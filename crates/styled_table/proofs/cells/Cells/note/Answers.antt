@@ -1,8 +1,7 @@
-use Rattle.std.proofs.Common.{List, ℕ, sym, ◌∙◌, ap, subst, arith}
+use Rattle.std.proofs.Common.{List, ℕ, sym, ◌∙◌, ap, arith}
 use Rattle.styled_table.specs.declared.view.View.{View}
-use Rattle.styled_table.specs.Homes.{CellView, Home, IsSeatOf, MainView, role_in}
-use Rattle.styled_table.proofs.Seating.{learn_allowed, learnt_role, tell_allowed, told_role}
-use Rattle.styled_table.proofs.Calls.{learnt_seat}
+use Rattle.styled_table.specs.Homes.{CellView, Home, MainView, role_in}
+use Rattle.styled_table.proofs.Seating.{learn_allowed, tell_allowed, told_role}
 use Rattle.styled_table.proofs.cells.Cells.note.Goals as goal
 
 pub split_seat-news-requires : goal.split_seat-news-requires
