@@ -47,6 +47,7 @@ impl Receipt {
         ensures style { result.style ≡ style_in machine.entry }
         ensures memory { result.memory ≡ take (shared_in machine.entry) (shown machine.entry).memory }
         ensures last { IsOrdered (tree_in machine.entry) (plan_in machine.entry) → result.memory ≡ last_memory (tree_in machine.entry) }
+        ensures run { HasRun result }
     {
         let Machine {
             program,

@@ -29,6 +29,9 @@ has_run m program plan ready ended p q =
 pub invariant_of-result : goal.invariant_of-result
 invariant_of-result c = has_run c.args.machine c.of-program.result.value c.of-plan.result.value c.requires.ready c.requires.ended c.of-program.ensures c.of-plan.ensures
 
+pub returns-clause-run : goal.returns-clause-run
+returns-clause-run c = has_run c.args.machine c.of-program.result.value c.of-plan.result.value c.requires.ready c.requires.ended c.of-program.ensures c.of-plan.ensures
+
 pub returns-clause-program : goal.returns-clause-program
 returns-clause-program c = ap tree_of c.of-program.ensures
 
