@@ -1,5 +1,5 @@
 -- Why words are refused, by a kind of fault and by a value.
-use Rattle.std.proofs.Common.{◌≡◌, ◌∙◌, Bool, true, false, refl, sym, ap, subst, List, [], Option, Some, None, true≢false, inl, inr, ◌≤◌}
+use Rattle.std.proofs.Common.{◌≡◌, ◌∙◌, Bool, true, false, refl, sym, ap, subst, List, [], Option, true≢false, inl, inr}
 use Rattle.std.specs.Prelude.{◌⊎◌, if◌then◌else◌}
 use Rattle.std.specs.List.{list_any}
 use Rattle.clap.specs.Words.{IsAmong, Row, Text, built, fault_of, subcommand_of}

@@ -6,7 +6,7 @@ use Rattle.plan_words.proofs.commands.emit.Goals as goal
 pub returns-clause-app : goal.returns-clause-app
 returns-clause-app c =
     let one = c.in_ok-arg.ensures.shape c.workers.ensures.local ∙ ap₂ with_rule c.new.ensures.app c.workers.ensures.rule in
-    let two = c.in_ok-arg-2.ensures.shape c.option-plan.ensures.local ∙ ap₂ with_rule one c.option-plan.ensures.rule in
+    let two = c.in_ok-arg-2.ensures.shape c.plan.ensures.local ∙ ap₂ with_rule one c.plan.ensures.rule in
     ap app_of_fields c.about.ensures ∙ (c.in_ok-command.ensures.shape c.settings.ensures.local ∙ ap₂ with_rule two c.settings.ensures.rule)
 
 pub returns-clause-local : goal.returns-clause-local
