@@ -1,10 +1,11 @@
--- The plan by which a program is emitted, and why there is none.
+-- The plan of a program that is asked for, and why there is none.
 use Rattle.std.specs.Prelude.{ℕ, ℤ, ◌≡◌, ◌≢◌, ◌==◌, ⊤, Bool, true, false, List, Option, Some, if◌then◌else◌}
 use Rattle.command_words.specs.declared.request.PlanChoice.{PlanChoice}
 use Rattle.command_words.specs.declared.request.PlanChoice.TheVariants.{Barrier, Given, Made}
 use Rattle.f77_scene.specs.Scene.{Name}
 use Rattle.nest_model.specs.Ranges.{IsInRange}
 use Rattle.nest_tree.specs.Tree.{Tree}
+use Rattle.sync_plan.specs.Fit.{IsFit}
 use Rattle.sync_plan.specs.declared.plan.Plan.{Plan}
 use Rattle.plan_checker.specs.Accepted.{IsAccepted}
 use Rattle.plan_checker.specs.Failures.{first_failure}
@@ -13,11 +14,10 @@ use Rattle.plan_checker.specs.declared.refusal.PlanRefusal.TheVariants.{Shape}
 use Rattle.plan_maker.specs.Made.{IsBarrierPlan, IsMade}
 use Rattle.plan_maker.specs.declared.reasons.Reasons.{Reasons}
 use Rattle.plan_text.specs.Refused.{RefusesText}
-use Rattle.plan_text.specs.declared.syntax.PlanSyntax.{PlanSyntax}
 use Rattle.plan_text.specs.declared.syntax.PlanSyntax.TheVariants as syntaxes
 use Rattle.plan_input.specs.Sources.{HasProgramWith, behind_end}
 use Rattle.plan_input.specs.Stops as sources
-use Rattle.plan_input.specs.Stops.{IsTextOf}
+use Rattle.plan_input.specs.Stops.{IsPlanStop, IsTextOf}
 use Rattle.plan_input.specs.declared.stop.Stop.{Stop}
 use Rattle.plan_input.specs.declared.stop.Stop.TheVariants.{Misfit, NoMemory, Syntax}
 
@@ -33,7 +33,7 @@ pub record IsTaken (workers : ℕ) (tree : Tree) (bytes : List ℕ) (plan : Plan
   pub workers_are : plan.workers ≡ workers
   pub accepted : IsAccepted tree plan
 
--- The plan by which a program is emitted, for so many workers: one that is made, for some reasons; one with its cut, its anchors and barriers; or the one whose text these bytes, those behind END, are.
+-- The plan that is asked for, for so many workers: one that is made, for some reasons; one with its cut, its anchors and barriers; or the one whose text these bytes, those behind END, are.
 abbrev pub IsPlanFor : PlanChoice → ℕ → Tree → List ℕ → Plan → Type 0
 IsPlanFor Made workers tree bytes plan = (reasons : Reasons) × IsMade tree workers plan reasons
 IsPlanFor Barrier workers tree bytes plan = IsBarrierPlan tree workers plan
@@ -63,7 +63,19 @@ IsPlanStopFor Made workers tree bytes stop = stop ≡ NoMemory
 IsPlanStopFor Barrier workers tree bytes stop = stop ≡ NoMemory
 IsPlanStopFor Given workers tree bytes stop = IsRefused workers tree bytes stop
 
--- Nothing is emitted: for the source, or else for the plan.
+-- There is no plan that is asked for: for the source, or else for the plan.
 pub data IsStop (workers : ℕ) (choice : PlanChoice) (bytes : List ℕ) (settings : List (Name × ℤ)) (stop : Stop) : Type 0 where
   source : (is : sources.IsStop (stands_alone choice) bytes settings stop) → IsStop workers choice bytes settings stop
   plan : (tree : Tree) (clear : sources.IsClear (stands_alone choice) bytes) (has : HasProgramWith settings bytes tree) (inside : IsInRange tree) (is : IsPlanStopFor choice workers tree (behind_end bytes) stop) → IsStop workers choice bytes settings stop
+
+-- The bytes begin with a source whose program is this one, all of whose subscripts are in range, and what stands behind END is the text of this plan, which fits the program.
+pub record IsBehind (bytes : List ℕ) (settings : List (Name × ℤ)) (tree : Tree) (plan : Plan) : Type 0 where
+  pub source : HasProgramWith settings bytes tree
+  pub inside : IsInRange tree
+  pub text : IsTextOf plan (behind_end bytes)
+  pub fits : IsFit tree plan
+
+-- There is no such plan: for the source, or else for what stands behind it.
+pub data IsStopBehind (bytes : List ℕ) (settings : List (Name × ℤ)) (stop : Stop) : Type 0 where
+  source : (is : sources.IsStop false bytes settings stop) → IsStopBehind bytes settings stop
+  plan : (tree : Tree) (has : HasProgramWith settings bytes tree) (inside : IsInRange tree) (is : IsPlanStop tree (behind_end bytes) stop) → IsStopBehind bytes settings stop

@@ -6,14 +6,15 @@ ghost use Rattle.nest_tree.specs.Limits.{IsWithinLimits};
 ghost use Rattle.nest_tree.specs.View.{tree_of};
 ghost use Rattle.nest_tree.specs.WellFormed.{IsWellFormed};
 ghost use Rattle.plan_text.specs.PlanText.{HasCounts};
-ghost use Rattle.asked_plan.specs.Plans.{IsPlanFor, IsPlanned, IsPlanStopFor, IsRefused, IsStop, IsTaken, stands_alone};
+ghost use Rattle.sync_plan.specs.Fit.{IsFit};
+ghost use Rattle.asked_plan.specs.Plans.{IsBehind, IsPlanFor, IsPlanned, IsPlanStopFor, IsRefused, IsStop, IsStopBehind, IsTaken, stands_alone};
 
 use command_words::PlanChoice;
 use f77_lines::MOST_BYTES;
 use f77_source::Setting;
 use nest_tree::Program;
 use plan_checker::{PlanRefusal, check};
-use plan_input::{Stop, read_inside};
+use plan_input::{Stop, read_fitting, read_inside};
 use plan_maker::{make, make_barrier};
 use plan_text::read_plan;
 use std::alloc::Global;
@@ -50,6 +51,8 @@ pub fn plan_program<R: Threads + Sync>(
     requires some { 1 ≤ asked.now.workers }
     requires few { asked.now.workers ≤ 64 }
     ensures planned { IfOk result (λ p. IsPlanned asked.now.workers asked.now.choice bytes.now (map setting_of asked.now.settings.now) (tree_of p.program) p.plan) }
+    ensures formed { IfOk result (λ p. IsWellFormed (tree_of p.program)) }
+    ensures fits { IfOk result (λ p. IsFit (tree_of p.program) p.plan) }
     ensures workers { IfOk result (λ p. p.plan.workers ≡ asked.now.workers) }
     ensures counts { IfOk result (λ p. HasCounts p.plan) }
     ensures refused { IfErr result (IsStop asked.now.workers asked.now.choice bytes.now (map setting_of asked.now.settings.now)) }
@@ -57,6 +60,20 @@ pub fn plan_program<R: Threads + Sync>(
     let alone = stands_alone(asked.choice);
     let (program, rest) = read_inside(alloc, bytes, asked.settings, alone)?;
     let plan = plan_for(rt, alloc, &program, asked, &bytes[rest..])?;
+    Ok(Planned { program, plan })
+}
+
+/// The program of the source that the bytes begin with, and the plan whose text stands behind its END
+/// line, where it fits, accepted or not. The error is the first reason why there is none, or that
+/// memory ran out.
+pub fn plan_behind(alloc: Global, settings: &[Setting], bytes: &[u8]) -> Result<Planned, Stop>
+    requires { length bytes.now ≤ MOST_BYTES }
+    ensures behind { IfOk result (λ p. IsBehind bytes.now (map setting_of settings.now) (tree_of p.program) p.plan) }
+    ensures formed { IfOk result (λ p. IsWellFormed (tree_of p.program)) }
+    ensures refused { IfErr result (IsStopBehind bytes.now (map setting_of settings.now)) }
+{
+    let (program, rest) = read_inside(alloc, bytes, settings, false)?;
+    let plan = read_fitting(alloc, &program, &bytes[rest..])?;
     Ok(Planned { program, plan })
 }
 
@@ -85,6 +102,7 @@ fn plan_for<R: Threads + Sync>(
     requires some { 1 ≤ asked.now.workers }
     requires few { asked.now.workers ≤ 64 }
     ensures plan { IfOk result (IsPlanFor asked.now.choice asked.now.workers (tree_of program.now) bytes.now) }
+    ensures fits { IfOk result (IsFit (tree_of program.now)) }
     ensures workers { IfOk result (λ plan. plan.workers ≡ asked.now.workers) }
     ensures counts { IfOk result HasCounts }
     ensures refused { IfErr result (IsPlanStopFor asked.now.choice asked.now.workers (tree_of program.now) bytes.now) }

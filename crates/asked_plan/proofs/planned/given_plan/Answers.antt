@@ -10,7 +10,7 @@ use Rattle.plan_checker.specs.declared.refusal.PlanRefusal.TheVariants as misfit
 use Rattle.plan_input.specs.Stops.{IsTextOf, IsToldAs}
 use Rattle.plan_input.specs.declared.stop.Stop.{Stop}
 use Rattle.plan_input.specs.declared.stop.Stop.TheVariants as stops
-use Rattle.asked_plan.specs.Plans.{IsRefused, first_reason}
+use Rattle.asked_plan.specs.Plans.{IsRefused}
 use Rattle.asked_plan.proofs.planned.given_plan.Goals as goal
 
 same_workers : (a b : ℕ) → a ≡ b → (a == b) ≡ true

@@ -4,7 +4,7 @@ use Rattle.std.proofs.lemmas.Result.{err_from_is_err_and}
 use Rattle.f77_source.specs.Sources.{setting_of}
 use Rattle.nest_tree.specs.View.{tree_of}
 use Rattle.plan_input.specs.Stops as sources
-use Rattle.asked_plan.specs.Plans.{IsPlanFor, IsPlanStopFor, plan, source}
+use Rattle.asked_plan.specs.Plans.{IsPlanFor, IsPlanStopFor, IsStop}
 use Rattle.asked_plan.proofs.planned.plan_program.Goals as goal
 
 pub returns-in_err-program-clause-refused : goal.returns-in_err-program-clause-refused
@@ -14,7 +14,7 @@ returns-in_err-program-clause-refused g c =
     let stop = c.in_err-program.field-0.0 in
     let result = err_from_is_err_and c.from_residual.result c.from_residual.ensures.1 in
     rw (result.1, result.2)
-    (source (subst (λ (alone : Bool). sources.IsStop alone bytes settings stop) c.stands_alone-alone.ensures c.in_err-program.ensures.refused))
+    (IsStop.source (subst (λ (alone : Bool). sources.IsStop alone bytes settings stop) c.stands_alone-alone.ensures c.in_err-program.ensures.refused))
 
 pub returns-in_err-plan-clause-refused : goal.returns-in_err-plan-clause-refused
 returns-in_err-plan-clause-refused g c =
@@ -25,7 +25,7 @@ returns-in_err-plan-clause-refused g c =
     let clear = subst (λ (alone : Bool). sources.IsClear alone bytes) c.stands_alone-alone.ensures c.in_ok-program.ensures.clear in
     let result = err_from_is_err_and c.from_residual-in_err-plan.result c.from_residual-in_err-plan.ensures.1 in
     rw (result.1, result.2)
-    (plan tree clear c.in_ok-program.ensures.program c.in_ok-program.ensures.inside (subst (λ (b : List ℕ). IsPlanStopFor c.args.asked.now.choice c.args.asked.now.workers tree b stop) rest c.in_err-plan.ensures.refused))
+    (IsStop.plan tree clear c.in_ok-program.ensures.program c.in_ok-program.ensures.inside (subst (λ (b : List ℕ). IsPlanStopFor c.args.asked.now.choice c.args.asked.now.workers tree b stop) rest c.in_err-plan.ensures.refused))
 
 pub returns-clause-planned : goal.returns-clause-planned
 returns-clause-planned g c =
