@@ -5,7 +5,7 @@ use comm_system::Obligation;
 use plan_maker::tries::Tried;
 use plan_text::put_kind;
 use reason_witness::account::{About, Reason, Why};
-use reason_witness::found::{Finding, Found};
+use reason_witness::found::Finding;
 use reason_witness::meeting::{Meeting, Touch};
 use serde_json::{Map, Value, json};
 use std::alloc::{AllocError, Global};
@@ -98,10 +98,10 @@ impl Page<'_> {
 
     fn reasons_value(&self, alloc: Global) -> Result<Value, AllocError> {
         let mut list = Vec::new(alloc);
-        for reason in &self.account.reasons {
+        for (place, reason) in self.account.reasons.iter().enumerate() {
             let mut map = Map::new(alloc);
             self.put_about(alloc, &mut map, &reason.about)?;
-            self.put_why(alloc, &mut map, reason)?;
+            self.put_why(alloc, &mut map, place, reason)?;
             list.push(Value::Object(map))?;
         }
         Ok(Value::Array(list))
@@ -156,6 +156,7 @@ impl Page<'_> {
         &self,
         alloc: Global,
         map: &mut Map<String, Value>,
+        place: usize,
         reason: &Reason,
     ) -> Result<(), AllocError> {
         let why = match &reason.why {
@@ -167,7 +168,9 @@ impl Page<'_> {
                     "obligation",
                     self.obligation_value(alloc, &found.obligation)?,
                 )?;
-                self.put_found(alloc, map, found)?;
+                if let Finding::Solved(_, meeting) = &found.finding {
+                    self.put_meeting(alloc, map, place, meeting)?;
+                }
                 word_of(&found.finding)
             }
             Why::Certified => "certified",
@@ -176,31 +179,19 @@ impl Page<'_> {
         enter(map, alloc, "why", json!(in alloc; why)?)
     }
 
-    // Two iterations that meet, where some are found.
-    fn put_found(
-        &self,
-        alloc: Global,
-        map: &mut Map<String, Value>,
-        found: &Found,
-    ) -> Result<(), AllocError> {
-        match &found.finding {
-            Finding::Solved(_, meeting) => self.put_meeting(alloc, map, meeting),
-            Finding::Refuted | Finding::Unknown => Ok(()),
-        }
-    }
-
+    // Two iterations that meet, of the reason at a place.
     fn put_meeting(
         &self,
         alloc: Global,
         map: &mut Map<String, Value>,
+        place: usize,
         meeting: &Meeting,
     ) -> Result<(), AllocError> {
-        enter(
-            map,
-            alloc,
-            "first",
-            self.touch_value(alloc, &meeting.first)?,
-        )?;
+        let first = self.first_of(place, meeting);
+        enter(map, alloc, "first", self.touch_value(alloc, first)?)?;
+        if let Some(last) = self.last_of(place, meeting) {
+            enter(map, alloc, "last", self.touch_value(alloc, last)?)?;
+        }
         enter(
             map,
             alloc,

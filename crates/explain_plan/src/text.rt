@@ -11,8 +11,8 @@ use reason_witness::meeting::{Meeting, Touch};
 use std::alloc::{AllocError, Global};
 use sync_plan::Kind;
 
-// Words, as they stand. It has no clause: what the text has is not followed.
-fn push_words(text: &mut Vec<u8>, words: &[u8]) -> Result<(), AllocError> {
+/// Words, as they stand. It has no clause: what the text has is not followed.
+pub(crate) fn push_words(text: &mut Vec<u8>, words: &[u8]) -> Result<(), AllocError> {
     text.extend_from_slice(words)
 }
 
@@ -22,8 +22,8 @@ fn push_number(text: &mut Vec<u8>, number: i128) -> Result<(), AllocError> {
     push_words(text, buffer.format(number).as_bytes())
 }
 
-// A word, and a number in decimals.
-fn push_part(text: &mut Vec<u8>, word: &[u8], number: i128) -> Result<(), AllocError> {
+/// A word, and a number in decimals.
+pub(crate) fn push_part(text: &mut Vec<u8>, word: &[u8], number: i128) -> Result<(), AllocError> {
     push_words(text, word)?;
     push_number(text, number)
 }
@@ -34,6 +34,22 @@ fn word_of(reason: &Reason) -> Word {
         Wanted::Named(cause) => cause.word,
         Wanted::First | Wanted::Number(_) => Word::Open,
     }
+}
+
+// Whether all wait for all.
+fn is_barrier(kind: &Kind) -> bool {
+    matches!(kind, Kind::Barrier | Kind::Join)
+}
+
+// How many phases have one in front.
+fn barriers(kinds: &[Kind]) -> u32 {
+    let mut count = 0u32;
+    for kind in kinds {
+        if is_barrier(kind) {
+            count = count.saturating_add(1);
+        }
+    }
+    count
 }
 
 // How many phases wait for neighbours, and how many for one processor.
@@ -51,6 +67,30 @@ fn push_waits(text: &mut Vec<u8>, kinds: &[Kind]) -> Result<(), AllocError> {
     push_part(text, b", for one processor: ", i128::from(producers))
 }
 
+// The processors that producers in between name, each once.
+fn push_producers(text: &mut Vec<u8>, producers: &[i128]) -> Result<(), AllocError> {
+    let [first, ..] = producers else {
+        return Ok(());
+    };
+    let is_one = producers.iter().all(|it| *it == *first);
+    let mut word = if is_one {
+        b"; processor ".as_slice()
+    } else {
+        b"; processors "
+    };
+    for (place, producer) in producers.iter().enumerate() {
+        if !producers.iter().take(place).any(|it| *it == *producer) {
+            push_part(text, word, *producer)?;
+            word = b" and ";
+        }
+    }
+    if is_one {
+        push_words(text, b" is waited for in between")
+    } else {
+        push_words(text, b" are waited for in between")
+    }
+}
+
 // With which cells of its own each processor was to run a loop.
 fn tried_words(tried: Tried) -> &'static [u8] {
     match tried {
@@ -66,14 +106,14 @@ impl Page<'_> {
         let mut text = Vec::new(alloc);
         self.push_summary(&mut text)?;
         let mut phase = 0;
-        for reason in &self.account.reasons {
+        for (place, reason) in self.account.reasons.iter().enumerate() {
             if let About::Weaker(number, _) = &reason.about {
                 if *number != phase {
                     phase = *number;
                     self.push_phase(&mut text, phase)?;
                 }
             }
-            self.push_reason(&mut text, reason)?;
+            self.push_reason(&mut text, place, reason)?;
         }
         Ok(text)
     }
@@ -82,19 +122,18 @@ impl Page<'_> {
     fn push_summary(&self, text: &mut Vec<u8>) -> Result<(), AllocError> {
         push_number(text, self.lines.len() as i128)?;
         push_words(text, b" phases")?;
-        let mut word = b"; barriers in front of lines ".as_slice();
         let kinds = self.account.plan.kinds.as_slice();
+        let mut word = b"; barriers in front of lines ".as_slice();
+        match barriers(kinds) {
+            0 => push_words(text, b"; no barrier")?,
+            1 => word = b"; a barrier in front of line ",
+            _ => {}
+        }
         for (kind, line) in kinds.iter().zip(self.lines) {
-            if matches!(kind, Kind::Barrier | Kind::Join) {
+            if is_barrier(kind) {
                 push_part(text, word, i128::from(*line))?;
                 word = b", ";
             }
-        }
-        if kinds
-            .iter()
-            .all(|kind| !matches!(kind, Kind::Barrier | Kind::Join))
-        {
-            push_words(text, b"; no barrier")?;
         }
         push_waits(text, kinds)?;
         self.push_serial_loops(text)?;
@@ -135,20 +174,43 @@ impl Page<'_> {
         }
     }
 
-    // What waits in front of a static phase, by its number from 1.
+    // Whom each processor waits for in front of a static phase, by its number from 1.
     fn push_phase(&self, text: &mut Vec<u8>, phase: u32) -> Result<(), AllocError> {
         push_part(text, b"PHASE ", i128::from(phase))?;
         push_part(text, b", line ", i128::from(self.line_of(phase)))?;
-        push_words(text, b", waits for")?;
+        push_words(text, b": each processor waits for ")?;
         if let Some(kind) = self.account.plan.kind(phase) {
+            self.push_awaited(text, kind)?;
+            push_words(text, b",")?;
             put_kind(text, kind)?;
         }
-        push_words(text, b"\n")?;
-        Ok(())
+        if self.has_enough(phase) {
+            push_words(text, b". At least one of those tried is enough:\n")
+        } else {
+            push_words(text, b". None of those tried is enough:\n")
+        }
+    }
+
+    // Whether something weaker than the wait in front of a static phase is enough.
+    fn has_enough(&self, phase: u32) -> bool {
+        for reason in &self.account.reasons {
+            if matches!(&reason.about, About::Weaker(number, _) if *number == phase)
+                && matches!(&reason.why, Why::Certified)
+                && matches!(&reason.wanted, Wanted::First)
+            {
+                return true;
+            }
+        }
+        false
     }
 
     // A reason, on a line of its own behind its head.
-    fn push_reason(&self, text: &mut Vec<u8>, reason: &Reason) -> Result<(), AllocError> {
+    fn push_reason(
+        &self,
+        text: &mut Vec<u8>,
+        place: usize,
+        reason: &Reason,
+    ) -> Result<(), AllocError> {
         match &reason.about {
             About::Loop(number, tried) => {
                 push_part(text, b"LOOP ", i128::from(*number))?;
@@ -159,8 +221,10 @@ impl Page<'_> {
                 push_words(text, b":\n    ")?;
             }
             About::Weaker(_, kind) => {
-                push_words(text, b"    not")?;
+                push_words(text, b"   ")?;
                 put_kind(text, kind)?;
+                push_words(text, b", for ")?;
+                self.push_awaited(text, kind)?;
                 push_words(text, b": ")?;
             }
             About::Refused(number) => {
@@ -172,7 +236,7 @@ impl Page<'_> {
                 push_words(text, b"\n    ")?;
             }
         }
-        self.push_why(text, reason)?;
+        self.push_why(text, place, reason)?;
         push_words(text, b"\n")?;
         Ok(())
     }
@@ -188,10 +252,20 @@ impl Page<'_> {
     }
 
     // What a reason is, without a line's end.
-    fn push_why(&self, text: &mut Vec<u8>, reason: &Reason) -> Result<(), AllocError> {
+    fn push_why(
+        &self,
+        text: &mut Vec<u8>,
+        place: usize,
+        reason: &Reason,
+    ) -> Result<(), AllocError> {
         match &reason.why {
             Why::Print => push_words(text, b"a PRINT stands in it"),
-            Why::Found(found) => self.push_found(text, found, word_of(reason)),
+            Why::Found(found) => match &found.finding {
+                Finding::Solved(_, meeting) => self.push_meeting(text, place, meeting),
+                Finding::Refuted | Finding::Unknown => {
+                    self.push_unmet(text, found, word_of(reason))
+                }
+            },
             Why::Certified => push_words(
                 text,
                 match &reason.wanted {
@@ -207,55 +281,71 @@ impl Page<'_> {
         }
     }
 
-    // What is found of an obligation; elimination's answer is the word.
-    fn push_found(&self, text: &mut Vec<u8>, found: &Found, word: Word) -> Result<(), AllocError> {
-        match &found.finding {
-            Finding::Solved(_, meeting) => self.push_meeting(text, meeting),
-            Finding::Refuted => push_words(
+    // What is found of an obligation but two iterations; elimination's answer is the word.
+    fn push_unmet(&self, text: &mut Vec<u8>, found: &Found, word: Word) -> Result<(), AllocError> {
+        if matches!(&found.finding, Finding::Refuted) {
+            return push_words(
                 text,
                 b"no two iterations meet: a certificate exists, and the plan has no good one",
-            ),
-            Finding::Unknown => {
-                self.push_obligation(text, &found.obligation)?;
-                push_words(
-                    text,
-                    match word {
-                        Word::Open => b": elimination leaves it open".as_slice(),
-                        Word::Wide => b": numbers of elimination grow too large",
-                        Word::Many => b": rows of elimination grow too many",
-                        Word::Work => b": elimination gave up after 65,536 pairs of rows",
-                    },
-                )?;
-                push_words(
-                    text,
-                    b", and neither a certificate nor two iterations are found within the budget",
-                )
-            }
+            );
         }
+        self.push_obligation(text, &found.obligation)?;
+        push_words(
+            text,
+            match word {
+                Word::Open => b": elimination leaves it open".as_slice(),
+                Word::Wide => b": numbers of elimination grow too large",
+                Word::Many => b": rows of elimination grow too many",
+                Word::Work => b": elimination gave up after 65,536 pairs of rows",
+            },
+        )?;
+        push_words(
+            text,
+            b", and neither a certificate nor two iterations are found within the budget",
+        )
     }
 
-    // Two iterations that meet.
-    fn push_meeting(&self, text: &mut Vec<u8>, meeting: &Meeting) -> Result<(), AllocError> {
-        match (meeting.first.processor, meeting.second.processor) {
+    // Two iterations that meet, of the reason at a place.
+    fn push_meeting(
+        &self,
+        text: &mut Vec<u8>,
+        place: usize,
+        meeting: &Meeting,
+    ) -> Result<(), AllocError> {
+        let first = self.first_of(place, meeting);
+        match (first.processor, meeting.second.processor) {
             (Some(q), Some(p)) => {
                 push_part(text, b"processor ", q)?;
-                self.push_touch(text, &meeting.first)?;
+                self.push_touch(text, first)?;
+                self.push_last(text, place, meeting)?;
                 push_part(text, b"; processor ", p)?;
                 push_words(text, b" then")?;
             }
             _ => {
                 push_words(text, b"an iteration")?;
-                self.push_touch(text, &meeting.first)?;
+                self.push_touch(text, first)?;
                 push_words(text, b"; a later one")?;
             }
         }
         self.push_touch(text, &meeting.second)?;
-        let mut word = b"; the producers waited for are ".as_slice();
-        for producer in &meeting.producers {
-            push_part(text, word, *producer)?;
-            word = b" and ";
-        }
-        Ok(())
+        push_producers(text, &meeting.producers)
+    }
+
+    // The last store in front of the load, where a third processor does it.
+    fn push_last(
+        &self,
+        text: &mut Vec<u8>,
+        place: usize,
+        meeting: &Meeting,
+    ) -> Result<(), AllocError> {
+        let Some(last) = self.last_of(place, meeting) else {
+            return Ok(());
+        };
+        let Some(processor) = last.processor else {
+            return Ok(());
+        };
+        push_part(text, b"; last of all processor ", processor)?;
+        self.push_touch(text, last)
     }
 
     // What is done, to what, in which line and trips.
