@@ -1,5 +1,7 @@
-//! Reads a source on standard input and writes what the words ask for of its plan: with `emit` the
-//! program under the plan as one C11 file.
+//! Reads a source on standard input and writes what the words ask for of its plan: with `explain` why
+//! it waits and why loops aren't dealt out, with `systems` its obligations as systems of inequalities,
+//! with `emit` the program under it as one C11 file. The plan is the one that is made for so many
+//! processors, or the one that stands behind the source.
 //!
 //! It ends with one of these statuses.
 //!
@@ -16,14 +18,19 @@
 #![tactic(auto)]
 
 mod emit;
+mod explain;
+mod systems;
 
 ghost use Rattle.std.specs.Prelude.{◌≡◌, ◌≤◌, IfOk, length, map, string_bytes};
 ghost use Rattle.clap.specs.Walk.{texts};
 ghost use Rattle.plan_words.specs.Wanted.{IsCounted, wanted};
 
 use crate::emit::emitted;
+use crate::explain::explained;
+use crate::systems::systems_in;
 use asked_plan::Asked;
 use command_words::{Refused, SettingFault, read_settings};
+use explain_plan::Form;
 use f77_lines::MOST_BYTES;
 use f77_program::Refusal;
 use f77_source::Setting;
@@ -93,10 +100,16 @@ fn answer<R: Threads + Sync, S: Read + Drop>(
 ) -> Result<Vec<u8>, Stop>
     requires { IsCounted (wanted request.now) }
 {
+    let words = words_in(request);
+    let settings = settings_of(alloc, words)?;
+    let bytes = read_all(alloc, source)?;
     match request {
-        PlanRequest::Emit(workers, choice, words) => {
-            let settings = settings_of(alloc, words)?;
-            let bytes = read_all(alloc, source)?;
+        PlanRequest::Explain(subject, json, _) => {
+            let form = if *json { Form::Json } else { Form::Words };
+            explained(rt, alloc, *subject, &settings, form, &bytes)
+        }
+        PlanRequest::Systems(subject, _) => systems_in(rt, alloc, *subject, &settings, &bytes),
+        PlanRequest::Emit(workers, choice, _) => {
             let asked = Asked {
                 workers: *workers,
                 choice: *choice,
@@ -104,6 +117,15 @@ fn answer<R: Threads + Sync, S: Read + Drop>(
             };
             emitted(rt, alloc, &asked, words, &bytes)
         }
+    }
+}
+
+// The settings of a request, as they are written.
+fn words_in<'r, 'a>(request: &'r PlanRequest<'a>) -> &'r [&'a str] {
+    match request {
+        PlanRequest::Explain(_, _, words)
+        | PlanRequest::Systems(_, words)
+        | PlanRequest::Emit(_, _, words) => words.as_slice(),
     }
 }
 
