@@ -12,7 +12,7 @@ import sys
 import tempfile
 
 ROOT = os.path.dirname(os.path.dirname(os.path.abspath(__file__)))
-BUILT = {"SEAGRYNT_UNPROVED": "no", "EXPLAIN_PLAN_BUILD": "no", "PLAN_SYSTEMS_BUILD": "no", "BENCH_PARTS_BUILD": "no"}
+BUILT = {"SEAGRYNT_UNPROVED": "no", "BENCH_PARTS_BUILD": "no"}
 
 
 def commands_of(document):

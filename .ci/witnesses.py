@@ -1,14 +1,16 @@
-"""Holds what explain_plan tells against a walk of the program.
+"""Holds what `explain` tells of plans against a walk of the program.
 
 witnesses.py PROGRAM TOOL WORKERS SOURCE..
 
-For each source PROGRAM (explain_plan) tells of the plan for so many workers as JSON, and TOOL (the
-command seagrynt) writes that plan. The instances of the source are walked in sequential order, and of
-each two iterations that are told to meet it is looked up that both are instances with these values of
-the loops, that both access this element in these lines, one of them storing, that the first comes
-before the second, and that the plan gives them these owners; where a loop isn't dealt out, that the
-two stand in two of its trips. And behind the plan there is a line for each reason, in the same order,
-that names the same obligation. The status is 0 where all is so, else 1 with a line for each fault.
+For each source PROGRAM (that of crates/plan_tool) tells of the plan for so many workers as JSON, and
+TOOL (that of crates/spmd_tool) writes that plan. The instances of the source are walked in sequential
+order, and of each two iterations that are told to meet it is looked up that both are instances with
+these values of the loops, that both access this element in these lines, one of them storing, that the
+first comes before the second, and that the plan gives them these owners; of an array's element that is
+stored and then loaded, that no store of it stands in between but of the load's own processor; where a
+loop isn't dealt out, that the two stand in two of its trips. And behind the plan there is a line for
+each reason, in the same order, that names the same obligation. The status is 0 where all is so, else 1
+with a line for each fault.
 """
 import json
 import os
@@ -157,6 +159,23 @@ def hold(walk, owners, reason):
             raise Fault("the two do not stand in two trips of the loop")
     elif first["processor"] == second["processor"]:
         raise Fault("one processor runs both")
+    elif first["stores"] and not second["stores"] and second["subscripts"]:
+        last = looked_up(walk, owners, reason["last"]) if "last" in reason else places[0]
+        if not places[0] <= last < places[1]:
+            raise Fault("the last store does not stand between the two")
+        hold_last(walk, owners, second, range(last + 1, places[1]))
+
+
+def hold_last(walk, owners, load, between):
+    """Holds that the last store of an element in front of a load, if there is one more, is of the load's processor."""
+    if len(between) > 20000:
+        return
+    for place in reversed(between):
+        instance = walk.instances[place]
+        if instance[0].target == load["name"] and walk.accesses(True, load["name"], tuple(load["subscripts"]), instance):
+            if owners.owner(instance) != load["processor"]:
+                raise Fault(f"line {instance[0].line} stores the element once more")
+            return
 
 
 def hold_lines(text, reasons):
@@ -187,7 +206,7 @@ def main(program, tool, workers, *paths):
         walk = Walk(path)
         plan = run([tool, "plan", "--workers", workers], path)
         owners = Owners(plan, walk.program)
-        told = json.loads(run([program, "--workers", workers, "--json"], path))
+        told = json.loads(run([program, "explain", "--workers", workers, "--json"], path))
         try:
             hold_lines(plan, told["reasons"])
         except Fault as fault:

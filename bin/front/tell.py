@@ -16,7 +16,7 @@ import source as sources
 from advice import listed
 
 ROOT = os.path.dirname(os.path.dirname(os.path.dirname(os.path.abspath(__file__))))
-COMMANDS = ("seq", "plan", "run", "verify", "bench", "emit")
+COMMANDS = ("seq", "plan", "run", "verify", "bench", "explain", "systems", "emit")
 CHOICES = {"--plan": ("made", "barrier", "given"), "--by": ("spmd", "join", "core"), "--barrier": ("arrive", "dissemination")}
 OPTIONS = {
     "seq": (),
@@ -24,6 +24,8 @@ OPTIONS = {
     "run": ("--workers", "--plan", "--by", "--barrier"),
     "verify": ("--sweep",),
     "bench": ("--workers",),
+    "explain": ("--workers", "--plan", "--json"),
+    "systems": ("--workers", "--plan"),
     "emit": ("--workers", "--plan"),
 }
 SCRIPT_WORDS = ("--plan-only", "--output-only")
@@ -34,6 +36,8 @@ USAGE = (
     "seagrynt run --workers P [--plan made|barrier|given] [--by spmd|join|core] [--barrier arrive|dissemination] [--plan-only|--output-only] [NAME=VALUE..] < SOURCE",
     "seagrynt verify [--sweep NAME=LOW:HIGH] [NAME=VALUE..] < SOURCE_AND_PLAN",
     "seagrynt bench --workers P N M",
+    "seagrynt explain [--workers P [--plan made|barrier|given]] [--json] [NAME=VALUE..] < SOURCE",
+    "seagrynt systems [--workers P [--plan made|barrier|given]] [NAME=VALUE..] < SOURCE",
     "seagrynt emit --workers P [--plan made|barrier|given] [NAME=VALUE..] < SOURCE",
     "seagrynt --help, seagrynt run --help, seagrynt --version",
 )
@@ -86,7 +90,8 @@ def tell_refusal(line, data, words, program):
         say("nothing was read; the source comes on standard input: seagrynt seq < heat.f")
     else:
         asked = [it for it in parts_of(words)[1] if "=" in it]
-        has_plan = words[:1] == ("verify",) or ("--plan", "given") in parts_of(words)[0]
+        options = parts_of(words)[0]
+        has_plan = words[:1] == ("verify",) or ("--plan", "given") in options or is_behind(words)
         found, more = faults.faults_of(line, data, settings, asked, program, has_plan)
         lines = sources.Source(data).lines
         for place, it in enumerate(found):
@@ -139,6 +144,11 @@ def parts_of(words):
             others.append(word)
         at += 1
     return options, others
+
+
+def is_behind(words):
+    """Whether the plan is the one behind the source since no number of processors is named."""
+    return words[:1] in (("explain",), ("systems",)) and "--workers" not in dict(parts_of(words)[0])
 
 
 def is_file(word):
@@ -246,7 +256,8 @@ def wrong_option(words, command):
             return f"--workers {value}: it is the number of processors, 1 to 64 in decimal digits without leading zeros"
         if name in CHOICES and value not in CHOICES[name]:
             return f"{name} {value}: it may be {' or '.join(CHOICES[name])}"
-    if "--workers" in OPTIONS[command] and "--workers" not in seen:
+    choice = dict(options).get("--plan", "given")
+    if "--workers" in OPTIONS[command] and "--workers" not in seen and not (is_behind(words) and choice == "given"):
         return f"{command} needs --workers P, the number of processors, 1 to 64"
     for word in others:
         if is_file(word):
@@ -275,7 +286,7 @@ def tell_words(line, data, words):
 # ---- refusals of a plan
 
 
-def tell_plan(line, data):
+def tell_plan(line, data, words):
     _, kind, *rest = line.split() + ["", ""]
     key = {"P1": f"P1 {rest[0]}", "P5": f"P5 obligation {rest[1]}"}.get(kind, kind)
     say(f"{line}: {meaning_of('PLANS.md', f'PLAN {key}') or 'the plan is refused'}")
@@ -285,7 +296,7 @@ def tell_plan(line, data):
         behind = source.behind_end()
         lines = [it.decode("latin-1") for it in data.split(b"\n")]
         show_line(lines if lines[-1] else lines[:-1], source.end + number, None, "line")
-        said = round_trip(behind, number)
+        said = round_trip(behind, number, words)
         if said:
             say(said)
     say('docs/PLANS.md explains it under "When a plan is refused"')
@@ -297,8 +308,10 @@ def text_behind(data, source):
     return lines if lines and lines[-1] else lines[:-1]
 
 
-def round_trip(behind, number):
+def round_trip(behind, number, words):
     at = behind[number - 1] if number <= len(behind) else None
+    if at is None and number == 1 and is_behind(words):
+        return f"no plan stands behind END; seagrynt {words[0]} --workers P takes the plan that is made"
     if at is None and number == 1:
         return "no plan stands behind END; seagrynt plan --workers P --plan-only makes one, and cat SOURCE PLAN | seagrynt verify looks at both"
     above = behind[: number - 1]
@@ -364,7 +377,7 @@ def main(what, status, source, output, line, program, *words):
     elif status == "2":
         tell_words(line, data, words)
     else:
-        tell_plan(line, data)
+        tell_plan(line, data, words)
 
 
 if __name__ == "__main__":
