@@ -1,7 +1,9 @@
 // Values of variables, checked and not trusted.
 
-ghost use Rattle.std.specs.Prelude.{◌≡◌, IfSome, IsTrue};
-ghost use Rattle.farkas_cert.specs.Inequalities.{Holds, IsWholeSolution, left_side};
+ghost use Rattle.std.specs.Prelude.{◌≡◌, ◌↔◌, IsTrue};
+ghost use Rattle.std.specs.Option.{SomeIff};
+ghost use Rattle.farkas_cert.specs.Inequalities.{Holds, left_side};
+ghost use Rattle.quick_elim.specs.Points.{IsSeenSolution, SumsFit};
 
 use farkas_cert::{Row, System};
 use std::marker::Model;
@@ -35,9 +37,10 @@ impl Point {
         self.values.as_slice()
     }
 
-    /// Whether the point is seen to solve a system: no product and no sum passes 128 bits.
-    pub(crate) fn solves(&self, system: &System) -> bool
-        ensures { IsTrue result → IsWholeSolution system.now self.now }
+    /// Whether the point is seen to solve a system: it has a value for each variable, each row holds,
+    /// and no product and no sum in a row passes 128 bits.
+    pub fn solves(&self, system: &System) -> bool
+        ensures { IsTrue result ↔ IsSeenSolution system.now self.now }
     {
         let values = self.values.as_slice();
         values.len() == system.vars() as usize
@@ -47,7 +50,7 @@ impl Point {
 
 // The left side of a row, if no product and no sum passes the type.
 fn left_side_at(coefs: &[i128], values: &[i128]) -> Option<i128>
-    ensures { IfSome result (λ sum. sum ≡ left_side coefs.now values.now) }
+    ensures { SomeIff result (SumsFit coefs.now values.now) (left_side coefs.now values.now) }
 {
     match coefs {
         [] => Some(0),
@@ -63,7 +66,7 @@ fn left_side_at(coefs: &[i128], values: &[i128]) -> Option<i128>
 
 // Whether a row is seen to hold.
 fn holds_at(row: &Row, values: &[i128]) -> bool
-    ensures { IsTrue result → Holds row.now values.now }
+    ensures { IsTrue result ↔ (SumsFit row.now.coefs values.now × Holds row.now values.now) }
 {
     match left_side_at(row.coefs.as_slice(), values) {
         Some(sum) => sum <= row.bound,

@@ -1,7 +1,10 @@
 // The search, with the checks behind it.
 
-ghost use Rattle.std.specs.Prelude.{IfOk};
+ghost use Rattle.std.specs.Prelude.{◌≡◌, IfOk};
+ghost use Rattle.farkas_cert.specs.Good.{IsGood};
+ghost use Rattle.quick_elim.specs.Points.{IsSeenSolution};
 ghost use Rattle.quick_elim.specs.Settled.{IsSettled};
+ghost use Rattle.quick_elim.specs.declared.answer.Settled.TheVariants.{Refuted, Solved};
 
 use crate::answer::{Budget, NoMemory, Settled};
 use crate::certificate::certificate_of;
@@ -63,7 +66,8 @@ fn checked_certificate(
     system: &System,
     certificate: Certificate,
 ) -> Result<Settled, NoMemory>
-    ensures { IfOk result (IsSettled system.now) }
+    ensures settled { IfOk result (IsSettled system.now) }
+    ensures taken { IsGood system.now certificate → IfOk result (λ s. s ≡ Refuted certificate) }
 {
     match check_cert(alloc, system, &certificate) {
         Ok(()) => Ok(Settled::Refuted(certificate)),
@@ -72,9 +76,10 @@ fn checked_certificate(
     }
 }
 
-// The point, where it solves a system.
+// The point, where it is seen to solve a system.
 fn checked_point(system: &System, point: Point) -> Settled
-    ensures { IsSettled system.now result }
+    ensures settled { IsSettled system.now result }
+    ensures taken { IsSeenSolution system.now point → result ≡ Solved point }
 {
     if point.solves(system) {
         Settled::Solved(point)
