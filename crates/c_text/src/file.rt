@@ -94,7 +94,7 @@ impl Text<'_> {
         for variable in &program.variables {
             number = number.saturating_add(1);
             self.words("SHARED word ")?;
-            self.name("v", number)?;
+            self.name("v_", number)?;
             if variable.bounds.is_empty() {
                 self.words(";\n")?;
                 continue;

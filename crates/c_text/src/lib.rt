@@ -11,8 +11,6 @@ mod phases;
 pub mod runtime;
 mod source;
 mod statements;
-mod sum;
 mod text;
-mod values;
 
 pub use file::{Emitted, write_c};

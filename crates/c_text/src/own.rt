@@ -1,7 +1,7 @@
 // A processor's own trips of a loop.
 
-use crate::sum::{Sum, Term};
 use crate::text::{Own, Text};
+use c_expressions::{Sum, Term};
 use nest_tree::Nest;
 use owner_partition::Anchor;
 use std::alloc::AllocError;
@@ -64,15 +64,15 @@ impl Text<'_> {
         for &variable in &it.sums {
             self.begin(depth)?;
             self.words("word ")?;
-            self.name("s", variable)?;
+            self.name("s_", variable)?;
             self.words(" = 0; int ")?;
-            self.name("a", variable)?;
+            self.name("a_", variable)?;
             self.words(" = 0;\n")?;
         }
         for &variable in &it.privates {
             self.begin(depth)?;
             self.words("word ")?;
-            self.name("o", variable)?;
+            self.name("o_", variable)?;
             self.words(" = 0;\n")?;
         }
         Ok(())
@@ -312,9 +312,9 @@ impl Text<'_> {
     }
 
     fn give_private(&mut self, variable: u32) -> Result<(), AllocError> {
-        self.name("v", variable)?;
+        self.name("v_", variable)?;
         self.words(" = ")?;
-        self.name("o", variable)?;
+        self.name("o_", variable)?;
         self.words("; ")
     }
 
@@ -335,11 +335,11 @@ impl Text<'_> {
         for &variable in sums {
             self.begin(depth)?;
             self.words("if (")?;
-            self.name("a", variable)?;
+            self.name("a_", variable)?;
             self.words(") add(&")?;
-            self.name("v", variable)?;
+            self.name("v_", variable)?;
             self.words(", ")?;
-            self.name("s", variable)?;
+            self.name("s_", variable)?;
             self.words(");\n")?;
         }
         Ok(())

@@ -1,8 +1,8 @@
 // Outer loops, the boundaries between phases, and comments on them.
 
 use crate::source::{is_quoted, shown};
-use crate::sum::{Sum, Term};
 use crate::text::{Own, Text};
+use c_expressions::{Sum, Term};
 use nest_tree::{Affine, Item, Nest};
 use owner_partition::{Anchor, Dist, Mark};
 use std::alloc::AllocError;

@@ -1,7 +1,6 @@
 // Statements and loops inside a phase.
 
 use crate::text::{Own, Text};
-use crate::values::Place;
 use nest_tree::{Access, Expr, Guard, Item, Nest, PrintItem};
 use std::alloc::AllocError;
 use std::fmt::Write;
@@ -80,12 +79,12 @@ impl Text<'_> {
         if target.subscripts.as_slice().is_empty() && own.sums.contains(&variable) {
             self.words("{ ")?;
             self.additions(variable, value, own)?;
-            self.name("a", variable)?;
+            self.name("a_", variable)?;
             return self.words(" = 1; }\n");
         }
         self.access(target, own)?;
         self.words(" = ")?;
-        self.value(value, own, Place::Sum)?;
+        self.value(value, own)?;
         self.words(";\n")
     }
 
@@ -94,16 +93,16 @@ impl Text<'_> {
         match value {
             Expr::Add(front, term) => {
                 self.additions(variable, front, own)?;
-                self.name("s", variable)?;
+                self.name("s_", variable)?;
                 self.words(" += ")?;
-                self.value(term, own, Place::Sum)?;
+                self.value(term, own)?;
                 self.words("; ")
             }
             Expr::Sub(front, term) => {
                 self.additions(variable, front, own)?;
-                self.name("s", variable)?;
+                self.name("s_", variable)?;
                 self.words(" -= ")?;
-                self.value(term, own, Place::Sum)?;
+                self.value(term, own)?;
                 self.words("; ")
             }
             _ => Ok(()),
@@ -117,7 +116,7 @@ impl Text<'_> {
             match item {
                 PrintItem::Value(value) => {
                     self.words("print(")?;
-                    self.value(value, Own::none(), Place::Sum)?;
+                    self.value(value, Own::none())?;
                     self.words(");\n")?;
                 }
                 PrintItem::Whole(variable) => self.print_whole(*variable)?,
@@ -131,7 +130,7 @@ impl Text<'_> {
     fn print_whole(&mut self, variable: u32) -> Result<(), AllocError> {
         let count = self.element_count(variable);
         self.words("print_all(")?;
-        self.name("v", variable)?;
+        self.name("v_", variable)?;
         write!(self.out, ", {count});\n")
     }
 

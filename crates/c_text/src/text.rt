@@ -1,12 +1,11 @@
 // The text that is written, and what stands in it most often.
 
 use crate::source::SourceLines;
-use crate::sum::{Sum, Term};
-use nest_tree::{Affine, Program};
+use c_expressions::{Place, Scope, Sum, put_number, put_sum};
+use nest_tree::{Access, Affine, Expr, Guard, Program};
 use std::alloc::{AllocError, Global};
-use std::fmt::Write;
 use sync_plan::Plan;
-use thread_code::Place;
+use thread_code::Place as Summed;
 
 /// Scalars of which a processor has cells of its own in the loop that is written.
 #[derive(Clone, Copy)]
@@ -68,148 +67,78 @@ impl Text<'_> {
 
     /// A number, in decimals.
     pub(crate) fn number(&mut self, number: i64) -> Result<(), AllocError> {
-        write!(self.out, "{number}")
+        put_number(&mut self.out, number)
     }
 
-    /// A number as a value.
-    pub(crate) fn literal(&mut self, number: i64) -> Result<(), AllocError> {
-        if number == i64::MIN {
-            self.words("W(INT64_MIN)")
-        } else {
-            write!(self.out, "W({number})")
-        }
-    }
-
-    /// The name of a variable, by its number from 1, behind a letter that says which cell is meant.
-    pub(crate) fn name(&mut self, letter: &str, variable: u32) -> Result<(), AllocError> {
-        self.words(letter)?;
-        self.words("_")?;
-        let program = self.program;
-        match program.variables.get((variable as usize).saturating_sub(1)) {
-            Some(variable) => self.bytes(&variable.name),
-            None => write!(self.out, "{variable}"),
-        }
+    /// The name of a variable, by its number from 1, behind letters that say which cell is meant.
+    pub(crate) fn name(&mut self, letters: &str, variable: u32) -> Result<(), AllocError> {
+        let scope = scope_of(self.alloc, self.program, &[]);
+        scope.put_name(&mut self.out, letters, variable)
     }
 
     /// The value of a named constant, by its number from 1.
     pub(crate) fn parameter(&self, number: u32) -> i64 {
-        match self.program.params.get((number as usize).saturating_sub(1)) {
-            Some(parameter) => parameter.value,
-            None => 0,
-        }
-    }
-
-    /// Adds a multiple of a form to a sum.
-    pub(crate) fn add_form(
-        &self,
-        form: &Affine,
-        times: i64,
-        sum: &mut Sum,
-    ) -> Result<(), AllocError> {
-        sum.add(form.constant(), times);
-        self.add_params(form.params(), times, sum);
-        self.add_loops(form.loops(), times, sum)
+        scope_of(self.alloc, self.program, &[]).parameter(number)
     }
 
     /// Adds a multiple of a place to a sum.
     pub(crate) fn add_place(
         &self,
-        place: &Place,
+        place: &Summed,
         times: i64,
         sum: &mut Sum,
     ) -> Result<(), AllocError> {
+        let scope = scope_of(self.alloc, self.program, &[]);
         sum.add(place.constant, times);
-        self.add_params(place.params.as_slice(), times, sum);
-        self.add_loops(place.loops.as_slice(), times, sum)
-    }
-
-    // Adds a multiple of named constants, with their coefficients.
-    fn add_params(&self, params: &[(u32, i64)], times: i64, sum: &mut Sum) {
-        for &(number, coefficient) in params {
-            sum.add_product(coefficient, times, self.parameter(number));
-        }
-    }
-
-    // Adds a multiple of loops, with their coefficients.
-    fn add_loops(&self, loops: &[(u32, i64)], times: i64, sum: &mut Sum) -> Result<(), AllocError> {
-        for &(number, coefficient) in loops {
-            sum.add_term(Term::Loop(number), coefficient, times)?;
-        }
-        Ok(())
+        scope.add_params(place.params.as_slice(), times, sum);
+        scope.add_loops(place.loops.as_slice(), times, sum)
     }
 
     /// The sum that a form is.
     pub(crate) fn sum_of(&self, form: &Affine) -> Result<Sum, AllocError> {
-        let mut sum = Sum::new(self.alloc);
-        self.add_form(form, 1, &mut sum)?;
-        Ok(sum)
+        scope_of(self.alloc, self.program, &[]).sum_of(form)
     }
 
     /// A form.
     pub(crate) fn form(&mut self, form: &Affine) -> Result<(), AllocError> {
-        let sum = self.sum_of(form)?;
-        self.sum(&sum)
+        let scope = scope_of(self.alloc, self.program, &[]);
+        scope.put_form(&mut self.out, form)
     }
 
-    /// A sum: of numbers where none of its partial sums leaves 64 bits, else of words, whose last value is
-    /// exact.
+    /// A sum.
     pub(crate) fn sum(&mut self, sum: &Sum) -> Result<(), AllocError> {
-        if sum.is_plain() {
-            self.plain_sum(sum)
-        } else {
-            self.wide_sum(sum)
-        }
+        put_sum(&mut self.out, sum)
     }
 
-    fn plain_sum(&mut self, sum: &Sum) -> Result<(), AllocError> {
-        if sum.is_constant() {
-            return self.number(sum.constant());
-        }
-        let mut plus = "";
-        let mut minus = "-";
-        for &(term, coefficient) in sum.terms() {
-            if coefficient != 0 {
-                self.words(if coefficient < 0 { minus } else { plus })?;
-                self.multiple(coefficient.unsigned_abs(), term)?;
-                plus = " + ";
-                minus = " - ";
-            }
-        }
-        let size = sum.constant().unsigned_abs();
-        if size == 0 {
+    /// The cell of an access.
+    pub(crate) fn access(&mut self, access: &Access, own: Own) -> Result<(), AllocError> {
+        let scope = scope_of(self.alloc, self.program, own.privates);
+        scope.put_access(&mut self.out, access)
+    }
+
+    /// An expression.
+    pub(crate) fn value(&mut self, e: &Expr, own: Own) -> Result<(), AllocError> {
+        let scope = scope_of(self.alloc, self.program, own.privates);
+        scope.put_value(&mut self.out, e, Place::Sum)
+    }
+
+    /// A comparison, if there is one, in front of what it guards.
+    pub(crate) fn guard(&mut self, guard: &Option<Guard>) -> Result<(), AllocError> {
+        let Some(guard) = guard else {
             return Ok(());
-        }
-        self.words(if sum.constant() < 0 { minus } else { plus })?;
-        write!(self.out, "{size}")
+        };
+        let scope = scope_of(self.alloc, self.program, &[]);
+        self.words("if (")?;
+        scope.put_comparison(&mut self.out, guard)?;
+        self.words(") ")
     }
+}
 
-    fn multiple(&mut self, coefficient: u64, term: Term) -> Result<(), AllocError> {
-        if coefficient != 1 {
-            write!(self.out, "{coefficient}*")?;
-        }
-        self.term(term)
-    }
-
-    fn term(&mut self, term: Term) -> Result<(), AllocError> {
-        match term {
-            Term::Loop(number) => write!(self.out, "i{number}"),
-            Term::Last => self.words("z"),
-            Term::Processor => self.words("p"),
-        }
-    }
-
-    fn wide_sum(&mut self, sum: &Sum) -> Result<(), AllocError> {
-        self.words("(number)(")?;
-        self.literal(sum.constant())?;
-        for &(term, coefficient) in sum.terms() {
-            if coefficient != 0 {
-                self.words(" + ")?;
-                self.literal(coefficient)?;
-                self.words("*W(")?;
-                self.term(term)?;
-                self.words(")")?;
-            }
-        }
-        self.words(")")
+// What names stand for where a processor has cells of its own of these scalars.
+fn scope_of<'a>(alloc: Global, program: &'a Program, privates: &'a [u32]) -> Scope<'a> {
+    Scope {
+        alloc,
+        program,
+        privates,
     }
 }

@@ -1,0 +1,6 @@
+pub mod Appending
+pub mod Spelled
+pub mod Summed
+pub mod Multiples
+pub mod WordSums
+pub mod Telling

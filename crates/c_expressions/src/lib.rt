@@ -1,0 +1,20 @@
+//! The expressions of emitted C: what is written for an expression, an access, a comparison or a form
+//! of a program reads, by C's ranks, as what it stands for.
+//!
+//! - [`Scope`]: what names stand for, and the writers.
+//! - [`Sum`]: sums of multiples of named values and of a constant, as C has them.
+#![tactic(auto)]
+
+mod forms;
+pub mod place;
+pub mod scope;
+pub mod sum;
+pub mod sums;
+pub mod text;
+mod values;
+
+pub use place::Place;
+pub use scope::Scope;
+pub use sum::{Sum, Term};
+pub use sums::put_sum;
+pub use text::{put_natural, put_number};
