@@ -9,4 +9,3 @@ pub mod Parts
 pub mod Acts
 pub mod Runs
 pub mod Shorter
-pub mod SumTexts

@@ -1,3 +1,2 @@
 pub mod ThreadDeeds
 pub mod ThreadRuns
-pub mod Sums

@@ -1,12 +1,11 @@
 // Laws of what thread code does: there is nothing to call.
 
-ghost use Rattle.std.specs.Prelude.{ℕ, ◌*◌, ◌/◌, ◌%◌, ◌^◌, ◌==◌, ℤ, pos, negsuc, ◌+ℤ◌, ◌-ℤ◌, ◌*ℤ◌, List, [], ◌++◌, map, take, unsigned_abs, FitsSigned, if◌then◌else◌, ◌≡◌, ◌<◌, ◌⊎◌};
-ghost use Rattle.std.specs.Int.{int_max, int_min, w64};
+ghost use Rattle.std.specs.Prelude.{ℕ, ◌*◌, ◌/◌, ◌%◌, ◌==◌, ℤ, pos, negsuc, ◌+ℤ◌, ◌-ℤ◌, ◌*ℤ◌, List, [], ◌++◌, map, take, if◌then◌else◌, ◌≡◌, ◌<◌, ◌⊎◌};
+ghost use Rattle.std.specs.Int.{int_max, int_min};
 ghost use Rattle.std.specs.List.{All};
 ghost use Rattle.std.specs.Option.{option_map};
 ghost use Rattle.nest_tree.specs.Layout.{cell_count};
 ghost use Rattle.nest_tree.specs.Tree.{Tree};
-ghost use Rattle.nest_tree.specs.Values.{wrapped};
 ghost use Rattle.nest_tree.specs.WellFormed.{IsWellFormed};
 ghost use Rattle.nest_model.specs.Instances.{trips};
 ghost use Rattle.nest_model.specs.Memory.{last_memory, output_of};
@@ -22,7 +21,6 @@ ghost use Rattle.spmd_model.specs.Timelines.{acts_of};
 ghost use Rattle.spmd_model.specs.declared.style.Style.TheVariants.{Arrive};
 ghost use Rattle.thread_code.specs.Closed.{AreTurnings, IsTurningOf, floored, raised, turn_from};
 ghost use Rattle.thread_code.specs.Code.{Table, codes_of};
-ghost use Rattle.thread_acts.specs.Sums.{AreNear, Terms, size_of, sum_of, word_sum};
 ghost use Rattle.thread_acts.specs.ThreadDeeds.{code_deeds, last_trip};
 ghost use Rattle.thread_acts.specs.ThreadRuns.{AreDone, CanGoOn, next_deed, threads_of, threads_run};
 
@@ -109,17 +107,4 @@ pub fn shorter_texts_are_the_same()
         → y < workers → y / divisor * 1 % stride ≡ y / divisor }
     ensures last { (m1 m2 : ℤ) → (last_trip m1 m2 (pos 1) ≡ m2)
         × (last_trip m1 m2 (negsuc 0) ≡ m2) }
-{}
-
-/// A sum whose size is below 2^62 keeps within 2^62 of 0 at each step, where each value is within
-/// 2^32; and one that is made of words is exact where the whole fits in 64 bits.
-pub fn sums_are_exact()
-    ensures plain { (constant : ℤ) (terms : Terms) (k : ℕ) → AreNear terms
-        → size_of constant terms < 2 ^ 62 → unsigned_abs (sum_of (pos 0) (take k terms)) < 2 ^ 62 }
-    ensures whole { (constant : ℤ) (terms : Terms) → AreNear terms
-        → size_of constant terms < 2 ^ 62 → unsigned_abs (sum_of (pos 0) terms +ℤ constant)
-        < 2 ^ 62 }
-    ensures words { (constant : ℤ) (terms : Terms) → FitsSigned w64 (sum_of (pos 0)
-        terms +ℤ constant) → wrapped (word_sum (pos 0) terms +ℤ constant)
-        ≡ sum_of (pos 0) terms +ℤ constant }
 {}
