@@ -1,5 +1,5 @@
 -- What was found is due.
-use Rattle.std.proofs.Common.{◌≡◌, ◌∙◌, ℕ, ℤ, true, true≢false, refl, ap, ap₂, sym, subst, List, Option, None, Some}
+use Rattle.std.proofs.Common.{◌≡◌, ◌∙◌, ℕ, ℤ, true, ap, ap₂, sym, subst, List, Option, None, Some}
 use Rattle.std.specs.Prelude.{drop}
 use Rattle.clap.specs.Words.{Text}
 use Rattle.nest_tree.specs.Tree.{Tree}
@@ -11,12 +11,11 @@ use Rattle.command_words.specs.Sweeps.{Sweep}
 use Rattle.command_words.specs.Wanted.{Wanted, verify, swept, run}
 use Rattle.plan_checker.specs.Proved.{first_unproved}
 use Rattle.command_words.specs.declared.request.Engine.{Engine}
-use Rattle.command_words.specs.declared.request.Engine.TheVariants.{Core, Join, Spmd}
-use Rattle.command_words.specs.declared.request.PlanChoice.{PlanChoice}
 use Rattle.command_words.specs.declared.request.PlanChoice.TheVariants.{Given}
-use Rattle.spmd_answer.specs.Due.{Due, IsDueOf, IsDueOn, IsFirstOr, IsRefusalFor, IsTextBy, Readings, readings, settings_for, behind_end, behind_of, done, due_of_refusal, is_shared, plan_refused, unaccepted}
+use Rattle.spmd_answer.specs.Due.{Due, IsDueOf, IsDueOn, IsFirstOr, IsRefusalFor, Readings, readings, settings_for, behind_end, behind_of, done, due_of_refusal, is_run, plan_refused, unaccepted}
 use Rattle.spmd_answer.specs.Given.{IsRefusedPlan, IsUnprovedPlan}
-use Rattle.spmd_answer.specs.Receipts.{HasReceipt, HasReceiptOf, IsLeftBy, style_for}
+use Rattle.spmd_answer.specs.declared.receipt.Receipt.{Receipt}
+use Rattle.spmd_answer.specs.Receipts.{HasReceipt, HasReceiptOf, IsReceiptOf}
 use Rattle.spmd_answer.specs.Stops.{IsPlanStop, IsStop, IsStopBy, IsStopFor, due_in}
 use Rattle.spmd_answer.specs.declared.source.Behind.{Behind}
 use Rattle.spmd_answer.specs.declared.status.Answer.{Answer}
@@ -24,10 +23,6 @@ use Rattle.spmd_answer.specs.declared.status.Status.TheVariants.{Done, PlanRefus
 use Rattle.spmd_answer.specs.declared.status.Stop.{Stop}
 use Rattle.spmd_answer.specs.declared.status.Stop.TheVariants as stop
 use Rattle.spmd_answer.proofs.Statuses.{refused_or_done}
-use Rattle.styled_table.specs.Ends.{End}
-use Rattle.nest_tree.specs.View.{tree_of}
-use Rattle.nest_tree.specs.declared.tree.Program.{Program}
-use Rattle.sync_plan.specs.declared.plan.Plan.{Plan}
 
 first_is : (o : Option Due) (IsElse : Due → Type 0) (d : Due) → o ≡ Some d → IsFirstOr o IsElse d
 first_is None IsElse d e = absurd (cc)
@@ -94,36 +89,12 @@ pub none_of_stop : (wanted : Wanted) (settings all : List (Name × ℤ)) (bytes 
 none_of_stop wanted settings all bytes behind s a e h =
     λ shared. refused_or_done behind bytes all (due_in a) (subst (IsStop (due_of_refusal behind bytes all)) e h)
 
--- what a run by spmd leaves is the receipt of its text
-pub shared_left : (wanted : Wanted) (program : Program) (plan : Plan) (bytes text : List ℕ) (receipt : Option End) (a : Answer)
-    → is_shared wanted ≡ true → IsTextBy wanted (tree_of program) bytes plan text → IsLeftBy (Spmd (style_for wanted)) program plan receipt → due_in a ≡ done text → HasReceipt wanted (tree_of program) bytes (due_in a) receipt
-shared_left wanted program plan bytes text None a shared is (end, some, given, memory) e = absurd (cc)
-shared_left wanted program plan bytes text (Some r) a shared is (end, some, given, memory) e =
-    let same : end ≡ r = cc in (
-      shared,
-      ap (λ d. d.status) e,
-      record {
-        program = program;
-        plan = plan;
-        given = ap (λ (x : End). x.given) (sym same) ∙ given;
-        program_is = refl;
-        written = subst (IsTextBy wanted (tree_of program) bytes plan) (ap (λ d. d.text) (sym e)) is;
-        memory = ap (λ (x : End). x.memory) (sym same) ∙ memory;
-      },
-    )
-
--- what a run by any engine leaves
-pub left_by : (by : Engine) (workers : ℕ) (choice : PlanChoice) (settings : List Text) (program : Program) (plan : Plan) (bytes text : List ℕ) (receipt : Option End) (a : Answer)
-    → IsTextBy (run workers choice by settings) (tree_of program) bytes plan text → IsLeftBy by program plan receipt → due_in a ≡ done text → HasReceipt (run workers choice by settings) (tree_of program) bytes (due_in a) receipt
-left_by (Core style) workers choice settings program plan bytes text None a is left e = λ shared. absurd (true≢false (sym shared))
-left_by (Core style) workers choice settings program plan bytes text (Some end) a is left e = absurd (cc)
-left_by Join workers choice settings program plan bytes text None a is left e = λ shared. absurd (true≢false (sym shared))
-left_by Join workers choice settings program plan bytes text (Some end) a is left e = absurd (cc)
-left_by (Spmd style) workers choice settings program plan bytes text receipt a is left e =
-    shared_left (run workers choice (Spmd style) settings) program plan bytes text receipt a refl is left e
+-- what a run by a plan leaves is the receipt of its text
+pub run_left : (wanted : Wanted) (tree : Tree) (bytes text : List ℕ) (r : Receipt) (a : Answer) → is_run wanted ≡ true → IsReceiptOf wanted tree bytes text r → due_in a ≡ done text → HasReceipt wanted tree bytes (due_in a) (Some r)
+run_left wanted tree bytes text r a ran is e = (ran, ap (λ d. d.status) e, subst (λ (t : List ℕ). IsReceiptOf wanted tree bytes t r) (ap (λ d. d.text) (sym e)) is)
 
 -- the receipt on a source's program is the one of the source
-pub receipt_of_program : (wanted : Wanted) (settings all : List (Name × ℤ)) (bytes : List ℕ) (tree : Tree) (place : ℕ) (rest : List ℕ) (d : Due) (receipt : Option End)
+pub receipt_of_program : (wanted : Wanted) (settings all : List (Name × ℤ)) (bytes : List ℕ) (tree : Tree) (place : ℕ) (rest : List ℕ) (d : Due) (receipt : Option Receipt)
     → all ≡ settings_for wanted settings → tree ≡ program_in (entries_of bytes) all → place ≡ size_to_end (lines_of bytes) → rest ≡ drop place bytes → HasReceipt wanted tree rest d receipt → HasReceiptOf wanted settings bytes d receipt
 receipt_of_program wanted settings all bytes tree place rest d receipt those tree_is place_is rest_is h =
     subst (λ (t : Tree). HasReceipt wanted t (behind_end bytes) d receipt) (tree_is ∙ ap (program_in (entries_of bytes)) those) (subst (λ (xs : List ℕ). HasReceipt wanted tree xs d receipt) (rest_is ∙ ap (λ n. drop n bytes) place_is) h)

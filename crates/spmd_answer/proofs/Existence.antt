@@ -1,7 +1,6 @@
 -- It is not so that nothing is due for a request.
-use Rattle.std.proofs.Common.{◌≡◌, ◌∙◌, ◌==◌, ◌≤◌, ◌+◌, ℕ, suc, zero, ℤ, Bool, true, false, true≢false, ap, sym, subst, refl, List, [], ◌∷◌, ◌++◌, append_assoc, append-nil, length, Option, None, Some, codes, if◌then◌else◌, arith, eqb-true}
+use Rattle.std.proofs.Common.{◌≡◌, ◌∙◌, ◌==◌, ◌≤◌, ◌+◌, ℕ, suc, zero, ℤ, Bool, true, false, true≢false, ap, sym, refl, List, [], ◌∷◌, ◌++◌, append_assoc, append-nil, length, Option, None, Some, codes, if◌then◌else◌, arith, eqb-true}
 use Rattle.std.specs.Fmt.{decimal}
-use Rattle.std.specs.List.{flat_map}
 use Rattle.std.proofs.lemmas.List.{length-append}
 use Rattle.nest_tree.specs.Tree.{Tree}
 use Rattle.nest_model.specs.Memory.{output_of}
@@ -14,7 +13,6 @@ use Rattle.sync_plan.specs.declared.plan.Plan.{Plan}
 use Rattle.sync_plan.specs.declared.plan.Version.TheVariants.{One}
 use Rattle.plan_text.specs.PlanText.{HasText, IsPlanText, plan_lines, plan_text, text_of}
 use Rattle.plan_text.specs.Refused.{IsFirstAlien, Opens}
-use Rattle.plan_checker.specs.Accepted.{IsAccepted}
 use Rattle.plan_checker.specs.Failures.{first_failure}
 use Rattle.plan_checker.specs.RefusalText.{text_of_refusal}
 use Rattle.plan_checker.specs.declared.refusal.PlanRefusal.{PlanRefusal}
@@ -23,8 +21,8 @@ use Rattle.plan_checker.specs.Proved.{first_unproved}
 use Rattle.plan_checker.proofs.Certified.{accepted_where_none, proved_where_none}
 use Rattle.command_words.specs.Wanted.{Wanted, sequential, verify, swept, planned, run, bench}
 use Rattle.command_words.specs.declared.request.PlanChoice.TheVariants.{Made, Barrier, Given}
-use Rattle.spmd_answer.specs.Due.{Due, IsDueOf, IsDueOn, IsFirstOr, IsRefusalFor, IsTextFor, Readings, readings, settings_for, swept_text, behind_end, behind_of, done, due_of_refusal, line, makes_plan, plan_refused, unaccepted, written}
-use Rattle.spmd_answer.specs.Given.{HasWorkers, IsProvedPlan, IsRefusedBy, IsRefusedPlan, IsTakenPlan, IsUnprovedPlan, first_reason, no_text, unfit}
+use Rattle.spmd_answer.specs.Due.{Due, IsDueOf, IsDueOn, IsFirstOr, Readings, readings, settings_for, swept_text, behind_end, behind_of, done, due_of_refusal, line, makes_plan, plan_refused, unaccepted, written}
+use Rattle.spmd_answer.specs.Given.{IsProvedPlan, IsRefusedBy, IsRefusedPlan, IsTakenPlan, IsUnprovedPlan, first_reason, no_text, unfit}
 
 -- ---- bytes are a plan's text or have a first line that no plan's text has
 

@@ -4,3 +4,4 @@ pub mod Existence
 pub mod Statuses
 mod Sweeps
 pub mod Unique
+mod Left

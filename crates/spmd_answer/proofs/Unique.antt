@@ -1,5 +1,5 @@
 -- One status with one text is due for a request.
-use Rattle.std.proofs.Common.{◌≡◌, ◌≢◌, ◌∙◌, ◌==◌, ℕ, ℤ, Bool, true, false, true≢false, ap, sym, subst, refl, List, [], ◌++◌, append-nil, Option, None, Some, codes}
+use Rattle.std.proofs.Common.{◌≡◌, ◌≢◌, ◌∙◌, ◌==◌, ℕ, ℤ, true, false, true≢false, ap, sym, subst, refl, List, [], ◌++◌, append-nil, Option, None, Some, codes}
 use Rattle.std.specs.Fmt.{decimal}
 use Rattle.std.proofs.lemmas.Bool.Decides.{nat_tests}
 use Rattle.std.proofs.Common.{arith}
@@ -10,10 +10,8 @@ use Rattle.f77_scene.specs.Reading.{program_in}
 use Rattle.f77_scene.specs.Scene.{Name}
 use Rattle.sync_plan.specs.declared.plan.Plan.{Plan}
 use Rattle.plan_text.specs.PlanText.{HasText, plan_text}
-use Rattle.plan_text.specs.Refused.{IsFirstAlien}
 use Rattle.plan_text.proofs.PlanLaws.{one_alien, text_front}
 use Rattle.plan_checker.specs.Accepted.{IsAccepted}
-use Rattle.plan_checker.specs.Failures.{first_failure}
 use Rattle.plan_checker.specs.RefusalText.{text_of_refusal}
 use Rattle.plan_checker.specs.declared.refusal.PlanRefusal.{PlanRefusal}
 use Rattle.plan_checker.specs.Proved.{first_unproved}

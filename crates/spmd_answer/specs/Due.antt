@@ -18,7 +18,6 @@ use Rattle.range_check.specs.Outside.{outside_of}
 use Rattle.range_check.specs.OutsideText.{text_of_outside}
 use Rattle.command_words.specs.Sweeps.{Sweep}
 use Rattle.command_words.specs.Wanted.{Wanted, sequential, verify, swept, planned, run, bench}
-use Rattle.command_words.specs.declared.request.Engine.TheVariants.{Core, Join, Spmd}
 use Rattle.command_words.specs.declared.request.PlanChoice.{PlanChoice}
 use Rattle.command_words.specs.declared.request.PlanChoice.TheVariants.{Made, Barrier, Given}
 use Rattle.plan_text.specs.PlanText.{plan_text}
@@ -139,16 +138,14 @@ makes_plan (run workers Barrier by settings) = true
 makes_plan (run workers Given by settings) = false
 makes_plan (bench workers points sweeps) = true
 
--- a request is for a run by workers over words that they share, which leaves a receipt
-abbrev pub is_shared : Wanted → Bool
-is_shared (sequential settings) = false
-is_shared (verify settings) = false
-is_shared (swept s settings) = false
-is_shared (planned workers settings) = false
-is_shared (run workers choice (Core style) settings) = false
-is_shared (run workers choice Join settings) = false
-is_shared (run workers choice (Spmd style) settings) = true
-is_shared (bench workers points sweeps) = true
+-- a request is for a run by a plan, which leaves a receipt
+abbrev pub is_run : Wanted → Bool
+is_run (sequential settings) = false
+is_run (verify settings) = false
+is_run (swept s settings) = false
+is_run (planned workers settings) = false
+is_run (run workers choice by settings) = true
+is_run (bench workers points sweeps) = true
 
 -- the bytes behind the line end of END
 abbrev pub behind_end : List ℕ → List ℕ

@@ -1,5 +1,6 @@
 pub mod Bench
 pub mod Due
+pub mod Ends
 pub mod Faults
 pub mod Given
 pub mod Inputs

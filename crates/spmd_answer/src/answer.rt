@@ -19,6 +19,7 @@ use crate::given::given_plan;
 use crate::host::Host;
 use crate::plan::plan_for;
 use crate::program::program_of;
+use crate::receipt::Receipt;
 use crate::run::{sequential_output, text_of_plan, text_of_run};
 use crate::source::behind_of;
 use crate::status::{Answer, Status, Stop};
@@ -31,12 +32,11 @@ use plan_maker::make;
 use spmd_ports::Gate;
 use std::alloc::{AllocError, Global};
 use std::thread::Threads;
-use styled_table::Receipt;
 
 /// What is due for a request with these settings and the bytes of a source: of a source that is
 /// refused the line that says so; else of a plan that is given and refused the line that says so;
-/// else what its program's run writes, or that the plan is accepted; and the receipt of a run by
-/// spmd. Workers pass the gate. The error is that memory ran out.
+/// else what its program's run writes, or that the plan is accepted; and the receipt of a run by a
+/// plan. Workers pass the gate. The error is that memory ran out.
 pub fn answer_to<R: Threads + Sync, G: Gate + Sync>(
     host: &Host<'_, R, G>,
     request: &Request,
@@ -84,7 +84,7 @@ pub(crate) fn answer_in(stop: Stop) -> Result<Answer, AllocError>
 }
 
 /// What is due for a request on a program, which was read from this input, and the receipt of a run
-/// by spmd. Workers pass the gate. The error is that memory ran out.
+/// by a plan. Workers pass the gate. The error is that memory ran out.
 pub fn answer_on<R: Threads + Sync, G: Gate + Sync>(
     host: &Host<'_, R, G>,
     request: &Request,
@@ -129,7 +129,7 @@ fn planned_run<R: Threads + Sync, G: Gate + Sync>(
     match plan_for(host, program, bytes, asked) {
         Ok(plan) => {
             let (text, receipt) = text_of_run(host, program, &plan, asked.engine)?;
-            Ok((done(text), receipt))
+            Ok((done(text), Some(receipt)))
         }
         Err(stop) => Ok((answer_in(stop)?, None)),
     }
@@ -150,7 +150,7 @@ fn benched<R: Threads + Sync, G: Gate + Sync>(
     ensures receipt { (bytes : List ℕ) → IfOk result (λ r. HasReceipt (bench sizes.workers sizes.points sizes.sweeps) (tree_of program.now) bytes (due_in r.0) r.1) }
 {
     let (text, receipt) = bench_run(host, program, sizes)?;
-    Ok((done(text), receipt))
+    Ok((done(text), Some(receipt)))
 }
 
 /// All was done, with this text.

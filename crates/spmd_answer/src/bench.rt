@@ -7,9 +7,10 @@ ghost use Rattle.nest_tree.specs.WellFormed.{IsWellFormed};
 ghost use Rattle.nest_model.specs.Ranges.{IsInRange};
 ghost use Rattle.command_words.specs.Wanted as wanted;
 ghost use Rattle.spmd_answer.specs.Bench as texts;
-ghost use Rattle.spmd_answer.specs.Receipts.{IsRunOf};
+ghost use Rattle.spmd_answer.specs.Receipts.{IsReceiptOf};
 
 use crate::host::Host;
+use crate::receipt::Receipt;
 use crate::run::{joined, output_by};
 use command_words::{Bench, Engine};
 use nest_tree::Program;
@@ -19,7 +20,6 @@ use spmd_ports::Gate;
 use std::alloc::{AllocError, Global};
 use std::fmt::Write;
 use std::thread::Threads;
-use styled_table::Receipt;
 use sync_plan::{Kind, Plan};
 
 /// The source of the program that `bench` runs. The error is that memory ran out.
@@ -43,13 +43,13 @@ pub fn bench_run<R: Threads + Sync, G: Gate + Sync>(
     host: &Host<'_, R, G>,
     program: &Program,
     bench: Bench,
-) -> Result<(Vec<u8>, Option<Receipt>), AllocError>
+) -> Result<(Vec<u8>, Receipt), AllocError>
     requires formed { IsWellFormed (tree_of program.now) }
     requires limits { IsWithinLimits (tree_of program.now) }
     requires ranges { IsInRange (tree_of program.now) }
     requires some { 1 ≤ bench.workers }
     requires few { bench.workers ≤ 64 }
-    ensures { (bytes : List ℕ) → IfOk result (λ r. IsRunOf (wanted.bench bench.workers bench.points bench.sweeps) program.now bytes r.0.items r.1) }
+    ensures { (bytes : List ℕ) → IfOk result (λ r. IsReceiptOf (wanted.bench bench.workers bench.points bench.sweeps) (tree_of program.now) bytes r.0.items r.1) }
 {
     let (plan, _) = make(host.alloc, program, bench.workers)?;
     let head = bench_head(host.alloc, bench, &plan)?;

@@ -11,6 +11,7 @@
 //! - [`plan`]: the plan by which a run goes.
 //! - [`tree`]: whether a program keeps within its limits and its subscripts in their ranges.
 //! - [`run`]: what a program's run writes, by each engine.
+//! - [`receipt`]: that a program was run by a plan.
 //! - [`refusals`]: the lines with which a source, a setting or a plan is refused.
 //! - [`sweep`]: a plan that is proved once, for the values of a named constant.
 //! - [`status`]: how a command ends, answers, and why there is no program to run.
@@ -23,6 +24,7 @@ pub mod host;
 pub mod laws;
 pub mod plan;
 pub mod program;
+pub mod receipt;
 pub mod refusals;
 pub mod run;
 pub mod source;
@@ -37,6 +39,7 @@ pub use crate::host::Host;
 pub use crate::laws::{four_statuses_are_due, never_none, one_due};
 pub use crate::plan::plan_for;
 pub use crate::program::program_of;
+pub use crate::receipt::Receipt;
 pub use crate::run::{output_by, sequential_output, text_of_plan, text_of_run};
 pub use crate::source::{Behind, behind_of, lines_of};
 pub use crate::status::{Answer, Status, Stop};

@@ -11,8 +11,10 @@ ghost use Rattle.reason_text.specs.ReasonText.{reason_text};
 ghost use Rattle.sync_plan.specs.Fit.{IsFit};
 ghost use Rattle.sync_plan.specs.Ordered.{IsOrdered};
 ghost use Rattle.spmd_answer.specs.Receipts.{IsLeftBy};
+ghost use Rattle.command_words.specs.declared.request.Engine.TheVariants.{Core, Join, Spmd};
 
 use crate::host::Host;
+use crate::receipt::Receipt;
 use command_words::Engine;
 use fork_join::run_join;
 use nest_tree::Program;
@@ -20,13 +22,12 @@ use plan_maker::reasons::Reasons;
 use plan_text::write_plan;
 use reason_text::push_reasons;
 use seq_meaning::run_sequential;
-use spmd_machine::Machine;
+use spmd_machine::{Machine, Receipt as CoreReceipt};
 use spmd_model::Style;
 use spmd_ports::Gate;
 use std::alloc::{AllocError, Global};
 use std::thread::Threads;
 use styled_run::run_spmd_with;
-use styled_table::Receipt;
 use sync_plan::Plan;
 
 /// What a program prints. The error is that memory ran out.
@@ -40,15 +41,14 @@ pub fn sequential_output(alloc: Global, program: &Program) -> Result<Vec<u8>, Al
     output.as_slice().to_vec(alloc)
 }
 
-/// The text of a plan, and then the output of the run by it, which is the sequential one; and of a
-/// run by spmd the receipt. A run by join or by spmd passes the gate. The error is that memory ran
-/// out.
+/// The text of a plan, and then the output of the run by it, which is the sequential one; and the
+/// run's receipt. A run by join or by spmd passes the gate. The error is that memory ran out.
 pub fn text_of_run<R: Threads + Sync, G: Gate + Sync>(
     host: &Host<'_, R, G>,
     program: &Program,
     plan: &Plan,
     engine: Engine,
-) -> Result<(Vec<u8>, Option<Receipt>), AllocError>
+) -> Result<(Vec<u8>, Receipt), AllocError>
     requires formed { IsWellFormed (tree_of program.now) }
     requires limits { IsWithinLimits (tree_of program.now) }
     requires ranges { IsInRange (tree_of program.now) }
@@ -56,7 +56,7 @@ pub fn text_of_run<R: Threads + Sync, G: Gate + Sync>(
     requires ordered { IsOrdered (tree_of program.now) plan.now }
     requires counts { HasCounts plan.now }
     ensures text { IfOk result (λ r. r.0.items ≡ plan_text plan.now ++ output_of (tree_of program.now)) }
-    ensures receipt { IfOk result (λ r. IsLeftBy engine program.now plan.now r.1) }
+    ensures receipt { IfOk result (λ r. IsLeftBy engine (tree_of program.now) plan.now r.1) }
 {
     let text = write_plan(host.alloc, plan)?;
     let (output, receipt) = output_by(host, program, plan, engine)?;
@@ -71,34 +71,27 @@ pub fn joined(mut front: Vec<u8>, behind: &[u8]) -> Result<Vec<u8>, AllocError>
     Ok(front)
 }
 
-/// The output of the run by an ordered plan, and of a run by spmd the receipt. The error is that
-/// memory ran out.
+/// The output of the run by an ordered plan, and the run's receipt. The error is that memory ran
+/// out.
+#[tactic(auto, using(crate::proofs::Left::by_engine))]
 pub fn output_by<R: Threads + Sync, G: Gate + Sync>(
     host: &Host<'_, R, G>,
     program: &Program,
     plan: &Plan,
     engine: Engine,
-) -> Result<(Vec<u8>, Option<Receipt>), AllocError>
+) -> Result<(Vec<u8>, Receipt), AllocError>
     requires formed { IsWellFormed (tree_of program.now) }
     requires limits { IsWithinLimits (tree_of program.now) }
     requires ranges { IsInRange (tree_of program.now) }
     requires fits { IsFit (tree_of program.now) plan.now }
     requires ordered { IsOrdered (tree_of program.now) plan.now }
     ensures output { IfOk result (λ r. r.0.items ≡ output_of (tree_of program.now)) }
-    ensures receipt { IfOk result (λ r. IsLeftBy engine program.now plan.now r.1) }
+    ensures receipt { IfOk result (λ r. IsLeftBy engine (tree_of program.now) plan.now r.1) }
 {
-    let alloc = host.alloc;
     match engine {
-        Engine::Core(style) => Ok((core_output(alloc, program, plan, style)?, None)),
-        Engine::Join => {
-            let (_, output) = run_join(host.rt, alloc, program, plan, host.gate)?;
-            Ok((output.as_slice().to_vec(alloc)?, None))
-        }
-        Engine::Spmd(style) => {
-            let (closed, output) = run_spmd_with(host.rt, alloc, program, plan, host.gate, style)?;
-            let output = output.as_slice().to_vec(alloc)?;
-            Ok((output, Some(closed.into_receipt())))
-        }
+        Engine::Core(style) => core_run(host.alloc, program, plan, style),
+        Engine::Join => join_run(host, program, plan),
+        Engine::Spmd(style) => spmd_run(host, program, plan, style),
     }
 }
 
@@ -117,22 +110,65 @@ pub fn text_of_plan(
     Ok(text)
 }
 
-// The output of a run by an ordered plan on the model, in rounds of one step per processor, which
-// pass barriers in this style.
-fn core_output(
+// The output and the receipt of a run by an ordered plan on the machine, in rounds of one step per
+// processor, which pass barriers in this style.
+fn core_run(
     alloc: Global,
     program: &Program,
     plan: &Plan,
     style: Style,
-) -> Result<Vec<u8>, AllocError>
+) -> Result<(Vec<u8>, Receipt), AllocError>
     requires formed { IsWellFormed (tree_of program.now) }
     requires limits { IsWithinLimits (tree_of program.now) }
     requires ranges { IsInRange (tree_of program.now) }
     requires fits { IsFit (tree_of program.now) plan.now }
     requires ordered { IsOrdered (tree_of program.now) plan.now }
-    ensures { IfOk result (λ text. text.items ≡ output_of (tree_of program.now)) }
+    ensures output { IfOk result (λ r. r.0.items ≡ output_of (tree_of program.now)) }
+    ensures receipt { IfOk result (λ r. IsLeftBy (Core style) (tree_of program.now) plan.now r.1) }
 {
     let mut machine = Machine::new(alloc, program, plan, style)?;
     machine.round_robin();
-    machine.output().as_slice().to_vec(alloc)
+    let output = machine.output().as_slice().to_vec(alloc)?;
+    Ok((output, Receipt::Core(CoreReceipt::of(machine))))
+}
+
+// The same by fork and join, whose workers pass the gate.
+fn join_run<R: Threads + Sync, G: Gate + Sync>(
+    host: &Host<'_, R, G>,
+    program: &Program,
+    plan: &Plan,
+) -> Result<(Vec<u8>, Receipt), AllocError>
+    requires formed { IsWellFormed (tree_of program.now) }
+    requires limits { IsWithinLimits (tree_of program.now) }
+    requires ranges { IsInRange (tree_of program.now) }
+    requires fits { IsFit (tree_of program.now) plan.now }
+    requires ordered { IsOrdered (tree_of program.now) plan.now }
+    ensures output { IfOk result (λ r. r.0.items ≡ output_of (tree_of program.now)) }
+    ensures receipt { IfOk result (λ r. IsLeftBy Join (tree_of program.now) plan.now r.1) }
+{
+    let (receipt, output) = run_join(host.rt, host.alloc, program, plan, host.gate)?;
+    Ok((
+        output.as_slice().to_vec(host.alloc)?,
+        Receipt::Join(receipt),
+    ))
+}
+
+// The same by workers that share words, pass barriers in this style, and pass the gate.
+fn spmd_run<R: Threads + Sync, G: Gate + Sync>(
+    host: &Host<'_, R, G>,
+    program: &Program,
+    plan: &Plan,
+    style: Style,
+) -> Result<(Vec<u8>, Receipt), AllocError>
+    requires formed { IsWellFormed (tree_of program.now) }
+    requires limits { IsWithinLimits (tree_of program.now) }
+    requires ranges { IsInRange (tree_of program.now) }
+    requires fits { IsFit (tree_of program.now) plan.now }
+    requires ordered { IsOrdered (tree_of program.now) plan.now }
+    ensures output { IfOk result (λ r. r.0.items ≡ output_of (tree_of program.now)) }
+    ensures receipt { IfOk result (λ r. IsLeftBy (Spmd style) (tree_of program.now) plan.now r.1) }
+{
+    let (closed, output) = run_spmd_with(host.rt, host.alloc, program, plan, host.gate, style)?;
+    let receipt = Receipt::Spmd(closed.into_receipt());
+    Ok((output.as_slice().to_vec(host.alloc)?, receipt))
 }

@@ -4,14 +4,14 @@ use Rattle.std.specs.Io.KnownBytes.{Consumes, IsAtEnd}
 use Rattle.f77_scene.specs.Scene.{Name}
 use Rattle.clap.specs.Words.{Text}
 use Rattle.command_words.specs.Settings.{first_fault_from, settings_in}
-use Rattle.styled_table.specs.Ends.{End}
 use Rattle.command_words.specs.declared.request.Bench.{Bench}
 use Rattle.command_words.specs.declared.request.Request.{Request}
 use Rattle.command_words.specs.declared.request.Request.TheVariants as request
-use Rattle.command_words.specs.Wanted.{IsCounted, Wanted, wanted, Takes, AreFaulty, asks_to_show, has_wrong_sweep, sequential, verify, swept, planned, run, bench}
+use Rattle.command_words.specs.Wanted.{IsCounted, Wanted, wanted, Takes, AreFaulty, asks_to_show, sequential, verify, swept, planned, run, bench}
 use Rattle.spmd_answer.specs.Bench.{bench_source}
 use Rattle.spmd_answer.specs.Due as answer
 use Rattle.spmd_answer.specs.Due.{Due, wrong_setting}
+use Rattle.spmd_answer.specs.declared.receipt.Receipt.{Receipt}
 use Rattle.spmd_answer.specs.Receipts.{HasReceiptOf}
 use Rattle.spmd_answer.specs.Stops.{due_in}
 use Rattle.spmd_answer.specs.declared.status.Answer.{Answer}
@@ -81,7 +81,7 @@ wrong-of w told words n d e first is =
     }
 
 -- of a request whose source was read to its end
-pub read-of : (w : Wanted) (told : Option (List ℕ)) (read : List ℕ) (source : (all : List ℕ) × AreTold told all × (read ≡ source_for w all)) (bytes : List ℕ) (words : List Text) (settings : List (Name × ℤ)) (d : Due) (receipt : Option End)
+pub read-of : (w : Wanted) (told : Option (List ℕ)) (read : List ℕ) (source : (all : List ℕ) × AreTold told all × (read ≡ source_for w all)) (bytes : List ℕ) (words : List Text) (settings : List (Name × ℤ)) (d : Due) (receipt : Option Receipt)
     → words ≡ settings_of w → (first_fault_from 1 words ≡ None) × (settings ≡ settings_in words) → bytes ≡ read → length read ≤ most_bytes
     → answer.IsDueOf w settings bytes d → HasReceiptOf w settings bytes d receipt → IsAnswerOf w told d receipt
 read-of w told read source bytes words settings d receipt e first same short is left =
@@ -111,7 +111,7 @@ long-of w old new words d e first takes is =
     }
 
 -- for words that stand for a request
-pub from-asked : (words : List Text) (told : Option (List ℕ)) (w : Wanted) (r : Result (Answer × Option End) Trouble) → Takes words w → IfOk r (λ a. IsAnswerOf w told (due_in a.0) a.1) → IfOk r (λ a. IsAnswerFrom words told (due_in a.0) a.1)
+pub from-asked : (words : List Text) (told : Option (List ℕ)) (w : Wanted) (r : Result (Answer × Option Receipt) Trouble) → Takes words w → IfOk r (λ a. IsAnswerOf w told (due_in a.0) a.1) → IfOk r (λ a. IsAnswerFrom words told (due_in a.0) a.1)
 from-asked words told w (Ok a) takes h = record {
   bytes = h.bytes;
   told = h.told;
@@ -132,5 +132,5 @@ from-faulty words told d are e = let some = some_told told in
     record { bytes = some.0; told = some.1; is_due = faulty are e; receipt_is = λ w takes. absurd (taken_or_faulty words w takes are); none = λ never. refl }
 
 -- what the answer to words says of its text alone
-pub due_from : (words : List Text) (told : Option (List ℕ)) (d : Due) (receipt : Option End) → IsAnswerFrom words told d receipt → IsDueFrom words told d
+pub due_from : (words : List Text) (told : Option (List ℕ)) (d : Due) (receipt : Option Receipt) → IsAnswerFrom words told d receipt → IsDueFrom words told d
 due_from words told d receipt is = record { bytes = is.bytes; told = is.told; is_due = is.is_due }

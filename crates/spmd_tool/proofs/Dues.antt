@@ -16,7 +16,7 @@ use Rattle.range_check.specs.Outside.{outside_of}
 use Rattle.clap.specs.Words.{Text, fault_of, subcommand_of}
 use Rattle.clap.specs.declared.error.kind.ErrorKind.{ErrorKind}
 use Rattle.command_words.specs.Rule.{tool_app}
-use Rattle.command_words.specs.Settings.{first_fault_from, settings_in}
+use Rattle.command_words.specs.Settings.{settings_in}
 use Rattle.command_words.specs.Wanted.{Wanted, sequential, verify, swept, planned, run, bench, Takes, AreFaulty, asks_to_show, has_wrong_sweep, is_shown, wanted_by}
 use Rattle.command_words.specs.declared.request.PlanChoice.TheVariants.{Made, Barrier, Given}
 use Rattle.spmd_answer.specs.Due as answer

@@ -1,12 +1,12 @@
 -- How the top call ends, from its answer and how it was written.
 use Rattle.std.proofs.Common.{◌≡◌, ◌≢◌, ℕ, true, false, List, [], Option, Some, None, ◌⊎◌, inl, inr, ap, sym, subst, ◌∙◌, refl, arith}
 use Rattle.std.specs.Io.KnownBytes.{Appends}
-use Rattle.styled_table.specs.Ends.{End}
 use Rattle.clap.specs.Words.{Text}
 use Rattle.command_words.specs.Wanted.{Wanted, Takes, sequential, verify, swept, planned, run, bench}
 use Rattle.command_words.proofs.Counted.{taken_counted}
 use Rattle.spmd_answer.specs.Bench.{bench_source}
-use Rattle.spmd_answer.specs.Due.{Due, is_shared}
+use Rattle.spmd_answer.specs.Due.{Due, is_run}
+use Rattle.spmd_answer.specs.declared.receipt.Receipt.{Receipt}
 use Rattle.spmd_answer.specs.declared.status.Status.{Status}
 use Rattle.spmd_answer.specs.declared.status.Status.TheVariants.{Done, SourceRefused, BadWords, ReadFault, WriteFault, NoMemory, PlanRefused, TooLong}
 use Rattle.spmd_answer.proofs.Benches.{bench_short}
@@ -149,11 +149,11 @@ said_or_fault TooLong s h = inl (h (λ e. absurd (cc)))
 
 -- ---- receipts
 
--- of a run by spmd with status 0 there is the receipt of what was written
-pub receipt-said : (words : List Text) (told : Option (List ℕ)) (status r : Status) (text t : List ℕ) (receipt : Option End) (w : Wanted) (a b : Option (List ℕ))
-    → IsAnswerFrom words told (due status text) receipt → t ≡ text → status ≡ Done → Appends a b t → Takes words w → is_shared w ≡ true → WritesReceipt w told a b receipt
-receipt-said words told status r text t None w a b is same done written takes shared = absurd (is.receipt_is w takes shared done)
-receipt-said words told status r text t (Some end) w a b is same done written takes shared =
+-- of a run with status 0 there is the receipt of what was written
+pub receipt-said : (words : List Text) (told : Option (List ℕ)) (status r : Status) (text t : List ℕ) (receipt : Option Receipt) (w : Wanted) (a b : Option (List ℕ))
+    → IsAnswerFrom words told (due status text) receipt → t ≡ text → status ≡ Done → Appends a b t → Takes words w → is_run w ≡ true → WritesReceipt w told a b receipt
+receipt-said words told status r text t None w a b is same done written takes runs = absurd (is.receipt_is w takes runs done)
+receipt-said words told status r text t (Some end) w a b is same done written takes runs =
     let run = request-done w (source_for w is.bytes) (due status text) (asked-due words is.bytes w (due status text) takes is.is_due) done in
     record {
       bytes = is.bytes;
@@ -161,14 +161,14 @@ receipt-said words told status r text t (Some end) w a b is same done written ta
       runnable = run.runnable;
       text = text;
       written = subst (Appends a b) same written;
-      end = end;
+      left = end;
       receipt_is = refl;
       is_receipt = (is.receipt_is w takes).2;
     }
 
 -- and without there is none
-pub receipt-none : (words : List Text) (told : Option (List ℕ)) (status : Status) (text : List ℕ) (receipt : Option End)
-    → IsAnswerFrom words told (due status text) receipt → status ≡ Done → ((w : Wanted) → Takes words w → is_shared w ≡ true → ⊥) → receipt ≡ None
+pub receipt-none : (words : List Text) (told : Option (List ℕ)) (status : Status) (text : List ℕ) (receipt : Option Receipt)
+    → IsAnswerFrom words told (due status text) receipt → status ≡ Done → ((w : Wanted) → Takes words w → is_run w ≡ true → ⊥) → receipt ≡ None
 receipt-none words told status text None is done never = refl
 receipt-none words told status text (Some end) is done never = by_case is.is_due
   where

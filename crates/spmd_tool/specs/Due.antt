@@ -10,11 +10,11 @@ use Rattle.clap.specs.Words.{Text}
 use Rattle.command_words.specs.Settings.{first_fault_from, settings_in}
 use Rattle.command_words.specs.Wanted.{Wanted, sequential, verify, swept, planned, run, bench, Takes, AreFaulty, asks_to_show, has_wrong_sweep}
 use Rattle.command_words.specs.declared.request.PlanChoice.TheVariants.{Made, Barrier, Given}
-use Rattle.styled_table.specs.Ends.{End}
 use Rattle.spmd_answer.specs.Bench.{bench_source}
 use Rattle.spmd_answer.specs.Due as answer
 use Rattle.spmd_answer.specs.Due.{Due, IsFirstOr, Readings, behind_end, behind_of, due_of_refusal, line, readings, settings_for, wrong_setting, wrong_sweep}
 use Rattle.spmd_answer.specs.Given.{IsProvedPlan, IsTakenPlan}
+use Rattle.spmd_answer.specs.declared.receipt.Receipt.{Receipt}
 use Rattle.spmd_answer.specs.Receipts.{HasReceipt}
 use Rattle.spmd_answer.specs.declared.status.Status.{Status}
 use Rattle.spmd_answer.specs.declared.status.Status.TheVariants.{Done, SourceRefused, BadWords, ReadFault, WriteFault, NoMemory, PlanRefused, TooLong}
@@ -116,8 +116,8 @@ HasPlan (run workers Made by settings) tree bytes = ⊤
 HasPlan (run workers Barrier by settings) tree bytes = ⊤
 HasPlan (run workers Given by settings) tree bytes = (plan : Plan) × IsTakenPlan (Some workers) tree bytes plan
 
--- There is the receipt of a run by spmd, where it writes what is due for a request from these bytes of its source, and else none.
-abbrev pub HasReceiptFor : Wanted → List ℕ → Due → Option End → Type 0
+-- There is the receipt of a run by a plan, where it writes what is due for a request from these bytes of its source, and else none.
+abbrev pub HasReceiptFor : Wanted → List ℕ → Due → Option Receipt → Type 0
 HasReceiptFor wanted bytes due receipt = HasReceipt wanted (program_for wanted bytes) (behind_end bytes) due receipt
 
 -- The bytes stand for a program that is within its limits and has its subscripts in range, where its named constants have the values of the request's settings; and what stands behind END may.

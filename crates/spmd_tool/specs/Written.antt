@@ -2,9 +2,9 @@
 use Rattle.std.specs.Prelude.{ℕ, ◌≡◌, List, Option, Some, None}
 use Rattle.std.specs.Io.KnownBytes.{Appends}
 use Rattle.clap.specs.Words.{Text}
-use Rattle.styled_table.specs.Ends.{End}
 use Rattle.command_words.specs.Wanted.{Takes, Wanted}
 use Rattle.spmd_answer.specs.Due.{Due, IsRefusalFor, IsTextFor, behind_end, line}
+use Rattle.spmd_answer.specs.declared.receipt.Receipt.{Receipt}
 use Rattle.spmd_answer.specs.Receipts.{IsReceiptOf}
 use Rattle.spmd_answer.specs.declared.status.Status.{Status}
 use Rattle.spmd_tool.specs.Due.{HasReceiptFor, IsDue, IsDueFor, IsRunnable, IsUnplanned, program_for, readings_for, source_for}
@@ -16,15 +16,15 @@ pub record IsDueFrom (words : List Text) (source : Option (List ℕ)) (due : Due
   pub told : AreTold source bytes
   pub is_due : IsDue words bytes due
 
--- This is due for a request and the bytes of the source, where it tells them, and this is the receipt of a run by spmd.
-pub record IsAnswerOf (wanted : Wanted) (source : Option (List ℕ)) (due : Due) (receipt : Option End) : Type 0 where
+-- This is due for a request and the bytes of the source, where it tells them, and this is the receipt of a run by a plan.
+pub record IsAnswerOf (wanted : Wanted) (source : Option (List ℕ)) (due : Due) (receipt : Option Receipt) : Type 0 where
   pub bytes : List ℕ
   pub told : AreTold source bytes
   pub is_due : IsDueFor wanted (source_for wanted bytes) due
   pub receipt_is : HasReceiptFor wanted (source_for wanted bytes) due receipt
 
 -- The same for words; without a request there is no receipt.
-pub record IsAnswerFrom (words : List Text) (source : Option (List ℕ)) (due : Due) (receipt : Option End) : Type 0 where
+pub record IsAnswerFrom (words : List Text) (source : Option (List ℕ)) (due : Due) (receipt : Option Receipt) : Type 0 where
   pub bytes : List ℕ
   pub told : AreTold source bytes
   pub is_due : IsDue words bytes due
@@ -52,16 +52,16 @@ pub record WritesRun (wanted : Wanted) (source : Option (List ℕ)) (old new : O
   pub is_text : IsTextFor wanted (program_for wanted (source_for wanted bytes)) (readings_for wanted (source_for wanted bytes)) (behind_end (source_for wanted bytes)) text
   pub written : Appends old new text
 
--- The same of a run by spmd: what was written is what the run by one plan writes, and of that program and that plan is the receipt, with the last memory.
-pub record WritesReceipt (wanted : Wanted) (source : Option (List ℕ)) (old new : Option (List ℕ)) (receipt : Option End) : Type 0 where
+-- The same of a run by a plan: what was written is what the run by one plan writes, and of that program, that plan and the engine that was asked for is the receipt, with the last memory.
+pub record WritesReceipt (wanted : Wanted) (source : Option (List ℕ)) (old new : Option (List ℕ)) (receipt : Option Receipt) : Type 0 where
   pub bytes : List ℕ
   pub told : AreTold source bytes
   pub runnable : IsRunnable wanted (source_for wanted bytes)
   pub text : List ℕ
   pub written : Appends old new text
-  pub end : End
-  pub receipt_is : receipt ≡ Some end
-  pub is_receipt : IsReceiptOf wanted (program_for wanted (source_for wanted bytes)) (behind_end (source_for wanted bytes)) text end
+  pub left : Receipt
+  pub receipt_is : receipt ≡ Some left
+  pub is_receipt : IsReceiptOf wanted (program_for wanted (source_for wanted bytes)) (behind_end (source_for wanted bytes)) text left
 
 -- The bytes of the source stand for such a program, but the plan that the request takes from behind END is refused, and the line that says so was written.
 pub record WritesRefusal (wanted : Wanted) (source : Option (List ℕ)) (old new : Option (List ℕ)) : Type 0 where

@@ -16,12 +16,11 @@ use crate::outside::{ReadTrouble, read_all};
 use clap::Error;
 use command_words::{Refused, Request, SettingFault, read_settings, read_words};
 use spmd_answer::refusals::{setting_answer, sweep_answer};
-use spmd_answer::{Answer, Host, Status, answer_to, bench_source};
+use spmd_answer::{Answer, Host, Receipt, Status, answer_to, bench_source};
 use spmd_ports::{Gate, Source};
 use std::alloc::{AllocError, Global};
 use std::fmt::Write;
 use std::thread::Threads;
-use styled_table::Receipt;
 
 /// Why there is no answer.
 #[derive(Clone, Copy, Debug, PartialEq, Eq)]
@@ -41,8 +40,8 @@ impl From<AllocError> for Trouble {
 }
 
 /// The answer to words, which stand without the program's name, from the bytes of the source, and
-/// the receipt of a run by spmd, whose workers pass the gate. The source is read only where the words
-/// stand for a request that reads it and its settings have the form of settings.
+/// the receipt of a run by a plan, whose workers pass the gate. The source is read only where the
+/// words stand for a request that reads it and its settings have the form of settings.
 pub fn answer_in<R: Threads + Sync, S: Source, G: Gate + Sync>(
     host: &Host<'_, R, G>,
     words: &[&str],
@@ -67,7 +66,7 @@ pub fn answer_in<R: Threads + Sync, S: Source, G: Gate + Sync>(
     }
 }
 
-// The answer to a request, and the receipt of a run by spmd.
+// The answer to a request, and the receipt of a run by a plan.
 fn answer_for<R: Threads + Sync, S: Source, G: Gate + Sync>(
     host: &Host<'_, R, G>,
     request: &Request,

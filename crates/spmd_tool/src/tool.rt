@@ -5,18 +5,17 @@ ghost use Rattle.std.specs.Io.KnownBytes.{Appends, IsAtEnd};
 ghost use Rattle.clap.specs.Walk.{texts};
 ghost use Rattle.command_words.specs.Wanted.{Takes, Wanted, asks_to_show, bench};
 ghost use Rattle.spmd_ports.specs.Counts.{Rose};
-ghost use Rattle.spmd_answer.specs.Due.{Due, is_shared};
+ghost use Rattle.spmd_answer.specs.Due.{Due, is_run};
 ghost use Rattle.spmd_tool.specs.Due.{AreWrong, AskFor, IsDue, IsOrNoMemory, IsRunnable, IsUnplanned, ReadFor, all_settings, is_said, most_bytes, reads, source_for};
 ghost use Rattle.spmd_tool.specs.Outside.{TakesBytes, WhereTold, WritesPart, RoseOneOf, NoneRose};
 ghost use Rattle.spmd_tool.specs.Written.{WritesDue, WritesPartOfDue, WritesReceipt, WritesRefusal, WritesRun};
 
 use crate::answer::{Trouble, answer_in};
 use crate::outside::write_all;
-use spmd_answer::{Host, Status};
+use spmd_answer::{Host, Receipt, Status};
 use spmd_ports::{Failed, Gate, Sink, Source};
 use std::alloc::Global;
 use std::thread::Threads;
-use styled_table::Receipt;
 
 /// Does what the words ask for, which stand without the program's name: `seq [NAME=VALUE..]`,
 /// `verify [--sweep NAME=LOW:HIGH] [NAME=VALUE..]`, `plan --workers P [NAME=VALUE..]`,
@@ -26,13 +25,13 @@ use styled_table::Receipt;
 /// as `clap` reads them, or `--help` or `--version`. But for `bench` the source is read to its end, with the plan
 /// behind it where one is given, and then the answer is written to the sink. The certificates of a
 /// plan are checked side by side on threads of `rt`, and a run by join or spmd goes on threads of
-/// `rt`, each worker of which passes the gate once in each phase.
+/// `rt`, whose workers are handed the gate; when they pass it no clause says.
 ///
 /// With `Done`, `SourceRefused`, `BadWords`, `PlanRefused` and `TooLong` the text that is due was
 /// written, with `WriteFault` a part from its front, with `ReadFault` and `NoMemory` nothing. The
 /// first fault counts: of the words, of the settings' form, of the reading and the length, of the
 /// source and the settings' names, of the plan, of the writing. The receipt is there exactly where
-/// the status is `Done` and `run` or `bench` went by spmd.
+/// the status is `Done` and `run` or `bench` was asked for.
 pub fn tool<R: Threads + Sync, S: Source, K: Sink, G: Gate + Sync>(
     rt: &R,
     alloc: Global,
@@ -45,9 +44,9 @@ pub fn tool<R: Threads + Sync, S: Source, K: Sink, G: Gate + Sync>(
     ensures headline { (w : Wanted) → Takes (texts words.now) w → result.0 ≡ Status.Done → WritesRun w (S.left source.old) (K.written sink.old) (K.written sink.new) }
     ensures end { (w : Wanted) → Takes (texts words.now) w → reads w ≡ true → result.0 ≡ Status.Done → IsAtEnd (S.left source.new) }
 
-    // The receipt of a run by spmd: its program and its plan are those of which the text was written, so the plan that was written is the one that ran; else there is none.
-    ensures receipt { (w : Wanted) → Takes (texts words.now) w → is_shared w ≡ true → result.0 ≡ Status.Done → WritesReceipt w (S.left source.old) (K.written sink.old) (K.written sink.new) result.1 }
-    ensures no_receipt { ((w : Wanted) → Takes (texts words.now) w → is_shared w ≡ true → result.0 ≡ Status.Done → ⊥) → result.1 ≡ None }
+    // The receipt of a run: its program and its plan are those of which the text was written, and its engine is the one that was asked for, so the plan that was written is the one that ran; without a run there is none.
+    ensures receipt { (w : Wanted) → Takes (texts words.now) w → is_run w ≡ true → result.0 ≡ Status.Done → WritesReceipt w (S.left source.old) (K.written sink.old) (K.written sink.new) result.1 }
+    ensures no_receipt { ((w : Wanted) → Takes (texts words.now) w → is_run w ≡ true → result.0 ≡ Status.Done → ⊥) → result.1 ≡ None }
 
     // With status 0, 1, 2, 6 or 7 the text that is due with it was written.
     ensures due { IsTrue (is_said result.0) → WritesDue (texts words.now) (S.left source.old) result.0 (K.written sink.old) (K.written sink.new) }

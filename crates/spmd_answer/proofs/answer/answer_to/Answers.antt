@@ -4,7 +4,7 @@ use Rattle.nest_tree.specs.View.{tree_of}
 use Rattle.command_words.specs.Wanted.{wanted}
 use Rattle.f77_source.specs.Sources.{setting_of}
 use Rattle.spmd_answer.specs.Stops.{due_in}
-use Rattle.spmd_answer.proofs.Answering.{none_of_stop, of_program, of_stop, receipt_of_program}
+use Rattle.spmd_answer.proofs.Answering.{of_program, receipt_of_program}
 use Rattle.spmd_answer.proofs.answer.answer_to.Goals as goal
 
 pub returns-in-Ok-clause-due : goal.returns-in-Ok-clause-due

@@ -1,7 +1,8 @@
+use Rattle.std.proofs.Common.{refl}
 use Rattle.nest_tree.specs.View.{tree_of}
 use Rattle.command_words.specs.Wanted.{run}
 use Rattle.spmd_answer.specs.Due.{written}
-use Rattle.spmd_answer.proofs.Answering.{left_by, none_of_plan, of_plan}
+use Rattle.spmd_answer.proofs.Answering.{none_of_plan, of_plan, run_left}
 use Rattle.spmd_answer.proofs.answer.planned_run.Goals as goal
 
 pub returns-in_ok-text-in-Ok-clause-due : goal.returns-in_ok-text-in-Ok-clause-due
@@ -10,8 +11,8 @@ returns-in_ok-text-in-Ok-clause-due g c = λ settings at. written _ (c.in-Ok.pla
 pub returns-in_ok-text-in-Ok-clause-receipt : goal.returns-in_ok-text-in-Ok-clause-receipt
 returns-in_ok-text-in-Ok-clause-receipt g c =
     λ settings.
-    left_by c.args.asked.engine c.args.asked.workers c.args.asked.choice settings c.args.program.now c.in-Ok.plan c.args.bytes.now c.in_ok-text-in-Ok.text.items c.in_ok-text-in-Ok.receipt c.done.result
-    (c.in-Ok.ensures.plan, c.in_ok-text-in-Ok.ensures.text) c.in_ok-text-in-Ok.ensures.receipt c.done.ensures
+    run_left (run c.args.asked.workers c.args.asked.choice c.args.asked.engine settings) (tree_of c.args.program.now) c.args.bytes.now c.in_ok-text-in-Ok.text.items c.in_ok-text-in-Ok.receipt c.done.result refl
+    (record { plan = c.in-Ok.plan; left = c.in_ok-text-in-Ok.ensures.receipt; written = (c.in-Ok.ensures.plan, c.in_ok-text-in-Ok.ensures.text) }) c.done.ensures
 
 pub returns-in_ok-answer_in-in-Err-clause-due : goal.returns-in_ok-answer_in-in-Err-clause-due
 returns-in_ok-answer_in-in-Err-clause-due g c =

@@ -79,11 +79,11 @@ returns-in-Ok-clause-end_unplanned g c =
 
 pub returns-in-Ok-clause-receipt : goal.returns-in-Ok-clause-receipt
 returns-in-Ok-clause-receipt g c =
-    λ w takes shared done.
+    λ w takes runs done.
     let status : c.in-Ok.answer.status ≡ Done = sym (c.say-status.ensures.outcome (λ f. absurd (cc))) ∙ done in
     subst (WritesReceipt w _ _ _) (sym (c.kept.ensures.done done))
     (receipt-said (texts c.args.words.now) _ c.in-Ok.answer.status c.say-status.result c.in-Ok.answer.text.items c.deref.result.now c.in-Ok.receipt w _ _ c.in-Ok.ensures.due c.deref.ensures.value status
-    (c.say-status.ensures.said (λ f. absurd (cc))) takes shared)
+    (c.say-status.ensures.said (λ f. absurd (cc))) takes runs)
 
 pub returns-in-Ok-clause-no_receipt : goal.returns-in-Ok-clause-no_receipt
 returns-in-Ok-clause-no_receipt g c =
@@ -91,7 +91,7 @@ returns-in-Ok-clause-no_receipt g c =
     ⊎_elim
     (λ (done : c.say-status.result ≡ Done).
     let status : c.in-Ok.answer.status ≡ Done = sym (c.say-status.ensures.outcome (λ f. absurd (cc))) ∙ done in
-    c.kept.ensures.done done ∙ receipt-none (texts c.args.words.now) _ c.in-Ok.answer.status c.in-Ok.answer.text.items c.in-Ok.receipt c.in-Ok.ensures.due status (λ w takes shared. never w takes shared done))
+    c.kept.ensures.done done ∙ receipt-none (texts c.args.words.now) _ c.in-Ok.answer.status c.in-Ok.answer.text.items c.in-Ok.receipt c.in-Ok.ensures.due status (λ w takes runs. never w takes runs done))
     (λ other. c.kept.ensures.undone other)
     (is_done c.say-status.result)
 
