@@ -19,7 +19,7 @@ use Rattle.spmd_answer.specs.declared.status.Status.TheVariants.{Done}
 use Rattle.spmd_answer.proofs.Benches.{bench_short}
 use Rattle.spmd_tool.specs.declared.answer.Trouble.{Trouble}
 use Rattle.spmd_tool.specs.Due.{HasReceiptFor, IsDueFor, asked, faulty, first_wrong, most_bytes, reads, settings_of, shown, source_for, too_long, wrong_words}
-use Rattle.spmd_tool.specs.Outside.{AreTold, TakesBytes}
+use Rattle.whole_streams.specs.Streams.{AreTold, TakesBytes}
 use Rattle.spmd_tool.specs.Written.{IsAnswerFrom, IsAnswerOf, IsDueFrom}
 use Rattle.spmd_tool.proofs.Dues.{for_long, for_source, for_wrong, one_request, taken_or_faulty, taken_or_shown}
 use Rattle.spmd_tool.proofs.Told.{read_told, some_told, taken_told}

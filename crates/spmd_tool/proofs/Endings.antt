@@ -12,7 +12,7 @@ use Rattle.spmd_answer.specs.declared.status.Status.TheVariants.{Done, SourceRef
 use Rattle.spmd_answer.proofs.Benches.{bench_short}
 use Rattle.bench_program.proofs.Unrefused.{never_refused}
 use Rattle.spmd_tool.specs.Due.{AreWrong, AskFor, IsDue, IsRunnable, IsUnplanned, ReadFor, asked, faulty, all_settings, is_said, reads, shown, source_for}
-use Rattle.spmd_tool.specs.Outside.{WhereTold}
+use Rattle.whole_streams.specs.Streams.{WhereTold}
 use Rattle.spmd_tool.specs.Written.{IsAnswerFrom, IsDueFrom, WritesDue, WritesReceipt, WritesRefusal, WritesRun}
 use Rattle.spmd_tool.proofs.Dues.{taken_or_faulty, taken_or_shown, asked-due, one_status, refused-asks, request-done, request-runs, request-unfit, request-unnamed, request-unplanned, unfit-asks, wrong-due}
 use Rattle.spmd_tool.proofs.Told.{at_told}

@@ -2,4 +2,3 @@ pub mod Answering
 pub mod Dues
 pub mod Endings
 pub mod Told
-pub mod Writing

@@ -2,7 +2,7 @@
 use Rattle.std.proofs.Common.{◌≡◌, ℕ, ◌≤◌, List, [], ◌++◌, Option, Some, None, length, sym, ap, subst, ◌∙◌, refl, append-nil, arith}
 use Rattle.std.proofs.lemmas.List.{length-append}
 use Rattle.std.specs.Io.KnownBytes.{Consumes, IsAtEnd}
-use Rattle.spmd_tool.specs.Outside.{WhereTold, AreTold, TakesBytes}
+use Rattle.whole_streams.specs.Streams.{WhereTold, AreTold, TakesBytes}
 
 -- some bytes are those of a source
 pub some_told : (told : Option (List ℕ)) → (bytes : List ℕ) × AreTold told bytes

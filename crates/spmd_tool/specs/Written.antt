@@ -8,7 +8,7 @@ use Rattle.spmd_answer.specs.declared.receipt.Receipt.{Receipt}
 use Rattle.spmd_answer.specs.Receipts.{IsReceiptOf}
 use Rattle.spmd_answer.specs.declared.status.Status.{Status}
 use Rattle.spmd_tool.specs.Due.{HasReceiptFor, IsDue, IsDueFor, IsRunnable, IsUnplanned, program_for, readings_for, source_for}
-use Rattle.spmd_tool.specs.Outside.{AreTold, WritesPart}
+use Rattle.whole_streams.specs.Streams.{AreTold, WritesPart}
 
 -- This is due for the words and the bytes of the source, where it tells them.
 pub record IsDueFrom (words : List Text) (source : Option (List ℕ)) (due : Due) : Type 0 where

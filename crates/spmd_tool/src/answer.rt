@@ -8,11 +8,10 @@ ghost use Rattle.spmd_ports.specs.Counts.{Rose};
 ghost use Rattle.spmd_answer.specs.Due as due;
 ghost use Rattle.spmd_answer.specs.Stops.{due_in};
 ghost use Rattle.spmd_tool.specs.Due.{ReadFor, first_wrong, is_said, most_bytes, reads, settings_of, source_for, too_long as due_too_long};
-ghost use Rattle.spmd_tool.specs.Outside.{AreTold, TakesBytes};
+ghost use Rattle.whole_streams.specs.Streams.{AreTold, TakesBytes};
 ghost use Rattle.spmd_tool.specs.Written.{IsAnswerFrom, IsAnswerOf};
 ghost use Rattle.spmd_tool.specs.declared.answer.Trouble.TheVariants as trouble;
 
-use crate::outside::{ReadTrouble, read_all};
 use clap::Error;
 use command_words::{Refused, Request, SettingFault, read_settings, read_words};
 use spmd_answer::refusals::{setting_answer, sweep_answer};
@@ -21,6 +20,7 @@ use spmd_ports::{Gate, Source};
 use std::alloc::{AllocError, Global};
 use std::fmt::Write;
 use std::thread::Threads;
+use whole_streams::{ReadTrouble, read_all};
 
 /// Why there is no answer.
 #[derive(Clone, Copy, Debug, PartialEq, Eq)]

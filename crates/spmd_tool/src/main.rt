@@ -12,7 +12,6 @@ ghost use Rattle.spmd_tool.specs.Due.{code_of};
 
 mod answer;
 mod laws;
-mod outside;
 mod tool;
 
 use crate::tool::tool;

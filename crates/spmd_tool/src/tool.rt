@@ -7,15 +7,15 @@ ghost use Rattle.command_words.specs.Wanted.{Takes, Wanted, asks_to_show, bench}
 ghost use Rattle.spmd_ports.specs.Counts.{Rose};
 ghost use Rattle.spmd_answer.specs.Due.{Due, is_run};
 ghost use Rattle.spmd_tool.specs.Due.{AreWrong, AskFor, IsDue, IsOrNoMemory, IsRunnable, IsUnplanned, ReadFor, all_settings, is_said, most_bytes, reads, source_for};
-ghost use Rattle.spmd_tool.specs.Outside.{TakesBytes, WhereTold, WritesPart, RoseOneOf, NoneRose};
+ghost use Rattle.whole_streams.specs.Streams.{TakesBytes, WhereTold, WritesPart, RoseOneOf, NoneRose};
 ghost use Rattle.spmd_tool.specs.Written.{WritesDue, WritesPartOfDue, WritesReceipt, WritesRefusal, WritesRun};
 
 use crate::answer::{Trouble, answer_in};
-use crate::outside::write_all;
 use spmd_answer::{Host, Receipt, Status};
 use spmd_ports::{Failed, Gate, Sink, Source};
 use std::alloc::Global;
 use std::thread::Threads;
+use whole_streams::write_all;
 
 /// Does what the words ask for, which stand without the program's name: `seq [NAME=VALUE..]`,
 /// `verify [--sweep NAME=LOW:HIGH] [NAME=VALUE..]`, `plan --workers P [NAME=VALUE..]`,

@@ -4,7 +4,7 @@ use Rattle.spmd_answer.specs.Stops.{due_in}
 use Rattle.spmd_answer.specs.declared.status.Status.{Status}
 use Rattle.spmd_answer.specs.declared.status.Status.TheVariants.{Done, NoMemory, PlanRefused, SourceRefused, WriteFault}
 use Rattle.spmd_tool.specs.Due.{IsOrNoMemory}
-use Rattle.spmd_tool.specs.Outside.{WritesPart}
+use Rattle.whole_streams.specs.Streams.{WritesPart}
 use Rattle.spmd_tool.specs.Written.{WritesReceipt}
 use Rattle.spmd_tool.proofs.Answering.{due_from}
 use Rattle.spmd_tool.proofs.Endings.{bench_runs, is_done, receipt-none, receipt-said, from-done, from-refused, from-unfit, from-unnamed, from-wrong, run-said, said-due, said_or_fault, status-exact, unfit-said, where_runnable, where_unplanned}

@@ -1,6 +1,6 @@
 use Rattle.std.proofs.Common.{◌≡◌, ◌≤◌, ◌-◌, vec_len}
 use Rattle.std.specs.Io.KnownBytes.{Consumes}
-use Rattle.spmd_tool.proofs.outside.read_all.Given as goal
+use Rattle.whole_streams.proofs.reading.read_all.Given as goal
 
 -- what was read so far is the front of what was left, and no read failed
 abbrev pub invariant-loop-chunk : goal.invariant-loop-chunk

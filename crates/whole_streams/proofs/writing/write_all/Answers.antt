@@ -1,6 +1,6 @@
 use Rattle.std.proofs.Common.{arith, ◌∙◌}
-use Rattle.spmd_tool.proofs.Writing.{part_kept, part_none, part_more}
-use Rattle.spmd_tool.proofs.outside.write_all.Goals as goal
+use Rattle.whole_streams.proofs.Parts.{part_kept, part_none, part_more}
+use Rattle.whole_streams.proofs.writing.write_all.Goals as goal
 
 pub returns-in_default-clause-part : goal.returns-in_default-clause-part
 returns-in_default-clause-part g c = part_kept _ _ _ _ _ c.loop-written.invariant.front c.in_default.ensures.fault_writes_nothing

@@ -1,16 +1,14 @@
-// Reading the whole of a source, and writing a whole text.
+// Reading the whole of a source.
 
-ghost use Rattle.std.specs.Prelude.{◌≡◌, ◌+◌, ◌++◌, ◌≤◌, ◌<◌, ℕ, List, [], length, IfOk, OnOk, OnErr, IsErrOf, IsOk, take};
-ghost use Rattle.std.specs.Io.KnownBytes.{Appends, Consumes, IsAtEnd, Keeps};
+ghost use Rattle.std.specs.Prelude.{◌≡◌, ◌+◌, ◌≤◌, ◌<◌, length, IfOk, OnOk};
+ghost use Rattle.std.specs.Io.KnownBytes.{Consumes, IsAtEnd};
 ghost use Rattle.spmd_ports.specs.Counts.{Rose};
-ghost use Rattle.spmd_tool.specs.declared.outside.ReadTrouble.TheVariants.{NoMemory};
-ghost use Rattle.spmd_tool.specs.Outside.{TakesBytes, WritesPart, RoseOneOf};
+ghost use Rattle.whole_streams.specs.declared.reading.ReadTrouble.TheVariants.{NoMemory};
+ghost use Rattle.whole_streams.specs.Streams.{TakesBytes};
 
-use spmd_ports::{Failed, Sink, Source};
+use f77_lines::MOST_BYTES;
+use spmd_ports::Source;
 use std::alloc::{AllocError, Global};
-
-/// The most bytes of a source.
-pub const MOST_BYTES: usize = 4_194_304;
 
 // The most bytes that are taken by one read.
 const CHUNK: usize = 4096;
@@ -59,28 +57,4 @@ pub fn read_all<S: Source>(alloc: Global, source: &mut S) -> Result<Vec<u8>, Rea
         }
     }
     Err(ReadTrouble::TooLong)
-}
-
-/// Writes the whole of a text.
-///
-/// Where a write fails, or takes none of the bytes that are left, a part from the front of the
-/// text was written.
-pub fn write_all<K: Sink>(sink: &mut K, text: &[u8]) -> Result<(), Failed>
-    ensures written { OnOk result (Appends (K.written sink.old) (K.written sink.new) text.now) }
-    ensures part { OnErr result (WritesPart (K.written sink.old) (K.written sink.new) text.now) }
-    ensures fault { OnErr result (RoseOneOf (K.faults sink.old) (K.faults sink.new) (K.empties sink.old) (K.empties sink.new)) }
-    ensures no_fault { OnOk result (K.faults sink.new ≡ K.faults sink.old) }
-    ensures no_empty { OnOk result (K.empties sink.new ≡ K.empties sink.old) }
-{
-    let mut written = 0;
-    while written < text.len() {
-        let Ok(taken) = sink.write(&text[written..]) else {
-            return Err(Failed);
-        };
-        if taken == 0 {
-            return Err(Failed);
-        }
-        written += taken;
-    }
-    Ok(())
 }

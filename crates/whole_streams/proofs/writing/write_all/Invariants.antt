@@ -1,6 +1,6 @@
 use Rattle.std.proofs.Common.{◌≡◌, ◌≤◌, ◌-◌, length, take}
 use Rattle.std.specs.Io.KnownBytes.{Appends}
-use Rattle.spmd_tool.proofs.outside.write_all.Given as goal
+use Rattle.whole_streams.proofs.writing.write_all.Given as goal
 
 -- what was written so far is the front of the text, and nothing failed
 abbrev pub invariant-loop-written : goal.invariant-loop-written
