@@ -3,7 +3,7 @@ use Rattle.std.proofs.Common.{◌≡◌, ℕ, suc, ◌==◌, ℤ, pos, negsuc, f
 use Rattle.std.specs.Fmt.{signed_decimal}
 use Rattle.std.proofs.lemmas.Bool.{ne_eqb}
 use Rattle.c_expressions.specs.CExpressions.{CExpression, constant, identifier, minus}
-use Rattle.c_expressions.specs.Grammar.{Appends, Reads, is_call, is_constant, is_identifier, is_minus, is_name, is_only, is_postfix, is_term, is_unary, postfix, unary}
+use Rattle.c_expressions.specs.Grammar.{Appends, Reads, is_call, is_constant, is_identifier, is_minus, is_only, is_postfix, is_term, is_unary, is_variable, postfix, unary}
 use Rattle.c_expressions.specs.Numbers.{literal_of, word_of}
 
 pub assoc_bytes : (a b c : List ℕ) → (a ++ b) ++ c ≡ a ++ (b ++ c)
@@ -40,5 +40,5 @@ word_appends old m n new a e x f = record {
   reads = is_call {function = codes "W"} refl (is_only (is_term (is_unary x.reads)));
 }
 
-pub named_word_appends : (old m n new name : List ℕ) → IsTrue (is_name name) → m ≡ old ++ codes "W(" → n ≡ m ++ name → new ≡ n ++ codes ")" → Appends old new postfix (word_of (identifier name))
+pub named_word_appends : (old m n new name : List ℕ) → IsTrue (is_variable name) → m ≡ old ++ codes "W(" → n ≡ m ++ name → new ≡ n ++ codes ")" → Appends old new postfix (word_of (identifier name))
 named_word_appends old m n new name good e f g = word_appends old m n new (identifier name) e (record { text = name; appended = f; reads = is_postfix (is_identifier good) }) g

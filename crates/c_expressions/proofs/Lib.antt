@@ -4,3 +4,5 @@ pub mod Summed
 pub mod Multiples
 pub mod WordSums
 pub mod Telling
+pub mod ReadBack
+pub mod ProgramForms

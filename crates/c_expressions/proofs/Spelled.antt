@@ -4,7 +4,7 @@ use Rattle.std.specs.Fmt.{decimal, digit_glyph, digits, digits_onto}
 use Rattle.std.specs.List.{list_all}
 use Rattle.std.proofs.lemmas.Bool.{le-leb, lt-ltb}
 use Rattle.nest_tree.specs.Tree.{Declaration, Tree}
-use Rattle.c_expressions.specs.Grammar.{is_digit, is_letter, is_name, is_name_byte}
+use Rattle.c_expressions.specs.Grammar.{is_digit, is_letter, is_name, is_name_byte, is_variable}
 use Rattle.c_expressions.specs.Names.{cleaned, loop_name, name_in, own_cell, shared_cell, term_name}
 use Rattle.c_expressions.specs.declared.sum.Term.{Term}
 use Rattle.c_expressions.specs.declared.sum.Term.TheVariants.{Loop, Last, Processor}
@@ -45,16 +45,20 @@ name_in_is : (n : ℕ) (o : Option Declaration) → list_all is_name_byte (name_
 name_in_is n (Some v) = cleaned_are_names v.name
 name_in_is n None = digits_are_names n
 
-pub loop_name_is : (n : ℕ) → IsTrue (is_name (loop_name n))
+pub loop_name_is : (n : ℕ) → IsTrue (is_variable (loop_name n))
 loop_name_is n = digits_are_names n
 
-pub term_name_is : (t : Term) → IsTrue (is_name (term_name t))
+pub term_name_is : (t : Term) → IsTrue (is_variable (term_name t))
 term_name_is (Loop n) = loop_name_is n
 term_name_is Last = refl
 term_name_is Processor = refl
 
-pub shared_cell_is : (tree : Tree) (n : ℕ) → IsTrue (is_name (shared_cell tree n))
+pub shared_cell_is : (tree : Tree) (n : ℕ) → IsTrue (is_variable (shared_cell tree n))
 shared_cell_is tree n = name_in_is n (slice_get tree.variables (n - 1))
 
-pub own_cell_is : (tree : Tree) (n : ℕ) → IsTrue (is_name (own_cell tree n))
+pub own_cell_is : (tree : Tree) (n : ℕ) → IsTrue (is_variable (own_cell tree n))
 own_cell_is tree n = name_in_is n (slice_get tree.variables (n - 1))
+
+-- behind the letters that a cell's name begins with
+pub shared_array_is : (tree : Tree) (n : ℕ) → IsTrue (is_name (shared_cell tree n))
+shared_array_is tree n = shared_cell_is tree n

@@ -12,7 +12,7 @@ use Rattle.nest_tree.specs.declared.tree.Guard.{Guard}
 use Rattle.nest_tree.specs.declared.tree.Parameter.{Parameter}
 use Rattle.nest_tree.specs.declared.tree.Variable.{Variable}
 use Rattle.c_expressions.specs.CExpressions.{CExpression, call, constant, element, first_of, identifier, less, only, plus, times}
-use Rattle.c_expressions.specs.Grammar.{Appends, Rank, Reads, in_parentheses, is_call, is_constant, is_difference, is_element, is_first, is_identifier, is_name, is_only, is_postfix, is_product, is_sum, is_term, is_unary, postfix, product, sign_of, sum, unary}
+use Rattle.c_expressions.specs.Grammar.{Appends, Rank, Reads, in_parentheses, is_call, is_constant, is_difference, is_element, is_first, is_identifier, is_name, is_only, is_postfix, is_product, is_sum, is_term, is_unary, is_variable, postfix, product, sign_of, sum, unary}
 use Rattle.c_expressions.specs.Names.{loop_name, own_cell, shared_cell}
 use Rattle.c_expressions.specs.Numbers.{literal_of, word_of}
 use Rattle.c_expressions.specs.Sums.{AppendsNumber, AppendsSum, SumsUp, form_at, place_at}
@@ -21,7 +21,7 @@ use Rattle.c_expressions.specs.declared.sum.Sum as summed
 use Rattle.c_expressions.specs.declared.place.Place.{Place}
 use Rattle.c_expressions.specs.declared.place.Place.TheVariants.{Sum, Product, Factor}
 use Rattle.c_expressions.proofs.Appending.{assoc_bytes, between}
-use Rattle.c_expressions.proofs.Spelled.{own_cell_is, shared_cell_is}
+use Rattle.c_expressions.proofs.Spelled.{own_cell_is, shared_array_is, shared_cell_is}
 
 -- ---- places
 
@@ -142,8 +142,8 @@ module _ (tree : Tree) (privates : List ℕ) where
   pub scalar_told : (access : Access) (old new : List ℕ) → access.subscripts ≡ [] → new ≡ old ++ scalar_cell tree privates access.variable → AppendsAccess tree privates access old new
   scalar_told access old new none e = record { expression = identifier (scalar_cell tree privates access.variable); says = says_scalar none; appends = record { text = scalar_cell tree privates access.variable; appended = e; reads = is_identifier named } }
     where
-      named : IsTrue (is_name (scalar_cell tree privates access.variable))
-      named = elim (is_own privates access.variable) as (λ b. IsTrue (is_name (if b then own_cell tree access.variable else shared_cell tree access.variable)))
+      named : IsTrue (is_variable (scalar_cell tree privates access.variable))
+      named = elim (is_own privates access.variable) as (λ b. IsTrue (is_variable (if b then own_cell tree access.variable else shared_cell tree access.variable)))
           [ true ↦ own_cell_is tree access.variable | false ↦ shared_cell_is tree access.variable ]
 
   pub number_told : (z : ℤ) (place : Place) (old new : List ℕ) → Appends old new postfix (word_of (literal_of z)) → AppendsValue tree privates (number z) place old new
@@ -195,7 +195,7 @@ module _ (tree : Tree) (privates : List ℕ) where
     appends = record {
       text = ((shared_cell tree access.variable ++ codes "[") ++ x.appends.text) ++ codes "]";
       appended = g ∙ ap (λ z. z ++ codes "]") (x.appends.appended ∙ ap (λ z. z ++ x.appends.text) (f ∙ ap (λ z. z ++ codes "[") e)) ∙ regroup old (shared_cell tree access.variable) (codes "[") x.appends.text (codes "]");
-      reads = is_element (shared_cell_is tree access.variable) x.appends.reads;
+      reads = is_element (shared_array_is tree access.variable) x.appends.reads;
     };
   }
     where

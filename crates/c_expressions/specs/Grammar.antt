@@ -1,7 +1,8 @@
 -- How bytes read as expressions: C's grammar (ISO/IEC 9899:2011, 6.5.1 to 6.5.9), as far as emitted files go. A unary operator binds tighter than a product, a product tighter than a sum or a difference, and these tighter than a comparison; products, sums and differences read from the left.
-use Rattle.std.specs.Prelude.{ℕ, ◌<◌, ◌^◌, Bool, false, ◌&&◌, ◌||◌, ◌==◌, nat_le, IsTrue, List, [], ◌∷◌, ◌++◌, codes, ◌≡◌}
+use Rattle.std.specs.Prelude.{ℕ, ◌<◌, ◌^◌, Bool, false, ◌&&◌, ◌||◌, ◌==◌, not, nat_le, IsTrue, List, [], ◌∷◌, ◌++◌, codes, ◌≡◌}
 use Rattle.std.specs.Fmt.{decimal}
 use Rattle.std.specs.List.{list_all}
+use Rattle.std.specs.Str.{bytes_eq}
 use Rattle.nest_tree.specs.declared.tree.Compare.{Compare}
 use Rattle.nest_tree.specs.declared.tree.Compare.TheVariants.{Lt, Le, Eq, Ge, Gt}
 use Rattle.c_expressions.specs.CExpressions.{CExpression, constant, identifier, element, call, as_number, minus, times, plus, less, CArguments, only, first_of, CComparison}
@@ -20,6 +21,10 @@ abbrev pub is_name : List ℕ → Bool
 is_name [] = false
 is_name (b ∷ bytes) = is_letter b && list_all is_name_byte bytes
 
+-- those of them that name no type: the cast's alone is one
+abbrev pub is_variable : List ℕ → Bool
+is_variable name = not (bytes_eq name (codes "number")) && is_name name
+
 -- what binds at least so tight
 pub data Rank : Type 0 where
   postfix : Rank
@@ -30,7 +35,7 @@ pub data Rank : Type 0 where
 mutual
   pub data Reads : Rank → List ℕ → CExpression → Type 0 where
     is_constant : (n : ℕ) → n < 2 ^ 63 → Reads postfix (decimal n) (constant n)
-    is_identifier : {name : List ℕ} → IsTrue (is_name name) → Reads postfix name (identifier name)
+    is_identifier : {name : List ℕ} → IsTrue (is_variable name) → Reads postfix name (identifier name)
     in_parentheses : {text : List ℕ} {a : CExpression} → Reads sum text a → Reads postfix (codes "(" ++ text ++ codes ")") a
     is_element : {array text : List ℕ} {a : CExpression} → IsTrue (is_name array) → Reads sum text a → Reads postfix (array ++ codes "[" ++ text ++ codes "]") (element array a)
     is_call : {function text : List ℕ} {arguments : CArguments} → IsTrue (is_name function) → ReadsAll text arguments → Reads postfix (function ++ codes "(" ++ text ++ codes ")") (call function arguments)

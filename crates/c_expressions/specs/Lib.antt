@@ -4,3 +4,4 @@ pub mod Names
 pub mod Numbers
 pub mod Sums
 pub mod Told
+pub mod Reader

@@ -2,7 +2,7 @@
 use Rattle.std.specs.Prelude.{ℕ, ◌+◌, ◌*◌, ◌<◌, ◌≤◌, ◌^◌, ◌≡◌, ℤ, pos, negsuc, ◌+ℤ◌, ◌-ℤ◌, ◌*ℤ◌, Bool, true, false, ◌==◌, List, [], ◌∷◌, ◌++◌, unsigned_abs, IsTrue, MatchBool, FitsSigned, if◌then◌else◌, codes}
 use Rattle.std.specs.Fmt.{decimal}
 use Rattle.std.specs.Int.{w64}
-use Rattle.nest_tree.specs.Form.{Form, dot}
+use Rattle.nest_tree.specs.Form.{Form, dot, numbered}
 use Rattle.nest_tree.specs.Values.{wrapped}
 use Rattle.c_expressions.specs.CExpressions.{CExpression}
 use Rattle.c_expressions.specs.Grammar.{Appends, sum}
@@ -68,6 +68,10 @@ loops_at v (p ∷ pairs) = p.1 *ℤ v (loop_name p.0) +ℤ loops_at v pairs
 
 abbrev pub form_at : List ℤ → Form → Values → ℤ
 form_at params f v = f.constant +ℤ loops_at v f.loops +ℤ dot f.params params
+
+-- names have these values of the loops, by the loops' numbers from 1
+abbrev pub HasLoops : Values → List ℤ → Type 0
+HasLoops v loops = (n : ℕ) → v (loop_name n) ≡ numbered loops n
 
 -- the place of an element in its array, in column-major order, where one step of the first subscript is so long
 abbrev pub place_at : List ℤ → ℤ → List Form → List (ℤ × ℤ) → Values → ℤ

@@ -6,6 +6,7 @@
 #![tactic(auto)]
 
 mod forms;
+mod laws;
 pub mod place;
 pub mod scope;
 pub mod sum;
@@ -13,6 +14,7 @@ pub mod sums;
 pub mod text;
 mod values;
 
+pub use laws::{forms_are_the_programs, one_reading, read_back};
 pub use place::Place;
 pub use scope::Scope;
 pub use sum::{Sum, Term};
