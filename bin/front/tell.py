@@ -155,6 +155,14 @@ def is_file(word):
     return "=" not in word and (os.path.isfile(word) or re.search(r"\.(f|for|f77|f90)$", word, re.I))
 
 
+def is_help(word):
+    return word.lower() in ("help", "-help", "-?", "usage")
+
+
+def help_of(command):
+    return f"seagrynt {command} --help writes the help of {command}"
+
+
 def from_a_file(words, file):
     """The command as it is meant where a file's name is one of the words."""
     rest = [it for it in words if it != file]
@@ -172,6 +180,8 @@ def wrong_setting(words, number, program):
     word = others[number - 1] if number <= len(others) else "?"
     if is_file(word):
         return from_a_file(words, word)
+    if is_help(word):
+        return f"{word} is no setting; {help_of(words[0])}"
     name, equals, value = word.partition("=")
     names = ", ".join(program.constants)
     if not equals and number < len(others) and others[number].startswith("="):
@@ -220,7 +230,7 @@ def wrong_word(words):
     if command not in COMMANDS:
         if not words:
             return f"a command is missing: {', '.join(COMMANDS[:-1])} or {COMMANDS[-1]}; seagrynt --help says what they do"
-        if command.lower() in ("help", "-help", "-?", "usage"):
+        if is_help(command):
             return "seagrynt --help writes the help, seagrynt run --help that of run"
         if command.lower() in ("version", "-version", "-v"):
             return "seagrynt --version writes the version"
@@ -236,14 +246,14 @@ def wrong_word(words):
 
 def wrong_option(words, command):
     options, others = parts_of(words)
-    if others[:1] == ["help"]:
-        return f"seagrynt {command} --help writes the help of {command}"
+    if any(is_help(it) for it in others[:1]):
+        return help_of(command)
     seen = set()
     for name, value in options:
         if name in SCRIPT_WORDS and (command == "run" or (command == "plan" and name == "--plan-only")):
             return f"{name} stands behind another one: of {' and '.join(SCRIPT_WORDS)} one stands, once"
         if name not in OPTIONS[command]:
-            close = close_to(name, OPTIONS[command])
+            close = close_to(name, [*OPTIONS[command], "--help"])
             has = " and ".join(OPTIONS[command]) or "no options"
             meant = f"; {close[0]} is one" if close else f"; {command} has {has}"
             return f"{name} is no option of {command}{meant}"
