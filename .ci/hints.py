@@ -220,6 +220,7 @@ ALL = [
         "the same in lines 2, 3, 4, 5 and 1 more", "also line 7, L5: the program ends", "also line 2, F4: there are no functions of one's own",
         "also line 3, F1: the last line", "also line 4, L5: there are no subroutines",
     ]),
+    ("K = F(1)|END|INTEGER FUNCTION F(I)|F = I|END", ["also line 1, F4: there are no functions of one's own: write the expression of F"]),
     ("DO CONCURRENT (I=1:9)|K = 1", []),
     ("DO 100000 I = 1, 9|K = I|   100000 CONTINUE", ["also line 3, F1: this label reaches column 9"]),
     ("|".join(f"DO 10 I{it} = 1, 2" for it in range(7)) + "|   10 K = I6|K = X", ["also line 9, F3: X is not INTEGER"]),

@@ -131,7 +131,9 @@ class Mending:
         if code == "L4":
             return self.mend_end(hint)
         if code == "L5":
-            del self.lines[self.source.end :]
+            # no more than the names of functions stays, as comments
+            behind = [it for it in self.lines[self.source.end :] if re.search(r"(?i)FUNCTION", it)]
+            self.lines[self.source.end :] = [*("C" + it for it in behind), ""]
         elif code[0] == "L":
             self.mend_line(fault, name)
         else:
