@@ -288,8 +288,8 @@ def is_free(line):
 def faults_of(refusal, data, settings, words, program, has_plan=False):
     """The faults of a source, the first one first, and whether there may be more.
 
-    The program is asked by `verify`, which runs nothing. What stands behind END is a plan to it, so
-    that is looked at here, where no plan is meant to stand there.
+    The program is asked by these words, `verify` or `systems` with the settings, which run nothing.
+    What stands behind END is a plan to it, so that is looked at here, where no plan is meant to stand there.
     """
     mending, found, ends = Mending(data, settings), [], time.monotonic() + MOST_SECONDS
     for _ in range(MOST_RUNS):
@@ -308,7 +308,7 @@ def faults_of(refusal, data, settings, words, program, has_plan=False):
             same.lines += fault.lines[1:]
         try:
             done = subprocess.run(
-                [program, "verify", *words], input=mending.data(), capture_output=True, timeout=max(0.05, ends - time.monotonic())
+                [program, *words], input=mending.data(), capture_output=True, timeout=max(0.05, ends - time.monotonic())
             )
         except (OSError, subprocess.TimeoutExpired):
             return found, True

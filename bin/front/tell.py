@@ -89,7 +89,8 @@ def tell_refusal(line, data, words, program):
         say(f"{line}: {hints_say(line, data, settings)}")
         say("nothing was read; the source comes on standard input: seagrynt seq < heat.f")
     else:
-        asked = [it for it in parts_of(words)[1] if "=" in it]
+        command = "systems" if words[0] in ("explain", "systems", "emit") else "verify"
+        asked = [command, *(it for it in parts_of(words)[1] if "=" in it)]
         options = parts_of(words)[0]
         has_plan = words[:1] == ("verify",) or ("--plan", "given") in options or is_behind(words)
         found, more = faults.faults_of(line, data, settings, asked, program, has_plan)
@@ -268,7 +269,8 @@ def wrong_option(words, command):
             return f"{name} {value}: it may be {' or '.join(CHOICES[name])}"
     choice = dict(options).get("--plan", "given")
     if "--workers" in OPTIONS[command] and "--workers" not in seen and not (is_behind(words) and choice == "given"):
-        return f"{command} needs --workers P, the number of processors, 1 to 64"
+        asks = f" --plan {choice}" if command in ("explain", "systems") else ""
+        return f"{command}{asks} needs --workers P, the number of processors, 1 to 64"
     for word in others:
         if is_file(word):
             return from_a_file(words, word)
