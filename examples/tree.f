@@ -9,7 +9,7 @@ C     place of a thousand. The nodes of a level lie behind one another,
 C     from N1 to N-1, then from N2 to N1-1, and so on, and are dealt out
 C     in turn, so that everybody has a part of each level. Of the nodes
 C     2*I and 2*I+1 most belong to others than node I does, so the
-C     barrier between two levels has to stay: there are nine of them.
+C     barrier between two levels stays: there are nine of them.
 C
 C     N may be set to any power of two. With fewer than 1024 leaves the
 C     levels that are too many have no trips, with more the last loop
