@@ -1,6 +1,6 @@
 // Sums of multiples of loops' values, of the processor's number and of a constant, as C has them.
 
-ghost use Rattle.std.specs.Prelude.{◌≡◌, ◌<◌, ◌^◌, ◌+ℤ◌, ◌*ℤ◌, pos, IsTrue, OnOk, IfSome, Some, slice_get};
+ghost use Rattle.std.specs.Prelude.{◌≡◌, ◌↔◌, ◌<◌, ◌^◌, ◌+ℤ◌, ◌*ℤ◌, pos, IsTrue, OnOk, IfSome, Some, slice_get};
 ghost use Rattle.nest_tree.specs.Values.{wrapped};
 ghost use Rattle.c_expressions.specs.Names.{term_name};
 
@@ -169,14 +169,15 @@ impl Sum {
 
     /// Whether each partial sum is within 2^62, in whatever order, where each value is within 2^32.
     pub fn is_plain(&self) -> bool
-        ensures { IsTrue result → IsPlain self.now }
+        ensures { IsTrue result ↔ IsPlain self.now }
     {
         self.is_exact && self.size() < 0x4000_0000_0000_0000
     }
 
     // So far from 0 the sum comes, where each value is within 2^32: exactly, below 2^62.
     fn size(&self) -> u64
-        ensures { result < 2 ^ 62 → result ≡ size_of self.now }
+        ensures below { result < 2 ^ 62 → result ≡ size_of self.now }
+        ensures exact { size_of self.now < 2 ^ 62 → result ≡ size_of self.now }
     {
         let mut size = self.constant.unsigned_abs();
         for &(_, coefficient) in self.terms.iter() {
