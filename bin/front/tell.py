@@ -340,10 +340,12 @@ def round_trip(behind, number, words):
 # ---- warnings and the summary
 
 
-def no_way_back(data, output):
-    """What to say of a plan that is too long to be read behind its source."""
-    last = "\nEND PLAN\n"
-    count = len(data) + output.find(last) + len(last)
+def no_way_back(source, data, output):
+    """What to say where the plan in a text is too long to be read behind its source, else None."""
+    first, last = "SPMD PLAN ", "\nEND PLAN\n"
+    begin = 0 if output.startswith(first) else output.rfind("\n" + first) + 1
+    plan = output.find(last, begin) + len(last) - begin
+    count = sum(len(it) + 1 for it in data.split(b"\n")[: source.end]) + plan
     if count <= MOST_BYTES:
         return None
     return f"source and plan have {count} bytes together, of which {MOST_BYTES} are read at most: neither verify nor run --plan given takes this plan"
@@ -354,14 +356,16 @@ def tell_done(command, data, output, words, asked):
     program = sources.Program(source, settings_of(words))
     for it in advice.source_warnings(source, program):
         say(f"warning: {it}")
-    if command not in ("plan", "run"):
+    if command not in ("plan", "run", "emit"):
+        return
+    said = no_way_back(source, data, output)
+    if said:
+        say(f"warning: {said}")
+    if command == "emit":
         return
     plan = plans.read_plan(output)
     if not plans.place_in_source(plan, program):
         return
-    said = no_way_back(data, output)
-    if said:
-        say(f"warning: {said}")
     given = [it for it in parts_of(words)[1] if "=" in it]
     ask = advice.asker(asked, ["--workers", str(plan.workers), *given])
     for it in advice.plan_warnings(program, plan, ask):
