@@ -1,1 +1,5 @@
-pub mod Among
+pub mod Questions
+pub mod Refused
+pub mod Searched
+pub mod Slots
+pub mod Told

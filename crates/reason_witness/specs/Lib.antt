@@ -1,3 +1,4 @@
+pub mod Asked
 pub mod Findings
 pub mod Plans
 pub mod Reasons

@@ -1,30 +1,32 @@
 // What is told of a plan: why its loops aren't dealt out, and why no weaker wait stands in it.
 
-ghost use Rattle.std.specs.Prelude.{◌≡◌, ◌≤◌, ◌<◌, ◌^◌, IfOk, None, OnOk, length, map};
-ghost use Rattle.std.specs.List.{All};
+ghost use Rattle.std.specs.Prelude.{◌≡◌, ◌≤◌, ◌++◌, ◌∷◌, [], IfOk, List, None, OnOk, map};
+ghost use Rattle.std.specs.List.{AllZip};
 ghost use Rattle.nest_tree.specs.Limits.{IsWithinLimits};
 ghost use Rattle.nest_tree.specs.View.{tree_of};
 ghost use Rattle.nest_tree.specs.WellFormed.{IsWellFormed};
 ghost use Rattle.sync_plan.specs.Fit.{IsFit};
+ghost use Rattle.sync_plan.specs.Shape.{wrong_field};
+ghost use Rattle.sync_plan.specs.declared.plan.Plan.{Plan as HeldPlan};
 ghost use Rattle.comm_system.specs.Obligations.{obligations_of};
-ghost use Rattle.comm_system.specs.PhaseViews.{phase_seen};
-ghost use Rattle.comm_system.specs.References.{phases_of};
-ghost use Rattle.reason_witness.specs.Reasons.{AreReasons, IsMadePlan, IsReason, IsWhyIn, why_of};
+ghost use Rattle.plan_checker.specs.Accepted.{IsAccepted};
+ghost use Rattle.plan_maker.specs.Bars.{loop_prints};
+ghost use Rattle.reason_witness.specs.Asked.{candidate_question, questions_in, serial_question};
+ghost use Rattle.reason_witness.specs.Findings.{IsFoundIn};
 ghost use Rattle.reason_witness.specs.Plans.{AreSlotsOf, alone_plan};
+ghost use Rattle.reason_witness.specs.Reasons.{AreAnswers, AreReasons, IsAnswer, IsMadeAccount, IsMadePlan, IsRefusedFor, IsWhySerial, IsWhySilent, Question, given_questions, refusal_question, why_of};
+ghost use Rattle.reason_witness.specs.declared.found.Wanted.TheVariants.{Number};
 
-use crate::candidates::weaker_kinds;
 use crate::found::{Found, Planned, Wanted};
+use crate::sought::{Asked, Candidate, Serial};
 use crate::weaker::{Ground, kinds_with};
 use comm_system::Obligation;
-use comm_system::phase::Phase;
 use comm_system::phases::phases;
 use comm_system::slot_list::slots;
-use maker_candidates::all_candidates;
+use maker_marks::nests::{have_print, nest_of};
 use nest_tree::Program;
-use owner_partition::Mark;
 use plan_checker::{PlanRefusal, check_fit};
-use plan_maker::reasons::{Bar, PhaseReason, Reasons};
-use plan_maker::tries::{Tried, tries_at};
+use plan_maker::tries::Tried;
 use plan_maker::{anchors_of, cut_of_try, make};
 use std::alloc::{AllocError, Global};
 use sync_plan::{Kind, Plan, all_barrier};
@@ -47,10 +49,10 @@ pub enum Why {
     Print,
     /// This obligation, with what is found of it.
     Found(Found),
-    /// None: each obligation that was looked at has a certificate.
+    /// None: each obligation that is looked for has a certificate.
     Certified,
-    /// None is known: the plan that has the obligations doesn't fit.
-    Unfit,
+    /// None is known: the plan that has the obligations doesn't fit, for this first reason.
+    Unfit(PlanRefusal),
 }
 
 /// Why a loop isn't dealt out, a weaker kind isn't there, or a plan is refused.
@@ -68,106 +70,6 @@ pub struct Account {
     pub reasons: Vec<Reason>,
 }
 
-// A loop that isn't dealt out by a try, by its number from 1, and what is looked for.
-#[derive(Clone, Copy)]
-struct Serial {
-    number: u32,
-    tried: Tried,
-    wanted: Wanted,
-}
-
-// A weaker kind in front of a static phase, by its number from 1, and what is looked for.
-#[derive(Drop)]
-struct Candidate {
-    phase: u32,
-    kind: Kind,
-    wanted: Wanted,
-}
-
-// Of what reasons are looked for.
-#[derive(Drop)]
-struct Asked {
-    loops: Vec<Serial>,
-    phases: Vec<Candidate>,
-}
-
-impl Asked {
-    // What the reasons of a made plan name.
-    fn of_made(alloc: Global, reasons: Reasons) -> Result<Asked, AllocError> {
-        let mut loops = Vec::new(alloc);
-        for reason in &reasons.loops {
-            let wanted = match reason.bar {
-                Bar::Print => Wanted::First,
-                Bar::Meeting(cause) => Wanted::Named(cause),
-            };
-            loops.push(Serial {
-                number: reason.number,
-                tried: reason.tried,
-                wanted,
-            })?;
-        }
-        let mut phases = Vec::new(alloc);
-        for reason in reasons.phases {
-            let PhaseReason { phase, kind, cause } = reason;
-            let wanted = Wanted::Named(cause);
-            phases.push(Candidate {
-                phase,
-                kind,
-                wanted,
-            })?;
-        }
-        Ok(Asked { loops, phases })
-    }
-
-    // Of a plan that is given all tries of the loops that aren't dealt out, and all weaker kinds.
-    fn of_given(
-        alloc: Global,
-        program: &Program,
-        plan: &Plan,
-        phases: &[Phase],
-    ) -> Result<Asked, AllocError>
-        requires formed { IsWellFormed (tree_of program.now) }
-        requires limits { IsWithinLimits (tree_of program.now) }
-        requires some { 1 ≤ plan.now.workers }
-        requires phases { map phase_seen phases.now ≡ phases_of (tree_of program.now) plan.now.cut.marks }
-        requires few { length phases.now < 2 ^ 20 }
-    {
-        let wanted = Wanted::First;
-        let mut loops = Vec::new(alloc);
-        let mut number = 0u32;
-        for mark in plan.cut.as_slice() {
-            number = number.saturating_add(1);
-            if matches!(mark, Mark::Outer | Mark::Single) {
-                let tries = tries_at(alloc, program, number)?;
-                for &tried in tries.as_slice() {
-                    loops.push(Serial {
-                        number,
-                        tried,
-                        wanted,
-                    })?;
-                }
-            }
-        }
-        let candidates = all_candidates(alloc, program, plan, phases)?;
-        let mut weaker = Vec::new(alloc);
-        let mut phase = 0u32;
-        for place in 0..phases.len() {
-            phase = phase.saturating_add(1);
-            for kind in weaker_kinds(alloc, plan, candidates.as_slice(), place)? {
-                weaker.push(Candidate {
-                    phase,
-                    kind,
-                    wanted,
-                })?;
-            }
-        }
-        Ok(Asked {
-            loops,
-            phases: weaker,
-        })
-    }
-}
-
 fn why_of(found: Option<Found>) -> Why
     ensures { result ≡ why_of found }
 {
@@ -175,6 +77,17 @@ fn why_of(found: Option<Found>) -> Why
         Some(found) => Why::Found(found),
         None => Why::Certified,
     }
+}
+
+// Whether a PRINT stands in the loop with this number, from 1.
+fn prints(program: &Program, number: u32) -> bool
+    requires { IsWellFormed (tree_of program.now) }
+    ensures { result ≡ loop_prints (tree_of program.now) number }
+{
+    if number == 0 || number > program.loop_count() {
+        return false;
+    }
+    have_print(&nest_of(program, number).items)
 }
 
 // The plan in which a loop alone is dealt out by a try, for one processor. The loop is numbered from 1.
@@ -193,26 +106,55 @@ fn plan_of_try(
     all_barrier(alloc, cut, anchors, 1, Vec::new(alloc))
 }
 
-// Of the obligations of two trips of a loop the one that is looked for, or that a PRINT stands in it.
+// Why a loop without PRINT isn't dealt out, by the plan in which it alone is.
+fn why_silent(
+    alloc: Global,
+    program: &Program,
+    plan: &Plan,
+    wanted: &Wanted,
+) -> Result<Why, AllocError>
+    requires formed { IsWellFormed (tree_of program.now) }
+    requires limits { IsWithinLimits (tree_of program.now) }
+    ensures { IfOk result (IsWhySilent (tree_of program.now) plan.now wanted.now) }
+{
+    if let Err(refusal) = check_fit(program, plan) {
+        return Ok(Why::Unfit(refusal));
+    }
+    let planned = Planned {
+        program,
+        plan,
+        known: &[],
+        first_pair: 0,
+        is_whole: false,
+    };
+    Ok(why_of(planned.found(alloc, wanted)?))
+}
+
+// Why a loop isn't dealt out by a try.
 fn why_serial(alloc: Global, program: &Program, serial: Serial) -> Result<Why, AllocError>
     requires formed { IsWellFormed (tree_of program.now) }
     requires limits { IsWithinLimits (tree_of program.now) }
-    ensures { IfOk result (IsWhyIn (obligations_of (tree_of program.now) (alone_plan (tree_of program.now) serial.number serial.tried)) serial.wanted) }
+    ensures { IfOk result (IsWhySerial (tree_of program.now) serial.number serial.tried serial.wanted) }
 {
-    let plan = plan_of_try(alloc, program, serial.number, serial.tried)?;
-    match check_fit(program, &plan) {
-        Ok(()) => {
-            let planned = Planned {
-                program,
-                plan: &plan,
-                known: &[],
-                first_pair: 0,
-            };
-            Ok(why_of(planned.found(alloc, &serial.wanted)?))
-        }
-        Err(PlanRefusal::PrintPlace(_)) => Ok(Why::Print),
-        Err(_) => Ok(Why::Unfit),
+    if prints(program, serial.number) {
+        return Ok(Why::Print);
     }
+    let plan = plan_of_try(alloc, program, serial.number, serial.tried)?;
+    why_silent(alloc, program, &plan, &serial.wanted)
+}
+
+// The reason why a loop isn't dealt out by a try.
+fn loop_reason(alloc: Global, program: &Program, serial: Serial) -> Result<Reason, AllocError>
+    requires formed { IsWellFormed (tree_of program.now) }
+    requires limits { IsWithinLimits (tree_of program.now) }
+    ensures { (plan : HeldPlan) → IfOk result (IsAnswer (tree_of program.now) plan (serial_question serial)) }
+{
+    let why = why_serial(alloc, program, serial)?;
+    Ok(Reason {
+        about: About::Loop(serial.number, serial.tried),
+        wanted: serial.wanted,
+        why,
+    })
 }
 
 // Whether an obligation is of the lines, the variable and the level of one that is looked for.
@@ -251,34 +193,18 @@ fn first_pair(reasons: &[Reason], wanted: &Wanted) -> u64 {
 }
 
 impl Ground<'_, '_, '_> {
-    // Why a loop isn't dealt out.
-    fn loop_reason(&self, alloc: Global, serial: Serial) -> Result<Reason, AllocError>
-        ensures { IfOk result (IsReason (tree_of self.now.program.now) self.now.plan.now) }
-    {
-        let why = why_serial(alloc, self.program, serial)?;
-        Ok(Reason {
-            about: About::Loop(serial.number, serial.tried),
-            wanted: serial.wanted,
-            why,
-        })
-    }
-
     // Why a kind doesn't stand in front of a static phase.
-    fn weaker_reason(
-        &self,
-        alloc: Global,
-        phase: u32,
-        kind: Kind,
-        wanted: Wanted,
-    ) -> Result<Reason, AllocError>
-        requires { AreSlotsOf (tree_of self.now.program.now) self.now.plan.now self.now.phases.now self.now.slots.now }
-        ensures { IfOk result (IsReason (tree_of self.now.program.now) self.now.plan.now) }
+    fn weaker_reason(&self, alloc: Global, candidate: &Candidate) -> Result<Reason, AllocError>
+        requires slots { AreSlotsOf (tree_of self.now.program.now) self.now.plan.now self.now.phases.now self.now.slots.now }
+        requires accepted { IsAccepted (tree_of self.now.program.now) self.now.plan.now }
+        ensures { IfOk result (IsAnswer (tree_of self.now.program.now) self.now.plan.now (candidate_question candidate.now)) }
     {
-        let kinds = kinds_with(alloc, self.plan.kinds.as_slice(), phase, &kind)?;
-        let found = self.found_under(alloc, kinds.as_slice(), &wanted)?;
+        let own = self.plan.kinds.as_slice();
+        let kinds = kinds_with(alloc, own, candidate.phase, &candidate.kind)?;
+        let found = self.found_under(alloc, kinds.as_slice(), &candidate.wanted)?;
         Ok(Reason {
-            about: About::Weaker(phase, kind),
-            wanted,
+            about: About::Weaker(candidate.phase, candidate.kind.copy(alloc)?),
+            wanted: candidate.wanted,
             why: why_of(found),
         })
     }
@@ -290,11 +216,10 @@ impl Ground<'_, '_, '_> {
         loops: &[Serial],
         reasons: &mut Vec<Reason>,
     ) -> Result<(), AllocError>
-        requires { All (IsReason (tree_of self.now.program.now) self.now.plan.now) reasons.old.items }
-        ensures { OnOk result (All (IsReason (tree_of self.now.program.now) self.now.plan.now) reasons.new.items) }
+        ensures { (qs : List Question) → AllZip (IsAnswer (tree_of self.now.program.now) self.now.plan.now) qs reasons.old.items → OnOk result (AllZip (IsAnswer (tree_of self.now.program.now) self.now.plan.now) (qs ++ map serial_question loops.now) reasons.new.items) }
     {
         for serial in loops {
-            let reason = self.loop_reason(alloc, *serial)?;
+            let reason = loop_reason(alloc, self.program, *serial)?;
             reasons.push(reason)?;
         }
         Ok(())
@@ -304,29 +229,25 @@ impl Ground<'_, '_, '_> {
     fn push_phases(
         &self,
         alloc: Global,
-        phases: Vec<Candidate>,
+        phases: &[Candidate],
         reasons: &mut Vec<Reason>,
     ) -> Result<(), AllocError>
         requires slots { AreSlotsOf (tree_of self.now.program.now) self.now.plan.now self.now.phases.now self.now.slots.now }
-        requires reasons { All (IsReason (tree_of self.now.program.now) self.now.plan.now) reasons.old.items }
-        ensures { OnOk result (All (IsReason (tree_of self.now.program.now) self.now.plan.now) reasons.new.items) }
+        requires accepted { IsAccepted (tree_of self.now.program.now) self.now.plan.now }
+        ensures { (qs : List Question) → AllZip (IsAnswer (tree_of self.now.program.now) self.now.plan.now) qs reasons.old.items → OnOk result (AllZip (IsAnswer (tree_of self.now.program.now) self.now.plan.now) (qs ++ map candidate_question phases.now) reasons.new.items) }
     {
         for candidate in phases {
-            let Candidate {
-                phase,
-                kind,
-                wanted,
-            } = candidate;
-            let known = last_of(reasons.as_slice(), phase);
+            let known = last_of(reasons.as_slice(), candidate.phase);
             let ground = Ground {
                 program: self.program,
                 plan: self.plan,
                 phases: self.phases,
                 slots: self.slots,
                 known,
-                first_pair: first_pair(known, &wanted),
+                first_pair: first_pair(known, &candidate.wanted),
+                is_whole: false,
             };
-            let reason = ground.weaker_reason(alloc, phase, kind, wanted)?;
+            let reason = ground.weaker_reason(alloc, candidate)?;
             reasons.push(reason)?;
         }
         Ok(())
@@ -338,12 +259,12 @@ fn reasons_of(
     alloc: Global,
     program: &Program,
     plan: &Plan,
-    asked: Asked,
+    asked: &Asked,
 ) -> Result<Vec<Reason>, AllocError>
     requires formed { IsWellFormed (tree_of program.now) }
     requires limits { IsWithinLimits (tree_of program.now) }
-    requires fits { IsFit (tree_of program.now) plan.now }
-    ensures { IfOk result (λ reasons. All (IsReason (tree_of program.now) plan.now) reasons.items) }
+    requires accepted { IsAccepted (tree_of program.now) plan.now }
+    ensures { IfOk result (λ reasons. AllZip (IsAnswer (tree_of program.now) plan.now) (questions_in asked.now) reasons.items) }
 {
     let all_phases = phases(alloc, program, &plan.cut)?;
     let all_slots = slots(alloc, all_phases.as_slice())?;
@@ -354,45 +275,50 @@ fn reasons_of(
         slots: all_slots.as_slice(),
         known: &[],
         first_pair: 0,
+        is_whole: false,
     };
-    let Asked { loops, phases } = asked;
     let mut reasons = Vec::new(alloc);
-    ground.push_loops(alloc, loops.as_slice(), &mut reasons)?;
-    ground.push_phases(alloc, phases, &mut reasons)?;
+    ground.push_loops(alloc, asked.loops.as_slice(), &mut reasons)?;
+    ground.push_phases(alloc, asked.phases.as_slice(), &mut reasons)?;
     Ok(reasons)
 }
 
-/// What is told of the plan that is made for 1 to 64 workers. An error says that memory ran out.
+/// What is told of the plan that is made for 1 to 64 workers: one true reason for each of the maker's,
+/// in order. An error says that memory ran out.
 pub fn made_account(alloc: Global, program: &Program, workers: u32) -> Result<Account, AllocError>
     requires formed { IsWellFormed (tree_of program.now) }
     requires limits { IsWithinLimits (tree_of program.now) }
     requires some { 1 ≤ workers }
     requires few { workers ≤ 64 }
+    ensures account { IfOk result (IsMadeAccount (tree_of program.now) workers) }
     ensures plan { IfOk result (λ a. IsMadePlan (tree_of program.now) workers a.plan) }
     ensures reasons { IfOk result (AreReasons (tree_of program.now)) }
 {
     let (plan, made) = make(alloc, program, workers)?;
-    let asked = Asked::of_made(alloc, made)?;
-    let reasons = reasons_of(alloc, program, &plan, asked)?;
+    let asked = Asked::of_made(alloc, &made)?;
+    let reasons = reasons_of(alloc, program, &plan, &asked)?;
     Ok(Account { plan, reasons })
 }
 
-/// What is told of a plan that is given and accepted. An error says that memory ran out.
+/// What is told of a plan that is given and accepted: one true reason for each try of each loop that
+/// is Outer or Single, and for each weaker candidate in front of each phase, in order. An error says
+/// that memory ran out.
 pub fn given_account(alloc: Global, program: &Program, plan: Plan) -> Result<Account, AllocError>
     requires formed { IsWellFormed (tree_of program.now) }
     requires limits { IsWithinLimits (tree_of program.now) }
-    requires fits { IsFit (tree_of program.now) plan }
+    requires accepted { IsAccepted (tree_of program.now) plan }
     ensures plan { IfOk result (λ a. a.plan ≡ plan) }
+    ensures told { IfOk result (λ a. AreAnswers (tree_of program.now) a (given_questions (tree_of program.now) a.plan)) }
     ensures reasons { IfOk result (AreReasons (tree_of program.now)) }
 {
     let all_phases = phases(alloc, program, &plan.cut)?;
     let asked = Asked::of_given(alloc, program, &plan, all_phases.as_slice())?;
-    let reasons = reasons_of(alloc, program, &plan, asked)?;
+    let reasons = reasons_of(alloc, program, &plan, &asked)?;
     Ok(Account { plan, reasons })
 }
 
-/// What is told of a plan that is given and refused for the obligation with a number, from 1. An
-/// error says that memory ran out.
+/// What is told of a plan that is given and refused for the obligation with a number, from 1: one
+/// reason, which has that obligation. An error says that memory ran out.
 pub fn refused_account(
     alloc: Global,
     program: &Program,
@@ -401,22 +327,42 @@ pub fn refused_account(
 ) -> Result<Account, AllocError>
     requires formed { IsWellFormed (tree_of program.now) }
     requires fits { IsFit (tree_of program.now) plan }
+    requires refused { IsRefusedFor (tree_of program.now) plan number }
     ensures plan { IfOk result (λ a. a.plan ≡ plan) }
+    ensures told { IfOk result (λ a. AreAnswers (tree_of program.now) a (refusal_question number ∷ [])) }
     ensures reasons { IfOk result (AreReasons (tree_of program.now)) }
 {
-    let wanted = Wanted::Number(number);
-    let planned = Planned {
-        program,
-        plan: &plan,
-        known: &[],
-        first_pair: 0,
-    };
-    let found = planned.found(alloc, &wanted)?;
+    let found = found_numbered(alloc, program, &plan, number)?;
     let mut reasons = Vec::new(alloc);
     reasons.push(Reason {
         about: About::Refused(number),
-        wanted,
-        why: why_of(found),
+        wanted: Wanted::Number(number),
+        why: Why::Found(found),
     })?;
     Ok(Account { plan, reasons })
+}
+
+// The obligation for which a plan is refused, with what is found of it.
+fn found_numbered(
+    alloc: Global,
+    program: &Program,
+    plan: &Plan,
+    number: u64,
+) -> Result<Found, AllocError>
+    requires formed { IsWellFormed (tree_of program.now) }
+    requires shape { wrong_field (tree_of program.now) plan.now ≡ None }
+    requires refused { IsRefusedFor (tree_of program.now) plan.now number }
+    ensures { IfOk result (IsFoundIn (obligations_of (tree_of program.now) plan.now) (Number number)) }
+{
+    let planned = Planned {
+        program,
+        plan,
+        known: &[],
+        first_pair: 0,
+        is_whole: true,
+    };
+    match planned.found(alloc, &Wanted::Number(number))? {
+        Some(found) => Ok(found),
+        None => unreachable!(),
+    }
 }

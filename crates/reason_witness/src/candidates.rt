@@ -1,11 +1,15 @@
 // What may stand in front of a phase in place of a stronger wait.
 
-use nest_tree::Listed;
-use std::alloc::{AllocError, Global};
-use sync_plan::{Kind, Plan};
+ghost use Rattle.std.specs.Prelude.{◌≡◌, IfOk};
+ghost use Rattle.reason_witness.specs.Reasons.{strength, weaker_than};
 
-// How strong a wait is: a weaker one is in front of a stronger one.
-fn strength(kind: &Kind) -> u32 {
+use std::alloc::{AllocError, Global};
+use sync_plan::Kind;
+
+// How strong a wait is.
+fn strength(kind: &Kind) -> u32
+    ensures { result ≡ strength kind.now }
+{
     match kind {
         Kind::Nothing => 0,
         Kind::Producer(_) => 1,
@@ -16,22 +20,17 @@ fn strength(kind: &Kind) -> u32 {
     }
 }
 
-/// Of the candidates in front of the static phase at a place, from 0, those that are weaker than the
-/// wait there, from the weakest on. An error says that memory ran out.
+/// Of these candidates those that are weaker than a kind, in order. An error says that memory ran
+/// out.
 pub(crate) fn weaker_kinds(
     alloc: Global,
-    plan: &Plan,
-    candidates: &[Listed<Kind>],
-    place: usize,
-) -> Result<Vec<Kind>, AllocError> {
+    kind: &Kind,
+    candidates: &[Kind],
+) -> Result<Vec<Kind>, AllocError>
+    ensures { IfOk result (λ found. found.items ≡ weaker_than kind.now candidates.now) }
+{
     let mut found = Vec::new(alloc);
-    let Some(kind) = plan.kinds.as_slice().get(place) else {
-        return Ok(found);
-    };
-    let Some(candidates) = candidates.get(place) else {
-        return Ok(found);
-    };
-    for candidate in candidates.as_slice() {
+    for candidate in candidates {
         if strength(candidate) < strength(kind) {
             found.push(candidate.copy(alloc)?)?;
         }

@@ -1,6 +1,6 @@
 // Obligations that aren't refuted, and what is found of them.
 
-ghost use Rattle.std.specs.Prelude.{◌≡◌, IfOk, IfSome, IsTrue, None, map};
+ghost use Rattle.std.specs.Prelude.{◌≡◌, ◌↔◌, [], ◌∷◌, IfOk, IsTrue, None, false, map, true};
 ghost use Rattle.std.specs.List.{flat_map};
 ghost use Rattle.nest_tree.specs.View.{tree_of};
 ghost use Rattle.nest_tree.specs.WellFormed.{IsWellFormed};
@@ -8,7 +8,9 @@ ghost use Rattle.sync_plan.specs.Shape.{wrong_field};
 ghost use Rattle.comm_system.specs.GroupViews.{group_seen};
 ghost use Rattle.comm_system.specs.Obligations.{obligations_of};
 ghost use Rattle.comm_system.specs.Subjects.{obligations_in};
-ghost use Rattle.reason_witness.specs.Findings.{IsFindingOf, IsFoundIn, IsNamed, IsWanted};
+ghost use Rattle.comm_system.specs.declared.obligation.Obligation.{Obligation as Held};
+ghost use Rattle.reason_witness.specs.Findings.{IsCertified, IsFindingOf, IsNamed, IsPassed, IsSearched, IsTaken, IsWanted};
+ghost use Rattle.reason_witness.specs.declared.found.Finding.TheVariants.{Refuted};
 
 use crate::account::Reason;
 use crate::known::settled;
@@ -58,7 +60,7 @@ pub enum Wanted {
 impl Wanted {
     // Whether an obligation is one that is looked for.
     fn is(&self, obligation: &Obligation) -> bool
-        ensures { IsTrue result → IsWanted self.now obligation.now }
+        ensures { IsTrue result ↔ IsWanted self.now obligation.now }
     {
         match self {
             Wanted::First => true,
@@ -67,12 +69,22 @@ impl Wanted {
         }
     }
 
-    // Whether one of which this is found is taken.
-    fn takes(&self, finding: &Finding) -> bool {
-        matches!(self, Wanted::Number(_)) || !matches!(finding, Finding::Refuted)
+    // Whether one of which this is found is told.
+    fn takes(&self, finding: &Finding) -> bool
+        ensures taken { IsTrue result → IsTaken self.now finding.now }
+        ensures refuted { result ≡ false → finding.now ≡ Refuted }
+        ensures passed { (o : Held) → result ≡ false → IsCertified o.system → IsPassed self.now o }
+    {
+        match finding {
+            Finding::Solved(..) | Finding::Unknown => true,
+            Finding::Refuted => match self {
+                Wanted::Number(_) => true,
+                Wanted::First | Wanted::Named(_) => false,
+            },
+        }
     }
 
-    // Whether a group may have one: nothing rests on it.
+    // Whether a group may have one.
     fn may_stand_in(&self, group: &Group) -> bool {
         match self {
             Wanted::Named(cause) => may_be_named(cause, group),
@@ -83,7 +95,7 @@ impl Wanted {
 
 // Whether an obligation is of the lines, the variable, the level and the piece of a cause.
 fn is_named(cause: &Cause, obligation: &Obligation) -> bool
-    ensures { IsTrue result → IsNamed cause.now obligation.now }
+    ensures { IsTrue result ↔ IsNamed cause.now obligation.now }
 {
     obligation.lines == cause.lines
         && obligation.variable == cause.variable
@@ -119,13 +131,17 @@ pub(crate) struct Planned<'p> {
     pub(crate) known: &'p [Reason],
     /// The pair of accesses of a slot from which on obligations are looked at, from 0.
     pub(crate) first_pair: u64,
+    /// Whether all obligations are looked at, and not only those where what is looked for may stand.
+    pub(crate) is_whole: bool,
     ghost shape: { wrong_field (tree_of program.now) plan.now ≡ None },
 }
 
 impl Planned<'_> {
-    // Whether what is looked for may stand in a group: nothing rests on it.
-    fn may_stand_in(&self, group: &Group, wanted: &Wanted) -> bool {
-        self.first_pair <= pair_at(group) && wanted.may_stand_in(group)
+    // Whether a group is looked at: where not all are, that it is rests on nothing.
+    fn looks_at(&self, group: &Group, wanted: &Wanted) -> bool
+        ensures { IsTrue self.now.is_whole → IsTrue result }
+    {
+        self.is_whole || (self.first_pair <= pair_at(group) && wanted.may_stand_in(group))
     }
 
     // What is found of an obligation of a group.
@@ -148,6 +164,32 @@ impl Planned<'_> {
         }
     }
 
+    // An obligation of a group with what is found of it, if it is told.
+    fn told(
+        &self,
+        alloc: Global,
+        group: &Group,
+        obligation: Obligation,
+        wanted: &Wanted,
+    ) -> Result<Option<Found>, AllocError>
+        ensures { IfOk result (IsSearched true (obligation ∷ []) wanted.now) }
+    {
+        if !wanted.is(&obligation) {
+            return Ok(None);
+        }
+        let finding = self.finding_of(alloc, group, &obligation)?;
+        if wanted.takes(&finding) {
+            let pair = pair_at(group);
+            Ok(Some(Found {
+                obligation,
+                finding,
+                pair,
+            }))
+        } else {
+            Ok(None)
+        }
+    }
+
     // Of the obligations of a group the one that is looked for.
     fn found_in(
         &self,
@@ -155,20 +197,16 @@ impl Planned<'_> {
         group: &Group,
         wanted: &Wanted,
     ) -> Result<Option<Found>, AllocError>
-        ensures { IfOk result (λ found. IfSome found (IsFoundIn (obligations_in (tree_of self.now.program.now) self.now.plan.now (group_seen group.now)) wanted.now)) }
+        ensures { IfOk result (IsSearched self.now.is_whole (obligations_in (tree_of self.now.program.now) self.now.plan.now (group_seen group.now)) wanted.now) }
     {
+        if !self.looks_at(group, wanted) {
+            return Ok(None);
+        }
         let all = group.obligations(alloc, self.program, self.plan)?;
         for obligation in all {
-            if wanted.is(&obligation) {
-                let finding = self.finding_of(alloc, group, &obligation)?;
-                if wanted.takes(&finding) {
-                    let pair = pair_at(group);
-                    return Ok(Some(Found {
-                        obligation,
-                        finding,
-                        pair,
-                    }));
-                }
+            let found = self.told(alloc, group, obligation, wanted)?;
+            if found.is_some() {
+                return Ok(found);
             }
         }
         Ok(None)
@@ -181,23 +219,21 @@ impl Planned<'_> {
         groups: &[Group],
         wanted: &Wanted,
     ) -> Result<Option<Found>, AllocError>
-        ensures { IfOk result (λ found. IfSome found (IsFoundIn (flat_map (obligations_in (tree_of self.now.program.now) self.now.plan.now) (map group_seen groups.now)) wanted.now)) }
+        ensures { IfOk result (IsSearched self.now.is_whole (flat_map (obligations_in (tree_of self.now.program.now) self.now.plan.now) (map group_seen groups.now)) wanted.now) }
     {
         for group in groups {
-            if self.may_stand_in(group, wanted) {
-                let found = self.found_in(alloc, group, wanted)?;
-                if found.is_some() {
-                    return Ok(found);
-                }
+            let found = self.found_in(alloc, group, wanted)?;
+            if found.is_some() {
+                return Ok(found);
             }
         }
         Ok(None)
     }
 
-    /// Of the plan's obligations the one that is looked for. An error says that memory ran out.
-    pub(crate) fn found(&self, alloc: Global, wanted: &Wanted) -> Result<Option<Found>, AllocError>
+    // Of the plan's obligations the one that is looked for.
+    fn found_once(&self, alloc: Global, wanted: &Wanted) -> Result<Option<Found>, AllocError>
         requires { IsWellFormed (tree_of self.now.program.now) }
-        ensures { IfOk result (λ found. IfSome found (IsFoundIn (obligations_of (tree_of self.now.program.now) self.now.plan.now) wanted.now)) }
+        ensures { IfOk result (IsSearched self.now.is_whole (obligations_of (tree_of self.now.program.now) self.now.plan.now) wanted.now) }
     {
         let most = match wanted {
             Wanted::Number(number) => *number,
@@ -206,5 +242,27 @@ impl Planned<'_> {
         let phases = phases(alloc, self.program, &self.plan.cut)?;
         let groups = list_groups(alloc, self.program, self.plan, phases.as_slice(), most)?;
         self.found_among(alloc, groups.items.as_slice(), wanted)
+    }
+
+    /// Of the plan's obligations the one that is looked for: where it may stand, and then anywhere. An
+    /// error says that memory ran out.
+    pub(crate) fn found(&self, alloc: Global, wanted: &Wanted) -> Result<Option<Found>, AllocError>
+        requires { IsWellFormed (tree_of self.now.program.now) }
+        ensures { IfOk result (IsSearched true (obligations_of (tree_of self.now.program.now) self.now.plan.now) wanted.now) }
+    {
+        if let Wanted::Named(_) = wanted {
+            let found = self.found_once(alloc, wanted)?;
+            if found.is_some() {
+                return Ok(found);
+            }
+        }
+        let whole = Planned {
+            program: self.program,
+            plan: self.plan,
+            known: self.known,
+            first_pair: 0,
+            is_whole: true,
+        };
+        whole.found_once(alloc, wanted)
     }
 }

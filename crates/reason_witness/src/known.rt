@@ -1,49 +1,14 @@
 // Whole solutions that are known: those of earlier reasons may solve a system too.
 
-ghost use Rattle.std.specs.Prelude.{◌≡◌, IfOk, IfSome, IsTrue};
-ghost use Rattle.farkas_cert.specs.Inequalities.{Holds, IsWholeSolution, left_side};
+ghost use Rattle.std.specs.Prelude.{IfOk, IfSome};
+ghost use Rattle.farkas_cert.specs.Inequalities.{IsWholeSolution};
 ghost use Rattle.quick_elim.specs.Settled.{IsSettled};
 
 use crate::account::{Reason, Why};
 use crate::found::Finding;
 use comm_system::Obligation;
-use farkas_cert::{Row, System};
 use quick_elim::{Budget, Point, Settled, settle};
 use std::alloc::{AllocError, Global};
-
-// The left side of a row, if no product and no sum passes the type.
-fn left_side_at(coefs: &[i128], values: &[i128]) -> Option<i128>
-    ensures { IfSome result (λ sum. sum ≡ left_side coefs.now values.now) }
-{
-    match coefs {
-        [] => Some(0),
-        [coef, coefs @ ..] => match values {
-            [] => Some(0),
-            [value, values @ ..] => {
-                let rest = left_side_at(coefs, values)?;
-                coef.checked_mul(*value)?.checked_add(rest)
-            }
-        },
-    }
-}
-
-// Whether a row is seen to hold.
-fn holds_at(row: &Row, values: &[i128]) -> bool
-    ensures { IsTrue result → Holds row.now values.now }
-{
-    match left_side_at(row.coefs.as_slice(), values) {
-        Some(sum) => sum <= row.bound,
-        None => false,
-    }
-}
-
-// Whether a point is seen to solve a system.
-fn solves(point: &Point, system: &System) -> bool
-    ensures { IsTrue result → IsWholeSolution system.now point.now }
-{
-    let values = point.as_slice();
-    values.len() == system.vars() as usize && system.rows().iter().all(|row| holds_at(row, values))
-}
 
 // Whether two obligations are of the same lines, variable, level and piece.
 fn are_alike(these: &Obligation, those: &Obligation) -> bool {
@@ -70,7 +35,7 @@ fn known_solution<'k>(known: &'k [Reason], obligation: &Obligation) -> Option<&'
 {
     for reason in known {
         if let Some(point) = point_of(reason, obligation) {
-            if solves(point, &obligation.system) {
+            if point.solves(&obligation.system) {
                 return Some(point);
             }
         }

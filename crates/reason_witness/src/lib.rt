@@ -4,14 +4,17 @@
 //! - [`account`]: what is told of a plan, made, given or refused for an obligation: its reasons.
 //! - [`found`]: an obligation that is looked for, and what is found of it.
 //! - [`meeting`]: what a whole solution says of the two accesses.
+//! - `sought`, `asked`: of what reasons are looked for.
 //! - `candidates`: what is weaker than the wait in front of a phase.
 //! - `known`: whole solutions of earlier reasons, which may solve a system too.
 //! - `weaker`: the obligations of the plan with a weaker wait in front of a phase.
 #![tactic(auto)]
 
 pub mod account;
+mod asked;
 mod candidates;
 pub mod found;
 mod known;
 pub mod meeting;
+mod sought;
 mod weaker;
