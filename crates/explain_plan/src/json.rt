@@ -174,7 +174,7 @@ impl Page<'_> {
                 word_of(&found.finding)
             }
             Why::Certified => "certified",
-            Why::Unfit => "unfit",
+            Why::Unfit(_) => "unfit",
         };
         enter(map, alloc, "why", json!(in alloc; why)?)
     }

@@ -155,7 +155,7 @@ impl Page<'_> {
                         push_words(text, self.name_of(found.obligation.variable))?;
                         push_words(text, b")")?;
                     }
-                    Why::Certified | Why::Unfit => {}
+                    Why::Certified | Why::Unfit(_) => {}
                 }
                 word = b", ";
             }
@@ -277,7 +277,7 @@ impl Page<'_> {
                     }
                 },
             ),
-            Why::Unfit => push_words(text, b"nothing is known of it"),
+            Why::Unfit(_) => push_words(text, b"nothing is known of it"),
         }
     }
 
