@@ -5,6 +5,7 @@ ghost use Rattle.f77_source.specs.Sources.{setting_of};
 ghost use Rattle.nest_tree.specs.Limits.{IsWithinLimits};
 ghost use Rattle.nest_tree.specs.View.{tree_of};
 ghost use Rattle.nest_tree.specs.WellFormed.{IsWellFormed};
+ghost use Rattle.plan_checker.specs.Accepted.{IsAccepted};
 ghost use Rattle.plan_text.specs.PlanText.{HasCounts};
 ghost use Rattle.sync_plan.specs.Fit.{IsFit};
 ghost use Rattle.asked_plan.specs.Plans.{IsBehind, IsPlanFor, IsPlanned, IsPlanStopFor, IsRefused, IsStop, IsStopBehind, IsTaken, stands_alone};
@@ -52,6 +53,7 @@ pub fn plan_program<R: Threads + Sync>(
     requires few { asked.now.workers ≤ 64 }
     ensures planned { IfOk result (λ p. IsPlanned asked.now.workers asked.now.choice bytes.now (map setting_of asked.now.settings.now) (tree_of p.program) p.plan) }
     ensures formed { IfOk result (λ p. IsWellFormed (tree_of p.program)) }
+    ensures accepted { IfOk result (λ p. IsAccepted (tree_of p.program) p.plan) }
     ensures fits { IfOk result (λ p. IsFit (tree_of p.program) p.plan) }
     ensures workers { IfOk result (λ p. p.plan.workers ≡ asked.now.workers) }
     ensures counts { IfOk result (λ p. HasCounts p.plan) }
@@ -102,7 +104,7 @@ fn plan_for<R: Threads + Sync>(
     requires some { 1 ≤ asked.now.workers }
     requires few { asked.now.workers ≤ 64 }
     ensures plan { IfOk result (IsPlanFor asked.now.choice asked.now.workers (tree_of program.now) bytes.now) }
-    ensures fits { IfOk result (IsFit (tree_of program.now)) }
+    ensures accepted { IfOk result (IsAccepted (tree_of program.now)) }
     ensures workers { IfOk result (λ plan. plan.workers ≡ asked.now.workers) }
     ensures counts { IfOk result HasCounts }
     ensures refused { IfErr result (IsPlanStopFor asked.now.choice asked.now.workers (tree_of program.now) bytes.now) }

@@ -25,7 +25,7 @@ abbrev pub IsStopFor : Subject → List ℕ → List (Name × ℤ) → Stop → 
 IsStopFor Behind bytes settings stop = IsStopBehind bytes settings stop
 IsStopFor (For workers choice) bytes settings stop = IsStop workers choice bytes settings stop
 
--- What is told is of that plan, and each reason is true.
+-- What is told is of that plan, and there is one true reason for each question that it raises.
 pub record IsAccount (subject : Subject) (bytes : List ℕ) (settings : List (Name × ℤ)) (tree : Tree) (a : Account) : Type 0 where
   pub plan : IsPlanOf subject bytes settings tree a.plan
   pub reasons : AreReasons tree a

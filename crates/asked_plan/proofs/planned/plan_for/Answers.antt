@@ -15,11 +15,11 @@ returns-in_ok-plan-in-Made-clause-counts g c =
     let made = c.in_ok-plan-in-Made.ensures in
     counts_of_fit (tree_of c.args.program.now) c.in_ok-plan-in-Made.plan c.requires.formed made.conditions made.accepted.fits
 
-pub returns-in_ok-plan-in-Made-clause-fits : goal.returns-in_ok-plan-in-Made-clause-fits
-returns-in_ok-plan-in-Made-clause-fits g c = c.in_ok-plan-in-Made.ensures.accepted.fits
+pub returns-in_ok-plan-in-Made-clause-accepted : goal.returns-in_ok-plan-in-Made-clause-accepted
+returns-in_ok-plan-in-Made-clause-accepted g c = c.in_ok-plan-in-Made.ensures.accepted
 
-pub returns-in_ok-make_barrier-in-Barrier-clause-fits : goal.returns-in_ok-make_barrier-in-Barrier-clause-fits
-returns-in_ok-make_barrier-in-Barrier-clause-fits g c = c.in_ok-make_barrier-in-Barrier.ensures.accepted.fits
+pub returns-in_ok-make_barrier-in-Barrier-clause-accepted : goal.returns-in_ok-make_barrier-in-Barrier-clause-accepted
+returns-in_ok-make_barrier-in-Barrier-clause-accepted g c = c.in_ok-make_barrier-in-Barrier.ensures.accepted
 
 pub returns-in_ok-make_barrier-in-Barrier-clause-counts : goal.returns-in_ok-make_barrier-in-Barrier-clause-counts
 returns-in_ok-make_barrier-in-Barrier-clause-counts g c =
@@ -37,5 +37,5 @@ returns-in-Given-clause-refused g c =
     let tree = tree_of c.args.program.now in
     IfErr-weaker c.given_plan.result _ _ (λ s h. subst (λ (choice : PlanChoice). IsPlanStopFor choice c.args.asked.now.workers tree c.args.bytes.now s) (sym c.in-Given.is) h) c.given_plan.ensures.refused
 
-pub returns-in-Given-clause-fits : goal.returns-in-Given-clause-fits
-returns-in-Given-clause-fits g c = IfOk-weaker c.given_plan.result _ _ (λ plan taken. taken.accepted.fits) c.given_plan.ensures.taken
+pub returns-in-Given-clause-accepted : goal.returns-in-Given-clause-accepted
+returns-in-Given-clause-accepted g c = IfOk-weaker c.given_plan.result _ _ (λ plan taken. taken.accepted) c.given_plan.ensures.taken

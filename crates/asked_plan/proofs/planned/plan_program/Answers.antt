@@ -38,3 +38,6 @@ returns-clause-planned g c =
       inside = c.in_ok-program.ensures.inside;
       plan_is = subst (λ (b : List ℕ). IsPlanFor c.args.asked.now.choice c.args.asked.now.workers tree b c.in_ok-plan.plan) rest c.in_ok-plan.ensures.plan;
     }
+
+pub returns-clause-fits : goal.returns-clause-fits
+returns-clause-fits g c = c.in_ok-plan.ensures.accepted.fits
