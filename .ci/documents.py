@@ -288,7 +288,9 @@ def missing_in_picture():
     picture = re.search(r"(?ms)^## The layers\n.*?^```\n(.*?)^```", text_of("docs/CRATES.md"))
     rows = {}
     for row, line in enumerate(picture[1].split("\n") if picture else []):
-        for name in re.findall(r"[a-z0-9]+(?:_[a-z0-9]+)+", line):
+        for name in re.findall(r"[a-z0-9]+(?:_[a-z0-9]+)*", line):
+            if "_" not in name and name not in BELOW:
+                continue
             if name in rows or name not in BELOW:
                 yield f"one crate {name} in the picture"
             rows[name] = row

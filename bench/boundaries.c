@@ -1,4 +1,4 @@
-/* What a boundary costs in C, for comparison with crates/styled_run: P threads pass PHASES boundaries
+/* What a boundary costs in C, for comparison with crates/spmd_workers: P threads pass PHASES boundaries
  * in a row, and each stores one word in between. Words lie on lines of their own; all steps are
  * sequentially consistent atomics.
  *

@@ -1,4 +1,4 @@
-/* The sweeps of bench/sweeps.f in C over plain memory, for comparison with crates/styled_run and
+/* The sweeps of bench/sweeps.f in C over plain memory, for comparison with crates/spmd_workers and
  * crates/fork_join: the loops over elements are shared out by OpenMP, with its barrier behind each.
  *
  *     sweeps P

@@ -18,16 +18,16 @@ use Rattle.plan_checker.proofs.AcceptedOrder.{accepted_ordered}
 use Rattle.spmd_model.specs.Ordered.{IsOrdered, IsSound}
 use Rattle.spmd_model.specs.Reached.{CanGo, IsSequential, positions_of}
 use Rattle.spmd_model.specs.States.{IsEnded, State, next_act, run_of}
-use Rattle.spmd_model.specs.Styled.{instances_in_front, job_under, machine_by, timeline_by}
+use Rattle.spmd_model.specs.Machines.{instances_in_front, job_under, machine_by, timeline_by}
 use Rattle.spmd_model.specs.Timelines.{Job, job, load}
 use Rattle.spmd_model.specs.declared.style.Style.{Style}
 use Rattle.spmd_model.proofs.ActLaws.{gives}
 use Rattle.spmd_model.proofs.Ends.{ended_memory, ended_output, output_front}
 use Rattle.spmd_model.proofs.Runs.{come_run, sequential_run}
-use Rattle.spmd_model.proofs.StyledLoads.{instance_in}
-use Rattle.spmd_model.proofs.StyledMemory.{shared_last}
-use Rattle.spmd_model.proofs.StyledOrder.{ordered_by, sound_by}
-use Rattle.spmd_model.proofs.StyledOutput.{output_by}
+use Rattle.spmd_model.proofs.MachineLoads.{instance_in}
+use Rattle.spmd_model.proofs.MachineMemory.{shared_last}
+use Rattle.spmd_model.proofs.MachineOrder.{ordered_by, sound_by}
+use Rattle.spmd_model.proofs.MachineOutput.{output_by}
 use Rattle.spmd_model.proofs.Unstuck.{ended_or_goes}
 
 module _ (style : Style) (tree : Tree) (plan : Plan) (schedule : List ℕ) (formed : IsWellFormed tree) (accepted : IsAccepted tree plan) (workers : All (λ q. q < plan.workers) schedule) where

@@ -15,7 +15,7 @@ ghost use Rattle.plan_checker.specs.Accepted.{IsAccepted};
 ghost use Rattle.spmd_model.specs.Fair.{IsBlock, IsFair, acts_to_go, blocks_in, first_of};
 ghost use Rattle.spmd_model.specs.Reached.{CanGo};
 ghost use Rattle.spmd_model.specs.States.{IsEnded, first_state, next_act, run_of};
-ghost use Rattle.spmd_model.specs.Styled.{instances_in_front, job_under, machine_by, timeline_by};
+ghost use Rattle.spmd_model.specs.Machines.{instances_in_front, job_under, machine_by, timeline_by};
 ghost use Rattle.spmd_model.specs.Timelines.{Job, job, load};
 ghost use Rattle.spmd_model.specs.declared.style.Style.{Style};
 

@@ -51,13 +51,15 @@ pub fn plan_program<R: Threads + Sync>(
     requires short { length bytes.now ≤ MOST_BYTES }
     requires some { 1 ≤ asked.now.workers }
     requires few { asked.now.workers ≤ 64 }
-    ensures planned { IfOk result (λ p. IsPlanned asked.now.workers asked.now.choice bytes.now (map setting_of asked.now.settings.now) (tree_of p.program) p.plan) }
+    ensures planned { IfOk result (λ p. IsPlanned asked.now.workers asked.now.choice bytes.now
+        (map setting_of asked.now.settings.now) (tree_of p.program) p.plan) }
     ensures formed { IfOk result (λ p. IsWellFormed (tree_of p.program)) }
     ensures accepted { IfOk result (λ p. IsAccepted (tree_of p.program) p.plan) }
     ensures fits { IfOk result (λ p. IsFit (tree_of p.program) p.plan) }
     ensures workers { IfOk result (λ p. p.plan.workers ≡ asked.now.workers) }
     ensures counts { IfOk result (λ p. HasCounts p.plan) }
-    ensures refused { IfErr result (IsStop asked.now.workers asked.now.choice bytes.now (map setting_of asked.now.settings.now)) }
+    ensures refused { IfErr result (IsStop asked.now.workers asked.now.choice bytes.now
+        (map setting_of asked.now.settings.now)) }
 {
     let alone = stands_alone(asked.choice);
     let (program, rest) = read_inside(alloc, bytes, asked.settings, alone)?;
@@ -70,7 +72,8 @@ pub fn plan_program<R: Threads + Sync>(
 /// memory ran out.
 pub fn plan_behind(alloc: Global, settings: &[Setting], bytes: &[u8]) -> Result<Planned, Stop>
     requires { length bytes.now ≤ MOST_BYTES }
-    ensures behind { IfOk result (λ p. IsBehind bytes.now (map setting_of settings.now) (tree_of p.program) p.plan) }
+    ensures behind { IfOk result (λ p. IsBehind bytes.now (map setting_of settings.now)
+        (tree_of p.program) p.plan) }
     ensures formed { IfOk result (λ p. IsWellFormed (tree_of p.program)) }
     ensures refused { IfErr result (IsStopBehind bytes.now (map setting_of settings.now)) }
 {
@@ -103,11 +106,13 @@ fn plan_for<R: Threads + Sync>(
     requires limits { IsWithinLimits (tree_of program.now) }
     requires some { 1 ≤ asked.now.workers }
     requires few { asked.now.workers ≤ 64 }
-    ensures plan { IfOk result (IsPlanFor asked.now.choice asked.now.workers (tree_of program.now) bytes.now) }
+    ensures plan { IfOk result (IsPlanFor asked.now.choice asked.now.workers
+        (tree_of program.now) bytes.now) }
     ensures accepted { IfOk result (IsAccepted (tree_of program.now)) }
     ensures workers { IfOk result (λ plan. plan.workers ≡ asked.now.workers) }
     ensures counts { IfOk result HasCounts }
-    ensures refused { IfErr result (IsPlanStopFor asked.now.choice asked.now.workers (tree_of program.now) bytes.now) }
+    ensures refused { IfErr result (IsPlanStopFor asked.now.choice asked.now.workers
+        (tree_of program.now) bytes.now) }
 {
     match asked.choice {
         PlanChoice::Made => {

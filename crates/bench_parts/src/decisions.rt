@@ -55,7 +55,8 @@ impl From<NoMemory> for Stop {
 }
 
 impl From<LineFault> for Stop {
-    ghost from_gives = { λ fault stop. (fault ≡ faults.NoMemory → stop ≡ stops.NoMemory) × (fault ≢ faults.NoMemory → stop ≡ stops.Line fault) };
+    ghost from_gives = { λ fault stop. (fault ≡ faults.NoMemory → stop ≡ stops.NoMemory)
+        × (fault ≢ faults.NoMemory → stop ≡ stops.Line fault) };
 
     fn from(fault: LineFault) -> Stop {
         match fault {
@@ -66,7 +67,8 @@ impl From<LineFault> for Stop {
 }
 
 impl From<CertRefusal> for Stop {
-    ghost from_gives = { λ refusal stop. (refusal ≡ refusals.NoMemory → stop ≡ stops.NoMemory) × (refusal ≢ refusals.NoMemory → stop ≡ stops.Certificate refusal) };
+    ghost from_gives = { λ refusal stop. (refusal ≡ refusals.NoMemory → stop ≡ stops.NoMemory)
+        × (refusal ≢ refusals.NoMemory → stop ≡ stops.Certificate refusal) };
 
     fn from(refusal: CertRefusal) -> Stop {
         match refusal {

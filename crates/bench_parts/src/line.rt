@@ -112,7 +112,8 @@ impl<T: Drop> From<AllocFailed<T>> for LineFault {
 /// What the line says; its end may be there or not.
 pub fn read_line(alloc: Global, bytes: &[u8]) -> Result<Line, LineFault>
     ensures line { IfOk result (λ line. spec.line_of bytes.now ≡ Ok line) }
-    ensures malformed { IfErr result (λ fault. fault ≢ NoMemory → spec.line_of bytes.now ≡ Err fault) }
+    ensures malformed { IfErr result (λ fault. fault ≢ NoMemory
+        → spec.line_of bytes.now ≡ Err fault) }
     ensures narrow { IfOk result IsNarrowLine }
 {
     if is_comment(bytes) {
@@ -175,7 +176,8 @@ fn is_name(word: &[u8]) -> bool
 // The head that the words behind `system` give.
 fn head_of(alloc: Global, words: &[&[u8]]) -> Result<Head, LineFault>
     ensures head { IfOk result (λ head. spec.head_of (map (λ w. w.now) words.now) ≡ Ok head) }
-    ensures malformed { IfErr result (λ fault. fault ≢ NoMemory → spec.head_of (map (λ w. w.now) words.now) ≡ Err fault) }
+    ensures malformed { IfErr result (λ fault. fault ≢ NoMemory
+        → spec.head_of (map (λ w. w.now) words.now) ≡ Err fault) }
 {
     let [name, rest @ ..] = words else {
         return Err(LineFault::Word(2, Wanted::Name));
@@ -188,8 +190,10 @@ fn head_of(alloc: Global, words: &[&[u8]]) -> Result<Head, LineFault>
 
 // The head of this name, whose variables and rows these words give.
 fn variables_after(alloc: Global, name: &[u8], words: &[&[u8]]) -> Result<Head, LineFault>
-    ensures head { IfOk result (λ head. spec.variables_after name.now (map (λ w. w.now) words.now) ≡ Ok head) }
-    ensures malformed { IfErr result (λ fault. fault ≢ NoMemory → spec.variables_after name.now (map (λ w. w.now) words.now) ≡ Err fault) }
+    ensures head { IfOk result (λ head. spec.variables_after name.now (map (λ w. w.now) words.now)
+        ≡ Ok head) }
+    ensures malformed { IfErr result (λ fault. fault ≢ NoMemory
+        → spec.variables_after name.now (map (λ w. w.now) words.now) ≡ Err fault) }
 {
     let [word, rest @ ..] = words else {
         return Err(LineFault::Word(3, Wanted::Variables));
@@ -207,8 +211,10 @@ fn rows_after(
     variables: u32,
     words: &[&[u8]],
 ) -> Result<Head, LineFault>
-    ensures head { IfOk result (λ head. spec.rows_after name.now variables (map (λ w. w.now) words.now) ≡ Ok head) }
-    ensures malformed { IfErr result (λ fault. fault ≢ NoMemory → spec.rows_after name.now variables (map (λ w. w.now) words.now) ≡ Err fault) }
+    ensures head { IfOk result (λ head. spec.rows_after name.now variables
+        (map (λ w. w.now) words.now) ≡ Ok head) }
+    ensures malformed { IfErr result (λ fault. fault ≢ NoMemory
+        → spec.rows_after name.now variables (map (λ w. w.now) words.now) ≡ Err fault) }
 {
     let [word, rest @ ..] = words else {
         return Err(LineFault::Word(4, Wanted::Rows));
@@ -231,7 +237,8 @@ fn rows_after(
 // The row that the words give: coefficients, `<=` and a bound.
 fn row_of(alloc: Global, words: &[&[u8]]) -> Result<Row, LineFault>
     ensures row { IfOk result (λ row. spec.row_from 1 (map (λ w. w.now) words.now) ≡ Ok row) }
-    ensures malformed { IfErr result (λ fault. fault ≢ NoMemory → spec.row_from 1 (map (λ w. w.now) words.now) ≡ Err fault) }
+    ensures malformed { IfErr result (λ fault. fault ≢ NoMemory
+        → spec.row_from 1 (map (λ w. w.now) words.now) ≡ Err fault) }
     ensures coefs { IfOk result (λ row. All (λ a. IsTrue (is_narrow a)) row.coefs) }
     ensures bound { IfOk result (λ row. IsTrue (is_narrow row.bound)) }
 {
@@ -253,8 +260,10 @@ fn row_of(alloc: Global, words: &[&[u8]]) -> Result<Row, LineFault>
 // The bound that the words behind `<=` give, the first of which has this number.
 fn bound_of(number: u64, words: &[&[u8]]) -> Result<i128, LineFault>
     requires { number + 1 < 2 ^ 64 }
-    ensures bound { IfOk result (λ bound. spec.bound_from number (map (λ w. w.now) words.now) ≡ Ok bound) }
-    ensures malformed { IfErr result (λ fault. spec.bound_from number (map (λ w. w.now) words.now) ≡ Err fault) }
+    ensures bound { IfOk result (λ bound. spec.bound_from number (map (λ w. w.now) words.now)
+        ≡ Ok bound) }
+    ensures malformed { IfErr result (λ fault. spec.bound_from number (map (λ w. w.now) words.now)
+        ≡ Err fault) }
     ensures narrow { IfOk result (λ bound. IsTrue (is_narrow bound)) }
 {
     let [word, rest @ ..] = words else {

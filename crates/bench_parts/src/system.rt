@@ -65,7 +65,8 @@ pub fn open_behind(
 ) -> Result<Option<Task>, LineFault>
     requires { spec.IsNarrowLine line }
     ensures task { IfOk result (λ next. spec.open_behind pending line ≡ Ok next) }
-    ensures misplaced { IfErr result (λ fault. fault ≢ NoMemory → spec.open_behind pending line ≡ Err fault) }
+    ensures misplaced { IfErr result (λ fault. fault ≢ NoMemory
+        → spec.open_behind pending line ≡ Err fault) }
 {
     match (line, pending) {
         (Line::Nothing, pending) => Ok(pending),
@@ -80,7 +81,8 @@ pub fn open_behind(
 fn with_row(mut task: Task, row: Row) -> Result<Option<Task>, LineFault>
     requires { spec.IsNarrowLine (lines.Row row) }
     ensures task { IfOk result (λ next. spec.open_behind (Some task) (lines.Row row) ≡ Ok next) }
-    ensures misplaced { IfErr result (λ fault. fault ≢ NoMemory → spec.open_behind (Some task) (lines.Row row) ≡ Err fault) }
+    ensures misplaced { IfErr result (λ fault. fault ≢ NoMemory
+        → spec.open_behind (Some task) (lines.Row row) ≡ Err fault) }
 {
     let count = row.coefs.as_slice().len();
     let variables = task.system.as_system().vars();

@@ -18,9 +18,9 @@ use plan_checker::laws::accepted_plans_are_ordered;
 use plan_input::{Stop, read_fitting};
 use spmd_model::Style;
 use spmd_ports::NoGate;
+use spmd_workers::run_spmd_with;
 use std::alloc::Global;
 use std::thread::Threads;
-use styled_run::run_spmd_with;
 use sync_plan::Plan;
 
 // The program of a source, whose subscripts are in range, and the plan behind it, which is accepted.

@@ -92,8 +92,10 @@ pub fn answer_line(
     answer: &Answer,
 ) -> Result<Vec<u8>, CertRefusal>
     requires { IsDecided system.now (range_with_len 1 system.now.vars) answer.now }
-    ensures line { IfOk result (λ line. line.items ≡ spec.verdict_line name.now (spec.verdict_on answer.now)) }
-    ensures sound { IfOk result (λ _. spec.IsSound system.now (range_with_len 1 system.now.vars) (spec.verdict_on answer.now)) }
+    ensures line { IfOk result (λ line. line.items
+        ≡ spec.verdict_line name.now (spec.verdict_on answer.now)) }
+    ensures sound { IfOk result (λ _. spec.IsSound system.now (range_with_len 1 system.now.vars)
+        (spec.verdict_on answer.now)) }
     ensures told { IsOkUnless result CertRefusal.NoMemory }
 {
     let verdict = verdict_of(alloc, system, answer)?;

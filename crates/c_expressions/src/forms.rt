@@ -87,8 +87,9 @@ impl Scope<'_> {
         subscripts: &[Affine],
         bounds: &[(i64, i64)],
     ) -> Result<Sum, AllocError>
-        ensures { IfOk result (λ sum. SumsUp sum
-            (place_at (param_values (tree_of self.now.program.now)) (pos 1) subscripts.now bounds.now)) }
+        ensures { IfOk result
+            (λ sum. SumsUp sum (place_at (param_values (tree_of self.now.program.now))
+            (pos 1) subscripts.now bounds.now)) }
     {
         let mut place = Sum::new(self.alloc);
         let mut stride = 1i64;

@@ -19,4 +19,4 @@ pub use place::Place;
 pub use scope::Scope;
 pub use sum::{Sum, Term};
 pub use sums::put_sum;
-pub use text::{put_natural, put_number};
+pub use text::{put_literal, put_loop, put_natural, put_number, put_text};

@@ -33,7 +33,7 @@ impl Scope<'_> {
     }
 
     /// The bounds of a variable, by its number from 1.
-    pub(crate) fn bounds(&self, variable: u32) -> &[(i64, i64)]
+    pub fn bounds(&self, variable: u32) -> &[(i64, i64)]
         ensures { result.now ≡ bounds_of (tree_of self.now.program.now) variable }
     {
         match self
@@ -48,7 +48,8 @@ impl Scope<'_> {
 
     /// Appends a word and the name of a variable, by its number from 1.
     pub fn put_name(&self, out: &mut String, word: &str, variable: u32) -> Result<(), AllocError>
-        ensures { OnOk result (string_bytes out.new ≡ string_bytes out.old ++ (word.now ++ variable_name (tree_of self.now.program.now) variable)) }
+        ensures { OnOk result (string_bytes out.new ≡ string_bytes out.old
+            ++ (word.now ++ variable_name (tree_of self.now.program.now) variable)) }
     {
         put_text(out, word)?;
         match self
@@ -63,7 +64,8 @@ impl Scope<'_> {
 
     // Appends a scalar's cell: its own, where a processor has one.
     pub(crate) fn put_scalar(&self, out: &mut String, variable: u32) -> Result<(), AllocError>
-        ensures { OnOk result (string_bytes out.new ≡ string_bytes out.old ++ scalar_cell (tree_of self.now.program.now) self.now.privates.now variable) }
+        ensures { OnOk result (string_bytes out.new ≡ string_bytes out.old
+            ++ scalar_cell (tree_of self.now.program.now) self.now.privates.now variable) }
     {
         if self.privates.contains(&variable) {
             self.put_name(out, "o_", variable)

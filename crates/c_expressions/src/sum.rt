@@ -1,6 +1,7 @@
 // Sums of multiples of loops' values, of the processor's number and of a constant, as C has them.
 
 ghost use Rattle.std.specs.Prelude.{◌≡◌, ◌↔◌, ◌<◌, ◌^◌, ◌+ℤ◌, ◌*ℤ◌, pos, IsTrue, OnOk, IfSome, Some, slice_get};
+ghost use Rattle.std.specs.List.{All};
 ghost use Rattle.nest_tree.specs.Values.{wrapped};
 ghost use Rattle.c_expressions.specs.Names.{term_name};
 
@@ -123,24 +124,6 @@ impl Sum {
         }
     }
 
-    /// Takes the value of a loop, by its number, in its last trip.
-    pub fn take_last(&mut self, number: u32) {
-        for (term, _) in self.terms.iter_mut() {
-            if *term == Term::Loop(number) {
-                *term = Term::Last;
-            }
-        }
-    }
-
-    /// Each number by its remainder by the number of processors, from 0 on.
-    pub fn reduce(&mut self, workers: u32) {
-        let workers = i64::from(workers.max(1));
-        self.constant = self.constant.rem_euclid(workers);
-        for (_, coefficient) in self.terms.iter_mut() {
-            *coefficient = coefficient.rem_euclid(workers);
-        }
-    }
-
     /// The constant.
     pub fn constant(&self) -> i64
         ensures { result ≡ self.now.constant }
@@ -155,15 +138,10 @@ impl Sum {
         self.terms.as_slice()
     }
 
-    /// Whether a term stands in it.
-    pub fn has(&self, term: Term) -> bool {
-        self.terms
-            .iter()
-            .any(|(known, coefficient)| *known == term && *coefficient != 0)
-    }
-
     /// Whether no coefficient differs from 0.
-    pub fn is_constant(&self) -> bool {
+    pub fn is_constant(&self) -> bool
+        ensures { IsTrue result → All (λ t. t.1 ≡ pos 0) self.now.terms.items }
+    {
         self.terms.iter().all(|(_, coefficient)| *coefficient == 0)
     }
 

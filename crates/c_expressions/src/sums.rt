@@ -40,8 +40,9 @@ fn put_part(
     coefficient: i64,
     term: Term,
 ) -> Result<bool, AllocError>
-    ensures { IfOk result (λ first. GoesOn (string_bytes out.old) is_first (string_bytes out.new) first
-        (λ v. coefficient *ℤ v (term_name term)) (unsigned_abs coefficient * 2 ^ 32)) }
+    ensures { IfOk result (λ first. GoesOn (string_bytes out.old) is_first
+        (string_bytes out.new) first (λ v. coefficient *ℤ v (term_name term))
+        (unsigned_abs coefficient * 2 ^ 32)) }
 {
     if coefficient == 0 {
         return Ok(is_first);
@@ -68,7 +69,8 @@ fn put_constant(out: &mut String, is_first: bool, constant: i64) -> Result<(), A
 
 // Appends the sign in front of a part, which may be the first one.
 fn put_sign(out: &mut String, is_first: bool, is_negative: bool) -> Result<(), AllocError>
-    ensures { OnOk result (string_bytes out.new ≡ string_bytes out.old ++ sign_text is_first is_negative) }
+    ensures { OnOk result (string_bytes out.new ≡ string_bytes out.old
+        ++ sign_text is_first is_negative) }
 {
     if is_first {
         if is_negative {
@@ -125,8 +127,10 @@ fn put_words(out: &mut String, sum: &Sum) -> Result<(), AllocError>
 
 // Appends a multiple of a term behind words, if it isn't 0.
 fn put_word_part(out: &mut String, coefficient: i64, term: Term) -> Result<(), AllocError>
-    ensures { OnOk result ((old : List ℕ) (part : Values → ℤ) → AppendsWords old (string_bytes out.old) part
-        → AppendsWords old (string_bytes out.new) (λ v. part v +ℤ (coefficient *ℤ v (term_name term)))) }
+    ensures { OnOk result ((old : List ℕ) (part : Values → ℤ)
+        → AppendsWords old (string_bytes out.old) part
+        → AppendsWords old (string_bytes out.new)
+        (λ v. part v +ℤ (coefficient *ℤ v (term_name term)))) }
 {
     if coefficient == 0 {
         return Ok(());

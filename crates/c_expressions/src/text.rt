@@ -26,8 +26,8 @@ pub fn put_number(out: &mut String, number: i64) -> Result<(), AllocError>
     out.push_str(buffer.format(number))
 }
 
-// Appends a text as it is.
-pub(crate) fn put_text(out: &mut String, text: &str) -> Result<(), AllocError>
+/// Appends a text as it is.
+pub fn put_text(out: &mut String, text: &str) -> Result<(), AllocError>
     ensures { OnOk result (string_bytes out.new ≡ string_bytes out.old ++ text.now) }
 {
     out.push_str(text)
@@ -35,7 +35,8 @@ pub(crate) fn put_text(out: &mut String, text: &str) -> Result<(), AllocError>
 
 // Appends a word where it is wanted.
 pub(crate) fn put_if(out: &mut String, is_wanted: bool, word: &str) -> Result<(), AllocError>
-    ensures { OnOk result (string_bytes out.new ≡ string_bytes out.old ++ (if is_wanted then word.now else [])) }
+    ensures { OnOk result (string_bytes out.new ≡ string_bytes out.old
+        ++ (if is_wanted then word.now else [])) }
 {
     if is_wanted {
         put_text(out, word)
@@ -44,9 +45,10 @@ pub(crate) fn put_if(out: &mut String, is_wanted: bool, word: &str) -> Result<()
     }
 }
 
-// Appends a number as C has it: the least one is no constant.
-pub(crate) fn put_literal(out: &mut String, number: i64) -> Result<(), AllocError>
-    ensures { OnOk result (Appends (string_bytes out.old) (string_bytes out.new) unary (literal_of number)) }
+/// Appends a number as C has it: the least one is no constant.
+pub fn put_literal(out: &mut String, number: i64) -> Result<(), AllocError>
+    ensures { OnOk result (Appends (string_bytes out.old) (string_bytes out.new) unary
+        (literal_of number)) }
 {
     if number == i64::MIN {
         put_text(out, "INT64_MIN")
@@ -57,15 +59,16 @@ pub(crate) fn put_literal(out: &mut String, number: i64) -> Result<(), AllocErro
 
 // Appends a number as a word.
 pub(crate) fn put_word(out: &mut String, number: i64) -> Result<(), AllocError>
-    ensures { OnOk result (Appends (string_bytes out.old) (string_bytes out.new) postfix (word_of (literal_of number))) }
+    ensures { OnOk result (Appends (string_bytes out.old) (string_bytes out.new) postfix
+        (word_of (literal_of number))) }
 {
     put_text(out, "W(")?;
     put_literal(out, number)?;
     put_text(out, ")")
 }
 
-// Appends the name of a loop's value.
-pub(crate) fn put_loop(out: &mut String, number: u32) -> Result<(), AllocError>
+/// Appends the name of a loop's value.
+pub fn put_loop(out: &mut String, number: u32) -> Result<(), AllocError>
     ensures { OnOk result (string_bytes out.new ≡ string_bytes out.old ++ loop_name number) }
 {
     put_text(out, "i")?;
@@ -74,7 +77,8 @@ pub(crate) fn put_loop(out: &mut String, number: u32) -> Result<(), AllocError>
 
 // Appends the value of a loop as a word.
 pub(crate) fn put_loop_word(out: &mut String, number: u32) -> Result<(), AllocError>
-    ensures { OnOk result (Appends (string_bytes out.old) (string_bytes out.new) postfix (word_of (identifier (loop_name number)))) }
+    ensures { OnOk result (Appends (string_bytes out.old) (string_bytes out.new) postfix
+        (word_of (identifier (loop_name number)))) }
 {
     put_text(out, "W(")?;
     put_loop(out, number)?;

@@ -15,7 +15,9 @@ use std::alloc::AllocError;
 impl Scope<'_> {
     /// Appends the cell of an access.
     pub fn put_access(&self, out: &mut String, access: &Access) -> Result<(), AllocError>
-        ensures { OnOk result (AppendsAccess (tree_of self.now.program.now) self.now.privates.now access.now (string_bytes out.old) (string_bytes out.new)) }
+        ensures { OnOk result
+            (AppendsAccess (tree_of self.now.program.now) self.now.privates.now access.now
+            (string_bytes out.old) (string_bytes out.new)) }
     {
         let subscripts = access.subscripts.as_slice();
         if subscripts.is_empty() {
@@ -32,7 +34,8 @@ impl Scope<'_> {
     /// Appends an expression in such a place.
     #[cycle(value)]
     pub fn put_value(&self, out: &mut String, e: &Expr, place: Place) -> Result<(), AllocError>
-        ensures { OnOk result (AppendsValue (tree_of self.now.program.now) self.now.privates.now (expression_of e.now) place (string_bytes out.old) (string_bytes out.new)) }
+        ensures { OnOk result (AppendsValue (tree_of self.now.program.now) self.now.privates.now
+            (expression_of e.now) place (string_bytes out.old) (string_bytes out.new)) }
     {
         match e {
             Expr::Number(number) => put_word(out, *number),
@@ -86,7 +89,9 @@ impl Scope<'_> {
     #[cycle(value)]
     fn put_chosen(&self, out: &mut String, word: &str, arguments: &[Expr]) -> Result<(), AllocError>
         requires { IsTrue (is_name word.now) }
-        ensures { OnOk result (AppendsChoice (tree_of self.now.program.now) self.now.privates.now word.now (expressions_from arguments.now) (string_bytes out.old) (string_bytes out.new)) }
+        ensures { OnOk result
+            (AppendsChoice (tree_of self.now.program.now) self.now.privates.now word.now
+            (expressions_from arguments.now) (string_bytes out.old) (string_bytes out.new)) }
     {
         let Some((first, rest)) = arguments.split_first() else {
             return put_text(out, "0");

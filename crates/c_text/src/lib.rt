@@ -10,7 +10,6 @@ mod own;
 mod phases;
 pub mod runtime;
 mod source;
-mod statements;
 mod text;
 
 pub use file::{Emitted, write_c};

@@ -1,7 +1,9 @@
 // A processor's own trips of a loop.
 
-use crate::text::{Own, Text};
+use crate::text::{Text, layout_of, spot_of};
 use c_expressions::{Sum, Term};
+use c_owners::{Given, Own};
+use c_statements::{Body, put_begun, put_ended, put_loop_head, put_stepped};
 use nest_tree::Nest;
 use owner_partition::Anchor;
 use std::alloc::AllocError;
@@ -27,6 +29,7 @@ struct Turn<'a> {
 impl Text<'_> {
     /// A processor's own trips of a loop, so deep, with what it does behind them.
     pub(crate) fn own_trips(&mut self, it: &OwnTrips, depth: u32) -> Result<(), AllocError> {
+        let layout = layout_of(self.alloc, self.program, self.plan);
         if let Trips::All(anchor) = &it.trips {
             if it.privates.is_empty() && it.sums.is_empty() {
                 return self.all_trips(it, anchor, depth);
@@ -34,7 +37,11 @@ impl Text<'_> {
         }
         self.line(depth, "{")?;
         let depth = depth.saturating_add(1);
-        self.own_cells(it, depth)?;
+        let own = Own {
+            privates: it.privates.as_slice(),
+            sums: it.sums.as_slice(),
+        };
+        layout.put_cells(&mut self.out, &own, depth)?;
         match &it.trips {
             Trips::All(anchor) => self.all_trips(it, anchor, depth)?,
             Trips::Block(length, rest, rise) => {
@@ -46,7 +53,7 @@ impl Text<'_> {
                 self.block_trips(it, block, depth)?;
             }
             Trips::Turn(start, turning) => {
-                let from = self.start(start)?;
+                let from = layout.sum_alike(&spot_of(start))?;
                 let turn = Turn {
                     from: &from,
                     turning: *turning,
@@ -54,63 +61,47 @@ impl Text<'_> {
                 self.turn_trips(it, turn, depth)?;
             }
         }
-        self.give_privates(it, depth)?;
-        self.give_sums(&it.sums, depth)?;
+        let given = Given {
+            anchor: &it.anchor,
+            nest: it.nest,
+            privates: own.privates,
+        };
+        layout.put_privates(&mut self.out, &given, depth)?;
+        layout.put_totals(&mut self.out, own.sums, depth)?;
         self.line(depth.saturating_sub(1), "}")
-    }
-
-    // The cells of a processor's own.
-    fn own_cells(&mut self, it: &OwnTrips, depth: u32) -> Result<(), AllocError> {
-        for &variable in &it.sums {
-            self.begin(depth)?;
-            self.words("word ")?;
-            self.name("s_", variable)?;
-            self.words(" = 0; int ")?;
-            self.name("a_", variable)?;
-            self.words(" = 0;\n")?;
-        }
-        for &variable in &it.privates {
-            self.begin(depth)?;
-            self.words("word ")?;
-            self.name("o_", variable)?;
-            self.words(" = 0;\n")?;
-        }
-        Ok(())
     }
 
     // All trips, where the anchor names the processor.
     fn all_trips(&mut self, it: &OwnTrips, anchor: &Anchor, depth: u32) -> Result<(), AllocError> {
-        self.begin(depth)?;
-        self.words("if (p == ")?;
-        self.owner(anchor)?;
-        self.words(") {\n")?;
+        let layout = layout_of(self.alloc, self.program, self.plan);
+        self.owned(anchor, depth)?;
         let inner = depth.saturating_add(1);
-        self.loop_head(it.nest, inner)?;
+        put_loop_head(&layout.scope(&[]), &mut self.out, it.nest, inner)?;
         self.body(it, inner)?;
         self.line(depth, "}")
     }
 
     // What a loop does in a trip, and its end.
     fn body(&mut self, it: &OwnTrips, depth: u32) -> Result<(), AllocError> {
-        let own = Own {
-            privates: it.privates.as_slice(),
+        let layout = layout_of(self.alloc, self.program, self.plan);
+        let body = Body {
+            scope: layout.scope(it.privates.as_slice()),
             sums: it.sums.as_slice(),
         };
-        self.statements(&it.nest.items, own, depth.saturating_add(1))?;
+        body.put_statements(&mut self.out, &it.nest.items, depth.saturating_add(1))?;
         self.line(depth, "}")
     }
 
     // The trips in a processor's block.
     fn block_trips(&mut self, it: &OwnTrips, block: Block, depth: u32) -> Result<(), AllocError> {
-        let mut rest = Sum::new(self.alloc);
-        self.add_place(block.rest, 1, &mut rest)?;
-        if rest.is_plain() {
+        let layout = layout_of(self.alloc, self.program, self.plan);
+        if layout.sum_of(&spot_of(block.rest))?.is_plain() {
             return self.trips_between(it, block, depth);
         }
         // where the loop has no trip, nothing is known of the rest
         self.begin(depth)?;
         self.words("if (")?;
-        self.has_trips(it.nest)?;
+        layout.put_has_trips(&mut self.out, it.nest)?;
         self.words(") {\n")?;
         self.trips_between(it, block, depth.saturating_add(1))?;
         self.line(depth, "}")
@@ -138,10 +129,11 @@ impl Text<'_> {
             ", hi);\n"
         })?;
         self.begin(depth)?;
-        write!(self.out, "for (number i{} = first", it.nest.number)?;
-        self.loop_end(it.nest)?;
+        put_begun(&mut self.out, it.nest.number)?;
+        self.words("first")?;
+        put_ended(&mut self.out, it.nest.number, it.nest.step)?;
         self.words("last")?;
-        self.loop_step(it.nest.number, it.nest.step)?;
+        put_stepped(&mut self.out, it.nest.number, it.nest.step)?;
         self.body(it, depth)
     }
 
@@ -154,7 +146,8 @@ impl Text<'_> {
         if upper {
             end.add(length.saturating_sub(1), sign);
         }
-        self.add_place(block.rest, sign.wrapping_neg(), &mut end)?;
+        let layout = layout_of(self.alloc, self.program, self.plan);
+        layout.add_spot(&spot_of(block.rest), sign.wrapping_neg(), &mut end)?;
         let size = block.rise.unsigned_abs();
         if size == 1 {
             return self.sum(&end);
@@ -195,12 +188,6 @@ impl Text<'_> {
         }
     }
 
-    // The place of a loop's first trip, but for multiples of the number of processors.
-    fn start(&self, start: &Place) -> Result<Sum, AllocError> {
-        let loops = start.loops.as_slice();
-        self.remainders(start.constant, loops, start.params.as_slice())
-    }
-
     // The trips of a processor in turn.
     fn turn_trips(&mut self, it: &OwnTrips, turn: Turn, depth: u32) -> Result<(), AllocError> {
         let divisor = turn.turning.divisor;
@@ -234,15 +221,16 @@ impl Text<'_> {
             self.words(";\n")?;
         }
         self.begin(depth)?;
-        write!(self.out, "for (number i{} = ", nest.number)?;
+        put_begun(&mut self.out, nest.number)?;
         if stride == 1 {
             self.form(&nest.m1)?;
         } else {
             self.words("first")?;
         }
-        self.loop_end(nest)?;
+        put_ended(&mut self.out, nest.number, nest.step)?;
         self.form(&nest.m2)?;
-        self.loop_step(nest.number, nest.step.saturating_mul(i64::from(stride)))?;
+        let by = nest.step.saturating_mul(i64::from(stride));
+        put_stepped(&mut self.out, nest.number, by)?;
         self.body(it, depth)
     }
 
@@ -277,71 +265,5 @@ impl Text<'_> {
             write!(self.out, " * {factor} % {stride}")?;
         }
         self.words(")")
-    }
-
-    // Whether the loop has a trip.
-    fn has_trips(&mut self, nest: &Nest) -> Result<(), AllocError> {
-        self.form(&nest.m1)?;
-        self.words(if nest.step < 0 { " >= " } else { " <= " })?;
-        self.form(&nest.m2)
-    }
-
-    // The owner of the last trip gives its private scalars to all.
-    fn give_privates(&mut self, it: &OwnTrips, depth: u32) -> Result<(), AllocError> {
-        if it.privates.is_empty() {
-            return Ok(());
-        }
-        let mut place = self.place(&it.anchor)?;
-        place.take_last(it.nest.number);
-        if place.has(Term::Last) {
-            self.begin(depth)?;
-            self.words("const number z = ")?;
-            self.last_trip(it.nest)?;
-            self.words(";\n")?;
-        }
-        self.begin(depth)?;
-        self.words("if (")?;
-        self.has_trips(it.nest)?;
-        self.words(" && p == ")?;
-        self.owner_of(&place, it.anchor.dist)?;
-        self.words(") { ")?;
-        for &variable in &it.privates {
-            self.give_private(variable)?;
-        }
-        self.words("} // the last trip is its own\n")
-    }
-
-    fn give_private(&mut self, variable: u32) -> Result<(), AllocError> {
-        self.name("v_", variable)?;
-        self.words(" = ")?;
-        self.name("o_", variable)?;
-        self.words("; ")
-    }
-
-    // The value of the loop in its last trip, where it has one.
-    fn last_trip(&mut self, nest: &Nest) -> Result<(), AllocError> {
-        if nest.step.unsigned_abs() == 1 {
-            return self.form(&nest.m2);
-        }
-        self.words("last_trip(")?;
-        self.form(&nest.m1)?;
-        self.words(", ")?;
-        self.form(&nest.m2)?;
-        write!(self.out, ", {})", nest.step)
-    }
-
-    // What a processor has summed up is added to what all share.
-    fn give_sums(&mut self, sums: &[u32], depth: u32) -> Result<(), AllocError> {
-        for &variable in sums {
-            self.begin(depth)?;
-            self.words("if (")?;
-            self.name("a_", variable)?;
-            self.words(") add(&")?;
-            self.name("v_", variable)?;
-            self.words(", ")?;
-            self.name("s_", variable)?;
-            self.words(");\n")?;
-        }
-        Ok(())
     }
 }

@@ -1,12 +1,14 @@
 // Outer loops, the boundaries between phases, and comments on them.
 
 use crate::source::{is_quoted, shown};
-use crate::text::{Own, Text};
-use c_expressions::{Sum, Term};
+use crate::text::{Text, layout_of};
+use c_owners::Phase;
+use c_statements::{Body, put_loop_head};
 use nest_tree::{Affine, Item, Nest};
 use owner_partition::{Anchor, Dist, Mark};
 use std::alloc::AllocError;
 use std::fmt::Write;
+use std::mem::replace;
 use sync_plan::Kind;
 use thread_code::{Code, Part};
 
@@ -22,114 +24,63 @@ impl Text<'_> {
 
     #[cycle(codes)]
     fn code(&mut self, code: &Code, depth: u32) -> Result<(), AllocError> {
+        let layout = layout_of(self.alloc, self.program, self.plan);
         match code {
             Code::Each(nest, inside) => {
                 self.words("\n")?;
                 self.quote(nest.line, nest.line, depth)?;
-                self.loop_head(nest, depth)?;
+                put_loop_head(&layout.scope(&[]), &mut self.out, nest, depth)?;
                 self.codes(inside, depth.saturating_add(1))?;
                 self.line(depth, "}")
             }
-            Code::Phase(kind, part) => {
-                self.phase_head(kind, part, depth)?;
-                self.line(depth, "e++;")?;
-                self.boundary(kind, depth)?;
-                self.part(part, depth)
-            }
+            Code::Phase(kind, part) => self.phase(kind, part, depth),
             Code::Nothing => Ok(()),
         }
     }
 
+    // A phase behind its waits.
+    fn phase(&mut self, kind: &Option<Kind>, part: &Part, depth: u32) -> Result<(), AllocError> {
+        let layout = layout_of(self.alloc, self.program, self.plan);
+        let alloc = self.alloc;
+        let mut page = replace(&mut self.out, String::new(alloc));
+        self.phase_head(kind, part, depth)?;
+        let remarks = replace(&mut self.out, String::new(alloc));
+        self.part(part, depth)?;
+        let phase = Phase {
+            remarks: &remarks,
+            kind,
+            share: &self.out,
+        };
+        layout.put_phase(&mut page, &phase, depth)?;
+        self.out = page;
+        Ok(())
+    }
+
     // A processor's part of a phase.
     fn part(&mut self, part: &Part, depth: u32) -> Result<(), AllocError> {
+        let layout = layout_of(self.alloc, self.program, self.plan);
         match part {
             Part::Trips(trips) => self.own_trips(trips, depth),
             Part::Work(anchor, item) => {
-                self.begin(depth)?;
-                self.words("if (p == ")?;
-                self.owner(anchor)?;
-                self.words(") {\n")?;
-                self.statement(item, Own::none(), depth.saturating_add(1))?;
+                self.owned(anchor, depth)?;
+                let body = Body {
+                    scope: layout.scope(&[]),
+                    sums: &[],
+                };
+                body.put_statement(&mut self.out, item, depth.saturating_add(1))?;
                 self.line(depth, "}")
             }
             Part::Nothing => Ok(()),
         }
     }
 
-    // The waits in front of a phase.
-    fn boundary(&mut self, kind: &Option<Kind>, depth: u32) -> Result<(), AllocError> {
-        match kind {
-            None | Some(Kind::Nothing) => Ok(()),
-            Some(Kind::Left) => self.line(depth, "left(p, e);"),
-            Some(Kind::Right) => self.line(depth, "right(p, e);"),
-            Some(Kind::Both) => self.line(depth, "both(p, e);"),
-            Some(Kind::Barrier | Kind::Join) => self.line(depth, "barrier(&rounds);"),
-            Some(Kind::Producer(anchor)) => {
-                self.begin(depth)?;
-                self.words("producer(p, e, ")?;
-                self.owner(anchor)?;
-                self.words(");\n")
-            }
-        }
-    }
-
-    /// The processor that an anchor names.
-    pub(crate) fn owner(&mut self, anchor: &Anchor) -> Result<(), AllocError> {
-        let place = self.place(anchor)?;
-        self.owner_of(&place, anchor.dist)
-    }
-
-    /// The place of an anchor: for places in turn but for multiples of the number of processors.
-    pub(crate) fn place(&self, anchor: &Anchor) -> Result<Sum, AllocError> {
-        let form = &anchor.form;
-        match anchor.dist {
-            Dist::Block(_) => self.sum_of(form),
-            Dist::Cyclic => self.remainders(form.constant(), form.loops(), form.params()),
-        }
-    }
-
-    /// The owner of a place.
-    pub(crate) fn owner_of(&mut self, place: &Sum, dist: Dist) -> Result<(), AllocError> {
-        let is_known = place.is_constant() && place.is_plain();
-        match dist {
-            Dist::Block(length) => {
-                if is_known {
-                    return self.number(place.constant().div_euclid(i64::from(length.max(1))));
-                }
-                self.words("floored(")?;
-                self.sum(place)?;
-                write!(self.out, ", {length})")
-            }
-            Dist::Cyclic => {
-                if is_known {
-                    return self.number(place.constant());
-                }
-                self.words("modulo(")?;
-                self.sum(place)?;
-                self.words(", P)")
-            }
-        }
-    }
-
-    /// The sum of these, each by its remainder by the number of processors.
-    pub(crate) fn remainders(
-        &self,
-        constant: i64,
-        loops: &[(u32, i64)],
-        params: &[(u32, i64)],
-    ) -> Result<Sum, AllocError> {
-        let workers = i64::from(self.plan.workers.max(1));
-        let mut sum = Sum::new(self.alloc);
-        sum.add(constant.rem_euclid(workers), 1);
-        for &(number, coefficient) in params {
-            let value = self.parameter(number).rem_euclid(workers);
-            sum.add(coefficient.rem_euclid(workers), value);
-        }
-        for &(number, coefficient) in loops {
-            sum.add_term(Term::Loop(number), coefficient.rem_euclid(workers), 1)?;
-        }
-        sum.reduce(self.plan.workers);
-        Ok(sum)
+    /// The question whether an anchor names the processor.
+    pub(crate) fn owned(&mut self, anchor: &Anchor, depth: u32) -> Result<(), AllocError> {
+        let layout = layout_of(self.alloc, self.program, self.plan);
+        self.begin(depth)?;
+        self.words("if (p == ")?;
+        layout.put_owner(&mut self.out, anchor, None)?;
+        self.words(") {\n")
     }
 
     // The comment in front of a phase: its line of the plan, and its lines of the source.

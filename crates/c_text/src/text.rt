@@ -1,28 +1,12 @@
 // The text that is written, and what stands in it most often.
 
 use crate::source::SourceLines;
-use c_expressions::{Place, Scope, Sum, put_number, put_sum};
-use nest_tree::{Access, Affine, Expr, Guard, Program};
+use c_expressions::{Scope, Sum, put_sum};
+use c_owners::{Layout, Spot};
+use nest_tree::{Affine, Program};
 use std::alloc::{AllocError, Global};
 use sync_plan::Plan;
-use thread_code::Place as Summed;
-
-/// Scalars of which a processor has cells of its own in the loop that is written.
-#[derive(Clone, Copy)]
-pub(crate) struct Own<'a> {
-    pub(crate) privates: &'a [u32],
-    pub(crate) sums: &'a [u32],
-}
-
-impl Own<'_> {
-    /// No such scalar.
-    pub(crate) fn none() -> Self {
-        Own {
-            privates: &[],
-            sums: &[],
-        }
-    }
-}
+use thread_code::Place;
 
 /// A text in C, with what it is made of.
 #[derive(Drop)]
@@ -65,38 +49,25 @@ impl Text<'_> {
         Ok(())
     }
 
-    /// A number, in decimals.
-    pub(crate) fn number(&mut self, number: i64) -> Result<(), AllocError> {
-        put_number(&mut self.out, number)
-    }
-
     /// The name of a variable, by its number from 1, behind letters that say which cell is meant.
     pub(crate) fn name(&mut self, letters: &str, variable: u32) -> Result<(), AllocError> {
         let scope = scope_of(self.alloc, self.program, &[]);
         scope.put_name(&mut self.out, letters, variable)
     }
 
-    /// The value of a named constant, by its number from 1.
-    pub(crate) fn parameter(&self, number: u32) -> i64 {
-        scope_of(self.alloc, self.program, &[]).parameter(number)
-    }
-
-    /// Adds a multiple of a place to a sum.
-    pub(crate) fn add_place(
-        &self,
-        place: &Summed,
-        times: i64,
-        sum: &mut Sum,
-    ) -> Result<(), AllocError> {
-        let scope = scope_of(self.alloc, self.program, &[]);
-        sum.add(place.constant, times);
-        scope.add_params(place.params.as_slice(), times, sum);
-        scope.add_loops(place.loops.as_slice(), times, sum)
-    }
-
-    /// The sum that a form is.
-    pub(crate) fn sum_of(&self, form: &Affine) -> Result<Sum, AllocError> {
-        scope_of(self.alloc, self.program, &[]).sum_of(form)
+    /// How many elements an array has, by its number from 1; past 2^64 it counts as 2^64 - 1.
+    pub(crate) fn element_count(&self, variable: u32) -> u64 {
+        let mut count = 1u64;
+        if let Some(array) = self
+            .program
+            .variables
+            .get((variable as usize).saturating_sub(1))
+        {
+            for &(low, high) in &array.bounds {
+                count = count.saturating_mul(high.abs_diff(low).saturating_add(1));
+            }
+        }
+        count
     }
 
     /// A form.
@@ -109,28 +80,20 @@ impl Text<'_> {
     pub(crate) fn sum(&mut self, sum: &Sum) -> Result<(), AllocError> {
         put_sum(&mut self.out, sum)
     }
+}
 
-    /// The cell of an access.
-    pub(crate) fn access(&mut self, access: &Access, own: Own) -> Result<(), AllocError> {
-        let scope = scope_of(self.alloc, self.program, own.privates);
-        scope.put_access(&mut self.out, access)
-    }
+/// For whom a text is written.
+pub(crate) fn layout_of<'a>(alloc: Global, program: &'a Program, plan: &Plan) -> Layout<'a> {
+    Layout::new(alloc, program, plan.workers)
+}
 
-    /// An expression.
-    pub(crate) fn value(&mut self, e: &Expr, own: Own) -> Result<(), AllocError> {
-        let scope = scope_of(self.alloc, self.program, own.privates);
-        scope.put_value(&mut self.out, e, Place::Sum)
-    }
-
-    /// A comparison, if there is one, in front of what it guards.
-    pub(crate) fn guard(&mut self, guard: &Option<Guard>) -> Result<(), AllocError> {
-        let Some(guard) = guard else {
-            return Ok(());
-        };
-        let scope = scope_of(self.alloc, self.program, &[]);
-        self.words("if (")?;
-        scope.put_comparison(&mut self.out, guard)?;
-        self.words(") ")
+/// The spot of a place.
+pub(crate) fn spot_of<'a>(place: &'a Place) -> Spot<'a> {
+    Spot {
+        constant: place.constant,
+        loops: place.loops.as_slice(),
+        params: place.params.as_slice(),
+        last: None,
     }
 }
 

@@ -30,7 +30,8 @@ pub fn certain_boundaries(
     slot: &Slot,
 ) -> Result<Vec<Boundary>, AllocError>
     requires { length phases.now < 2 ^ 20 }
-    ensures boundaries { IfOk result (λ found. map boundary_seen found.items ≡ certain_of (slot_seen slot.now) (map phase_seen phases.now)) }
+    ensures boundaries { IfOk result (λ found. map boundary_seen found.items
+        ≡ certain_of (slot_seen slot.now) (map phase_seen phases.now)) }
     ensures few { IfOk result (λ found. length found.items ≤ 2 * length phases.now) }
 {
     let mut found = Vec::new(alloc);
@@ -48,8 +49,11 @@ fn push_certain(
     found: &mut Vec<Boundary>,
 ) -> Result<(), AllocError>
     requires { length phases.now < 2 ^ 20 }
-    ensures found { OnOk result (map boundary_seen found.new.items ≡ map boundary_seen found.old.items ++ certain_on (side_seen side) (level_seen level.entry) (map phase_seen phases.now)) }
-    ensures few { OnOk result (length found.new.items ≤ length found.old.items + length phases.now) }
+    ensures found { OnOk result (map boundary_seen found.new.items
+        ≡ map boundary_seen found.old.items ++ certain_on (side_seen side) (level_seen level.entry)
+        (map phase_seen phases.now)) }
+    ensures few { OnOk result (length found.new.items ≤ length found.old.items
+        + length phases.now) }
 {
     for (index, phase) in phases.iter().enumerate() {
         let number = index as u32 + 1;

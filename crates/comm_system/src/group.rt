@@ -35,7 +35,8 @@ impl Group<'_, '_, '_> {
         plan: &Plan,
     ) -> Result<Vec<Obligation>, AllocError>
         requires { wrong_field (tree_of program.now) plan.now ≡ None }
-        ensures { IfOk result (λ found. found.items ≡ obligations_in (tree_of program.now) plan.now (group_seen self.now)) }
+        ensures { IfOk result (λ found. found.items ≡ obligations_in (tree_of program.now) plan.now
+            (group_seen self.now)) }
     {
         match &self.subject {
             Subject::Trips(phase, a, b) => {

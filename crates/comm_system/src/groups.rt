@@ -43,8 +43,10 @@ pub struct Groups<'b, 'a, 'p> {
 impl<'b, 'a, 'p> Groups<'b, 'a, 'p> {
     // The number behind the systems of one subject more. Where it passes 64 bits there is no room.
     fn behind(&self, subject: &Subject) -> Result<u64, AllocError>
-        ensures number { IfOk result (λ next. next ≡ self.now.next + count_about (subject_seen subject.now)) }
-        ensures only { IfErr result (λ _. 2 ^ 64 ≤ self.now.next + count_about (subject_seen subject.now)) }
+        ensures number { IfOk result (λ next. next
+            ≡ self.now.next + count_about (subject_seen subject.now)) }
+        ensures only { IfErr result (λ _. 2 ^ 64 ≤ self.now.next + count_about
+            (subject_seen subject.now)) }
     {
         match self.next.checked_add(subject.count()) {
             Some(next) => Ok(next),
@@ -54,7 +56,8 @@ impl<'b, 'a, 'p> Groups<'b, 'a, 'p> {
 
     // One subject more, unless the systems before it pass a number.
     fn add(&mut self, most: u64, subject: Subject<'b, 'a, 'p>) -> Result<(), AllocError>
-        ensures { OnOk result (listed_seen self.new ≡ with_subject most (listed_seen self.old) (subject_seen subject.entry)) }
+        ensures { OnOk result (listed_seen self.new ≡ with_subject most (listed_seen self.old)
+            (subject_seen subject.entry)) }
     {
         if self.next > most {
             return Ok(());
@@ -75,7 +78,9 @@ impl<'b, 'a, 'p> Groups<'b, 'a, 'p> {
         a: &'b Reference<'a>,
         b: &'b Reference<'a>,
     ) -> Result<(), AllocError>
-        ensures { OnOk result (listed_seen self.new ≡ with_subjects most (listed_seen self.old) (map (subject_at scene.entry) (map (paired (reference_seen a.entry.now)) (filter (conflict (reference_seen a.entry.now)) (reference_seen b.entry.now ∷ []))))) }
+        ensures { OnOk result (listed_seen self.new ≡ with_subjects most (listed_seen self.old)
+            (map (subject_at scene.entry) (map (paired (reference_seen a.entry.now))
+            (filter (conflict (reference_seen a.entry.now)) (reference_seen b.entry.now ∷ []))))) }
     {
         if are_conflicting(a, b) {
             self.add(most, scene.subject(alloc, a, b)?)
@@ -93,7 +98,9 @@ impl<'b, 'a, 'p> Groups<'b, 'a, 'p> {
         a: &'b Reference<'a>,
         seconds: &[Kept<'b, 'a>],
     ) -> Result<(), AllocError>
-        ensures { OnOk result (listed_seen self.new ≡ with_subjects most (listed_seen self.old) (map (subject_at scene.entry) (map (paired (reference_seen a.entry.now)) (filter (conflict (reference_seen a.entry.now)) (map kept_seen seconds.now))))) }
+        ensures { OnOk result (listed_seen self.new ≡ with_subjects most (listed_seen self.old)
+            (map (subject_at scene.entry) (map (paired (reference_seen a.entry.now))
+            (filter (conflict (reference_seen a.entry.now)) (map kept_seen seconds.now))))) }
     {
         for &b in seconds {
             if self.next > most {
@@ -113,7 +120,10 @@ impl<'b, 'a, 'p> Groups<'b, 'a, 'p> {
         firsts: &[Kept<'b, 'a>],
         seconds: &[Kept<'b, 'a>],
     ) -> Result<(), AllocError>
-        ensures { OnOk result (listed_seen self.new ≡ with_subjects most (listed_seen self.old) (map (subject_at scene.entry) (flat_map (λ a. map (paired a) (filter (conflict a) (map kept_seen seconds.now))) (map kept_seen firsts.now)))) }
+        ensures { OnOk result (listed_seen self.new ≡ with_subjects most (listed_seen self.old)
+            (map (subject_at scene.entry)
+            (flat_map (λ a. map (paired a) (filter (conflict a) (map kept_seen seconds.now)))
+            (map kept_seen firsts.now)))) }
     {
         for &a in firsts {
             if self.next > most {
@@ -132,7 +142,8 @@ impl<'b, 'a, 'p> Groups<'b, 'a, 'p> {
         most: u64,
         phase: &'b Phase<'a>,
     ) -> Result<(), AllocError>
-        ensures { OnOk result (listed_seen self.new ≡ with_subjects most (listed_seen self.old) (trips_subjects plan.now (phase_seen phase.entry.now))) }
+        ensures { OnOk result (listed_seen self.new ≡ with_subjects most (listed_seen self.old)
+            (trips_subjects plan.now (phase_seen phase.entry.now))) }
     {
         if !plan.cut.is_dealt(phase.text.item) {
             return Ok(());
@@ -148,7 +159,9 @@ impl<'b, 'a, 'p> Groups<'b, 'a, 'p> {
         most: u64,
         phase: &'b Phase<'a>,
     ) -> Result<(), AllocError>
-        ensures { OnOk result (listed_seen self.new ≡ with_subjects most (listed_seen self.old) (map (of_trips (phase_seen phase.entry.now)) (pairs_within cut.now (phase_seen phase.entry.now)))) }
+        ensures { OnOk result (listed_seen self.new ≡ with_subjects most (listed_seen self.old)
+            (map (of_trips (phase_seen phase.entry.now))
+            (pairs_within cut.now (phase_seen phase.entry.now)))) }
     {
         let firsts = shared(alloc, cut, phase)?;
         let seconds = all(alloc, phase)?;
@@ -170,7 +183,9 @@ impl<'b, 'a, 'p> Groups<'b, 'a, 'p> {
         slot: Slot<'b, 'a>,
         waits: &Waits<'p>,
     ) -> Result<(), AllocError>
-        ensures { OnOk result (listed_seen self.new ≡ with_subjects most (listed_seen self.old) (slot_subjects cut.now (slot_seen slot.entry) (waits_of waits.now.left waits.now.right (map producer_seen waits.now.producers.items)))) }
+        ensures { OnOk result (listed_seen self.new ≡ with_subjects most (listed_seen self.old)
+            (slot_subjects cut.now (slot_seen slot.entry) (waits_of waits.now.left waits.now.right
+            (map producer_seen waits.now.producers.items)))) }
     {
         let (first, second) = (slot.first, slot.second);
         let firsts = shown(alloc, cut, first)?;
@@ -195,7 +210,10 @@ impl<'b, 'a, 'p> Groups<'b, 'a, 'p> {
     ) -> Result<(), AllocError>
         requires places { IsTrue (list_all has_places_in plan.now.kinds) }
         requires few { length phases.now < 2 ^ 20 }
-        ensures { OnOk result (listed_seen self.new ≡ with_subjects most (listed_seen self.old) (slot_subjects plan.entry.now.cut (slot_seen slot.entry) (signature_under plan.entry.now.version plan.entry.now.kinds (map phase_seen phases.now) (slot_seen slot.entry)))) }
+        ensures { OnOk result (listed_seen self.new ≡ with_subjects most (listed_seen self.old)
+            (slot_subjects plan.entry.now.cut (slot_seen slot.entry)
+            (signature_under plan.entry.now.version plan.entry.now.kinds (map phase_seen phases.now)
+            (slot_seen slot.entry)))) }
     {
         if self.next > most {
             return Ok(());
@@ -214,7 +232,8 @@ impl<'b, 'a, 'p> Groups<'b, 'a, 'p> {
         most: u64,
         phases: &'b [Phase<'a>],
     ) -> Result<(), AllocError>
-        ensures { OnOk result (listed_seen self.new ≡ with_subjects most (listed_seen self.old) (flat_map (trips_subjects plan.now) (map phase_seen phases.entry.now))) }
+        ensures { OnOk result (listed_seen self.new ≡ with_subjects most (listed_seen self.old)
+            (flat_map (trips_subjects plan.now) (map phase_seen phases.entry.now))) }
     {
         for phase in phases {
             self.add_trips(alloc, plan, most, phase)?;
@@ -233,7 +252,10 @@ impl<'b, 'a, 'p> Groups<'b, 'a, 'p> {
     ) -> Result<(), AllocError>
         requires places { IsTrue (list_all has_places_in plan.now.kinds) }
         requires few { length phases.now < 2 ^ 20 }
-        ensures { OnOk result (listed_seen self.new ≡ with_subjects most (listed_seen self.old) (flat_map (λ slot. slot_subjects plan.entry.now.cut slot (signature_under plan.entry.now.version plan.entry.now.kinds (map phase_seen phases.now) slot)) (map slot_seen slots.now))) }
+        ensures { OnOk result (listed_seen self.new ≡ with_subjects most (listed_seen self.old)
+            (flat_map (λ slot. slot_subjects plan.entry.now.cut slot
+            (signature_under plan.entry.now.version plan.entry.now.kinds
+            (map phase_seen phases.now) slot)) (map slot_seen slots.now))) }
     {
         for &slot in slots {
             self.add_slot(alloc, plan, phases, most, slot)?;
@@ -252,9 +274,11 @@ pub fn list_groups<'b, 'a, 'p>(
     most: u64,
 ) -> Result<Groups<'b, 'a, 'p>, AllocError>
     requires shape { wrong_field (tree_of program.now) plan.now ≡ None }
-    requires phases { map phase_seen phases.now ≡ phases_of (tree_of program.now) plan.now.cut.marks }
+    requires phases { map phase_seen phases.now
+        ≡ phases_of (tree_of program.now) plan.now.cut.marks }
     requires few { length phases.now < 2 ^ 20 }
-    ensures { IfOk result (λ found. listed_seen found ≡ groups_of (tree_of program.now) plan.entry.now most) }
+    ensures { IfOk result (λ found. listed_seen found
+        ≡ groups_of (tree_of program.now) plan.entry.now most) }
 {
     let mut found = Groups {
         items: Vec::new(alloc),
@@ -275,7 +299,10 @@ pub fn phase_groups<'b, 'a, 'p>(
     phase: &'b Phase<'a>,
     number: u64,
 ) -> Result<Groups<'b, 'a, 'p>, AllocError>
-    ensures { IfOk result (λ found. listed_seen found ≡ with_subjects most (record { groups = []; next = number }) (map (of_trips (phase_seen phase.entry.now)) (pairs_within cut.now (phase_seen phase.entry.now)))) }
+    ensures { IfOk result (λ found. listed_seen found
+        ≡ with_subjects most (record { groups = []; next = number })
+        (map (of_trips (phase_seen phase.entry.now))
+        (pairs_within cut.now (phase_seen phase.entry.now)))) }
 {
     let mut found = Groups {
         items: Vec::new(alloc),
@@ -295,7 +322,10 @@ pub fn slot_groups<'b, 'a, 'p>(
     waits: &Waits<'p>,
     number: u64,
 ) -> Result<Groups<'b, 'a, 'p>, AllocError>
-    ensures { IfOk result (λ found. listed_seen found ≡ with_subjects most (record { groups = []; next = number }) (slot_subjects cut.now (slot_seen slot.entry) (waits_of waits.now.left waits.now.right (map producer_seen waits.now.producers.items)))) }
+    ensures { IfOk result (λ found. listed_seen found
+        ≡ with_subjects most (record { groups = []; next = number })
+        (slot_subjects cut.now (slot_seen slot.entry) (waits_of waits.now.left waits.now.right
+        (map producer_seen waits.now.producers.items)))) }
 {
     let mut found = Groups {
         items: Vec::new(alloc),

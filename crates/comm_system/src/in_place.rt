@@ -80,8 +80,14 @@ impl<'w, 'p> PairSystems<'w, 'p> {
     ) -> Result<Self, AllocError>
         requires shape { wrong_field (tree_of program.now) plan.now ≡ None }
         requires room { number + length (pieces_of (length waits.now.producers.items)) < 2 ^ 64 }
-        ensures obligations { IfOk result (λ p. obligations_seen p ≡ numbered_from number (pair_tasks (tree_of program.now) plan.now (slot_seen slot.now) waits.now.left waits.now.right (map producer_seen waits.now.producers.items) (pair_of a.now b.now))) }
-        ensures none { IfOk result (λ p. none_made p ≡ numbered number (shared_task (tree_of program.now) plan.now (slot_seen slot.now) waits.now.left waits.now.right (map producer_seen waits.now.producers.items) (pair_of a.now b.now))) }
+        ensures obligations { IfOk result (λ p. obligations_seen p
+            ≡ numbered_from number (pair_tasks (tree_of program.now) plan.now
+            (slot_seen slot.now) waits.now.left waits.now.right
+            (map producer_seen waits.now.producers.items) (pair_of a.now b.now))) }
+        ensures none { IfOk result (λ p. none_made p
+            ≡ numbered number (shared_task (tree_of program.now) plan.now
+            (slot_seen slot.now) waits.now.left waits.now.right
+            (map producer_seen waits.now.producers.items) (pair_of a.now b.now))) }
         ensures first { IfOk result (λ p. last_made p ≡ none_made p) }
     {
         let Shared { system, owners } = make_shared(alloc, program, plan, slot, waits, a, b)?;
@@ -116,7 +122,8 @@ impl<'w, 'p> PairSystems<'w, 'p> {
     /// How many rows all of them share: so many first ones of each are those of what stands there.
     pub fn shared(&self) -> usize
         ensures count { result ≡ length (none_made self.now).system.rows }
-        ensures made { AllByRecursion (λ (o : Obligations). take result o.system.rows ≡ take result (last_made self.now).system.rows) (obligations_seen self.now) }
+        ensures made { AllByRecursion (λ (o : Obligations). take result o.system.rows
+            ≡ take result (last_made self.now).system.rows) (obligations_seen self.now) }
     {
         self.shared
     }
@@ -127,7 +134,8 @@ impl<'w, 'p> PairSystems<'w, 'p> {
         requires { index < length (obligations_seen self.old) }
         ensures same { obligations_seen self.new ≡ obligations_seen self.old }
         ensures shared { none_made self.new ≡ none_made self.old }
-        ensures made { OnOk result (slice_get (obligations_seen self.new) index ≡ Some (last_made self.new)) }
+        ensures made { OnOk result (slice_get (obligations_seen self.new) index
+            ≡ Some (last_made self.new)) }
         ensures none { OnErr result (last_made self.new ≡ none_made self.new) }
     {
         let shared = mem::replace(&mut self.shared, 0);
@@ -198,7 +206,10 @@ pub(crate) fn pair_obligations<'a>(
 ) -> Result<Vec<Obligation>, AllocError>
     requires shape { wrong_field (tree_of program.now) plan.now ≡ None }
     requires room { number + length (pieces_of (length waits.now.producers.items)) < 2 ^ 64 }
-    ensures { IfOk result (λ found. found.items ≡ numbered_from number (pair_tasks (tree_of program.now) plan.now (slot_seen slot.now) waits.now.left waits.now.right (map producer_seen waits.now.producers.items) (pair_of a.now b.now))) }
+    ensures { IfOk result (λ found. found.items
+        ≡ numbered_from number (pair_tasks (tree_of program.now) plan.now
+        (slot_seen slot.now) waits.now.left waits.now.right
+        (map producer_seen waits.now.producers.items) (pair_of a.now b.now))) }
 {
     let mut systems = PairSystems::new(alloc, program, plan, slot, waits, a, b, number)?;
     let mut found = Vec::with_capacity(alloc, systems.count())?;

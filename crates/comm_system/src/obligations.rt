@@ -26,7 +26,8 @@ fn push_group(
     found: &mut Vec<Obligation>,
 ) -> Result<(), AllocError>
     requires { wrong_field (tree_of program.now) plan.now ≡ None }
-    ensures { OnOk result (found.new.items ≡ found.old.items ++ obligations_in (tree_of program.now) plan.now (group_seen group.now)) }
+    ensures { OnOk result (found.new.items ≡ found.old.items
+        ++ obligations_in (tree_of program.now) plan.now (group_seen group.now)) }
 {
     let mut more = group.obligations(alloc, program, plan)?;
     found.append(&mut more)?;
@@ -41,7 +42,8 @@ fn obligations_in_groups(
     groups: &[Group],
 ) -> Result<Vec<Obligation>, AllocError>
     requires { wrong_field (tree_of program.now) plan.now ≡ None }
-    ensures { IfOk result (λ found. found.items ≡ flat_map (obligations_in (tree_of program.now) plan.now) (map group_seen groups.now)) }
+    ensures { IfOk result (λ found. found.items
+        ≡ flat_map (obligations_in (tree_of program.now) plan.now) (map group_seen groups.now)) }
 {
     let mut found = Vec::new(alloc);
     for group in groups {

@@ -62,7 +62,8 @@ pub(crate) fn shown<'b, 'a>(
     cut: &Cut,
     phase: &'b Phase<'a>,
 ) -> Result<Vec<Kept<'b, 'a>>, AllocError>
-    ensures { IfOk result (λ found. map kept_seen found.items ≡ shown_of cut.now (phase_seen phase.entry.now)) }
+    ensures { IfOk result (λ found. map kept_seen found.items
+        ≡ shown_of cut.now (phase_seen phase.entry.now)) }
 {
     let privates = privates_in(cut, phase.text.item);
     let mut taken = Vec::new(alloc);
@@ -87,7 +88,8 @@ pub(crate) fn shared<'b, 'a>(
     cut: &Cut,
     phase: &'b Phase<'a>,
 ) -> Result<Vec<Kept<'b, 'a>>, AllocError>
-    ensures { IfOk result (λ found. map kept_seen found.items ≡ shared_of cut.now (phase_seen phase.entry.now)) }
+    ensures { IfOk result (λ found. map kept_seen found.items
+        ≡ shared_of cut.now (phase_seen phase.entry.now)) }
 {
     let references = phase.references.as_slice();
     let mut found = Vec::with_capacity(alloc, references.len())?;
@@ -104,7 +106,8 @@ pub(crate) fn all<'b, 'a>(
     alloc: Global,
     phase: &'b Phase<'a>,
 ) -> Result<Vec<Kept<'b, 'a>>, AllocError>
-    ensures { IfOk result (λ found. map kept_seen found.items ≡ references_of (phase_seen phase.entry.now)) }
+    ensures { IfOk result (λ found. map kept_seen found.items
+        ≡ references_of (phase_seen phase.entry.now)) }
 {
     let references = phase.references.as_slice();
     let mut found = Vec::with_capacity(alloc, references.len())?;

@@ -51,7 +51,14 @@ fn last_place(block: u32, constant: i64) -> i128
 fn block_begins(alloc: Global, q: u32, placed: Placed, block: u32) -> Result<Constraint, AllocError>
     requires room { placed.first + 2 * length placed.around.now < 2 ^ 32 }
     requires small { block ≤ 2147483647 }
-    ensures is { IfOk result (λ c. c ≡ record { terms = (q, pos block) ∷ with_sign Minus (terms_of placed.entry.first (heads_of placed.entry.around.now) placed.entry.anchor.now.form); bound = placed.entry.anchor.now.form.constant }) }
+    ensures is { IfOk result (λ c. c
+        ≡ record {
+          terms = (q, pos block)
+              ∷ with_sign Minus
+              (terms_of placed.entry.first
+              (heads_of placed.entry.around.now) placed.entry.anchor.now.form);
+          bound = placed.entry.anchor.now.form.constant;
+        }) }
     ensures tame { IfOk result (λ c. IsTrue (is_tame c)) }
 {
     let form = &placed.anchor.form;
@@ -68,7 +75,14 @@ fn block_begins(alloc: Global, q: u32, placed: Placed, block: u32) -> Result<Con
 fn block_ends(alloc: Global, q: u32, placed: Placed, block: u32) -> Result<Constraint, AllocError>
     requires room { placed.first + 2 * length placed.around.now < 2 ^ 32 }
     requires small { block ≤ 2147483647 }
-    ensures is { IfOk result (λ c. c ≡ record { terms = with_sign Plus (terms_of placed.entry.first (heads_of placed.entry.around.now) placed.entry.anchor.now.form) ++ (q, neg_ℤ (pos block)) ∷ []; bound = pos block -ℤ pos 1 -ℤ placed.entry.anchor.now.form.constant }) }
+    ensures is { IfOk result (λ c. c
+        ≡ record {
+          terms = with_sign Plus
+              (terms_of placed.entry.first
+              (heads_of placed.entry.around.now) placed.entry.anchor.now.form) ++ (q, neg_ℤ (pos block))
+              ∷ [];
+          bound = pos block -ℤ pos 1 -ℤ placed.entry.anchor.now.form.constant;
+        }) }
     ensures tame { IfOk result (λ c. IsTrue (is_tame c)) }
 {
     let form = &placed.anchor.form;
@@ -119,7 +133,11 @@ fn push_owns(
     requires fits { IsTrue (fits_owner placed) }
     requires unknown { q + 1 < 2 ^ 32 }
     requires workers { workers ≤ 64 }
-    ensures { OnOk result (HasMore (owns placed.entry.anchor.now.dist workers q (terms_of placed.entry.first (heads_of placed.entry.around.now) placed.entry.anchor.now.form) placed.entry.anchor.now.form.constant) system.old system.new) }
+    ensures { OnOk result
+        (HasMore (owns placed.entry.anchor.now.dist workers q
+        (terms_of placed.entry.first
+        (heads_of placed.entry.around.now) placed.entry.anchor.now.form)
+        placed.entry.anchor.now.form.constant) system.old system.new) }
 {
     match placed.anchor.dist {
         Dist::Block(block) => {
@@ -152,7 +170,8 @@ fn push_owner(
     requires fits { IsTrue (fits_owner placed) }
     requires unknown { q + 1 < 2 ^ 32 }
     requires workers { workers ≤ 64 }
-    ensures { OnOk result (HasMore (owner_has workers q (placed_seen placed.entry)) system.old system.new) }
+    ensures { OnOk result
+        (HasMore (owner_has workers q (placed_seen placed.entry)) system.old system.new) }
 {
     push_owns(alloc, system, workers, q, placed)?;
     push_row(alloc, system, &single(alloc, q, -1, 0)?)?;
@@ -174,8 +193,10 @@ pub(crate) fn push_owners(
     requires fit { IsTrue (list_all fits_owner placed.now) }
     requires room { first + unknowns_of_owners (map placed_seen placed.now) < 2 ^ 32 - 1 }
     requires workers { workers ≤ 64 }
-    ensures rows { OnOk result (HasMore (owners_have workers first (map placed_seen placed.now)) system.old system.new) }
-    ensures numbers { IfOk result (λ numbers. numbers.items ≡ owner_numbers first (map placed_seen placed.now)) }
+    ensures rows { OnOk result
+        (HasMore (owners_have workers first (map placed_seen placed.now)) system.old system.new) }
+    ensures numbers { IfOk result (λ numbers. numbers.items
+        ≡ owner_numbers first (map placed_seen placed.now)) }
 {
     let mut q = first;
     let mut numbers = Vec::new(alloc);

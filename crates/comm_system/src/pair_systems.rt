@@ -54,7 +54,8 @@ fn unknowns_of_pair(program: &Program, a: &Reference, b: &Reference) -> Result<U
     ensures are { IfOk result (λ n. AreUnknowns (tree_of program.now) (pair_of a.now b.now) n) }
     ensures first { IfOk result (λ n. n.first + 2 * length a.now.around.items < 2 ^ 31) }
     ensures second { IfOk result (λ n. n.second + 2 * length b.now.around.items < 2 ^ 31) }
-    ensures only { IfErr result (λ _. 2 ^ 29 ≤ behind_pair (tree_of program.now) (pair_of a.now b.now)) }
+    ensures only { IfErr result (λ _. 2 ^ 29 ≤ behind_pair (tree_of program.now)
+        (pair_of a.now b.now)) }
 {
     let constants = program.params.len();
     if constants >= 536_870_912 {
@@ -101,7 +102,9 @@ pub fn trips_obligation(
     number: u64,
 ) -> Result<Obligation, AllocError>
     requires { wrong_field (tree_of program.now) plan.now ≡ None }
-    ensures made { IfOk result (λ o. o ≡ numbered number (trips_task (tree_of program.now) plan.now (phase_seen phase.now) (pair_of a.now b.now))) }
+    ensures made { IfOk result (λ o. o
+        ≡ numbered number (trips_task (tree_of program.now) plan.now (phase_seen phase.now)
+        (pair_of a.now b.now))) }
     ensures narrow { IfOk result (λ o. AreNarrow o.system.rows) }
     ensures few { IfOk result (λ o. o.system.vars < 2 ^ 32 - 1) }
 {
@@ -138,7 +141,9 @@ pub fn trips_obligation(
 
 // How the loops round the phases of a slot stand. A level of 2^29 and more has no room.
 fn order(slot: &Slot) -> Result<Order, AllocError>
-    ensures order { IfOk result (λ o. order_seen o ≡ order_at (in_common (phase_seen slot.now.first.now).outer (phase_seen slot.now.second.now).outer) slot.now.level) }
+    ensures order { IfOk result (λ o. order_seen o
+        ≡ order_at (in_common (phase_seen slot.now.first.now).outer
+        (phase_seen slot.now.second.now).outer) slot.now.level) }
     ensures few { IfOk result (λ o. o.equal < 2 ^ 29) }
     ensures only { IfErr result (λ _. 2 ^ 29 ≤ slot.now.level) }
 {
@@ -161,7 +166,8 @@ fn order(slot: &Slot) -> Result<Order, AllocError>
 
 // The anchor of the static phase with this number; the other one where there is none.
 fn anchor_at<'p>(plan: &'p Plan, none: &'p Anchor, s: u32) -> &'p Anchor
-    requires none { none.now ≡ record { form = record { constant = pos 0; loops = []; params = [] }; dist = Cyclic } }
+    requires none { none.now
+        ≡ record { form = record { constant = pos 0; loops = []; params = [] }; dist = Cyclic } }
     requires places { IsTrue (list_all (λ a. has_places a.dist) plan.now.anchors) }
     ensures anchor { result.now ≡ anchor_under plan.now s }
     ensures places { IsTrue (has_places result.now.dist) }
@@ -183,7 +189,8 @@ fn placed<'b, 'a>(
     requires places { IsTrue (has_places anchor.now.dist) }
     requires first { n.first + 2 * length a.now.around.items < 2 ^ 31 }
     requires second { n.second + 2 * length b.now.around.items < 2 ^ 31 }
-    ensures placed { (tree : Tree) → AreUnknowns tree (pair_of a.now b.now) n → placed_seen result ≡ placed_at tree (pair_of a.now b.now) (anchor.now, side_seen side) }
+    ensures placed { (tree : Tree) → AreUnknowns tree (pair_of a.now b.now) n
+        → placed_seen result ≡ placed_at tree (pair_of a.now b.now) (anchor.now, side_seen side) }
     ensures fits { IsTrue (fits_owner result) }
 {
     match side {
@@ -214,7 +221,11 @@ fn placed_anchors<'b, 'a>(
     requires second_places { IsTrue (has_places second.now.dist) }
     requires first { n.first + 2 * length a.now.around.items < 2 ^ 31 }
     requires second { n.second + 2 * length b.now.around.items < 2 ^ 31 }
-    ensures placed { (tree : Tree) → AreUnknowns tree (pair_of a.now b.now) n → IfOk result (λ all. map placed_seen all.items ≡ placed_at tree (pair_of a.now b.now) (first.now, of_first) ∷ placed_at tree (pair_of a.now b.now) (second.now, of_second) ∷ map (placed_at tree (pair_of a.now b.now)) (map producer_seen waits.now.producers.items)) }
+    ensures placed { (tree : Tree) → AreUnknowns tree (pair_of a.now b.now) n
+        → IfOk result (λ all. map placed_seen all.items ≡ placed_at tree (pair_of a.now b.now)
+        (first.now, of_first) ∷ placed_at tree (pair_of a.now b.now) (second.now, of_second)
+        ∷ map (placed_at tree (pair_of a.now b.now))
+        (map producer_seen waits.now.producers.items)) }
     ensures fit { IfOk result (λ all. IsTrue (list_all fits_owner all.items)) }
     ensures count { IfOk result (λ all. length all.items ≤ 5) }
 {
@@ -244,7 +255,9 @@ pub(crate) fn make_shared<'a>(
     b: &Reference<'a>,
 ) -> Result<Shared, AllocError>
     requires { wrong_field (tree_of program.now) plan.now ≡ None }
-    ensures shared { IfOk result (λ shared. IsShared (tree_of program.now) plan.now (slot_seen slot.now) (map producer_seen waits.now.producers.items) (pair_of a.now b.now) shared) }
+    ensures shared { IfOk result (λ shared. IsShared (tree_of program.now) plan.now
+        (slot_seen slot.now) (map producer_seen waits.now.producers.items)
+        (pair_of a.now b.now) shared) }
     ensures few { IfOk result (λ shared. shared.system.vars < 2 ^ 32 - 1) }
 {
     let n = unknowns_of_pair(program, a, b)?;
@@ -318,7 +331,8 @@ pub(crate) fn range(waits: &Waits) -> (i32, i32)
 
 // The difference of the owners, with the sign of this side, is at most this number.
 fn farthest(range: Direction, waits: &Waits) -> i64
-    ensures { result ≡ neg_ℤ (pos (distance_of (direction_seen range) waits.now.left waits.now.right)) }
+    ensures { result
+        ≡ neg_ℤ (pos (distance_of (direction_seen range) waits.now.left waits.now.right)) }
 {
     -i64::from(distance(range, waits))
 }
@@ -331,7 +345,9 @@ pub(crate) fn push_last(
     owners: &[u32],
     piece: &Piece,
 ) -> Result<(), AllocError>
-    ensures ok { OnOk result (HasMore (last_of waits.now.left waits.now.right owners.now (piece_seen piece.now)) system.old system.new) }
+    ensures ok { OnOk result
+        (HasMore (last_of waits.now.left waits.now.right owners.now
+        (piece_seen piece.now)) system.old system.new) }
     ensures err { OnErr result (Begins system.old system.new) }
     ensures narrow { AreNarrow system.old.rows → AreNarrow system.new.rows }
 {
@@ -354,7 +370,8 @@ fn push_beside(
     others: &[u32],
     sides: &[Direction],
 ) -> Result<(), AllocError>
-    ensures ok { OnOk result (HasMore (beside q others.now (map direction_seen sides.now)) system.old system.new) }
+    ensures ok { OnOk result
+        (HasMore (beside q others.now (map direction_seen sides.now)) system.old system.new) }
     ensures err { OnErr result (Begins system.old system.new) }
     ensures narrow { AreNarrow system.old.rows → AreNarrow system.new.rows }
 {

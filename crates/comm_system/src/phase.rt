@@ -14,5 +14,6 @@ pub struct Phase<'a> {
     /// The phase itself, as it stands in the text.
     pub text: StaticPhase<'a>,
     pub references: Vec<Reference<'a>>,
-    ghost references_are: { map reference_seen references.items ≡ references_of (static_phase_seen text) },
+    ghost references_are: { map reference_seen references.items
+        ≡ references_of (static_phase_seen text) },
 }

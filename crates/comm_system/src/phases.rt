@@ -24,7 +24,8 @@ pub fn phases<'a>(
     cut: &Cut,
 ) -> Result<Vec<Phase<'a>>, AllocError>
     requires { IsWellFormed (tree_of program.now) }
-    ensures phases { IfOk result (λ found. map phase_seen found.items ≡ phases_of (tree_of program.now) cut.now.marks) }
+    ensures phases { IfOk result (λ found. map phase_seen found.items
+        ≡ phases_of (tree_of program.now) cut.now.marks) }
     ensures few { IfOk result (λ found. length found.items < 400) }
 {
     let outer = OuterLoops::new();
@@ -42,10 +43,14 @@ fn push_all_phases<'a>(
     outer: OuterLoops<'a>,
     found: &mut Vec<Phase<'a>>,
 ) -> Result<(), AllocError>
-    requires good { (scope : Scope) × (around : List ℕ) × (number : ℕ) × (length around ≡ length (loops_of outer)) × IsTrue (are_good_statements scope around number (statements_from items.now)) }
+    requires good { (scope : Scope) × (around : List ℕ) × (number : ℕ)
+        × (length around ≡ length (loops_of outer))
+        × IsTrue (are_good_statements scope around number (statements_from items.now)) }
     requires outer { IsTrue (are_small_steps (heads_of (loops_of outer))) }
     requires steps { IsTrue (have_small_steps (statements_from items.now)) }
-    ensures { OnOk result (map phase_seen found.new.items ≡ map phase_seen found.old.items ++ phases_among (enters_but closed.now) (heads_of (loops_of outer.entry)) (statements_from items.now)) }
+    ensures { OnOk result (map phase_seen found.new.items ≡ map phase_seen found.old.items
+        ++ phases_among (enters_but closed.now) (heads_of (loops_of outer.entry))
+        (statements_from items.now)) }
 {
     for item in items {
         push_phases(alloc, item, closed, outer, found)?;
@@ -61,10 +66,14 @@ fn push_phases<'a>(
     outer: OuterLoops<'a>,
     found: &mut Vec<Phase<'a>>,
 ) -> Result<(), AllocError>
-    requires good { (scope : Scope) × (around : List ℕ) × (number : ℕ) × (length around ≡ length (loops_of outer)) × IsTrue (is_good_statement scope around number (statement_of item.now)) }
+    requires good { (scope : Scope) × (around : List ℕ) × (number : ℕ)
+        × (length around ≡ length (loops_of outer))
+        × IsTrue (is_good_statement scope around number (statement_of item.now)) }
     requires outer { IsTrue (are_small_steps (heads_of (loops_of outer))) }
     requires steps { IsTrue (has_small_steps (statement_of item.now)) }
-    ensures { OnOk result (map phase_seen found.new.items ≡ map phase_seen found.old.items ++ phases_in (enters_but closed.now) (heads_of (loops_of outer.entry)) (statement_of item.now)) }
+    ensures { OnOk result (map phase_seen found.new.items ≡ map phase_seen found.old.items
+        ++ phases_in (enters_but closed.now) (heads_of (loops_of outer.entry))
+        (statement_of item.now)) }
 {
     match item {
         Item::Loop(nest) => {
@@ -89,7 +98,8 @@ fn push_phase<'a>(
 ) -> Result<(), AllocError>
     requires outer { IsTrue (are_small_steps (heads_of (loops_of text.outer))) }
     requires steps { IsTrue (has_small_steps (statement_of text.item.now)) }
-    ensures { OnOk result (map phase_seen found.new.items ≡ map phase_seen found.old.items ++ static_phase_seen text.entry ∷ []) }
+    ensures { OnOk result (map phase_seen found.new.items ≡ map phase_seen found.old.items
+        ++ static_phase_seen text.entry ∷ []) }
 {
     let mut around = Vec::from_slice(alloc, text.outer.as_slice())?;
     let mut references = Vec::new(alloc);

@@ -49,7 +49,9 @@ fn choices(alloc: Global, count: usize) -> Result<Vec<Vec<Direction>>, AllocErro
 
 // The choices for one more, in front of these.
 fn longer(alloc: Global, all: &[Vec<Direction>]) -> Result<Vec<Vec<Direction>>, AllocError>
-    ensures { IfOk result (λ more. map sides_seen more.items ≡ map (λ ds. direction_seen Below ∷ ds) (map sides_seen all.now) ++ map (λ ds. direction_seen Above ∷ ds) (map sides_seen all.now)) }
+    ensures { IfOk result (λ more. map sides_seen more.items ≡ map (λ ds. direction_seen Below ∷ ds)
+        (map sides_seen all.now) ++ map (λ ds. direction_seen Above ∷ ds)
+        (map sides_seen all.now)) }
 {
     let mut more = Vec::new(alloc);
     push_with(alloc, Direction::Below, all, &mut more)?;
@@ -64,7 +66,8 @@ fn push_with(
     all: &[Vec<Direction>],
     more: &mut Vec<Vec<Direction>>,
 ) -> Result<(), AllocError>
-    ensures { OnOk result (map sides_seen more.new.items ≡ map sides_seen more.old.items ++ map (λ ds. direction_seen side ∷ ds) (map sides_seen all.now)) }
+    ensures { OnOk result (map sides_seen more.new.items ≡ map sides_seen more.old.items
+        ++ map (λ ds. direction_seen side ∷ ds) (map sides_seen all.now)) }
 {
     for one in all {
         more.push(with_front(alloc, side, one.as_slice())?)?;
@@ -106,7 +109,8 @@ fn push_pieces(
     sides: &[Vec<Direction>],
     all: &mut Vec<Piece>,
 ) -> Result<(), AllocError>
-    ensures { OnOk result (map piece_seen all.new.items ≡ map piece_seen all.old.items ++ map (piece_in (direction_seen range)) (map sides_seen sides.now)) }
+    ensures { OnOk result (map piece_seen all.new.items ≡ map piece_seen all.old.items
+        ++ map (piece_in (direction_seen range)) (map sides_seen sides.now)) }
 {
     for one in sides {
         let producers = Vec::from_slice(alloc, one.as_slice())?;

@@ -28,7 +28,9 @@ pub(crate) fn push_references<'a>(
 ) -> Result<(), AllocError>
     requires around { IsTrue (are_small_steps (heads_of around.old.items)) }
     requires steps { IsTrue (has_small_steps (statement_of item.now)) }
-    ensures found { OnOk result (map reference_seen found.new.items ≡ map reference_seen found.old.items ++ flat_map references_in (nested_in (heads_of around.old.items) (statement_of item.now))) }
+    ensures found { OnOk result (map reference_seen found.new.items
+        ≡ map reference_seen found.old.items
+        ++ flat_map references_in (nested_in (heads_of around.old.items) (statement_of item.now))) }
     ensures around { OnOk result (around.new.items ≡ around.old.items) }
 {
     match item {
@@ -69,7 +71,10 @@ fn push_all_references<'a>(
 ) -> Result<(), AllocError>
     requires around { IsTrue (are_small_steps (heads_of around.old.items)) }
     requires steps { IsTrue (have_small_steps (statements_from items.now)) }
-    ensures found { OnOk result (map reference_seen found.new.items ≡ map reference_seen found.old.items ++ flat_map references_in (nested_among (heads_of around.old.items) (statements_from items.now))) }
+    ensures found { OnOk result (map reference_seen found.new.items
+        ≡ map reference_seen found.old.items
+        ++ flat_map references_in (nested_among (heads_of around.old.items)
+        (statements_from items.now))) }
     ensures around { OnOk result (around.new.items ≡ around.old.items) }
 {
     for item in items {
@@ -85,7 +90,8 @@ fn push_items<'a>(
     items: &'a [PrintItem],
     found: &mut Vec<Reference<'a>>,
 ) -> Result<(), AllocError>
-    ensures { OnOk result (map reference_seen found.new.items ≡ map reference_seen found.old.items ++ map (referred place.entry false) (flat_map loaded_in_item (map printed_of items.now))) }
+    ensures { OnOk result (map reference_seen found.new.items ≡ map reference_seen found.old.items
+        ++ map (referred place.entry false) (flat_map loaded_in_item (map printed_of items.now))) }
 {
     for item in items {
         push_item(alloc, place, item, found)?;
@@ -100,7 +106,8 @@ fn push_item<'a>(
     item: &'a PrintItem,
     found: &mut Vec<Reference<'a>>,
 ) -> Result<(), AllocError>
-    ensures { OnOk result (map reference_seen found.new.items ≡ map reference_seen found.old.items ++ map (referred place.entry false) (loaded_in_item (printed_of item.now))) }
+    ensures { OnOk result (map reference_seen found.new.items ≡ map reference_seen found.old.items
+        ++ map (referred place.entry false) (loaded_in_item (printed_of item.now))) }
 {
     match item {
         PrintItem::Value(e) => push_loads(alloc, place, e, found),
@@ -119,7 +126,8 @@ fn push_loads<'a>(
     e: &'a Expr,
     found: &mut Vec<Reference<'a>>,
 ) -> Result<(), AllocError>
-    ensures { OnOk result (map reference_seen found.new.items ≡ map reference_seen found.old.items ++ map (referred place.entry false) (map element (loads_in (expression_of e.now)))) }
+    ensures { OnOk result (map reference_seen found.new.items ≡ map reference_seen found.old.items
+        ++ map (referred place.entry false) (map element (loads_in (expression_of e.now)))) }
 {
     match e {
         Expr::Number(_) | Expr::LoopValue(_) | Expr::Param(_) => Ok(()),
@@ -144,7 +152,9 @@ fn push_all_loads<'a>(
     arguments: &'a [Expr],
     found: &mut Vec<Reference<'a>>,
 ) -> Result<(), AllocError>
-    ensures { OnOk result (map reference_seen found.new.items ≡ map reference_seen found.old.items ++ map (referred place.entry false) (map element (loads_among (expressions_from arguments.now)))) }
+    ensures { OnOk result (map reference_seen found.new.items ≡ map reference_seen found.old.items
+        ++ map (referred place.entry false)
+        (map element (loads_among (expressions_from arguments.now)))) }
 {
     for argument in arguments {
         push_loads(alloc, place, argument, found)?;
@@ -160,7 +170,8 @@ fn push_reference<'a>(
     stores: bool,
     found: &mut Vec<Reference<'a>>,
 ) -> Result<(), AllocError>
-    ensures { OnOk result (map reference_seen found.new.items ≡ map reference_seen found.old.items ++ referred place.entry stores (target_seen target.entry) ∷ []) }
+    ensures { OnOk result (map reference_seen found.new.items ≡ map reference_seen found.old.items
+        ++ referred place.entry stores (target_seen target.entry) ∷ []) }
 {
     let around = Vec::from_slice(alloc, place.around)?;
     found.push(Reference {

@@ -88,7 +88,11 @@ pub(crate) fn single(
 ) -> Result<Constraint, AllocError>
     requires small { IsTrue (is_small coefficient) }
     requires narrow { IsTrue (is_narrow most) }
-    ensures is { IfOk result (λ c. c ≡ record { terms = (unknown, coefficient) ∷ []; bound = most }) }
+    ensures is { IfOk result (λ c. c ≡ record {
+      terms = (unknown, coefficient)
+          ∷ [];
+      bound = most;
+    }) }
     ensures tame { IfOk result (λ c. IsTrue (is_tame c)) }
 {
     let mut terms = Pairs::new(alloc);
@@ -104,8 +108,11 @@ fn push_conditions(
     conditions: &Conditions,
 ) -> Result<(), AllocError>
     requires room { length (tree_of program.now).params < 2 ^ 31 }
-    requires good { (constants : ℕ) × (version : Version) × IsTrue (are_good_conditions constants version conditions.now) }
-    ensures { OnOk result (HasMore (conditions_have (param_values (tree_of program.now)) conditions.now) system.old system.new) }
+    requires good { (constants : ℕ) × (version : Version)
+        × IsTrue (are_good_conditions constants version conditions.now) }
+    ensures { OnOk result
+        (HasMore (conditions_have (param_values (tree_of program.now)) conditions.now) system.old
+        system.new) }
 {
     match conditions {
         Conditions::Values => push_constants(alloc, system, &program.params),
@@ -176,7 +183,9 @@ fn free_bounds<'a>(program: &'a Program, target: Target) -> &'a [(i64, i64)]
 // How many unknowns an access has: the value and the trip of each loop, and its free subscripts.
 // None where they are 2^29 and more.
 pub(crate) fn unknowns(program: &Program, reference: &Reference) -> Option<u32>
-    ensures count { MatchOption result (2 ^ 29 ≤ unknowns_of (tree_of program.now) (reference_seen reference.now)) (λ n. n ≡ unknowns_of (tree_of program.now) (reference_seen reference.now)) }
+    ensures count { MatchOption result (2 ^ 29 ≤ unknowns_of (tree_of program.now)
+        (reference_seen reference.now)) (λ n. n ≡ unknowns_of (tree_of program.now)
+        (reference_seen reference.now)) }
     ensures few { IfSome result (λ n. n < 2 ^ 29) }
 {
     let loops = reference.around.len();
@@ -236,9 +245,12 @@ fn push_instance(
     program: &Program,
     instance: Instance,
 ) -> Result<(), AllocError>
-    requires room { instance.first + unknowns_of (tree_of program.now) (reference_seen instance.reference.now) < 2 ^ 32 }
+    requires room { instance.first + unknowns_of (tree_of program.now)
+        (reference_seen instance.reference.now) < 2 ^ 32 }
     requires steps { IsTrue (are_small_steps (heads_of instance.reference.now.around.items)) }
-    ensures { OnOk result (HasMore (instance_has (tree_of program.now) instance.entry.first instance.entry.last (reference_seen instance.entry.reference.now)) system.old system.new) }
+    ensures { OnOk result
+        (HasMore (instance_has (tree_of program.now) instance.entry.first instance.entry.last
+        (reference_seen instance.entry.reference.now)) system.old system.new) }
 {
     let Instance {
         first,
@@ -266,7 +278,8 @@ fn push_last_trip(
 ) -> Result<(), AllocError>
     requires room { first + 2 * length around.now < 2 ^ 32 }
     requires steps { IsTrue (are_small_steps (heads_of around.now)) }
-    ensures { OnOk result (HasMore (last_has last first (heads_of around.now)) system.old system.new) }
+    ensures { OnOk result
+        (HasMore (last_has last first (heads_of around.now)) system.old system.new) }
 {
     if !last {
         return Ok(());
@@ -291,7 +304,8 @@ fn past_next(
 ) -> Result<Constraint, AllocError>
     requires room { first + 2 * length around.now < 2 ^ 32 }
     requires step { IsTrue (is_small nest.now.step) }
-    ensures is { IfOk result (λ c. c ≡ past_next_of first (heads_of around.now) place (head_of nest.now)) }
+    ensures is { IfOk result (λ c. c ≡ past_next_of first (heads_of around.now) place
+        (head_of nest.now)) }
     ensures tame { IfOk result (λ c. IsTrue (is_tame c)) }
 {
     let sign = sign_of(nest.step);
@@ -330,7 +344,9 @@ fn subscripts(
     reference: &Reference,
 ) -> Result<Vec<Sum>, AllocError>
     requires { first + unknowns_of (tree_of program.now) (reference_seen reference.now) < 2 ^ 32 }
-    ensures sums { IfOk result (λ sums. map sum_seen sums.items ≡ subscripts_of (tree_of program.now) first (reference_seen reference.now).around (reference_seen reference.now).what) }
+    ensures sums { IfOk result (λ sums. map sum_seen sums.items
+        ≡ subscripts_of (tree_of program.now) first (reference_seen reference.now).around
+        (reference_seen reference.now).what) }
     ensures small { IfOk result (λ sums. IsTrue (list_all is_small_sum sums.items)) }
 {
     let around = reference.around.as_slice();
@@ -351,7 +367,8 @@ fn form_sums(
     forms: &[Affine],
 ) -> Result<Vec<Sum>, AllocError>
     requires { first + 2 * length around.now < 2 ^ 32 }
-    ensures sums { IfOk result (λ sums. map sum_seen sums.items ≡ map (sum_of first (heads_of around.now)) forms.now) }
+    ensures sums { IfOk result (λ sums. map sum_seen sums.items
+        ≡ map (sum_of first (heads_of around.now)) forms.now) }
     ensures small { IfOk result (λ sums. IsTrue (list_all is_small_sum sums.items)) }
 {
     let mut sums = Vec::new(alloc);
@@ -420,7 +437,8 @@ fn push_same_element(
 ) -> Result<(), AllocError>
     requires left { IsTrue (list_all is_small_sum xs.now) }
     requires right { IsTrue (list_all is_small_sum ys.now) }
-    ensures { OnOk result (HasMore (same_element (map sum_seen xs.now) (map sum_seen ys.now)) system.old system.new) }
+    ensures { OnOk result
+        (HasMore (same_element (map sum_seen xs.now) (map sum_seen ys.now)) system.old system.new) }
 {
     for (index, x) in xs.iter().enumerate() {
         if index >= ys.len() {
@@ -435,7 +453,8 @@ fn push_same_element(
 fn push_same(alloc: Global, system: &mut NarrowSystem, x: &Sum, y: &Sum) -> Result<(), AllocError>
     requires left { IsTrue (is_small_sum x.now) }
     requires right { IsTrue (is_small_sum y.now) }
-    ensures { OnOk result (HasMore (no_more_of Plus (sum_seen x.now) (sum_seen y.now) ∷ no_more_of Minus (sum_seen x.now) (sum_seen y.now) ∷ []) system.old system.new) }
+    ensures { OnOk result (HasMore (no_more_of Plus (sum_seen x.now) (sum_seen y.now)
+        ∷ no_more_of Minus (sum_seen x.now) (sum_seen y.now) ∷ []) system.old system.new) }
 {
     push_row(alloc, system, &no_more(alloc, Sign::Plus, x, y)?)?;
     push_row(alloc, system, &no_more(alloc, Sign::Minus, x, y)?)
@@ -461,7 +480,8 @@ fn push_same_loops(
 
 // Two unknowns are equal.
 fn push_equal(alloc: Global, system: &mut NarrowSystem, m: u32, n: u32) -> Result<(), AllocError>
-    ensures { OnOk result (HasMore (apart_of Plus m n (pos 0) ∷ apart_of Minus m n (pos 0) ∷ []) system.old system.new) }
+    ensures { OnOk result (HasMore (apart_of Plus m n (pos 0) ∷ apart_of Minus m n (pos 0)
+        ∷ []) system.old system.new) }
 {
     push_row(alloc, system, &apart(alloc, Sign::Plus, m, n, 0)?)?;
     push_row(alloc, system, &apart(alloc, Sign::Minus, m, n, 0)?)
@@ -497,14 +517,20 @@ pub(crate) fn push_pair(
     a: Instance,
     b: Instance,
 ) -> Result<(), AllocError>
-    requires good { (constants : ℕ) × (version : Version) × IsTrue (are_good_conditions constants version conditions.now) }
+    requires good { (constants : ℕ) × (version : Version)
+        × IsTrue (are_good_conditions constants version conditions.now) }
     requires first { a.first ≡ first_of (tree_of program.now) }
-    requires second { b.first ≡ second_of (tree_of program.now) (pair_of a.reference.now b.reference.now) }
-    requires room { behind_pair (tree_of program.now) (pair_of a.reference.now b.reference.now) < 2 ^ 31 }
+    requires second { b.first
+        ≡ second_of (tree_of program.now) (pair_of a.reference.now b.reference.now) }
+    requires room { behind_pair (tree_of program.now) (pair_of a.reference.now b.reference.now)
+        < 2 ^ 31 }
     requires first_steps { IsTrue (are_small_steps (heads_of a.reference.now.around.items)) }
     requires second_steps { IsTrue (are_small_steps (heads_of b.reference.now.around.items)) }
     requires equal { order.equal + 1 < 2 ^ 30 }
-    ensures { OnOk result (HasMore (pair_rows (tree_of program.now) conditions.now (order_seen order) (a.entry.last, b.entry.last) (pair_of a.entry.reference.now b.entry.reference.now)) system.old system.new) }
+    ensures { OnOk result
+        (HasMore (pair_rows (tree_of program.now) conditions.now (order_seen order)
+        (a.entry.last, b.entry.last) (pair_of a.entry.reference.now b.entry.reference.now))
+        system.old system.new) }
 {
     push_conditions(alloc, system, program, conditions)?;
     push_instance(alloc, system, program, a)?;

@@ -44,7 +44,8 @@ impl<'p> Seen<'p> {
         requires places { IsTrue (has_places_in (or_nothing (option_copied kind))) }
         requires left { self.old.left < 2 ^ 31 }
         requires right { self.old.right < 2 ^ 31 }
-        ensures adds { OnOk result (Adds (or_nothing (option_copied kind.entry)) side self.old self.new) }
+        ensures adds { OnOk result
+            (Adds (or_nothing (option_copied kind.entry)) side self.old self.new) }
         ensures left { OnOk result (self.new.left ≤ self.old.left + 1) }
         ensures right { OnOk result (self.new.right ≤ self.old.right + 1) }
     {
@@ -66,7 +67,8 @@ impl<'p> Seen<'p> {
     fn signature(self, alloc: Global, version: Version) -> Result<Signature<'p>, AllocError>
         requires left { self.left < 2 ^ 30 }
         requires right { self.right < 2 ^ 30 }
-        ensures { (kinds : List Kinds) (us : List BoundarySeen) → HasSeen kinds us self.entry → IfOk result (λ g. signature_seen g ≡ signature_of version kinds us) }
+        ensures { (kinds : List Kinds) (us : List BoundarySeen) → HasSeen kinds us self.entry
+            → IfOk result (λ g. signature_seen g ≡ signature_of version kinds us) }
     {
         let Seen {
             barrier,
@@ -134,7 +136,8 @@ pub fn signature_at<'p>(
 ) -> Result<Signature<'p>, AllocError>
     requires places { IsTrue (list_all has_places_in kinds.now) }
     requires few { length boundaries.now < 2 ^ 30 }
-    ensures { IfOk result (λ g. signature_seen g ≡ signature_of version kinds.now (map boundary_seen boundaries.now)) }
+    ensures { IfOk result (λ g. signature_seen g
+        ≡ signature_of version kinds.now (map boundary_seen boundaries.now)) }
 {
     let mut seen = Seen {
         barrier: false,
@@ -159,7 +162,8 @@ pub fn slot_signature<'p>(
 ) -> Result<Signature<'p>, AllocError>
     requires places { IsTrue (list_all has_places_in kinds.now) }
     requires few { length phases.now < 2 ^ 20 }
-    ensures { IfOk result (λ g. signature_seen g ≡ signature_under version kinds.now (map phase_seen phases.now) (slot_seen slot.now)) }
+    ensures { IfOk result (λ g. signature_seen g
+        ≡ signature_under version kinds.now (map phase_seen phases.now) (slot_seen slot.now)) }
 {
     let boundaries = certain_boundaries(alloc, phases, slot)?;
     signature_at(alloc, version, kinds, boundaries.as_slice())

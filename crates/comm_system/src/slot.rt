@@ -25,7 +25,8 @@ impl<'a> Slot<'_, 'a> {
     // How many loops the two phases have in common: at most six are round one.
     #[tactic(auto, using(crate::proofs::FewLoops::few_in_common))]
     pub(crate) fn common(&self) -> u32
-        ensures count { result ≡ common_of (phase_seen self.now.first.now).outer (phase_seen self.now.second.now).outer }
+        ensures count { result ≡ common_of (phase_seen self.now.first.now).outer
+            (phase_seen self.now.second.now).outer }
         ensures few { result ≤ 6 }
     {
         let loops = common(

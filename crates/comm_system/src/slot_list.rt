@@ -16,7 +16,8 @@ pub fn slots<'b, 'a>(
     phases: &'b [Phase<'a>],
 ) -> Result<Vec<Slot<'b, 'a>>, AllocError>
     requires { length phases.now < 2 ^ 20 }
-    ensures { IfOk result (λ found. map slot_seen found.items ≡ slots_of (map phase_seen phases.now)) }
+    ensures { IfOk result (λ found. map slot_seen found.items
+        ≡ slots_of (map phase_seen phases.now)) }
 {
     let mut found = Vec::new(alloc);
     for (index, second) in phases.iter().enumerate() {
@@ -33,7 +34,8 @@ fn push_before<'b, 'a>(
     found: &mut Vec<Slot<'b, 'a>>,
 ) -> Result<(), AllocError>
     requires { length phases.now < 2 ^ 20 }
-    ensures { OnOk result (map slot_seen found.new.items ≡ map slot_seen found.old.items ++ slots_before 1 (map phase_seen phases.now) t (phase_seen second.now)) }
+    ensures { OnOk result (map slot_seen found.new.items ≡ map slot_seen found.old.items
+        ++ slots_before 1 (map phase_seen phases.now) t (phase_seen second.now)) }
 {
     for (index, first) in phases.iter().enumerate() {
         let s = index as u32 + 1;
@@ -54,7 +56,9 @@ fn push_before<'b, 'a>(
 // The slots of the two phases of this one, behind the others.
 fn push_between<'b, 'a>(slot: Slot<'b, 'a>, found: &mut Vec<Slot<'b, 'a>>) -> Result<(), AllocError>
     requires { slot.level ≡ 0 }
-    ensures { OnOk result (map slot_seen found.new.items ≡ map slot_seen found.old.items ++ slots_between slot.entry.s (phase_seen slot.entry.first.now) slot.entry.t (phase_seen slot.entry.second.now)) }
+    ensures { OnOk result (map slot_seen found.new.items ≡ map slot_seen found.old.items
+        ++ slots_between slot.entry.s (phase_seen slot.entry.first.now) slot.entry.t
+        (phase_seen slot.entry.second.now)) }
 {
     push_carried(slot, slot.common(), found)?;
     if slot.s < slot.t {
@@ -70,7 +74,8 @@ fn push_carried<'b, 'a>(
     found: &mut Vec<Slot<'b, 'a>>,
 ) -> Result<(), AllocError>
     requires { loops < 2 ^ 29 }
-    ensures { OnOk result (map slot_seen found.new.items ≡ map slot_seen found.old.items ++ map (at_level (slot_seen slot.entry)) (range_with_len 1 loops)) }
+    ensures { OnOk result (map slot_seen found.new.items ≡ map slot_seen found.old.items
+        ++ map (at_level (slot_seen slot.entry)) (range_with_len 1 loops)) }
 {
     for index in 0..loops {
         found.push(Slot {

@@ -60,7 +60,8 @@ impl<'b, 'a, 'p> Scene<'_, 'b, 'a, 'p> {
         a: &'b Reference<'a>,
         b: &'b Reference<'a>,
     ) -> Result<Subject<'b, 'a, 'p>, AllocError>
-        ensures { IfOk result (λ s. subject_seen s ≡ subject_at self.entry (pair_of a.entry.now b.entry.now)) }
+        ensures { IfOk result (λ s. subject_seen s
+            ≡ subject_at self.entry (pair_of a.entry.now b.entry.now)) }
     {
         match self {
             Scene::Trips(phase) => Ok(Subject::Trips(phase, a, b)),

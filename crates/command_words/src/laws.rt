@@ -26,8 +26,11 @@ pub fn taken_words_are_counted()
 /// Words that ask for help or for the version have that fault alone.
 pub fn help_is_shown()
     ensures help { fault_of tool_app (codes "--help" ∷ []) ≡ kinds.DisplayHelp ∷ [] }
-    ensures help_of_run { fault_of tool_app (codes "run" ∷ codes "-h" ∷ []) ≡ kinds.DisplayHelp ∷ [] }
-    ensures help_of_plan { fault_of tool_app (codes "plan" ∷ codes "-h" ∷ []) ≡ kinds.DisplayHelp ∷ [] }
-    ensures help_of_bench { fault_of tool_app (codes "bench" ∷ codes "-h" ∷ []) ≡ kinds.DisplayHelp ∷ [] }
+    ensures help_of_run { fault_of tool_app (codes "run" ∷ codes "-h" ∷ []) ≡ kinds.DisplayHelp
+        ∷ [] }
+    ensures help_of_plan { fault_of tool_app (codes "plan" ∷ codes "-h" ∷ []) ≡ kinds.DisplayHelp
+        ∷ [] }
+    ensures help_of_bench { fault_of tool_app (codes "bench" ∷ codes "-h" ∷ []) ≡ kinds.DisplayHelp
+        ∷ [] }
     ensures version { fault_of tool_app (codes "--version" ∷ []) ≡ kinds.DisplayVersion ∷ [] }
 {}

@@ -53,9 +53,11 @@ pub fn refusal(error: Error) -> Refused
 }
 
 fn request<'a>(alloc: Global, matches: &ArgMatches<'a>) -> Result<Request<'a>, Refused>
-    ensures taken { IfOk result (λ request. wanted_by (subcommand_rows_of matches.now) ≡ Some (wanted request)) }
+    ensures taken { IfOk result (λ request. wanted_by (subcommand_rows_of matches.now)
+        ≡ Some (wanted request)) }
     ensures counted { IfOk result (λ request. IsCounted (wanted request)) }
-    ensures refused { IfErr result (λ refused. IsValueFault (subcommand_rows_of matches.now) refused) }
+    ensures refused { IfErr result
+        (λ refused. IsValueFault (subcommand_rows_of matches.now) refused) }
 {
     match matches.subcommand() {
         None => Err(Refused::Faulty),
@@ -64,8 +66,10 @@ fn request<'a>(alloc: Global, matches: &ArgMatches<'a>) -> Result<Request<'a>, R
 }
 
 fn request_in<'a>(alloc: Global, name: &str, inner: &ArgMatches<'a>) -> Result<Request<'a>, Refused>
-    ensures taken { IfOk result (λ request. wanted_in name.now (rows_of (found_of inner.now)) ≡ Some (wanted request)) }
-    ensures refused { IfErr result (λ refused. IsValueFault (Some (name.now, rows_of (found_of inner.now))) refused) }
+    ensures taken { IfOk result (λ request. wanted_in name.now (rows_of (found_of inner.now))
+        ≡ Some (wanted request)) }
+    ensures refused { IfErr result
+        (λ refused. IsValueFault (Some (name.now, rows_of (found_of inner.now))) refused) }
 {
     if says(name, "bench") {
         let sizes = rest(alloc, inner, "sizes")?;
@@ -91,8 +95,10 @@ fn verify<'a>(
     settings: Vec<&'a str>,
 ) -> Result<Request<'a>, Refused>
     requires { texts settings.items ≡ settings_of (rows_of (found_of inner.now)) }
-    ensures taken { IfOk result (λ request. verify_of (rows_of (found_of inner.now)) ≡ Some (wanted request)) }
-    ensures refused { IfErr result (λ refused. IsSweepFault (verify_of (rows_of (found_of inner.now))) refused) }
+    ensures taken { IfOk result (λ request. verify_of (rows_of (found_of inner.now))
+        ≡ Some (wanted request)) }
+    ensures refused { IfErr result
+        (λ refused. IsSweepFault (verify_of (rows_of (found_of inner.now))) refused) }
 {
     let Some(word) = text(inner, "sweep") else {
         return Ok(Request::Verify(settings));

@@ -43,7 +43,8 @@ impl<T: Drop> From<AllocFailed<T>> for SettingFault {
 ///
 /// `Word` exactly where a word is of another form; `NoMemory` may stand in place of any answer.
 pub fn read_settings(alloc: Global, words: &[&str]) -> Result<Vec<Setting>, SettingFault>
-    ensures read { IfOk result (λ settings. (first_fault_from 1 (texts words.now) ≡ None) × (map setting_of settings.items ≡ settings_in (texts words.now))) }
+    ensures read { IfOk result (λ settings. (first_fault_from 1 (texts words.now) ≡ None)
+        × (map setting_of settings.items ≡ settings_in (texts words.now))) }
     ensures refused { IfErr result (IsSettingFault (texts words.now)) }
 {
     let mut settings = Vec::new(alloc);

@@ -27,7 +27,8 @@ impl Level<'_, '_> {
     /// Whether the boundary in front of the phase with this number, from 1, and these Outer loops
     /// is certain there: behind the first instance, or in front of the second.
     pub fn is_certain(&self, side: Side, phase: u32, outer: &[Around]) -> bool
-        ensures { result ≡ stands_certain (side_seen side) (level_seen self.now) phase (heads_of outer.now) }
+        ensures { result ≡ stands_certain (side_seen side) (level_seen self.now) phase
+            (heads_of outer.now) }
     {
         match side {
             Side::First => self.is_behind_first(phase, outer),
@@ -37,7 +38,10 @@ impl Level<'_, '_> {
 
     // Whether it is certain behind the first instance.
     fn is_behind_first(&self, phase: u32, outer: &[Around]) -> bool
-        ensures { result ≡ stands_behind_first (heads_of (loops_of self.now.first.now.outer)) self.now.s self.now.t self.now.level phase (heads_of outer.now) }
+        ensures { result
+            ≡ stands_behind_first
+            (heads_of (loops_of self.now.first.now.outer)) self.now.s self.now.t self.now.level
+            phase (heads_of outer.now) }
     {
         let inside = if self.level == 0 {
             phase <= self.t
@@ -49,7 +53,9 @@ impl Level<'_, '_> {
 
     // Whether it is certain in front of the second.
     fn is_before_second(&self, phase: u32, outer: &[Around]) -> bool
-        ensures { result ≡ stands_before_second (heads_of (loops_of self.now.first.now.outer)) (heads_of (loops_of self.now.second.now.outer)) self.now.s self.now.t self.now.level phase (heads_of outer.now) }
+        ensures { result ≡ stands_before_second (heads_of (loops_of self.now.first.now.outer))
+            (heads_of (loops_of self.now.second.now.outer)) self.now.s self.now.t self.now.level
+            phase (heads_of outer.now) }
     {
         let inside = if self.level == 0 {
             self.s < phase && !is_prefix(outer, self.first.outer.as_slice())

@@ -39,7 +39,8 @@ impl Step {
     /// What the step appends.
     #[inline(always)]
     pub fn value(self, loops: &[i64], params: &[i64], registers: &[i64]) -> i64
-        requires { IsTrue (is_good_step (length loops.now) (length params.now) (length registers.now) self) }
+        requires { IsTrue (is_good_step (length loops.now) (length params.now)
+            (length registers.now) self) }
         ensures { result ≡ step_value self loops.now params.now registers.now }
     {
         match self {
@@ -88,8 +89,11 @@ pub fn value_of_code(
     requires room { registers_of code.now ≤ length registers.old }
     requires loads { code.now.loads ≤ length loaded.now }
     requires inside { code.now.result < registers_of code.now }
-    requires good { IsTrue (are_good_steps (length loops.now) (length params.now) code.now.loads code.now.steps.items) }
-    ensures value { (e : Expression) → IsCodeOf e code.now → result ≡ value_of e loops.now params.now loaded.now }
+    requires good { IsTrue
+        (are_good_steps (length loops.now)
+        (length params.now) code.now.loads code.now.steps.items) }
+    ensures value { (e : Expression) → IsCodeOf e code.now
+        → result ≡ value_of e loops.now params.now loaded.now }
     ensures room { length registers.new ≡ length registers.old }
 {
     let loads = code.loads as usize;
@@ -103,9 +107,14 @@ pub fn value_of_code(
 pub fn run_code(code: &Code, loops: &[i64], params: &[i64], registers: &mut [i64]) -> i64
     requires room { registers_of code.now ≤ length registers.old }
     requires inside { code.now.result < registers_of code.now }
-    requires good { IsTrue (are_good_steps (length loops.now) (length params.now) code.now.loads code.now.steps.items) }
-    ensures registers { take (registers_of code.now) registers.new ≡ registers_after code.now.steps.items loops.now params.now (take code.now.loads registers.old) }
-    ensures value { (e : Expression) → IsCodeOf e code.now → result ≡ value_of e loops.now params.now (take code.now.loads registers.old) }
+    requires good { IsTrue
+        (are_good_steps (length loops.now)
+        (length params.now) code.now.loads code.now.steps.items) }
+    ensures registers { take (registers_of code.now) registers.new
+        ≡ registers_after code.now.steps.items loops.now params.now
+        (take code.now.loads registers.old) }
+    ensures value { (e : Expression) → IsCodeOf e code.now
+        → result ≡ value_of e loops.now params.now (take code.now.loads registers.old) }
     ensures room { length registers.new ≡ length registers.old }
 {
     let loads = code.loads as usize;

@@ -67,7 +67,8 @@ fn load_count_among(arguments: &[Expr]) -> Result<u32, AllocError>
 
 // One more step, and the register that it fills.
 fn push_step(loads: u32, steps: &mut Vec<Step>, step: Step) -> Result<u32, AllocError>
-    ensures { IfOk result (λ r. (r ≡ loads + length steps.old.items) × (steps.new.items ≡ steps.old.items ++ step ∷ [])) }
+    ensures { IfOk result (λ r. (r ≡ loads + length steps.old.items)
+        × (steps.new.items ≡ steps.old.items ++ step ∷ [])) }
 {
     let register = small(u128::from(loads) + steps.len() as u128)?;
     steps.push(step)?;
@@ -79,7 +80,8 @@ fn push_step(loads: u32, steps: &mut Vec<Step>, step: Step) -> Result<u32, Alloc
 #[cycle(code)]
 fn push_code(e: &Expr, loads: u32, at: &mut u32, steps: &mut Vec<Step>) -> Result<u32, AllocError>
     requires { at.old + length (loads_in (expression_of e.now)) ≤ loads }
-    ensures code { IfOk result (λ r. Compiled (expression_of e.now) at.old loads steps.old.items steps.new.items r) }
+    ensures code { IfOk result
+        (λ r. Compiled (expression_of e.now) at.old loads steps.old.items steps.new.items r) }
     ensures at { IfOk result (λ r. at.new ≡ at.old + length (loads_in (expression_of e.now))) }
 {
     match e {
@@ -128,8 +130,11 @@ fn push_least(
     steps: &mut Vec<Step>,
 ) -> Result<u32, AllocError>
     requires { at.old + length (loads_among (expressions_from arguments.now)) ≤ loads }
-    ensures code { IfOk result (λ r. Compiled (least_of (expressions_from arguments.now)) at.old loads steps.old.items steps.new.items r) }
-    ensures at { IfOk result (λ r. at.new ≡ at.old + length (loads_among (expressions_from arguments.now))) }
+    ensures code { IfOk result
+        (λ r. Compiled (least_of (expressions_from arguments.now)) at.old loads steps.old.items
+        steps.new.items r) }
+    ensures at { IfOk result (λ r. at.new
+        ≡ at.old + length (loads_among (expressions_from arguments.now))) }
 {
     let Some((first, rest)) = arguments.split_first() else {
         return push_step(loads, steps, Step::Number(0));
@@ -151,8 +156,11 @@ fn push_greatest(
     steps: &mut Vec<Step>,
 ) -> Result<u32, AllocError>
     requires { at.old + length (loads_among (expressions_from arguments.now)) ≤ loads }
-    ensures code { IfOk result (λ r. Compiled (greatest_of (expressions_from arguments.now)) at.old loads steps.old.items steps.new.items r) }
-    ensures at { IfOk result (λ r. at.new ≡ at.old + length (loads_among (expressions_from arguments.now))) }
+    ensures code { IfOk result
+        (λ r. Compiled (greatest_of (expressions_from arguments.now)) at.old loads steps.old.items
+        steps.new.items r) }
+    ensures at { IfOk result (λ r. at.new
+        ≡ at.old + length (loads_among (expressions_from arguments.now))) }
 {
     let Some((first, rest)) = arguments.split_first() else {
         return push_step(loads, steps, Step::Number(0));

@@ -57,7 +57,8 @@ pub fn line_of_load(load: &LoadCells, path: &Path) -> Line
 pub fn lay_lines(loads: &[LoadCells], path: &Path, lines: &mut [Line])
     requires loop_there { 0 < length (rounds_of path.now) }
     requires room { length loads.now ≤ length lines.old }
-    ensures laid { AllZip (λ load line. IsLoadLine load (rounds_of path.now) line) loads.now (take (length loads.now) lines.new) }
+    ensures laid { AllZip (λ load line. IsLoadLine load (rounds_of path.now) line) loads.now
+        (take (length loads.now) lines.new) }
     ensures room { length lines.new ≡ length lines.old }
 {
     for (k, load) in loads.iter().enumerate() {

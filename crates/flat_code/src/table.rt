@@ -72,7 +72,9 @@ fn at_least(n: u32, least: u32) -> u32
 // The codes of the pieces of work in these statements, behind those in the list.
 #[cycle(codes)]
 fn push_codes(alloc: Global, items: &[Item], codes: &mut Vec<Code>) -> Result<(), AllocError>
-    ensures { OnOk result ((around : List ℕ) → GrewBy HasCode (placed_of every around (statements_from items.now)) codes.old.items codes.new.items) }
+    ensures { OnOk result ((around : List ℕ)
+        → GrewBy HasCode
+        (placed_of every around (statements_from items.now)) codes.old.items codes.new.items) }
 {
     for item in items {
         push_item_codes(alloc, item, codes)?;
@@ -82,7 +84,9 @@ fn push_codes(alloc: Global, items: &[Item], codes: &mut Vec<Code>) -> Result<()
 
 #[cycle(codes)]
 fn push_item_codes(alloc: Global, item: &Item, codes: &mut Vec<Code>) -> Result<(), AllocError>
-    ensures { OnOk result ((around : List ℕ) → GrewBy HasCode (placed_in every around (statement_of item.now)) codes.old.items codes.new.items) }
+    ensures { OnOk result ((around : List ℕ)
+        → GrewBy HasCode
+        (placed_in every around (statement_of item.now)) codes.old.items codes.new.items) }
 {
     match item {
         Item::Loop(nest) => push_codes(alloc, &nest.items, codes),

@@ -4,9 +4,9 @@ use Rattle.std.specs.Prelude.{slice_get}
 use Rattle.nest_tree.specs.Tree.{Tree}
 use Rattle.sync_plan.specs.declared.plan.Plan.{Plan}
 use Rattle.spmd_model.specs.Deeds.{Deed, deed_of, posting, awaiting, loading, storing, adding, printing}
-use Rattle.spmd_model.specs.Styled.{machine_by}
+use Rattle.spmd_model.specs.Machines.{machine_by}
 use Rattle.spmd_model.specs.Timelines.{Act, Word, Machine, post, await, load, store, add, print}
-use Rattle.spmd_laws.specs.Protocols.{act_at}
+use Rattle.spmd_model.specs.Protocols.{act_at}
 use Rattle.spmd_model.specs.declared.style.Style.TheVariants.{Arrive}
 use Rattle.fork_join.specs.Joins.{IsSafe, all_deeds, protocol}
 

@@ -4,8 +4,8 @@ use Rattle.nest_model.specs.Memory.{cell_value}
 use Rattle.spmd_model.specs.Lawful.{Moves}
 use Rattle.spmd_model.specs.Quiet.{is_quiet}
 use Rattle.spmd_model.specs.Timelines.{Act, load, print, store}
-use Rattle.spmd_laws.specs.Laws.{Laws}
-use Rattle.spmd_laws.specs.Protocols.{Protocol, act_at}
+use Rattle.spmd_model.specs.Laws.{Laws}
+use Rattle.spmd_model.specs.Protocols.{Protocol, act_at}
 use Rattle.fork_join.specs.Joins.{Goes, put}
 use Rattle.fork_join.specs.Overlays.{laid_in}
 use Rattle.fork_join.proofs.Crossing.{onwards, put_moves, stays}

@@ -12,7 +12,7 @@ use Rattle.own_cells.specs.OwnCells.{shared_cell}
 use Rattle.own_cells.specs.declared.cells.OwnCells.{OwnCells}
 use Rattle.spmd_model.specs.Cells.{plus}
 use Rattle.spmd_model.specs.Deeds.{Deed}
-use Rattle.spmd_model.specs.StyledDeeds.{keeping_deeds, totalling_deeds}
+use Rattle.spmd_model.specs.MachineDeeds.{keeping_deeds, totalling_deeds}
 use Rattle.spmd_turns.specs.declared.progress.Progress.{Progress}
 use Rattle.spmd_turns.specs.declared.execute.Executor.{Executor}
 use Rattle.styled_turns.specs.StyledTurns.{StyledTurn, closes, scalar_at, styled_deeds}

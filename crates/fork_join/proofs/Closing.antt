@@ -9,11 +9,11 @@ use Rattle.spmd_model.specs.Cells.{plus}
 use Rattle.spmd_model.specs.Closings.{given_first}
 use Rattle.spmd_model.specs.Deeds.{Deed, adding, loading, storing}
 use Rattle.spmd_model.specs.Lawful.{Moves}
-use Rattle.spmd_model.specs.StyledDeeds.{keeping_deeds, totalling_deeds}
+use Rattle.spmd_model.specs.MachineDeeds.{keeping_deeds, totalling_deeds}
 use Rattle.spmd_model.specs.Timelines.{add, load, store}
 use Rattle.spmd_model.specs.declared.style.Style.TheVariants.{Arrive}
-use Rattle.spmd_laws.specs.Protocols.{act_at}
-use Rattle.spmd_laws.specs.Styled.{printed_by, registers_by}
+use Rattle.spmd_model.specs.Protocols.{act_at}
+use Rattle.spmd_model.specs.PlanProtocols.{printed_by, registers_by}
 use Rattle.fork_join.specs.Joins.{HoldsOwn, IsSafe, all_deeds, own_place, protocol, put}
 use Rattle.fork_join.proofs.Acts.{add_there, load_there, store_there}
 use Rattle.fork_join.proofs.Crossing.{onwards, put_moves}

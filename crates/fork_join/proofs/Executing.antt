@@ -14,9 +14,9 @@ use Rattle.sync_plan.specs.Own.{own_loop, own_of}
 use Rattle.sync_plan.specs.declared.plan.Plan.{Plan}
 use Rattle.own_cells.specs.OwnCells.{AreFew}
 use Rattle.spmd_model.specs.Deeds.{Deed, instance_deeds}
-use Rattle.spmd_model.specs.StyledDeeds.{HasNoOwn, own_deeds}
+use Rattle.spmd_model.specs.MachineDeeds.{HasNoOwn, own_deeds}
 use Rattle.spmd_model.specs.declared.style.Style.TheVariants.{Arrive}
-use Rattle.spmd_laws.specs.Styled.{printed_by, registers_by}
+use Rattle.spmd_model.specs.PlanProtocols.{printed_by, registers_by}
 use Rattle.spmd_turns.specs.Executors.{Begins, CanExecute, executor_output, executor_room, executor_tree}
 use Rattle.spmd_turns.specs.Rooms.{turn_room, visit_room}
 use Rattle.spmd_turns.specs.Turns.{Turn, is_turn_inside, works}

@@ -9,7 +9,7 @@ use Rattle.sync_plan.specs.declared.plan.Plan.{Plan}
 use Rattle.own_cells.specs.OwnCells.{AreFew, AreOwnCells}
 use Rattle.own_cells.specs.declared.cells.OwnCells.{OwnCells}
 use Rattle.styled_turns.specs.StyledLeft.{styled_own, styled_place}
-use Rattle.spmd_model.specs.StyledDeeds.{HasNoOwn}
+use Rattle.spmd_model.specs.MachineDeeds.{HasNoOwn}
 use Rattle.spmd_turns.specs.Turns.{Turn}
 use Rattle.spmd_turns.specs.declared.execute.Executor.{Executor}
 use Rattle.spmd_model.specs.Deeds.{Deed, loading, printing, storing}

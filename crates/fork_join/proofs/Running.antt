@@ -14,15 +14,15 @@ use Rattle.nest_tree.specs.WellFormed.{IsWellFormed}
 use Rattle.nest_model.specs.Ranges.{IsInRange}
 use Rattle.sync_plan.specs.Fit.{IsFit}
 use Rattle.nest_tree.specs.Limits.{IsWithinLimits}
-use Rattle.spmd_laws.specs.Laws.{Laws}
-use Rattle.spmd_laws.specs.Protocols.{act_at, held_at}
-use Rattle.spmd_laws.specs.Styled.{acts_by, printed_by}
+use Rattle.spmd_model.specs.Laws.{Laws}
+use Rattle.spmd_model.specs.Protocols.{act_at, held_at}
+use Rattle.spmd_model.specs.PlanProtocols.{acts_by, printed_by}
 use Rattle.spmd_model.specs.Deeds.{Deed, adding, deed_of, printing, storing}
-use Rattle.spmd_model.specs.Styled.{machine_by}
-use Rattle.spmd_model.specs.StyledDeeds.{deeds_by}
+use Rattle.spmd_model.specs.Machines.{machine_by}
+use Rattle.spmd_model.specs.MachineDeeds.{deeds_by}
 use Rattle.spmd_model.specs.Timelines.{Act, acts_of, load}
 use Rattle.spmd_model.specs.declared.style.Style.TheVariants.{Arrive}
-use Rattle.spmd_model.proofs.StyledDeeds.{styled_deeds}
+use Rattle.spmd_model.proofs.MachineDeeds.{styled_deeds}
 use Rattle.fork_join.specs.Joins.{Goes, IsSafe, all_deeds, begun, deeds_behind, in_front, joined, protocol, put}
 use Rattle.fork_join.specs.Overlays.{laid_in}
 use Rattle.fork_join.proofs.Crossing.{begun_none, cross, in_front_is, in_front_none, mixed_below, mixed_moves, mixed_past, put_moves, same_at}

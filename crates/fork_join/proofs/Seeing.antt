@@ -11,8 +11,8 @@ use Rattle.sync_plan.specs.declared.plan.Plan.{Plan}
 use Rattle.spmd_model.specs.Deeds.{Deed, loading, printing, storing}
 use Rattle.spmd_model.specs.Timelines.{load, print, store}
 use Rattle.spmd_model.specs.declared.style.Style.TheVariants.{Arrive}
-use Rattle.spmd_laws.specs.Protocols.{act_at}
-use Rattle.spmd_laws.specs.Styled.{printed_by, registers_by}
+use Rattle.spmd_model.specs.Protocols.{act_at}
+use Rattle.spmd_model.specs.PlanProtocols.{printed_by, registers_by}
 use Rattle.fork_join.specs.Joins.{IsAlone, all_deeds, begun, own_place, protocol}
 use Rattle.fork_join.specs.Overlays.{laid_in}
 use Rattle.fork_join.proofs.Acts.{load_there, print_there, store_there}

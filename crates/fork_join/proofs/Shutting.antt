@@ -7,7 +7,7 @@ use Rattle.nest_model.specs.Instances.{Instance}
 use Rattle.nest_model.specs.Visits.{Visit}
 use Rattle.owner_partition.specs.Phases.{phases}
 use Rattle.sync_plan.specs.declared.plan.Plan.{Plan}
-use Rattle.spmd_model.specs.StyledDeeds.{deeds_by, part_deeds}
+use Rattle.spmd_model.specs.MachineDeeds.{deeds_by, part_deeds}
 use Rattle.spmd_model.specs.Timelines.{counter}
 use Rattle.spmd_model.specs.declared.style.Style.{Style}
 use Rattle.spmd_model.specs.declared.style.Style.TheVariants.{Arrive}

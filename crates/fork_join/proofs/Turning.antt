@@ -13,7 +13,7 @@ use Rattle.sync_plan.specs.Waits.{posts_at, waits_for}
 use Rattle.spmd_model.specs.Deeds.{Deed, awaiting, boundary_deeds, owned_by, posting}
 use Rattle.spmd_model.specs.Timelines.{await, counter, post}
 use Rattle.spmd_model.specs.declared.style.Style.TheVariants.{Arrive}
-use Rattle.spmd_laws.specs.Styled.{printed_by, registers_by}
+use Rattle.spmd_model.specs.PlanProtocols.{printed_by, registers_by}
 use Rattle.spmd_turns.specs.Rooms.{turn_room}
 use Rattle.spmd_turns.specs.Turns.{Turn, awaits, begins, boundary_turns, is_turn_inside, posts, turn_deeds, turns_from, works}
 use Rattle.spmd_turns.specs.TurnsLeft.{turns_left}

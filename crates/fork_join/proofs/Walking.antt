@@ -29,9 +29,9 @@ use Rattle.sync_plan.specs.declared.plan.Plan.{Plan}
 use Rattle.sync_plan.specs.Waits.{posts_at, waits_for}
 use Rattle.sync_plan.proofs.Gets.{get-behind}
 use Rattle.spmd_model.specs.Deeds.{Deed, last_deed, loading, owned_by, printing}
-use Rattle.spmd_model.specs.StyledDeeds.{own_deeds}
+use Rattle.spmd_model.specs.MachineDeeds.{own_deeds}
 use Rattle.spmd_model.specs.declared.style.Style.TheVariants.{Arrive}
-use Rattle.spmd_laws.specs.Styled.{printed_by, registers_by}
+use Rattle.spmd_model.specs.PlanProtocols.{printed_by, registers_by}
 use Rattle.spmd_turns.specs.Executors.{CanExecute, executor_output, executor_room, executor_tree}
 use Rattle.spmd_turns.specs.Rooms.{statement_room, turn_room, visit_room}
 use Rattle.spmd_turns.specs.Turns.{Turn, boundary_turns, is_turn_inside, turns_from, works}

@@ -23,7 +23,7 @@ use Rattle.sync_plan.specs.Waits.{posts_at, waits_for}
 use Rattle.sync_plan.specs.declared.plan.Plan.{Plan}
 use Rattle.spmd_model.specs.Deeds.{owned_by}
 use Rattle.spmd_model.proofs.CellsThere.{IsGoodWork, cells_there, good_in}
-use Rattle.spmd_laws.specs.Protocols.{held_at}
+use Rattle.spmd_model.specs.Protocols.{held_at}
 use Rattle.spmd_turns.specs.Rooms.{longest_output, turn_room}
 use Rattle.spmd_turns.specs.Turns.{Turn, awaits, begins, boundary_turns, posts, turns_from, works}
 use Rattle.spmd_turns.proofs.PhaseSums.{phases_whole, rooms_below}

@@ -14,13 +14,13 @@ use Rattle.sync_plan.specs.Own.{own_of}
 use Rattle.sync_plan.specs.declared.plan.Plan.{Plan}
 use Rattle.spmd_model.specs.Deeds.{Deed, adding, deed_of, owned_by, printing, storing}
 use Rattle.spmd_model.specs.Lawful.{Moves}
-use Rattle.spmd_model.specs.Styled.{machine_by}
-use Rattle.spmd_model.specs.StyledDeeds.{closing_deeds, deeds_by, own_deeds}
+use Rattle.spmd_model.specs.Machines.{machine_by}
+use Rattle.spmd_model.specs.MachineDeeds.{closing_deeds, deeds_by, own_deeds}
 use Rattle.spmd_model.specs.Timelines.{Act, load}
 use Rattle.spmd_model.specs.declared.style.Style.TheVariants.{Arrive}
-use Rattle.spmd_laws.specs.Laws.{Laws}
-use Rattle.spmd_laws.specs.Protocols.{Protocol, act_at, held_at}
-use Rattle.spmd_laws.specs.Styled.{protocol_by}
+use Rattle.spmd_model.specs.Laws.{Laws}
+use Rattle.spmd_model.specs.Protocols.{Protocol, act_at, held_at}
+use Rattle.spmd_model.specs.PlanProtocols.{protocol_by}
 use Rattle.fork_join.specs.Overlays.{laid_in}
 
 -- each processor has cells of its own, and boundaries are those of counters

@@ -29,7 +29,7 @@ pub(crate) struct Cursor<'a> {
 
 impl<'a> Cursor<'a> {
     ghost use Rattle.nest_walk.specs.Strips.{strip_left, strip_tree};
-    ghost use Rattle.spmd_model.specs.StyledDeeds.{HasNoOwn};
+    ghost use Rattle.spmd_model.specs.MachineDeeds.{HasNoOwn};
     ghost use Rattle.spmd_turns.specs.Turns.{works};
     ghost use Rattle.styled_turns.specs.StyledTurns.{StyledTurn, runs};
     ghost use Rattle.styled_turns.specs.StyledLeft.{IsStyledNext, IsTurn, PassesPlainly, styled_own, styled_place, styled_rounds};
@@ -42,8 +42,12 @@ impl<'a> Cursor<'a> {
         requires fits { IsFit (tree_of program.now) plan.now }
         requires worker { processor < plan.now.workers }
         ensures sound { IsCursor result }
-        ensures left { cursor_left result ≡ turns_from (tree_of program.now) plan.now processor 1 (phases (tree_of program.now) plan.now.cut.marks) }
-        ensures turns { cursor_turns result ≡ styled Arrive (tree_of program.now) plan.now processor first_standing (turns_from (tree_of program.now) plan.now processor 1 (phases (tree_of program.now) plan.now.cut.marks)) }
+        ensures left { cursor_left result ≡ turns_from (tree_of program.now) plan.now processor 1
+            (phases (tree_of program.now) plan.now.cut.marks) }
+        ensures turns { cursor_turns result
+            ≡ styled Arrive (tree_of program.now) plan.now processor first_standing
+            (turns_from (tree_of program.now) plan.now processor 1
+            (phases (tree_of program.now) plan.now.cut.marks)) }
         ensures program { cursor_tree result ≡ tree_of program.now }
         ensures plan { cursor_plan result ≡ plan.now }
         ensures processor { cursor_processor result ≡ processor }
@@ -91,7 +95,8 @@ impl<'a> Cursor<'a> {
     pub fn begin(&mut self)
         requires { IsCursor self.old }
         ensures sound { IsCursor self.new }
-        ensures left { (e : ℕ) → self.old.begins ≡ Some e → cursor_left self.old ≡ begins e ∷ cursor_left self.new }
+        ensures left { (e : ℕ) → self.old.begins ≡ Some e
+            → cursor_left self.old ≡ begins e ∷ cursor_left self.new }
         ensures turns { cursor_turns self.new ≡ cursor_turns self.old }
         ensures same { IsSameCursor self.old self.new }
     {
@@ -120,10 +125,14 @@ impl<'a> Cursor<'a> {
     pub fn strip(&mut self) -> Option<Strip<'a>>
         requires { IsCursor self.old }
         ensures sound { IsCursor self.new }
-        ensures left { MatchOption result (cursor_left self.new ≡ cursor_left self.old) (λ s. cursor_left self.old ≡ map works (strip_left s) ++ cursor_left self.new) }
-        ensures turns { MatchOption result (cursor_turns self.new ≡ cursor_turns self.old) (λ s. cursor_turns self.old ≡ map (runs (styled_place self.old.turns)) (strip_left s) ++ cursor_turns self.new) }
+        ensures left { MatchOption result (cursor_left self.new ≡ cursor_left self.old)
+            (λ s. cursor_left self.old ≡ map works (strip_left s) ++ cursor_left self.new) }
+        ensures turns { MatchOption result (cursor_turns self.new ≡ cursor_turns self.old)
+            (λ s. cursor_turns self.old ≡ map (runs (styled_place self.old.turns)) (strip_left s)
+            ++ cursor_turns self.new) }
         ensures some { IfSome result (λ s. 0 < length (strip_left s)) }
-        ensures own { IfSome result (λ s. HasNoOwn (cursor_tree self.old) (cursor_plan self.old) (styled_place self.old.turns)) }
+        ensures own { IfSome result (λ s. HasNoOwn (cursor_tree self.old) (cursor_plan self.old)
+            (styled_place self.old.turns)) }
         ensures tree { IfSome result (λ s. strip_tree s ≡ cursor_tree self.new) }
         ensures same { IsSameCursor self.old self.new }
     {

@@ -5,7 +5,7 @@ ghost use Rattle.nest_tree.specs.Tree.{Tree};
 ghost use Rattle.nest_tree.specs.View.{tree_of};
 ghost use Rattle.sync_plan.specs.declared.plan.Plan.{Plan};
 ghost use Rattle.spmd_model.specs.declared.style.Style.TheVariants.{Arrive};
-ghost use Rattle.spmd_laws.specs.Styled.{printed_by, registers_by};
+ghost use Rattle.spmd_model.specs.PlanProtocols.{printed_by, registers_by};
 ghost use Rattle.fork_join.specs.Joins.{IsAlone, all_deeds};
 ghost use Rattle.fork_join.specs.Overlays.{AreIndexed};
 ghost use Rattle.fork_join.specs.SeenDeeds.{shared_deed};
@@ -30,7 +30,9 @@ pub(crate) struct Overlay<'a> {
     pub(crate) own: [i64; OWN_PLACES],
     pub(crate) done: Progress,
     // it alone has gone on from lawful memory
-    ghost goes: { ∥ IsAlone (tree_of program.now) plan.now processor behind memory.now stores.entries.items own (length stores.places.items) done.done ∥₁ },
+    ghost goes: { ∥ IsAlone
+        (tree_of program.now) plan.now processor behind memory.now stores.entries.items own
+        (length stores.places.items) done.done ∥₁ },
     ghost indexed: { AreIndexed stores.entries.items stores.places.items },
     ghost room: { length stores.places.items ≤ vec_capacity stores.entries },
     ghost few: { length stores.places.items < 2 ^ 32 },
@@ -50,7 +52,8 @@ impl<'a> Overlay<'a> {
     fn seen(&self, cell: u32) -> i64
         requires inside { cell < length self.now.stores.places.items }
         requires memory { cell < length self.now.memory.now }
-        ensures { result ≡ cell_value (laid_in self.now.stores.entries.items self.now.memory.now) cell }
+        ensures { result
+            ≡ cell_value (laid_in self.now.stores.entries.items self.now.memory.now) cell }
     {
         match self.stores.get(cell) {
             Some(value) => value,
@@ -61,12 +64,25 @@ impl<'a> Overlay<'a> {
     // The load that comes next, of a cell that all share.
     #[inline(always)]
     pub(crate) fn load_shared(&mut self, cell: u32) -> i64
-        requires next { (rest : List Deed) × (drop self.old.done.done (all_deeds (tree_of self.old.program.now) self.old.plan.now self.old.processor) ≡ loading cell ∷ rest) }
+        requires next { (rest : List Deed)
+            ×
+            (drop self.old.done.done
+            (all_deeds (tree_of self.old.program.now) self.old.plan.now self.old.processor)
+            ≡ loading cell ∷ rest) }
         requires inside { cell < cell_count (tree_of self.old.program.now) }
         ensures further { self.new.done.done ≡ self.old.done.done + 1 }
-        ensures registers { registers_by Arrive (tree_of self.old.program.now) self.old.plan.now self.old.processor self.new.done.done ≡ registers_by Arrive (tree_of self.old.program.now) self.old.plan.now self.old.processor self.old.done.done ++ result ∷ [] }
-        ensures printed { printed_by Arrive (tree_of self.old.program.now) self.old.plan.now self.old.processor self.new.done.done ≡ printed_by Arrive (tree_of self.old.program.now) self.old.plan.now self.old.processor self.old.done.done }
-        ensures kept { IsOverlay (tree_of self.old.program.now) self.old.plan.now self.old.behind self.old.processor self.old.memory.now self.new }
+        ensures registers { registers_by Arrive
+            (tree_of self.old.program.now) self.old.plan.now self.old.processor self.new.done.done
+            ≡ registers_by Arrive
+            (tree_of self.old.program.now) self.old.plan.now self.old.processor self.old.done.done
+            ++ result ∷ [] }
+        ensures printed { printed_by Arrive
+            (tree_of self.old.program.now) self.old.plan.now self.old.processor self.new.done.done
+            ≡ printed_by Arrive
+            (tree_of self.old.program.now) self.old.plan.now self.old.processor self.old.done.done }
+        ensures kept { IsOverlay
+            (tree_of self.old.program.now) self.old.plan.now self.old.behind self.old.processor
+            self.old.memory.now self.new }
     {
         let value = self.seen(cell);
         self.done = self.done.further();
@@ -76,12 +92,25 @@ impl<'a> Overlay<'a> {
     // The load that comes next, of the own cell with this place.
     #[inline(always)]
     pub(crate) fn load_own(&mut self, place: usize) -> i64
-        requires next { (rest : List Deed) × (drop self.old.done.done (all_deeds (tree_of self.old.program.now) self.old.plan.now self.old.processor) ≡ loading (own_place (tree_of self.old.program.now) self.old.processor place) ∷ rest) }
+        requires next { (rest : List Deed)
+            ×
+            (drop self.old.done.done
+            (all_deeds (tree_of self.old.program.now) self.old.plan.now self.old.processor)
+            ≡ loading (own_place (tree_of self.old.program.now) self.old.processor place) ∷ rest) }
         requires small { place < 32 }
         ensures further { self.new.done.done ≡ self.old.done.done + 1 }
-        ensures registers { registers_by Arrive (tree_of self.old.program.now) self.old.plan.now self.old.processor self.new.done.done ≡ registers_by Arrive (tree_of self.old.program.now) self.old.plan.now self.old.processor self.old.done.done ++ result ∷ [] }
-        ensures printed { printed_by Arrive (tree_of self.old.program.now) self.old.plan.now self.old.processor self.new.done.done ≡ printed_by Arrive (tree_of self.old.program.now) self.old.plan.now self.old.processor self.old.done.done }
-        ensures kept { IsOverlay (tree_of self.old.program.now) self.old.plan.now self.old.behind self.old.processor self.old.memory.now self.new }
+        ensures registers { registers_by Arrive
+            (tree_of self.old.program.now) self.old.plan.now self.old.processor self.new.done.done
+            ≡ registers_by Arrive
+            (tree_of self.old.program.now) self.old.plan.now self.old.processor self.old.done.done
+            ++ result ∷ [] }
+        ensures printed { printed_by Arrive
+            (tree_of self.old.program.now) self.old.plan.now self.old.processor self.new.done.done
+            ≡ printed_by Arrive
+            (tree_of self.old.program.now) self.old.plan.now self.old.processor self.old.done.done }
+        ensures kept { IsOverlay
+            (tree_of self.old.program.now) self.old.plan.now self.old.behind self.old.processor
+            self.old.memory.now self.new }
     {
         let value = self.own[place];
         self.done = self.done.further();
@@ -91,12 +120,28 @@ impl<'a> Overlay<'a> {
     // The store that comes next, to a cell that all share.
     #[inline(always)]
     pub(crate) fn store_shared(&mut self, cell: u32, value: i64)
-        requires next { (f : List ℤ → ℤ) × (rest : List Deed) × (drop self.old.done.done (all_deeds (tree_of self.old.program.now) self.old.plan.now self.old.processor) ≡ storing cell f ∷ rest) × (value ≡ f (registers_by Arrive (tree_of self.old.program.now) self.old.plan.now self.old.processor self.old.done.done)) }
+        requires next { (f : List ℤ → ℤ) × (rest : List Deed)
+            ×
+            (drop self.old.done.done
+            (all_deeds (tree_of self.old.program.now) self.old.plan.now self.old.processor)
+            ≡ storing cell f ∷ rest)
+            × (value
+            ≡ f
+            (registers_by Arrive
+            (tree_of self.old.program.now) self.old.plan.now self.old.processor
+            self.old.done.done)) }
         requires inside { cell < cell_count (tree_of self.old.program.now) }
         ensures further { self.new.done.done ≡ self.old.done.done + 1 }
-        ensures registers { registers_by Arrive (tree_of self.old.program.now) self.old.plan.now self.old.processor self.new.done.done ≡ [] }
-        ensures printed { printed_by Arrive (tree_of self.old.program.now) self.old.plan.now self.old.processor self.new.done.done ≡ printed_by Arrive (tree_of self.old.program.now) self.old.plan.now self.old.processor self.old.done.done }
-        ensures kept { IsOverlay (tree_of self.old.program.now) self.old.plan.now self.old.behind self.old.processor self.old.memory.now self.new }
+        ensures registers { registers_by Arrive
+            (tree_of self.old.program.now) self.old.plan.now self.old.processor self.new.done.done
+            ≡ [] }
+        ensures printed { printed_by Arrive
+            (tree_of self.old.program.now) self.old.plan.now self.old.processor self.new.done.done
+            ≡ printed_by Arrive
+            (tree_of self.old.program.now) self.old.plan.now self.old.processor self.old.done.done }
+        ensures kept { IsOverlay
+            (tree_of self.old.program.now) self.old.plan.now self.old.behind self.old.processor
+            self.old.memory.now self.new }
     {
         self.stores.set(cell, value);
         self.done = self.done.further();
@@ -105,12 +150,28 @@ impl<'a> Overlay<'a> {
     // The store that comes next, to the own cell with this place.
     #[inline(always)]
     pub(crate) fn store_own(&mut self, place: usize, value: i64)
-        requires next { (f : List ℤ → ℤ) × (rest : List Deed) × (drop self.old.done.done (all_deeds (tree_of self.old.program.now) self.old.plan.now self.old.processor) ≡ storing (own_place (tree_of self.old.program.now) self.old.processor place) f ∷ rest) × (value ≡ f (registers_by Arrive (tree_of self.old.program.now) self.old.plan.now self.old.processor self.old.done.done)) }
+        requires next { (f : List ℤ → ℤ) × (rest : List Deed)
+            ×
+            (drop self.old.done.done
+            (all_deeds (tree_of self.old.program.now) self.old.plan.now self.old.processor)
+            ≡ storing (own_place (tree_of self.old.program.now) self.old.processor place) f ∷ rest)
+            × (value
+            ≡ f
+            (registers_by Arrive
+            (tree_of self.old.program.now) self.old.plan.now self.old.processor
+            self.old.done.done)) }
         requires small { place < 32 }
         ensures further { self.new.done.done ≡ self.old.done.done + 1 }
-        ensures registers { registers_by Arrive (tree_of self.old.program.now) self.old.plan.now self.old.processor self.new.done.done ≡ [] }
-        ensures printed { printed_by Arrive (tree_of self.old.program.now) self.old.plan.now self.old.processor self.new.done.done ≡ printed_by Arrive (tree_of self.old.program.now) self.old.plan.now self.old.processor self.old.done.done }
-        ensures kept { IsOverlay (tree_of self.old.program.now) self.old.plan.now self.old.behind self.old.processor self.old.memory.now self.new }
+        ensures registers { registers_by Arrive
+            (tree_of self.old.program.now) self.old.plan.now self.old.processor self.new.done.done
+            ≡ [] }
+        ensures printed { printed_by Arrive
+            (tree_of self.old.program.now) self.old.plan.now self.old.processor self.new.done.done
+            ≡ printed_by Arrive
+            (tree_of self.old.program.now) self.old.plan.now self.old.processor self.old.done.done }
+        ensures kept { IsOverlay
+            (tree_of self.old.program.now) self.old.plan.now self.old.behind self.old.processor
+            self.old.memory.now self.new }
     {
         self.own[place] = value;
         self.done = self.done.further();
@@ -118,12 +179,30 @@ impl<'a> Overlay<'a> {
 
     // Past the PRINT that comes next.
     pub(crate) fn print_line(&mut self)
-        requires next { (line : List ℤ → List ℕ) × (rest : List Deed) × (drop self.old.done.done (all_deeds (tree_of self.old.program.now) self.old.plan.now self.old.processor) ≡ printing line ∷ rest) }
+        requires next { (line : List ℤ → List ℕ) × (rest : List Deed)
+            ×
+            (drop self.old.done.done
+            (all_deeds (tree_of self.old.program.now) self.old.plan.now self.old.processor)
+            ≡ printing line ∷ rest) }
         ensures further { self.new.done.done ≡ self.old.done.done + 1 }
-        ensures registers { registers_by Arrive (tree_of self.old.program.now) self.old.plan.now self.old.processor self.new.done.done ≡ [] }
-        ensures printed { (line : List ℤ → List ℕ) → (rest : List Deed) → drop self.old.done.done (all_deeds (tree_of self.old.program.now) self.old.plan.now self.old.processor) ≡ printing line ∷ rest
-            → printed_by Arrive (tree_of self.old.program.now) self.old.plan.now self.old.processor self.new.done.done ≡ printed_by Arrive (tree_of self.old.program.now) self.old.plan.now self.old.processor self.old.done.done ++ line (registers_by Arrive (tree_of self.old.program.now) self.old.plan.now self.old.processor self.old.done.done) }
-        ensures kept { IsOverlay (tree_of self.old.program.now) self.old.plan.now self.old.behind self.old.processor self.old.memory.now self.new }
+        ensures registers { registers_by Arrive
+            (tree_of self.old.program.now) self.old.plan.now self.old.processor self.new.done.done
+            ≡ [] }
+        ensures printed { (line : List ℤ → List ℕ) → (rest : List Deed)
+            → drop self.old.done.done
+            (all_deeds (tree_of self.old.program.now) self.old.plan.now self.old.processor)
+            ≡ printing line ∷ rest
+            → printed_by Arrive
+            (tree_of self.old.program.now) self.old.plan.now self.old.processor self.new.done.done
+            ≡ printed_by Arrive
+            (tree_of self.old.program.now) self.old.plan.now self.old.processor self.old.done.done
+            ++ line
+            (registers_by Arrive
+            (tree_of self.old.program.now) self.old.plan.now self.old.processor
+            self.old.done.done) }
+        ensures kept { IsOverlay
+            (tree_of self.old.program.now) self.old.plan.now self.old.behind self.old.processor
+            self.old.memory.now self.new }
     {
         self.done = self.done.further();
     }
@@ -131,15 +210,19 @@ impl<'a> Overlay<'a> {
 
 // In a phase without own scalars.
 impl<'a> Deeds for Overlay<'a> {
-    ghost left = { λ o. map (shared_deed (tree_of o.program.now)) (drop o.done.done (all_deeds (tree_of o.program.now) o.plan.now o.processor)) };
+    ghost left = { λ o. map (shared_deed (tree_of o.program.now))
+        (drop o.done.done (all_deeds (tree_of o.program.now) o.plan.now o.processor)) };
 
-    ghost registers = { λ o. registers_by Arrive (tree_of o.program.now) o.plan.now o.processor o.done.done };
+    ghost registers = { λ o. registers_by Arrive
+        (tree_of o.program.now) o.plan.now o.processor o.done.done };
 
-    ghost printed = { λ o. printed_by Arrive (tree_of o.program.now) o.plan.now o.processor o.done.done };
+    ghost printed = { λ o. printed_by Arrive
+        (tree_of o.program.now) o.plan.now o.processor o.done.done };
 
     ghost Kept = { Tree × (Plan × (ℕ × (ℕ × List ℤ))) };
 
-    ghost kept = { λ o. (tree_of o.program.now, (o.plan.now, (o.processor, (o.behind, o.memory.now)))) };
+    ghost kept = { λ o.
+        (tree_of o.program.now, (o.plan.now, (o.processor, (o.behind, o.memory.now)))) };
 
     #[inline(always)]
     fn load(&mut self, cell: u32) -> i64 {

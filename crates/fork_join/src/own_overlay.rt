@@ -5,7 +5,7 @@ ghost use Rattle.nest_tree.specs.Tree.{Tree};
 ghost use Rattle.nest_tree.specs.View.{tree_of};
 ghost use Rattle.sync_plan.specs.declared.plan.Plan.{Plan};
 ghost use Rattle.spmd_model.specs.declared.style.Style.TheVariants.{Arrive};
-ghost use Rattle.spmd_laws.specs.Styled.{printed_by, registers_by};
+ghost use Rattle.spmd_model.specs.PlanProtocols.{printed_by, registers_by};
 ghost use Rattle.styled_turns.specs.StyledLeft.{styled_place};
 ghost use Rattle.fork_join.specs.Joins.{all_deeds};
 ghost use Rattle.fork_join.specs.SeenDeeds.{phase_deed};
@@ -21,21 +21,42 @@ use spmd_turns::Deeds;
 pub(crate) struct OwnOverlay<'b, 'm, 't, 'a> {
     pub(crate) overlay: &'b mut Overlay<'m>,
     pub(crate) turns: &'t Cursor<'a>,
-    ghost knows: { ∥ IsCursorOf (tree_of overlay.now.program.now) overlay.now.plan.now turns.now ∥₁ },
+    ghost knows: { ∥ IsCursorOf
+        (tree_of overlay.now.program.now) overlay.now.plan.now turns.now ∥₁ },
 }
 
 impl Deeds for OwnOverlay<'_, '_, '_, '_> {
     ghost use Rattle.fork_join.specs.declared.cursor.Cursor.{Cursor};
 
-    ghost left = { λ d. map (phase_deed (tree_of d.overlay.now.program.now) d.overlay.now.plan.now (styled_place d.turns.now.turns) d.overlay.now.processor) (drop d.overlay.now.done.done (all_deeds (tree_of d.overlay.now.program.now) d.overlay.now.plan.now d.overlay.now.processor)) };
+    ghost left = { λ d. map (phase_deed (tree_of d.overlay.now.program.now) d.overlay.now.plan.now
+        (styled_place d.turns.now.turns) d.overlay.now.processor)
+        (drop d.overlay.now.done.done
+        (all_deeds
+        (tree_of d.overlay.now.program.now) d.overlay.now.plan.now d.overlay.now.processor)) };
 
-    ghost registers = { λ d. registers_by Arrive (tree_of d.overlay.now.program.now) d.overlay.now.plan.now d.overlay.now.processor d.overlay.now.done.done };
+    ghost registers = { λ d. registers_by Arrive
+        (tree_of d.overlay.now.program.now) d.overlay.now.plan.now d.overlay.now.processor
+        d.overlay.now.done.done };
 
-    ghost printed = { λ d. printed_by Arrive (tree_of d.overlay.now.program.now) d.overlay.now.plan.now d.overlay.now.processor d.overlay.now.done.done };
+    ghost printed = { λ d. printed_by Arrive
+        (tree_of d.overlay.now.program.now) d.overlay.now.plan.now d.overlay.now.processor
+        d.overlay.now.done.done };
 
     ghost Kept = { ℕ × (Cursor × (Tree × (Plan × (ℕ × (ℕ × List ℤ))))) };
 
-    ghost kept = { λ d. (d.overlay.ghost_name, (d.turns.now, (tree_of d.overlay.now.program.now, (d.overlay.now.plan.now, (d.overlay.now.processor, (d.overlay.now.behind, d.overlay.now.memory.now)))))) };
+    ghost kept = { λ d. (
+      d.overlay.ghost_name,
+      (
+        d.turns.now,
+        (
+          tree_of d.overlay.now.program.now,
+          (
+            d.overlay.now.plan.now,
+            (d.overlay.now.processor, (d.overlay.now.behind, d.overlay.now.memory.now)),
+          ),
+        ),
+      ),
+    ) };
 
     #[inline(always)]
     fn load(&mut self, cell: u32) -> i64 {

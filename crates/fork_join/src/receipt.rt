@@ -32,9 +32,11 @@ impl Model for Receipt {
 
     ghost coded = { end_code };
 
-    ghost view = { λ r. record { program = r.program.value; plan = r.plan.value; memory = r.memory.items } };
+    ghost view = { λ r.
+        record { program = r.program.value; plan = r.plan.value; memory = r.memory.items } };
 
-    ghost invariant = { λ r. IsLast (record { program = r.program.value; plan = r.plan.value; memory = r.memory.items }) };
+    ghost invariant = { λ r. IsLast
+        (record { program = r.program.value; plan = r.plan.value; memory = r.memory.items }) };
 }
 
 impl Receipt {
@@ -47,7 +49,8 @@ impl Receipt {
     ) -> (Receipt, Output)
         requires safe { IsSafe (tree_of lent.program.now) lent.plan.now }
         requires count { length workers.items ≡ lent.plan.now.workers }
-        requires at { AreAt (tree_of lent.program.now) lent.plan.now (length (phases (tree_of lent.program.now) lent.plan.now.cut.marks)) workers.items }
+        requires at { AreAt (tree_of lent.program.now) lent.plan.now
+            (length (phases (tree_of lent.program.now) lent.plan.now.cut.marks)) workers.items }
         requires memory { memory.items ≡ last_memory (tree_of lent.program.now) }
         ensures program { result.0.program ≡ lent.entry.program.now }
         ensures plan { result.0.plan ≡ lent.entry.plan.now }

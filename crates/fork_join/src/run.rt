@@ -23,7 +23,7 @@ use nest_tree::Program;
 use nest_walk::CellTable;
 use owner_partition::PhaseCursor;
 use seq_meaning::Output;
-use spmd_laws::{laws_in_styles, own_cells_in_styles, values_in_styles};
+use spmd_model::{laws_in_styles, own_cells_in_styles, values_in_styles};
 use spmd_ports::Gate;
 use spmd_turns::{longest_output, open_printing};
 use std::alloc::{AllocError, Global};
@@ -92,7 +92,8 @@ fn workers_of<'a>(alloc: Global, lent: Lent<'a>) -> Result<Vec<CachePadded<Worke
     requires table { IsCellTable (tree_of lent.program.now) lent.table.now }
     requires params { lent.params.now ≡ param_values (tree_of lent.program.now) }
     ensures count { IfOk result (λ v. length v.items ≡ lent.entry.plan.now.workers) }
-    ensures at { IfOk result (λ v. AreAt (tree_of lent.entry.program.now) lent.entry.plan.now 0 v.items) }
+    ensures at { IfOk result
+        (λ v. AreAt (tree_of lent.entry.program.now) lent.entry.plan.now 0 v.items) }
 {
     let most = most_output(alloc, lent.program)?;
     let mut workers = Vec::with_capacity(alloc, lent.plan.workers as usize)?;
@@ -129,7 +130,9 @@ fn execute<R: Threads + Sync, G: Gate + Sync>(
     requires at { AreAt (tree_of lent.program.now) lent.plan.now 0 workers.old }
     requires memory { memory.old ≡ first_memory (tree_of lent.program.now) }
     ensures count { length workers.new ≡ length workers.old }
-    ensures at { AreAt (tree_of lent.entry.program.now) lent.entry.plan.now (length (phases (tree_of lent.entry.program.now) lent.entry.plan.now.cut.marks)) workers.new }
+    ensures at { AreAt (tree_of lent.entry.program.now) lent.entry.plan.now
+        (length (phases (tree_of lent.entry.program.now) lent.entry.plan.now.cut.marks))
+        workers.new }
     ensures memory { memory.new ≡ last_memory (tree_of lent.entry.program.now) }
 {
     let mut left = PhaseCursor::new(lent.program, &lent.plan.cut);
@@ -154,9 +157,11 @@ fn fork<R: Threads + Sync, G: Gate + Sync>(
     requires some { behind < length (phases (tree_of lent.program.now) lent.plan.now.cut.marks) }
     requires count { length workers.old ≡ lent.plan.now.workers }
     requires at { AreAt (tree_of lent.program.now) lent.plan.now behind workers.old }
-    requires lawful { ∥ (protocol (tree_of lent.program.now) lent.plan.now).lawful memory.now (begun (tree_of lent.program.now) lent.plan.now behind) ∥₁ }
+    requires lawful { ∥ (protocol (tree_of lent.program.now) lent.plan.now).lawful memory.now
+        (begun (tree_of lent.program.now) lent.plan.now behind) ∥₁ }
     ensures count { length workers.new ≡ length workers.old }
-    ensures worked { HaveWorked (tree_of lent.entry.program.now) lent.entry.plan.now behind workers.new }
+    ensures worked { HaveWorked
+        (tree_of lent.entry.program.now) lent.entry.plan.now behind workers.new }
 {
     let count = workers.len();
     thread::for_each_mut(
@@ -165,11 +170,16 @@ fn fork<R: Threads + Sync, G: Gate + Sync>(
         count,
         &|p: usize, worker: &mut CachePadded<Worker>|
             requires safe { IsSafe (tree_in worker.now) (plan_in worker.now) }
-            requires some { behind < length (phases (tree_in worker.now) (plan_in worker.now).cut.marks) }
+            requires some { behind < length
+                (phases (tree_in worker.now) (plan_in worker.now).cut.marks) }
             requires below { p < (plan_in worker.now).workers }
-            requires at { IsAt (tree_in worker.now) (plan_in worker.now) behind p (padded_value worker.now) }
-            requires lawful { ∥ (protocol (tree_in worker.now) (plan_in worker.now)).lawful memory.now (begun (tree_in worker.now) (plan_in worker.now) behind) ∥₁ }
-            ensures { HasWorked (tree_in worker.entry.now) (plan_in worker.entry.now) behind p (padded_value worker.exit.now) }
+            requires at { IsAt (tree_in worker.now) (plan_in worker.now) behind p
+                (padded_value worker.now) }
+            requires lawful { ∥
+                (protocol (tree_in worker.now) (plan_in worker.now)).lawful memory.now
+                (begun (tree_in worker.now) (plan_in worker.now) behind) ∥₁ }
+            ensures { HasWorked (tree_in worker.entry.now) (plan_in worker.entry.now) behind p
+                (padded_value worker.exit.now) }
         { worker.phase(behind, memory, gate) },
     );
 }
@@ -180,10 +190,14 @@ fn lay_in(lent: Lent, workers: &mut [CachePadded<Worker>], memory: &mut [i64], b
     requires safe { IsSafe (tree_of lent.program.now) lent.plan.now }
     requires count { length workers.old ≡ lent.plan.now.workers }
     requires worked { HaveWorked (tree_of lent.program.now) lent.plan.now behind workers.old }
-    requires lawful { ∥ (protocol (tree_of lent.program.now) lent.plan.now).lawful memory.old (begun (tree_of lent.program.now) lent.plan.now behind) ∥₁ }
+    requires lawful { ∥ (protocol (tree_of lent.program.now) lent.plan.now).lawful memory.old
+        (begun (tree_of lent.program.now) lent.plan.now behind) ∥₁ }
     ensures count { length workers.new ≡ length workers.old }
-    ensures at { AreAt (tree_of lent.entry.program.now) lent.entry.plan.now (suc behind) workers.new }
-    ensures lawful { ∥ (protocol (tree_of lent.entry.program.now) lent.entry.plan.now).lawful memory.new (in_front (tree_of lent.entry.program.now) lent.entry.plan.now (suc behind)) ∥₁ }
+    ensures at { AreAt (tree_of lent.entry.program.now) lent.entry.plan.now
+        (suc behind) workers.new }
+    ensures lawful { ∥
+        (protocol (tree_of lent.entry.program.now) lent.entry.plan.now).lawful memory.new
+        (in_front (tree_of lent.entry.program.now) lent.entry.plan.now (suc behind)) ∥₁ }
 {
     for p in 0..workers.len() {
         workers[p].lay_in(behind, memory);

@@ -47,7 +47,10 @@ impl Stores {
     pub fn get(&self, cell: u32) -> Option<i64>
         requires kept { AreKept self.now }
         requires inside { cell < cells_of self.now }
-        ensures { (memory : List ℤ) → cell < length memory → MatchOption result (cell_value (laid_in (entries_of self.now) memory) cell ≡ cell_value memory cell) (λ v. cell_value (laid_in (entries_of self.now) memory) cell ≡ v) }
+        ensures { (memory : List ℤ) → cell < length memory
+            → MatchOption result (cell_value (laid_in (entries_of self.now) memory) cell
+            ≡ cell_value memory cell) (λ v. cell_value (laid_in (entries_of self.now) memory) cell
+            ≡ v) }
     {
         let place = self.places[cell as usize];
         if place == 0 {
@@ -63,7 +66,8 @@ impl Stores {
         requires inside { cell < cells_of self.old }
         ensures kept { AreKept self.new }
         ensures cells { cells_of self.new ≡ cells_of self.old }
-        ensures laid { (memory : List ℤ) → laid_in (entries_of self.new) memory ≡ slice_set (laid_in (entries_of self.old) memory) cell value }
+        ensures laid { (memory : List ℤ) → laid_in (entries_of self.new) memory
+            ≡ slice_set (laid_in (entries_of self.old) memory) cell value }
     {
         let place = self.places[cell as usize];
         if place == 0 {
@@ -81,7 +85,8 @@ impl Stores {
         requires none { slice_index self.old.places.items cell ≡ 0 }
         ensures kept { AreKept self.new }
         ensures cells { cells_of self.new ≡ cells_of self.old }
-        ensures laid { (memory : List ℤ) → laid_in (entries_of self.new) memory ≡ slice_set (laid_in (entries_of self.old) memory) cell value }
+        ensures laid { (memory : List ℤ) → laid_in (entries_of self.new) memory
+            ≡ slice_set (laid_in (entries_of self.old) memory) cell value }
     {
         self.entries.push((cell, value)).unwrap();
         self.places[cell as usize] = self.entries.len() as u32;

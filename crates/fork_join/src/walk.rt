@@ -5,7 +5,7 @@ ghost use Rattle.nest_tree.specs.View.{tree_of};
 ghost use Rattle.nest_walk.specs.Cursors.{visit_at};
 ghost use Rattle.owner_partition.specs.Phases.{phases};
 ghost use Rattle.spmd_model.specs.declared.style.Style.TheVariants.{Arrive};
-ghost use Rattle.spmd_laws.specs.Styled.{printed_by, registers_by};
+ghost use Rattle.spmd_model.specs.PlanProtocols.{printed_by, registers_by};
 ghost use Rattle.spmd_turns.specs.Executors.{Begins, CanExecute, executor_output, executor_room, executor_tree};
 ghost use Rattle.spmd_turns.specs.Rooms.{visit_room};
 ghost use Rattle.styled_turns.specs.StyledLeft.{styled_place, styled_rounds};
@@ -30,10 +30,19 @@ pub(crate) fn execute<'a>(
     overlay: &mut Overlay,
 )
     requires safe { IsSafe (tree_of overlay.old.program.now) overlay.old.plan.now }
-    requires some { overlay.old.behind < length (phases (tree_of overlay.old.program.now) overlay.old.plan.now.cut.marks) }
-    requires runs { Runs (tree_of overlay.old.program.now) overlay.old.plan.now overlay.old.processor (turns_begun (tree_of overlay.old.program.now) overlay.old.plan.now overlay.old.behind overlay.old.processor) overlay.old.done.done turns.old executor.old }
-    ensures kept { IsOverlay (tree_of overlay.old.program.now) overlay.old.plan.now overlay.old.behind overlay.old.processor overlay.old.memory.now overlay.new }
-    ensures runs { Runs (tree_of overlay.old.program.now) overlay.old.plan.now overlay.old.processor (turns_behind (tree_of overlay.old.program.now) overlay.old.plan.now (suc overlay.old.behind) overlay.old.processor) overlay.new.done.done turns.new executor.new }
+    requires some { overlay.old.behind < length
+        (phases (tree_of overlay.old.program.now) overlay.old.plan.now.cut.marks) }
+    requires runs { Runs
+        (tree_of overlay.old.program.now) overlay.old.plan.now overlay.old.processor
+        (turns_begun (tree_of overlay.old.program.now) overlay.old.plan.now overlay.old.behind
+        overlay.old.processor) overlay.old.done.done turns.old executor.old }
+    ensures kept { IsOverlay
+        (tree_of overlay.old.program.now) overlay.old.plan.now overlay.old.behind
+        overlay.old.processor overlay.old.memory.now overlay.new }
+    ensures runs { Runs (tree_of overlay.old.program.now) overlay.old.plan.now overlay.old.processor
+        (turns_behind (tree_of overlay.old.program.now) overlay.old.plan.now
+        (suc overlay.old.behind) overlay.old.processor) overlay.new.done.done turns.new
+        executor.new }
 {
     repeat_next(turns, executor, overlay);
     while execute_next(turns, executor, overlay) {
@@ -45,9 +54,15 @@ pub(crate) fn execute<'a>(
 #[inline(always)]
 fn repeat_next<'a>(turns: &mut Cursor<'a>, executor: &mut Executor<'a>, overlay: &mut Overlay)
     requires safe { IsSafe (tree_of overlay.old.program.now) overlay.old.plan.now }
-    requires walks { IsWalking (tree_of overlay.old.program.now) overlay.old.plan.now overlay.old.behind overlay.old.processor overlay.old.done.done turns.old executor.old }
-    ensures kept { IsOverlay (tree_of overlay.old.program.now) overlay.old.plan.now overlay.old.behind overlay.old.processor overlay.old.memory.now overlay.new }
-    ensures walks { IsWalking (tree_of overlay.old.program.now) overlay.old.plan.now overlay.old.behind overlay.old.processor overlay.new.done.done turns.new executor.new }
+    requires walks { IsWalking
+        (tree_of overlay.old.program.now) overlay.old.plan.now overlay.old.behind
+        overlay.old.processor overlay.old.done.done turns.old executor.old }
+    ensures kept { IsOverlay
+        (tree_of overlay.old.program.now) overlay.old.plan.now overlay.old.behind
+        overlay.old.processor overlay.old.memory.now overlay.new }
+    ensures walks { IsWalking
+        (tree_of overlay.old.program.now) overlay.old.plan.now overlay.old.behind
+        overlay.old.processor overlay.new.done.done turns.new executor.new }
     ensures nearer { length (cursor_left turns.new) ≤ length (cursor_left turns.old) }
 {
     if let Some(strip) = turns.strip() {
@@ -63,11 +78,22 @@ fn execute_next<'a>(
     overlay: &mut Overlay,
 ) -> bool
     requires safe { IsSafe (tree_of overlay.old.program.now) overlay.old.plan.now }
-    requires walks { IsWalking (tree_of overlay.old.program.now) overlay.old.plan.now overlay.old.behind overlay.old.processor overlay.old.done.done turns.old executor.old }
-    ensures kept { IsOverlay (tree_of overlay.old.program.now) overlay.old.plan.now overlay.old.behind overlay.old.processor overlay.old.memory.now overlay.new }
-    ensures walks { IsWalking (tree_of overlay.old.program.now) overlay.old.plan.now overlay.old.behind overlay.old.processor overlay.new.done.done turns.new executor.new }
-    ensures nearer { result ≡ true → length (cursor_left turns.new) < length (cursor_left turns.old) }
-    ensures end { result ≡ false → Runs (tree_of overlay.old.program.now) overlay.old.plan.now overlay.old.processor (turns_behind (tree_of overlay.old.program.now) overlay.old.plan.now (suc overlay.old.behind) overlay.old.processor) overlay.new.done.done turns.new executor.new }
+    requires walks { IsWalking
+        (tree_of overlay.old.program.now) overlay.old.plan.now overlay.old.behind
+        overlay.old.processor overlay.old.done.done turns.old executor.old }
+    ensures kept { IsOverlay
+        (tree_of overlay.old.program.now) overlay.old.plan.now overlay.old.behind
+        overlay.old.processor overlay.old.memory.now overlay.new }
+    ensures walks { IsWalking
+        (tree_of overlay.old.program.now) overlay.old.plan.now overlay.old.behind
+        overlay.old.processor overlay.new.done.done turns.new executor.new }
+    ensures nearer { result ≡ true
+        → length (cursor_left turns.new) < length (cursor_left turns.old) }
+    ensures end { result ≡ false
+        → Runs (tree_of overlay.old.program.now) overlay.old.plan.now overlay.old.processor
+        (turns_behind (tree_of overlay.old.program.now) overlay.old.plan.now
+        (suc overlay.old.behind) overlay.old.processor) overlay.new.done.done turns.new
+        executor.new }
 {
     let NextOrPhase::Turn(next) = turns.peek() else {
         return false;
@@ -89,10 +115,16 @@ fn execute_here<'a>(
     stop: Stop<'a>,
 )
     requires safe { IsSafe (tree_of overlay.old.program.now) overlay.old.plan.now }
-    requires walks { IsWalking (tree_of overlay.old.program.now) overlay.old.plan.now overlay.old.behind overlay.old.processor overlay.old.done.done turns.now executor.old }
+    requires walks { IsWalking
+        (tree_of overlay.old.program.now) overlay.old.plan.now overlay.old.behind
+        overlay.old.processor overlay.old.done.done turns.now executor.old }
     requires next { ComesNext turns.now (NextOrPhase.Turn (StyledNext.Work stop)) }
-    ensures kept { IsOverlay (tree_of overlay.old.program.now) overlay.old.plan.now overlay.old.behind overlay.old.processor overlay.old.memory.now overlay.new }
-    ensures executed { HasExecuted (tree_of overlay.old.program.now) overlay.old.plan.now overlay.old.processor overlay.old.done.done overlay.new.done.done turns.now executor.old executor.new }
+    ensures kept { IsOverlay
+        (tree_of overlay.old.program.now) overlay.old.plan.now overlay.old.behind
+        overlay.old.processor overlay.old.memory.now overlay.new }
+    ensures executed { HasExecuted
+        (tree_of overlay.old.program.now) overlay.old.plan.now overlay.old.processor
+        overlay.old.done.done overlay.new.done.done turns.now executor.old executor.new }
 {
     if turns.own_cells().is_empty() {
         executor.execute(stop, turns.path(), overlay);
@@ -110,19 +142,48 @@ fn execute_own<'a>(
 )
     requires knows { IsCursorOf (tree_of overlay.old.program.now) overlay.old.plan.now turns.now }
     requires can { CanExecute executor.old }
-    requires begins { Begins (executor_tree executor.old) (styled_rounds turns.now.turns) stop (map (phase_deed (tree_of overlay.old.program.now) overlay.old.plan.now (styled_place turns.now.turns) overlay.old.processor) (drop overlay.old.done.done (all_deeds (tree_of overlay.old.program.now) overlay.old.plan.now overlay.old.processor))) }
-    requires idle { registers_by Arrive (tree_of overlay.old.program.now) overlay.old.plan.now overlay.old.processor overlay.old.done.done ≡ [] }
-    requires output { executor_output executor.old ≡ printed_by Arrive (tree_of overlay.old.program.now) overlay.old.plan.now overlay.old.processor overlay.old.done.done }
-    requires room { length (executor_output executor.old) + visit_room (executor_tree executor.old) (visit_at (executor_tree executor.old) (styled_rounds turns.now.turns) stop) ≤ executor_room executor.old }
+    requires begins { Begins (executor_tree executor.old) (styled_rounds turns.now.turns) stop
+        (map (phase_deed (tree_of overlay.old.program.now) overlay.old.plan.now
+        (styled_place turns.now.turns) overlay.old.processor)
+        (drop overlay.old.done.done
+        (all_deeds (tree_of overlay.old.program.now) overlay.old.plan.now overlay.old.processor))) }
+    requires idle { registers_by Arrive
+        (tree_of overlay.old.program.now) overlay.old.plan.now overlay.old.processor
+        overlay.old.done.done ≡ [] }
+    requires output { executor_output executor.old
+        ≡ printed_by Arrive
+        (tree_of overlay.old.program.now) overlay.old.plan.now overlay.old.processor
+        overlay.old.done.done }
+    requires room { length (executor_output executor.old) + visit_room (executor_tree executor.old)
+        (visit_at (executor_tree executor.old) (styled_rounds turns.now.turns) stop)
+        ≤ executor_room executor.old }
     ensures can { CanExecute executor.new }
     ensures program { executor_tree executor.new ≡ executor_tree executor.old }
-    ensures left { (b : Begins (executor_tree executor.old) (styled_rounds turns.now.turns) stop.entry (map (phase_deed (tree_of overlay.old.program.now) overlay.old.plan.now (styled_place turns.now.turns) overlay.old.processor) (drop overlay.old.done.done (all_deeds (tree_of overlay.old.program.now) overlay.old.plan.now overlay.old.processor))))
-        → map (phase_deed (tree_of overlay.new.program.now) overlay.new.plan.now (styled_place turns.now.turns) overlay.new.processor) (drop overlay.new.done.done (all_deeds (tree_of overlay.new.program.now) overlay.new.plan.now overlay.new.processor)) ≡ b.rest }
-    ensures idle { registers_by Arrive (tree_of overlay.new.program.now) overlay.new.plan.now overlay.new.processor overlay.new.done.done ≡ [] }
-    ensures output { executor_output executor.new ≡ printed_by Arrive (tree_of overlay.new.program.now) overlay.new.plan.now overlay.new.processor overlay.new.done.done }
+    ensures left { (b : Begins (executor_tree executor.old)
+        (styled_rounds turns.now.turns) stop.entry
+        (map (phase_deed (tree_of overlay.old.program.now) overlay.old.plan.now
+        (styled_place turns.now.turns) overlay.old.processor)
+        (drop overlay.old.done.done
+        (all_deeds (tree_of overlay.old.program.now) overlay.old.plan.now overlay.old.processor))))
+        → map (phase_deed (tree_of overlay.new.program.now) overlay.new.plan.now
+        (styled_place turns.now.turns) overlay.new.processor)
+        (drop overlay.new.done.done
+        (all_deeds (tree_of overlay.new.program.now) overlay.new.plan.now overlay.new.processor))
+        ≡ b.rest }
+    ensures idle { registers_by Arrive
+        (tree_of overlay.new.program.now) overlay.new.plan.now overlay.new.processor
+        overlay.new.done.done ≡ [] }
+    ensures output { executor_output executor.new
+        ≡ printed_by Arrive
+        (tree_of overlay.new.program.now) overlay.new.plan.now overlay.new.processor
+        overlay.new.done.done }
     ensures room { executor_room executor.old ≤ executor_room executor.new }
-    ensures grown { length (executor_output executor.new) ≤ length (executor_output executor.old) + visit_room (executor_tree executor.old) (visit_at (executor_tree executor.old) (styled_rounds turns.now.turns) stop.entry) }
-    ensures kept { IsOverlay (tree_of overlay.old.program.now) overlay.old.plan.now overlay.old.behind overlay.old.processor overlay.old.memory.now overlay.new }
+    ensures grown { length (executor_output executor.new) ≤ length (executor_output executor.old)
+        + visit_room (executor_tree executor.old) (visit_at (executor_tree executor.old)
+        (styled_rounds turns.now.turns) stop.entry) }
+    ensures kept { IsOverlay
+        (tree_of overlay.old.program.now) overlay.old.plan.now overlay.old.behind
+        overlay.old.processor overlay.old.memory.now overlay.new }
 {
     let mut own = OwnOverlay { overlay, turns };
     executor.execute(stop, turns.path(), &mut own);

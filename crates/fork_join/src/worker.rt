@@ -70,7 +70,8 @@ impl<'a> Worker<'a> {
         requires params { lent.params.now ≡ param_values (tree_of lent.program.now) }
         requires below { processor < lent.plan.now.workers }
         requires room { processor ≡ 0 → longest_output (tree_of lent.program.now) ≤ room }
-        ensures { IfOk result (λ w. IsAt (tree_of lent.entry.program.now) lent.entry.plan.now 0 processor w) }
+        ensures { IfOk result
+            (λ w. IsAt (tree_of lent.entry.program.now) lent.entry.plan.now 0 processor w) }
     {
         let Lent {
             program,
@@ -96,10 +97,15 @@ impl<'a> Worker<'a> {
     pub fn phase<G: Gate>(&mut self, behind: u64, memory: &[i64], gate: &G)
         requires safe { IsSafe (tree_of self.old.program.now) self.old.plan.now }
         requires below { self.old.processor < self.old.plan.now.workers }
-        requires some { behind < length (phases (tree_of self.old.program.now) self.old.plan.now.cut.marks) }
-        requires at { IsAt (tree_of self.old.program.now) self.old.plan.now behind self.old.processor self.old }
-        requires lawful { ∥ (protocol (tree_of self.old.program.now) self.old.plan.now).lawful memory.now (begun (tree_of self.old.program.now) self.old.plan.now behind) ∥₁ }
-        ensures { HasWorked (tree_of self.old.program.now) self.old.plan.now behind self.old.processor self.new }
+        requires some { behind < length
+            (phases (tree_of self.old.program.now) self.old.plan.now.cut.marks) }
+        requires at { IsAt
+            (tree_of self.old.program.now) self.old.plan.now behind self.old.processor self.old }
+        requires lawful { ∥
+            (protocol (tree_of self.old.program.now) self.old.plan.now).lawful memory.now
+            (begun (tree_of self.old.program.now) self.old.plan.now behind) ∥₁ }
+        ensures { HasWorked
+            (tree_of self.old.program.now) self.old.plan.now behind self.old.processor self.new }
     {
         let phase = self.begin(behind);
         gate.pass(self.processor, phase);
@@ -109,10 +115,13 @@ impl<'a> Worker<'a> {
     // Past the boundary, and into the phase, whose number it is.
     fn begin(&mut self, behind: u64) -> u64
         requires safe { IsSafe (tree_of self.old.program.now) self.old.plan.now }
-        requires some { behind < length (phases (tree_of self.old.program.now) self.old.plan.now.cut.marks) }
+        requires some { behind < length
+            (phases (tree_of self.old.program.now) self.old.plan.now.cut.marks) }
         requires below { self.old.processor < self.old.plan.now.workers }
-        requires at { IsAt (tree_of self.old.program.now) self.old.plan.now behind self.old.processor self.old }
-        ensures begun { HasBegun (tree_of self.old.program.now) self.old.plan.now behind self.old.processor self.new }
+        requires at { IsAt
+            (tree_of self.old.program.now) self.old.plan.now behind self.old.processor self.old }
+        ensures begun { HasBegun
+            (tree_of self.old.program.now) self.old.plan.now behind self.old.processor self.new }
         ensures number { result ≡ suc behind }
     {
         loop {
@@ -130,9 +139,11 @@ impl<'a> Worker<'a> {
     fn pass_wait(&mut self, behind: u64, next: StyledNext<'a>)
         requires safe { IsSafe (tree_of self.old.program.now) self.old.plan.now }
         requires below { self.old.processor < self.old.plan.now.workers }
-        requires at { IsBeginning (tree_of self.old.program.now) self.old.plan.now behind self.old.processor self.old }
+        requires at { IsBeginning
+            (tree_of self.old.program.now) self.old.plan.now behind self.old.processor self.old }
         requires next { ComesNext self.old.turns (NextOrPhase.Turn next) }
-        ensures at { IsBeginning (tree_of self.old.program.now) self.old.plan.now behind self.old.processor self.new }
+        ensures at { IsBeginning
+            (tree_of self.old.program.now) self.old.plan.now behind self.old.processor self.new }
         ensures nearer { length (cursor_left self.new.turns) < length (cursor_left self.old.turns) }
     {
         match next {
@@ -147,10 +158,15 @@ impl<'a> Worker<'a> {
     fn work(&mut self, behind: u64, memory: &[i64])
         requires safe { IsSafe (tree_of self.old.program.now) self.old.plan.now }
         requires below { self.old.processor < self.old.plan.now.workers }
-        requires begun { HasBegun (tree_of self.old.program.now) self.old.plan.now behind self.old.processor self.old }
-        requires some { behind < length (phases (tree_of self.old.program.now) self.old.plan.now.cut.marks) }
-        requires lawful { ∥ (protocol (tree_of self.old.program.now) self.old.plan.now).lawful memory.now (begun (tree_of self.old.program.now) self.old.plan.now behind) ∥₁ }
-        ensures { HasWorked (tree_of self.old.program.now) self.old.plan.now behind self.old.processor self.new }
+        requires begun { HasBegun
+            (tree_of self.old.program.now) self.old.plan.now behind self.old.processor self.old }
+        requires some { behind < length
+            (phases (tree_of self.old.program.now) self.old.plan.now.cut.marks) }
+        requires lawful { ∥
+            (protocol (tree_of self.old.program.now) self.old.plan.now).lawful memory.now
+            (begun (tree_of self.old.program.now) self.old.plan.now behind) ∥₁ }
+        ensures { HasWorked
+            (tree_of self.old.program.now) self.old.plan.now behind self.old.processor self.new }
     {
         let mut overlay = Overlay {
             program: self.program,
@@ -179,10 +195,17 @@ impl<'a> Worker<'a> {
     pub fn lay_in(&mut self, behind: u64, memory: &mut [i64])
         requires safe { IsSafe (tree_of self.old.program.now) self.old.plan.now }
         requires below { self.old.processor < self.old.plan.now.workers }
-        requires worked { HasWorked (tree_of self.old.program.now) self.old.plan.now behind self.old.processor self.old }
-        requires lawful { ∥ (protocol (tree_of self.old.program.now) self.old.plan.now).lawful memory.old (joined (tree_of self.old.program.now) self.old.plan.now behind self.old.processor) ∥₁ }
-        ensures at { IsAt (tree_of self.old.program.now) self.old.plan.now (suc behind) self.old.processor self.new }
-        ensures lawful { ∥ (protocol (tree_of self.old.program.now) self.old.plan.now).lawful memory.new (joined (tree_of self.old.program.now) self.old.plan.now behind (suc self.old.processor)) ∥₁ }
+        requires worked { HasWorked
+            (tree_of self.old.program.now) self.old.plan.now behind self.old.processor self.old }
+        requires lawful { ∥
+            (protocol (tree_of self.old.program.now) self.old.plan.now).lawful memory.old
+            (joined (tree_of self.old.program.now) self.old.plan.now behind self.old.processor) ∥₁ }
+        ensures at { IsAt (tree_of self.old.program.now) self.old.plan.now
+            (suc behind) self.old.processor self.new }
+        ensures lawful { ∥
+            (protocol (tree_of self.old.program.now) self.old.plan.now).lawful memory.new
+            (joined (tree_of self.old.program.now) self.old.plan.now behind
+            (suc self.old.processor)) ∥₁ }
     {
         self.stores.lay_in(memory);
         while self.close_next(behind, memory) {}
@@ -192,9 +215,14 @@ impl<'a> Worker<'a> {
     fn close_next(&mut self, behind: u64, memory: &mut [i64]) -> bool
         requires safe { IsSafe (tree_of self.old.program.now) self.old.plan.now }
         requires below { self.old.processor < self.old.plan.now.workers }
-        requires closing { IsClosing (tree_of self.old.program.now) self.old.plan.now behind self.old.processor memory.old self.old }
-        ensures closing { IsClosing (tree_of self.old.program.now) self.old.plan.now behind self.old.processor memory.new self.new }
-        ensures nearer { result ≡ true → length (cursor_turns self.new.turns) < length (cursor_turns self.old.turns) }
+        requires closing { IsClosing
+            (tree_of self.old.program.now) self.old.plan.now behind self.old.processor memory.old
+            self.old }
+        ensures closing { IsClosing
+            (tree_of self.old.program.now) self.old.plan.now behind self.old.processor memory.new
+            self.new }
+        ensures nearer { result ≡ true
+            → length (cursor_turns self.new.turns) < length (cursor_turns self.old.turns) }
         ensures ended { result ≡ false → IsShut self.new.turns }
     {
         let NextOrPhase::Turn(next) = self.turns.peek() else {
@@ -211,10 +239,15 @@ impl<'a> Worker<'a> {
     fn close(&mut self, behind: u64, place: usize, memory: &mut [i64])
         requires safe { IsSafe (tree_of self.old.program.now) self.old.plan.now }
         requires below { self.old.processor < self.old.plan.now.workers }
-        requires closing { IsClosing (tree_of self.old.program.now) self.old.plan.now behind self.old.processor memory.old self.old }
+        requires closing { IsClosing
+            (tree_of self.old.program.now) self.old.plan.now behind self.old.processor memory.old
+            self.old }
         requires next { ComesNext self.old.turns (NextOrPhase.Turn (StyledNext.Close place)) }
-        ensures closing { IsClosing (tree_of self.old.program.now) self.old.plan.now behind self.old.processor memory.new self.new }
-        ensures nearer { length (cursor_turns self.new.turns) < length (cursor_turns self.old.turns) }
+        ensures closing { IsClosing
+            (tree_of self.old.program.now) self.old.plan.now behind self.old.processor memory.new
+            self.new }
+        ensures nearer { length (cursor_turns self.new.turns) < length
+            (cursor_turns self.old.turns) }
     {
         if is_sum_place(place) {
             self.add_total(behind, place, memory);
@@ -227,11 +260,16 @@ impl<'a> Worker<'a> {
     fn keep_value(&mut self, behind: u64, place: usize, memory: &mut [i64])
         requires safe { IsSafe (tree_of self.old.program.now) self.old.plan.now }
         requires below { self.old.processor < self.old.plan.now.workers }
-        requires closing { IsClosing (tree_of self.old.program.now) self.old.plan.now behind self.old.processor memory.old self.old }
+        requires closing { IsClosing
+            (tree_of self.old.program.now) self.old.plan.now behind self.old.processor memory.old
+            self.old }
         requires next { ComesNext self.old.turns (NextOrPhase.Turn (StyledNext.Close place)) }
         requires private { nat_le 16 place ≡ false }
-        ensures closing { IsClosing (tree_of self.old.program.now) self.old.plan.now behind self.old.processor memory.new self.new }
-        ensures nearer { length (cursor_turns self.new.turns) < length (cursor_turns self.old.turns) }
+        ensures closing { IsClosing
+            (tree_of self.old.program.now) self.old.plan.now behind self.old.processor memory.new
+            self.new }
+        ensures nearer { length (cursor_turns self.new.turns) < length
+            (cursor_turns self.old.turns) }
     {
         let cell = self.turns.own_cells().cell(place) as usize;
         memory[cell] = self.own[place];
@@ -243,11 +281,16 @@ impl<'a> Worker<'a> {
     fn add_total(&mut self, behind: u64, place: usize, memory: &mut [i64])
         requires safe { IsSafe (tree_of self.old.program.now) self.old.plan.now }
         requires below { self.old.processor < self.old.plan.now.workers }
-        requires closing { IsClosing (tree_of self.old.program.now) self.old.plan.now behind self.old.processor memory.old self.old }
+        requires closing { IsClosing
+            (tree_of self.old.program.now) self.old.plan.now behind self.old.processor memory.old
+            self.old }
         requires next { ComesNext self.old.turns (NextOrPhase.Turn (StyledNext.Close place)) }
         requires sum { nat_le 16 place ≡ true }
-        ensures closing { IsClosing (tree_of self.old.program.now) self.old.plan.now behind self.old.processor memory.new self.new }
-        ensures nearer { length (cursor_turns self.new.turns) < length (cursor_turns self.old.turns) }
+        ensures closing { IsClosing
+            (tree_of self.old.program.now) self.old.plan.now behind self.old.processor memory.new
+            self.new }
+        ensures nearer { length (cursor_turns self.new.turns) < length
+            (cursor_turns self.old.turns) }
     {
         let cell = self.turns.own_cells().cell(place) as usize;
         memory[cell] = memory[cell].wrapping_add(self.own[place]);

@@ -11,15 +11,15 @@ use Rattle.sync_plan.specs.Ordered.{IsOrdered, owner_under}
 use Rattle.sync_plan.specs.declared.plan.Kind.{Kind}
 use Rattle.sync_plan.specs.declared.plan.Kind.TheVariants.{Join}
 use Rattle.spmd_model.specs.Timelines.{counter, post, await}
-use Rattle.spmd_laws.specs.Protocols.{Protocol, act_at}
-use Rattle.spmd_laws.specs.Styled.{acts_by, protocol_by}
+use Rattle.spmd_model.specs.Protocols.{Protocol, act_at}
+use Rattle.spmd_model.specs.PlanProtocols.{acts_by, protocol_by}
 use Rattle.spmd_model.specs.declared.style.Style.TheVariants.{Arrive}
 use Rattle.nest_tree.specs.View.{tree_of}
 use Rattle.nest_tree.specs.declared.tree.Program.{Program}
 use Rattle.sync_plan.specs.declared.plan.Plan.{Plan}
-use Rattle.styled_table.specs.Calls.{ArrivesNext, GathersNext, first_seat}
-use Rattle.styled_table.specs.Homes.{Home, gone, protocol_at, protocol_given}
-use Rattle.cell_table.specs.Places.{behind, settled_at}
+use Rattle.shared_words.specs.Calls.{ArrivesNext, GathersNext, first_seat}
+use Rattle.shared_words.specs.Homes.{Home, gone, protocol_at, protocol_given}
+use Rattle.shared_words.specs.Places.{behind, settled_at}
 use Rattle.house_tests.specs.StraightLine.{barriers, line, plan_with}
 
 abbrev pub joins : List Kind

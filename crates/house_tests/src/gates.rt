@@ -12,7 +12,7 @@ use std::hint;
 use std::sync::atomic::{AtomicU64, Ordering};
 use std::test::Fail;
 use std::thread::Threads;
-use styled_run::run_spmd_with;
+use spmd_workers::run_spmd_with;
 
 // So often a gate looks for a worker that is to come, which on a busy machine may take seconds, and
 // for one that isn't to, before it lets a worker pass.

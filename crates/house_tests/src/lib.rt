@@ -7,7 +7,7 @@
 //! - `plans`: which obligations a plan has.
 //! - `runs`: accepted plans run on threads of the caller's, and where each leg of a worker ends.
 //! - `gates`: workers run beside one another, by fork and join and over shared words.
-//! - `shared_words`: two processors of a straight line, step by step on the words that they share.
+//! - `word_steps`: two processors of a straight line, step by step on the words that they share.
 //! - `examples`: those on the pages of the crates that serve alone.
 #![tactic(auto)]
 
@@ -22,7 +22,7 @@ mod plans;
 #[cfg(test)]
 mod runs;
 #[cfg(test)]
-mod shared_words;
+mod word_steps;
 #[cfg(test)]
 mod straight_line;
 #[cfg(test)]

@@ -8,8 +8,8 @@ ghost use Rattle.nest_tree.specs.WellFormed.{IsWellFormed};
 ghost use Rattle.sync_plan.specs.Fit.{IsFit};
 ghost use Rattle.sync_plan.specs.Ordered.{IsOrdered};
 ghost use Rattle.crossbeam_utils.specs.Padded.{padded_value};
-ghost use Rattle.styled_table.specs.Calls.{AreAllEnded};
-ghost use Rattle.styled_run.specs.Teams.{AreWorkersOf};
+ghost use Rattle.shared_words.specs.Calls.{AreAllEnded};
+ghost use Rattle.spmd_workers.specs.Teams.{AreWorkersOf};
 
 use crate::plans::{MIRROR, ROUNDING};
 use bstr::ByteSlice;
@@ -25,9 +25,9 @@ use spmd_ports::NoGate;
 use std::alloc::Global;
 use std::test::Fail;
 use std::thread::{self, Threads};
-use styled_run::run::{gathered, have_ended, workers_of};
-use styled_run::{Leg, Tables, Worker};
-use styled_table::{Cells, CloseRefused, Closed, MainSeat};
+use spmd_workers::run::{gathered, have_ended, workers_of};
+use spmd_workers::{Leg, Tables, Worker};
+use shared_words::{Cells, CloseRefused, Closed, MainSeat};
 use sync_plan::Plan;
 
 // So many legs a worker has.

@@ -32,7 +32,8 @@ pub fn anchors_of(
     requires formed { IsWellFormed (tree_of program.now) }
     requires limits { IsWithinLimits (tree_of program.now) }
     requires some { 1 ≤ workers }
-    ensures { IfOk result (λ anchors. anchors.items ≡ maker_anchors (tree_of program.now) cut.now.marks workers) }
+    ensures { IfOk result (λ anchors. anchors.items
+        ≡ maker_anchors (tree_of program.now) cut.now.marks workers) }
 {
     let mut anchors = Vec::new(alloc);
     for place in 0..StaticPhase::count(program, cut) {
@@ -57,8 +58,11 @@ fn phase_anchor(
     requires formed { IsWellFormed (tree_of program.now) }
     requires limits { IsWithinLimits (tree_of program.now) }
     requires some { 1 ≤ workers }
-    requires phase { slice_get (placed (tree_of program.now) (enters_outer cut.now.marks)) (number - 1) ≡ Some (record { what = statement_of phase.now.item.now; around = loops_round phase.now }) }
-    ensures { IfOk result (λ a. a ≡ phase_anchor (tree_of program.now) cut.now.marks workers number (record { what = statement_of phase.now.item.now; around = loops_round phase.now })) }
+    requires phase { slice_get (placed (tree_of program.now) (enters_outer cut.now.marks))
+        (number - 1)
+        ≡ Some (record { what = statement_of phase.now.item.now; around = loops_round phase.now }) }
+    ensures { IfOk result (λ a. a ≡ phase_anchor (tree_of program.now) cut.now.marks workers number
+        (record { what = statement_of phase.now.item.now; around = loops_round phase.now })) }
 {
     if phase.item.has_print() {
         return Ok(first_processor(alloc));
@@ -89,8 +93,12 @@ pub fn element_owner(
     requires formed { IsWellFormed (tree_of program.now) }
     requires limits { IsWithinLimits (tree_of program.now) }
     requires some { 1 ≤ plan.now.workers }
-    requires phase { slice_get (placed (tree_of program.now) (enters_outer plan.now.cut.marks)) (number - 1) ≡ Some (record { what = statement_of phase.now.item.now; around = loops_round phase.now }) }
-    ensures { IfOk result (λ o. o ≡ element_owner (tree_of program.now) plan.now.cut.marks plan.now.workers number (loops_round phase.now) access.now) }
+    requires phase { slice_get (placed (tree_of program.now) (enters_outer plan.now.cut.marks))
+        (number - 1)
+        ≡ Some (record { what = statement_of phase.now.item.now; around = loops_round phase.now }) }
+    ensures { IfOk result (λ o. o
+        ≡ element_owner (tree_of program.now) plan.now.cut.marks plan.now.workers number
+        (loops_round phase.now) access.now) }
 {
     let scope = Scope {
         program,
@@ -118,8 +126,10 @@ fn found_anchor(
     requires formed { IsWellFormed (tree_of scope.program.now) }
     requires limits { IsWithinLimits (tree_of scope.program.now) }
     requires some { 1 ≤ scope.workers }
-    requires own { IfSome scope.own (λ n. (1 ≤ n) × (n ≤ loops_of (tree_of scope.program.now).items)) }
-    ensures { IfOk result (λ o. o ≡ found_anchor scope.entry cut.now.marks number (statement_of scope.entry.phase.now.item.now)) }
+    requires own { IfSome scope.own (λ n. (1 ≤ n)
+        × (n ≤ loops_of (tree_of scope.program.now).items)) }
+    ensures { IfOk result (λ o. o ≡ found_anchor scope.entry cut.now.marks number
+        (statement_of scope.entry.phase.now.item.now)) }
 {
     if let Some(anchor) = first_found(alloc, scope, Sought::Stored, scope.phase.item)? {
         return Ok(Some(anchor));
@@ -134,8 +144,10 @@ fn found_anchor(
 fn placed(program: &Program, cut: &Cut, workers: u32, number: u32, anchor: Anchor) -> Anchor
     requires formed { IsWellFormed (tree_of program.now) }
     requires limits { IsWithinLimits (tree_of program.now) }
-    requires given { IsTrue (is_given anchor.form (loops_of (tree_of program.now).items) (length (tree_of program.now).params)) }
-    ensures { result ≡ placed_anchor (tree_of program.now) cut.now.marks workers number (Some anchor) }
+    requires given { IsTrue (is_given anchor.form (loops_of (tree_of program.now).items)
+        (length (tree_of program.now).params)) }
+    ensures { result ≡ placed_anchor (tree_of program.now) cut.now.marks workers number
+        (Some anchor) }
 {
     match check_anchor(program, cut, number, &anchor, workers) {
         Ok(()) => anchor,
@@ -149,7 +161,8 @@ fn placed(program: &Program, cut: &Cut, workers: u32, number: u32, anchor: Ancho
 // The first good anchor of what a Sum phase loads that names its loop.
 fn sum_anchor(alloc: Global, scope: Scope, cut: &Cut) -> Result<Option<Anchor>, AllocError>
     requires { 1 ≤ scope.workers }
-    ensures { IfOk result (λ o. o ≡ sum_anchor scope.entry cut.now.marks (statement_of scope.entry.phase.now.item.now) scope.entry.own) }
+    ensures { IfOk result (λ o. o ≡ sum_anchor scope.entry cut.now.marks
+        (statement_of scope.entry.phase.now.item.now) scope.entry.own) }
 {
     match scope.own {
         Some(own) if cut.mark(own).is_sum() => {
@@ -168,7 +181,8 @@ fn first_among(
     items: &[Item],
 ) -> Result<Option<Anchor>, AllocError>
     requires { 1 ≤ scope.workers }
-    ensures { IfOk result (λ o. o ≡ first_among (sought_in scope.entry sought) (statements_from items.now)) }
+    ensures { IfOk result (λ o. o ≡ first_among (sought_in scope.entry sought)
+        (statements_from items.now)) }
 {
     for item in items {
         if let Some(anchor) = first_found(alloc, scope, sought, item)? {
@@ -186,7 +200,8 @@ fn first_found(
     item: &Item,
 ) -> Result<Option<Anchor>, AllocError>
     requires { 1 ≤ scope.workers }
-    ensures { IfOk result (λ o. o ≡ first_found (sought_in scope.entry sought) (statement_of item.now)) }
+    ensures { IfOk result (λ o. o ≡ first_found (sought_in scope.entry sought)
+        (statement_of item.now)) }
 {
     match item {
         Item::Loop(nest) => first_among(alloc, scope, sought, &nest.items),
@@ -208,7 +223,8 @@ fn first_loaded(
     value: &Expr,
 ) -> Result<Option<Anchor>, AllocError>
     requires { 1 ≤ scope.workers }
-    ensures { IfOk result (λ o. o ≡ first_of (good_load_anchor scope.entry own) (loads_in (expression_of value.now))) }
+    ensures { IfOk result (λ o. o ≡ first_of (good_load_anchor scope.entry own)
+        (loads_in (expression_of value.now))) }
 {
     match value {
         Expr::Number(_) | Expr::LoopValue(_) | Expr::Param(_) => Ok(None),
@@ -234,7 +250,8 @@ fn first_loaded_among(
     arguments: &[Expr],
 ) -> Result<Option<Anchor>, AllocError>
     requires { 1 ≤ scope.workers }
-    ensures { IfOk result (λ o. o ≡ first_of (good_load_anchor scope.entry own) (loads_among (expressions_from arguments.now))) }
+    ensures { IfOk result (λ o. o ≡ first_of (good_load_anchor scope.entry own)
+        (loads_among (expressions_from arguments.now))) }
 {
     for argument in arguments {
         if let Some(anchor) = first_loaded(alloc, scope, own, argument)? {
@@ -291,7 +308,8 @@ fn variable_anchor(
     subscripts: &[Affine],
 ) -> Result<Option<Anchor>, AllocError>
     requires { 1 ≤ scope.workers }
-    ensures { IfOk result (λ o. o ≡ if_one_good (constants_at scope.entry) (loops_at scope.entry) (along_axis scope.entry.workers subscripts.now (Some (declaration_of variable.now)))) }
+    ensures { IfOk result (λ o. o ≡ if_one_good (constants_at scope.entry) (loops_at scope.entry)
+        (along_axis scope.entry.workers subscripts.now (Some (declaration_of variable.now)))) }
 {
     let axis = (variable.axis as usize).saturating_sub(1);
     let Some(subscript) = item_at(subscripts, axis) else {
@@ -312,7 +330,8 @@ fn along_anchor(
     bounds: (i64, i64),
 ) -> Result<Option<Anchor>, AllocError>
     requires { 1 ≤ scope.workers }
-    ensures { IfOk result (λ o. o ≡ if_one_good (constants_at scope.entry) (loops_at scope.entry) (along scope.entry.workers spread (Some subscript.now) (Some bounds))) }
+    ensures { IfOk result (λ o. o ≡ if_one_good (constants_at scope.entry) (loops_at scope.entry)
+        (along scope.entry.workers spread (Some subscript.now) (Some bounds))) }
 {
     let places = extent_between(bounds.0, bounds.1);
     let dist = dealt_as(spread, scope.workers, places);
@@ -327,7 +346,8 @@ fn good_anchor(
     low: i128,
     dist: Dist,
 ) -> Result<Option<Anchor>, AllocError>
-    ensures { IfOk result (λ o. o ≡ if_good (constants_at scope.entry) (loops_at scope.entry) (record { form = less form.now low; dist = dist })) }
+    ensures { IfOk result (λ o. o ≡ if_good (constants_at scope.entry) (loops_at scope.entry)
+        (record { form = less form.now low; dist = dist })) }
 {
     let Some(form) = less(alloc, form, low)? else {
         return Ok(None);
@@ -350,7 +370,8 @@ fn own_anchor(
     requires formed { IsWellFormed (tree_of scope.program.now) }
     requires limits { IsWithinLimits (tree_of scope.program.now) }
     requires some { 1 ≤ scope.workers }
-    requires own { IfSome scope.own (λ n. (1 ≤ n) × (n ≤ loops_of (tree_of scope.program.now).items)) }
+    requires own { IfSome scope.own (λ n. (1 ≤ n)
+        × (n ≤ loops_of (tree_of scope.program.now).items)) }
     ensures { IfOk result (λ o. o ≡ good_own_anchor scope.entry cut.now.marks number) }
 {
     let Some(own) = scope.own else {
@@ -384,7 +405,8 @@ fn span_of(
     requires limits { IsWithinLimits (tree_of program.now) }
     requires one { 1 ≤ number }
     requires there { number ≤ loops_of (tree_of program.now).items }
-    ensures { IfOk result (λ span. span ≡ span_of number (phase_ends (tree_of program.now) cut.now.marks (phase - 1))) }
+    ensures { IfOk result (λ span. span
+        ≡ span_of number (phase_ends (tree_of program.now) cut.now.marks (phase - 1))) }
 {
     let anchor = Anchor {
         form: loop_value(alloc, number)?,

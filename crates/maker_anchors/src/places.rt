@@ -36,7 +36,8 @@ fn small_difference(a: i64, b: i128) -> Option<i64>
 
 /// The form less a number; None where its constant passes plus or minus 2147483647 then.
 pub(crate) fn less(alloc: Global, form: &Affine, low: i128) -> Result<Option<Affine>, AllocError>
-    ensures { IfOk result (λ o. o ≡ (if is_form (less form.now low) then Some (less form.now low) else None)) }
+    ensures { IfOk result (λ o. o ≡ (if is_form (less form.now low) then Some (less form.now low)
+        else None)) }
 {
     let Some(constant) = small_difference(form.constant(), low) else {
         return Ok(None);
@@ -67,7 +68,8 @@ fn count_of(number: i128) -> u128
 /// How many places there are from one to another; None where that passes 2 ^ 127.
 pub(crate) fn extent(low: i128, high: i128) -> Option<u128>
     ensures places { IfSome result (λ places. places ≡ extent (low, high)) }
-    ensures near { IsTrue (is_value low) → IsTrue (is_value high) → result ≡ Some (extent (low, high)) }
+    ensures near { IsTrue (is_value low) → IsTrue (is_value high)
+        → result ≡ Some (extent (low, high)) }
 {
     let difference = high.checked_sub(low)?;
     let places = difference.checked_add(1)?;

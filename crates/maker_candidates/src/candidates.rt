@@ -31,7 +31,11 @@ fn push_producers(kinds: &mut Vec<Kind>, anchors: Vec<Anchor>) -> Result<(), All
 // The candidates in front of a phase, from the weakest on.
 fn candidates_at(alloc: Global, site: Site, phases: &[Phase]) -> Result<Vec<Kind>, AllocError>
     requires { IsNumbered site }
-    ensures { IfOk result (λ kinds. kinds.items ≡ candidates_at (tree_of site.entry.program.now) site.entry.plan.now.cut.marks site.entry.plan.now.workers site.entry.plan.now.anchors (map phase_seen phases.now) site.entry.number (phase_seen site.entry.phase.now)) }
+    ensures { IfOk result (λ kinds. kinds.items
+        ≡ candidates_at
+        (tree_of site.entry.program.now) site.entry.plan.now.cut.marks site.entry.plan.now.workers
+        site.entry.plan.now.anchors (map phase_seen phases.now) site.entry.number
+        (phase_seen site.entry.phase.now)) }
 {
     let producers = producers_at(alloc, site, phases)?;
     let mut kinds = Vec::new(alloc);
@@ -55,7 +59,8 @@ pub fn all_candidates(
     requires formed { IsWellFormed (tree_of program.now) }
     requires limits { IsWithinLimits (tree_of program.now) }
     requires some { 1 ≤ plan.now.workers }
-    requires phases { map phase_seen phases.now ≡ phases_of (tree_of program.now) plan.now.cut.marks }
+    requires phases { map phase_seen phases.now
+        ≡ phases_of (tree_of program.now) plan.now.cut.marks }
     requires few { length phases.now < 2 ^ 20 }
     ensures { IfOk result (λ all. all.items ≡ candidates_in (tree_of program.now) plan.now) }
 {

@@ -24,7 +24,10 @@ use std::alloc::{AllocError, Global};
 
 // Whether one of these names the same processor as an anchor.
 fn is_among(site: Site, anchor: &Anchor, anchors: &[Anchor]) -> bool
-    ensures { result ≡ list_any (says_same (param_values (tree_of site.entry.program.now)) site.entry.plan.now.workers anchor.now) anchors.now }
+    ensures { result
+        ≡ list_any
+        (says_same (param_values (tree_of site.entry.program.now)) site.entry.plan.now.workers
+        anchor.now) anchors.now }
 {
     for one in anchors {
         if says_same(site.program, site.plan.workers, anchor, one) {
@@ -36,7 +39,9 @@ fn is_among(site: Site, anchor: &Anchor, anchors: &[Anchor]) -> bool
 
 // An anchor behind the others, where none of them names the same processor.
 fn push_once(site: Site, found: &mut Vec<Anchor>, anchor: Anchor) -> Result<(), AllocError>
-    ensures { OnOk result (found.new.items ≡ once_more (param_values (tree_of site.entry.program.now)) site.entry.plan.now.workers found.old.items anchor) }
+    ensures { OnOk result (found.new.items
+        ≡ once_more (param_values (tree_of site.entry.program.now)) site.entry.plan.now.workers
+        found.old.items anchor) }
 {
     if !is_among(site, &anchor, found.as_slice()) {
         found.push(anchor)?;
@@ -68,7 +73,10 @@ fn push_owners(
     phases: &[Phase],
     found: &mut Vec<Anchor>,
 ) -> Result<(), AllocError>
-    ensures { OnOk result (found.new.items ≡ each_once (param_values (tree_of site.entry.program.now)) site.entry.plan.now.workers found.old.items (phase_owners (phase_seen site.entry.phase.now) (map phase_seen phases.now) site.entry.plan.now.anchors)) }
+    ensures { OnOk result (found.new.items
+        ≡ each_once (param_values (tree_of site.entry.program.now)) site.entry.plan.now.workers
+        found.old.items (phase_owners (phase_seen site.entry.phase.now)
+        (map phase_seen phases.now) site.entry.plan.now.anchors)) }
 {
     for (place, one) in phases.iter().enumerate() {
         let Some(anchor) = item_at(site.plan.anchors.as_slice(), place) else {
@@ -84,7 +92,10 @@ fn push_owners(
 // The owner of what an access touches, where no loop inside the phase says which.
 fn accessed_owner(alloc: Global, site: Site, target: Target) -> Result<Option<Anchor>, AllocError>
     requires { IsNumbered site }
-    ensures { IfOk result (λ o. o ≡ accessed_owner (tree_of site.entry.program.now) site.entry.plan.now.cut.marks site.entry.plan.now.workers site.entry.number (phase_seen site.entry.phase.now) (target_seen target.entry)) }
+    ensures { IfOk result (λ o. o
+        ≡ accessed_owner
+        (tree_of site.entry.program.now) site.entry.plan.now.cut.marks site.entry.plan.now.workers
+        site.entry.number (phase_seen site.entry.phase.now) (target_seen target.entry)) }
 {
     match target {
         Target::Element(access) => {
@@ -98,7 +109,13 @@ fn accessed_owner(alloc: Global, site: Site, target: Target) -> Result<Option<An
 // Those of what a phase accesses behind the others.
 fn push_accessed(alloc: Global, site: Site, found: &mut Vec<Anchor>) -> Result<(), AllocError>
     requires { IsNumbered site }
-    ensures { OnOk result (found.new.items ≡ each_once (param_values (tree_of site.entry.program.now)) site.entry.plan.now.workers found.old.items (accessed_owners (tree_of site.entry.program.now) site.entry.plan.now.cut.marks site.entry.plan.now.workers site.entry.number (phase_seen site.entry.phase.now) (references_of (phase_seen site.entry.phase.now)))) }
+    ensures { OnOk result (found.new.items
+        ≡ each_once (param_values (tree_of site.entry.program.now)) site.entry.plan.now.workers
+        found.old.items
+        (accessed_owners
+        (tree_of site.entry.program.now) site.entry.plan.now.cut.marks site.entry.plan.now.workers
+        site.entry.number (phase_seen site.entry.phase.now)
+        (references_of (phase_seen site.entry.phase.now)))) }
 {
     for reference in site.phase.references.as_slice() {
         if let Some(anchor) = accessed_owner(alloc, site, reference.target)? {
@@ -116,7 +133,11 @@ pub(crate) fn producers_at(
     phases: &[Phase],
 ) -> Result<Vec<Anchor>, AllocError>
     requires { IsNumbered site }
-    ensures { IfOk result (λ found. found.items ≡ producers_at (tree_of site.entry.program.now) site.entry.plan.now.cut.marks site.entry.plan.now.workers site.entry.plan.now.anchors (map phase_seen phases.now) site.entry.number (phase_seen site.entry.phase.now)) }
+    ensures { IfOk result (λ found. found.items
+        ≡ producers_at
+        (tree_of site.entry.program.now) site.entry.plan.now.cut.marks site.entry.plan.now.workers
+        site.entry.plan.now.anchors (map phase_seen phases.now) site.entry.number
+        (phase_seen site.entry.phase.now)) }
 {
     let mut found = Vec::new(alloc);
     push_owners(alloc, site, phases, &mut found)?;

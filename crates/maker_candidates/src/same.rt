@@ -29,7 +29,8 @@ fn is_known(form: &Affine, constants: &[Parameter]) -> bool
 // What such a form comes to where all loops are 0.
 fn known_value(form: &Affine, constants: &[Parameter]) -> i128
     requires { IsTrue (reach_within (length constants.now) form.now.params) }
-    ensures { result ≡ form.now.constant +ℤ dot form.now.params (map (λ (p : Parameter). p.value) constants.now) }
+    ensures { result ≡ form.now.constant +ℤ dot form.now.params
+        (map (λ (p : Parameter). p.value) constants.now) }
 {
     constant_sum(i128::from(form.constant()), form.params(), constants)
 }
@@ -103,8 +104,11 @@ fn is_same_one(
 /// out the same way; or they name no loop, and one processor.
 pub fn says_same(program: &Program, workers: u32, one: &Anchor, other: &Anchor) -> bool
     requires { 1 ≤ workers }
-    ensures same { result ≡ says_same (param_values (tree_of program.now)) workers one.now other.now }
-    ensures owner { IsTrue result → (loops : List ℤ) → anchor_owner one.now workers loops (param_values (tree_of program.now)) ≡ anchor_owner other.now workers loops (param_values (tree_of program.now)) }
+    ensures same { result
+        ≡ says_same (param_values (tree_of program.now)) workers one.now other.now }
+    ensures owner { IsTrue result → (loops : List ℤ)
+        → anchor_owner one.now workers loops (param_values (tree_of program.now))
+        ≡ anchor_owner other.now workers loops (param_values (tree_of program.now)) }
 {
     let constants = program.params.as_slice();
     let value = fixed_value(&one.form, constants);

@@ -13,7 +13,8 @@ use std::alloc::AllocError;
 // Each loop in these statements is Inner.
 #[cycle(inner)]
 fn push_inner(marks: &mut Vec<Mark>, items: &[Item]) -> Result<(), AllocError>
-    ensures { OnOk result (marks.new.items ≡ marks.old.items ++ inner_of (statements_from items.now)) }
+    ensures { OnOk result (marks.new.items ≡ marks.old.items
+        ++ inner_of (statements_from items.now)) }
 {
     for item in items {
         push_inner_in(marks, item)?;
@@ -60,14 +61,16 @@ fn has_free(tries: &[Option<Tried>], item: &Item) -> bool
 // Whether the loop with this number and body may be dealt out, or one inside it.
 #[cycle(free)]
 fn is_free(tries: &[Option<Tried>], number: u32, items: &[Item]) -> bool
-    ensures { result ≡ (is_some (tried_at tries.now number) || have_free (tried_at tries.now) (statements_from items.now)) }
+    ensures { result ≡ (is_some (tried_at tries.now number)
+        || have_free (tried_at tries.now) (statements_from items.now)) }
 {
     tried_at(tries, number).is_some() || have_free(tries, items)
 }
 
 // The marks of a loop that is a phase, and of the loops in its body.
 fn push_closed(marks: &mut Vec<Mark>, mark: Mark, items: &[Item]) -> Result<(), AllocError>
-    ensures { OnOk result (marks.new.items ≡ marks.old.items ++ mark ∷ inner_of (statements_from items.now)) }
+    ensures { OnOk result (marks.new.items ≡ marks.old.items ++ mark
+        ∷ inner_of (statements_from items.now)) }
 {
     marks.push(mark)?;
     push_inner(marks, items)
@@ -81,7 +84,8 @@ pub(crate) fn push_marks(
     tries: &[Option<Tried>],
     items: &[Item],
 ) -> Result<(), AllocError>
-    ensures { OnOk result (marks.new.items ≡ marks.old.items ++ marks_of (tried_at tries.now) (statements_from items.now)) }
+    ensures { OnOk result (marks.new.items ≡ marks.old.items
+        ++ marks_of (tried_at tries.now) (statements_from items.now)) }
 {
     for item in items {
         push_mark(marks, tries, item)?;
@@ -91,7 +95,8 @@ pub(crate) fn push_marks(
 
 #[cycle(marks)]
 fn push_mark(marks: &mut Vec<Mark>, tries: &[Option<Tried>], item: &Item) -> Result<(), AllocError>
-    ensures { OnOk result (marks.new.items ≡ marks.old.items ++ marks_in (tried_at tries.now) (statement_of item.now)) }
+    ensures { OnOk result (marks.new.items ≡ marks.old.items
+        ++ marks_in (tried_at tries.now) (statement_of item.now)) }
 {
     match item {
         Item::Loop(nest) => push_loop(marks, tries, nest.number, &nest.items),
@@ -107,7 +112,8 @@ fn push_loop(
     number: u32,
     items: &[Item],
 ) -> Result<(), AllocError>
-    ensures { OnOk result (marks.new.items ≡ marks.old.items ++ loop_marks (tried_at tries.now) number (statements_from items.now)) }
+    ensures { OnOk result (marks.new.items ≡ marks.old.items
+        ++ loop_marks (tried_at tries.now) number (statements_from items.now)) }
 {
     if let Some(tried) = tried_at(tries, number) {
         push_closed(marks, tried.mark(), items)

@@ -12,7 +12,8 @@ use nest_tree::{Item, Nest, Program};
 /// The loop with this number, from 1, among these statements, if it stands there.
 #[cycle(nest)]
 pub(crate) fn nest_among(items: &[Item], number: u32) -> Option<&Nest>
-    ensures body { option_map nest_body (option_copied result) ≡ body_among number (statements_from items.now) }
+    ensures body { option_map nest_body (option_copied result)
+        ≡ body_among number (statements_from items.now) }
     ensures number { IfSome result (λ nest. nest.now.number ≡ number) }
 {
     for item in items {
@@ -26,7 +27,8 @@ pub(crate) fn nest_among(items: &[Item], number: u32) -> Option<&Nest>
 
 #[cycle(nest)]
 fn nest_in(item: &Item, number: u32) -> Option<&Nest>
-    ensures body { option_map nest_body (option_copied result) ≡ body_in number (statement_of item.now) }
+    ensures body { option_map nest_body (option_copied result)
+        ≡ body_in number (statement_of item.now) }
     ensures number { IfSome result (λ nest. nest.now.number ≡ number) }
 {
     match item {
@@ -38,7 +40,8 @@ fn nest_in(item: &Item, number: u32) -> Option<&Nest>
 // The same of a loop.
 #[cycle(nest)]
 fn nest_at(nest: &Nest, number: u32) -> Option<&Nest>
-    ensures body { option_map nest_body (option_copied result) ≡ body_at number nest.now.number (nest_body nest.now) }
+    ensures body { option_map nest_body (option_copied result)
+        ≡ body_at number nest.now.number (nest_body nest.now) }
     ensures number { IfSome result (λ nest. nest.now.number ≡ number) }
 {
     if nest.number == number {

@@ -13,7 +13,8 @@ use std::alloc::{AllocError, Global};
 // None of each loop in these statements.
 #[cycle(none)]
 fn push_none(alloc: Global, lists: &mut Vec<Privates>, items: &[Item]) -> Result<(), AllocError>
-    ensures { OnOk result (lists.new.items ≡ lists.old.items ++ none_of (statements_from items.now)) }
+    ensures { OnOk result (lists.new.items ≡ lists.old.items
+        ++ none_of (statements_from items.now)) }
 {
     for item in items {
         push_none_in(alloc, lists, item)?;
@@ -43,7 +44,8 @@ pub(crate) fn push_privates(
     tries: &[Option<Tried>],
     items: &[Item],
 ) -> Result<(), AllocError>
-    ensures { OnOk result (lists.new.items ≡ lists.old.items ++ privates_of (tried_at tries.now) (statements_from items.now)) }
+    ensures { OnOk result (lists.new.items ≡ lists.old.items ++ privates_of (tried_at tries.now)
+        (statements_from items.now)) }
 {
     for item in items {
         push_privates_in(alloc, lists, tries, item)?;
@@ -58,7 +60,8 @@ fn push_privates_in(
     tries: &[Option<Tried>],
     item: &Item,
 ) -> Result<(), AllocError>
-    ensures { OnOk result (lists.new.items ≡ lists.old.items ++ privates_in (tried_at tries.now) (statement_of item.now)) }
+    ensures { OnOk result (lists.new.items ≡ lists.old.items ++ privates_in (tried_at tries.now)
+        (statement_of item.now)) }
 {
     match item {
         Item::Loop(nest) => push_loop_privates(alloc, lists, tries, nest),
@@ -74,7 +77,8 @@ fn push_loop_privates(
     tries: &[Option<Tried>],
     nest: &Nest,
 ) -> Result<(), AllocError>
-    ensures { OnOk result (lists.new.items ≡ lists.old.items ++ loop_privates (tried_at tries.now) nest.now.number (nest_body nest.now)) }
+    ensures { OnOk result (lists.new.items ≡ lists.old.items
+        ++ loop_privates (tried_at tries.now) nest.now.number (nest_body nest.now)) }
 {
     if let Some(tried) = tried_at(tries, nest.number) {
         lists.push(tried.privates(alloc, nest)?)?;

@@ -105,7 +105,8 @@ fn all_tries(alloc: Global, nest: &Nest) -> Result<Vec<Tried>, AllocError>
 /// What is tried of the loop with this number, from 1, in order: of one with a PRINT nothing but
 /// Doall, and nothing where there is no such loop. The error is that memory ran out.
 pub fn tries_at(alloc: Global, program: &Program, number: u32) -> Result<Vec<Tried>, AllocError>
-    ensures { IfOk result (λ tries. tries.items ≡ tries_for (body_among number (tree_of program.now).items)) }
+    ensures { IfOk result (λ tries. tries.items
+        ≡ tries_for (body_among number (tree_of program.now).items)) }
 {
     match nest_among(&program.items, number) {
         Some(nest) => all_tries(alloc, nest),

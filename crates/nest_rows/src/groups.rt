@@ -94,7 +94,8 @@ fn on_trip(
     requires room { first + 2 * length around.now < 2 ^ 32 }
     requires place { place + 1 < 2 ^ 32 }
     requires step { IsTrue (is_small nest.now.step) }
-    ensures is { IfOk result (λ c. c ≡ on_trip_of sign first (heads_of around.now) place (head_of nest.now)) }
+    ensures is { IfOk result (λ c. c ≡ on_trip_of sign first (heads_of around.now) place
+        (head_of nest.now)) }
     ensures tame { IfOk result (λ c. IsTrue (is_tame c)) }
 {
     let mut terms = Pairs::new(alloc);
@@ -123,7 +124,8 @@ fn not_past(
     nest: &Nest,
 ) -> Result<Constraint, AllocError>
     requires { first + 2 * length around.now < 2 ^ 32 }
-    ensures is { IfOk result (λ c. c ≡ not_past_of first (heads_of around.now) place (head_of nest.now)) }
+    ensures is { IfOk result (λ c. c ≡ not_past_of first (heads_of around.now) place
+        (head_of nest.now)) }
     ensures tame { IfOk result (λ c. IsTrue (is_tame c)) }
 {
     let sign = sign_of(nest.step);
@@ -157,7 +159,8 @@ pub fn differ(
     most: i64,
 ) -> Result<Constraint, AllocError>
     requires { first + 2 * length around.now < 2 ^ 32 }
-    ensures is { IfOk result (λ c. c ≡ differ_of sign first (heads_of around.now) sides.entry.0.now sides.entry.1.now most) }
+    ensures is { IfOk result (λ c. c
+        ≡ differ_of sign first (heads_of around.now) sides.entry.0.now sides.entry.1.now most) }
     ensures tame { IfOk result (λ c. IsTrue (is_tame c)) }
 {
     let (left, right) = sides;
@@ -177,7 +180,8 @@ fn push_equal(
     number: u32,
     value: i64,
 ) -> Result<(), AllocError>
-    ensures { OnOk result (HasMore (equal_of Plus number value ∷ equal_of Minus number value ∷ []) system.old system.new) }
+    ensures { OnOk result (HasMore (equal_of Plus number value ∷ equal_of Minus number value
+        ∷ []) system.old system.new) }
 {
     push_row(alloc, system, &bounded(alloc, Sign::Plus, number, value)?)?;
     push_row(alloc, system, &bounded(alloc, Sign::Minus, number, value)?)
@@ -190,7 +194,9 @@ pub fn push_constants(
     params: &[Parameter],
 ) -> Result<(), AllocError>
     requires { length params.now < 2 ^ 32 - 1 }
-    ensures { OnOk result (HasMore (constants_have 1 (map (λ (p : Named). p.value) params.now)) system.old system.new) }
+    ensures { OnOk result
+        (HasMore (constants_have 1 (map (λ (p : Named). p.value) params.now)) system.old
+        system.new) }
 {
     for (index, parameter) in params.iter().enumerate() {
         push_equal(alloc, system, index as u32 + 1, parameter.value)?;
@@ -210,7 +216,9 @@ fn push_loop(
     requires room { first + 2 * length around.now < 2 ^ 32 }
     requires place { place + 1 < 2 ^ 32 }
     requires step { IsTrue (is_small nest.now.step) }
-    ensures { OnOk result (HasMore (loop_has first (heads_of around.now) place (head_of nest.now)) system.old system.new) }
+    ensures { OnOk result
+        (HasMore (loop_has first (heads_of around.now) place
+        (head_of nest.now)) system.old system.new) }
 {
     let rising = on_trip(alloc, Sign::Plus, first, around, place, nest)?;
     push_row(alloc, system, &rising)?;
@@ -229,7 +237,9 @@ pub fn push_loops(
 ) -> Result<(), AllocError>
     requires room { first + 2 * length around.now < 2 ^ 32 }
     requires steps { IsTrue (list_all (λ (h : Head). is_small h.step) (heads_of around.now)) }
-    ensures { OnOk result (HasMore (loops_have first (heads_of around.now) first (heads_of around.now)) system.old system.new) }
+    ensures { OnOk result
+        (HasMore (loops_have first (heads_of around.now) first
+        (heads_of around.now)) system.old system.new) }
 {
     for (index, one) in around.iter().enumerate() {
         push_loop(
@@ -255,7 +265,9 @@ fn push_differ(
     most: i64,
 ) -> Result<(), AllocError>
     requires { first + 2 * length around.now < 2 ^ 32 }
-    ensures { OnOk result (HasMore (differ_of sign first (heads_of around.now) guard.now.left guard.now.right most ∷ []) system.old system.new) }
+    ensures { OnOk result
+        (HasMore (differ_of sign first (heads_of around.now) guard.now.left guard.now.right most
+        ∷ []) system.old system.new) }
 {
     let difference = differ(
         alloc,
@@ -277,7 +289,10 @@ pub fn push_guard(
     guard: &Guard,
 ) -> Result<(), AllocError>
     requires { first + 2 * length around.now < 2 ^ 32 }
-    ensures { OnOk result (HasMore (compare_so guard.now.op first (heads_of around.now) guard.now.left guard.now.right) system.old system.new) }
+    ensures { OnOk result
+        (HasMore
+        (compare_so guard.now.op first (heads_of around.now) guard.now.left guard.now.right)
+        system.old system.new) }
 {
     match guard.op {
         Compare::Lt => push_differ(alloc, system, Sign::Plus, first, around, guard, -1),

@@ -10,5 +10,7 @@ ghost use Rattle.nest_rows.specs.Nested.{IsNestedInstance, nested_works};
 /// round it is at one of its trips.
 #[tactic(auto, using(crate::proofs::Nesting::instance_nested))]
 pub fn instances_are_at_trips()
-    ensures { (tree : Tree) → IsWellFormed tree → AllByRecursion (IsNestedInstance (param_values tree) (nested_works tree)) (instances tree) }
+    ensures { (tree : Tree) → IsWellFormed tree
+        → AllByRecursion (IsNestedInstance (param_values tree) (nested_works tree))
+        (instances tree) }
 {}

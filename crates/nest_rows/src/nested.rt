@@ -20,7 +20,8 @@ pub struct Nested<'a> {
 
 /// The pieces of work of a program in text order: the one with number n, from 1, stands at n - 1.
 pub fn nested_works(alloc: Global, program: &Program) -> Result<Vec<Nested>, AllocError>
-    ensures { IfOk result (λ works. AllZip IsView (nested_in_text (tree_of program.now)) works.items) }
+    ensures { IfOk result
+        (λ works. AllZip IsView (nested_in_text (tree_of program.now)) works.items) }
 {
     let mut works = Vec::new(alloc);
     let mut around = Vec::new(alloc);
@@ -36,7 +37,9 @@ fn push_works<'a>(
     around: &mut Vec<Around<'a>>,
     works: &mut Vec<Nested<'a>>,
 ) -> Result<(), AllocError>
-    ensures works { OnOk result (GrewBy IsView (nested_among (heads_of around.old.items) (statements_from items.now)) works.old.items works.new.items) }
+    ensures works { OnOk result
+        (GrewBy IsView (nested_among (heads_of around.old.items)
+        (statements_from items.now)) works.old.items works.new.items) }
     ensures around { OnOk result (around.new.items ≡ around.old.items) }
 {
     for item in items {
@@ -52,7 +55,9 @@ fn push_item_works<'a>(
     around: &mut Vec<Around<'a>>,
     works: &mut Vec<Nested<'a>>,
 ) -> Result<(), AllocError>
-    ensures works { OnOk result (GrewBy IsView (nested_in (heads_of around.old.items) (statement_of item.now)) works.old.items works.new.items) }
+    ensures works { OnOk result
+        (GrewBy IsView (nested_in (heads_of around.old.items)
+        (statement_of item.now)) works.old.items works.new.items) }
     ensures around { OnOk result (around.new.items ≡ around.old.items) }
 {
     match item {

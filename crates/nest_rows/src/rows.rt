@@ -19,7 +19,8 @@ use std::alloc::{AllocError, Global};
 fn count_terms(sums: &mut [i128], terms: &[(u32, i64)])
     requires none { sums.old ≡ replicate (length sums.old) (pos 0) }
     requires small { IsTrue (list_all (λ t. is_small t.1) terms.now) }
-    ensures counted { sums.new ≡ map (coefficient_in terms.now) (range_with_len 1 (length sums.old)) }
+    ensures counted { sums.new
+        ≡ map (coefficient_in terms.now) (range_with_len 1 (length sums.old)) }
     ensures narrow { All (λ a. IsTrue (is_narrow a)) sums.new }
 {
     for (unknown, coefficient) in terms {

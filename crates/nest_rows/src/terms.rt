@@ -45,7 +45,9 @@ fn push_loops(
     requires small { IsTrue (list_all (λ p. is_small p.1) pairs.now) }
     requires before { IsTrue (list_all (λ p. is_small p.1) terms.old) }
     ensures small { OnOk result (IsTrue (list_all (λ p. is_small p.1) terms.new)) }
-    ensures terms { OnOk result (terms.new ≡ terms.old ++ with_sign sign (map (λ p. (place_among first (heads_of around.now) p.0, p.1)) pairs.now)) }
+    ensures terms { OnOk result (terms.new ≡ terms.old
+        ++ with_sign sign
+        (map (λ p. (place_among first (heads_of around.now) p.0, p.1)) pairs.now)) }
 {
     for (number, coefficient) in pairs {
         terms.push(place_of(first, around, *number), sign.of(*coefficient))?;
@@ -78,7 +80,8 @@ pub fn push_form(
     requires room { first + 2 * length around.now < 2 ^ 32 }
     requires before { IsTrue (list_all (λ p. is_small p.1) terms.old) }
     ensures small { OnOk result (IsTrue (list_all (λ p. is_small p.1) terms.new)) }
-    ensures terms { OnOk result (terms.new ≡ terms.old ++ with_sign sign (terms_of first (heads_of around.now) form.now)) }
+    ensures terms { OnOk result (terms.new ≡ terms.old
+        ++ with_sign sign (terms_of first (heads_of around.now) form.now)) }
 {
     push_loops(terms, sign, first, around, form.loops())?;
     push_constants(terms, sign, form.params())

@@ -102,8 +102,10 @@ pub each_among : (p : ℤ → Bool) (all some : List ℤ) → list_all p all ≡
 each_among p all some h among = list_all-from_AllPass p some (λ k d lt. All-contains (λ x. p x ≡ true) all (get_or some k d) (AllPass-from_list_all p all h) (among k d lt))
 
 -- the frames of a cursor over one statement
-pub levels_round : (p : Path) (frames : List Frame) (end : ℕ) → ((k : ℕ) → k ≤ 6 → levels_to frames k ≡ replicate k (ended end)) → levels_to frames p.depth ≡ ended_round (rounds_of p) end
-levels_round p frames end h = h p.depth p.within ∙ ap (λ k. replicate k (ended end)) (sym (rounds_to-length p.numbers p.values p.depth))
+pub levels_round : (p : Path) (frames : List Frame) (depth end : ℕ) → depth ≡ length (rounds_of p) → levels_to frames depth ≡ replicate depth (ended end) → levels_to frames p.depth ≡ ended_round (rounds_of p) end
+levels_round p frames depth end count h =
+    let at : depth ≡ p.depth = count ∙ rounds_to-length p.numbers p.values p.depth in
+    ap (levels_to frames) (sym at) ∙ h ∙ ap (λ k. replicate k (ended end)) count
 
 -- a stop that is reached, in parts
 pub record Reached (tree : Tree) (rounds : List Round) (s : Statement) (first : ℕ) : Type 0 where

@@ -12,7 +12,8 @@ use crate::path::Path;
 impl Path {
     /// Writes the loops' values into a list of values by number, from 1; the others stay.
     pub fn write_to(&self, loops: &mut [i64])
-        requires { IsTrue (list_all (λ (r : Round). is_number_of (length loops.old) r.number) (rounds_of self.now)) }
+        requires { IsTrue (list_all (λ (r : Round). is_number_of (length loops.old) r.number)
+            (rounds_of self.now)) }
         ensures { loops.new ≡ with_rounds loops.old (rounds_of self.now) }
     {
         for depth in 0..self.depth {

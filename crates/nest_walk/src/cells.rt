@@ -29,8 +29,10 @@ impl CellForm {
     pub fn of_access(program: &Program, access: &Access, path: &Path) -> Self
         requires formed { IsWellFormed (tree_of program.now) }
         requires limits { IsWithinLimits (tree_of program.now) }
-        requires good { IsTrue (is_good_access (scope_of (tree_of program.now)) (numbers_of (rounds_of path.now)) access.now) }
-        ensures { IsCellForm (tree_of program.now) access.now (numbers_of (rounds_of path.now)) result }
+        requires good { IsTrue (is_good_access (scope_of (tree_of program.now))
+            (numbers_of (rounds_of path.now)) access.now) }
+        ensures { IsCellForm (tree_of program.now) access.now
+            (numbers_of (rounds_of path.now)) result }
     {
         let base = cell_on(program, access, &path.at_origin());
         let mut steps = [0; MOST_LOOPS];
@@ -88,7 +90,9 @@ fn cell_on(program: &Program, access: &Access, path: &Path) -> i64
 fn place_on(bounds: &[(i64, i64)], subscripts: &[Affine], path: &Path, params: &[Parameter]) -> i64
     requires good { IsTrue (list_all is_good_dimension bounds.now) }
     requires as_many { length subscripts.now ≡ length bounds.now }
-    ensures { result ≡ wrapped (place_among bounds.now subscripts.now (rounds_of path.now) (map (λ (p : Parameter). p.value) params.now)) }
+    ensures { result
+        ≡ wrapped (place_among bounds.now subscripts.now (rounds_of path.now)
+        (map (λ (p : Parameter). p.value) params.now)) }
 {
     let mut place = 0;
     for dimension in (0..bounds.len()).rev() {
@@ -101,7 +105,8 @@ fn place_on(bounds: &[(i64, i64)], subscripts: &[Affine], path: &Path, params: &
 // The place that a subscript and the place in the later dimensions give, wrapped to 64 bits.
 fn dimension_place(bounds: (i64, i64), subscript: i64, later: i64) -> i64
     requires { IsTrue (is_good_dimension bounds) }
-    ensures { result ≡ wrapped ((subscript -ℤ bounds.0) +ℤ (bounds.1 -ℤ bounds.0 +ℤ pos 1) *ℤ later) }
+    ensures { result
+        ≡ wrapped ((subscript -ℤ bounds.0) +ℤ (bounds.1 -ℤ bounds.0 +ℤ pos 1) *ℤ later) }
 {
     let (low, high) = bounds;
     with_product(difference(subscript, low), high - low + 1, later)

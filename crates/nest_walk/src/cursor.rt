@@ -47,8 +47,12 @@ pub struct Cursor<'a> {
     pub(crate) path: Path,
     pub(crate) frames: Frames<'a>,
     pub(crate) rest: Part<'a>,
-    ghost sound: { IsTrue (is_sound (walk_in (tree_of program.now) marks.now) (rounds_of path) (levels_to frames.all path.depth) (stretch_of rest)) },
-    ghost texts: { AreInText (tree_of program.now) (walk_in (tree_of program.now) marks.now) (rounds_of path) (levels_to frames.all path.depth) (stretch_of rest) } by { AreInText-prop (tree_of program.now) (walk_in (tree_of program.now) marks.now) (rounds_of path) (levels_to frames.all path.depth) (stretch_of rest) },
+    ghost sound: { IsTrue (is_sound (walk_in (tree_of program.now) marks.now) (rounds_of path)
+        (levels_to frames.all path.depth) (stretch_of rest)) },
+    ghost texts: { AreInText (tree_of program.now) (walk_in (tree_of program.now) marks.now)
+        (rounds_of path) (levels_to frames.all path.depth) (stretch_of rest) } by { AreInText-prop
+            (tree_of program.now) (walk_in (tree_of program.now) marks.now) (rounds_of path)
+            (levels_to frames.all path.depth) (stretch_of rest) },
 }
 
 impl<'a> Cursor<'a> {
@@ -111,75 +115,72 @@ impl<'a> Cursor<'a> {
         }
     }
 
-    /// The walk over the statement of a stop alone, where these loops are round it. It goes into
-    /// every loop, and its stops are numbered as the pieces of work are.
-    pub fn over(program: &'a Program, path: &Path, stop: Stop<'a>) -> Self
-        requires reached { IsTrue (is_reached (tree_of program.now) (rounds_of path.now) stop) }
-        requires text { StandFrom (works (tree_of program.now)) stop.first (placed_in every (numbers_of (rounds_of path.now)) (statement_of stop.item.now)) }
-        ensures visits { left_of result ≡ visits_of (param_values (tree_of program.now)) every (statement_of stop.entry.item.now) stop.entry.first stop.entry.first (loops_in (tree_of program.now) (rounds_of path.now)) }
-        ensures program { tree_in result ≡ tree_of program.now }
-        ensures marks { marks_in result ≡ [] }
+    /// In place of what is left, the walk over the statement of a stop alone, where these loops are
+    /// round it. It goes into every loop, and its stops are numbered as the pieces of work are.
+    pub fn restart(&mut self, path: &Path, stop: Stop<'a>)
+        requires reached { IsTrue (is_reached (tree_in self.old) (rounds_of path.now) stop) }
+        requires text { StandFrom (works (tree_in self.old)) stop.first
+            (placed_in every (numbers_of (rounds_of path.now)) (statement_of stop.item.now)) }
+        ensures visits { left_of self.new ≡ visits_of (param_values (tree_in self.old)) every
+            (statement_of stop.entry.item.now) stop.entry.first stop.entry.first
+            (loops_in (tree_in self.old) (rounds_of path.now)) }
+        ensures program { tree_in self.new ≡ tree_in self.old }
+        ensures marks { marks_in self.new ≡ [] }
     {
         let Stop { item, first, .. } = stop;
-        Cursor {
-            program,
-            marks: &[],
-            path: *path,
-            frames: Frames::ended(first + works_in_item(item)),
-            rest: Part {
-                items: from_ref(item),
-                place: first,
-                first,
-            },
-        }
+        self.frames.end(path.depth(), first + works_in_item(item));
+        self.marks = &[];
+        self.path = *path;
+        self.rest = Part {
+            items: from_ref(item),
+            place: first,
+            first,
+        };
     }
 
-    /// The walk over the body of a loop alone, once for each of these values of its DO variable,
-    /// which are among those of its trips, where these loops are round it.
-    pub fn over_trips(
-        program: &'a Program,
-        path: &Path,
-        stop: Stop<'a>,
-        nest: &'a Nest,
-        trips: Trips,
-    ) -> Self
-        requires reached { IsTrue (is_reached (tree_of program.now) (rounds_of path.now) stop) }
-        requires text { StandFrom (works (tree_of program.now)) stop.first (placed_in every (numbers_of (rounds_of path.now)) (statement_of stop.item.now)) }
+    /// In place of what is left, the walk over the body of a loop alone, once for each of these
+    /// values of its DO variable, which are among those of its trips, where these loops are round it.
+    pub fn restart_trips(&mut self, path: &Path, stop: Stop<'a>, nest: &'a Nest, trips: Trips)
+        requires reached { IsTrue (is_reached (tree_in self.old) (rounds_of path.now) stop) }
+        requires text { StandFrom (works (tree_in self.old)) stop.first
+            (placed_in every (numbers_of (rounds_of path.now)) (statement_of stop.item.now)) }
         requires nest { stop.item.now ≡ Item.Loop nest.now }
-        requires trips { All (Contains (head_trips (param_values (tree_of program.now)) (head_of nest.now) (loops_in (tree_of program.now) (rounds_of path.now)))) (trips_left trips) }
-        ensures visits { left_of result ≡ flat_map (λ v. visits_in (param_values (tree_of program.now)) every (statements_from nest.now.items.items) stop.entry.first stop.entry.first (with_loop (loops_in (tree_of program.now) (rounds_of path.now)) nest.now.number v)) (trips_left trips) }
-        ensures program { tree_in result ≡ tree_of program.now }
-        ensures marks { marks_in result ≡ [] }
+        requires trips { All
+            (Contains (head_trips (param_values (tree_in self.old)) (head_of nest.now)
+            (loops_in (tree_in self.old) (rounds_of path.now)))) (trips_left trips) }
+        ensures visits { left_of self.new
+            ≡ flat_map (λ v. visits_in (param_values (tree_in self.old)) every
+            (statements_from nest.now.items.items) stop.entry.first stop.entry.first
+            (with_loop (loops_in (tree_in self.old) (rounds_of path.now)) nest.now.number v))
+            (trips_left trips) }
+        ensures program { tree_in self.new ≡ tree_in self.old }
+        ensures marks { marks_in self.new ≡ [] }
     {
         let first = stop.first;
         let end = first + work_count(&nest.items);
+        let depth = path.depth();
         let body = Part {
             items: &nest.items,
             place: first,
             first,
         };
-        let mut inner = *path;
-        let mut frames = Frames::ended(end);
-        frames.put(
-            path.depth(),
+        self.frames.end(depth, end);
+        self.frames.put(
+            depth,
             Frame {
                 body,
                 later: trips,
                 behind: &[],
             },
         );
-        inner.push(nest.number, 0);
-        Cursor {
-            program,
-            marks: &[],
-            path: inner,
-            frames,
-            rest: Part {
-                items: &[],
-                place: end,
-                first: end,
-            },
-        }
+        self.marks = &[];
+        self.path = *path;
+        self.path.push(nest.number, 0);
+        self.rest = Part {
+            items: &[],
+            place: end,
+            first: end,
+        };
     }
 
     /// The program that it walks.
@@ -199,10 +200,14 @@ impl<'a> Cursor<'a> {
     /// The next stop, until there is none.
     #[inline(always)]
     pub fn next(&mut self) -> Option<Stop<'a>>
-        ensures stop { MatchOption result (left_of self.old ≡ []) (λ s. left_of self.old ≡ visit_at (tree_in self.new) (rounds_in self.new) s ∷ left_of self.new) }
+        ensures stop { MatchOption result (left_of self.old ≡ []) (λ s. left_of self.old
+            ≡ visit_at (tree_in self.new) (rounds_in self.new) s ∷ left_of self.new) }
         ensures end { MatchOption result (left_of self.new ≡ []) (λ s. Unit) }
-        ensures reached { IfSome result (λ s. IsTrue (is_reached (tree_in self.new) (rounds_in self.new) s)) }
-        ensures text { IfSome result (λ s. IsInText (tree_in self.new) (enters_but (marks_in self.new)) (numbers_of (rounds_in self.new)) (statement_of s.item.now) s.place s.first) }
+        ensures reached { IfSome result
+            (λ s. IsTrue (is_reached (tree_in self.new) (rounds_in self.new) s)) }
+        ensures text { IfSome result
+            (λ s. IsInText (tree_in self.new) (enters_but (marks_in self.new))
+            (numbers_of (rounds_in self.new)) (statement_of s.item.now) s.place s.first) }
         ensures program { tree_in self.new ≡ tree_in self.old }
         ensures marks { marks_in self.new ≡ marks_in self.old }
     {
@@ -221,9 +226,14 @@ impl<'a> Cursor<'a> {
     #[inline(always)]
     fn pass(&mut self, item: &'a Item, behind: &'a [Item]) -> Option<Stop<'a>>
         requires { self.old.rest.items.now ≡ item.now ∷ behind.now }
-        ensures stop { MatchOption result (left_of self.new ≡ left_of self.old) (λ s. left_of self.old ≡ visit_at (tree_in self.new) (rounds_in self.new) s ∷ left_of self.new) }
-        ensures reached { IfSome result (λ s. IsTrue (is_reached (tree_in self.new) (rounds_in self.new) s)) }
-        ensures text { IfSome result (λ s. IsInText (tree_in self.new) (enters_but (marks_in self.new)) (numbers_of (rounds_in self.new)) (statement_of s.item.now) s.place s.first) }
+        ensures stop { MatchOption result (left_of self.new ≡ left_of self.old)
+            (λ s. left_of self.old ≡ visit_at (tree_in self.new) (rounds_in self.new) s
+            ∷ left_of self.new) }
+        ensures reached { IfSome result
+            (λ s. IsTrue (is_reached (tree_in self.new) (rounds_in self.new) s)) }
+        ensures text { IfSome result
+            (λ s. IsInText (tree_in self.new) (enters_but (marks_in self.new))
+            (numbers_of (rounds_in self.new)) (statement_of s.item.now) s.place s.first) }
         ensures moved { moves_to_go self.new < moves_to_go self.old }
         ensures program { tree_in self.new ≡ tree_in self.old }
         ensures marks { marks_in self.new ≡ marks_in self.old }
@@ -258,10 +268,13 @@ impl<'a> Cursor<'a> {
         requires rest { self.old.rest.items.now ≡ item.now ∷ behind.now }
         requires stops { stops ≡ stops_in (enters_but (marks_in self.old)) (statement_of item.now) }
         requires works { works ≡ works_in (statement_of item.now) }
-        ensures left { left_of self.old ≡ visits_at (tree_in self.old) (marks_in self.old) (rounds_in self.old) result ++ left_of self.new }
+        ensures left { left_of self.old ≡ visits_at (tree_in self.old) (marks_in self.old)
+            (rounds_in self.old) result ++ left_of self.new }
         ensures rounds { rounds_in self.new ≡ rounds_in self.old }
         ensures reached { IsTrue (is_reached (tree_in self.old) (rounds_in self.old) result) }
-        ensures text { IsInText (tree_in self.old) (enters_but (marks_in self.old)) (numbers_of (rounds_in self.old)) (statement_of result.item.now) result.place result.first }
+        ensures text { IsInText (tree_in self.old) (enters_but (marks_in self.old))
+            (numbers_of (rounds_in self.old))
+            (statement_of result.item.now) result.place result.first }
         ensures item { result.item.now ≡ item.now }
         ensures moved { moves_to_go self.new < moves_to_go self.old }
         ensures program { tree_in self.new ≡ tree_in self.old }
@@ -300,7 +313,8 @@ impl<'a> Cursor<'a> {
     fn enter(&mut self, nest: &'a Nest, behind: &'a [Item], trips: Trips)
         requires rest { self.old.rest.items.now ≡ Item.Loop nest.now ∷ behind.now }
         requires entered { enters_but (marks_in self.old) nest.now.number ≡ true }
-        requires trips { trips_left trips ≡ head_trips (param_values (tree_in self.old)) (head_of nest.now) (loops_in (tree_in self.old) (rounds_in self.old)) }
+        requires trips { trips_left trips ≡ head_trips (param_values (tree_in self.old))
+            (head_of nest.now) (loops_in (tree_in self.old) (rounds_in self.old)) }
         requires some { 0 < length (trips_left trips) }
         ensures left { left_of self.new ≡ left_of self.old }
         ensures moved { moves_to_go self.new < moves_to_go self.old }
@@ -352,9 +366,14 @@ impl<'a> Cursor<'a> {
 
     // Whether a comparison with small sides holds at the stop that was given last.
     pub(crate) fn holds(&self, guard: &Guard) -> bool
-        requires numbered { IsTrue (list_all (λ (r : Round). is_number_of (loops_of (tree_in self.now).items) r.number) (rounds_in self.now)) }
-        requires small { IsTrue (list_all (is_small_at (param_values (tree_in self.now)) (loops_in (tree_in self.now) (rounds_in self.now))) (guard_forms (Some guard.now))) }
-        ensures { result ≡ holds (Some guard.now) (loops_in (tree_in self.now) (rounds_in self.now)) (param_values (tree_in self.now)) }
+        requires numbered { IsTrue
+            (list_all (λ (r : Round). is_number_of (loops_of (tree_in self.now).items) r.number)
+            (rounds_in self.now)) }
+        requires small { IsTrue
+            (list_all (is_small_at (param_values (tree_in self.now))
+            (loops_in (tree_in self.now) (rounds_in self.now))) (guard_forms (Some guard.now))) }
+        ensures { result ≡ holds (Some guard.now) (loops_in (tree_in self.now) (rounds_in self.now))
+            (param_values (tree_in self.now)) }
     {
         let left = value_at(&guard.left, &self.path, &self.program.params);
         let right = value_at(&guard.right, &self.path, &self.program.params);

@@ -14,7 +14,9 @@ use nest_tree::{Affine, Parameter};
 /// 2^64; a loop that isn't on the path is at 0.
 pub fn value_at(form: &Affine, path: &Path, params: &[Parameter]) -> i64
     ensures form { IsForm form.now }
-    ensures value { result ≡ wrapped (form_among form.now (rounds_of path.now) (map (λ (p : Parameter). p.value) params.now)) }
+    ensures value { result
+        ≡ wrapped (form_among form.now (rounds_of path.now)
+        (map (λ (p : Parameter). p.value) params.now)) }
 {
     let sum = with_loops(form.constant(), form.loops(), path);
     with_params(sum, form.params(), params)
@@ -33,7 +35,8 @@ fn with_loops(sum: i64, pairs: &[(u32, i64)], path: &Path) -> i64
 
 // A sum and coefficients times named constants.
 fn with_params(sum: i64, pairs: &[(u32, i64)], params: &[Parameter]) -> i64
-    ensures { result ≡ wrapped (sum +ℤ dot pairs.now (map (λ (p : Parameter). p.value) params.now)) }
+    ensures { result
+        ≡ wrapped (sum +ℤ dot pairs.now (map (λ (p : Parameter). p.value) params.now)) }
 {
     let mut total = sum;
     for (number, coefficient) in pairs {

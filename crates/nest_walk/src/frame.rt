@@ -23,6 +23,26 @@ pub struct Frame<'a> {
     pub(crate) behind: &'a [Item],
 }
 
+impl Frame<'_> {
+    ghost use Rattle.nest_walk.specs.Frames.{ended, level_of};
+
+    // A loop that is left, where its body ended with this number.
+    fn ended(end: u32) -> Self
+        ensures { level_of result ≡ ended end }
+    {
+        let body = Part {
+            items: &[],
+            place: end,
+            first: end,
+        };
+        Frame {
+            body,
+            later: Trips::new(0, 1, 0),
+            behind: &[],
+        }
+    }
+}
+
 /// The loops that a walk is in, by depth from the outermost.
 #[derive(Clone, Copy)]
 pub struct Frames<'a> {
@@ -36,18 +56,19 @@ impl<'a> Frames<'a> {
     pub(crate) fn ended(end: u32) -> Self
         ensures { (k : ℕ) → k ≤ 6 → levels_to result.all k ≡ replicate k (ended end) }
     {
-        let body = Part {
-            items: &[],
-            place: end,
-            first: end,
-        };
-        let frame = Frame {
-            body,
-            later: Trips::new(0, 1, 0),
-            behind: &[],
-        };
         Frames {
-            all: [frame; MOST_LOOPS],
+            all: [Frame::ended(end); MOST_LOOPS],
+        }
+    }
+
+    // The first so many loops are left, where their bodies ended with this number.
+    pub(crate) fn end(&mut self, depth: usize, end: u32)
+        requires { depth ≤ 6 }
+        ensures { levels_to self.new.all depth ≡ replicate depth (ended end) }
+    {
+        let frame = Frame::ended(end);
+        for level in 0..depth {
+            self.put(level, frame);
         }
     }
 
@@ -74,7 +95,8 @@ impl<'a> Frames<'a> {
     pub(crate) fn put_later(&mut self, depth: usize, later: Trips)
         requires { depth < 6 }
         ensures room { depth < length self.old.all }
-        ensures all { (f : Frame) → slice_get self.old.all depth ≡ Some f → self.new.all ≡ slice_set self.old.all depth (record f { later = later }) }
+        ensures all { (f : Frame) → slice_get self.old.all depth ≡ Some f
+            → self.new.all ≡ slice_set self.old.all depth (record f { later = later }) }
     {
         let all = &mut self.all[..];
         all[depth].later = later;

@@ -56,37 +56,47 @@ impl<'a> Instances<'a> {
         }
     }
 
-    /// The instances of the statement of a stop alone, where these loops are round it.
-    pub fn over(program: &'a Program, path: &Path, stop: Stop<'a>) -> Self
-        requires reached { IsTrue (is_reached (tree_of program.now) (rounds_of path.now) stop) }
-        requires text { StandFrom (works (tree_of program.now)) stop.first (placed_in every (numbers_of (rounds_of path.now)) (statement_of stop.item.now)) }
-        ensures instances { instances_left result ≡ instances_of (param_values (tree_of program.now)) (statement_of stop.entry.item.now) stop.entry.first (loops_in (tree_of program.now) (rounds_of path.now)) }
-        ensures program { instances_tree result ≡ tree_of program.now }
+    /// In place of those that are left, the instances of the statement of a stop alone, where these
+    /// loops are round it.
+    pub fn restart(&mut self, path: &Path, stop: Stop<'a>)
+        requires reached { IsTrue (is_reached (instances_tree self.old) (rounds_of path.now) stop) }
+        requires text { StandFrom (works (instances_tree self.old)) stop.first
+            (placed_in every (numbers_of (rounds_of path.now)) (statement_of stop.item.now)) }
+        ensures instances { instances_left self.new
+            ≡ instances_of (param_values (instances_tree self.old))
+            (statement_of stop.entry.item.now) stop.entry.first (loops_in (instances_tree self.old)
+            (rounds_of path.now)) }
+        ensures program { instances_tree self.new ≡ instances_tree self.old }
     {
-        Instances {
-            cursor: Cursor::over(program, path, stop),
-        }
+        self.cursor.restart(path, stop);
     }
 
-    /// The instances of the body of a loop alone, once for each of these values of its DO
-    /// variable, which are among those of its trips, where these loops are round it.
-    pub fn over_trips(
-        program: &'a Program,
-        path: &Path,
-        stop: Stop<'a>,
-        nest: &'a Nest,
-        trips: Trips,
-    ) -> Self
-        requires reached { IsTrue (is_reached (tree_of program.now) (rounds_of path.now) stop) }
-        requires text { StandFrom (works (tree_of program.now)) stop.first (placed_in every (numbers_of (rounds_of path.now)) (statement_of stop.item.now)) }
+    /// In place of those that are left, the instances of the body of a loop alone, once for each of
+    /// these values of its DO variable, which are among those of its trips, where these loops are
+    /// round it.
+    pub fn restart_trips(&mut self, path: &Path, stop: Stop<'a>, nest: &'a Nest, trips: Trips)
+        requires reached { IsTrue (is_reached (instances_tree self.old) (rounds_of path.now) stop) }
+        requires text { StandFrom (works (instances_tree self.old)) stop.first
+            (placed_in every (numbers_of (rounds_of path.now)) (statement_of stop.item.now)) }
         requires nest { stop.item.now ≡ Item.Loop nest.now }
-        requires trips { All (Contains (head_trips (param_values (tree_of program.now)) (head_of nest.now) (loops_in (tree_of program.now) (rounds_of path.now)))) (trips_left trips) }
-        ensures instances { instances_left result ≡ flat_map (λ v. instances_in (param_values (tree_of program.now)) (statements_from nest.now.items.items) stop.entry.first (with_loop (loops_in (tree_of program.now) (rounds_of path.now)) nest.now.number v)) (trips_left trips) }
-        ensures program { instances_tree result ≡ tree_of program.now }
+        requires trips { All
+            (Contains (head_trips (param_values (instances_tree self.old)) (head_of nest.now)
+            (loops_in (instances_tree self.old) (rounds_of path.now)))) (trips_left trips) }
+        ensures instances { instances_left self.new
+            ≡ flat_map (λ v. instances_in (param_values (instances_tree self.old))
+            (statements_from nest.now.items.items) stop.entry.first
+            (with_loop (loops_in (instances_tree self.old) (rounds_of path.now)) nest.now.number v))
+            (trips_left trips) }
+        ensures program { instances_tree self.new ≡ instances_tree self.old }
     {
-        Instances {
-            cursor: Cursor::over_trips(program, path, stop, nest, trips),
-        }
+        self.cursor.restart_trips(path, stop, nest, trips);
+    }
+
+    /// The program that they are of.
+    pub fn program(&self) -> &'a Program
+        ensures { tree_of result.now ≡ instances_tree self.now }
+    {
+        self.cursor.program()
     }
 
     /// The loops round the instance that was given last, with their values.
@@ -99,10 +109,15 @@ impl<'a> Instances<'a> {
     /// The next instance, until there is none.
     #[inline(always)]
     pub fn next(&mut self) -> Option<Stop<'a>>
-        ensures instance { MatchOption result (instances_left self.old ≡ []) (λ s. (i : Instance) × (instances_at (param_values (instances_tree self.new)) (visit_at (instances_tree self.new) (instances_rounds self.new) s) ≡ i ∷ []) × (instances_left self.old ≡ i ∷ instances_left self.new)) }
+        ensures instance { MatchOption result (instances_left self.old ≡ []) (λ s. (i : Instance)
+            × (instances_at (param_values (instances_tree self.new))
+            (visit_at (instances_tree self.new) (instances_rounds self.new) s) ≡ i ∷ [])
+            × (instances_left self.old ≡ i ∷ instances_left self.new)) }
         ensures end { MatchOption result (instances_left self.new ≡ []) (λ s. Unit) }
-        ensures reached { IfSome result (λ s. IsTrue (is_reached (instances_tree self.new) (instances_rounds self.new) s)) }
-        ensures text { IfSome result (λ s. StandFrom (works (instances_tree self.new)) s.first (placed_in every (numbers_of (instances_rounds self.new)) (statement_of s.item.now))) }
+        ensures reached { IfSome result
+            (λ s. IsTrue (is_reached (instances_tree self.new) (instances_rounds self.new) s)) }
+        ensures text { IfSome result (λ s. StandFrom (works (instances_tree self.new)) s.first
+            (placed_in every (numbers_of (instances_rounds self.new)) (statement_of s.item.now))) }
         ensures program { instances_tree self.new ≡ instances_tree self.old }
     {
         while let Some(stop) = self.cursor.next() {
@@ -117,7 +132,8 @@ impl<'a> Instances<'a> {
     /// first of them: a strip's instances come next, and those behind it are left.
     #[inline(always)]
     pub fn strip(&mut self) -> Option<Strip<'a>>
-        ensures instances { MatchOption result (instances_left self.new ≡ instances_left self.old) (λ s. instances_left self.old ≡ strip_left s ++ instances_left self.new) }
+        ensures instances { MatchOption result (instances_left self.new ≡ instances_left self.old)
+            (λ s. instances_left self.old ≡ strip_left s ++ instances_left self.new) }
         ensures some { IfSome result (λ s. 0 < length (strip_left s)) }
         ensures tree { IfSome result (λ s. strip_tree s ≡ instances_tree self.new) }
         ensures program { instances_tree self.new ≡ instances_tree self.old }
@@ -129,7 +145,8 @@ impl<'a> Instances<'a> {
     #[inline(always)]
     fn is_executed(&self, stop: Stop<'a>) -> bool
         requires { IsTrue (is_reached (instances_tree self.now) (instances_rounds self.now) stop) }
-        ensures { result ≡ is_executed_at (instances_tree self.now) (instances_rounds self.now) (statement_of stop.entry.item.now) }
+        ensures { result ≡ is_executed_at (instances_tree self.now) (instances_rounds self.now)
+            (statement_of stop.entry.item.now) }
     {
         match stop.item {
             Item::Assign(_, _, Some(guard), _) => self.cursor.holds(guard),

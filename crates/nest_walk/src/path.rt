@@ -51,7 +51,8 @@ impl Path {
     /// One more loop, inside the others.
     pub fn push(&mut self, number: u32, value: i64)
         requires { length (rounds_of self.old) < 6 }
-        ensures { rounds_of self.new ≡ record { number = number; value = value } ∷ rounds_of self.old }
+        ensures { rounds_of self.new ≡ record { number = number; value = value }
+            ∷ rounds_of self.old }
     {
         self.numbers[self.depth] = number;
         self.values[self.depth] = value;
@@ -61,7 +62,8 @@ impl Path {
     /// The number of the innermost loop.
     pub fn innermost(&self) -> u32
         requires { 0 < length (rounds_of self.now) }
-        ensures { (r : Round) (rounds : List Round) → rounds_of self.now ≡ r ∷ rounds → result ≡ r.number }
+        ensures { (r : Round) (rounds : List Round) → rounds_of self.now ≡ r ∷ rounds
+            → result ≡ r.number }
     {
         self.numbers[self.depth - 1]
     }
@@ -69,7 +71,8 @@ impl Path {
     /// The innermost loop has another value.
     pub fn set(&mut self, value: i64)
         requires { 0 < length (rounds_of self.old) }
-        ensures { (r : Round) (rounds : List Round) → rounds_of self.old ≡ r ∷ rounds → rounds_of self.new ≡ record { number = r.number; value = value } ∷ rounds }
+        ensures { (r : Round) (rounds : List Round) → rounds_of self.old ≡ r ∷ rounds
+            → rounds_of self.new ≡ record { number = r.number; value = value } ∷ rounds }
     {
         self.values[self.depth - 1] = value;
     }
@@ -77,7 +80,8 @@ impl Path {
     /// The innermost loop is left.
     pub fn pop(&mut self)
         requires { 0 < length (rounds_of self.old) }
-        ensures { (r : Round) (rounds : List Round) → rounds_of self.old ≡ r ∷ rounds → rounds_of self.new ≡ rounds }
+        ensures { (r : Round) (rounds : List Round) → rounds_of self.old ≡ r ∷ rounds
+            → rounds_of self.new ≡ rounds }
     {
         self.depth -= 1;
         self.values[self.depth] = 0;
@@ -109,7 +113,8 @@ impl Path {
     // The same loops, each at 0 but the one at this depth, from 0, which is at 1.
     pub(crate) fn one_along(&self, depth: usize) -> Self
         requires { depth < self.now.depth }
-        ensures { rounds_of result ≡ rounds_to self.now.numbers (slice_set origin depth (pos 1)) self.now.depth }
+        ensures { rounds_of result
+            ≡ rounds_to self.now.numbers (slice_set origin depth (pos 1)) self.now.depth }
     {
         let mut values = [0; MOST_LOOPS];
         values[depth] = 1;

@@ -32,7 +32,8 @@ pub struct Strip<'a> {
     ghost inside: { 0 < length (rounds_of path) },
     ghost small: { IsTrue (list_all is_small (trips_left trips)) },
     ghost reached: { IsTrue (is_reached (tree_of program.now) (rounds_of path) stop) },
-    ghost text: { StandFrom (works (tree_of program.now)) stop.first (placed_in every (numbers_of (rounds_of path)) (statement_of stop.item.now)) },
+    ghost text: { StandFrom (works (tree_of program.now)) stop.first
+        (placed_in every (numbers_of (rounds_of path)) (statement_of stop.item.now)) },
 }
 
 impl<'a> Strip<'a> {
@@ -52,7 +53,8 @@ impl<'a> Strip<'a> {
 
     /// The value that is assigned.
     pub fn value(&self) -> &'a Expr
-        ensures { (target : Access) × (line : ℕ) × (self.now.stop.item.now ≡ Item.Assign target result.now None line) }
+        ensures { (target : Access) × (line : ℕ)
+            × (self.now.stop.item.now ≡ Item.Assign target result.now None line) }
     {
         match plain_value(self.stop.item) {
             Some(e) => e,
@@ -69,7 +71,8 @@ impl<'a> Strip<'a> {
 
     /// The number of the strip's loop.
     pub fn number(&self) -> u32
-        ensures { (r : Round) (rounds : List Round) → strip_rounds self.now ≡ r ∷ rounds → result ≡ r.number }
+        ensures { (r : Round) (rounds : List Round) → strip_rounds self.now ≡ r ∷ rounds
+            → result ≡ r.number }
     {
         self.path.innermost()
     }
@@ -77,9 +80,13 @@ impl<'a> Strip<'a> {
     /// The value of the loop in the next trip, until there is none.
     #[inline(always)]
     pub fn next(&mut self) -> Option<i64>
-        ensures instance { MatchOption result (strip_left self.old ≡ []) (λ v. (i : Instance) × (instances_at (param_values (strip_tree self.new)) (visit_at (strip_tree self.new) (strip_rounds self.new) self.new.stop) ≡ i ∷ []) × (strip_left self.old ≡ i ∷ strip_left self.new)) }
+        ensures instance { MatchOption result (strip_left self.old ≡ []) (λ v. (i : Instance)
+            × (instances_at (param_values (strip_tree self.new))
+            (visit_at (strip_tree self.new) (strip_rounds self.new) self.new.stop) ≡ i ∷ [])
+            × (strip_left self.old ≡ i ∷ strip_left self.new)) }
         ensures end { MatchOption result (strip_left self.new ≡ []) (λ v. Unit) }
-        ensures round { IfSome result (λ v. strip_rounds self.new ≡ at_value (strip_rounds self.old) v) }
+        ensures round { IfSome result (λ v. strip_rounds self.new
+            ≡ at_value (strip_rounds self.old) v) }
         ensures stop { self.new.stop ≡ self.old.stop }
         ensures program { strip_tree self.new ≡ strip_tree self.old }
     {
@@ -101,7 +108,8 @@ impl<'a> Cursor<'a> {
     // them: the walk goes past them.
     #[inline(always)]
     pub(crate) fn strip(&mut self) -> Option<Strip<'a>>
-        ensures left { MatchOption result (left_of self.new ≡ left_of self.old) (λ s. left_of self.old ≡ strip_visits s ++ left_of self.new) }
+        ensures left { MatchOption result (left_of self.new ≡ left_of self.old)
+            (λ s. left_of self.old ≡ strip_visits s ++ left_of self.new) }
         ensures some { IfSome result (λ s. 0 < length (trips_left s.trips)) }
         ensures tree { IfSome result (λ s. strip_tree s ≡ tree_in self.new) }
         ensures program { tree_in self.new ≡ tree_in self.old }
@@ -139,7 +147,8 @@ impl<'a> Cursor<'a> {
         requires rest { self.old.rest.items.now ≡ item.now ∷ behind.now }
         requires nest { item.now ≡ Item.Loop nest.now }
         requires entered { enters_but (marks_in self.old) nest.now.number ≡ true }
-        ensures left { MatchOption result (left_of self.new ≡ left_of self.old) (λ s. left_of self.old ≡ strip_visits s ++ left_of self.new) }
+        ensures left { MatchOption result (left_of self.new ≡ left_of self.old)
+            (λ s. left_of self.old ≡ strip_visits s ++ left_of self.new) }
         ensures some { IfSome result (λ s. 0 < length (trips_left s.trips)) }
         ensures tree { IfSome result (λ s. strip_tree s ≡ tree_in self.new) }
         ensures moved { moves_to_go self.new < moves_to_go self.old }
@@ -166,7 +175,8 @@ impl<'a> Cursor<'a> {
         requires nest { item.now ≡ Item.Loop nest.now }
         requires entered { enters_but (marks_in self.old) nest.now.number ≡ true }
         requires only { IsOnlyAssignment nest.now.items.items only.now }
-        ensures left { MatchOption result (left_of self.new ≡ left_of self.old) (λ s. left_of self.old ≡ strip_visits s ++ left_of self.new) }
+        ensures left { MatchOption result (left_of self.new ≡ left_of self.old)
+            (λ s. left_of self.old ≡ strip_visits s ++ left_of self.new) }
         ensures some { IfSome result (λ s. 0 < length (trips_left s.trips)) }
         ensures tree { IfSome result (λ s. strip_tree s ≡ tree_in self.new) }
         ensures moved { moves_to_go self.new < moves_to_go self.old }
@@ -198,7 +208,8 @@ impl<'a> Cursor<'a> {
     #[inline(always)]
     fn later_trips(&mut self) -> Option<Strip<'a>>
         requires { self.old.rest.items.now ≡ [] }
-        ensures left { MatchOption result (left_of self.new ≡ left_of self.old) (λ s. left_of self.old ≡ strip_visits s ++ left_of self.new) }
+        ensures left { MatchOption result (left_of self.new ≡ left_of self.old)
+            (λ s. left_of self.old ≡ strip_visits s ++ left_of self.new) }
         ensures some { IfSome result (λ s. 0 < length (trips_left s.trips)) }
         ensures tree { IfSome result (λ s. strip_tree s ≡ tree_in self.new) }
         ensures same { MatchOption result (self.new ≡ self.old) (λ s. Unit) }
@@ -258,7 +269,8 @@ fn is_continue(item: &Item) -> bool
 
 // The value of an assignment without a comparison.
 fn plain_value(item: &Item) -> Option<&Expr>
-    ensures value { IfSome result (λ e. (target : Access) × (line : ℕ) × (item.now ≡ Item.Assign target e.now None line)) }
+    ensures value { IfSome result (λ e. (target : Access) × (line : ℕ)
+        × (item.now ≡ Item.Assign target e.now None line)) }
     ensures plain { IsTrue (is_plain (statement_of item.now)) → IsSome result }
 {
     match item {

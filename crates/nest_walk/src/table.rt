@@ -73,8 +73,12 @@ fn push_works(
 ) -> Result<(), AllocError>
     requires formed { IsWellFormed (tree_of program.now) }
     requires limits { IsWithinLimits (tree_of program.now) }
-    requires good { (first : ℕ) × IsTrue (are_good_statements (scope_of (tree_of program.now)) (numbers_of (rounds_of path.now)) first (statements_from items.now)) }
-    ensures { OnOk result (GrewBy (ArePlacedCells (tree_of program.now)) (placed_of every (numbers_of (rounds_of path.now)) (statements_from items.now)) works.old.items works.new.items) }
+    requires good { (first : ℕ)
+        × IsTrue (are_good_statements (scope_of (tree_of program.now))
+        (numbers_of (rounds_of path.now)) first (statements_from items.now)) }
+    ensures { OnOk result (GrewBy (ArePlacedCells (tree_of program.now))
+        (placed_of every (numbers_of (rounds_of path.now))
+        (statements_from items.now)) works.old.items works.new.items) }
 {
     for item in items {
         push_item_works(alloc, program, item, path, works)?;
@@ -92,8 +96,12 @@ fn push_item_works(
 ) -> Result<(), AllocError>
     requires formed { IsWellFormed (tree_of program.now) }
     requires limits { IsWithinLimits (tree_of program.now) }
-    requires good { (first : ℕ) × IsTrue (is_good_statement (scope_of (tree_of program.now)) (numbers_of (rounds_of path.now)) first (statement_of item.now)) }
-    ensures { OnOk result (GrewBy (ArePlacedCells (tree_of program.now)) (placed_in every (numbers_of (rounds_of path.now)) (statement_of item.now)) works.old.items works.new.items) }
+    requires good { (first : ℕ)
+        × IsTrue (is_good_statement (scope_of (tree_of program.now))
+        (numbers_of (rounds_of path.now)) first (statement_of item.now)) }
+    ensures { OnOk result (GrewBy (ArePlacedCells (tree_of program.now))
+        (placed_in every (numbers_of (rounds_of path.now)) (statement_of item.now)) works.old.items
+        works.new.items) }
 {
     match item {
         Item::Loop(nest) => {
@@ -123,9 +131,12 @@ fn assigned_cells(
 ) -> Result<WorkCells, AllocError>
     requires formed { IsWellFormed (tree_of program.now) }
     requires limits { IsWithinLimits (tree_of program.now) }
-    requires target { IsTrue (is_good_access (scope_of (tree_of program.now)) (numbers_of (rounds_of path.now)) target.now) }
-    requires value { IsTrue (is_good_expression (scope_of (tree_of program.now)) (numbers_of (rounds_of path.now)) (expression_of value.now)) }
-    ensures { IfOk result (λ cells. AreCells (tree_of program.now) (numbers_of (rounds_of path.now)) (map element (loads_in (expression_of value.now))) (target.now ∷ []) cells) }
+    requires target { IsTrue (is_good_access (scope_of (tree_of program.now))
+        (numbers_of (rounds_of path.now)) target.now) }
+    requires value { IsTrue (is_good_expression (scope_of (tree_of program.now))
+        (numbers_of (rounds_of path.now)) (expression_of value.now)) }
+    ensures { IfOk result (λ cells. AreCells (tree_of program.now) (numbers_of (rounds_of path.now))
+        (map element (loads_in (expression_of value.now))) (target.now ∷ []) cells) }
 {
     let mut loads = Vec::new(alloc);
     push_loads(program, value, path, &mut loads)?;
@@ -145,8 +156,11 @@ fn printed_cells(
 ) -> Result<WorkCells, AllocError>
     requires formed { IsWellFormed (tree_of program.now) }
     requires limits { IsWithinLimits (tree_of program.now) }
-    requires good { IsTrue (list_all (is_good_item (scope_of (tree_of program.now)) (numbers_of (rounds_of path.now))) (map printed_of items.now)) }
-    ensures { IfOk result (λ cells. AreCells (tree_of program.now) (numbers_of (rounds_of path.now)) (flat_map loaded_in_item (map printed_of items.now)) [] cells) }
+    requires good { IsTrue
+        (list_all (is_good_item (scope_of (tree_of program.now)) (numbers_of (rounds_of path.now)))
+        (map printed_of items.now)) }
+    ensures { IfOk result (λ cells. AreCells (tree_of program.now) (numbers_of (rounds_of path.now))
+        (flat_map loaded_in_item (map printed_of items.now)) [] cells) }
 {
     let mut loads = Vec::new(alloc);
     for item in items {
@@ -164,8 +178,11 @@ fn push_item_cells(
 ) -> Result<(), AllocError>
     requires formed { IsWellFormed (tree_of program.now) }
     requires limits { IsWithinLimits (tree_of program.now) }
-    requires good { IsTrue (is_good_item (scope_of (tree_of program.now)) (numbers_of (rounds_of path.now)) (printed_of item.now)) }
-    ensures { OnOk result (GrewBy (AreLoadCells (tree_of program.now) (numbers_of (rounds_of path.now))) (loaded_in_item (printed_of item.now)) loads.old.items loads.new.items) }
+    requires good { IsTrue (is_good_item (scope_of (tree_of program.now))
+        (numbers_of (rounds_of path.now)) (printed_of item.now)) }
+    ensures { OnOk result
+        (GrewBy (AreLoadCells (tree_of program.now) (numbers_of (rounds_of path.now)))
+        (loaded_in_item (printed_of item.now)) loads.old.items loads.new.items) }
 {
     match item {
         PrintItem::Value(e) => push_loads(program, e, path, loads),
@@ -183,7 +200,8 @@ fn whole_cells(program: &Program, variable: u32) -> LoadCells
     requires limits { IsWithinLimits (tree_of program.now) }
     requires low { 1 ≤ variable }
     requires high { variable ≤ length (tree_of program.now).variables }
-    ensures { (around : List ℕ) → AreLoadCells (tree_of program.now) around (array variable) result }
+    ensures { (around : List ℕ)
+        → AreLoadCells (tree_of program.now) around (array variable) result }
 {
     let first = program.layout().first_cell(variable);
     let count = program.variables[variable as usize - 1].element_count();
@@ -203,8 +221,11 @@ fn push_loads(
 ) -> Result<(), AllocError>
     requires formed { IsWellFormed (tree_of program.now) }
     requires limits { IsWithinLimits (tree_of program.now) }
-    requires good { IsTrue (is_good_expression (scope_of (tree_of program.now)) (numbers_of (rounds_of path.now)) (expression_of e.now)) }
-    ensures { OnOk result (GrewBy (AreLoadCells (tree_of program.now) (numbers_of (rounds_of path.now))) (map element (loads_in (expression_of e.now))) loads.old.items loads.new.items) }
+    requires good { IsTrue (is_good_expression (scope_of (tree_of program.now))
+        (numbers_of (rounds_of path.now)) (expression_of e.now)) }
+    ensures { OnOk result
+        (GrewBy (AreLoadCells (tree_of program.now) (numbers_of (rounds_of path.now)))
+        (map element (loads_in (expression_of e.now))) loads.old.items loads.new.items) }
 {
     match e {
         Expr::Number(_) | Expr::LoopValue(_) | Expr::Param(_) => Ok(()),
@@ -233,8 +254,12 @@ fn push_all_loads(
 ) -> Result<(), AllocError>
     requires formed { IsWellFormed (tree_of program.now) }
     requires limits { IsWithinLimits (tree_of program.now) }
-    requires good { IsTrue (are_good_expressions (scope_of (tree_of program.now)) (numbers_of (rounds_of path.now)) (expressions_from arguments.now)) }
-    ensures { OnOk result (GrewBy (AreLoadCells (tree_of program.now) (numbers_of (rounds_of path.now))) (map element (loads_among (expressions_from arguments.now))) loads.old.items loads.new.items) }
+    requires good { IsTrue (are_good_expressions (scope_of (tree_of program.now))
+        (numbers_of (rounds_of path.now)) (expressions_from arguments.now)) }
+    ensures { OnOk result
+        (GrewBy (AreLoadCells (tree_of program.now) (numbers_of (rounds_of path.now)))
+        (map element (loads_among (expressions_from arguments.now))) loads.old.items
+        loads.new.items) }
 {
     for argument in arguments {
         push_loads(program, argument, path, loads)?;

@@ -53,9 +53,13 @@ impl Trips {
 
     /// The trips of a loop of a program, where these loops are round it.
     pub fn of_nest(program: &Program, nest: &Nest, path: &Path) -> Self
-        requires numbered { IsTrue (list_all (λ (r : Round). is_number_of (loops_of (tree_of program.now).items) r.number) (rounds_of path.now)) }
-        requires head { IsTrue (is_small_head (param_values (tree_of program.now)) (loops_in (tree_of program.now) (rounds_of path.now)) (head_of nest.now)) }
-        ensures { trips_left result ≡ head_trips (param_values (tree_of program.now)) (head_of nest.now) (loops_in (tree_of program.now) (rounds_of path.now)) }
+        requires numbered { IsTrue
+            (list_all (λ (r : Round). is_number_of (loops_of (tree_of program.now).items) r.number)
+            (rounds_of path.now)) }
+        requires head { IsTrue (is_small_head (param_values (tree_of program.now))
+            (loops_in (tree_of program.now) (rounds_of path.now)) (head_of nest.now)) }
+        ensures { trips_left result ≡ head_trips (param_values (tree_of program.now))
+            (head_of nest.now) (loops_in (tree_of program.now) (rounds_of path.now)) }
     {
         let m1 = small_value(program, &nest.m1, path);
         let m2 = small_value(program, &nest.m2, path);
@@ -84,9 +88,14 @@ impl Trips {
 
 // The value of a form on a path, where it is small.
 fn small_value(program: &Program, form: &Affine, path: &Path) -> i64
-    requires numbered { IsTrue (list_all (λ (r : Round). is_number_of (loops_of (tree_of program.now).items) r.number) (rounds_of path.now)) }
-    requires small { IsTrue (is_small (form_value form.now (loops_in (tree_of program.now) (rounds_of path.now)) (param_values (tree_of program.now)))) }
-    ensures { result ≡ form_value form.now (loops_in (tree_of program.now) (rounds_of path.now)) (param_values (tree_of program.now)) }
+    requires numbered { IsTrue
+        (list_all (λ (r : Round). is_number_of (loops_of (tree_of program.now).items) r.number)
+        (rounds_of path.now)) }
+    requires small { IsTrue
+        (is_small (form_value form.now (loops_in (tree_of program.now) (rounds_of path.now))
+        (param_values (tree_of program.now)))) }
+    ensures { result ≡ form_value form.now (loops_in (tree_of program.now) (rounds_of path.now))
+        (param_values (tree_of program.now)) }
 {
     value_at(form, path, &program.params)
 }

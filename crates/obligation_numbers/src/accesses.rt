@@ -42,7 +42,8 @@ pub(crate) fn statement_weight<W: AccessWeight>(weight: &W, item: &Item) -> u64
 // Those of these statements.
 #[cycle(works)]
 fn statements_weight<W: AccessWeight>(weight: &W, items: &[Item]) -> u64
-    ensures { result ≡ u64_saturate (access_sums (W.weight weight.now) (statements_from items.now)) }
+    ensures { result
+        ≡ u64_saturate (access_sums (W.weight weight.now) (statements_from items.now)) }
 {
     let mut total = 0u64;
     for item in items {
@@ -53,7 +54,8 @@ fn statements_weight<W: AccessWeight>(weight: &W, items: &[Item]) -> u64
 
 // What the items of a PRINT load.
 fn printed_weight<W: AccessWeight>(weight: &W, items: &[PrintItem]) -> u64
-    ensures { result ≡ u64_saturate (sum_by (λ l. W.weight weight.now (variable_of l) false) (flat_map loaded_in_item (map printed_of items.now))) }
+    ensures { result ≡ u64_saturate (sum_by (λ l. W.weight weight.now (variable_of l) false)
+        (flat_map loaded_in_item (map printed_of items.now))) }
 {
     let mut total = 0u64;
     for item in items {
@@ -64,7 +66,8 @@ fn printed_weight<W: AccessWeight>(weight: &W, items: &[PrintItem]) -> u64
 
 // What an item of a PRINT loads.
 fn item_weight<W: AccessWeight>(weight: &W, item: &PrintItem) -> u64
-    ensures { result ≡ u64_saturate (sum_by (λ l. W.weight weight.now (variable_of l) false) (loaded_in_item (printed_of item.now))) }
+    ensures { result ≡ u64_saturate (sum_by (λ l. W.weight weight.now (variable_of l) false)
+        (loaded_in_item (printed_of item.now))) }
 {
     match item {
         PrintItem::Value(e) => expression_weight(weight, e),
@@ -76,7 +79,8 @@ fn item_weight<W: AccessWeight>(weight: &W, item: &PrintItem) -> u64
 // What an expression loads.
 #[cycle(loads)]
 fn expression_weight<W: AccessWeight>(weight: &W, e: &Expr) -> u64
-    ensures { result ≡ u64_saturate (sum_by (λ (a : Access). W.weight weight.now a.variable false) (loads_in (expression_of e.now))) }
+    ensures { result ≡ u64_saturate (sum_by (λ (a : Access). W.weight weight.now a.variable false)
+        (loads_in (expression_of e.now))) }
 {
     match e {
         Expr::Number(_) | Expr::LoopValue(_) | Expr::Param(_) => 0,
@@ -93,7 +97,8 @@ fn expression_weight<W: AccessWeight>(weight: &W, e: &Expr) -> u64
 // What arguments load.
 #[cycle(loads)]
 fn arguments_weight<W: AccessWeight>(weight: &W, arguments: &[Expr]) -> u64
-    ensures { result ≡ u64_saturate (sum_by (λ (a : Access). W.weight weight.now a.variable false) (loads_among (expressions_from arguments.now))) }
+    ensures { result ≡ u64_saturate (sum_by (λ (a : Access). W.weight weight.now a.variable false)
+        (loads_among (expressions_from arguments.now))) }
 {
     let mut total = 0u64;
     for argument in arguments {
@@ -123,7 +128,8 @@ impl<W: AccessWeight> AccessWeight for Without<'_, W> {
 
 // What the accesses of a phase weigh that others see: of a private scalar one store.
 pub(crate) fn shown_weight<W: AccessWeight>(weight: &W, cut: &Cut, item: &Item) -> u64
-    ensures { result ≡ u64_saturate (shown_sum cut.now (W.weight weight.now) (statement_of item.now)) }
+    ensures { result
+        ≡ u64_saturate (shown_sum cut.now (W.weight weight.now) (statement_of item.now)) }
 {
     let scalars = privates_in(cut, item);
     let mut total = statement_weight(&Without { weight, scalars }, item);

@@ -39,7 +39,8 @@ struct Others<'x> {
 }
 
 impl AccessWeight for Others<'_> {
-    ghost weight = { λ others variable stores. shown_sum others.cut.now (conflict_count variable stores) (statement_of others.item.now) };
+    ghost weight = { λ others variable stores. shown_sum others.cut.now
+        (conflict_count variable stores) (statement_of others.item.now) };
 
     fn weigh(&self, variable: u32, stores: bool) -> u64 {
         shown_weight(&One { variable, stores }, self.cut, self.item)
@@ -48,7 +49,8 @@ impl AccessWeight for Others<'_> {
 
 // How many ordered pairs of accesses of two phases conflict; past 64 bits the greatest number.
 pub(crate) fn pair_count(cut: &Cut, first: &Item, second: &Item) -> u64
-    ensures { result ≡ u64_saturate (pairs_between cut.now (statement_of first.now) (statement_of second.now)) }
+    ensures { result
+        ≡ u64_saturate (pairs_between cut.now (statement_of first.now) (statement_of second.now)) }
 {
     shown_weight(&Others { cut, item: second }, cut, first)
 }
@@ -62,7 +64,10 @@ struct InTrips<'x> {
 }
 
 impl AccessWeight for InTrips<'_> {
-    ghost weight = { λ x variable stores. if is_among (privates_in_phase x.cut.now (statement_of x.item.now)) variable || stands_summed x.cut.now (statement_of x.item.now) variable then 0 else access_sum (conflict_count variable stores) (statement_of x.item.now) };
+    ghost weight = { λ x variable stores. if is_among
+        (privates_in_phase x.cut.now (statement_of x.item.now)) variable
+        || stands_summed x.cut.now (statement_of x.item.now) variable then 0
+        else access_sum (conflict_count variable stores) (statement_of x.item.now) };
 
     fn weigh(&self, variable: u32, stores: bool) -> u64 {
         let own = privates_in(self.cut, self.item).contains(&variable)

@@ -40,7 +40,9 @@ fn obligation_in(
 ) -> Result<Option<Obligation>, AllocError>
     requires shape { wrong_field (tree_of program.now) plan.now ≡ None }
     requires reached { group.now.number ≤ number }
-    ensures { IfOk result (λ found. found ≡ slice_get (obligations_in (tree_of program.now) plan.now (group_seen group.now)) (number - group.now.number)) }
+    ensures { IfOk result (λ found. found
+        ≡ slice_get (obligations_in (tree_of program.now) plan.now (group_seen group.now))
+        (number - group.now.number)) }
 {
     let mut made = group.obligations(alloc, program, plan)?;
     let place = (number - group.number) as usize;
@@ -59,7 +61,8 @@ pub fn obligation_at(
 ) -> Result<Option<Obligation>, AllocError>
     requires formed { IsWellFormed (tree_of program.now) }
     requires shape { wrong_field (tree_of program.now) plan.now ≡ None }
-    ensures { IfOk result (λ found. found ≡ obligation_numbered number (obligations_of (tree_of program.now) plan.now)) }
+    ensures { IfOk result (λ found. found
+        ≡ obligation_numbered number (obligations_of (tree_of program.now) plan.now)) }
 {
     if number == 0 {
         return Ok(None);

@@ -34,7 +34,9 @@ struct Sum {
 // What the static phases of a program weigh; past 64 bits the greatest number.
 pub(crate) fn phases_weight<W: PhaseWeight>(weight: &W, program: &Program, cut: &Cut) -> u64
     requires { IsWellFormed (tree_of program.now) }
-    ensures { result ≡ u64_saturate (sum_from (W.weight weight.now) 1 (phases_of (tree_of program.now) cut.now.marks)) }
+    ensures { result
+        ≡ u64_saturate
+        (sum_from (W.weight weight.now) 1 (phases_of (tree_of program.now) cut.now.marks)) }
 {
     let mut sum = Sum { next: 1, total: 0 };
     add_all(
@@ -56,12 +58,18 @@ fn add_all<'a, W: PhaseWeight>(
     items: &'a [Item],
     sum: &mut Sum,
 )
-    requires good { (scope : Scope) × (around : List ℕ) × (number : ℕ) × (length around ≡ length (loops_of outer)) × IsTrue (are_good_statements scope around number (statements_from items.now)) }
+    requires good { (scope : Scope) × (around : List ℕ) × (number : ℕ)
+        × (length around ≡ length (loops_of outer))
+        × IsTrue (are_good_statements scope around number (statements_from items.now)) }
     requires few { sum.old.next + statement_count (statements_from items.now) < 2 ^ 32 }
     requires fits { sum.old.total < 2 ^ 64 }
-    ensures next { sum.new.next ≡ sum.old.next + stops_of (enters_but closed.now) (statements_from items.now) }
+    ensures next { sum.new.next ≡ sum.old.next + stops_of (enters_but closed.now)
+        (statements_from items.now) }
     ensures few { sum.new.next ≤ sum.old.next + statement_count (statements_from items.now) }
-    ensures total { sum.new.total ≡ u64_saturate (sum.old.total + sum_from (W.weight weight.now) sum.old.next (phases_among (enters_but closed.now) (heads_of (loops_of outer.entry)) (statements_from items.now))) }
+    ensures total { sum.new.total
+        ≡ u64_saturate (sum.old.total + sum_from (W.weight weight.now) sum.old.next
+        (phases_among (enters_but closed.now) (heads_of (loops_of outer.entry))
+        (statements_from items.now))) }
 {
     for item in items {
         add_in(weight, closed, outer, item, sum);
@@ -76,12 +84,18 @@ fn add_in<'a, W: PhaseWeight>(
     item: &'a Item,
     sum: &mut Sum,
 )
-    requires good { (scope : Scope) × (around : List ℕ) × (number : ℕ) × (length around ≡ length (loops_of outer)) × IsTrue (is_good_statement scope around number (statement_of item.now)) }
+    requires good { (scope : Scope) × (around : List ℕ) × (number : ℕ)
+        × (length around ≡ length (loops_of outer))
+        × IsTrue (is_good_statement scope around number (statement_of item.now)) }
     requires few { sum.old.next + statements_in (statement_of item.now) < 2 ^ 32 }
     requires fits { sum.old.total < 2 ^ 64 }
-    ensures next { sum.new.next ≡ sum.old.next + stops_in (enters_but closed.now) (statement_of item.now) }
+    ensures next { sum.new.next ≡ sum.old.next + stops_in (enters_but closed.now)
+        (statement_of item.now) }
     ensures few { sum.new.next ≤ sum.old.next + statements_in (statement_of item.now) }
-    ensures total { sum.new.total ≡ u64_saturate (sum.old.total + sum_from (W.weight weight.now) sum.old.next (phases_in (enters_but closed.now) (heads_of (loops_of outer.entry)) (statement_of item.now))) }
+    ensures total { sum.new.total
+        ≡ u64_saturate (sum.old.total + sum_from (W.weight weight.now) sum.old.next
+        (phases_in (enters_but closed.now) (heads_of (loops_of outer.entry))
+        (statement_of item.now))) }
 {
     match item {
         Item::Loop(nest) => {
@@ -102,7 +116,9 @@ fn add_in<'a, W: PhaseWeight>(
 fn add_phase<W: PhaseWeight>(weight: &W, phase: &StaticPhase, sum: &mut Sum)
     requires { sum.old.next + 1 < 2 ^ 32 }
     ensures next { sum.new.next ≡ sum.old.next + 1 }
-    ensures total { sum.new.total ≡ u64_saturate (sum.old.total + W.weight weight.now sum.old.next (static_phase_seen phase.now)) }
+    ensures total { sum.new.total
+        ≡ u64_saturate (sum.old.total + W.weight weight.now sum.old.next
+        (static_phase_seen phase.now)) }
 {
     sum.total = sum.total.saturating_add(weight.weigh(sum.next, phase));
     sum.next += 1;

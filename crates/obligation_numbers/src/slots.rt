@@ -21,7 +21,9 @@ use sync_plan::Plan;
 impl Both<'_, '_> {
     // The boundaries that are certain at a level and whose kinds pass a test.
     fn certain(&self, level: usize, test: Test) -> u64
-        ensures { result ≡ u64_saturate (certain_count (passes test) self.now.second.scene.plan.now.kinds (phases_at self.now) (slot_at self.now level)) }
+        ensures { result
+            ≡ u64_saturate (certain_count (passes test) self.now.second.scene.plan.now.kinds
+            (phases_at self.now) (slot_at self.now level)) }
     {
         let certain = Certain {
             level: self.at(level),
@@ -37,7 +39,10 @@ impl Both<'_, '_> {
 
     // How many pieces each pair has at a level.
     fn piece_count(&self, level: usize) -> u64
-        ensures { result ≡ piece_count (slot_signature self.now.second.scene.plan.now.version self.now.second.scene.plan.now.kinds (phases_at self.now) (slot_at self.now level)) }
+        ensures { result
+            ≡ piece_count
+            (slot_signature self.now.second.scene.plan.now.version
+            self.now.second.scene.plan.now.kinds (phases_at self.now) (slot_at self.now level)) }
     {
         if self.certain(level, Test::IsBarrier) > 0 {
             return 0;
@@ -52,8 +57,12 @@ impl Both<'_, '_> {
 
     // How many systems there are at a level of so many pairs.
     fn slot_count(&self, pairs: u64, level: usize) -> u64
-        requires { pairs ≡ u64_saturate (pairs_between self.now.second.scene.plan.now.cut (first_of self.now).what (second_of self.now.second).what) }
-        ensures { result ≡ u64_saturate (slot_count self.now.second.scene.plan.now (phases_at self.now) (slot_at self.now level)) }
+        requires { pairs
+            ≡ u64_saturate (pairs_between self.now.second.scene.plan.now.cut
+            (first_of self.now).what (second_of self.now.second).what) }
+        ensures { result
+            ≡ u64_saturate (slot_count self.now.second.scene.plan.now (phases_at self.now)
+            (slot_at self.now level)) }
     {
         if pairs == 0 {
             0
@@ -64,9 +73,14 @@ impl Both<'_, '_> {
 
     // Those at the last levels, so many, of these loops.
     fn carried_count(&self, pairs: u64, loops: usize, left: usize) -> u64
-        requires pairs { pairs ≡ u64_saturate (pairs_between self.now.second.scene.plan.now.cut (first_of self.now).what (second_of self.now.second).what) }
+        requires pairs { pairs
+            ≡ u64_saturate (pairs_between self.now.second.scene.plan.now.cut
+            (first_of self.now).what (second_of self.now.second).what) }
         requires left { left ≤ loops }
-        ensures { result ≡ u64_saturate (sum_by (λ level. slot_count self.now.second.scene.plan.now (phases_at self.now) (slot_at self.now level)) (range_with_len (loops - left + 1) left)) }
+        ensures { result
+            ≡ u64_saturate
+            (sum_by (λ level. slot_count self.now.second.scene.plan.now (phases_at self.now)
+            (slot_at self.now level)) (range_with_len (loops - left + 1) left)) }
     {
         if left == 0 {
             return 0;
@@ -78,7 +92,10 @@ impl Both<'_, '_> {
 
     // Those at all levels.
     fn count(&self) -> u64
-        ensures { result ≡ u64_saturate (count_between self.now.second.scene.plan.now (phases_at self.now) self.now.second.t (second_of self.now.second) self.now.s (first_of self.now)) }
+        ensures { result
+            ≡ u64_saturate (count_between self.now.second.scene.plan.now
+            (phases_at self.now) self.now.second.t (second_of self.now.second) self.now.s
+            (first_of self.now)) }
     {
         let cut = &self.second.scene.plan.cut;
         let pairs = pair_count(cut, self.first.item, self.second.phase.item);
@@ -94,7 +111,9 @@ impl Both<'_, '_> {
 }
 
 impl PhaseWeight for Second<'_, '_> {
-    ghost weight = { λ x s first. count_between x.scene.plan.now (phases_of (tree_of x.scene.program.now) x.scene.plan.now.cut.marks) x.t (second_of x) s first };
+    ghost weight = { λ x s first. count_between x.scene.plan.now
+        (phases_of (tree_of x.scene.program.now) x.scene.plan.now.cut.marks) x.t
+        (second_of x) s first };
 
     fn weigh(&self, number: u32, phase: &StaticPhase) -> u64 {
         let both = Both {
@@ -107,7 +126,8 @@ impl PhaseWeight for Second<'_, '_> {
 }
 
 impl PhaseWeight for Scene<'_> {
-    ghost weight = { λ x t second. count_before x.plan.now (phases_of (tree_of x.program.now) x.plan.now.cut.marks) t second };
+    ghost weight = { λ x t second. count_before x.plan.now
+        (phases_of (tree_of x.program.now) x.plan.now.cut.marks) t second };
 
     fn weigh(&self, number: u32, phase: &StaticPhase) -> u64 {
         let second = Second {

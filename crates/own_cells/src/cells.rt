@@ -61,7 +61,8 @@ impl OwnCells {
         requires formed { IsWellFormed (tree_of program.now) }
         requires cells { cell_count (tree_of program.now) ≤ 1048576 }
         requires few { AreFew (tree_of program.now) (own_loop_of cut.now (loop_of nest.now)) }
-        ensures { AreOwnCells (tree_of program.now) (own_loop_of cut.now (loop_of nest.now)) result }
+        ensures { AreOwnCells (tree_of program.now)
+            (own_loop_of cut.now (loop_of nest.now)) result }
     {
         let mut own = OwnCells::none();
         own.private_cells = cells_of(program, cut.privates_of(nest.number));
@@ -77,7 +78,8 @@ impl OwnCells {
 
     /// Whether there is none.
     pub fn is_empty(&self) -> bool
-        ensures { (tree : Tree) → (own : OwnLoop) → AreOwnCells tree own self.now → result ≡ true → (own.privates ≡ []) × (own.sums ≡ []) }
+        ensures { (tree : Tree) → (own : OwnLoop) → AreOwnCells tree own self.now → result ≡ true
+            → (own.privates ≡ []) × (own.sums ≡ []) }
     {
         self.private_cells.is_empty() && self.sums.is_empty()
     }
@@ -91,7 +93,9 @@ impl OwnCells {
 
     /// The place of a cell that all share among those of the own scalars, if it is one's.
     pub fn place_of(&self, cell: u32) -> Option<usize>
-        ensures { (tree : Tree) → (plan : Plan) → (place : ℕ) → AreOwnCells tree (own_loop tree plan place) self.now → result ≡ (own_of tree plan place).slot cell }
+        ensures { (tree : Tree) → (plan : Plan) → (place : ℕ)
+            → AreOwnCells tree (own_loop tree plan place) self.now
+            → result ≡ (own_of tree plan place).slot cell }
     {
         if let Some(place) = place_in(self.private_cells.as_slice(), cell) {
             return Some(place);

@@ -17,9 +17,12 @@ use nest_walk::{Path, value_at};
 /// Whether a loop that is in a trip, with these loops round it and its own value among them, has no
 /// trip behind that one.
 pub fn is_final(program: &Program, path: &Path, nest: &Nest) -> bool
-    requires numbered { IsTrue (list_all (λ (r : Round). is_number_of (loops_of (tree_of program.now).items) r.number) (rounds_of path.now)) }
+    requires numbered { IsTrue
+        (list_all (λ (r : Round). is_number_of (loops_of (tree_of program.now).items) r.number)
+        (rounds_of path.now)) }
     requires number { IsTrue (is_number_of (loops_of (tree_of program.now).items) nest.now.number) }
-    ensures { result ≡ is_final (param_values (tree_of program.now)) (head_of nest.now) (loops_in (tree_of program.now) (rounds_of path.now)) }
+    ensures { result ≡ is_final (param_values (tree_of program.now)) (head_of nest.now)
+        (loops_in (tree_of program.now) (rounds_of path.now)) }
 {
     let value = path.value_of(nest.number);
     let last = value_at(&nest.m2, path, &program.params);

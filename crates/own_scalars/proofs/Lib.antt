@@ -1,3 +1,4 @@
 pub mod Ranges
 pub mod Stored
 pub mod OwnLaws
+mod Examples

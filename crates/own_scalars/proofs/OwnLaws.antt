@@ -6,7 +6,7 @@ use Rattle.std.proofs.lemmas.Bool.{and_from, and_parts, cases_Bool, eqb-true}
 use Rattle.std.proofs.lemmas.List.Folds.{list_any-append}
 use Rattle.nest_tree.specs.Loads.{loads_in}
 use Rattle.nest_tree.specs.Tree.{Expression, number, loop_value, param, load, neg, add, sub, mul, div, least_of, greatest_of, Work, assign, print, Statement, Statements, do_loop, work, continue, done, next}
-use Rattle.own_scalars.specs.OwnScalars.{adds_to, has_access, is_addition, is_load, is_of, is_other, is_plain_statement, is_plain_store, is_private, is_sum, last_stored, last_stored_in, loads, private_scalars, some_in, some_of, stores, sum_scalars}
+use Rattle.own_scalars.specs.OwnScalars.{adds_once, adds_to, has_access, is_addition, is_of, is_other, is_plain_statement, is_plain_store, is_private, is_sum, is_sum_or_difference, last_stored, last_stored_in, loads, private_scalars, some_in, some_of, stores, sum_scalars}
 use Rattle.own_scalars.proofs.Ranges.{there}
 use Rattle.own_scalars.proofs.Stored.{neither, unstored_private}
 
@@ -50,40 +50,34 @@ privates_there body v is = stored_there (λ u. is_private u body) body v stored 
 
 -- ---- a plain store is no addition
 
-loaded : (v : ℕ) (a : Expression) → is_load v a ≡ true → loads v a ≡ true
-loaded v (number n) e = absurd (cc)
-loaded v (loop_value l) e = absurd (cc)
-loaded v (param p) e = absurd (cc)
-loaded v (load a) e = ap (λ b. b || false) e
-loaded v (neg a) e = absurd (cc)
-loaded v (add a b) e = absurd (cc)
-loaded v (sub a b) e = absurd (cc)
-loaded v (mul a b) e = absurd (cc)
-loaded v (div a divisor) e = absurd (cc)
-loaded v (least_of arguments) e = absurd (cc)
-loaded v (greatest_of arguments) e = absurd (cc)
+left_loads : (v : ℕ) (a b : Expression) → loads v a ≡ true → list_any (is_of v) (loads_in a ++ loads_in b) ≡ true
+left_loads v a b e = list_any-append (is_of v) (loads_in a) (loads_in b) ∙ ap (λ x. x || loads v b) e
 
-both_load : (v : ℕ) (a b : Expression) → loads v a ≡ true → list_any (is_of v) (loads_in a ++ loads_in b) ≡ true
-both_load v a b e = list_any-append (is_of v) (loads_in a) (loads_in b) ∙ ap (λ x. x || loads v b) e
+right_loads : (v : ℕ) (a b : Expression) → loads v b ≡ true → list_any (is_of v) (loads_in a ++ loads_in b) ≡ true
+right_loads v a b e = list_any-append (is_of v) (loads_in a) (loads_in b) ∙ or_true (loads v a) e
+  where
+    or_true : {y : Bool} (x : Bool) → y ≡ true → (x || y) ≡ true
+    or_true true h = refl
+    or_true false h = h
+
+added_loads : (v : ℕ) (e : Expression) → adds_once v e ≡ true → loads v e ≡ true
+added_loads v (number n) h = absurd (cc)
+added_loads v (loop_value l) h = absurd (cc)
+added_loads v (param p) h = absurd (cc)
+added_loads v (load a) h = ap (λ b. b || false) h
+added_loads v (neg a) h = absurd (cc)
+added_loads v (add a b) h = elim (either (adds_once v a && not (loads v b)) (adds_once v b && not (loads v a)) h) [
+  | inl left ↦ left_loads v a b (added_loads v a (and_parts (adds_once v a) (not (loads v b)) left).0)
+  | inr right ↦ right_loads v a b (added_loads v b (and_parts (adds_once v b) (not (loads v a)) right).0)
+]
+added_loads v (sub a b) h = left_loads v a b (added_loads v a (and_parts (adds_once v a) (not (loads v b)) h).0)
+added_loads v (mul a b) h = absurd (cc)
+added_loads v (div a divisor) h = absurd (cc)
+added_loads v (least_of arguments) h = absurd (cc)
+added_loads v (greatest_of arguments) h = absurd (cc)
 
 adds_load : (v : ℕ) (e : Expression) → adds_to v e ≡ true → loads v e ≡ true
-adds_load v (number n) h = absurd (cc)
-adds_load v (loop_value l) h = absurd (cc)
-adds_load v (param p) h = absurd (cc)
-adds_load v (load a) h = absurd (cc)
-adds_load v (neg a) h = absurd (cc)
-adds_load v (add a b) h = elim (either (is_load v a) (adds_to v a) (and_parts (is_load v a || adds_to v a) (not (loads v b)) h).0) [
-  | inl here ↦ both_load v a b (loaded v a here)
-  | inr inside ↦ both_load v a b (adds_load v a inside)
-]
-adds_load v (sub a b) h = elim (either (is_load v a) (adds_to v a) (and_parts (is_load v a || adds_to v a) (not (loads v b)) h).0) [
-  | inl here ↦ both_load v a b (loaded v a here)
-  | inr inside ↦ both_load v a b (adds_load v a inside)
-]
-adds_load v (mul a b) h = absurd (cc)
-adds_load v (div a divisor) h = absurd (cc)
-adds_load v (least_of arguments) h = absurd (cc)
-adds_load v (greatest_of arguments) h = absurd (cc)
+adds_load v e h = added_loads v e (and_parts (is_sum_or_difference e) (adds_once v e) h).1
 
 plain_other : (v : ℕ) (w : Work) → is_plain_store v w ≡ true → is_other v w ≡ true
 plain_other v (print p) e = absurd (cc)

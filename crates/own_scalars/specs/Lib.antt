@@ -1,2 +1,3 @@
 pub mod OwnScalars
 pub mod Looks
+pub mod Examples

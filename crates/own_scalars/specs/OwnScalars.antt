@@ -1,5 +1,5 @@
 -- Scalars of which each processor may have a cell of its own in a loop: those that the loop sums up, and those that are private in it. Only accesses without subscripts count.
-use Rattle.std.specs.Prelude.{ℕ, suc, Bool, false, not, ◌&&◌, ◌||◌, ◌==◌, max, List, length, is_none, if◌then◌else◌}
+use Rattle.std.specs.Prelude.{ℕ, suc, Bool, true, false, not, ◌&&◌, ◌||◌, ◌==◌, max, List, length, is_none, if◌then◌else◌}
 use Rattle.std.specs.List.{filter, list_any, range_with_len}
 use Rattle.nest_tree.specs.declared.tree.Access.{Access}
 use Rattle.nest_tree.specs.Loads.{loads_in, loads_in_work}
@@ -13,33 +13,36 @@ is_of v a = a.variable == v && length a.subscripts == 0
 abbrev pub loads : ℕ → Expression → Bool
 loads v e = list_any (is_of v) (loads_in e)
 
--- an expression is its load
-abbrev pub is_load : ℕ → Expression → Bool
-is_load v (number n) = false
-is_load v (loop_value l) = false
-is_load v (param p) = false
-is_load v (load a) = is_of v a
-is_load v (neg a) = false
-is_load v (add a b) = false
-is_load v (sub a b) = false
-is_load v (mul a b) = false
-is_load v (div a divisor) = false
-is_load v (least_of arguments) = false
-is_load v (greatest_of arguments) = false
+-- an expression adds the scalar once: it is the scalar's load, or a sum of which one side adds it once and the other doesn't load it, or a difference of which the left side does and the right side doesn't load it
+abbrev pub adds_once : ℕ → Expression → Bool
+adds_once v (number n) = false
+adds_once v (loop_value l) = false
+adds_once v (param p) = false
+adds_once v (load a) = is_of v a
+adds_once v (neg a) = false
+adds_once v (add a b) = (adds_once v a && not (loads v b)) || (adds_once v b && not (loads v a))
+adds_once v (sub a b) = adds_once v a && not (loads v b)
+adds_once v (mul a b) = false
+adds_once v (div a divisor) = false
+adds_once v (least_of arguments) = false
+adds_once v (greatest_of arguments) = false
 
--- an expression is the scalar with terms, one at least, that are added to it or subtracted and don't load it
+abbrev pub is_sum_or_difference : Expression → Bool
+is_sum_or_difference (number n) = false
+is_sum_or_difference (loop_value l) = false
+is_sum_or_difference (param p) = false
+is_sum_or_difference (load a) = false
+is_sum_or_difference (neg a) = false
+is_sum_or_difference (add a b) = true
+is_sum_or_difference (sub a b) = true
+is_sum_or_difference (mul a b) = false
+is_sum_or_difference (div a divisor) = false
+is_sum_or_difference (least_of arguments) = false
+is_sum_or_difference (greatest_of arguments) = false
+
+-- an expression is the scalar and more, which is added to it or subtracted from it and doesn't load it
 abbrev pub adds_to : ℕ → Expression → Bool
-adds_to v (number n) = false
-adds_to v (loop_value l) = false
-adds_to v (param p) = false
-adds_to v (load a) = false
-adds_to v (neg a) = false
-adds_to v (add a b) = (is_load v a || adds_to v a) && not (loads v b)
-adds_to v (sub a b) = (is_load v a || adds_to v a) && not (loads v b)
-adds_to v (mul a b) = false
-adds_to v (div a divisor) = false
-adds_to v (least_of arguments) = false
-adds_to v (greatest_of arguments) = false
+adds_to v e = is_sum_or_difference e && adds_once v e
 
 -- a piece of work stores the scalar
 abbrev pub stores : ℕ → Work → Bool

@@ -4,7 +4,7 @@ ghost use Rattle.std.specs.Prelude.{◌≡◌};
 ghost use Rattle.std.specs.List.{list_any};
 ghost use Rattle.nest_tree.specs.Loads.{loads_among};
 ghost use Rattle.nest_tree.specs.View.{expression_of, expressions_from};
-ghost use Rattle.own_scalars.specs.OwnScalars.{adds_to, is_load, is_of, loads};
+ghost use Rattle.own_scalars.specs.OwnScalars.{adds_once, adds_to, is_of, loads};
 
 use nest_tree::{Access, Expr};
 
@@ -45,18 +45,23 @@ fn one_loads(arguments: &[Expr], scalar: u32) -> bool
     false
 }
 
-// Whether an expression is the scalar's load.
-fn is_load(e: &Expr, scalar: u32) -> bool
-    ensures { result ≡ is_load scalar (expression_of e.now) }
+/// Whether an expression adds the scalar with this number, from 1, once: it is the scalar's load,
+/// or a sum of which one side adds it once and the other doesn't load it, or a difference of which
+/// the left side does and the right side doesn't load it. It takes no memory.
+pub fn adds_once(e: &Expr, scalar: u32) -> bool
+    ensures { result ≡ adds_once scalar (expression_of e.now) }
 {
     match e {
         Expr::Load(access) => is_of(access, scalar),
+        Expr::Add(a, b) => {
+            (adds_once(a, scalar) && !loads(b, scalar))
+                || (adds_once(b, scalar) && !loads(a, scalar))
+        }
+        Expr::Sub(a, b) => adds_once(a, scalar) && !loads(b, scalar),
         Expr::Number(_)
         | Expr::LoopValue(_)
         | Expr::Param(_)
         | Expr::Neg(_)
-        | Expr::Add(_, _)
-        | Expr::Sub(_, _)
         | Expr::Mul(_, _)
         | Expr::Div(_, _)
         | Expr::Min(_)
@@ -64,23 +69,9 @@ fn is_load(e: &Expr, scalar: u32) -> bool
     }
 }
 
-// Whether an expression is the scalar with terms, one at least, that are added to it or subtracted
-// and don't load it.
+// Whether an expression is a sum or a difference that adds the scalar once.
 pub(crate) fn adds_to(e: &Expr, scalar: u32) -> bool
     ensures { result ≡ adds_to scalar (expression_of e.now) }
 {
-    match e {
-        Expr::Add(a, b) | Expr::Sub(a, b) => {
-            (is_load(a, scalar) || adds_to(a, scalar)) && !loads(b, scalar)
-        }
-        Expr::Number(_)
-        | Expr::LoopValue(_)
-        | Expr::Param(_)
-        | Expr::Load(_)
-        | Expr::Neg(_)
-        | Expr::Mul(_, _)
-        | Expr::Div(_, _)
-        | Expr::Min(_)
-        | Expr::Max(_) => false,
-    }
+    matches!(e, Expr::Add(_, _) | Expr::Sub(_, _)) && adds_once(e, scalar)
 }

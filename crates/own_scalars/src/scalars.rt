@@ -13,8 +13,8 @@ use nest_tree::{Item, Nest};
 pub const MOST_OWN: usize = 16;
 
 /// Whether the scalar with this number, from 1, is a sum scalar of a loop with this body: it is
-/// stored there, and each access of it is in an assignment that adds terms to it or subtracts them,
-/// none of which loads it. It takes no memory.
+/// stored there, and each access of it is in an assignment to it of a sum or a difference that adds
+/// it once. It takes no memory.
 pub fn is_sum(body: &[Item], scalar: u32) -> bool
     ensures { result ≡ is_sum scalar (statements_from body.now) }
 {
@@ -86,8 +86,10 @@ fn last_stored_in(item: &Item) -> u32
 /// The sum scalars of a loop in the order of their cells; none where there are more than 16. It
 /// takes no memory.
 pub fn sum_scalars(nest: &Nest) -> Option<ArrayVec<u32, MOST_OWN>>
-    ensures found { IfSome result (λ found. found.items ≡ sum_scalars (statements_from nest.now.items.items)) }
-    ensures few { IsSome result ↔ (length (sum_scalars (statements_from nest.now.items.items)) ≤ 16) }
+    ensures found { IfSome result (λ found. found.items
+        ≡ sum_scalars (statements_from nest.now.items.items)) }
+    ensures few { IsSome result
+        ↔ (length (sum_scalars (statements_from nest.now.items.items)) ≤ 16) }
 {
     let body = nest.items.as_slice();
     let mut found = ArrayVec::new();

@@ -26,7 +26,16 @@ pub(crate) enum Look {
 impl Look {
     // Whether an assignment is what is looked for.
     fn is_assignment(self, target: &Access, value: &Expr, scalar: u32) -> bool
-        ensures { (guard : Option Guard) (line : ℕ) → result ≡ passes self scalar (assign (record { target = target.now; value = expression_of value.now; guard = guard; line = line })) }
+        ensures { (guard : Option Guard) (line : ℕ)
+            → result
+            ≡ passes self scalar
+            (assign
+            (record {
+              target = target.now;
+              value = expression_of value.now;
+              guard = guard;
+              line = line;
+            })) }
     {
         match self {
             Look::Store => is_of(target, scalar),
@@ -40,7 +49,10 @@ impl Look {
 
     // Whether a PRINT is.
     fn is_printing(self, items: &[PrintItem], scalar: u32) -> bool
-        ensures { (line : ℕ) → result ≡ passes self scalar (print (record { items = map printed_of items.now; line = line })) }
+        ensures { (line : ℕ)
+            → result
+            ≡ passes self scalar
+            (print (record { items = map printed_of items.now; line = line })) }
     {
         match self {
             Look::Store => false,

@@ -1,9 +1,9 @@
 pub mod Instances
 mod Places
 mod Anchors
-mod Congruences
-mod Limits
-mod Strides
+pub mod Congruences
+pub mod Limits
+pub mod Strides
 pub mod Sums
 pub mod Dealt
 pub mod Trips

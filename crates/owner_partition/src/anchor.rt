@@ -1,8 +1,9 @@
 // Anchors, and the owners that they name.
 
-ghost use Rattle.std.specs.Prelude.{◌≡◌, ◌<◌, ◌≤◌, ◌↔◌, IsTrue, length};
+ghost use Rattle.std.specs.Prelude.{◌≡◌, ◌<◌, ◌≤◌, ◌↔◌, IsTrue, length, min};
 ghost use Rattle.nest_tree.specs.Form.{form_value, is_given};
-ghost use Rattle.owner_partition.specs.Owners.{anchor_owner, has_places, reaches};
+ghost use Rattle.nest_tree.specs.Layout.{count_of};
+ghost use Rattle.owner_partition.specs.Owners.{anchor_owner, dealt, has_places, reaches};
 
 use nest_tree::Affine;
 use std::alloc::{AllocError, Global};
@@ -66,7 +67,12 @@ impl Anchor {
 pub fn owner(anchor: &Anchor, loops: &[i64], params: &[i64], workers: u32) -> u32
     requires given { IsTrue (is_given anchor.now.form (length loops.now) (length params.now)) }
     requires workers { 1 ≤ workers }
-    requires placed { IsTrue (reaches anchor.now.dist workers (form_value anchor.now.form loops.now params.now, form_value anchor.now.form loops.now params.now)) }
+    requires placed { IsTrue
+        (reaches anchor.now.dist workers (
+          form_value anchor.now.form loops.now params.now,
+          form_value anchor.now.form loops.now
+              params.now,
+        )) }
     ensures owner { result ≡ anchor_owner anchor.now workers loops.now params.now }
     ensures worker { result < workers }
 {
@@ -74,5 +80,30 @@ pub fn owner(anchor: &Anchor, loops: &[i64], params: &[i64], workers: u32) -> u3
     match anchor.dist {
         Dist::Block(length) => value.div_euclid(i128::from(length)) as u32,
         Dist::Cyclic => value.rem_euclid(i128::from(workers)) as u32,
+    }
+}
+
+// The processor to whom a place is dealt, 0 below the first, and the number of workers past them.
+pub(crate) fn clamped_owner(dist: Dist, place: i128, workers: u32) -> u32
+    requires places { IsTrue (has_places dist) }
+    requires some { 1 ≤ workers }
+    ensures { result ≡ min (count_of (dealt dist workers place)) workers }
+{
+    match dist {
+        Dist::Block(length) => clamped(place.div_euclid(i128::from(length)), workers),
+        Dist::Cyclic => clamped(place.rem_euclid(i128::from(workers)), workers),
+    }
+}
+
+// A processor's number, 0 for one below 0, and the number of workers for one past them.
+fn clamped(owner: i128, workers: u32) -> u32
+    ensures { result ≡ min (count_of owner) workers }
+{
+    if owner < 0 {
+        0
+    } else if owner < i128::from(workers) {
+        owner as u32
+    } else {
+        workers
     }
 }

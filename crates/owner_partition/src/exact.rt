@@ -14,7 +14,8 @@ use nest_walk::Path;
 pub(crate) fn exact_on(form: &Affine, path: &Path, constants: &[Parameter]) -> i128
     requires { IsTrue (reach_within (length constants.now) form.now.params) }
     ensures form { IsForm form.now }
-    ensures value { result ≡ form_among form.now (rounds_of path.now) (map (λ (p : Parameter). p.value) constants.now) }
+    ensures value { result ≡ form_among form.now (rounds_of path.now)
+        (map (λ (p : Parameter). p.value) constants.now) }
     ensures near { unsigned_abs result ≤ 2 ^ 127 - 2 ^ 94 }
 {
     let varying = loops_sum(i128::from(form.constant()), form.loops(), path);

@@ -1,6 +1,6 @@
 // The instances of a phase that a processor owns.
 
-ghost use Rattle.std.specs.Prelude.{◌≡◌, ◌==◌, ◌+◌, ◌-◌, ◌*◌, ◌^◌, ◌<◌, ◌≤◌, ℕ, ℤ, pos, ◌+ℤ◌, ◌-ℤ◌, ◌*ℤ◌, ◌≤ℤ◌, IsTrue, length, map, unsigned_abs};
+ghost use Rattle.std.specs.Prelude.{[], ◌≡◌, ◌==◌, ◌+◌, ◌-◌, ◌*◌, ◌^◌, ◌<◌, ◌≤◌, ℕ, ℤ, pos, ◌+ℤ◌, ◌-ℤ◌, ◌*ℤ◌, ◌≤ℤ◌, IsTrue, length, map, unsigned_abs};
 ghost use Rattle.nest_tree.specs.Form.{IsForm, form_value, is_small, reach_within, rises_above};
 ghost use Rattle.nest_tree.specs.Tree.{param_values};
 ghost use Rattle.nest_tree.specs.View.{statement_of, tree_of};
@@ -55,7 +55,8 @@ fn own_trips_from(dist: Dist, workers: u32, p: u32, start: i128, rise: i128, cou
     requires block { (length : ℕ) → dist ≡ Block length → 1 ≤ length }
     requires rise { unsigned_abs rise ≤ 2 ^ 62 }
     requires count { count ≤ 2 ^ 32 }
-    ensures { own_numbers dist workers p start rise count ≡ strided result.first result.stride result.count }
+    ensures { own_numbers dist workers p start rise count
+        ≡ strided result.first result.stride result.count }
 {
     match dist {
         Dist::Block(_) => own_trips(dist, workers, p, clamped(start), rise, count),
@@ -84,7 +85,8 @@ fn strided_values(m1: i64, m3: i64, own: Strided) -> Trips
     requires first { IsTrue (is_small m1) }
     requires step { IsTrue (is_small m3) }
     requires within { (k : ℕ) → k < own.count → own.first + k * own.stride < 2 ^ 32 }
-    ensures { trips_left result ≡ map (λ n. m1 +ℤ (pos n *ℤ m3)) (strided own.first own.stride own.count) }
+    ensures { trips_left result
+        ≡ map (λ n. m1 +ℤ (pos n *ℤ m3)) (strided own.first own.stride own.count) }
 {
     if own.count == 0 {
         return Trips::new(m1, m3, 0);
@@ -121,19 +123,28 @@ fn multiple(count: u64, m3: i64) -> i64
 
 // The value of a form on a path, where it is small.
 fn small_value(program: &Program, path: &Path, form: &Affine) -> i64
-    requires numbered { IsTrue (list_all (λ (r : Round). is_number_of (loops_of (tree_of program.now).items) r.number) (rounds_of path.now)) }
-    requires small { IsTrue (is_small (form_value form.now (loops_in (tree_of program.now) (rounds_of path.now)) (param_values (tree_of program.now)))) }
-    ensures { result ≡ form_value form.now (loops_in (tree_of program.now) (rounds_of path.now)) (param_values (tree_of program.now)) }
+    requires numbered { IsTrue
+        (list_all (λ (r : Round). is_number_of (loops_of (tree_of program.now).items) r.number)
+        (rounds_of path.now)) }
+    requires small { IsTrue
+        (is_small (form_value form.now (loops_in (tree_of program.now) (rounds_of path.now))
+        (param_values (tree_of program.now)))) }
+    ensures { result ≡ form_value form.now (loops_in (tree_of program.now) (rounds_of path.now))
+        (param_values (tree_of program.now)) }
 {
     value_at(form, path, &program.params)
 }
 
 // The value of a form on a path.
-fn exact_value(program: &Program, path: &Path, form: &Affine) -> i128
-    requires numbered { IsTrue (list_all (λ (r : Round). is_number_of (loops_of (tree_of program.now).items) r.number) (rounds_of path.now)) }
+pub(crate) fn exact_value(program: &Program, path: &Path, form: &Affine) -> i128
+    requires numbered { IsTrue
+        (list_all (λ (r : Round). is_number_of (loops_of (tree_of program.now).items) r.number)
+        (rounds_of path.now)) }
     requires given { IsTrue (reach_within (length (tree_of program.now).params) form.now.params) }
     ensures form { IsForm form.now }
-    ensures value { result ≡ form_value form.now (loops_in (tree_of program.now) (rounds_of path.now)) (param_values (tree_of program.now)) }
+    ensures value { result
+        ≡ form_value form.now (loops_in (tree_of program.now) (rounds_of path.now))
+        (param_values (tree_of program.now)) }
     ensures near { unsigned_abs result ≤ 2 ^ 127 - 2 ^ 94 }
 {
     exact_on(form, path, &program.params)
@@ -158,16 +169,24 @@ fn own_values(
     p: u32,
     workers: u32,
 ) -> Trips
-    requires head { IsTrue (is_small_head (param_values (tree_of program.now)) (loops_in (tree_of program.now) (rounds_of path.now)) (head_of nest.now)) }
-    requires trips { IsTrue (list_all is_small (head_trips (param_values (tree_of program.now)) (head_of nest.now) (loops_in (tree_of program.now) (rounds_of path.now)))) }
-    requires numbered { IsTrue (list_all (λ (r : Round). is_number_of (loops_of (tree_of program.now).items) r.number) (rounds_of path.now)) }
+    requires head { IsTrue (is_small_head (param_values (tree_of program.now))
+        (loops_in (tree_of program.now) (rounds_of path.now)) (head_of nest.now)) }
+    requires trips { IsTrue
+        (list_all is_small (head_trips (param_values (tree_of program.now)) (head_of nest.now)
+        (loops_in (tree_of program.now) (rounds_of path.now)))) }
+    requires numbered { IsTrue
+        (list_all (λ (r : Round). is_number_of (loops_of (tree_of program.now).items) r.number)
+        (rounds_of path.now)) }
     requires number { IsTrue (is_number_of (loops_of (tree_of program.now).items) nest.now.number) }
     requires room { length (rounds_of path.now) < 6 }
-    requires given { IsTrue (reach_within (length (tree_of program.now).params) anchor.now.form.params) }
+    requires given { IsTrue
+        (reach_within (length (tree_of program.now).params) anchor.now.form.params) }
     requires worker { p < workers }
     requires block { (length : ℕ) → anchor.now.dist ≡ Block length → 1 ≤ length }
     ensures form { IsForm anchor.now.form }
-    ensures trips { trips_left result ≡ own_values (param_values (tree_of program.now)) anchor.now workers p (head_of nest.now) (loops_in (tree_of program.now) (rounds_of path.now)) }
+    ensures trips { trips_left result
+        ≡ own_values (param_values (tree_of program.now)) anchor.now workers p (head_of nest.now)
+        (loops_in (tree_of program.now) (rounds_of path.now)) }
 {
     let m1 = small_value(program, path, &nest.m1);
     let m2 = small_value(program, path, &nest.m2);
@@ -182,37 +201,43 @@ fn own_values(
     strided_values(m1, nest.step, own)
 }
 
-/// The instances of a phase that processor `p` of so many owns, in sequential order: of the phase
-/// at this stop, with these loops round it, and this anchor. The anchor's form names no loop inside
-/// that of the phase. It comes to no trip of another processor: a block's trips are found by
-/// division, those in turn by one congruence.
-pub fn own_stops<'a>(
-    program: &'a Program,
+// In place of none that is left, the instances of a phase that processor `p` of so many owns, in
+// sequential order: of the phase at this stop, with these loops round it, and this anchor. The
+// anchor's form names no loop inside that of the phase. It comes to no trip of another processor: a
+// block's trips are found by division, those in turn by one congruence.
+pub(crate) fn restart_own<'a>(
+    own: &mut OwnStops<'a>,
     path: &Path,
     stop: Stop<'a>,
     anchor: &Anchor,
     p: u32,
     workers: u32,
-) -> OwnStops<'a>
-    requires reached { IsTrue (is_reached (tree_of program.now) (rounds_of path.now) stop) }
-    requires text { StandFrom (works (tree_of program.now)) stop.first (placed_in every (numbers_of (rounds_of path.now)) (statement_of stop.item.now)) }
+)
+    requires none { instances_left own.old ≡ [] }
+    requires reached { IsTrue (is_reached (instances_tree own.old) (rounds_of path.now) stop) }
+    requires text { StandFrom (works (instances_tree own.old)) stop.first
+        (placed_in every (numbers_of (rounds_of path.now)) (statement_of stop.item.now)) }
     requires outside { IsTrue (names_no_inner (statement_of stop.item.now) anchor.now.form) }
-    requires given { IsTrue (reach_within (length (tree_of program.now).params) anchor.now.form.params) }
+    requires given { IsTrue
+        (reach_within (length (instances_tree own.old).params) anchor.now.form.params) }
     requires worker { p < workers }
     requires block { (length : ℕ) → anchor.now.dist ≡ Block length → 1 ≤ length }
-    ensures own { instances_left result ≡ own_instances (param_values (tree_of program.now)) anchor.now workers p (visit_at (tree_of program.now) (rounds_of path.now) stop.entry) }
-    ensures program { instances_tree result ≡ tree_of program.now }
+    ensures own { instances_left own.new
+        ≡ own_instances (param_values (instances_tree own.old)) anchor.now workers p
+        (visit_at (instances_tree own.old) (rounds_of path.now) stop.entry) }
+    ensures program { instances_tree own.new ≡ instances_tree own.old }
 {
+    let program = own.program();
     match stop.item {
         Item::Loop(nest) => {
             let trips = own_values(program, path, nest, anchor, p, workers);
-            Instances::over_trips(program, path, stop, nest, trips)
+            if !trips.is_empty() {
+                own.restart_trips(path, stop, nest, trips);
+            }
         }
         Item::Assign(..) | Item::Print(..) | Item::Continue(_) => {
             if is_own(program, path, anchor, p, workers) {
-                Instances::over(program, path, stop)
-            } else {
-                Instances::none(program)
+                own.restart(path, stop);
             }
         }
     }
@@ -220,12 +245,16 @@ pub fn own_stops<'a>(
 
 // Whether an anchor names processor `p` where these loops are round it.
 fn is_own(program: &Program, path: &Path, anchor: &Anchor, p: u32, workers: u32) -> bool
-    requires numbered { IsTrue (list_all (λ (r : Round). is_number_of (loops_of (tree_of program.now).items) r.number) (rounds_of path.now)) }
-    requires given { IsTrue (reach_within (length (tree_of program.now).params) anchor.now.form.params) }
+    requires numbered { IsTrue
+        (list_all (λ (r : Round). is_number_of (loops_of (tree_of program.now).items) r.number)
+        (rounds_of path.now)) }
+    requires given { IsTrue
+        (reach_within (length (tree_of program.now).params) anchor.now.form.params) }
     requires worker { p < workers }
     requires block { (length : ℕ) → anchor.now.dist ≡ Block length → 1 ≤ length }
     ensures form { IsForm anchor.now.form }
-    ensures owned { result ≡ is_owned (param_values (tree_of program.now)) anchor.now workers p (loops_in (tree_of program.now) (rounds_of path.now)) }
+    ensures owned { result ≡ is_owned (param_values (tree_of program.now)) anchor.now workers p
+        (loops_in (tree_of program.now) (rounds_of path.now)) }
 {
     let place = exact_value(program, path, &anchor.form);
     own_trips_from(anchor.dist, workers, p, place, 0, 1).count > 0

@@ -17,7 +17,7 @@ ghost use Rattle.owner_partition.specs.PhasesLeft.{IsPhaseOf};
 
 use crate::anchor::Anchor;
 use crate::cut::Cut;
-use crate::own::{OwnStops, own_stops};
+use crate::own::{OwnStops, restart_own};
 use crate::phases::Phase;
 use crate::site::site_of;
 use nest_tree::Program;
@@ -41,7 +41,8 @@ pub struct OwnCursor<'a> {
 impl OwnCursor<'_> {
     /// The next instance, until there is none.
     pub fn next(&mut self) -> Option<Instance>
-        ensures instance { MatchOption result (own_left self.old ≡ []) (λ i. (x : Executed) × (own_left self.old ≡ x ∷ own_left self.new) × IsGivenAs (own_tree self.new) x i) }
+        ensures instance { MatchOption result (own_left self.old ≡ []) (λ i. (x : Executed)
+            × (own_left self.old ≡ x ∷ own_left self.new) × IsGivenAs (own_tree self.new) x i) }
         ensures end { MatchOption result (own_left self.new ≡ []) (λ i. Unit) }
         ensures program { own_tree self.new ≡ own_tree self.old }
     {
@@ -67,27 +68,32 @@ pub fn own_iterations<'a>(
 ) -> OwnCursor<'a>
     requires formed { IsWellFormed (tree_of program.now) }
     requires limits { IsWithinLimits (tree_of program.now) }
-    requires phase { (v : Visit) × IsPhaseOf (tree_of program.now) (enters_outer cut.now.marks) v phase.now }
-    requires outside { (v : Visit) → IsPhaseOf (tree_of program.now) (enters_outer cut.now.marks) v phase.now → IsTrue (names_no_inner v.what anchor.now.form) }
-    requires given { IsTrue (reach_within (length (tree_of program.now).params) anchor.now.form.params) }
+    requires phase { (v : Visit)
+        × IsPhaseOf (tree_of program.now) (enters_outer cut.now.marks) v phase.now }
+    requires outside { (v : Visit)
+        → IsPhaseOf (tree_of program.now) (enters_outer cut.now.marks) v phase.now
+        → IsTrue (names_no_inner v.what anchor.now.form) }
+    requires given { IsTrue
+        (reach_within (length (tree_of program.now).params) anchor.now.form.params) }
     requires worker { p < workers }
     requires block { (length : ℕ) → anchor.now.dist ≡ Block length → 1 ≤ length }
-    ensures own { (v : Visit) → IsPhaseOf (tree_of program.now) (enters_outer cut.now.marks) v phase.now → own_left result ≡ own_instances (param_values (tree_of program.now)) anchor.now workers p v }
+    ensures own { (v : Visit)
+        → IsPhaseOf (tree_of program.now) (enters_outer cut.now.marks) v phase.now
+        → own_left result
+        ≡ own_instances (param_values (tree_of program.now)) anchor.now workers p v }
     ensures program { own_tree result ≡ tree_of program.now }
 {
     let mut path = Path::new();
+    let mut stops = OwnStops::none(program);
     let site = site_of(program, cut, &phase.outer, phase.place, &mut path);
     let Some(site) = site else {
-        return OwnCursor {
-            stops: OwnStops::none(program),
-        };
+        return OwnCursor { stops };
     };
     let stop = Stop {
         item: site.item,
         place: phase.place,
         first: site.first,
     };
-    OwnCursor {
-        stops: own_stops(program, &path, stop, anchor, p, workers),
-    }
+    restart_own(&mut stops, &path, stop, anchor, p, workers);
+    OwnCursor { stops }
 }

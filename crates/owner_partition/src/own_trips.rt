@@ -18,9 +18,9 @@ pub struct Strided {
 // No place of a trip lies as low.
 const BELOW_ALL: i128 = -(1 << 126) + 1;
 
-// The greatest common divisor of a number and a modulus above it, and a factor that takes the number to it, by
-// Euclid's algorithm.
-fn divisor_and_factor(a: u64, modulus: u64) -> (u64, u64)
+/// The greatest common divisor of a number and a modulus above it, and a factor that takes the number
+/// to it but for multiples of the modulus, by Euclid's algorithm.
+pub fn divisor_and_factor(a: u64, modulus: u64) -> (u64, u64)
     requires residue { a < modulus }
     requires size { modulus < 2 ^ 32 }
     ensures divisor { IsGcd modulus a result.0 }
@@ -111,7 +111,8 @@ fn between(start: i128, rise: i128, low: i128, high: i128, count: u64) -> (u64, 
 // The least and the greatest place of the block of processor `p`, where 0 also has all that lies below its block.
 fn block_ends(length: u32, p: u32) -> (i128, i128)
     requires { 1 ≤ length }
-    ensures low { (place : ℤ) → unsigned_abs place < 2 ^ 126 → (result.0 ≤ℤ place) ↔ (p ≢ 0 → pos (length * p) ≤ℤ place) }
+    ensures low { (place : ℤ) → unsigned_abs place < 2 ^ 126 → (result.0 ≤ℤ place)
+        ↔ (p ≢ 0 → pos (length * p) ≤ℤ place) }
     ensures high { result.1 ≡ pos (length * p + length) -ℤ pos 1 }
     ensures size { (unsigned_abs result.0 < 2 ^ 126) × (unsigned_abs result.1 < 2 ^ 126) }
 {
@@ -173,7 +174,8 @@ pub fn own_trips(dist: Dist, workers: u32, p: u32, start: i128, rise: i128, coun
     requires start { (length : ℕ) → dist ≡ Block length → unsigned_abs start ≤ 2 ^ 125 }
     requires rise { unsigned_abs rise ≤ 2 ^ 62 }
     requires count { count ≤ 2 ^ 32 }
-    ensures own { own_numbers dist workers p start rise count ≡ strided result.first result.stride result.count }
+    ensures own { own_numbers dist workers p start rise count
+        ≡ strided result.first result.stride result.count }
     ensures within { result.count ≤ count }
 {
     let (first, stride, end) = own_range(dist, workers, p, start, rise, count);

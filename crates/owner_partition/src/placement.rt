@@ -62,8 +62,10 @@ pub fn check_anchor(
 ) -> Result<(), Placement>
     requires formed { IsWellFormed (tree_of program.now) }
     requires limits { IsWithinLimits (tree_of program.now) }
-    requires given { IsTrue (is_given anchor.now.form (loops_of (tree_of program.now).items) (length (tree_of program.now).params)) }
-    ensures { result_err result ≡ misplaced (tree_of program.now) cut.now.marks workers phase anchor.now }
+    requires given { IsTrue (is_given anchor.now.form (loops_of (tree_of program.now).items)
+        (length (tree_of program.now).params)) }
+    ensures { result_err result
+        ≡ misplaced (tree_of program.now) cut.now.marks workers phase anchor.now }
 {
     let mut ends = [(0, 0); MOST_STATEMENTS];
     check_from(program, cut, &mut ends, phase, anchor, workers)
@@ -80,9 +82,11 @@ fn check_from(
 ) -> Result<(), Placement>
     requires formed { IsWellFormed (tree_of program.now) }
     requires limits { IsWithinLimits (tree_of program.now) }
-    requires given { IsTrue (is_given anchor.now.form (loops_of (tree_of program.now).items) (length (tree_of program.now).params)) }
+    requires given { IsTrue (is_given anchor.now.form (loops_of (tree_of program.now).items)
+        (length (tree_of program.now).params)) }
     requires ends { ends.old ≡ no_ends }
-    ensures { result_err result ≡ misplaced (tree_of program.now) cut.now.marks workers phase anchor.now }
+    ensures { result_err result
+        ≡ misplaced (tree_of program.now) cut.now.marks workers phase anchor.now }
 {
     let place = phase.saturating_sub(1);
     if seek(&program.items, cut.closed(), ends, &program.params, place) {
@@ -102,10 +106,13 @@ fn seek(
     constants: &[Parameter],
     place: u32,
 ) -> bool
-    requires given { IsTrue (are_all_given (length ends.old) (length constants.now) (statements_from items.now)) }
-    requires narrow { wide_of (map (λ p. p.value) constants.now) ends.old (statements_from items.now) ≡ None }
+    requires given { IsTrue (are_all_given (length ends.old) (length constants.now)
+        (statements_from items.now)) }
+    requires narrow { wide_of (map (λ p. p.value) constants.now) ends.old
+        (statements_from items.now) ≡ None }
     requires counted { stops_of (enters_but closed.now) (statements_from items.now) < 2 ^ 32 }
-    ensures ends { ends_among (map (λ p. p.value) constants.now) (enters_but closed.now) ends.old (statements_from items.now) place ≡ (if result then Some ends.new else None) }
+    ensures ends { ends_among (map (λ p. p.value) constants.now) (enters_but closed.now) ends.old
+        (statements_from items.now) place ≡ (if result then Some ends.new else None) }
     ensures long { length ends.new ≡ length ends.old }
 {
     let mut left = place;
@@ -127,10 +134,13 @@ fn seek_in(
     constants: &[Parameter],
     place: u32,
 ) -> bool
-    requires given { IsTrue (is_all_given (length ends.old) (length constants.now) (statement_of item.now)) }
-    requires narrow { wide_in (map (λ p. p.value) constants.now) ends.old (statement_of item.now) ≡ None }
+    requires given { IsTrue (is_all_given (length ends.old) (length constants.now)
+        (statement_of item.now)) }
+    requires narrow { wide_in (map (λ p. p.value) constants.now) ends.old (statement_of item.now)
+        ≡ None }
     requires counted { stops_in (enters_but closed.now) (statement_of item.now) < 2 ^ 32 }
-    ensures ends { ends_in (map (λ p. p.value) constants.now) (enters_but closed.now) ends.old (statement_of item.now) place ≡ (if result then Some ends.new else None) }
+    ensures ends { ends_in (map (λ p. p.value) constants.now) (enters_but closed.now) ends.old
+        (statement_of item.now) place ≡ (if result then Some ends.new else None) }
     ensures long { length ends.new ≡ length ends.old }
 {
     match item {
@@ -148,10 +158,13 @@ fn seek_inside(
     constants: &[Parameter],
     place: u32,
 ) -> bool
-    requires given { IsTrue (is_all_given (length ends.old) (length constants.now) (loop_of nest.now)) }
-    requires narrow { wide_in (map (λ p. p.value) constants.now) ends.old (loop_of nest.now) ≡ None }
+    requires given { IsTrue (is_all_given (length ends.old) (length constants.now)
+        (loop_of nest.now)) }
+    requires narrow { wide_in (map (λ p. p.value) constants.now) ends.old (loop_of nest.now)
+        ≡ None }
     requires counted { stops_in (enters_but closed.now) (loop_of nest.now) < 2 ^ 32 }
-    ensures ends { ends_in (map (λ p. p.value) constants.now) (enters_but closed.now) ends.old (loop_of nest.now) place ≡ (if result then Some ends.new else None) }
+    ensures ends { ends_in (map (λ p. p.value) constants.now) (enters_but closed.now) ends.old
+        (loop_of nest.now) place ≡ (if result then Some ends.new else None) }
     ensures long { length ends.new ≡ length ends.old }
 {
     let interval = narrow_interval(nest, ends, constants);
@@ -168,9 +181,12 @@ fn seek_inside(
 
 // The interval of a loop whose bounds have small ones.
 fn narrow_interval(nest: &Nest, ends: &[(i64, i64)], constants: &[Parameter]) -> (i64, i64)
-    requires given { IsTrue (are_given (length ends.now) (length constants.now) ((head_of nest.now).m1 ∷ (head_of nest.now).m2 ∷ [])) }
-    requires narrow { wide_forms (map (λ p. p.value) constants.now) ends.now ((head_of nest.now).m1 ∷ (head_of nest.now).m2 ∷ []) ≡ None }
-    ensures { result ≡ head_interval (map (λ p. p.value) constants.now) ends.now (head_of nest.now) }
+    requires given { IsTrue (are_given (length ends.now) (length constants.now)
+        ((head_of nest.now).m1 ∷ (head_of nest.now).m2 ∷ [])) }
+    requires narrow { wide_forms (map (λ p. p.value) constants.now) ends.now ((head_of nest.now).m1
+        ∷ (head_of nest.now).m2 ∷ []) ≡ None }
+    ensures { result ≡ head_interval (map (λ p. p.value) constants.now) ends.now
+        (head_of nest.now) }
 {
     match nest.interval(ends, constants) {
         Ok(interval) => interval,
@@ -187,7 +203,8 @@ fn check_interval(
     workers: u32,
 ) -> Result<(), Placement>
     requires { IsTrue (is_given anchor.now.form (length ends.now) (length constants.now)) }
-    ensures { result_err result ≡ misplaced_within (map (λ p. p.value) constants.now) workers phase anchor.now ends.now }
+    ensures { result_err result
+        ≡ misplaced_within (map (λ p. p.value) constants.now) workers phase anchor.now ends.now }
 {
     if names_empty(anchor.form.loops(), ends) {
         return Ok(());

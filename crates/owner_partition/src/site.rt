@@ -33,7 +33,12 @@ pub(crate) fn site_of<'a>(
 ) -> Option<Site<'a>>
     requires formed { IsWellFormed (tree_of program.now) }
     requires bare { rounds_of path.old ≡ [] }
-    ensures { MatchOption result (site_among (enters_outer cut.now.marks) outer.now [] (tree_of program.now).items (number - 1) 1 ≡ None) (λ s. site_among (enters_outer cut.now.marks) outer.now [] (tree_of program.now).items (number - 1) 1 ≡ Some (record { what = statement_of s.item.now; first = s.first; rounds = rounds_of path.new })) }
+    ensures { MatchOption result (site_among (enters_outer cut.now.marks) outer.now []
+        (tree_of program.now).items (number - 1) 1 ≡ None)
+        (λ s. site_among (enters_outer cut.now.marks) outer.now [] (tree_of program.now).items
+        (number - 1) 1
+        ≡ Some
+        (record { what = statement_of s.item.now; first = s.first; rounds = rounds_of path.new })) }
 {
     let before = number.saturating_sub(1);
     site_among(&program.items, cut.closed(), outer, before, 1, path)
@@ -51,10 +56,17 @@ fn site_among<'a>(
     first: u32,
     path: &mut Path,
 ) -> Option<Site<'a>>
-    requires good { (scope : Scope) × (number : ℕ) × IsTrue (are_good_statements scope (numbers_of (rounds_of path.old)) number (statements_from items.now)) }
+    requires good { (scope : Scope) × (number : ℕ)
+        × IsTrue (are_good_statements scope (numbers_of (rounds_of path.old)) number
+        (statements_from items.now)) }
     requires stops { stops_of (enters_but closed.now) (statements_from items.now) < 2 ^ 32 }
     requires works { first + works_of (statements_from items.now) < 2 ^ 32 }
-    ensures { MatchOption result (site_among (enters_but closed.now) outer.now (rounds_of path.old) (statements_from items.now) place first ≡ None) (λ s. site_among (enters_but closed.now) outer.now (rounds_of path.old) (statements_from items.now) place first ≡ Some (record { what = statement_of s.item.now; first = s.first; rounds = rounds_of path.new })) }
+    ensures { MatchOption result (site_among (enters_but closed.now) outer.now (rounds_of path.old)
+        (statements_from items.now) place first ≡ None)
+        (λ s. site_among (enters_but closed.now) outer.now (rounds_of path.old)
+        (statements_from items.now) place first
+        ≡ Some
+        (record { what = statement_of s.item.now; first = s.first; rounds = rounds_of path.new })) }
 {
     let mut left = place;
     let mut number = first;
@@ -78,10 +90,16 @@ fn site_in<'a>(
     first: u32,
     path: &mut Path,
 ) -> Option<Site<'a>>
-    requires good { (scope : Scope) × (number : ℕ) × IsTrue (is_good_statement scope (numbers_of (rounds_of path.old)) number (statement_of item.now)) }
+    requires good { (scope : Scope) × (number : ℕ)
+        × IsTrue (is_good_statement scope (numbers_of (rounds_of path.old)) number
+        (statement_of item.now)) }
     requires stops { stops_in (enters_but closed.now) (statement_of item.now) < 2 ^ 32 }
     requires works { first + works_in (statement_of item.now) < 2 ^ 32 }
-    ensures { MatchOption result (site_in (enters_but closed.now) outer.now (rounds_of path.old) (statement_of item.now) place first ≡ None) (λ s. site_in (enters_but closed.now) outer.now (rounds_of path.old) (statement_of item.now) place first ≡ Some (record { what = statement_of s.item.now; first = s.first; rounds = rounds_of path.new })) }
+    ensures { MatchOption result (site_in (enters_but closed.now) outer.now (rounds_of path.old)
+        (statement_of item.now) place first ≡ None) (λ s. site_in (enters_but closed.now) outer.now
+        (rounds_of path.old) (statement_of item.now) place first
+        ≡ Some
+        (record { what = statement_of s.item.now; first = s.first; rounds = rounds_of path.new })) }
 {
     match item {
         Item::Loop(nest) => {

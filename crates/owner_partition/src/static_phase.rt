@@ -29,7 +29,11 @@ impl<'a> StaticPhase<'a> {
     /// no memory, and goes down the text once.
     pub fn at(program: &'a Program, cut: &Cut, number: u32) -> Option<Self>
         requires { IsWellFormed (tree_of program.now) }
-        ensures { MatchOption result (slice_get (placed (tree_of program.now) (enters_outer cut.now.marks)) (number - 1) ≡ None) (λ s. slice_get (placed (tree_of program.now) (enters_outer cut.now.marks)) (number - 1) ≡ Some (record { what = statement_of s.item.now; around = loops_round s })) }
+        ensures { MatchOption result
+            (slice_get (placed (tree_of program.now) (enters_outer cut.now.marks)) (number - 1)
+            ≡ None) (λ s. slice_get (placed (tree_of program.now) (enters_outer cut.now.marks))
+            (number - 1)
+            ≡ Some (record { what = statement_of s.item.now; around = loops_round s })) }
     {
         let place = number.saturating_sub(1);
         phase_among(&program.items, cut.closed(), OuterLoops::new(), place)
@@ -66,9 +70,16 @@ fn phase_among<'a>(
     outer: OuterLoops<'a>,
     place: u32,
 ) -> Option<StaticPhase<'a>>
-    requires good { (scope : Scope) × (number : ℕ) × IsTrue (are_good_statements scope (numbers_round (loops_of outer)) number (statements_from items.now)) }
+    requires good { (scope : Scope) × (number : ℕ)
+        × IsTrue (are_good_statements scope (numbers_round (loops_of outer)) number
+        (statements_from items.now)) }
     requires stops { stops_of (enters_but closed.now) (statements_from items.now) < 2 ^ 32 }
-    ensures { MatchOption result (slice_get (placed_of (enters_but closed.now) (numbers_round (loops_of outer.entry)) (statements_from items.now)) place ≡ None) (λ s. slice_get (placed_of (enters_but closed.now) (numbers_round (loops_of outer.entry)) (statements_from items.now)) place ≡ Some (record { what = statement_of s.item.now; around = loops_round s })) }
+    ensures { MatchOption result
+        (slice_get (placed_of (enters_but closed.now) (numbers_round (loops_of outer.entry))
+        (statements_from items.now)) place ≡ None)
+        (λ s. slice_get (placed_of (enters_but closed.now) (numbers_round (loops_of outer.entry))
+        (statements_from items.now)) place
+        ≡ Some (record { what = statement_of s.item.now; around = loops_round s })) }
 {
     let mut left = place;
     for item in items {
@@ -88,10 +99,17 @@ fn phase_in<'a>(
     outer: OuterLoops<'a>,
     place: u32,
 ) -> Option<StaticPhase<'a>>
-    requires good { (scope : Scope) × (number : ℕ) × IsTrue (is_good_statement scope (numbers_round (loops_of outer)) number (statement_of item.now)) }
+    requires good { (scope : Scope) × (number : ℕ)
+        × IsTrue (is_good_statement scope (numbers_round (loops_of outer)) number
+        (statement_of item.now)) }
     requires stops { stops_in (enters_but closed.now) (statement_of item.now) < 2 ^ 32 }
     requires place { place < stops_in (enters_but closed.now) (statement_of item.now) }
-    ensures { MatchOption result (slice_get (placed_in (enters_but closed.now) (numbers_round (loops_of outer.entry)) (statement_of item.now)) place ≡ None) (λ s. slice_get (placed_in (enters_but closed.now) (numbers_round (loops_of outer.entry)) (statement_of item.now)) place ≡ Some (record { what = statement_of s.item.now; around = loops_round s })) }
+    ensures { MatchOption result
+        (slice_get (placed_in (enters_but closed.now) (numbers_round (loops_of outer.entry))
+        (statement_of item.now)) place ≡ None)
+        (λ s. slice_get (placed_in (enters_but closed.now) (numbers_round (loops_of outer.entry))
+        (statement_of item.now)) place
+        ≡ Some (record { what = statement_of s.item.now; around = loops_round s })) }
 {
     match item {
         Item::Loop(nest) => {

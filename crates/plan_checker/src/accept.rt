@@ -31,7 +31,8 @@ pub fn check<R: Threads + Sync>(
     requires formed { IsWellFormed (tree_of program.now) }
     requires limits { IsWithinLimits (tree_of program.now) }
     ensures accepted { OnOk result (IsAccepted (tree_of program.now) plan.now) }
-    ensures refused { IfErr result (λ refusal. refusal ≢ NoMemory → first_failure (tree_of program.now) plan.now ≡ Some refusal) }
+    ensures refused { IfErr result (λ refusal. refusal ≢ NoMemory
+        → first_failure (tree_of program.now) plan.now ≡ Some refusal) }
 {
     let misfit = check_fit(program, plan).err();
     match failure(rt, alloc, program, plan, misfit)? {

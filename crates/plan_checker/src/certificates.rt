@@ -51,7 +51,8 @@ fn fault_in_place(
     certificates: &[Certificate],
     systems: &mut PairSystems,
 ) -> Result<Option<PlanRefusal>, AllocError>
-    ensures { IfOk result (λ found. found ≡ first_of (stands_fault_of certificates.now) (obligations_seen systems.old)) }
+    ensures { IfOk result (λ found. found ≡ first_of (stands_fault_of certificates.now)
+        (obligations_seen systems.old)) }
 {
     for index in 0..systems.count() {
         systems.make(alloc, index)?;
@@ -71,7 +72,8 @@ fn fault_in(
     group: &Group,
 ) -> Result<Option<PlanRefusal>, AllocError>
     requires { wrong_field (tree_of program.now) plan.now ≡ None }
-    ensures { IfOk result (λ found. found ≡ stands_fault_in (tree_of program.now) plan.now (group_seen group.now)) }
+    ensures { IfOk result (λ found. found ≡ stands_fault_in (tree_of program.now) plan.now
+        (group_seen group.now)) }
 {
     let certificates = plan.certificates.as_slice();
     let number = group.number;
@@ -95,7 +97,8 @@ fn first_in_turn(
     groups: &[Group],
 ) -> Result<Option<PlanRefusal>, AllocError>
     requires { wrong_field (tree_of program.now) plan.now ≡ None }
-    ensures { IfOk result (λ found. found ≡ first_of (stands_fault_in (tree_of program.now) plan.now) (map group_seen groups.now)) }
+    ensures { IfOk result (λ found. found
+        ≡ first_of (stands_fault_in (tree_of program.now) plan.now) (map group_seen groups.now)) }
 {
     for group in groups {
         let found = fault_in(alloc, program, plan, group)?;
@@ -116,7 +119,8 @@ pub(crate) fn first_fault<R: Threads + Sync>(
     groups: &[Group],
 ) -> Result<Option<PlanRefusal>, AllocError>
     requires { wrong_field (tree_of program.now) plan.now ≡ None }
-    ensures { IfOk result (λ found. found ≡ first_of (stands_fault_in (tree_of program.now) plan.now) (map group_seen groups.now)) }
+    ensures { IfOk result (λ found. found
+        ≡ first_of (stands_fault_in (tree_of program.now) plan.now) (map group_seen groups.now)) }
 {
     if plan.certificates.as_slice().len() < MANY {
         return first_in_turn(alloc, program, plan, groups);
@@ -134,7 +138,10 @@ fn faults<R: Threads + Sync>(
     groups: &[Group],
 ) -> Result<Vec<Result<Option<PlanRefusal>, AllocError>>, AllocError>
     requires { wrong_field (tree_of program.now) plan.now ≡ None }
-    ensures { IfOk result (λ found. AllZip (λ group one. IfOk one (λ fault. fault ≡ stands_fault_in (tree_of program.now) plan.now (group_seen group))) groups.now found.items) }
+    ensures { IfOk result
+        (λ found. AllZip (λ group one. IfOk one (λ fault. fault
+        ≡ stands_fault_in (tree_of program.now) plan.now (group_seen group))) groups.now
+        found.items) }
 {
     groups
         .par_iter()
@@ -142,7 +149,9 @@ fn faults<R: Threads + Sync>(
         .map(
             move |group: &Group| -> Result<Option<PlanRefusal>, AllocError>
                 requires { wrong_field (tree_of program.now) plan.now ≡ None }
-                ensures { IfOk result (λ fault. fault ≡ stands_fault_in (tree_of program.entry.now) plan.entry.now (group_seen group.now)) }
+                ensures { IfOk result (λ fault. fault
+                    ≡ stands_fault_in (tree_of program.entry.now) plan.entry.now
+                    (group_seen group.now)) }
             { fault_in(alloc, program, plan, group) },
         )
         .collect(rt, alloc)
@@ -152,7 +161,9 @@ fn faults<R: Threads + Sync>(
 fn first_found(
     found: &[Result<Option<PlanRefusal>, AllocError>],
 ) -> Result<Option<PlanRefusal>, AllocError>
-    ensures { (faults : List (Option PlanRefusal)) → AllZip (λ fault one. IfOk one (λ is. is ≡ fault)) faults found.now → IfOk result (λ first. first ≡ first_of (λ fault. fault) faults) }
+    ensures { (faults : List (Option PlanRefusal))
+        → AllZip (λ fault one. IfOk one (λ is. is ≡ fault)) faults found.now
+        → IfOk result (λ first. first ≡ first_of (λ fault. fault) faults) }
 {
     for one in found {
         match one {

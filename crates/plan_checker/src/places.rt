@@ -24,7 +24,8 @@ pub(crate) fn check_places(program: &Program, plan: &Plan) -> Result<(), Placeme
     requires shape { wrong_field (tree_of program.now) plan.now ≡ None }
     requires anchors { length plan.now.anchors < 2 ^ 32 }
     requires kinds { length plan.now.kinds < 2 ^ 32 }
-    ensures { result_err result ≡ unplaced (tree_of program.now) plan.now.cut.marks plan.now.workers (placed_anchors plan.now) }
+    ensures { result_err result ≡ unplaced (tree_of program.now) plan.now.cut.marks plan.now.workers
+        (placed_anchors plan.now) }
 {
     check_phases(program, &plan.cut, plan.anchors.as_slice(), plan.workers)?;
     check_kinds(program, &plan.cut, plan.kinds.as_slice(), plan.workers)
@@ -39,8 +40,10 @@ fn check_phases(
     requires formed { IsWellFormed (tree_of program.now) }
     requires limits { IsWithinLimits (tree_of program.now) }
     requires few { length anchors.now < 2 ^ 32 }
-    requires given { IsTrue (are_given_anchors (loops_of (tree_of program.now).items) (length (tree_of program.now).params) anchors.now) }
-    ensures { result_err result ≡ unplaced (tree_of program.now) cut.now.marks workers (numbered_anchors 1 anchors.now) }
+    requires given { IsTrue (are_given_anchors (loops_of (tree_of program.now).items)
+        (length (tree_of program.now).params) anchors.now) }
+    ensures { result_err result ≡ unplaced (tree_of program.now) cut.now.marks workers
+        (numbered_anchors 1 anchors.now) }
 {
     for (place, anchor) in anchors.iter().enumerate() {
         check_anchor(program, cut, place as u32 + 1, anchor, workers)?;
@@ -52,8 +55,10 @@ fn check_kinds(program: &Program, cut: &Cut, kinds: &[Kind], workers: u32) -> Re
     requires formed { IsWellFormed (tree_of program.now) }
     requires limits { IsWithinLimits (tree_of program.now) }
     requires few { length kinds.now < 2 ^ 32 }
-    requires given { IsTrue (are_given_kinds (loops_of (tree_of program.now).items) (length (tree_of program.now).params) kinds.now) }
-    ensures { result_err result ≡ unplaced (tree_of program.now) cut.now.marks workers (kind_anchors 1 kinds.now) }
+    requires given { IsTrue (are_given_kinds (loops_of (tree_of program.now).items)
+        (length (tree_of program.now).params) kinds.now) }
+    ensures { result_err result ≡ unplaced (tree_of program.now) cut.now.marks workers
+        (kind_anchors 1 kinds.now) }
 {
     for (place, kind) in kinds.iter().enumerate() {
         check_kind(program, cut, place as u32 + 1, kind, workers)?;
@@ -71,8 +76,12 @@ fn check_kind(
 ) -> Result<(), Placement>
     requires formed { IsWellFormed (tree_of program.now) }
     requires limits { IsWithinLimits (tree_of program.now) }
-    requires given { IsTrue (is_given_kind (loops_of (tree_of program.now).items) (length (tree_of program.now).params) kind.now) }
-    ensures { (rest : List Kind) → option_or (result_err result) (unplaced (tree_of program.now) cut.now.marks workers (kind_anchors (suc number) rest)) ≡ unplaced (tree_of program.now) cut.now.marks workers (kind_anchors number (kind.now ∷ rest)) }
+    requires given { IsTrue (is_given_kind (loops_of (tree_of program.now).items)
+        (length (tree_of program.now).params) kind.now) }
+    ensures { (rest : List Kind)
+        → option_or (result_err result) (unplaced (tree_of program.now) cut.now.marks workers
+        (kind_anchors (suc number) rest)) ≡ unplaced (tree_of program.now) cut.now.marks workers
+        (kind_anchors number (kind.now ∷ rest)) }
 {
     match kind.anchor() {
         Some(anchor) => check_anchor(program, cut, number, anchor, workers),
@@ -85,7 +94,9 @@ fn check_kind(
 pub(crate) fn misplaced_print(program: &Program, cut: &Cut, anchors: &[Anchor]) -> Option<u32>
     requires formed { IsWellFormed (tree_of program.now) }
     requires few { length anchors.now < 2 ^ 32 }
-    ensures { result ≡ misplaced_print 1 cut.now.marks (static_phases (tree_of program.now) cut.now.marks) anchors.now }
+    ensures { result
+        ≡ misplaced_print 1 cut.now.marks
+        (static_phases (tree_of program.now) cut.now.marks) anchors.now }
 {
     for (place, anchor) in anchors.iter().enumerate() {
         let number = place as u32 + 1;
@@ -101,7 +112,8 @@ pub(crate) fn misplaced_print(program: &Program, cut: &Cut, anchors: &[Anchor]) 
 
 // Whether a PRINT stands in a static phase that is dealt or has another form than 0.
 fn is_misplaced(cut: &Cut, item: &Item, form: &Affine) -> bool
-    ensures { result ≡ (has_print (statement_of item.now) && (is_dealt cut.now.marks (statement_of item.now) || not (is_zero_form form.now))) }
+    ensures { result ≡ (has_print (statement_of item.now)
+        && (is_dealt cut.now.marks (statement_of item.now) || not (is_zero_form form.now))) }
 {
     item.has_print() && (cut.is_dealt(item) || !is_zero_form(form))
 }

@@ -42,7 +42,8 @@ pub fn prove<'p, R: Threads + Sync>(
     ensures proved { OnOk result (IsProved (tree_of program.entry.now) plan.entry.now) }
     ensures program { IfOk result (λ p. p.program.now ≡ program.entry.now) }
     ensures plan { IfOk result (λ p. p.plan.now ≡ plan.entry.now) }
-    ensures refused { IfErr result (λ refusal. refusal ≢ NoMemory → first_unproved (tree_of program.entry.now) plan.entry.now ≡ Some refusal) }
+    ensures refused { IfErr result (λ refusal. refusal ≢ NoMemory
+        → first_unproved (tree_of program.entry.now) plan.entry.now ≡ Some refusal) }
 {
     match failure(rt, alloc, program, plan, None)? {
         None => Ok(Proven { program, plan }),
@@ -61,7 +62,8 @@ impl Proven<'_> {
     pub fn fits(&self, program: &Program) -> Result<(), PlanRefusal>
         requires formed { IsWellFormed (tree_of program.now) }
         requires limits { IsWithinLimits (tree_of program.now) }
-        ensures refused { result_err result ≡ first_unfit (tree_of self.now.program.now) self.now.plan.now (tree_of program.now) }
+        ensures refused { result_err result
+            ≡ first_unfit (tree_of self.now.program.now) self.now.plan.now (tree_of program.now) }
         ensures accepted { OnOk result (IsAccepted (tree_of program.now) self.now.plan.now) }
     {
         if !agrees(self.program, program) {
@@ -81,7 +83,8 @@ impl Proven<'_> {
 // second don't meet; a plan with rows of its own asks for those alone.
 fn first_other(values: &[Parameter], conditions: &Conditions, others: &[Parameter]) -> Option<u64>
     requires { length values.now ≡ length others.now }
-    ensures { result ≡ first_other (map (λ (p : Named). p.value) values.now) conditions.now (map (λ (p : Named). p.value) others.now) }
+    ensures { result ≡ first_other (map (λ (p : Named). p.value) values.now) conditions.now
+        (map (λ (p : Named). p.value) others.now) }
 {
     match conditions {
         Conditions::Values => other_value(values, others),
@@ -92,7 +95,8 @@ fn first_other(values: &[Parameter], conditions: &Conditions, others: &[Paramete
 // Of each constant one row says that it is at most the value, and the next that it is at least it.
 fn other_value(values: &[Parameter], others: &[Parameter]) -> Option<u64>
     requires { length values.now ≡ length others.now }
-    ensures { result ≡ unmet_among 1 (map (λ (p : Named). p.value) others.now) (value_rows 1 (map (λ (p : Named). p.value) values.now)) }
+    ensures { result ≡ unmet_among 1 (map (λ (p : Named). p.value) others.now)
+        (value_rows 1 (map (λ (p : Named). p.value) values.now)) }
 {
     for (place, constant) in values.iter().enumerate() {
         let row = 2 * place as u64 + 1;

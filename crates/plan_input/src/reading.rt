@@ -43,10 +43,13 @@ pub fn read_source(alloc: Global, bytes: &[u8]) -> Result<(Program, usize), Stop
 // The program of what is listed, within its limits.
 fn program_of(alloc: Global, lines: &[Line], settings: &[Setting]) -> Result<Program, Stop>
     requires { (bytes : List ℕ) × (rest : ℕ) × Lists bytes (map entry_of lines.now) rest }
-    ensures program { (bytes : List ℕ) (rest : ℕ) → Lists bytes (map entry_of lines.now) rest → IfOk result (λ p. Reads bytes (map setting_of settings.now) (tree_of p)) }
-    ensures formed { (bytes : List ℕ) (rest : ℕ) → Lists bytes (map entry_of lines.now) rest → IfOk result (λ p. IsWellFormed (tree_of p)) }
+    ensures program { (bytes : List ℕ) (rest : ℕ) → Lists bytes (map entry_of lines.now) rest
+        → IfOk result (λ p. Reads bytes (map setting_of settings.now) (tree_of p)) }
+    ensures formed { (bytes : List ℕ) (rest : ℕ) → Lists bytes (map entry_of lines.now) rest
+        → IfOk result (λ p. IsWellFormed (tree_of p)) }
     ensures limits { IfOk result (λ p. IsWithinLimits (tree_of p)) }
-    ensures refused { (bytes : List ℕ) (rest : ℕ) → Lists bytes (map entry_of lines.now) rest → IfErr result (IsStopWith (map setting_of settings.now) bytes) }
+    ensures refused { (bytes : List ℕ) (rest : ℕ) → Lists bytes (map entry_of lines.now) rest
+        → IfErr result (IsStopWith (map setting_of settings.now) bytes) }
 {
     let program = read_program(alloc, lines, settings)?;
     match program_limits(&program) {
@@ -65,7 +68,8 @@ pub fn read_inside(
     alone: bool,
 ) -> Result<(Program, usize), Stop>
     requires { length bytes.now ≤ MOST_BYTES }
-    ensures program { IfOk result (λ read. HasProgramWith (map setting_of settings.now) bytes.now (tree_of read.0)) }
+    ensures program { IfOk result (λ read. HasProgramWith (map setting_of settings.now) bytes.now
+        (tree_of read.0)) }
     ensures inside { IfOk result (λ read. IsInRange (tree_of read.0)) }
     ensures clear { OnOk result (IsClear alone bytes.now) }
     ensures rest { IfOk result (λ read. read.1 ≡ size_to_end (columns.lines_of bytes.now)) }
@@ -88,7 +92,8 @@ fn lines_of(alloc: Global, bytes: &[u8], alone: bool) -> Result<(Vec<Line>, usiz
     ensures lists { IfOk result (λ read. Lists bytes.now (map entry_of read.0.items) read.1) }
     ensures within { IfOk result (λ read. read.1 ≤ length bytes.now) }
     ensures clear { OnOk result (IsClear alone bytes.now) }
-    ensures refused { (settings : List (List ℕ × ℤ)) → IfErr result (IsStop alone bytes.now settings) }
+    ensures refused { (settings : List (List ℕ × ℤ))
+        → IfErr result (IsStop alone bytes.now settings) }
 {
     let (lines, rest) = statements(alloc, bytes)?;
     if alone {

@@ -50,7 +50,8 @@ pub enum Stop {
 /// fault of writing or of want of memory.
 pub fn code_of_write(written: io::Result<()>, code: u8) -> u8
     ensures ok { OnOk written (result ≡ code) }
-    ensures err { OnErr written ((result ≡ code_of stops.NoMemory) ⊎ (result ≡ code_of stops.WriteFault)) }
+    ensures err { OnErr written ((result ≡ code_of stops.NoMemory)
+        ⊎ (result ≡ code_of stops.WriteFault)) }
 {
     match written {
         Ok(()) => code,

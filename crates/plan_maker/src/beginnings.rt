@@ -105,7 +105,8 @@ fn begin_with(rows: &[Row], first: &[Row]) -> bool
 // The system of the first so many rows.
 fn first_rows(alloc: Global, system: &System, count: usize) -> Result<System, AllocError>
     requires { count ≤ length system.now.rows }
-    ensures { IfOk result (λ first. first ≡ record { vars = system.now.vars; rows = take count system.now.rows }) }
+    ensures { IfOk result (λ first. first
+        ≡ record { vars = system.now.vars; rows = take count system.now.rows }) }
 {
     let mut first = System::empty(alloc, system.vars());
     for row in &system.rows()[..count] {
@@ -133,7 +134,8 @@ fn level_without<'a>(
 ) -> Result<Option<(Level<'a>, usize)>, NoMemory>
     requires order { NamesEachOnce system.now.vars order.now }
     requires narrow { AreNarrow system.now.rows }
-    ensures { IfOk result (λ found. IfSome found (λ p. IsLevelOf system.now order.now p.0 × (gone_of p.0 ≡ p.1))) }
+    ensures { IfOk result (λ found. IfSome found (λ p. IsLevelOf system.now order.now p.0
+        × (gone_of p.0 ≡ p.1))) }
 {
     let mut level = Level::start(alloc, system, order)?;
     for gone in 0..count {

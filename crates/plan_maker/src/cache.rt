@@ -118,7 +118,8 @@ fn owners_dealt(
     slot: &Slot,
     waits: &Waits,
 ) -> Result<Vec<Dist>, AllocError>
-    ensures { IfOk result (λ dists. dists.items ≡ owners_are_dealt plan.now (slot_seen slot.now) (map producer_seen waits.now.producers.items)) }
+    ensures { IfOk result (λ dists. dists.items ≡ owners_are_dealt plan.now (slot_seen slot.now)
+        (map producer_seen waits.now.producers.items)) }
 {
     let mut dists = Vec::new(alloc);
     dists.push(anchor_dist(plan, slot.s))?;
@@ -147,7 +148,9 @@ fn judge_slot(
     waits: &Waits,
     findings: &mut Findings,
 ) -> Result<Judged, AllocError>
-    ensures { IfOk result (IsVerdict (slot_asked (tree_of problem.entry.program.now) problem.entry.plan.now (slot_seen slot.now) (waits_seen waits.now))) }
+    ensures { IfOk result
+        (IsVerdict (slot_asked (tree_of problem.entry.program.now) problem.entry.plan.now
+        (slot_seen slot.now) (waits_seen waits.now))) }
 {
     let groups = slot_groups(alloc, &problem.plan.cut, u64::MAX, *slot, waits, 1)?;
     let dists = owners_dealt(alloc, problem.plan, slot, waits)?;
@@ -163,7 +166,9 @@ fn judge_slot(
 // What was found under these waits, if that verdict was made: the first of the slot's systems that
 // is kept, or none.
 fn recall(entries: &[Entry], waits: &Waits) -> Option<Option<Cause>>
-    ensures { (tree : Tree) (plan : HeldPlan) (slot : HeldSlot) → All (IsEntry tree plan slot) entries.now → IfSome result (IsRecalled tree plan slot (waits_seen waits.now) entries.now) }
+    ensures { (tree : Tree) (plan : HeldPlan) (slot : HeldSlot)
+        → All (IsEntry tree plan slot) entries.now
+        → IfSome result (IsRecalled tree plan slot (waits_seen waits.now) entries.now) }
 {
     for entry in entries {
         if entry.key.is_of(waits) {
@@ -176,7 +181,10 @@ fn recall(entries: &[Entry], waits: &Waits) -> Option<Option<Cause>>
 // The certificates of a verdict under these waits that refutes the slot's systems; none where there
 // is no such verdict.
 fn take_among(alloc: Global, entries: Vec<Entry>, waits: &Waits) -> Vec<Certificate>
-    ensures { (tree : Tree) (plan : HeldPlan) (slot : HeldSlot) → All (IsEntry tree plan slot) entries.items → IsHeld tree plan slot (waits_seen waits.now) entries.items → AreRefuted (slot_asked tree plan slot (waits_seen waits.now)) result.items }
+    ensures { (tree : Tree) (plan : HeldPlan) (slot : HeldSlot)
+        → All (IsEntry tree plan slot) entries.items
+        → IsHeld tree plan slot (waits_seen waits.now) entries.items
+        → AreRefuted (slot_asked tree plan slot (waits_seen waits.now)) result.items }
 {
     let mut left = entries;
     while let Some(entry) = left.pop() {
@@ -199,7 +207,8 @@ impl<'b, 'a> SlotCache<'b, 'a> {
     ) -> Result<Self, AllocError>
         requires { length phases.now < 2 ^ 20 }
         ensures slot { IfOk result (λ c. c.slot ≡ slot.entry) }
-        ensures certain { IfOk result (λ c. boundaries_seen c ≡ certain_of (slot_seen slot.entry) (map phase_seen phases.now)) }
+        ensures certain { IfOk result (λ c. boundaries_seen c ≡ certain_of (slot_seen slot.entry)
+            (map phase_seen phases.now)) }
         ensures few { IfOk result (λ c. length c.boundaries.items < 2 ^ 30) }
         ensures empty { IfOk result (λ c. c.entries.items ≡ []) }
     {
@@ -229,7 +238,9 @@ impl<'b, 'a> SlotCache<'b, 'a> {
         findings: &mut Findings,
     ) -> Result<Option<Cause>, AllocError>
         requires { IsCache (tree_of problem.program.now) problem.plan.now self.old }
-        ensures { IfOk result (HasAnswered (tree_of problem.entry.program.now) problem.entry.plan.now (waits_seen waits.now) self.old self.new) }
+        ensures { IfOk result
+            (HasAnswered (tree_of problem.entry.program.now) problem.entry.plan.now
+            (waits_seen waits.now) self.old self.new) }
     {
         if let Some(outcome) = recall(self.entries.as_slice(), waits) {
             return Ok(outcome);
@@ -251,7 +262,10 @@ impl<'b, 'a> SlotCache<'b, 'a> {
     ) -> Result<Option<Cause>, AllocError>
         requires places { IsTrue (list_all has_places_in kinds.now) }
         requires cache { IsCache (tree_of problem.program.now) problem.plan.now self.old }
-        ensures { IfOk result (HasAnswered (tree_of problem.entry.program.now) problem.entry.plan.now (signature_of problem.entry.plan.now.version kinds.now (boundaries_seen self.old)) self.old self.new) }
+        ensures { IfOk result
+            (HasAnswered (tree_of problem.entry.program.now) problem.entry.plan.now
+            (signature_of problem.entry.plan.now.version kinds.now
+            (boundaries_seen self.old)) self.old self.new) }
     {
         match signature_at(
             alloc,
@@ -293,8 +307,13 @@ impl<'b, 'a> SlotCache<'b, 'a> {
     ) -> Result<Vec<Certificate>, AllocError>
         requires places { IsTrue (list_all has_places_in kinds.now) }
         requires cache { IsCache (tree_of problem.program.now) problem.plan.now self }
-        requires held { IsHeld (tree_of problem.program.now) problem.plan.now (slot_seen self.slot) (signature_of problem.plan.now.version kinds.now (boundaries_seen self)) self.entries.items }
-        ensures { IfOk result (λ cs. AreRefuted (slot_asked (tree_of problem.entry.program.now) problem.entry.plan.now (slot_seen self.entry.slot) (signature_of problem.entry.plan.now.version kinds.now (boundaries_seen self.entry))) cs.items) }
+        requires held { IsHeld (tree_of problem.program.now) problem.plan.now (slot_seen self.slot)
+            (signature_of problem.plan.now.version kinds.now
+            (boundaries_seen self)) self.entries.items }
+        ensures { IfOk result
+            (λ cs. AreRefuted (slot_asked (tree_of problem.entry.program.now) problem.entry.plan.now
+            (slot_seen self.entry.slot) (signature_of problem.entry.plan.now.version kinds.now
+            (boundaries_seen self.entry))) cs.items) }
     {
         let SlotCache {
             boundaries,

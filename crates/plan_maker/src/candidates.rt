@@ -39,7 +39,8 @@ pub(crate) fn candidate(
     phase: usize,
     place: usize,
 ) -> Result<Kind, AllocError>
-    ensures { IfOk result (λ kind. kind ≡ candidate_of candidates.now (record { phase = phase; place = place })) }
+    ensures { IfOk result (λ kind. kind
+        ≡ candidate_of candidates.now (record { phase = phase; place = place })) }
 {
     match item_at(candidates, phase) {
         Some(kinds) => kind_at(alloc, kinds.as_slice(), place),

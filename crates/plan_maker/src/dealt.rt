@@ -22,7 +22,10 @@ pub(crate) fn judge_trips(
     phases: &[Phase],
     findings: &mut Findings,
 ) -> Result<Judged, AllocError>
-    ensures { IfOk result (IsVerdict (flat_map (trips_asked (tree_of problem.entry.program.now) problem.entry.plan.now) (map phase_seen phases.now))) }
+    ensures { IfOk result
+        (IsVerdict
+        (flat_map (trips_asked (tree_of problem.entry.program.now) problem.entry.plan.now)
+        (map phase_seen phases.now))) }
 {
     let mut certificates = Vec::new(alloc);
     for phase in phases {
@@ -40,7 +43,9 @@ fn judge_phase(
     phase: &Phase,
     findings: &mut Findings,
 ) -> Result<Judged, AllocError>
-    ensures { IfOk result (IsVerdict (trips_asked (tree_of problem.entry.program.now) problem.entry.plan.now (phase_seen phase.now))) }
+    ensures { IfOk result
+        (IsVerdict (trips_asked (tree_of problem.entry.program.now) problem.entry.plan.now
+        (phase_seen phase.now))) }
 {
     if !problem.plan.cut.is_dealt(phase.text.item) {
         return Ok(Verdict::Refuted(Vec::new(alloc)));

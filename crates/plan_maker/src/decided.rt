@@ -72,7 +72,8 @@ fn quick_look(alloc: Global, system: &System) -> Result<Option<Found>, NoMemory>
 // What an answer of elimination in this order finds.
 #[tactic(auto, using(crate::proofs::Judgements::found_open))]
 fn found_by(answer: Answer) -> Found
-    ensures { (system : Inequalities) (order : List ℕ) → IsDecided system order answer → IsFound system order result }
+    ensures { (system : Inequalities) (order : List ℕ) → IsDecided system order answer
+        → IsFound system order result }
 {
     match answer {
         Answer::Infeasible(certificate) => Verdict::Refuted(certificate),
@@ -98,7 +99,8 @@ fn find_long(alloc: Global, system: &System, level: Level) -> Result<Found, NoMe
 // What is found of a system by an answer of elimination: a certificate stands, and else a quick look may
 // find one, or a witness.
 fn find_behind(alloc: Global, system: &System, answer: Answer) -> Result<Found, NoMemory>
-    ensures { (order : List ℕ) → IsDecided system.now order answer → IfOk result (IsFound system.now order) }
+    ensures { (order : List ℕ) → IsDecided system.now order answer
+        → IfOk result (IsFound system.now order) }
 {
     match found_by(answer) {
         Verdict::Refuted(certificate) => Ok(Verdict::Refuted(certificate)),

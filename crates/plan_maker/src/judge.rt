@@ -91,7 +91,11 @@ fn known_first(
     findings: &Findings,
 ) -> Result<Vec<Certificate>, AllocError>
     ensures same { OnOk result (obligations_seen systems.new ≡ obligations_seen systems.old) }
-    ensures refuted { (dists : List Dealt) → IfOk result (λ cs. AreRefuted (map (asked_about dists) (take (length cs.items) (obligations_seen systems.old))) cs.items) }
+    ensures refuted { (dists : List Dealt)
+        → IfOk result
+        (λ cs. AreRefuted
+        (map (asked_about dists) (take (length cs.items) (obligations_seen systems.old)))
+        cs.items) }
 {
     let mut certificates = Vec::new(alloc);
     for index in 0..systems.count() {
@@ -118,7 +122,9 @@ fn judge_from(
     requires few { length dists.now < 2 ^ 20 }
     requires owners { All (HasOwners dists.now) (obligations_seen systems.old) }
     requires beginning { IfSome beginning (λ b. IsBeginning b.now) }
-    requires known { AreRefuted (map (asked_about dists.now) (take (length known.items) (obligations_seen systems.old))) known.items }
+    requires known { AreRefuted
+        (map (asked_about dists.now) (take (length known.items) (obligations_seen systems.old)))
+        known.items }
     ensures { IfOk result (IsVerdict (map (asked_about dists.now) (obligations_seen systems.old))) }
 {
     let mut certificates = known;
@@ -223,7 +229,9 @@ fn judge_group(
 ) -> Result<Judged, AllocError>
     requires few { length dists.now < 2 ^ 20 }
     requires dealt { IsDealtSo problem.plan.now dists.now (subject_seen group.now.subject) }
-    ensures { IfOk result (IsVerdict (asked_in (tree_of problem.entry.program.now) problem.entry.plan.now dists.now (group_seen group.now))) }
+    ensures { IfOk result
+        (IsVerdict (asked_in (tree_of problem.entry.program.now) problem.entry.plan.now dists.now
+        (group_seen group.now))) }
 {
     let number = group.number;
     let (program, plan) = (problem.program, problem.plan);
@@ -249,8 +257,12 @@ pub(crate) fn judge_groups(
     findings: &mut Findings,
 ) -> Result<Judged, AllocError>
     requires few { length dists.now < 2 ^ 20 }
-    requires dealt { All (λ (group : HeldGroup). IsDealtSo problem.plan.now dists.now (subject_seen group.subject)) groups.now }
-    ensures { IfOk result (IsVerdict (flat_map (asked_in (tree_of problem.entry.program.now) problem.entry.plan.now dists.now) (map group_seen groups.now))) }
+    requires dealt { All (λ (group : HeldGroup). IsDealtSo problem.plan.now dists.now
+        (subject_seen group.subject)) groups.now }
+    ensures { IfOk result
+        (IsVerdict
+        (flat_map (asked_in (tree_of problem.entry.program.now) problem.entry.plan.now dists.now)
+        (map group_seen groups.now))) }
 {
     let mut certificates = Vec::new(alloc);
     for group in groups {

@@ -51,8 +51,10 @@ pub(crate) fn judge_loops(
 ) -> Result<Vec<LoopVerdict>, AllocError>
     requires formed { IsWellFormed (tree_of program.now) }
     requires limits { IsWithinLimits (tree_of program.now) }
-    ensures long { IfOk result (λ verdicts. length verdicts.items ≡ loops_of (tree_of program.now).items) }
-    ensures verdicts { IfOk result (λ verdicts. AreLoopVerdicts (tree_of program.now) verdicts.items) }
+    ensures long { IfOk result (λ verdicts. length verdicts.items
+        ≡ loops_of (tree_of program.now).items) }
+    ensures verdicts { IfOk result
+        (λ verdicts. AreLoopVerdicts (tree_of program.now) verdicts.items) }
 {
     let mut verdicts = Vec::new(alloc);
     for place in 0..program.loop_count() {
@@ -96,7 +98,8 @@ fn judge_tries(
 ) -> Result<LoopVerdict, AllocError>
     requires formed { IsWellFormed (tree_of program.now) }
     requires limits { IsWithinLimits (tree_of program.now) }
-    requires body { body_among nest.now.number (tree_of program.now).items ≡ Some (nest_body nest.now) }
+    requires body { body_among nest.now.number (tree_of program.now).items
+        ≡ Some (nest_body nest.now) }
     requires silent { loop_prints (tree_of program.now) nest.now.number ≡ false }
     ensures { IfOk result (IsLoopVerdict (tree_of program.now) nest.now.number) }
 {
@@ -207,7 +210,10 @@ fn push_reasons(
     verdict: &LoopVerdict,
 ) -> Result<(), AllocError>
     requires { is_open mark ≡ true → tried_in verdict.now ≡ None }
-    ensures { (tree : Tree) (number : ℕ) → IsLoopVerdict tree number verdict.now → OnOk result (HasLoopReasons tree (all_attempts tree (open_loop number mark)) reasons.old.items reasons.new.items) }
+    ensures { (tree : Tree) (number : ℕ) → IsLoopVerdict tree number verdict.now
+        → OnOk result
+        (HasLoopReasons tree
+        (all_attempts tree (open_loop number mark)) reasons.old.items reasons.new.items) }
 {
     if !is_open(mark) {
         return Ok(());
@@ -226,7 +232,9 @@ pub(crate) fn loop_reasons(
 ) -> Result<Vec<LoopReason>, AllocError>
     requires long { length verdicts.now ≡ length marks.now }
     requires barred { AreOpenBarred marks.now verdicts.now }
-    ensures { (tree : Tree) → AreLoopVerdicts tree verdicts.now → IfOk result (λ reasons. AllZip (IsLoopReason tree) (all_attempts tree (open_loops 1 marks.now)) reasons.items) }
+    ensures { (tree : Tree) → AreLoopVerdicts tree verdicts.now
+        → IfOk result (λ reasons. AllZip (IsLoopReason tree)
+        (all_attempts tree (open_loops 1 marks.now)) reasons.items) }
 {
     let mut reasons = Vec::new(alloc);
     for place in 0..marks.len() {
@@ -244,7 +252,11 @@ fn push_certificates(
     mark: Mark,
     verdict: LoopVerdict,
 ) -> Result<(), AllocError>
-    ensures { (tree : Tree) (number : ℕ) → IsLoopVerdict tree number verdict → OnOk result (HasMoreCertificates (marked_asked tree number mark (tried_in verdict)) certificates.old.items certificates.new.items) }
+    ensures { (tree : Tree) (number : ℕ) → IsLoopVerdict tree number verdict
+        → OnOk result
+        (HasMoreCertificates
+        (marked_asked tree number mark (tried_in verdict)) certificates.old.items
+        certificates.new.items) }
 {
     if !mark.is_doall() {
         return Ok(());
@@ -270,7 +282,10 @@ pub(crate) fn trip_certificates(
     verdicts: Vec<LoopVerdict>,
 ) -> Result<Vec<Certificate>, AllocError>
     requires { length verdicts.items ≡ length marks.now }
-    ensures { (tree : Tree) → AreLoopVerdicts tree verdicts.items → IfOk result (λ cs. AreRefuted (loops_asked tree (tried_at (map tried_in verdicts.items)) 1 marks.now) cs.items) }
+    ensures { (tree : Tree) → AreLoopVerdicts tree verdicts.items
+        → IfOk result
+        (λ cs. AreRefuted (loops_asked tree (tried_at (map tried_in verdicts.items)) 1 marks.now)
+        cs.items) }
 {
     let mut certificates = Vec::new(alloc);
     let mut place = 0;

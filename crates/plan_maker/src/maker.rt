@@ -92,7 +92,8 @@ fn base_plan(alloc: Global, program: &Program, cut: Cut, workers: u32) -> Result
     requires some { 1 ≤ workers }
     requires few { workers ≤ 64 }
     requires reasoned { IsReasonedCut (tree_of program.now) cut }
-    ensures same { IfOk result (λ plan. plan ≡ barrier_plan cut (maker_anchors (tree_of program.now) cut.marks workers) workers []) }
+    ensures same { IfOk result (λ plan. plan
+        ≡ barrier_plan cut (maker_anchors (tree_of program.now) cut.marks workers) workers []) }
     ensures fits { IfOk result (λ plan. IsFit (tree_of program.now) plan) }
 {
     let anchors = anchors_of(alloc, program, &cut, workers)?;
@@ -109,8 +110,10 @@ fn make_cut(
     requires formed { IsWellFormed (tree_of program.now) }
     requires limits { IsWithinLimits (tree_of program.now) }
     ensures reasoned { IfOk result (λ made. IsReasonedCut (tree_of program.now) made.0) }
-    ensures loops { IfOk result (λ made. AllZip (IsLoopReason (tree_of program.now)) (all_attempts (tree_of program.now) (open_loops 1 made.0.marks)) made.1.items) }
-    ensures certificates { IfOk result (λ made. AreRefuted (cut_asked (tree_of program.now) made.0) made.2.items) }
+    ensures loops { IfOk result (λ made. AllZip (IsLoopReason (tree_of program.now))
+        (all_attempts (tree_of program.now) (open_loops 1 made.0.marks)) made.1.items) }
+    ensures certificates { IfOk result
+        (λ made. AreRefuted (cut_asked (tree_of program.now) made.0) made.2.items) }
 {
     let verdicts = judge_loops(alloc, program, findings)?;
     let tries = dealt_loops(alloc, verdicts.as_slice())?;
@@ -145,7 +148,8 @@ fn find_weakest(
     requires formed { IsWellFormed (tree_of problem.program.now) }
     requires limits { IsWithinLimits (tree_of problem.program.now) }
     requires fits { IsFit (tree_of problem.program.now) problem.plan.now }
-    requires trips { AreRefuted (all_trips_asked (tree_of problem.program.now) problem.plan.now) trips.items }
+    requires trips { AreRefuted
+        (all_trips_asked (tree_of problem.program.now) problem.plan.now) trips.items }
     ensures { IfOk result (IsWeakest (tree_of problem.entry.program.now) problem.entry.plan.now) }
 {
     let phases = phases(alloc, problem.program, &problem.plan.cut)?;

@@ -25,7 +25,8 @@ fn has_partner(a: &Reference, others: &[Reference]) -> bool
 
 // Whether an access among these conflicts with one among those.
 fn have_partners(firsts: &[Reference], seconds: &[Reference]) -> bool
-    ensures { result ≡ list_any (λ a. list_any (conflict a) (map reference_seen seconds.now)) (map reference_seen firsts.now) }
+    ensures { result ≡ list_any (λ a. list_any (conflict a) (map reference_seen seconds.now))
+        (map reference_seen firsts.now) }
 {
     for a in firsts {
         if has_partner(a, seconds) {

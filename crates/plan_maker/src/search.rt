@@ -50,7 +50,8 @@ fn slot_caches<'b, 'a>(
     slots: &[Slot<'b, 'a>],
 ) -> Result<Vec<SlotCache<'b, 'a>>, AllocError>
     requires { length phases.now < 2 ^ 20 }
-    ensures { IfOk result (λ found. AreFresh (map phase_seen phases.now) (map slot_seen slots.now) found.items) }
+    ensures { IfOk result (λ found. AreFresh (map phase_seen phases.now)
+        (map slot_seen slots.now) found.items) }
 {
     let mut found = Vec::new(alloc);
     for slot in slots {
@@ -86,11 +87,15 @@ impl<'b, 'a> Search<'b, 'a> {
         requires formed { IsWellFormed (tree_of problem.program.now) }
         requires limits { IsWithinLimits (tree_of problem.program.now) }
         requires some { 1 ≤ problem.plan.now.workers }
-        requires phases { map phase_seen phases.now ≡ phases_of (tree_of problem.program.now) problem.plan.now.cut.marks }
+        requires phases { map phase_seen phases.now
+            ≡ phases_of (tree_of problem.program.now) problem.plan.now.cut.marks }
         requires few { length phases.now < 2 ^ 20 }
         ensures search { IfOk result IsSearch }
         ensures problem { IfOk result (λ s. s.problem ≡ problem.entry) }
-        ensures slots { IfOk result (λ s. slots_in s ≡ filter meets (slots_of (phases_of (tree_of problem.entry.program.now) problem.entry.plan.now.cut.marks))) }
+        ensures slots { IfOk result (λ s. slots_in s
+            ≡ filter meets
+            (slots_of
+            (phases_of (tree_of problem.entry.program.now) problem.entry.plan.now.cut.marks))) }
     {
         let all = slots(alloc, phases)?;
         let slots = slot_caches(alloc, phases, all.as_slice())?;
@@ -109,7 +114,8 @@ impl<'b, 'a> Search<'b, 'a> {
     // The kinds where this phase, by its place from 0, has the candidate at this place.
     fn kinds_with(&self, alloc: Global, phase: usize, place: usize) -> Result<Vec<Kind>, AllocError>
         requires { phase < length self.now.taken.items }
-        ensures { IfOk result (λ kinds. kinds.items ≡ kinds_with self.now (record { phase = phase; place = place })) }
+        ensures { IfOk result (λ kinds. kinds.items
+            ≡ kinds_with self.now (record { phase = phase; place = place })) }
     {
         let mut taken = Vec::from_slice(alloc, self.taken.as_slice())?;
         taken[phase] = place;
@@ -148,7 +154,9 @@ impl<'b, 'a> Search<'b, 'a> {
         ensures search { OnOk result (IsSearch self.new) }
         ensures same { OnOk result (IsSameSearch self.old self.new) }
         ensures taken { OnOk result (self.new.taken.items ≡ self.old.taken.items) }
-        ensures trial { IfOk result (IsTrial self.new (phase + 1) (kinds_with self.old (record { phase = phase; place = place }))) }
+        ensures trial { IfOk result
+            (IsTrial self.new (phase + 1)
+            (kinds_with self.old (record { phase = phase; place = place }))) }
     {
         let kinds = self.kinds_with(alloc, phase, place)?;
         let trial = Trial {
@@ -170,9 +178,14 @@ impl<'b, 'a> Search<'b, 'a> {
         requires phase { phase < length self.old.taken.items }
         ensures search { OnOk result (IsSearch self.new) }
         ensures same { OnOk result (IsSameSearch self.old self.new) }
-        ensures taken { IfOk result (λ changed. changed ≡ false → self.new.taken.items ≡ self.old.taken.items) }
-        ensures weaker { IfOk result (λ changed. changed ≡ true → sum self.new.taken.items < sum self.old.taken.items) }
-        ensures reasons { IfOk result (λ changed. changed ≡ false → AreMoreReasons self.old (weaker_at phase (slice_index_or self.old.taken.items phase 0)) reasons.old.items reasons.new.items) }
+        ensures taken { IfOk result (λ changed. changed ≡ false
+            → self.new.taken.items ≡ self.old.taken.items) }
+        ensures weaker { IfOk result (λ changed. changed ≡ true
+            → sum self.new.taken.items < sum self.old.taken.items) }
+        ensures reasons { IfOk result (λ changed. changed ≡ false
+            → AreMoreReasons self.old
+            (weaker_at phase (slice_index_or self.old.taken.items phase 0)) reasons.old.items
+            reasons.new.items) }
     {
         for place in 0..self.taken[phase] {
             match self.ask_with(alloc, phase, place)? {
@@ -195,8 +208,11 @@ impl<'b, 'a> Search<'b, 'a> {
         requires { IsSearch self.old }
         ensures search { OnOk result (IsSearch self.new) }
         ensures same { OnOk result (IsSameSearch self.old self.new) }
-        ensures weaker { IfOk result (λ o. o ≡ None → sum self.new.taken.items < sum self.old.taken.items) }
-        ensures reasons { IfOk result (λ o. IfSome o (λ reasons. AllZip (IsTrialReason self.new) (weaker_from 0 self.new.taken.items) reasons.items)) }
+        ensures weaker { IfOk result (λ o. o ≡ None
+            → sum self.new.taken.items < sum self.old.taken.items) }
+        ensures reasons { IfOk result
+            (λ o. IfSome o (λ reasons. AllZip (IsTrialReason self.new)
+            (weaker_from 0 self.new.taken.items) reasons.items)) }
     {
         let mut reasons = Vec::new(alloc);
         let mut changed = false;
@@ -227,8 +243,10 @@ impl<'b, 'a> Search<'b, 'a> {
         requires phase { phase < length self.old.taken.items }
         ensures search { OnOk result (IsSearch self.new) }
         ensures same { OnOk result (IsSameSearch self.old self.new) }
-        ensures taken { IfOk result (λ changed. changed ≡ false → self.new.taken.items ≡ self.old.taken.items) }
-        ensures weaker { IfOk result (λ changed. changed ≡ true → sum self.new.taken.items < sum self.old.taken.items) }
+        ensures taken { IfOk result (λ changed. changed ≡ false
+            → self.new.taken.items ≡ self.old.taken.items) }
+        ensures weaker { IfOk result (λ changed. changed ≡ true
+            → sum self.new.taken.items < sum self.old.taken.items) }
     {
         if !self.is_deeper(phase, depth) {
             return Ok(false);
@@ -243,7 +261,8 @@ impl<'b, 'a> Search<'b, 'a> {
         requires { IsSearch self.old }
         ensures search { OnOk result (IsSearch self.new) }
         ensures same { OnOk result (IsSameSearch self.old self.new) }
-        ensures weaker { IfOk result (λ changed. changed ≡ true → sum self.new.taken.items < sum self.old.taken.items) }
+        ensures weaker { IfOk result (λ changed. changed ≡ true
+            → sum self.new.taken.items < sum self.old.taken.items) }
     {
         let mut changed = false;
         for phase in 0..self.taken.len() {
@@ -285,7 +304,8 @@ impl<'b, 'a> Search<'b, 'a> {
         requires { IsSearch self.old }
         ensures search { OnOk result (IsSearch self.new) }
         ensures same { OnOk result (IsSameSearch self.old self.new) }
-        ensures reasons { IfOk result (λ reasons. AllZip (IsTrialReason self.new) (weaker_from 0 self.new.taken.items) reasons.items) }
+        ensures reasons { IfOk result (λ reasons. AllZip (IsTrialReason self.new)
+            (weaker_from 0 self.new.taken.items) reasons.items) }
     {
         self.settle_by_depth(alloc)?;
         loop {
@@ -303,7 +323,8 @@ impl<'b, 'a> Search<'b, 'a> {
     ) -> Result<(Vec<Kind>, Vec<Certificate>), AllocError>
         requires { IsSearch self }
         ensures kinds { IfOk result (λ found. found.0.items ≡ kinds_in self.entry) }
-        ensures certificates { IfOk result (λ found. HasCertificates self.entry certificates.items found.1.items) }
+        ensures certificates { IfOk result
+            (λ found. HasCertificates self.entry certificates.items found.1.items) }
     {
         let Search {
             problem,

@@ -16,7 +16,8 @@ use sync_plan::Kind;
 pub(crate) fn are_good_anchors(program: &Program, cut: &Cut, anchors: &[Anchor]) -> bool
     requires formed { IsWellFormed (tree_of program.now) }
     requires few { length anchors.now < 2 ^ 32 }
-    ensures { result ≡ are_good_anchors (length (tree_of program.now).params) cut.now.marks (static_phases (tree_of program.now) cut.now.marks) anchors.now }
+    ensures { result ≡ are_good_anchors (length (tree_of program.now).params) cut.now.marks
+        (static_phases (tree_of program.now) cut.now.marks) anchors.now }
 {
     let constants = constant_count(program);
     for (place, anchor) in anchors.iter().enumerate() {
@@ -35,7 +36,8 @@ pub(crate) fn are_good_anchors(program: &Program, cut: &Cut, anchors: &[Anchor])
 pub(crate) fn are_good_kinds(program: &Program, cut: &Cut, kinds: &[Kind]) -> bool
     requires formed { IsWellFormed (tree_of program.now) }
     requires few { length kinds.now < 2 ^ 32 }
-    ensures { result ≡ are_good_kinds (length (tree_of program.now).params) (static_phases (tree_of program.now) cut.now.marks) kinds.now }
+    ensures { result ≡ are_good_kinds (length (tree_of program.now).params)
+        (static_phases (tree_of program.now) cut.now.marks) kinds.now }
 {
     let constants = constant_count(program);
     for (place, kind) in kinds.iter().enumerate() {
@@ -59,7 +61,8 @@ pub(crate) fn constant_count(program: &Program) -> usize
 /// The number of the loop that a static phase is, where the phase's anchor may name it: its trips
 /// are dealt.
 pub fn own_loop(cut: &Cut, item: &Item) -> Option<u32>
-    ensures { (around : List ℕ) → own_loops cut.now.marks (statement_of item.now) around ≡ with_own result around }
+    ensures { (around : List ℕ) → own_loops cut.now.marks (statement_of item.now) around
+        ≡ with_own result around }
 {
     match item {
         Item::Loop(nest) if cut.is_doall(nest.number) => Some(nest.number),
@@ -97,7 +100,9 @@ fn names_only(constants: usize, phase: &StaticPhase, own: Option<u32>, form: &Af
 
 // Whether these pairs name only loops round the phase, or this one.
 fn are_named(phase: &StaticPhase, own: Option<u32>, pairs: &[(u32, i64)]) -> bool
-    ensures { result ≡ list_all (λ p. list_any (λ l. l == p.0) (with_own own (loops_round phase.now))) pairs.now }
+    ensures { result
+        ≡ list_all
+        (λ p. list_any (λ l. l == p.0) (with_own own (loops_round phase.now))) pairs.now }
 {
     for &(number, _) in pairs {
         if !is_named(phase, own, number) {

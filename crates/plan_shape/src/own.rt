@@ -48,7 +48,8 @@ fn is_good_sum(version: Version, mark: Mark, nest: &Nest) -> bool
 
 // Whether a loop has 1 to 16 sum scalars.
 fn has_sums(nest: &Nest) -> bool
-    ensures { result ≡ (nat_le 1 (length (sums_of (statements_from nest.now.items.items))) && nat_le (length (sums_of (statements_from nest.now.items.items))) 16) }
+    ensures { result ≡ (nat_le 1 (length (sums_of (statements_from nest.now.items.items)))
+        && nat_le (length (sums_of (statements_from nest.now.items.items))) 16) }
 {
     match sum_scalars(nest) {
         Some(found) => !found.is_empty(),
@@ -84,7 +85,8 @@ fn has_good_privates(version: Version, cut: &Cut, item: &Item) -> bool
 }
 
 fn are_good_privates(version: Version, cut: &Cut, nest: &Nest) -> bool
-    ensures { result ≡ are_good_privates version (mark_of cut.now.marks nest.now.number) (statements_from nest.now.items.items) (privates_of cut.now.privates nest.now.number) }
+    ensures { result ≡ are_good_privates version (mark_of cut.now.marks nest.now.number)
+        (statements_from nest.now.items.items) (privates_of cut.now.privates nest.now.number) }
 {
     let scalars = cut.privates_of(nest.number);
     scalars.is_empty()

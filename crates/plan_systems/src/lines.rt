@@ -22,7 +22,8 @@ use sync_plan::Plan;
 pub fn write_systems(alloc: Global, program: &Program, plan: &Plan) -> Result<Vec<u8>, AllocError>
     requires formed { IsWellFormed (tree_of program.now) }
     requires fits { IsFit (tree_of program.now) plan.now }
-    ensures { IfOk result (λ text. text.items ≡ systems_text (obligations_of (tree_of program.now) plan.now)) }
+    ensures { IfOk result (λ text. text.items
+        ≡ systems_text (obligations_of (tree_of program.now) plan.now)) }
 {
     let found = obligations(alloc, program, plan)?;
     text_of(alloc, &found)
@@ -115,7 +116,8 @@ fn push_part(text: &mut Vec<u8>, letters: &[u8], number: u64) -> Result<(), Allo
 
 // Letters and a number with its sign.
 fn push_signed(text: &mut Vec<u8>, letters: &[u8], number: i128) -> Result<(), AllocError>
-    ensures { OnOk result (text.new.items ≡ text.old.items ++ (letters.now ++ signed_decimal number)) }
+    ensures { OnOk result (text.new.items ≡ text.old.items
+        ++ (letters.now ++ signed_decimal number)) }
 {
     let mut buffer = Buffer::new();
     text.extend_from_slice(letters)?;

@@ -27,10 +27,12 @@ pub(crate) fn read_count_32(
     word: &[u8],
 ) -> Result<u32, PlanSyntax>
     requires { list_all is_glyph word.now ≡ true }
-    ensures ok { IfOk result (λ n. lines.old.rest.now ≡ spec.count_line word.now n ++ (10 ∷ lines.new.rest.now)) }
+    ensures ok { IfOk result (λ n. lines.old.rest.now ≡ spec.count_line word.now n
+        ++ (10 ∷ lines.new.rest.now)) }
     ensures taken { IfOk result (λ n. lines.new.taken ≡ lines.old.taken + 1) }
     ensures fits { IfOk result (λ n. is_32 n ≡ true) }
-    ensures refused { IfErr result (RefusesLine (spec.count_line word.now) is_32 lines.old.rest.now lines.old.taken) }
+    ensures refused { IfErr result
+        (RefusesLine (spec.count_line word.now) is_32 lines.old.rest.now lines.old.taken) }
 {
     let line = lines.next()?;
     let words = words_of(alloc, line)?;
@@ -51,10 +53,12 @@ pub(crate) fn read_count_64(
     word: &[u8],
 ) -> Result<u64, PlanSyntax>
     requires { list_all is_glyph word.now ≡ true }
-    ensures ok { IfOk result (λ n. lines.old.rest.now ≡ spec.count_line word.now n ++ (10 ∷ lines.new.rest.now)) }
+    ensures ok { IfOk result (λ n. lines.old.rest.now ≡ spec.count_line word.now n
+        ++ (10 ∷ lines.new.rest.now)) }
     ensures taken { IfOk result (λ n. lines.new.taken ≡ lines.old.taken + 1) }
     ensures fits { IfOk result (λ n. is_64 n ≡ true) }
-    ensures refused { IfErr result (RefusesLine (spec.count_line word.now) is_64 lines.old.rest.now lines.old.taken) }
+    ensures refused { IfErr result
+        (RefusesLine (spec.count_line word.now) is_64 lines.old.rest.now lines.old.taken) }
 {
     let line = lines.next()?;
     let words = words_of(alloc, line)?;
@@ -75,10 +79,12 @@ pub(crate) fn read_loop(
     version: Version,
     number: u32,
 ) -> Result<(Mark, Privates), PlanSyntax>
-    ensures ok { IfOk result (λ l. lines.old.rest.now ≡ spec.loop_line number l ++ (10 ∷ lines.new.rest.now)) }
+    ensures ok { IfOk result (λ l. lines.old.rest.now ≡ spec.loop_line number l
+        ++ (10 ∷ lines.new.rest.now)) }
     ensures taken { IfOk result (λ l. lines.new.taken ≡ lines.old.taken + 1) }
     ensures shown { IfOk result (λ l. is_loop_shown version l ≡ true) }
-    ensures refused { IfErr result (RefusesLine (spec.loop_line number) (is_loop_shown version) lines.old.rest.now lines.old.taken) }
+    ensures refused { IfErr result (RefusesLine (spec.loop_line number)
+        (is_loop_shown version) lines.old.rest.now lines.old.taken) }
 {
     let line = lines.next()?;
     let words = words_of(alloc, line)?;
@@ -111,10 +117,12 @@ pub(crate) fn read_phase(
     lines: &mut Lines,
     number: u32,
 ) -> Result<(Kind, Anchor), PlanSyntax>
-    ensures ok { IfOk result (λ phase. lines.old.rest.now ≡ spec.phase_line number phase ++ (10 ∷ lines.new.rest.now)) }
+    ensures ok { IfOk result (λ phase. lines.old.rest.now ≡ spec.phase_line number phase
+        ++ (10 ∷ lines.new.rest.now)) }
     ensures taken { IfOk result (λ phase. lines.new.taken ≡ lines.old.taken + 1) }
     ensures shown { IfOk result (λ phase. is_phase_shown phase ≡ true) }
-    ensures refused { IfErr result (RefusesLine (spec.phase_line number) is_phase_shown lines.old.rest.now lines.old.taken) }
+    ensures refused { IfErr result
+        (RefusesLine (spec.phase_line number) is_phase_shown lines.old.rest.now lines.old.taken) }
 {
     let line = lines.next()?;
     let words = words_of(alloc, line)?;
@@ -136,10 +144,12 @@ pub(crate) fn read_row(
     lines: &mut Lines,
     number: u32,
 ) -> Result<ConditionRow, PlanSyntax>
-    ensures ok { IfOk result (λ row. lines.old.rest.now ≡ spec.row_line number row ++ (10 ∷ lines.new.rest.now)) }
+    ensures ok { IfOk result (λ row. lines.old.rest.now ≡ spec.row_line number row
+        ++ (10 ∷ lines.new.rest.now)) }
     ensures taken { IfOk result (λ row. lines.new.taken ≡ lines.old.taken + 1) }
     ensures shown { IfOk result (λ row. is_row_shown row ≡ true) }
-    ensures refused { IfErr result (RefusesLine (spec.row_line number) is_row_shown lines.old.rest.now lines.old.taken) }
+    ensures refused { IfErr result
+        (RefusesLine (spec.row_line number) is_row_shown lines.old.rest.now lines.old.taken) }
 {
     let line = lines.next()?;
     let words = words_of(alloc, line)?;
@@ -158,7 +168,8 @@ pub(crate) fn read_row(
 
 // Whether a row names a named constant, and only by rising numbers, with numbers as a form has them.
 fn is_shown(row: &ConditionRow) -> bool
-    ensures { result ≡ (not (length row.now.coefs == 0) && rises_above 0 row.now.coefs && is_small row.now.bound) }
+    ensures { result ≡ (not (length row.now.coefs == 0) && rises_above 0 row.now.coefs
+        && is_small row.now.bound) }
 {
     let coefs = row.coefs.as_slice();
     !coefs.is_empty() && rises_above(coefs) && is_small(row.bound)
@@ -166,10 +177,12 @@ fn is_shown(row: &ConditionRow) -> bool
 
 /// The number of steps of the certificate with this number, from its line.
 pub(crate) fn read_steps(alloc: Global, lines: &mut Lines, number: u64) -> Result<u64, PlanSyntax>
-    ensures ok { IfOk result (λ steps. lines.old.rest.now ≡ spec.cert_line number steps ++ (10 ∷ lines.new.rest.now)) }
+    ensures ok { IfOk result (λ steps. lines.old.rest.now ≡ spec.cert_line number steps
+        ++ (10 ∷ lines.new.rest.now)) }
     ensures taken { IfOk result (λ steps. lines.new.taken ≡ lines.old.taken + 1) }
     ensures fits { IfOk result (λ steps. is_64 steps ≡ true) }
-    ensures refused { IfErr result (RefusesLine (spec.cert_line number) is_64 lines.old.rest.now lines.old.taken) }
+    ensures refused { IfErr result
+        (RefusesLine (spec.cert_line number) is_64 lines.old.rest.now lines.old.taken) }
 {
     let line = lines.next()?;
     let words = words_of(alloc, line)?;
@@ -185,10 +198,12 @@ pub(crate) fn read_steps(alloc: Global, lines: &mut Lines, number: u64) -> Resul
 
 /// The line of a step.
 pub(crate) fn read_step(alloc: Global, lines: &mut Lines) -> Result<Step, PlanSyntax>
-    ensures ok { IfOk result (λ step. lines.old.rest.now ≡ spec.step_line step ++ (10 ∷ lines.new.rest.now)) }
+    ensures ok { IfOk result (λ step. lines.old.rest.now ≡ spec.step_line step
+        ++ (10 ∷ lines.new.rest.now)) }
     ensures taken { IfOk result (λ step. lines.new.taken ≡ lines.old.taken + 1) }
     ensures shown { IfOk result (λ step. is_step_shown step ≡ true) }
-    ensures refused { IfErr result (RefusesLine spec.step_line is_step_shown lines.old.rest.now lines.old.taken) }
+    ensures refused { IfErr result
+        (RefusesLine spec.step_line is_step_shown lines.old.rest.now lines.old.taken) }
 {
     let line = lines.next()?;
     let words = words_of(alloc, line)?;

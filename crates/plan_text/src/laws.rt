@@ -14,7 +14,8 @@ pub fn one_text()
 
 /// A plan's text begins with no other plan's.
 pub fn no_front()
-    ensures { (x y : Plan) (behind : List ℕ) → HasText x → HasText y → plan_text x ≡ plan_text y ++ behind → (x ≡ y) × (behind ≡ []) }
+    ensures { (x y : Plan) (behind : List ℕ) → HasText x → HasText y
+        → plan_text x ≡ plan_text y ++ behind → (x ≡ y) × (behind ≡ []) }
 {}
 
 /// There is one first alien line at most, and a plan's text has none.
@@ -26,5 +27,7 @@ pub fn one_refusal()
 /// What [`read_plan`](crate::read_plan) ensures leaves two answers for a plan's text: the plan, or no
 /// memory.
 pub fn read_back()
-    ensures { (x : Plan) (r : Result Plan PlanSyntax) → HasText x → IfOk r HasText → IfOk r (λ y. plan_text x ≡ plan_text y) → IfErr r (RefusesText (plan_text x)) → (r ≡ Ok x) ⊎ (r ≡ Err NoMemory) }
+    ensures { (x : Plan) (r : Result Plan PlanSyntax) → HasText x → IfOk r HasText
+        → IfOk r (λ y. plan_text x ≡ plan_text y) → IfErr r (RefusesText (plan_text x)) → (r ≡ Ok x)
+        ⊎ (r ≡ Err NoMemory) }
 {}

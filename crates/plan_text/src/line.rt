@@ -71,7 +71,8 @@ pub(crate) fn put_loop(
     mark: Mark,
     privates: &[u32],
 ) -> Result<(), AllocError>
-    ensures { OnOk result (out.new.items ≡ out.old.items ++ spec.loop_line number (mark, privates.now)) }
+    ensures { OnOk result (out.new.items ≡ out.old.items
+        ++ spec.loop_line number (mark, privates.now)) }
 {
     put_natural(out, u64::from(number))?;
     put_word(out, mark_word(mark))?;
@@ -80,7 +81,8 @@ pub(crate) fn put_loop(
 
 // The words of private scalars, if there are some.
 fn put_privates(out: &mut Vec<u8>, privates: &[u32]) -> Result<(), AllocError>
-    ensures { OnOk result (out.new.items ≡ out.old.items ++ spec.spaced (spec.private_words privates.now)) }
+    ensures { OnOk result (out.new.items ≡ out.old.items
+        ++ spec.spaced (spec.private_words privates.now)) }
 {
     match privates {
         [] => Ok(()),
@@ -92,7 +94,8 @@ fn put_privates(out: &mut Vec<u8>, privates: &[u32]) -> Result<(), AllocError>
 }
 
 fn put_scalars(out: &mut Vec<u8>, scalars: &[u32]) -> Result<(), AllocError>
-    ensures { OnOk result (out.new.items ≡ out.old.items ++ spec.spaced (map spec.private_word scalars.now)) }
+    ensures { OnOk result (out.new.items ≡ out.old.items
+        ++ spec.spaced (map spec.private_word scalars.now)) }
 {
     for &scalar in scalars {
         put_scalar(out, scalar)?;
@@ -126,7 +129,8 @@ pub(crate) fn put_phase(
     kind: &Kind,
     anchor: &Anchor,
 ) -> Result<(), AllocError>
-    ensures { OnOk result (out.new.items ≡ out.old.items ++ spec.phase_line number (kind.now, anchor.now)) }
+    ensures { OnOk result (out.new.items ≡ out.old.items
+        ++ spec.phase_line number (kind.now, anchor.now)) }
 {
     put_natural(out, u64::from(number))?;
     put_kind(out, kind)?;
@@ -136,7 +140,8 @@ pub(crate) fn put_phase(
 
 /// Appends the words of a kind, each with a blank in front.
 pub fn put_kind(out: &mut Vec<u8>, kind: &Kind) -> Result<(), AllocError>
-    ensures { OnOk result (out.new.items ≡ out.old.items ++ spec.spaced (spec.kind_words kind.now)) }
+    ensures { OnOk result (out.new.items ≡ out.old.items
+        ++ spec.spaced (spec.kind_words kind.now)) }
 {
     match kind {
         Kind::Nothing => put_word(out, b"NOTHING"),
@@ -150,14 +155,16 @@ pub fn put_kind(out: &mut Vec<u8>, kind: &Kind) -> Result<(), AllocError>
 }
 
 fn put_producer(out: &mut Vec<u8>, anchor: &Anchor) -> Result<(), AllocError>
-    ensures { OnOk result (out.new.items ≡ out.old.items ++ spec.spaced (codes "PRODUCER" ∷ spec.anchor_words anchor.now)) }
+    ensures { OnOk result (out.new.items ≡ out.old.items
+        ++ spec.spaced (codes "PRODUCER" ∷ spec.anchor_words anchor.now)) }
 {
     put_word(out, b"PRODUCER")?;
     put_anchor(out, anchor)
 }
 
 fn put_anchor(out: &mut Vec<u8>, anchor: &Anchor) -> Result<(), AllocError>
-    ensures { OnOk result (out.new.items ≡ out.old.items ++ spec.spaced (spec.anchor_words anchor.now)) }
+    ensures { OnOk result (out.new.items ≡ out.old.items
+        ++ spec.spaced (spec.anchor_words anchor.now)) }
 {
     put_form(out, &anchor.form)?;
     put_dist(out, anchor.dist)
@@ -173,7 +180,8 @@ fn put_dist(out: &mut Vec<u8>, dist: Dist) -> Result<(), AllocError>
 }
 
 fn put_form(out: &mut Vec<u8>, form: &Affine) -> Result<(), AllocError>
-    ensures { OnOk result (out.new.items ≡ out.old.items ++ spec.spaced (spec.form_words form.now)) }
+    ensures { OnOk result (out.new.items ≡ out.old.items
+        ++ spec.spaced (spec.form_words form.now)) }
 {
     out.push(b' ')?;
     put_signed(out, form.constant())?;
@@ -182,7 +190,8 @@ fn put_form(out: &mut Vec<u8>, form: &Affine) -> Result<(), AllocError>
 }
 
 fn put_pairs(out: &mut Vec<u8>, letter: &[u8], pairs: &[(u32, i64)]) -> Result<(), AllocError>
-    ensures { OnOk result (out.new.items ≡ out.old.items ++ spec.spaced (map (spec.pair_word letter.now) pairs.now)) }
+    ensures { OnOk result (out.new.items ≡ out.old.items
+        ++ spec.spaced (map (spec.pair_word letter.now) pairs.now)) }
 {
     for &(number, coefficient) in pairs {
         put_pair(out, letter, number, coefficient)?;
@@ -196,7 +205,8 @@ fn put_pair(
     number: u32,
     coefficient: i64,
 ) -> Result<(), AllocError>
-    ensures { OnOk result (out.new.items ≡ out.old.items ++ 32 ∷ spec.pair_word letter.now (number, coefficient)) }
+    ensures { OnOk result (out.new.items ≡ out.old.items ++ 32
+        ∷ spec.pair_word letter.now (number, coefficient)) }
 {
     out.push(b' ')?;
     put_signed(out, coefficient)?;
@@ -232,7 +242,8 @@ pub(crate) fn put_step(out: &mut Vec<u8>, step: &Step) -> Result<(), AllocError>
 }
 
 fn put_terms(out: &mut Vec<u8>, terms: &[(u64, i128)]) -> Result<(), AllocError>
-    ensures { OnOk result (out.new.items ≡ out.old.items ++ spec.spaced (map spec.term_word terms.now)) }
+    ensures { OnOk result (out.new.items ≡ out.old.items
+        ++ spec.spaced (map spec.term_word terms.now)) }
 {
     for &(row, multiplier) in terms {
         put_term(out, row, multiplier)?;

@@ -32,7 +32,8 @@ impl<'a> Lines<'a> {
 
     /// The next line, without its end; refused where there is none.
     pub(crate) fn next(&mut self) -> Result<&'a [u8], PlanSyntax>
-        ensures cut { IfOk result (λ line. self.old.rest.now ≡ line.now ++ (10 ∷ self.new.rest.now)) }
+        ensures cut { IfOk result (λ line. self.old.rest.now ≡ line.now
+            ++ (10 ∷ self.new.rest.now)) }
         ensures whole { IfOk result (λ line. is_unbroken line.now ≡ true) }
         ensures taken { IfOk result (λ line. self.new.taken ≡ self.old.taken + 1) }
         ensures refused { IfErr result (λ e. e ≡ Line (self.old.taken + 1)) }

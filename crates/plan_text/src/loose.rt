@@ -157,7 +157,8 @@ fn form_of(alloc: Global, words: &[&[u8]]) -> Result<Option<Affine>, AllocError>
 }
 
 fn as_form(constant: i64, loops: Pairs, params: Pairs) -> Option<Affine>
-    ensures { result ≡ spec.as_form (record { constant = constant; loops = loops; params = params }) }
+    ensures { result
+        ≡ spec.as_form (record { constant = constant; loops = loops; params = params }) }
 {
     if is_small(constant) && rises_above(loops.as_slice()) && rises_above(params.as_slice()) {
         Some(Affine::new(constant, loops, params))
@@ -230,7 +231,8 @@ fn mark_of(word: &[u8]) -> Mark
 
 // Private scalars.
 fn privates_of(alloc: Global, words: &[&[u8]]) -> Result<Privates, AllocError>
-    ensures { IfOk result (λ privates. privates ≡ map spec.private_of (map (λ w. w.now) words.now)) }
+    ensures { IfOk result (λ privates. privates
+        ≡ map spec.private_of (map (λ w. w.now) words.now)) }
 {
     let mut numbers = Vec::with_capacity(alloc, words.len())?;
     for word in words {
@@ -309,8 +311,10 @@ pub(crate) fn phase_of(alloc: Global, words: &[&[u8]]) -> Result<Option<(Kind, A
 
 // The words before and behind the first word AT.
 fn at_word<'a, 'b>(words: &'b [&'a [u8]]) -> (&'b [&'a [u8]], &'b [&'a [u8]])
-    ensures before { map (λ w. w.now) result.0.now ≡ before_first spec.is_at (map (λ w. w.now) words.now) }
-    ensures after { map (λ w. w.now) result.1.now ≡ after_first spec.is_at (map (λ w. w.now) words.now) }
+    ensures before { map (λ w. w.now) result.0.now
+        ≡ before_first spec.is_at (map (λ w. w.now) words.now) }
+    ensures after { map (λ w. w.now) result.1.now
+        ≡ after_first spec.is_at (map (λ w. w.now) words.now) }
 {
     match at_place(words) {
         Some(place) => (&words[..place], &words[place + 1..]),

@@ -20,8 +20,11 @@ pub(crate) fn read_loops(
     version: Version,
     count: u32,
 ) -> Result<Vec<(Mark, Privates)>, PlanSyntax>
-    ensures ok { IfOk result (λ items. ItemsRead (spec.alone loop_line) (spec.is_loop_shown version) lines.old.rest.now lines.old.taken lines.new.rest.now lines.new.taken items.items count) }
-    ensures refused { IfErr result (RefusesPart (spec.numbered (spec.alone loop_line) 1) (AreItems (spec.is_loop_shown version) count) lines.old.rest.now lines.old.taken) }
+    ensures ok { IfOk result (λ items. ItemsRead (spec.alone loop_line)
+        (spec.is_loop_shown version) lines.old.rest.now lines.old.taken lines.new.rest.now
+        lines.new.taken items.items count) }
+    ensures refused { IfErr result (RefusesPart (spec.numbered (spec.alone loop_line) 1)
+        (AreItems (spec.is_loop_shown version) count) lines.old.rest.now lines.old.taken) }
 {
     let mut items = Vec::new(alloc);
     for index in 0..count {
@@ -39,8 +42,12 @@ pub(crate) fn read_phases(
     lines: &mut Lines,
     count: u32,
 ) -> Result<Vec<(Kind, Anchor)>, PlanSyntax>
-    ensures ok { IfOk result (λ items. ItemsRead (spec.alone phase_line) spec.is_phase_shown lines.old.rest.now lines.old.taken lines.new.rest.now lines.new.taken items.items count) }
-    ensures refused { IfErr result (RefusesPart (spec.numbered (spec.alone phase_line) 1) (AreItems spec.is_phase_shown count) lines.old.rest.now lines.old.taken) }
+    ensures ok { IfOk result
+        (λ items. ItemsRead
+        (spec.alone phase_line) spec.is_phase_shown lines.old.rest.now lines.old.taken
+        lines.new.rest.now lines.new.taken items.items count) }
+    ensures refused { IfErr result (RefusesPart (spec.numbered (spec.alone phase_line) 1)
+        (AreItems spec.is_phase_shown count) lines.old.rest.now lines.old.taken) }
 {
     let mut items = Vec::new(alloc);
     for index in 0..count {
@@ -58,8 +65,12 @@ pub(crate) fn read_rows(
     lines: &mut Lines,
     count: u32,
 ) -> Result<Vec<ConditionRow>, PlanSyntax>
-    ensures ok { IfOk result (λ items. ItemsRead (spec.alone row_line) spec.is_row_shown lines.old.rest.now lines.old.taken lines.new.rest.now lines.new.taken items.items count) }
-    ensures refused { IfErr result (RefusesPart (spec.numbered (spec.alone row_line) 1) (AreItems spec.is_row_shown count) lines.old.rest.now lines.old.taken) }
+    ensures ok { IfOk result
+        (λ items. ItemsRead
+        (spec.alone row_line) spec.is_row_shown lines.old.rest.now lines.old.taken
+        lines.new.rest.now lines.new.taken items.items count) }
+    ensures refused { IfErr result (RefusesPart (spec.numbered (spec.alone row_line) 1)
+        (AreItems spec.is_row_shown count) lines.old.rest.now lines.old.taken) }
 {
     let mut items = Vec::new(alloc);
     for index in 0..count {
@@ -77,8 +88,12 @@ pub(crate) fn read_step_lines(
     lines: &mut Lines,
     count: u64,
 ) -> Result<Vec<Step>, PlanSyntax>
-    ensures ok { IfOk result (λ items. ItemsRead (spec.alone (λ k. step_line)) spec.is_step_shown lines.old.rest.now lines.old.taken lines.new.rest.now lines.new.taken items.items count) }
-    ensures refused { IfErr result (RefusesPart (spec.numbered (spec.alone (λ k. step_line)) 1) (AreItems spec.is_step_shown count) lines.old.rest.now lines.old.taken) }
+    ensures ok { IfOk result
+        (λ items. ItemsRead
+        (spec.alone (λ k. step_line)) spec.is_step_shown lines.old.rest.now lines.old.taken
+        lines.new.rest.now lines.new.taken items.items count) }
+    ensures refused { IfErr result (RefusesPart (spec.numbered (spec.alone (λ k. step_line)) 1)
+        (AreItems spec.is_step_shown count) lines.old.rest.now lines.old.taken) }
 {
     let mut items = Vec::new(alloc);
     for index in 0..count {
@@ -96,8 +111,12 @@ pub(crate) fn read_certificates(
     lines: &mut Lines,
     count: u64,
 ) -> Result<Vec<Certificate>, PlanSyntax>
-    ensures ok { IfOk result (λ items. ItemsRead spec.cert_lines spec.is_certificate_shown lines.old.rest.now lines.old.taken lines.new.rest.now lines.new.taken items.items count) }
-    ensures refused { IfErr result (RefusesPart (spec.numbered spec.cert_lines 1) (AreItems spec.is_certificate_shown count) lines.old.rest.now lines.old.taken) }
+    ensures ok { IfOk result
+        (λ items.
+        ItemsRead spec.cert_lines spec.is_certificate_shown lines.old.rest.now lines.old.taken
+        lines.new.rest.now lines.new.taken items.items count) }
+    ensures refused { IfErr result (RefusesPart (spec.numbered spec.cert_lines 1)
+        (AreItems spec.is_certificate_shown count) lines.old.rest.now lines.old.taken) }
 {
     let mut items = Vec::new(alloc);
     for index in 0..count {
@@ -115,10 +134,13 @@ fn read_certificate(
     lines: &mut Lines,
     number: u64,
 ) -> Result<Certificate, PlanSyntax>
-    ensures ok { IfOk result (λ c. lines.old.rest.now ≡ spec.text_of (spec.cert_lines number c) ++ lines.new.rest.now) }
-    ensures taken { IfOk result (λ c. lines.new.taken ≡ lines.old.taken + length (spec.cert_lines number c)) }
+    ensures ok { IfOk result (λ c. lines.old.rest.now ≡ spec.text_of (spec.cert_lines number c)
+        ++ lines.new.rest.now) }
+    ensures taken { IfOk result (λ c. lines.new.taken
+        ≡ lines.old.taken + length (spec.cert_lines number c)) }
     ensures shown { IfOk result (λ c. spec.is_certificate_shown c ≡ true) }
-    ensures refused { IfErr result (RefusesPart (spec.cert_lines number) (λ c. spec.is_certificate_shown c ≡ true) lines.old.rest.now lines.old.taken) }
+    ensures refused { IfErr result (RefusesPart (spec.cert_lines number)
+        (λ c. spec.is_certificate_shown c ≡ true) lines.old.rest.now lines.old.taken) }
 {
     let count = match read_steps(alloc, lines, number) {
         Ok(count) => count,

@@ -22,9 +22,11 @@ use sync_plan::{Conditions, Kind, Plan, Version};
 
 // The line of the version.
 fn read_version(lines: &mut Lines) -> Result<Version, PlanSyntax>
-    ensures ok { IfOk result (λ v. lines.old.rest.now ≡ version_line v ++ (10 ∷ lines.new.rest.now)) }
+    ensures ok { IfOk result (λ v. lines.old.rest.now ≡ version_line v
+        ++ (10 ∷ lines.new.rest.now)) }
     ensures taken { IfOk result (λ v. lines.new.taken ≡ lines.old.taken + 1) }
-    ensures refused { IfErr result (RefusesLine version_line (λ v. true) lines.old.rest.now lines.old.taken) }
+    ensures refused { IfErr result
+        (RefusesLine version_line (λ v. true) lines.old.rest.now lines.old.taken) }
 {
     let line = lines.next()?;
     if is_same(line, b"SPMD PLAN 1") {
@@ -47,9 +49,11 @@ fn read_version(lines: &mut Lines) -> Result<Version, PlanSyntax>
 
 // The last line.
 fn read_end(lines: &mut Lines) -> Result<(), PlanSyntax>
-    ensures ok { IfOk result (λ u. lines.old.rest.now ≡ codes "END PLAN" ++ (10 ∷ lines.new.rest.now)) }
+    ensures ok { IfOk result (λ u. lines.old.rest.now ≡ codes "END PLAN"
+        ++ (10 ∷ lines.new.rest.now)) }
     ensures taken { IfOk result (λ u. lines.new.taken ≡ lines.old.taken + 1) }
-    ensures refused { IfErr result (RefusesLine end_line (λ u. true) lines.old.rest.now lines.old.taken) }
+    ensures refused { IfErr result
+        (RefusesLine end_line (λ u. true) lines.old.rest.now lines.old.taken) }
 {
     let line = lines.next()?;
     if is_same(line, b"END PLAN") {
@@ -64,7 +68,8 @@ fn read_where(alloc: Global, lines: &mut Lines) -> Result<Option<u32>, PlanSynta
     ensures ok { IfOk result (λ w. lines.old.rest.now ≡ where_line w ++ (10 ∷ lines.new.rest.now)) }
     ensures taken { IfOk result (λ w. lines.new.taken ≡ lines.old.taken + 1) }
     ensures fits { IfOk result (λ w. is_where_shown w ≡ true) }
-    ensures refused { IfErr result (RefusesLine where_line is_where_shown lines.old.rest.now lines.old.taken) }
+    ensures refused { IfErr result
+        (RefusesLine where_line is_where_shown lines.old.rest.now lines.old.taken) }
 {
     let line = lines.next()?;
     if is_same(line, b"WHERE VALUES") {
@@ -83,10 +88,13 @@ fn read_where(alloc: Global, lines: &mut Lines) -> Result<Option<u32>, PlanSynta
 
 // The conditions of a version that has them.
 fn read_rows_where(alloc: Global, lines: &mut Lines) -> Result<Conditions, PlanSyntax>
-    ensures ok { IfOk result (λ c. lines.old.rest.now ≡ spec.text_of (spec.where_lines c) ++ lines.new.rest.now) }
-    ensures taken { IfOk result (λ c. lines.new.taken ≡ lines.old.taken + length (spec.where_lines c)) }
+    ensures ok { IfOk result (λ c. lines.old.rest.now ≡ spec.text_of (spec.where_lines c)
+        ++ lines.new.rest.now) }
+    ensures taken { IfOk result (λ c. lines.new.taken
+        ≡ lines.old.taken + length (spec.where_lines c)) }
     ensures shown { IfOk result (λ c. spec.are_where_shown c ≡ true) }
-    ensures refused { IfErr result (RefusesPart spec.where_lines (λ c. spec.are_where_shown c ≡ true) lines.old.rest.now lines.old.taken) }
+    ensures refused { IfErr result (RefusesPart spec.where_lines (λ c. spec.are_where_shown c
+        ≡ true) lines.old.rest.now lines.old.taken) }
 {
     let count = match read_where(alloc, lines) {
         Ok(Some(count)) => count,
@@ -105,10 +113,16 @@ fn read_cut(
     lines: &mut Lines,
     version: Version,
 ) -> Result<Vec<(Mark, Privates)>, PlanSyntax>
-    ensures ok { IfOk result (λ loops. lines.old.rest.now ≡ spec.text_of (spec.counted (codes "LOOPS") (spec.alone loop_line) loops.items) ++ lines.new.rest.now) }
-    ensures taken { IfOk result (λ loops. lines.new.taken ≡ lines.old.taken + length (spec.counted (codes "LOOPS") (spec.alone loop_line) loops.items)) }
+    ensures ok { IfOk result (λ loops. lines.old.rest.now
+        ≡ spec.text_of (spec.counted (codes "LOOPS") (spec.alone loop_line) loops.items)
+        ++ lines.new.rest.now) }
+    ensures taken { IfOk result (λ loops. lines.new.taken
+        ≡ lines.old.taken + length
+        (spec.counted (codes "LOOPS") (spec.alone loop_line) loops.items)) }
     ensures shown { IfOk result (λ loops. spec.are_loops_shown version loops.items ≡ true) }
-    ensures refused { IfErr result (RefusesPart (spec.counted (codes "LOOPS") (spec.alone loop_line)) (λ loops. spec.are_loops_shown version loops ≡ true) lines.old.rest.now lines.old.taken) }
+    ensures refused { IfErr result
+        (RefusesPart (spec.counted (codes "LOOPS") (spec.alone loop_line))
+        (λ loops. spec.are_loops_shown version loops ≡ true) lines.old.rest.now lines.old.taken) }
 {
     let count = match read_count_32(alloc, lines, b"LOOPS") {
         Ok(count) => count,
@@ -119,10 +133,16 @@ fn read_cut(
 
 // The phases, behind their number.
 fn read_kinds(alloc: Global, lines: &mut Lines) -> Result<Vec<(Kind, Anchor)>, PlanSyntax>
-    ensures ok { IfOk result (λ phases. lines.old.rest.now ≡ spec.text_of (spec.counted (codes "PHASES") (spec.alone phase_line) phases.items) ++ lines.new.rest.now) }
-    ensures taken { IfOk result (λ phases. lines.new.taken ≡ lines.old.taken + length (spec.counted (codes "PHASES") (spec.alone phase_line) phases.items)) }
+    ensures ok { IfOk result (λ phases. lines.old.rest.now
+        ≡ spec.text_of (spec.counted (codes "PHASES") (spec.alone phase_line) phases.items)
+        ++ lines.new.rest.now) }
+    ensures taken { IfOk result (λ phases. lines.new.taken
+        ≡ lines.old.taken + length
+        (spec.counted (codes "PHASES") (spec.alone phase_line) phases.items)) }
     ensures shown { IfOk result (λ phases. spec.are_phases_shown phases.items ≡ true) }
-    ensures refused { IfErr result (RefusesPart (spec.counted (codes "PHASES") (spec.alone phase_line)) (λ phases. spec.are_phases_shown phases ≡ true) lines.old.rest.now lines.old.taken) }
+    ensures refused { IfErr result
+        (RefusesPart (spec.counted (codes "PHASES") (spec.alone phase_line))
+        (λ phases. spec.are_phases_shown phases ≡ true) lines.old.rest.now lines.old.taken) }
 {
     let count = match read_count_32(alloc, lines, b"PHASES") {
         Ok(count) => count,
@@ -133,10 +153,15 @@ fn read_kinds(alloc: Global, lines: &mut Lines) -> Result<Vec<(Kind, Anchor)>, P
 
 // The certificates, behind their number.
 fn read_proofs(alloc: Global, lines: &mut Lines) -> Result<Vec<Certificate>, PlanSyntax>
-    ensures ok { IfOk result (λ cs. lines.old.rest.now ≡ spec.text_of (spec.counted (codes "CERTIFICATES") spec.cert_lines cs.items) ++ lines.new.rest.now) }
-    ensures taken { IfOk result (λ cs. lines.new.taken ≡ lines.old.taken + length (spec.counted (codes "CERTIFICATES") spec.cert_lines cs.items)) }
+    ensures ok { IfOk result (λ cs. lines.old.rest.now
+        ≡ spec.text_of (spec.counted (codes "CERTIFICATES") spec.cert_lines cs.items)
+        ++ lines.new.rest.now) }
+    ensures taken { IfOk result (λ cs. lines.new.taken
+        ≡ lines.old.taken + length (spec.counted (codes "CERTIFICATES") spec.cert_lines cs.items)) }
     ensures shown { IfOk result (λ cs. spec.are_certificates_shown cs.items ≡ true) }
-    ensures refused { IfErr result (RefusesPart (spec.counted (codes "CERTIFICATES") spec.cert_lines) (λ cs. spec.are_certificates_shown cs ≡ true) lines.old.rest.now lines.old.taken) }
+    ensures refused { IfErr result
+        (RefusesPart (spec.counted (codes "CERTIFICATES") spec.cert_lines)
+        (λ cs. spec.are_certificates_shown cs ≡ true) lines.old.rest.now lines.old.taken) }
 {
     let count = match read_count_64(alloc, lines, b"CERTIFICATES") {
         Ok(count) => count,
@@ -151,10 +176,13 @@ fn read_conditions(
     lines: &mut Lines,
     version: Version,
 ) -> Result<Conditions, PlanSyntax>
-    ensures ok { IfOk result (λ c. lines.old.rest.now ≡ spec.text_of (spec.condition_lines version c) ++ lines.new.rest.now) }
-    ensures taken { IfOk result (λ c. lines.new.taken ≡ lines.old.taken + length (spec.condition_lines version c)) }
+    ensures ok { IfOk result (λ c. lines.old.rest.now
+        ≡ spec.text_of (spec.condition_lines version c) ++ lines.new.rest.now) }
+    ensures taken { IfOk result (λ c. lines.new.taken
+        ≡ lines.old.taken + length (spec.condition_lines version c)) }
     ensures shown { IfOk result (λ c. spec.are_conditions_shown version c ≡ true) }
-    ensures refused { IfErr result (RefusesPart (spec.condition_lines version) (λ c. spec.are_conditions_shown version c ≡ true) lines.old.rest.now lines.old.taken) }
+    ensures refused { IfErr result (RefusesPart (spec.condition_lines version)
+        (λ c. spec.are_conditions_shown version c ≡ true) lines.old.rest.now lines.old.taken) }
 {
     match version {
         Version::One | Version::Two => Ok(Conditions::Values),
@@ -175,10 +203,22 @@ struct Parts {
 
 // All lines of a plan's text.
 fn read_parts(alloc: Global, lines: &mut Lines) -> Result<Parts, PlanSyntax>
-    ensures ok { IfOk result (λ p. lines.old.rest.now ≡ spec.text_of (spec.plan_lines (plan_of p.version p.workers p.conditions p.loops.items p.phases.items p.certificates.items)) ++ lines.new.rest.now) }
-    ensures taken { IfOk result (λ p. lines.new.taken ≡ lines.old.taken + length (spec.plan_lines (plan_of p.version p.workers p.conditions p.loops.items p.phases.items p.certificates.items))) }
-    ensures shown { IfOk result (λ p. spec.HasText (plan_of p.version p.workers p.conditions p.loops.items p.phases.items p.certificates.items)) }
-    ensures refused { IfErr result (RefusesPart spec.plan_lines spec.HasText lines.old.rest.now lines.old.taken) }
+    ensures ok { IfOk result (λ p. lines.old.rest.now
+        ≡ spec.text_of
+        (spec.plan_lines
+        (plan_of p.version p.workers p.conditions p.loops.items p.phases.items
+        p.certificates.items)) ++ lines.new.rest.now) }
+    ensures taken { IfOk result (λ p. lines.new.taken
+        ≡ lines.old.taken + length
+        (spec.plan_lines
+        (plan_of p.version p.workers p.conditions p.loops.items p.phases.items
+        p.certificates.items))) }
+    ensures shown { IfOk result
+        (λ p. spec.HasText
+        (plan_of p.version p.workers p.conditions p.loops.items p.phases.items
+        p.certificates.items)) }
+    ensures refused { IfErr result
+        (RefusesPart spec.plan_lines spec.HasText lines.old.rest.now lines.old.taken) }
 {
     let version = match read_version(lines) {
         Ok(version) => version,
@@ -236,7 +276,9 @@ fn unzipped<A: Drop, B: Drop>(
 
 // The plan of these parts.
 fn made(alloc: Global, parts: Parts) -> Result<Plan, AllocError>
-    ensures { IfOk result (λ plan. plan ≡ plan_of parts.version parts.workers parts.conditions parts.loops.items parts.phases.items parts.certificates.items) }
+    ensures { IfOk result (λ plan. plan
+        ≡ plan_of parts.version parts.workers parts.conditions parts.loops.items parts.phases.items
+        parts.certificates.items) }
 {
     let Parts {
         version,

@@ -27,7 +27,8 @@ pub fn write_plan(alloc: Global, plan: &Plan) -> Result<Vec<u8>, AllocError>
 // The lines of the version, the workers and the conditions.
 fn put_head(out: &mut Vec<u8>, plan: &Plan) -> Result<(), AllocError>
     requires { spec.are_conditions_shown plan.now.version plan.now.conditions ≡ true }
-    ensures { OnOk result (out.new.items ≡ out.old.items ++ spec.text_of (spec.head_lines plan.now)) }
+    ensures { OnOk result (out.new.items ≡ out.old.items
+        ++ spec.text_of (spec.head_lines plan.now)) }
 {
     put_version(out, plan.version)?;
     out.push(b'\n')?;
@@ -41,7 +42,8 @@ fn put_head(out: &mut Vec<u8>, plan: &Plan) -> Result<(), AllocError>
 
 fn put_conditions(out: &mut Vec<u8>, conditions: &Conditions) -> Result<(), AllocError>
     requires { spec.are_where_shown conditions.now ≡ true }
-    ensures { OnOk result (out.new.items ≡ out.old.items ++ spec.text_of (spec.where_lines conditions.now)) }
+    ensures { OnOk result (out.new.items ≡ out.old.items
+        ++ spec.text_of (spec.where_lines conditions.now)) }
 {
     match conditions {
         Conditions::Values => out.extend_from_slice(b"WHERE VALUES\n"),
@@ -51,7 +53,8 @@ fn put_conditions(out: &mut Vec<u8>, conditions: &Conditions) -> Result<(), Allo
 
 fn put_rows(out: &mut Vec<u8>, rows: &[ConditionRow]) -> Result<(), AllocError>
     requires { length rows.now < 2 ^ 32 }
-    ensures { OnOk result (out.new.items ≡ out.old.items ++ spec.text_of (spec.counted (codes "WHERE") (spec.alone row_line) rows.now)) }
+    ensures { OnOk result (out.new.items ≡ out.old.items
+        ++ spec.text_of (spec.counted (codes "WHERE") (spec.alone row_line) rows.now)) }
 {
     put_count(out, b"WHERE", rows.len() as u64)?;
     out.push(b'\n')?;
@@ -65,7 +68,9 @@ fn put_rows(out: &mut Vec<u8>, rows: &[ConditionRow]) -> Result<(), AllocError>
 fn put_loops(out: &mut Vec<u8>, marks: &[Mark], privates: &[Privates]) -> Result<(), AllocError>
     requires few { length marks.now < 2 ^ 32 }
     requires lists { length marks.now ≡ length privates.now }
-    ensures { OnOk result (out.new.items ≡ out.old.items ++ spec.text_of (spec.counted (codes "LOOPS") (spec.alone loop_line) (spec.zipped marks.now privates.now))) }
+    ensures { OnOk result (out.new.items ≡ out.old.items
+        ++ spec.text_of (spec.counted (codes "LOOPS") (spec.alone loop_line)
+        (spec.zipped marks.now privates.now))) }
 {
     put_count(out, b"LOOPS", marks.len() as u64)?;
     out.push(b'\n')?;
@@ -79,7 +84,9 @@ fn put_loops(out: &mut Vec<u8>, marks: &[Mark], privates: &[Privates]) -> Result
 fn put_phases(out: &mut Vec<u8>, kinds: &[Kind], anchors: &[Anchor]) -> Result<(), AllocError>
     requires few { length kinds.now < 2 ^ 32 }
     requires pairs { length kinds.now ≡ length anchors.now }
-    ensures { OnOk result (out.new.items ≡ out.old.items ++ spec.text_of (spec.counted (codes "PHASES") (spec.alone phase_line) (spec.zipped kinds.now anchors.now))) }
+    ensures { OnOk result (out.new.items ≡ out.old.items
+        ++ spec.text_of (spec.counted (codes "PHASES") (spec.alone phase_line)
+        (spec.zipped kinds.now anchors.now))) }
 {
     put_count(out, b"PHASES", kinds.len() as u64)?;
     out.push(b'\n')?;
@@ -91,7 +98,8 @@ fn put_phases(out: &mut Vec<u8>, kinds: &[Kind], anchors: &[Anchor]) -> Result<(
 }
 
 fn put_certificates(out: &mut Vec<u8>, certificates: &[Certificate]) -> Result<(), AllocError>
-    ensures { OnOk result (out.new.items ≡ out.old.items ++ spec.text_of (spec.counted (codes "CERTIFICATES") spec.cert_lines certificates.now)) }
+    ensures { OnOk result (out.new.items ≡ out.old.items
+        ++ spec.text_of (spec.counted (codes "CERTIFICATES") spec.cert_lines certificates.now)) }
 {
     put_count(out, b"CERTIFICATES", certificates.len() as u64)?;
     out.push(b'\n')?;
@@ -102,7 +110,8 @@ fn put_certificates(out: &mut Vec<u8>, certificates: &[Certificate]) -> Result<(
 }
 
 fn put_certificate(out: &mut Vec<u8>, number: u64, steps: &[Step]) -> Result<(), AllocError>
-    ensures { OnOk result (out.new.items ≡ out.old.items ++ spec.text_of (spec.cert_lines number (record { steps = steps.now }))) }
+    ensures { OnOk result (out.new.items ≡ out.old.items
+        ++ spec.text_of (spec.cert_lines number (record { steps = steps.now }))) }
 {
     put_cert(out, number, steps.len() as u64)?;
     out.push(b'\n')?;

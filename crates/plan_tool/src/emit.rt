@@ -28,8 +28,10 @@ pub(crate) fn emitted<R: Threads + Sync>(
     requires short { length bytes.now ≤ MOST_BYTES }
     requires some { 1 ≤ asked.now.workers }
     requires few { asked.now.workers ≤ 64 }
-    ensures emitted { IfOk result (λ file. IsEmitted asked.now.workers asked.now.choice bytes.now (map setting_of asked.now.settings.now) file.items) }
-    ensures refused { IfErr result (IsStop asked.now.workers asked.now.choice bytes.now (map setting_of asked.now.settings.now)) }
+    ensures emitted { IfOk result (λ file. IsEmitted asked.now.workers asked.now.choice bytes.now
+        (map setting_of asked.now.settings.now) file.items) }
+    ensures refused { IfErr result (IsStop asked.now.workers asked.now.choice bytes.now
+        (map setting_of asked.now.settings.now)) }
 {
     let found = plan_program(rt, alloc, asked, bytes)?;
     match text_of(alloc, words, bytes, &found) {

@@ -56,7 +56,8 @@ fn account_in<R: Threads + Sync>(
 ) -> Result<Accounted, Stop>
     requires short { length bytes.now ≤ MOST_BYTES }
     requires counted { IsCountedFor subject }
-    ensures account { IfOk result (λ a. IsAccount subject bytes.now (map setting_of settings.now) (tree_of a.program) a.account) }
+    ensures account { IfOk result (λ a. IsAccount subject bytes.now (map setting_of settings.now)
+        (tree_of a.program) a.account) }
     ensures formed { IfOk result (λ a. IsWellFormed (tree_of a.program)) }
     ensures refused { IfErr result (IsUntold subject bytes.now (map setting_of settings.now)) }
 {
@@ -81,7 +82,8 @@ fn account_behind<R: Threads + Sync>(
     bytes: &[u8],
 ) -> Result<Accounted, Stop>
     requires { length bytes.now ≤ MOST_BYTES }
-    ensures account { IfOk result (λ a. IsAccount Behind bytes.now (map setting_of settings.now) (tree_of a.program) a.account) }
+    ensures account { IfOk result (λ a. IsAccount Behind bytes.now (map setting_of settings.now)
+        (tree_of a.program) a.account) }
     ensures formed { IfOk result (λ a. IsWellFormed (tree_of a.program)) }
     ensures refused { IfErr result (IsUntold Behind bytes.now (map setting_of settings.now)) }
 {
@@ -100,9 +102,11 @@ fn account_for<R: Threads + Sync>(
     requires short { length bytes.now ≤ MOST_BYTES }
     requires some { 1 ≤ asked.now.workers }
     requires few { asked.now.workers ≤ 64 }
-    ensures account { IfOk result (λ a. IsAccount (For asked.now.workers asked.now.choice) bytes.now (map setting_of asked.now.settings.now) (tree_of a.program) a.account) }
+    ensures account { IfOk result (λ a. IsAccount (For asked.now.workers asked.now.choice) bytes.now
+        (map setting_of asked.now.settings.now) (tree_of a.program) a.account) }
     ensures formed { IfOk result (λ a. IsWellFormed (tree_of a.program)) }
-    ensures refused { IfErr result (IsUntold (For asked.now.workers asked.now.choice) bytes.now (map setting_of asked.now.settings.now)) }
+    ensures refused { IfErr result (IsUntold (For asked.now.workers asked.now.choice) bytes.now
+        (map setting_of asked.now.settings.now)) }
 {
     match asked.choice {
         PlanChoice::Made => account_of_made(alloc, asked, bytes),
@@ -119,9 +123,11 @@ fn account_of_made(alloc: Global, asked: &Asked, bytes: &[u8]) -> Result<Account
     requires short { length bytes.now ≤ MOST_BYTES }
     requires some { 1 ≤ asked.now.workers }
     requires few { asked.now.workers ≤ 64 }
-    ensures account { IfOk result (λ a. IsAccount (For asked.now.workers Made) bytes.now (map setting_of asked.now.settings.now) (tree_of a.program) a.account) }
+    ensures account { IfOk result (λ a. IsAccount (For asked.now.workers Made) bytes.now
+        (map setting_of asked.now.settings.now) (tree_of a.program) a.account) }
     ensures formed { IfOk result (λ a. IsWellFormed (tree_of a.program)) }
-    ensures refused { IfErr result (IsUntold (For asked.now.workers Made) bytes.now (map setting_of asked.now.settings.now)) }
+    ensures refused { IfErr result (IsUntold (For asked.now.workers Made) bytes.now
+        (map setting_of asked.now.settings.now)) }
 {
     let (program, _rest) = read_inside(alloc, bytes, asked.settings, true)?;
     let account = made_account(alloc, &program, asked.workers)?;

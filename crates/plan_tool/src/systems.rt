@@ -28,7 +28,8 @@ pub(crate) fn systems_in<R: Threads + Sync>(
 ) -> Result<Vec<u8>, Stop>
     requires short { length bytes.now ≤ MOST_BYTES }
     requires counted { IsCountedFor subject }
-    ensures systems { IfOk result (λ text. AreSystems subject bytes.now (map setting_of settings.now) text.items) }
+    ensures systems { IfOk result (λ text. AreSystems subject bytes.now
+        (map setting_of settings.now) text.items) }
     ensures refused { IfErr result (IsStopFor subject bytes.now (map setting_of settings.now)) }
 {
     let found = planned(rt, alloc, subject, settings, bytes)?;
@@ -48,7 +49,8 @@ fn planned<R: Threads + Sync>(
 ) -> Result<Planned, Stop>
     requires short { length bytes.now ≤ MOST_BYTES }
     requires counted { IsCountedFor subject }
-    ensures plan { IfOk result (λ p. IsPlanOf subject bytes.now (map setting_of settings.now) (tree_of p.program) p.plan) }
+    ensures plan { IfOk result (λ p. IsPlanOf subject bytes.now (map setting_of settings.now)
+        (tree_of p.program) p.plan) }
     ensures formed { IfOk result (λ p. IsWellFormed (tree_of p.program)) }
     ensures fits { IfOk result (λ p. IsFit (tree_of p.program) p.plan) }
     ensures refused { IfErr result (IsStopFor subject bytes.now (map setting_of settings.now)) }

@@ -32,9 +32,11 @@ pub fn read_plan_words<'a>(alloc: Global, words: &'a [&'a str]) -> Result<PlanRe
 }
 
 fn request<'a>(alloc: Global, matches: &ArgMatches<'a>) -> Result<PlanRequest<'a>, Refused>
-    ensures taken { IfOk result (λ request. wanted_by (subcommand_rows_of matches.now) ≡ Some (wanted request)) }
+    ensures taken { IfOk result (λ request. wanted_by (subcommand_rows_of matches.now)
+        ≡ Some (wanted request)) }
     ensures counted { IfOk result (λ request. IsCounted (wanted request)) }
-    ensures refused { IfErr result (λ refused. IsValueFault (subcommand_rows_of matches.now) refused) }
+    ensures refused { IfErr result
+        (λ refused. IsValueFault (subcommand_rows_of matches.now) refused) }
 {
     match matches.subcommand() {
         None => Err(Refused::Faulty),
@@ -47,8 +49,10 @@ fn request_in<'a>(
     name: &str,
     inner: &ArgMatches<'a>,
 ) -> Result<PlanRequest<'a>, Refused>
-    ensures taken { IfOk result (λ request. wanted_in name.now (rows_of (found_of inner.now)) ≡ Some (wanted request)) }
-    ensures refused { IfErr result (λ refused. IsValueFault (Some (name.now, rows_of (found_of inner.now))) refused) }
+    ensures taken { IfOk result (λ request. wanted_in name.now (rows_of (found_of inner.now))
+        ≡ Some (wanted request)) }
+    ensures refused { IfErr result
+        (λ refused. IsValueFault (Some (name.now, rows_of (found_of inner.now))) refused) }
 {
     let settings = rest(alloc, inner, "settings")?;
     if says(name, "explain") {
@@ -90,7 +94,8 @@ fn emit<'a>(inner: &ArgMatches<'a>, settings: Vec<&'a str>) -> Option<PlanReques
 
 // The plan that a number of processors and the name of a plan stand for.
 fn subject_in(workers: Option<&str>, plan: Option<&str>) -> Option<Subject>
-    ensures { result ≡ subject_by (option_map (λ s. s.now) workers.entry) (option_map (λ s. s.now) plan.entry) }
+    ensures { result ≡ subject_by (option_map (λ s. s.now) workers.entry)
+        (option_map (λ s. s.now) plan.entry) }
 {
     match workers {
         Some(workers) => {

@@ -1,11 +1,12 @@
 -- The order of elimination names each unknown once.
-use Rattle.std.proofs.Common.{◌≡◌, ℕ, zero, suc, ◌+◌, ◌*◌, List, [], ◌∷◌, ◌++◌, append_assoc, map, refl, ap, sym, ◌∙◌, subst, arith}
+use Rattle.std.proofs.Common.{◌≡◌, ℕ, zero, suc, ◌+◌, ◌-◌, ◌*◌, ◌/◌, ◌≤◌, min, List, [], ◌∷◌, ◌++◌, length, append_assoc, map, refl, ap, sym, ◌∙◌, subst, arith}
 use Rattle.std.specs.List.{range_with_len}
 use Rattle.std.specs.List.Sorted.{IsPermutation}
 use Rattle.std.proofs.lemmas.List.FromFn.{map-range_with_len_more}
 use Rattle.std.proofs.lemmas.List.Sorted.{IsPermutation-append_left, IsPermutation-append_right, IsPermutation-refl, IsPermutation-to_front, IsPermutation-trans}
 use Rattle.fm_elim.specs.Answers.{NamesEachOnce}
-use Rattle.range_check.specs.RangeSystems.{elimination_order, in_steps}
+use Rattle.range_check.specs.RangeSystems.{elimination_order, in_steps, order_over}
+use Rattle.presolve.specs.Columns.{AreRising}
 
 range-append : (a m n : ℕ) → range_with_len a (m + n) ≡ range_with_len a m ++ range_with_len (a + m) n
 range-append a zero n =
@@ -61,3 +62,14 @@ order-once c d =
     let whole = IsPermutation-append_right (range_with_len 1 c) (range_with_len (1 + c) (2 * d)) (in_steps (c + 1) 2 d ++ in_steps (c + 2) 2 d) (loops-once c d) in
     subst (λ zs. IsPermutation zs (elimination_order c d)) (sym (range-append 1 c (2 * d)))
     (subst (λ zs. IsPermutation (range_with_len 1 c ++ range_with_len (1 + c) (2 * d)) (zs ++ (in_steps (c + 1) 2 d ++ in_steps (c + 2) 2 d))) front whole)
+
+pub order_over-once : (vars loops : ℕ) → NamesEachOnce vars (order_over vars loops)
+order_over-once vars loops =
+    let l = min loops (vars / 2) in
+    let all : vars - 2 * l + 2 * l ≡ vars = omega arith in
+    subst (λ k. NamesEachOnce k (elimination_order (vars - 2 * l) l)) all (order-once (vars - 2 * l) l)
+
+-- columns that rise are no more than there are
+pub rising_few : (from vars : ℕ) (keep : List ℕ) → AreRising from vars keep → from ≤ vars → from + length keep ≤ vars
+rising_few from vars [] rising le = omega arith
+rising_few from vars (k ∷ keep) rising le = omega (arith, rising.0, rising_few (k + 1) vars keep rising.2 (omega (arith, rising.1)))

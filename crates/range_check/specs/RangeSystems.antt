@@ -1,5 +1,5 @@
 -- Systems that have a whole solution wherever a subscript leaves a bound of its dimension.
-use Rattle.std.specs.Prelude.{ℕ, ◌+◌, ◌-◌, ◌*◌, ℤ, pos, ◌-ℤ◌, neg_ℤ, List, [], ◌∷◌, ◌++◌, length, map, slice_index_or, ◌≡◌, refl}
+use Rattle.std.specs.Prelude.{ℕ, ◌+◌, ◌-◌, ◌*◌, ◌/◌, min, ℤ, pos, ◌-ℤ◌, neg_ℤ, List, [], ◌∷◌, ◌++◌, length, map, slice_index_or, ◌≡◌, refl}
 use Rattle.std.specs.List.{range_with_len}
 use Rattle.nest_tree.specs.Form.{Form}
 use Rattle.nest_tree.specs.Layout.{bounds_of}
@@ -14,6 +14,7 @@ use Rattle.nest_rows.specs.declared.constraint.Sign.{Sign}
 use Rattle.nest_rows.specs.declared.constraint.Sign.TheVariants.{Plus, Minus}
 use Rattle.nest_rows.specs.Constraints.{system_of}
 use Rattle.nest_rows.specs.Groups.{at_most, constants_have, guard_has, loops_have}
+use Rattle.presolve.specs.Presolution.{IsPresolved, Presolution}
 use Rattle.range_check.specs.Sites.{Site}
 
 -- the unknowns: the named constants, then the value and the trip of each loop round the access
@@ -59,16 +60,20 @@ in_steps first step count = map (λ k. first + step * k) (range_with_len 0 count
 abbrev pub elimination_order : ℕ → ℕ → List ℕ
 elimination_order constants loops = in_steps 1 1 constants ++ (in_steps (constants + 1) 2 loops ++ in_steps (constants + 2) 2 loops)
 
-abbrev pub order_of : Tree → Site → List ℕ
-order_of tree site = elimination_order (constant_count tree) (length site.around)
+-- over so many unknowns, of which the last ones are the value and the trip of each of so many loops
+abbrev pub order_over : ℕ → ℕ → List ℕ
+order_over vars loops = elimination_order (vars - 2 * min loops (vars / 2)) (min loops (vars / 2))
 
 -- two certificates show that no instance's subscript leaves its bounds
 abbrev pub AreProof : Tree → Site → ℕ → Certificate × Certificate → Type 0
 AreProof tree site dimension (low, high) = IsGood (below tree site dimension) low × IsGood (above tree site dimension) high
 
--- elimination keeps a system, as Open, Wide, Many or Work
-abbrev pub IsKeptAs : Inequalities → List ℕ → Type 0
-IsKeptAs system order = (answer : Answer) × IsKept system order answer
+-- elimination keeps what is left of a system inside so many loops, without rows and columns that play no part: as Open, Wide, Many or Work
+pub record IsKeptAs (system : Inequalities) (loops : ℕ) : Type 0 where
+  pub left : Presolution
+  pub presolved : IsPresolved system left
+  pub answer : Answer
+  pub kept : IsKept left.system (order_over left.system.vars loops) answer
 
 -- there are two such certificates
 abbrev pub HasProof : Tree → Site → ℕ → Type 0
@@ -77,3 +82,7 @@ HasProof tree site dimension = (proof : Certificate × Certificate) × AreProof 
 -- the order of elimination with two constants and two loops
 pub elimination_order-example : elimination_order 2 2 ≡ 1 ∷ 2 ∷ 3 ∷ 5 ∷ 4 ∷ 6 ∷ []
 elimination_order-example = refl
+
+-- over five unknowns, of which four are those of two loops
+pub order_over-example : order_over 5 2 ≡ 1 ∷ 2 ∷ 4 ∷ 3 ∷ 5 ∷ []
+order_over-example = refl

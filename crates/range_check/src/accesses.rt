@@ -19,7 +19,8 @@ pub(crate) struct Found<'a> {
 
 // The accesses to scalars and elements of a piece of work: its loads in text order, then its store.
 pub(crate) fn accesses_in(alloc: Global, item: &Item) -> Result<Vec<Found>, AllocError>
-    ensures { (w : Work) → statement_of item.now ≡ work w → IfOk result (λ found. accesses_seen found.items ≡ accesses_of w) }
+    ensures { (w : Work) → statement_of item.now ≡ work w
+        → IfOk result (λ found. accesses_seen found.items ≡ accesses_of w) }
 {
     let mut found = Vec::new(alloc);
     match item {
@@ -35,7 +36,8 @@ pub(crate) fn accesses_in(alloc: Global, item: &Item) -> Result<Vec<Found>, Allo
 
 // What the items of a PRINT load, behind the others.
 fn push_items<'a>(items: &'a [PrintItem], found: &mut Vec<Found<'a>>) -> Result<(), AllocError>
-    ensures { OnOk result (accesses_seen found.new.items ≡ accesses_seen found.old.items ++ flat_map loads_in_item (map printed_of items.now)) }
+    ensures { OnOk result (accesses_seen found.new.items ≡ accesses_seen found.old.items
+        ++ flat_map loads_in_item (map printed_of items.now)) }
 {
     for item in items {
         if let PrintItem::Value(e) = item {
@@ -48,7 +50,8 @@ fn push_items<'a>(items: &'a [PrintItem], found: &mut Vec<Found<'a>>) -> Result<
 // What an expression loads, behind the others.
 #[cycle(loads)]
 fn push_loads<'a>(e: &'a Expr, found: &mut Vec<Found<'a>>) -> Result<(), AllocError>
-    ensures { OnOk result (accesses_seen found.new.items ≡ accesses_seen found.old.items ++ loads_in (expression_of e.now)) }
+    ensures { OnOk result (accesses_seen found.new.items ≡ accesses_seen found.old.items
+        ++ loads_in (expression_of e.now)) }
 {
     match e {
         Expr::Number(_) | Expr::LoopValue(_) | Expr::Param(_) => Ok(()),
@@ -69,7 +72,8 @@ fn push_loads<'a>(e: &'a Expr, found: &mut Vec<Found<'a>>) -> Result<(), AllocEr
 // What arguments load, behind the others.
 #[cycle(loads)]
 fn push_all_loads<'a>(arguments: &'a [Expr], found: &mut Vec<Found<'a>>) -> Result<(), AllocError>
-    ensures { OnOk result (accesses_seen found.new.items ≡ accesses_seen found.old.items ++ loads_among (expressions_from arguments.now)) }
+    ensures { OnOk result (accesses_seen found.new.items ≡ accesses_seen found.old.items
+        ++ loads_among (expressions_from arguments.now)) }
 {
     for argument in arguments {
         push_loads(argument, found)?;

@@ -31,9 +31,11 @@ fn is_access_certified(
 ) -> Result<bool, NoMemory>
     requires formed { IsWellFormed (tree_of program.now) }
     requires seen { (n : NestedWork) × IsView n nested.now }
-    requires steps { IsTrue (list_all (λ (h : Head). is_small h.step) (heads_of nested.now.around.items)) }
+    requires steps { IsTrue (list_all (λ (h : Head). is_small h.step)
+        (heads_of nested.now.around.items)) }
     requires there { IsThere (tree_of program.now) access.now }
-    ensures { (n : NestedWork) → IsView n nested.now → IfOk result (λ b. IsTrue b → IsCertified (tree_of program.now) (site_of n access.now)) }
+    ensures { (n : NestedWork) → IsView n nested.now
+        → IfOk result (λ b. IsTrue b → IsCertified (tree_of program.now) (site_of n access.now)) }
 {
     for index in 0..access.subscripts.as_slice().len() as u32 {
         if dimension_proof(alloc, program, nested, access, index + 1, effort)?.is_none() {
@@ -51,8 +53,10 @@ fn is_work_certified(
     effort: &mut Effort,
 ) -> Result<bool, NoMemory>
     requires formed { IsWellFormed (tree_of program.now) }
-    requires seen { (n : NestedWork) × IsView n nested.now × IsGoodNested (scope_of (tree_of program.now)) n }
-    ensures { (n : NestedWork) → IsView n nested.now → IfOk result (λ b. IsTrue b → AreCertified (tree_of program.now) n) }
+    requires seen { (n : NestedWork) × IsView n nested.now
+        × IsGoodNested (scope_of (tree_of program.now)) n }
+    ensures { (n : NestedWork) → IsView n nested.now
+        → IfOk result (λ b. IsTrue b → AreCertified (tree_of program.now) n) }
 {
     let found = accesses_in(alloc, nested.item)?;
     for one in found.iter() {
@@ -66,7 +70,8 @@ fn is_work_certified(
 // Of each piece of work of the text, in order, whether all its accesses are certified.
 pub(crate) fn certified_works(alloc: Global, program: &Program) -> Result<Vec<bool>, NoMemory>
     requires { IsWellFormed (tree_of program.now) }
-    ensures { IfOk result (λ certified. AllZip (λ n b. IsTrue b → AreCertified (tree_of program.now) n) (works_of (tree_of program.now)) certified.items) }
+    ensures { IfOk result (λ certified. AllZip (λ n b. IsTrue b
+        → AreCertified (tree_of program.now) n) (works_of (tree_of program.now)) certified.items) }
 {
     let works = nested_works(alloc, program)?;
     let mut certified = Vec::new(alloc);
@@ -97,7 +102,8 @@ pub(crate) fn is_certified_at(certified: &[bool], number: u32) -> bool
 // Whether all pieces of work with these numbers, from the first up to the last, which is left out,
 // are certified.
 pub(crate) fn are_certified(certified: &[bool], first: u32, behind: u32) -> bool
-    ensures { IsTrue result → (number : ℕ) → first ≤ number → number < behind → slice_get certified.now (number - 1) ≡ Some true }
+    ensures { IsTrue result → (number : ℕ) → first ≤ number → number < behind
+        → slice_get certified.now (number - 1) ≡ Some true }
 {
     for number in first..behind {
         if !is_certified_at(certified, number) {

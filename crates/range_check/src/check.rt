@@ -54,17 +54,20 @@ pub fn check_ranges(alloc: Global, program: &Program) -> Result<(), OutOfRange>
 fn check_others(program: &Program, certified: &[bool]) -> Result<(), OutOfRange>
     requires formed { IsWellFormed (tree_of program.now) }
     requires limits { IsWithinLimits (tree_of program.now) }
-    requires certified { (k : ℕ) → (n : NestedWork) → slice_get certified.now k ≡ Some true → slice_get (nested_works (tree_of program.now)) k ≡ Some n → AreCertified (tree_of program.now) n }
+    requires certified { (k : ℕ) → (n : NestedWork) → slice_get certified.now k ≡ Some true
+        → slice_get (nested_works (tree_of program.now)) k ≡ Some n
+        → AreCertified (tree_of program.now) n }
     ensures first { result_err result ≡ outside_of (tree_of program.now) }
     ensures inside { IsOk result ↔ IsInRange (tree_of program.now) }
 {
     let mut marks = [false; MOST_STATEMENTS];
     mark(&program.items, 1, certified, &mut marks);
     let mut stops = Cursor::new(program, &marks);
+    let mut instances = Instances::none(program);
     while let Some(stop) = stops.next() {
         let behind = stop.first + stop.works();
         if !are_certified(certified, stop.first, behind) {
-            let instances = Instances::over(program, stops.path(), stop);
+            instances.restart(stops.path(), stop);
             check_instances(program, certified, instances)?;
         }
     }
@@ -78,11 +81,16 @@ fn check_instances(
     instances: Instances,
 ) -> Result<(), OutOfRange>
     requires formed { IsWellFormed (tree_of program.now) }
-    requires certified { (k : ℕ) → (n : NestedWork) → slice_get certified.now k ≡ Some true → slice_get (nested_works (tree_of program.now)) k ≡ Some n → AreCertified (tree_of program.now) n }
+    requires certified { (k : ℕ) → (n : NestedWork) → slice_get certified.now k ≡ Some true
+        → slice_get (nested_works (tree_of program.now)) k ≡ Some n
+        → AreCertified (tree_of program.now) n }
     requires walked { instances_tree instances ≡ tree_of program.now }
-    requires small { IsTrue (list_all (is_small_instance (param_values (tree_of program.now))) (instances_left instances)) }
-    requires nested { AllByRecursion (IsNestedInstance (param_values (tree_of program.now)) (nested_works (tree_of program.now))) (instances_left instances) }
-    ensures { result_err result ≡ instances_outside (tree_of program.now) (instances_left instances.entry) }
+    requires small { IsTrue (list_all (is_small_instance (param_values (tree_of program.now)))
+        (instances_left instances)) }
+    requires nested { AllByRecursion (IsNestedInstance (param_values (tree_of program.now))
+        (nested_works (tree_of program.now))) (instances_left instances) }
+    ensures { result_err result ≡ instances_outside (tree_of program.now)
+        (instances_left instances.entry) }
 {
     let mut left = instances;
     while let Some(stop) = left.next() {
@@ -96,9 +104,15 @@ fn check_instances(
 // The first subscript of a piece of work that is out of range.
 fn check_work(program: &Program, item: &Item, path: &Path) -> Result<(), OutOfRange>
     requires formed { IsWellFormed (tree_of program.now) }
-    requires numbered { IsTrue (list_all (λ (r : Round). is_number_of (loops_of (tree_of program.now).items) r.number) (rounds_of path.now)) }
-    requires sound { (w : Work) → statement_of item.now ≡ work w → IsTrue (are_sound_accesses (tree_of program.now) (numbers_of (rounds_of path.now)) (loops_in (tree_of program.now) (rounds_of path.now)) (accesses_of w)) }
-    ensures { (w : Work) → statement_of item.now ≡ work w → result_err result ≡ accesses_outside (tree_of program.now) (loops_in (tree_of program.now) (rounds_of path.now)) (line_of_work w) (accesses_of w) }
+    requires numbered { IsTrue
+        (list_all (λ (r : Round). is_number_of (loops_of (tree_of program.now).items) r.number)
+        (rounds_of path.now)) }
+    requires sound { (w : Work) → statement_of item.now ≡ work w
+        → IsTrue (are_sound_accesses (tree_of program.now) (numbers_of (rounds_of path.now))
+        (loops_in (tree_of program.now) (rounds_of path.now)) (accesses_of w)) }
+    ensures { (w : Work) → statement_of item.now ≡ work w
+        → result_err result ≡ accesses_outside (tree_of program.now)
+        (loops_in (tree_of program.now) (rounds_of path.now)) (line_of_work w) (accesses_of w) }
 {
     match item {
         Item::Assign(target, value, _, line) => {
@@ -118,9 +132,15 @@ fn check_items(
     line: u32,
 ) -> Result<(), OutOfRange>
     requires formed { IsWellFormed (tree_of program.now) }
-    requires numbered { IsTrue (list_all (λ (r : Round). is_number_of (loops_of (tree_of program.now).items) r.number) (rounds_of path.now)) }
-    requires sound { IsTrue (are_sound_accesses (tree_of program.now) (numbers_of (rounds_of path.now)) (loops_in (tree_of program.now) (rounds_of path.now)) (flat_map loads_in_item (map printed_of items.now))) }
-    ensures { result_err result ≡ accesses_outside (tree_of program.now) (loops_in (tree_of program.now) (rounds_of path.now)) line (flat_map loads_in_item (map printed_of items.now)) }
+    requires numbered { IsTrue
+        (list_all (λ (r : Round). is_number_of (loops_of (tree_of program.now).items) r.number)
+        (rounds_of path.now)) }
+    requires sound { IsTrue (are_sound_accesses (tree_of program.now)
+        (numbers_of (rounds_of path.now)) (loops_in (tree_of program.now) (rounds_of path.now))
+        (flat_map loads_in_item (map printed_of items.now))) }
+    ensures { result_err result ≡ accesses_outside (tree_of program.now)
+        (loops_in (tree_of program.now) (rounds_of path.now)) line
+        (flat_map loads_in_item (map printed_of items.now)) }
 {
     for item in items {
         check_item(program, item, path, line)?;
@@ -131,9 +151,15 @@ fn check_items(
 // Of what an item loads.
 fn check_item(program: &Program, item: &PrintItem, path: &Path, line: u32) -> Result<(), OutOfRange>
     requires formed { IsWellFormed (tree_of program.now) }
-    requires numbered { IsTrue (list_all (λ (r : Round). is_number_of (loops_of (tree_of program.now).items) r.number) (rounds_of path.now)) }
-    requires sound { IsTrue (are_sound_accesses (tree_of program.now) (numbers_of (rounds_of path.now)) (loops_in (tree_of program.now) (rounds_of path.now)) (loads_in_item (printed_of item.now))) }
-    ensures { result_err result ≡ accesses_outside (tree_of program.now) (loops_in (tree_of program.now) (rounds_of path.now)) line (loads_in_item (printed_of item.now)) }
+    requires numbered { IsTrue
+        (list_all (λ (r : Round). is_number_of (loops_of (tree_of program.now).items) r.number)
+        (rounds_of path.now)) }
+    requires sound { IsTrue (are_sound_accesses (tree_of program.now)
+        (numbers_of (rounds_of path.now)) (loops_in (tree_of program.now) (rounds_of path.now))
+        (loads_in_item (printed_of item.now))) }
+    ensures { result_err result ≡ accesses_outside (tree_of program.now)
+        (loops_in (tree_of program.now) (rounds_of path.now)) line
+        (loads_in_item (printed_of item.now)) }
 {
     match item {
         PrintItem::Value(e) => check_loads(program, e, path, line),
@@ -145,9 +171,15 @@ fn check_item(program: &Program, item: &PrintItem, path: &Path, line: u32) -> Re
 #[cycle(loads)]
 fn check_loads(program: &Program, e: &Expr, path: &Path, line: u32) -> Result<(), OutOfRange>
     requires formed { IsWellFormed (tree_of program.now) }
-    requires numbered { IsTrue (list_all (λ (r : Round). is_number_of (loops_of (tree_of program.now).items) r.number) (rounds_of path.now)) }
-    requires sound { IsTrue (are_sound_accesses (tree_of program.now) (numbers_of (rounds_of path.now)) (loops_in (tree_of program.now) (rounds_of path.now)) (loads_in (expression_of e.now))) }
-    ensures { result_err result ≡ accesses_outside (tree_of program.now) (loops_in (tree_of program.now) (rounds_of path.now)) line (loads_in (expression_of e.now)) }
+    requires numbered { IsTrue
+        (list_all (λ (r : Round). is_number_of (loops_of (tree_of program.now).items) r.number)
+        (rounds_of path.now)) }
+    requires sound { IsTrue (are_sound_accesses (tree_of program.now)
+        (numbers_of (rounds_of path.now)) (loops_in (tree_of program.now) (rounds_of path.now))
+        (loads_in (expression_of e.now))) }
+    ensures { result_err result ≡ accesses_outside (tree_of program.now)
+        (loops_in (tree_of program.now) (rounds_of path.now)) line
+        (loads_in (expression_of e.now)) }
 {
     match e {
         Expr::Number(_) | Expr::LoopValue(_) | Expr::Param(_) => Ok(()),
@@ -171,9 +203,15 @@ fn check_all_loads(
     line: u32,
 ) -> Result<(), OutOfRange>
     requires formed { IsWellFormed (tree_of program.now) }
-    requires numbered { IsTrue (list_all (λ (r : Round). is_number_of (loops_of (tree_of program.now).items) r.number) (rounds_of path.now)) }
-    requires sound { IsTrue (are_sound_accesses (tree_of program.now) (numbers_of (rounds_of path.now)) (loops_in (tree_of program.now) (rounds_of path.now)) (loads_among (expressions_from arguments.now))) }
-    ensures { result_err result ≡ accesses_outside (tree_of program.now) (loops_in (tree_of program.now) (rounds_of path.now)) line (loads_among (expressions_from arguments.now)) }
+    requires numbered { IsTrue
+        (list_all (λ (r : Round). is_number_of (loops_of (tree_of program.now).items) r.number)
+        (rounds_of path.now)) }
+    requires sound { IsTrue (are_sound_accesses (tree_of program.now)
+        (numbers_of (rounds_of path.now)) (loops_in (tree_of program.now) (rounds_of path.now))
+        (loads_among (expressions_from arguments.now))) }
+    ensures { result_err result ≡ accesses_outside (tree_of program.now)
+        (loops_in (tree_of program.now) (rounds_of path.now)) line
+        (loads_among (expressions_from arguments.now)) }
 {
     for argument in arguments {
         check_loads(program, argument, path, line)?;
@@ -189,9 +227,13 @@ fn check_access(
     line: u32,
 ) -> Result<(), OutOfRange>
     requires formed { IsWellFormed (tree_of program.now) }
-    requires numbered { IsTrue (list_all (λ (r : Round). is_number_of (loops_of (tree_of program.now).items) r.number) (rounds_of path.now)) }
-    requires sound { IsTrue (is_sound_access (tree_of program.now) (numbers_of (rounds_of path.now)) (loops_in (tree_of program.now) (rounds_of path.now)) access.now) }
-    ensures { result_err result ≡ access_outside (tree_of program.now) (loops_in (tree_of program.now) (rounds_of path.now)) line access.now }
+    requires numbered { IsTrue
+        (list_all (λ (r : Round). is_number_of (loops_of (tree_of program.now).items) r.number)
+        (rounds_of path.now)) }
+    requires sound { IsTrue (is_sound_access (tree_of program.now) (numbers_of (rounds_of path.now))
+        (loops_in (tree_of program.now) (rounds_of path.now)) access.now) }
+    ensures { result_err result ≡ access_outside (tree_of program.now)
+        (loops_in (tree_of program.now) (rounds_of path.now)) line access.now }
 {
     let bounds = program.variables[access.variable as usize - 1]
         .bounds

@@ -37,7 +37,8 @@ fn statements_cost(
     constants: &[Parameter],
     times: u64,
 ) -> Result<u64, AllocError>
-    requires { IsTrue (are_all_given (length ends.old) (length constants.now) (statements_from items.now)) }
+    requires { IsTrue (are_all_given (length ends.old) (length constants.now)
+        (statements_from items.now)) }
 {
     let mut cost: u64 = 0;
     for item in items {
@@ -54,7 +55,8 @@ fn item_cost(
     constants: &[Parameter],
     times: u64,
 ) -> Result<u64, AllocError>
-    requires { IsTrue (is_all_given (length ends.old) (length constants.now) (statement_of item.now)) }
+    requires { IsTrue (is_all_given (length ends.old) (length constants.now)
+        (statement_of item.now)) }
 {
     match item {
         Item::Loop(nest) => nest_cost(alloc, nest, ends, constants, times),

@@ -2,11 +2,12 @@
 
 ghost use Rattle.std.specs.Prelude.{◌≡◌, IfNone, IfOk, IfSome, false, true};
 ghost use Rattle.farkas_cert.specs.Good.{IsGood};
-ghost use Rattle.fm_elim.specs.Answers.{NamesEachOnce};
-ghost use Rattle.range_check.specs.RangeSystems.{IsKeptAs};
+ghost use Rattle.farkas_cert.specs.Narrow.{AreNarrow};
+ghost use Rattle.fm_elim.specs.Answers.{IsKept, NamesEachOnce};
+ghost use Rattle.fm_elim.specs.declared.answer.Answer.{Answer as Answers};
 
 use elim_rows::chains::hash_of;
-use farkas_cert::{CertRefusal, Certificate, NarrowSystem, check_cert};
+use farkas_cert::{CertRefusal, Certificate, System, check_cert};
 use fm_elim::{Advance, Answer, Level, NoMemory, decide};
 use quick_elim::{Budget, Settled, settle};
 use std::alloc::{AllocError, Global};
@@ -73,12 +74,15 @@ impl Effort {
     pub(crate) fn refute(
         &mut self,
         alloc: Global,
-        system: &NarrowSystem,
+        system: &System,
         order: &[u32],
     ) -> Result<Option<Certificate>, NoMemory>
-        requires { NamesEachOnce system.now.vars order.now }
+        requires narrow { AreNarrow system.now.rows }
+        requires order { NamesEachOnce system.now.vars order.now }
         ensures good { IfOk result (λ o. IfSome o (IsGood system.now)) }
-        ensures kept { self.old.whole ≡ true → IfOk result (λ o. IfNone o (IsKeptAs system.now order.now)) }
+        ensures kept { self.old.whole ≡ true
+            → IfOk result (λ o. IfNone o ((answer : Answers)
+            × IsKept system.now order.now answer)) }
         ensures same { self.new.whole ≡ self.old.whole }
     {
         if self.whole {
@@ -115,8 +119,7 @@ impl Effort {
 }
 
 // A hash of a system.
-fn hash_of_rows(system: &NarrowSystem) -> u128 {
-    let system = system.as_system();
+fn hash_of_rows(system: &System) -> u128 {
     let mut hash = u128::from(system.vars());
     for row in system.rows() {
         let bound = row.bound.cast_unsigned();
@@ -132,7 +135,7 @@ fn recalled(
     alloc: Global,
     all: &[Remembered],
     hash: u128,
-    system: &NarrowSystem,
+    system: &System,
 ) -> Result<Option<Option<Certificate>>, AllocError>
     ensures { IfOk result (λ known. IfSome known (λ o. IfSome o (IsGood system.now))) }
 {
@@ -148,14 +151,14 @@ fn recalled(
 fn recalled_of(
     alloc: Global,
     one: &Remembered,
-    system: &NarrowSystem,
+    system: &System,
 ) -> Result<Option<Option<Certificate>>, AllocError>
     ensures { IfOk result (λ known. IfSome known (λ o. IfSome o (IsGood system.now))) }
 {
     let Some(certificate) = &one.certificate else {
         return Ok(Some(None));
     };
-    match check_cert(alloc, system.as_system(), certificate) {
+    match check_cert(alloc, system, certificate) {
         Ok(()) => Ok(Some(Some(certificate.copy(alloc)?))),
         Err(CertRefusal::NoMemory) => Err(AllocError),
         Err(_) => Ok(None),
@@ -163,16 +166,14 @@ fn recalled_of(
 }
 
 // A certificate that refutes the system; None where elimination keeps it.
-fn refuted(
-    alloc: Global,
-    system: &NarrowSystem,
-    order: &[u32],
-) -> Result<Option<Certificate>, NoMemory>
-    requires { NamesEachOnce system.now.vars order.now }
+fn refuted(alloc: Global, system: &System, order: &[u32]) -> Result<Option<Certificate>, NoMemory>
+    requires narrow { AreNarrow system.now.rows }
+    requires order { NamesEachOnce system.now.vars order.now }
     ensures good { IfOk result (λ o. IfSome o (IsGood system.now)) }
-    ensures kept { IfOk result (λ o. IfNone o (IsKeptAs system.now order.now)) }
+    ensures kept { IfOk result (λ o. IfNone o ((answer : Answers)
+        × IsKept system.now order.now answer)) }
 {
-    match decide(alloc, system.as_system(), order)? {
+    match decide(alloc, system, order)? {
         Answer::Infeasible(certificate) => Ok(Some(certificate)),
         Answer::Open | Answer::Wide { .. } | Answer::Many { .. } | Answer::Work { .. } => Ok(None),
     }
@@ -182,18 +183,19 @@ fn refuted(
 // is left.
 fn refuted_soon(
     alloc: Global,
-    system: &NarrowSystem,
+    system: &System,
     order: &[u32],
     eliminations: &mut u32,
 ) -> Result<Option<Certificate>, NoMemory>
-    requires { NamesEachOnce system.now.vars order.now }
+    requires narrow { AreNarrow system.now.rows }
+    requires order { NamesEachOnce system.now.vars order.now }
     ensures { IfOk result (λ o. IfSome o (IsGood system.now)) }
 {
     let budget = Budget {
         orders: ORDERS,
         ..Budget::default()
     };
-    match settle(alloc, system.as_system(), &budget) {
+    match settle(alloc, system, &budget) {
         Ok(Settled::Refuted(certificate)) => return Ok(Some(certificate)),
         Ok(Settled::Solved(_)) => return Ok(None),
         Ok(Settled::Unknown) => {}
@@ -209,13 +211,14 @@ fn refuted_soon(
 // A certificate that refutes the system, if elimination finds one before a level is long.
 fn refuted_by_short_levels(
     alloc: Global,
-    system: &NarrowSystem,
+    system: &System,
     order: &[u32],
 ) -> Result<Option<Certificate>, NoMemory>
-    requires { NamesEachOnce system.now.vars order.now }
+    requires narrow { AreNarrow system.now.rows }
+    requires order { NamesEachOnce system.now.vars order.now }
     ensures { IfOk result (λ o. IfSome o (IsGood system.now)) }
 {
-    let mut level = Level::start(alloc, system.as_system(), order)?;
+    let mut level = Level::start(alloc, system, order)?;
     while level.has_room_for(REST) {
         match level.advance(alloc)? {
             Advance::Level(next) => level = next,

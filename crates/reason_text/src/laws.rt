@@ -10,6 +10,8 @@ ghost use Rattle.plan_text.specs.PlanText.{HasText};
 
 /// A made plan has a text, and so has the one with a barrier in front of each phase.
 pub fn made_text()
-    ensures made { (tree : Tree) (workers : ℕ) (plan : Plan) (reasons : Reasons) → IsWellFormed tree → IsMade tree workers plan reasons → HasText plan }
-    ensures barriers { (tree : Tree) (workers : ℕ) (plan : Plan) → IsWellFormed tree → IsBarrierPlan tree workers plan → HasText plan }
+    ensures made { (tree : Tree) (workers : ℕ) (plan : Plan) (reasons : Reasons) → IsWellFormed tree
+        → IsMade tree workers plan reasons → HasText plan }
+    ensures barriers { (tree : Tree) (workers : ℕ) (plan : Plan) → IsWellFormed tree
+        → IsBarrierPlan tree workers plan → HasText plan }
 {}

@@ -21,7 +21,8 @@ pub fn push_reasons(
     program: &Program,
     reasons: &Reasons,
 ) -> Result<(), AllocError>
-    ensures { OnOk result (text.new.items ≡ text.old.items ++ spec.reason_text (tree_of program.now) reasons.now) }
+    ensures { OnOk result (text.new.items ≡ text.old.items
+        ++ spec.reason_text (tree_of program.now) reasons.now) }
 {
     push_loops(text, program, reasons.loops.as_slice())?;
     push_phases(text, program, reasons.phases.as_slice())?;
@@ -35,7 +36,8 @@ fn push_loops(
     program: &Program,
     reasons: &[LoopReason],
 ) -> Result<(), AllocError>
-    ensures { OnOk result (text.new.items ≡ text.old.items ++ text_of (map (spec.loop_line (tree_of program.now)) reasons.now)) }
+    ensures { OnOk result (text.new.items ≡ text.old.items
+        ++ text_of (map (spec.loop_line (tree_of program.now)) reasons.now)) }
 {
     for reason in reasons {
         push_loop(text, program, *reason)?;
@@ -49,7 +51,8 @@ fn push_phases(
     program: &Program,
     reasons: &[PhaseReason],
 ) -> Result<(), AllocError>
-    ensures { OnOk result (text.new.items ≡ text.old.items ++ text_of (map (spec.phase_line (tree_of program.now)) reasons.now)) }
+    ensures { OnOk result (text.new.items ≡ text.old.items
+        ++ text_of (map (spec.phase_line (tree_of program.now)) reasons.now)) }
 {
     for reason in reasons {
         push_phase(text, program, reason)?;
@@ -59,7 +62,8 @@ fn push_phases(
 
 // A line of a loop, with its end.
 fn push_loop(text: &mut Vec<u8>, program: &Program, reason: LoopReason) -> Result<(), AllocError>
-    ensures { OnOk result (text.new.items ≡ text.old.items ++ (spec.loop_line (tree_of program.now) reason ++ 10 ∷ [])) }
+    ensures { OnOk result (text.new.items ≡ text.old.items
+        ++ (spec.loop_line (tree_of program.now) reason ++ 10 ∷ [])) }
 {
     text.extend_from_slice(b"LOOP")?;
     push_number(text, reason.number)?;
@@ -72,7 +76,8 @@ fn push_loop(text: &mut Vec<u8>, program: &Program, reason: LoopReason) -> Resul
 
 // The words, each with a blank in front, of why a try fails.
 fn push_bar(text: &mut Vec<u8>, program: &Program, bar: Bar) -> Result<(), AllocError>
-    ensures { OnOk result (text.new.items ≡ text.old.items ++ spaced (spec.bar_words (tree_of program.now) bar)) }
+    ensures { OnOk result (text.new.items ≡ text.old.items
+        ++ spaced (spec.bar_words (tree_of program.now) bar)) }
 {
     match bar {
         Bar::Print => put_word(text, b"PRINT"),
@@ -85,7 +90,8 @@ fn push_bar(text: &mut Vec<u8>, program: &Program, bar: Bar) -> Result<(), Alloc
 
 // A line of a weaker kind, with its end.
 fn push_phase(text: &mut Vec<u8>, program: &Program, reason: &PhaseReason) -> Result<(), AllocError>
-    ensures { OnOk result (text.new.items ≡ text.old.items ++ (spec.phase_line (tree_of program.now) reason.now ++ 10 ∷ [])) }
+    ensures { OnOk result (text.new.items ≡ text.old.items
+        ++ (spec.phase_line (tree_of program.now) reason.now ++ 10 ∷ [])) }
 {
     text.extend_from_slice(b"PHASE")?;
     push_number(text, reason.phase)?;
@@ -98,7 +104,8 @@ fn push_phase(text: &mut Vec<u8>, program: &Program, reason: &PhaseReason) -> Re
 
 // The words of a system that is kept, each with a blank in front.
 fn push_why(text: &mut Vec<u8>, program: &Program, cause: &Cause) -> Result<(), AllocError>
-    ensures { OnOk result (text.new.items ≡ text.old.items ++ spaced (spec.why_words (tree_of program.now) cause.now)) }
+    ensures { OnOk result (text.new.items ≡ text.old.items
+        ++ spaced (spec.why_words (tree_of program.now) cause.now)) }
 {
     push_accesses(text, program, cause)?;
     push_place(text, cause)
@@ -106,7 +113,8 @@ fn push_why(text: &mut Vec<u8>, program: &Program, cause: &Cause) -> Result<(), 
 
 // The words of the two accesses of a system, each with a blank in front.
 fn push_accesses(text: &mut Vec<u8>, program: &Program, cause: &Cause) -> Result<(), AllocError>
-    ensures { OnOk result (text.new.items ≡ text.old.items ++ spaced (spec.accesses_words (tree_of program.now) cause.now)) }
+    ensures { OnOk result (text.new.items ≡ text.old.items
+        ++ spaced (spec.accesses_words (tree_of program.now) cause.now)) }
 {
     put_word(text, b"LINES")?;
     push_number(text, cause.lines.0)?;

@@ -134,7 +134,8 @@ fn why_silent(
 fn why_serial(alloc: Global, program: &Program, serial: Serial) -> Result<Why, AllocError>
     requires formed { IsWellFormed (tree_of program.now) }
     requires limits { IsWithinLimits (tree_of program.now) }
-    ensures { IfOk result (IsWhySerial (tree_of program.now) serial.number serial.tried serial.wanted) }
+    ensures { IfOk result
+        (IsWhySerial (tree_of program.now) serial.number serial.tried serial.wanted) }
 {
     if prints(program, serial.number) {
         return Ok(Why::Print);
@@ -147,7 +148,8 @@ fn why_serial(alloc: Global, program: &Program, serial: Serial) -> Result<Why, A
 fn loop_reason(alloc: Global, program: &Program, serial: Serial) -> Result<Reason, AllocError>
     requires formed { IsWellFormed (tree_of program.now) }
     requires limits { IsWithinLimits (tree_of program.now) }
-    ensures { (plan : HeldPlan) → IfOk result (IsAnswer (tree_of program.now) plan (serial_question serial)) }
+    ensures { (plan : HeldPlan)
+        → IfOk result (IsAnswer (tree_of program.now) plan (serial_question serial)) }
 {
     let why = why_serial(alloc, program, serial)?;
     Ok(Reason {
@@ -195,9 +197,12 @@ fn first_pair(reasons: &[Reason], wanted: &Wanted) -> u64 {
 impl Ground<'_, '_, '_> {
     // Why a kind doesn't stand in front of a static phase.
     fn weaker_reason(&self, alloc: Global, candidate: &Candidate) -> Result<Reason, AllocError>
-        requires slots { AreSlotsOf (tree_of self.now.program.now) self.now.plan.now self.now.phases.now self.now.slots.now }
+        requires slots { AreSlotsOf
+            (tree_of self.now.program.now) self.now.plan.now self.now.phases.now
+            self.now.slots.now }
         requires accepted { IsAccepted (tree_of self.now.program.now) self.now.plan.now }
-        ensures { IfOk result (IsAnswer (tree_of self.now.program.now) self.now.plan.now (candidate_question candidate.now)) }
+        ensures { IfOk result (IsAnswer (tree_of self.now.program.now) self.now.plan.now
+            (candidate_question candidate.now)) }
     {
         let own = self.plan.kinds.as_slice();
         let kinds = kinds_with(alloc, own, candidate.phase, &candidate.kind)?;
@@ -216,7 +221,11 @@ impl Ground<'_, '_, '_> {
         loops: &[Serial],
         reasons: &mut Vec<Reason>,
     ) -> Result<(), AllocError>
-        ensures { (qs : List Question) → AllZip (IsAnswer (tree_of self.now.program.now) self.now.plan.now) qs reasons.old.items → OnOk result (AllZip (IsAnswer (tree_of self.now.program.now) self.now.plan.now) (qs ++ map serial_question loops.now) reasons.new.items) }
+        ensures { (qs : List Question)
+            → AllZip
+            (IsAnswer (tree_of self.now.program.now) self.now.plan.now) qs reasons.old.items
+            → OnOk result (AllZip (IsAnswer (tree_of self.now.program.now) self.now.plan.now) (qs
+            ++ map serial_question loops.now) reasons.new.items) }
     {
         for serial in loops {
             let reason = loop_reason(alloc, self.program, *serial)?;
@@ -232,9 +241,15 @@ impl Ground<'_, '_, '_> {
         phases: &[Candidate],
         reasons: &mut Vec<Reason>,
     ) -> Result<(), AllocError>
-        requires slots { AreSlotsOf (tree_of self.now.program.now) self.now.plan.now self.now.phases.now self.now.slots.now }
+        requires slots { AreSlotsOf
+            (tree_of self.now.program.now) self.now.plan.now self.now.phases.now
+            self.now.slots.now }
         requires accepted { IsAccepted (tree_of self.now.program.now) self.now.plan.now }
-        ensures { (qs : List Question) → AllZip (IsAnswer (tree_of self.now.program.now) self.now.plan.now) qs reasons.old.items → OnOk result (AllZip (IsAnswer (tree_of self.now.program.now) self.now.plan.now) (qs ++ map candidate_question phases.now) reasons.new.items) }
+        ensures { (qs : List Question)
+            → AllZip
+            (IsAnswer (tree_of self.now.program.now) self.now.plan.now) qs reasons.old.items
+            → OnOk result (AllZip (IsAnswer (tree_of self.now.program.now) self.now.plan.now) (qs
+            ++ map candidate_question phases.now) reasons.new.items) }
     {
         for candidate in phases {
             let known = last_of(reasons.as_slice(), candidate.phase);
@@ -264,7 +279,8 @@ fn reasons_of(
     requires formed { IsWellFormed (tree_of program.now) }
     requires limits { IsWithinLimits (tree_of program.now) }
     requires accepted { IsAccepted (tree_of program.now) plan.now }
-    ensures { IfOk result (λ reasons. AllZip (IsAnswer (tree_of program.now) plan.now) (questions_in asked.now) reasons.items) }
+    ensures { IfOk result (λ reasons. AllZip (IsAnswer (tree_of program.now) plan.now)
+        (questions_in asked.now) reasons.items) }
 {
     let all_phases = phases(alloc, program, &plan.cut)?;
     let all_slots = slots(alloc, all_phases.as_slice())?;
@@ -308,7 +324,8 @@ pub fn given_account(alloc: Global, program: &Program, plan: Plan) -> Result<Acc
     requires limits { IsWithinLimits (tree_of program.now) }
     requires accepted { IsAccepted (tree_of program.now) plan }
     ensures plan { IfOk result (λ a. a.plan ≡ plan) }
-    ensures told { IfOk result (λ a. AreAnswers (tree_of program.now) a (given_questions (tree_of program.now) a.plan)) }
+    ensures told { IfOk result (λ a. AreAnswers (tree_of program.now) a
+        (given_questions (tree_of program.now) a.plan)) }
     ensures reasons { IfOk result (AreReasons (tree_of program.now)) }
 {
     let all_phases = phases(alloc, program, &plan.cut)?;
@@ -329,7 +346,8 @@ pub fn refused_account(
     requires fits { IsFit (tree_of program.now) plan }
     requires refused { IsRefusedFor (tree_of program.now) plan number }
     ensures plan { IfOk result (λ a. a.plan ≡ plan) }
-    ensures told { IfOk result (λ a. AreAnswers (tree_of program.now) a (refusal_question number ∷ [])) }
+    ensures told { IfOk result (λ a. AreAnswers (tree_of program.now) a (refusal_question number
+        ∷ [])) }
     ensures reasons { IfOk result (AreReasons (tree_of program.now)) }
 {
     let found = found_numbered(alloc, program, &plan, number)?;
@@ -352,7 +370,8 @@ fn found_numbered(
     requires formed { IsWellFormed (tree_of program.now) }
     requires shape { wrong_field (tree_of program.now) plan.now ≡ None }
     requires refused { IsRefusedFor (tree_of program.now) plan.now number }
-    ensures { IfOk result (IsFoundIn (obligations_of (tree_of program.now) plan.now) (Number number)) }
+    ensures { IfOk result (IsFoundIn (obligations_of (tree_of program.now) plan.now)
+        (Number number)) }
 {
     let planned = Planned {
         program,

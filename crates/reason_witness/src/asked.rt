@@ -30,7 +30,8 @@ use sync_plan::{Kind, Plan};
 impl Asked {
     /// What the reasons of a made plan name.
     pub(crate) fn of_made(alloc: Global, reasons: &Reasons) -> Result<Asked, AllocError>
-        requires { IsTrue (list_all (λ (r : HeldReason). has_places_in r.kind) reasons.now.phases.items) }
+        requires { IsTrue
+            (list_all (λ (r : HeldReason). has_places_in r.kind) reasons.now.phases.items) }
         ensures { IfOk result (λ asked. questions_in asked ≡ made_questions reasons.now) }
     {
         let loops = made_loops(alloc, reasons.loops.as_slice())?;
@@ -48,9 +49,11 @@ impl Asked {
         requires formed { IsWellFormed (tree_of program.now) }
         requires limits { IsWithinLimits (tree_of program.now) }
         requires fits { IsFit (tree_of program.now) plan.now }
-        requires phases { map phase_seen phases.now ≡ phases_of (tree_of program.now) plan.now.cut.marks }
+        requires phases { map phase_seen phases.now
+            ≡ phases_of (tree_of program.now) plan.now.cut.marks }
         requires few { length phases.now < 2 ^ 20 }
-        ensures { IfOk result (λ asked. questions_in asked ≡ given_questions (tree_of program.now) plan.now) }
+        ensures { IfOk result (λ asked. questions_in asked
+            ≡ given_questions (tree_of program.now) plan.now) }
     {
         let loops = given_loops(alloc, program, plan)?;
         let phases = given_phases(alloc, program, plan, phases)?;
@@ -70,7 +73,8 @@ fn wanted_of(bar: Bar) -> Wanted
 
 // What the maker's reasons of loops name.
 fn made_loops(alloc: Global, reasons: &[LoopReason]) -> Result<Vec<Serial>, AllocError>
-    ensures { IfOk result (λ loops. map serial_question loops.items ≡ map loop_question reasons.now) }
+    ensures { IfOk result (λ loops. map serial_question loops.items
+        ≡ map loop_question reasons.now) }
 {
     let mut loops = Vec::new(alloc);
     for reason in reasons {
@@ -86,7 +90,8 @@ fn made_loops(alloc: Global, reasons: &[LoopReason]) -> Result<Vec<Serial>, Allo
 // What the maker's reasons of phases name.
 fn made_phases(alloc: Global, reasons: &[PhaseReason]) -> Result<Vec<Candidate>, AllocError>
     requires { IsTrue (list_all (λ (r : HeldReason). has_places_in r.kind) reasons.now) }
-    ensures { IfOk result (λ phases. map candidate_question phases.items ≡ map phase_question reasons.now) }
+    ensures { IfOk result (λ phases. map candidate_question phases.items
+        ≡ map phase_question reasons.now) }
 {
     let mut phases = Vec::new(alloc);
     for reason in reasons {
@@ -103,7 +108,8 @@ fn made_phases(alloc: Global, reasons: &[PhaseReason]) -> Result<Vec<Candidate>,
 fn given_loops(alloc: Global, program: &Program, plan: &Plan) -> Result<Vec<Serial>, AllocError>
     requires formed { IsWellFormed (tree_of program.now) }
     requires marks { length plan.now.cut.marks ≡ loops_of (tree_of program.now).items }
-    ensures { IfOk result (λ loops. map serial_question loops.items ≡ map try_question (all_attempts (tree_of program.now) (open_loops 1 plan.now.cut.marks))) }
+    ensures { IfOk result (λ loops. map serial_question loops.items
+        ≡ map try_question (all_attempts (tree_of program.now) (open_loops 1 plan.now.cut.marks))) }
 {
     let marks = plan.cut.as_slice();
     let mut loops = Vec::new(alloc);
@@ -133,7 +139,8 @@ fn push_open(
     requires formed { IsWellFormed (tree_of program.now) }
     requires some { 1 ≤ number }
     requires there { number ≤ loops_of (tree_of program.now).items }
-    ensures { OnOk result (map serial_question loops.new.items ≡ map serial_question loops.old.items ++ map try_question (all_attempts (tree_of program.now) (open_loop number mark))) }
+    ensures { OnOk result (map serial_question loops.new.items ≡ map serial_question loops.old.items
+        ++ map try_question (all_attempts (tree_of program.now) (open_loop number mark))) }
 {
     match mark {
         Mark::Outer | Mark::Single => push_tries(alloc, program, number, loops),
@@ -151,7 +158,8 @@ fn push_tries(
     requires formed { IsWellFormed (tree_of program.now) }
     requires some { 1 ≤ number }
     requires there { number ≤ loops_of (tree_of program.now).items }
-    ensures { OnOk result (map serial_question loops.new.items ≡ map serial_question loops.old.items ++ map try_question (attempts_of (tree_of program.now) number)) }
+    ensures { OnOk result (map serial_question loops.new.items ≡ map serial_question loops.old.items
+        ++ map try_question (attempts_of (tree_of program.now) number)) }
 {
     let tries = tries_at(alloc, program, number)?;
     for &tried in tries.as_slice() {
@@ -174,9 +182,11 @@ fn given_phases(
     requires formed { IsWellFormed (tree_of program.now) }
     requires limits { IsWithinLimits (tree_of program.now) }
     requires fits { IsFit (tree_of program.now) plan.now }
-    requires phases { map phase_seen phases.now ≡ phases_of (tree_of program.now) plan.now.cut.marks }
+    requires phases { map phase_seen phases.now
+        ≡ phases_of (tree_of program.now) plan.now.cut.marks }
     requires few { length phases.now < 2 ^ 20 }
-    ensures { IfOk result (λ found. map candidate_question found.items ≡ weaker_questions 1 (candidates_in (tree_of program.now) plan.now) plan.now.kinds) }
+    ensures { IfOk result (λ found. map candidate_question found.items
+        ≡ weaker_questions 1 (candidates_in (tree_of program.now) plan.now) plan.now.kinds) }
 {
     let candidates = all_candidates(alloc, program, plan, phases)?;
     let candidates = candidates.as_slice();
@@ -209,7 +219,8 @@ fn candidates_at(candidates: &[Listed<Kind>], place: usize) -> &[Kind]
 // These kinds in front of the static phase with this number, from 1, behind others.
 fn push_weaker(phase: u32, kinds: Vec<Kind>, found: &mut Vec<Candidate>) -> Result<(), AllocError>
     requires { IsTrue (list_all has_places_in kinds.items) }
-    ensures { OnOk result (map candidate_question found.new.items ≡ map candidate_question found.old.items ++ map (kind_question phase) kinds.items) }
+    ensures { OnOk result (map candidate_question found.new.items
+        ≡ map candidate_question found.old.items ++ map (kind_question phase) kinds.items) }
 {
     for kind in kinds {
         found.push(Candidate {

@@ -197,7 +197,10 @@ impl Planned<'_> {
         group: &Group,
         wanted: &Wanted,
     ) -> Result<Option<Found>, AllocError>
-        ensures { IfOk result (IsSearched self.now.is_whole (obligations_in (tree_of self.now.program.now) self.now.plan.now (group_seen group.now)) wanted.now) }
+        ensures { IfOk result
+            (IsSearched self.now.is_whole
+            (obligations_in (tree_of self.now.program.now) self.now.plan.now
+            (group_seen group.now)) wanted.now) }
     {
         if !self.looks_at(group, wanted) {
             return Ok(None);
@@ -219,7 +222,10 @@ impl Planned<'_> {
         groups: &[Group],
         wanted: &Wanted,
     ) -> Result<Option<Found>, AllocError>
-        ensures { IfOk result (IsSearched self.now.is_whole (flat_map (obligations_in (tree_of self.now.program.now) self.now.plan.now) (map group_seen groups.now)) wanted.now) }
+        ensures { IfOk result
+            (IsSearched self.now.is_whole
+            (flat_map (obligations_in (tree_of self.now.program.now) self.now.plan.now)
+            (map group_seen groups.now)) wanted.now) }
     {
         for group in groups {
             let found = self.found_in(alloc, group, wanted)?;
@@ -233,7 +239,9 @@ impl Planned<'_> {
     // Of the plan's obligations the one that is looked for.
     fn found_once(&self, alloc: Global, wanted: &Wanted) -> Result<Option<Found>, AllocError>
         requires { IsWellFormed (tree_of self.now.program.now) }
-        ensures { IfOk result (IsSearched self.now.is_whole (obligations_of (tree_of self.now.program.now) self.now.plan.now) wanted.now) }
+        ensures { IfOk result
+            (IsSearched self.now.is_whole
+            (obligations_of (tree_of self.now.program.now) self.now.plan.now) wanted.now) }
     {
         let most = match wanted {
             Wanted::Number(number) => *number,
@@ -248,7 +256,9 @@ impl Planned<'_> {
     /// error says that memory ran out.
     pub(crate) fn found(&self, alloc: Global, wanted: &Wanted) -> Result<Option<Found>, AllocError>
         requires { IsWellFormed (tree_of self.now.program.now) }
-        ensures { IfOk result (IsSearched true (obligations_of (tree_of self.now.program.now) self.now.plan.now) wanted.now) }
+        ensures { IfOk result
+            (IsSearched true
+            (obligations_of (tree_of self.now.program.now) self.now.plan.now) wanted.now) }
     {
         if let Wanted::Named(_) = wanted {
             let found = self.found_once(alloc, wanted)?;

@@ -114,7 +114,10 @@ impl Ground<'_, '_, '_> {
 
     // Whether the plan's own kinds show other waits at a slot than these.
     fn is_changed(&self, alloc: Global, slot: &Slot, waits: &Waits) -> Result<bool, AllocError>
-        ensures { IfOk result (λ is_changed. is_changed ≡ false → waits_seen waits.now ≡ signature_under self.now.plan.now.version self.now.plan.now.kinds (map phase_seen self.now.phases.now) (slot_seen slot.now)) }
+        ensures { IfOk result (λ is_changed. is_changed ≡ false
+            → waits_seen waits.now
+            ≡ signature_under self.now.plan.now.version self.now.plan.now.kinds
+            (map phase_seen self.now.phases.now) (slot_seen slot.now)) }
     {
         let kinds = self.plan.kinds.as_slice();
         match slot_signature(alloc, self.plan.version, kinds, self.phases, slot)? {
@@ -132,7 +135,10 @@ impl Ground<'_, '_, '_> {
         waits: &Waits,
         wanted: &Wanted,
     ) -> Result<bool, AllocError>
-        ensures { IfOk result (λ is_new. is_new ≡ false → waits_seen waits.now ≡ signature_under self.now.plan.now.version self.now.plan.now.kinds (map phase_seen self.now.phases.now) (slot_seen slot.now)) }
+        ensures { IfOk result (λ is_new. is_new ≡ false
+            → waits_seen waits.now
+            ≡ signature_under self.now.plan.now.version self.now.plan.now.kinds
+            (map phase_seen self.now.phases.now) (slot_seen slot.now)) }
     {
         match wanted {
             Wanted::First => self.is_changed(alloc, slot, waits),
@@ -148,7 +154,10 @@ impl Ground<'_, '_, '_> {
         waits: &Waits,
         wanted: &Wanted,
     ) -> Result<Option<Found>, AllocError>
-        ensures { IfOk result (IsSearched self.now.is_whole (numbered_from 1 (slot_tasks (tree_of self.now.program.now) self.now.plan.now (slot_seen slot.now) (waits_seen waits.now))) wanted.now) }
+        ensures { IfOk result
+            (IsSearched self.now.is_whole
+            (numbered_from 1 (slot_tasks (tree_of self.now.program.now) self.now.plan.now
+            (slot_seen slot.now) (waits_seen waits.now))) wanted.now) }
     {
         let groups = slot_groups(alloc, &self.plan.cut, u64::MAX, *slot, waits, 1)?;
         let planned = Planned {
@@ -170,10 +179,15 @@ impl Ground<'_, '_, '_> {
         wanted: &Wanted,
     ) -> Result<Option<Found>, AllocError>
         requires places { IsTrue (list_all has_places_in kinds.now) }
-        requires slots { AreSlotsOf (tree_of self.now.program.now) self.now.plan.now self.now.phases.now self.now.slots.now }
+        requires slots { AreSlotsOf
+            (tree_of self.now.program.now) self.now.plan.now self.now.phases.now
+            self.now.slots.now }
         requires there { Contains self.now.slots.now slot.now }
         requires accepted { IsAccepted (tree_of self.now.program.now) self.now.plan.now }
-        ensures { IfOk result (IsSearchedUnder self.now.is_whole (tasks_at (tree_of self.now.program.now) self.now.plan.now kinds.now (slot_seen slot.now)) wanted.now) }
+        ensures { IfOk result
+            (IsSearchedUnder self.now.is_whole
+            (tasks_at (tree_of self.now.program.now) self.now.plan.now kinds.now
+            (slot_seen slot.now)) wanted.now) }
     {
         if !self.looks_between(slot, wanted) {
             return Ok(None);
@@ -198,9 +212,13 @@ impl Ground<'_, '_, '_> {
         wanted: &Wanted,
     ) -> Result<Option<Found>, AllocError>
         requires places { IsTrue (list_all has_places_in kinds.now) }
-        requires slots { AreSlotsOf (tree_of self.now.program.now) self.now.plan.now self.now.phases.now self.now.slots.now }
+        requires slots { AreSlotsOf
+            (tree_of self.now.program.now) self.now.plan.now self.now.phases.now
+            self.now.slots.now }
         requires accepted { IsAccepted (tree_of self.now.program.now) self.now.plan.now }
-        ensures { IfOk result (IsSearchedUnder self.now.is_whole (tasks_of (tree_of self.now.program.now) (with_kinds self.now.plan.now kinds.now)) wanted.now) }
+        ensures { IfOk result
+            (IsSearchedUnder self.now.is_whole (tasks_of (tree_of self.now.program.now)
+            (with_kinds self.now.plan.now kinds.now)) wanted.now) }
     {
         for slot in self.slots {
             let found = self.found_beside(alloc, kinds, slot, wanted)?;
@@ -220,9 +238,13 @@ impl Ground<'_, '_, '_> {
         wanted: &Wanted,
     ) -> Result<Option<Found>, AllocError>
         requires places { IsTrue (list_all has_places_in kinds.now) }
-        requires slots { AreSlotsOf (tree_of self.now.program.now) self.now.plan.now self.now.phases.now self.now.slots.now }
+        requires slots { AreSlotsOf
+            (tree_of self.now.program.now) self.now.plan.now self.now.phases.now
+            self.now.slots.now }
         requires accepted { IsAccepted (tree_of self.now.program.now) self.now.plan.now }
-        ensures { IfOk result (IsSearchedUnder true (tasks_of (tree_of self.now.program.now) (with_kinds self.now.plan.now kinds.now)) wanted.now) }
+        ensures { IfOk result
+            (IsSearchedUnder true (tasks_of (tree_of self.now.program.now)
+            (with_kinds self.now.plan.now kinds.now)) wanted.now) }
     {
         if let Wanted::Named(_) = wanted {
             let found = self.found_once(alloc, kinds, wanted)?;

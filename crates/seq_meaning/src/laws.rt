@@ -28,7 +28,8 @@ pub fn arithmetic_is_modulo_two_to_the_64()
 /// A value divided by another that is not 0 is truncated toward zero, but for the least value
 /// divided by -1, which is itself.
 pub fn quotients_are_truncated()
-    ensures truncated { (a d : ℤ) → FitsSigned w64 a → 0 < unsigned_abs d → (a ≡ least_value → d ≡ negsuc 0 → ⊥) → IsTruncated a d (quotient a d) }
+    ensures truncated { (a d : ℤ) → FitsSigned w64 a → 0 < unsigned_abs d
+        → (a ≡ least_value → d ≡ negsuc 0 → ⊥) → IsTruncated a d (quotient a d) }
     ensures least_by_minus_one { quotient least_value (negsuc 0) ≡ least_value }
 {}
 
@@ -36,6 +37,7 @@ pub fn quotients_are_truncated()
 pub fn extremes_are_reached()
     ensures least_below { (x : ℤ) (rest : List ℤ) → All (λ y. least (x ∷ rest) ≤ℤ y) (x ∷ rest) }
     ensures least_among { (x : ℤ) (rest : List ℤ) → Contains (x ∷ rest) (least (x ∷ rest)) }
-    ensures greatest_above { (x : ℤ) (rest : List ℤ) → All (λ y. y ≤ℤ greatest (x ∷ rest)) (x ∷ rest) }
+    ensures greatest_above { (x : ℤ) (rest : List ℤ)
+        → All (λ y. y ≤ℤ greatest (x ∷ rest)) (x ∷ rest) }
     ensures greatest_among { (x : ℤ) (rest : List ℤ) → Contains (x ∷ rest) (greatest (x ∷ rest)) }
 {}

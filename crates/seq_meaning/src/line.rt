@@ -25,11 +25,18 @@ impl Output {
     ) -> Result<(), AllocError>
         requires formed { IsWellFormed (tree_of program.now) }
         requires params { given.now.params.now ≡ param_values (tree_of program.now) }
-        requires texts { IsTrue (list_all (has_text (tree_of program.now) (length given.now.loops.now)) (map printed_of items.now)) }
-        requires loads { items_load_count (tree_of program.now) (map printed_of items.now) ≤ length given.now.loaded.now }
-        ensures line { OnOk result (self.new.bytes ≡ self.old.bytes ++ (items_text (tree_of program.now) given.now.loops.now (map printed_of items.now) given.now.loaded.now ++ 10 ∷ [])) }
-        ensures fits { length self.old.bytes + (longest_items (tree_of program.now) (map printed_of items.now) + 1) ≤ self.old.room → IsOk result }
-        ensures grown { length self.new.bytes ≤ length self.old.bytes + (longest_items (tree_of program.now) (map printed_of items.now) + 1) }
+        requires texts { IsTrue
+            (list_all (has_text (tree_of program.now) (length given.now.loops.now))
+            (map printed_of items.now)) }
+        requires loads { items_load_count (tree_of program.now) (map printed_of items.now)
+            ≤ length given.now.loaded.now }
+        ensures line { OnOk result (self.new.bytes ≡ self.old.bytes
+            ++ (items_text (tree_of program.now) given.now.loops.now
+            (map printed_of items.now) given.now.loaded.now ++ 10 ∷ [])) }
+        ensures fits { length self.old.bytes + (longest_items (tree_of program.now)
+            (map printed_of items.now) + 1) ≤ self.old.room → IsOk result }
+        ensures grown { length self.new.bytes ≤ length self.old.bytes +
+            (longest_items (tree_of program.now) (map printed_of items.now) + 1) }
         ensures room { self.old.room ≤ self.new.room }
     {
         let mut at = 0;
@@ -49,12 +56,20 @@ impl Output {
     ) -> Result<(), AllocError>
         requires formed { IsWellFormed (tree_of program.now) }
         requires params { given.now.params.now ≡ param_values (tree_of program.now) }
-        requires texts { IsTrue (has_text (tree_of program.now) (length given.now.loops.now) (printed_of item.now)) }
-        requires loads { item_load_count (tree_of program.now) (printed_of item.now) ≤ length (drop at.old given.now.loaded.now) }
-        ensures text { OnOk result (self.new.bytes ≡ self.old.bytes ++ item_text (tree_of program.now) given.now.loops.now (printed_of item.now) (drop at.old given.now.loaded.now)) }
-        ensures rest { OnOk result (drop at.new given.now.loaded.now ≡ drop (item_load_count (tree_of program.now) (printed_of item.now)) (drop at.old given.now.loaded.now)) }
-        ensures fits { length self.old.bytes + longest_item (tree_of program.now) (printed_of item.now) ≤ self.old.room → IsOk result }
-        ensures grown { length self.new.bytes ≤ length self.old.bytes + longest_item (tree_of program.now) (printed_of item.now) }
+        requires texts { IsTrue (has_text (tree_of program.now) (length given.now.loops.now)
+            (printed_of item.now)) }
+        requires loads { item_load_count (tree_of program.now) (printed_of item.now) ≤ length
+            (drop at.old given.now.loaded.now) }
+        ensures text { OnOk result (self.new.bytes ≡ self.old.bytes
+            ++ item_text (tree_of program.now) given.now.loops.now (printed_of item.now)
+            (drop at.old given.now.loaded.now)) }
+        ensures rest { OnOk result (drop at.new given.now.loaded.now
+            ≡ drop (item_load_count (tree_of program.now) (printed_of item.now))
+            (drop at.old given.now.loaded.now)) }
+        ensures fits { length self.old.bytes + longest_item (tree_of program.now)
+            (printed_of item.now) ≤ self.old.room → IsOk result }
+        ensures grown { length self.new.bytes ≤ length self.old.bytes + longest_item
+            (tree_of program.now) (printed_of item.now) }
         ensures room { self.old.room ≤ self.new.room }
     {
         match item {
@@ -75,11 +90,18 @@ impl Output {
         requires formed { IsWellFormed (tree_of program.now) }
         requires low { 1 ≤ variable }
         requires high { variable ≤ length (tree_of program.now).variables }
-        requires loads { element_count (bounds_of (tree_of program.now) variable) ≤ length (drop at.old given.now.loaded.now) }
-        ensures text { OnOk result (self.new.bytes ≡ self.old.bytes ++ flat_map number_text (take (element_count (bounds_of (tree_of program.now) variable)) (drop at.old given.now.loaded.now))) }
-        ensures rest { OnOk result (drop at.new given.now.loaded.now ≡ drop (element_count (bounds_of (tree_of program.now) variable)) (drop at.old given.now.loaded.now)) }
-        ensures fits { length self.old.bytes + 21 * element_count (bounds_of (tree_of program.now) variable) ≤ self.old.room → IsOk result }
-        ensures grown { length self.new.bytes ≤ length self.old.bytes + 21 * element_count (bounds_of (tree_of program.now) variable) }
+        requires loads { element_count (bounds_of (tree_of program.now) variable) ≤ length
+            (drop at.old given.now.loaded.now) }
+        ensures text { OnOk result (self.new.bytes ≡ self.old.bytes
+            ++ flat_map number_text (take (element_count (bounds_of (tree_of program.now) variable))
+            (drop at.old given.now.loaded.now))) }
+        ensures rest { OnOk result (drop at.new given.now.loaded.now
+            ≡ drop (element_count (bounds_of (tree_of program.now) variable))
+            (drop at.old given.now.loaded.now)) }
+        ensures fits { length self.old.bytes + 21 * element_count
+            (bounds_of (tree_of program.now) variable) ≤ self.old.room → IsOk result }
+        ensures grown { length self.new.bytes ≤ length self.old.bytes + 21 * element_count
+            (bounds_of (tree_of program.now) variable) }
         ensures room { self.old.room ≤ self.new.room }
     {
         let count = program.variables[variable as usize - 1].element_count() as usize;
@@ -90,8 +112,10 @@ impl Output {
 
     // Numbers, a blank in front of each.
     fn push_numbers(&mut self, values: &[i64]) -> Result<(), AllocError>
-        ensures text { OnOk result (self.new.bytes ≡ self.old.bytes ++ flat_map number_text values.now) }
-        ensures fits { length self.old.bytes + 21 * length values.now ≤ self.old.room → IsOk result }
+        ensures text { OnOk result (self.new.bytes ≡ self.old.bytes
+            ++ flat_map number_text values.now) }
+        ensures fits { length self.old.bytes + 21 * length values.now ≤ self.old.room
+            → IsOk result }
         ensures grown { length self.new.bytes ≤ length self.old.bytes + 21 * length values.now }
         ensures room { self.old.room ≤ self.new.room }
     {

@@ -18,7 +18,8 @@ pub(crate) fn load(
     loaded: &mut Vec<i64>,
 ) -> Result<(), AllocError>
     requires { IsTrue (list_all (is_load_within (length memory.now) values.now) loads.now) }
-    ensures { OnOk result (loaded.new.items ≡ map (cell_value memory.now) (flat_map (cells_of_load values.now) loads.now)) }
+    ensures { OnOk result (loaded.new.items
+        ≡ map (cell_value memory.now) (flat_map (cells_of_load values.now) loads.now)) }
 {
     loaded.clear();
     for cells in loads {
@@ -35,7 +36,8 @@ fn push_loaded(
     loaded: &mut Vec<i64>,
 ) -> Result<(), AllocError>
     requires { IsTrue (is_load_within (length memory.now) values.now cells.now) }
-    ensures { OnOk result (loaded.new.items ≡ loaded.old.items ++ map (cell_value memory.now) (cells_of_load values.now cells.now)) }
+    ensures { OnOk result (loaded.new.items ≡ loaded.old.items
+        ++ map (cell_value memory.now) (cells_of_load values.now cells.now)) }
 {
     match cells {
         LoadCells::Element(form) => {
@@ -60,7 +62,8 @@ pub(crate) fn load_firsts(
 )
     requires there { IsTrue (list_all (is_first_within (length memory.now) values.now) loads.now) }
     requires room { length loads.now ≤ length registers.old }
-    ensures loaded { take (length loads.now) registers.new ≡ map (λ l. cell_value memory.now (first_of_load values.now l)) loads.now }
+    ensures loaded { take (length loads.now) registers.new
+        ≡ map (λ l. cell_value memory.now (first_of_load values.now l)) loads.now }
     ensures room { length registers.new ≡ length registers.old }
 {
     for (k, load) in loads.iter().enumerate() {
@@ -71,9 +74,11 @@ pub(crate) fn load_firsts(
 // What the cells of lines hold where their loop has this value, into the first registers.
 #[inline(always)]
 pub(crate) fn load_lines(memory: &[i64], lines: &[Line], value: i64, registers: &mut [i64])
-    requires there { IsTrue (list_all (λ line. nat_lt (cell_on line value) (length memory.now)) lines.now) }
+    requires there { IsTrue
+        (list_all (λ line. nat_lt (cell_on line value) (length memory.now)) lines.now) }
     requires room { length lines.now ≤ length registers.old }
-    ensures loaded { take (length lines.now) registers.new ≡ map (λ line. cell_value memory.now (cell_on line value)) lines.now }
+    ensures loaded { take (length lines.now) registers.new
+        ≡ map (λ line. cell_value memory.now (cell_on line value)) lines.now }
     ensures room { length registers.new ≡ length registers.old }
 {
     for (k, line) in lines.iter().enumerate() {

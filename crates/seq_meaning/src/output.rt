@@ -50,6 +50,14 @@ impl Output {
         self.bytes.as_slice()
     }
 
+    /// The vector of the bytes. It takes no memory.
+    pub fn into_bytes(self) -> Vec<u8>
+        ensures { result.items ≡ self.bytes }
+    {
+        let Output { bytes } = self;
+        bytes
+    }
+
     /// One blank and a number, which takes at most 21 bytes. Where memory runs out the bytes are
     /// what they were.
     pub fn push_number(&mut self, value: i64) -> Result<(), AllocError>
@@ -67,7 +75,8 @@ impl Output {
     pub fn push_text(&mut self, characters: &[u8]) -> Result<(), AllocError>
         ensures ok { OnOk result (self.new.bytes ≡ self.old.bytes ++ 32 ∷ characters.now) }
         ensures err { OnErr result (self.new.bytes ≡ self.old.bytes) }
-        ensures fits { length self.old.bytes + (length characters.now + 1) ≤ self.old.room → IsOk result }
+        ensures fits { length self.old.bytes + (length characters.now + 1) ≤ self.old.room
+            → IsOk result }
         ensures room { self.old.room ≤ self.new.room }
     {
         self.bytes.reserve(characters.len() + 1)?;

@@ -67,7 +67,8 @@ impl<'a> Run<'a> {
         requires limits { IsWithinLimits (tree_of program.now) }
         ensures ready { IfOk result (λ run. IsReady run) }
         ensures program { IfOk result (λ run. run.program.now ≡ program.now) }
-        ensures memory { IfOk result (λ run. run.memory.items ≡ first_memory (tree_of program.now)) }
+        ensures memory { IfOk result (λ run. run.memory.items
+            ≡ first_memory (tree_of program.now)) }
         ensures output { IfOk result (λ run. run.output.bytes ≡ []) }
     {
         let mut params = Vec::with_capacity(alloc, program.params.len())?;
@@ -99,11 +100,16 @@ impl<'a> Run<'a> {
         requires formed { IsWellFormed (tree_of self.old.program.now) }
         requires ready { IsReady self.old }
         requires walked { instances_tree instances ≡ (tree_of self.old.program.now) }
-        requires inside { IsTrue (list_all (is_instance_inside (tree_of self.old.program.now)) (instances_left instances)) }
+        requires inside { IsTrue (list_all (is_instance_inside (tree_of self.old.program.now))
+            (instances_left instances)) }
         ensures ready { OnOk result (IsReady self.new) }
         ensures program { OnOk result (self.new.program.now ≡ self.old.program.now) }
-        ensures memory { OnOk result (self.new.memory.items ≡ fold (memory_after (tree_of self.old.program.now)) self.old.memory.items (instances_left instances.entry)) }
-        ensures output { OnOk result (self.new.output.bytes ≡ self.old.output.bytes ++ output_from (tree_of self.old.program.now) self.old.memory.items (instances_left instances.entry)) }
+        ensures memory { OnOk result (self.new.memory.items
+            ≡ fold (memory_after (tree_of self.old.program.now)) self.old.memory.items
+            (instances_left instances.entry)) }
+        ensures output { OnOk result (self.new.output.bytes ≡ self.old.output.bytes
+            ++ output_from (tree_of self.old.program.now) self.old.memory.items
+            (instances_left instances.entry)) }
     {
         let mut left = instances;
         'rest: loop {
@@ -123,11 +129,16 @@ impl<'a> Run<'a> {
         requires formed { IsWellFormed (tree_of self.old.program.now) }
         requires ready { IsReady self.old }
         requires walked { strip_tree strip ≡ tree_of self.old.program.now }
-        requires inside { IsTrue (list_all (is_instance_inside (tree_of self.old.program.now)) (strip_left strip)) }
+        requires inside { IsTrue (list_all (is_instance_inside (tree_of self.old.program.now))
+            (strip_left strip)) }
         ensures ready { IsReady self.new }
         ensures program { self.new.program.now ≡ self.old.program.now }
-        ensures memory { self.new.memory.items ≡ fold (memory_after (tree_of self.old.program.now)) self.old.memory.items (strip_left strip.entry) }
-        ensures output { self.new.output.bytes ≡ self.old.output.bytes ++ output_from (tree_of self.old.program.now) self.old.memory.items (strip_left strip.entry) }
+        ensures memory { self.new.memory.items
+            ≡ fold (memory_after (tree_of self.old.program.now)) self.old.memory.items
+            (strip_left strip.entry) }
+        ensures output { self.new.output.bytes ≡ self.old.output.bytes
+            ++ output_from (tree_of self.old.program.now) self.old.memory.items
+            (strip_left strip.entry) }
     {
         let mut left = strip;
         let path = left.path();
@@ -155,12 +166,15 @@ impl<'a> Run<'a> {
         requires formed { IsWellFormed (tree_of self.old.program.now) }
         requires ready { IsReady self.old }
         requires written { IsWritten self.old (rounds_of path.now) }
-        requires placed { IsPlacedWork (tree_of self.old.program.now) (rounds_of path.now) stop.first (statement_of stop.item.now) }
+        requires placed { IsPlacedWork (tree_of self.old.program.now)
+            (rounds_of path.now) stop.first (statement_of stop.item.now) }
         requires statement { (a : Assignment) × (statement_of stop.item.now ≡ work (assign a)) }
         ensures ready { IsReady self.new }
         ensures program { self.new.program.now ≡ self.old.program.now }
         ensures loops { self.new.loops.items ≡ self.old.loops.items }
-        ensures memory { (w : Work) → statement_of stop.entry.item.now ≡ work w → self.new.memory.items ≡ memory_behind (tree_of self.old.program.now) (loops_in (tree_of self.old.program.now) (rounds_of path.now)) w self.old.memory.items }
+        ensures memory { (w : Work) → statement_of stop.entry.item.now ≡ work w
+            → self.new.memory.items ≡ memory_behind (tree_of self.old.program.now)
+            (loops_in (tree_of self.old.program.now) (rounds_of path.now)) w self.old.memory.items }
         ensures output { self.new.output.bytes ≡ self.old.output.bytes }
     {
         let cells = self.table.work(stop.first);
@@ -181,11 +195,19 @@ impl<'a> Run<'a> {
     fn execute(&mut self, stop: Stop, path: &Path) -> Result<(), AllocError>
         requires formed { IsWellFormed (tree_of self.old.program.now) }
         requires ready { IsReady self.old }
-        requires placed { IsPlacedWork (tree_of self.old.program.now) (rounds_of path.now) stop.first (statement_of stop.item.now) }
+        requires placed { IsPlacedWork (tree_of self.old.program.now)
+            (rounds_of path.now) stop.first (statement_of stop.item.now) }
         ensures ready { OnOk result (IsReady self.new) }
         ensures program { OnOk result (self.new.program.now ≡ self.old.program.now) }
-        ensures memory { OnOk result ((w : Work) → statement_of stop.entry.item.now ≡ work w → self.new.memory.items ≡ memory_behind (tree_of self.old.program.now) (loops_in (tree_of self.old.program.now) (rounds_of path.now)) w self.old.memory.items) }
-        ensures output { OnOk result ((w : Work) → statement_of stop.entry.item.now ≡ work w → self.new.output.bytes ≡ self.old.output.bytes ++ printed_behind (tree_of self.old.program.now) (loops_in (tree_of self.old.program.now) (rounds_of path.now)) w self.old.memory.items) }
+        ensures memory { OnOk result ((w : Work) → statement_of stop.entry.item.now ≡ work w
+            → self.new.memory.items ≡ memory_behind (tree_of self.old.program.now)
+            (loops_in (tree_of self.old.program.now)
+            (rounds_of path.now)) w self.old.memory.items) }
+        ensures output { OnOk result ((w : Work) → statement_of stop.entry.item.now ≡ work w
+            → self.new.output.bytes ≡ self.old.output.bytes
+            ++ printed_behind (tree_of self.old.program.now)
+            (loops_in (tree_of self.old.program.now)
+            (rounds_of path.now)) w self.old.memory.items) }
     {
         path.write_to(&mut self.loops);
         match stop.item {

@@ -15,7 +15,8 @@ use nest_tree::Expr;
 /// Loops and named constants have these values by number, from 1; the expression's loads gave
 /// what `loaded` begins with, in text order.
 pub fn eval(e: &Expr, loops: &[i64], params: &[i64], loaded: &[i64]) -> i64
-    requires valued { IsTrue (has_value (length loops.now) (length params.now) (expression_of e.now)) }
+    requires valued { IsTrue (has_value (length loops.now) (length params.now)
+        (expression_of e.now)) }
     requires loads { length (loads_in (expression_of e.now)) ≤ length loaded.now }
     ensures { result ≡ value_of (expression_of e.now) loops.now params.now loaded.now }
 {
@@ -40,10 +41,15 @@ impl Given<'_> {
     // The value of an expression whose loads gave what stands from `at` on, which moves past them.
     #[cycle(value)]
     pub(crate) fn value(&self, e: &Expr, at: &mut usize) -> i64
-        requires valued { IsTrue (has_value (length self.now.loops.now) (length self.now.params.now) (expression_of e.now)) }
-        requires loads { length (loads_in (expression_of e.now)) ≤ length (drop at.old self.now.loaded.now) }
-        ensures value { result ≡ value_of (expression_of e.now) self.now.loops.now self.now.params.now (drop at.old self.now.loaded.now) }
-        ensures rest { drop at.new self.now.loaded.now ≡ drop (length (loads_in (expression_of e.now))) (drop at.old self.now.loaded.now) }
+        requires valued { IsTrue (has_value (length self.now.loops.now) (length self.now.params.now)
+            (expression_of e.now)) }
+        requires loads { length (loads_in (expression_of e.now)) ≤ length
+            (drop at.old self.now.loaded.now) }
+        ensures value { result
+            ≡ value_of (expression_of e.now) self.now.loops.now self.now.params.now
+            (drop at.old self.now.loaded.now) }
+        ensures rest { drop at.new self.now.loaded.now
+            ≡ drop (length (loads_in (expression_of e.now))) (drop at.old self.now.loaded.now) }
     {
         match e {
             Expr::Number(n) => *n,
@@ -73,10 +79,15 @@ impl Given<'_> {
     #[cycle(value)]
     #[inline(always)]
     fn operand(&self, e: &Expr, at: &mut usize) -> i64
-        requires valued { IsTrue (has_value (length self.now.loops.now) (length self.now.params.now) (expression_of e.now)) }
-        requires loads { length (loads_in (expression_of e.now)) ≤ length (drop at.old self.now.loaded.now) }
-        ensures value { result ≡ value_of (expression_of e.now) self.now.loops.now self.now.params.now (drop at.old self.now.loaded.now) }
-        ensures rest { drop at.new self.now.loaded.now ≡ drop (length (loads_in (expression_of e.now))) (drop at.old self.now.loaded.now) }
+        requires valued { IsTrue (has_value (length self.now.loops.now) (length self.now.params.now)
+            (expression_of e.now)) }
+        requires loads { length (loads_in (expression_of e.now)) ≤ length
+            (drop at.old self.now.loaded.now) }
+        ensures value { result
+            ≡ value_of (expression_of e.now) self.now.loops.now self.now.params.now
+            (drop at.old self.now.loaded.now) }
+        ensures rest { drop at.new self.now.loaded.now
+            ≡ drop (length (loads_in (expression_of e.now))) (drop at.old self.now.loaded.now) }
     {
         match e {
             Expr::Number(n) => *n,
@@ -91,10 +102,17 @@ impl Given<'_> {
     #[cycle(value)]
     fn least(&self, arguments: &[Expr], at: &mut usize) -> i64
         requires some { 0 < length arguments.now }
-        requires valued { IsTrue (have_values (length self.now.loops.now) (length self.now.params.now) (expressions_from arguments.now)) }
-        requires loads { length (loads_among (expressions_from arguments.now)) ≤ length (drop at.old self.now.loaded.now) }
-        ensures value { result ≡ least (values_of (expressions_from arguments.now) self.now.loops.now self.now.params.now (drop at.old self.now.loaded.now)) }
-        ensures rest { drop at.new self.now.loaded.now ≡ drop (length (loads_among (expressions_from arguments.now))) (drop at.old self.now.loaded.now) }
+        requires valued { IsTrue (have_values (length self.now.loops.now)
+            (length self.now.params.now) (expressions_from arguments.now)) }
+        requires loads { length (loads_among (expressions_from arguments.now)) ≤ length
+            (drop at.old self.now.loaded.now) }
+        ensures value { result
+            ≡ least
+            (values_of (expressions_from arguments.now) self.now.loops.now self.now.params.now
+            (drop at.old self.now.loaded.now)) }
+        ensures rest { drop at.new self.now.loaded.now
+            ≡ drop (length (loads_among (expressions_from arguments.now)))
+            (drop at.old self.now.loaded.now) }
     {
         let mut best = self.value(&arguments[0], at);
         for e in &arguments[1..] {
@@ -107,10 +125,17 @@ impl Given<'_> {
     #[cycle(value)]
     fn greatest(&self, arguments: &[Expr], at: &mut usize) -> i64
         requires some { 0 < length arguments.now }
-        requires valued { IsTrue (have_values (length self.now.loops.now) (length self.now.params.now) (expressions_from arguments.now)) }
-        requires loads { length (loads_among (expressions_from arguments.now)) ≤ length (drop at.old self.now.loaded.now) }
-        ensures value { result ≡ greatest (values_of (expressions_from arguments.now) self.now.loops.now self.now.params.now (drop at.old self.now.loaded.now)) }
-        ensures rest { drop at.new self.now.loaded.now ≡ drop (length (loads_among (expressions_from arguments.now))) (drop at.old self.now.loaded.now) }
+        requires valued { IsTrue (have_values (length self.now.loops.now)
+            (length self.now.params.now) (expressions_from arguments.now)) }
+        requires loads { length (loads_among (expressions_from arguments.now)) ≤ length
+            (drop at.old self.now.loaded.now) }
+        ensures value { result
+            ≡ greatest
+            (values_of (expressions_from arguments.now) self.now.loops.now self.now.params.now
+            (drop at.old self.now.loaded.now)) }
+        ensures rest { drop at.new self.now.loaded.now
+            ≡ drop (length (loads_among (expressions_from arguments.now)))
+            (drop at.old self.now.loaded.now) }
     {
         let mut best = self.value(&arguments[0], at);
         for e in &arguments[1..] {

@@ -8,8 +8,8 @@ use Rattle.sync_plan.specs.declared.plan.Plan.{Plan}
 use Rattle.spmd_model.specs.declared.style.Style.{Style}
 use Rattle.fork_join.specs.Ends as join
 use Rattle.spmd_machine.specs.Ends as core
-use Rattle.styled_table.specs.Ends as spmd
-use Rattle.styled_table.specs.Homes.{style_given}
+use Rattle.shared_words.specs.Ends as spmd
+use Rattle.shared_words.specs.Homes.{style_given}
 use Rattle.command_words.specs.declared.request.Engine.{Engine}
 use Rattle.command_words.specs.declared.request.Engine.TheVariants.{Core, Join, Spmd}
 use Rattle.spmd_answer.specs.Ends.{without_style}

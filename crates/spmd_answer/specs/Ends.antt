@@ -4,8 +4,8 @@ use Rattle.nest_tree.specs.declared.tree.Program.{Program}
 use Rattle.sync_plan.specs.declared.plan.Plan.{Plan}
 use Rattle.spmd_machine.specs.Ends as core
 use Rattle.fork_join.specs.Ends as join
-use Rattle.styled_table.specs.Ends as spmd
-use Rattle.styled_table.specs.Homes.{Subject, style_given}
+use Rattle.shared_words.specs.Ends as spmd
+use Rattle.shared_words.specs.Homes.{Subject, style_given}
 use Rattle.command_words.specs.declared.request.Engine.{Engine}
 use Rattle.command_words.specs.declared.request.Engine.TheVariants.{Core, Join, Spmd}
 use Rattle.spmd_answer.specs.declared.receipt.Receipt.{Receipt}

@@ -45,8 +45,10 @@ pub fn answer_to<R: Threads + Sync, G: Gate + Sync>(
 ) -> Result<(Answer, Option<Receipt>), AllocError>
     requires short { length bytes.now ≤ MOST_BYTES }
     requires counted { IsCounted (wanted request.now) }
-    ensures due { IfOk result (λ r. IsDueOf (wanted request.now) (map setting_of settings.now) bytes.now (due_in r.0)) }
-    ensures receipt { IfOk result (λ r. HasReceiptOf (wanted request.now) (map setting_of settings.now) bytes.now (due_in r.0) r.1) }
+    ensures due { IfOk result
+        (λ r. IsDueOf (wanted request.now) (map setting_of settings.now) bytes.now (due_in r.0)) }
+    ensures receipt { IfOk result (λ r. HasReceiptOf (wanted request.now)
+        (map setting_of settings.now) bytes.now (due_in r.0) r.1) }
 {
     let given = settings_for(host.alloc, request, settings)?;
     match program_of(host.alloc, bytes, &given, behind_of(request)) {
@@ -97,8 +99,10 @@ pub fn answer_on<R: Threads + Sync, G: Gate + Sync>(
     requires formed { IsWellFormed (tree_of program.now) }
     requires limits { IsWithinLimits (tree_of program.now) }
     requires ranges { IsInRange (tree_of program.now) }
-    ensures due { IfOk result (λ r. IsDueOn (wanted request.now) (tree_of program.now) (readings_of input.now) input.now.behind.now (due_in r.0)) }
-    ensures receipt { IfOk result (λ r. HasReceipt (wanted request.now) (tree_of program.now) input.now.behind.now (due_in r.0) r.1) }
+    ensures due { IfOk result (λ r. IsDueOn (wanted request.now) (tree_of program.now)
+        (readings_of input.now) input.now.behind.now (due_in r.0)) }
+    ensures receipt { IfOk result (λ r. HasReceipt (wanted request.now)
+        (tree_of program.now) input.now.behind.now (due_in r.0) r.1) }
 {
     match request {
         Request::Sequential(_) => sequential_run(host.alloc, program),
@@ -123,8 +127,12 @@ fn planned_run<R: Threads + Sync, G: Gate + Sync>(
     requires formed { IsWellFormed (tree_of program.now) }
     requires limits { IsWithinLimits (tree_of program.now) }
     requires ranges { IsInRange (tree_of program.now) }
-    ensures due { (settings : List Text) (at : Readings) → IfOk result (λ r. IsDueOn (run asked.workers asked.choice asked.engine settings) (tree_of program.now) at bytes.now (due_in r.0)) }
-    ensures receipt { (settings : List Text) → IfOk result (λ r. HasReceipt (run asked.workers asked.choice asked.engine settings) (tree_of program.now) bytes.now (due_in r.0) r.1) }
+    ensures due { (settings : List Text) (at : Readings)
+        → IfOk result (λ r. IsDueOn (run asked.workers asked.choice asked.engine settings)
+        (tree_of program.now) at bytes.now (due_in r.0)) }
+    ensures receipt { (settings : List Text)
+        → IfOk result (λ r. HasReceipt (run asked.workers asked.choice asked.engine settings)
+        (tree_of program.now) bytes.now (due_in r.0) r.1) }
 {
     match plan_for(host, program, bytes, asked) {
         Ok(plan) => {
@@ -146,8 +154,12 @@ fn benched<R: Threads + Sync, G: Gate + Sync>(
     requires formed { IsWellFormed (tree_of program.now) }
     requires limits { IsWithinLimits (tree_of program.now) }
     requires ranges { IsInRange (tree_of program.now) }
-    ensures due { (at : Readings) (bytes : List ℕ) → IfOk result (λ r. IsDueOn (bench sizes.workers sizes.points sizes.sweeps) (tree_of program.now) at bytes (due_in r.0)) }
-    ensures receipt { (bytes : List ℕ) → IfOk result (λ r. HasReceipt (bench sizes.workers sizes.points sizes.sweeps) (tree_of program.now) bytes (due_in r.0) r.1) }
+    ensures due { (at : Readings) (bytes : List ℕ)
+        → IfOk result (λ r. IsDueOn (bench sizes.workers sizes.points sizes.sweeps)
+        (tree_of program.now) at bytes (due_in r.0)) }
+    ensures receipt { (bytes : List ℕ)
+        → IfOk result (λ r. HasReceipt (bench sizes.workers sizes.points sizes.sweeps)
+        (tree_of program.now) bytes (due_in r.0) r.1) }
 {
     let (text, receipt) = bench_run(host, program, sizes)?;
     Ok((done(text), Some(receipt)))
@@ -167,8 +179,12 @@ fn sequential_run(alloc: Global, program: &Program) -> Result<(Answer, Option<Re
     requires formed { IsWellFormed (tree_of program.now) }
     requires limits { IsWithinLimits (tree_of program.now) }
     requires ranges { IsInRange (tree_of program.now) }
-    ensures due { (settings : List Text) (at : Readings) (bytes : List ℕ) → IfOk result (λ r. IsDueOn (sequential settings) (tree_of program.now) at bytes (due_in r.0)) }
-    ensures receipt { (settings : List Text) (bytes : List ℕ) → IfOk result (λ r. HasReceipt (sequential settings) (tree_of program.now) bytes (due_in r.0) r.1) }
+    ensures due { (settings : List Text) (at : Readings) (bytes : List ℕ)
+        → IfOk result (λ r. IsDueOn (sequential settings) (tree_of program.now) at bytes
+        (due_in r.0)) }
+    ensures receipt { (settings : List Text) (bytes : List ℕ)
+        → IfOk result (λ r. HasReceipt (sequential settings) (tree_of program.now) bytes
+        (due_in r.0) r.1) }
 {
     Ok((done(sequential_output(alloc, program)?), None))
 }
@@ -183,8 +199,12 @@ fn verified<R: Threads + Sync>(
     requires short { length bytes.now ≤ MOST_BYTES }
     requires formed { IsWellFormed (tree_of program.now) }
     requires limits { IsWithinLimits (tree_of program.now) }
-    ensures due { (settings : List Text) (at : Readings) → IfOk result (λ r. IsDueOn (verify settings) (tree_of program.now) at bytes.now (due_in r.0)) }
-    ensures receipt { (settings : List Text) → IfOk result (λ r. HasReceipt (verify settings) (tree_of program.now) bytes.now (due_in r.0) r.1) }
+    ensures due { (settings : List Text) (at : Readings)
+        → IfOk result (λ r. IsDueOn (verify settings) (tree_of program.now) at bytes.now
+        (due_in r.0)) }
+    ensures receipt { (settings : List Text)
+        → IfOk result (λ r. HasReceipt (verify settings) (tree_of program.now) bytes.now
+        (due_in r.0) r.1) }
 {
     match given_plan(rt, alloc, program, bytes, None) {
         Ok(_) => Ok((accepted(alloc)?, None)),
@@ -208,8 +228,12 @@ fn made_plan(
     requires limits { IsWithinLimits (tree_of program.now) }
     requires some { 1 ≤ workers }
     requires few { workers ≤ 64 }
-    ensures due { (settings : List Text) (at : Readings) (bytes : List ℕ) → IfOk result (λ r. IsDueOn (planned workers settings) (tree_of program.now) at bytes (due_in r.0)) }
-    ensures receipt { (settings : List Text) (bytes : List ℕ) → IfOk result (λ r. HasReceipt (planned workers settings) (tree_of program.now) bytes (due_in r.0) r.1) }
+    ensures due { (settings : List Text) (at : Readings) (bytes : List ℕ)
+        → IfOk result (λ r. IsDueOn (planned workers settings) (tree_of program.now) at bytes
+        (due_in r.0)) }
+    ensures receipt { (settings : List Text) (bytes : List ℕ)
+        → IfOk result (λ r. HasReceipt (planned workers settings) (tree_of program.now) bytes
+        (due_in r.0) r.1) }
 {
     let (plan, reasons) = make(alloc, program, workers)?;
     Ok((done(text_of_plan(alloc, program, &plan, &reasons)?), None))

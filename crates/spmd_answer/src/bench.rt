@@ -49,7 +49,9 @@ pub fn bench_run<R: Threads + Sync, G: Gate + Sync>(
     requires ranges { IsInRange (tree_of program.now) }
     requires some { 1 ≤ bench.workers }
     requires few { bench.workers ≤ 64 }
-    ensures { (bytes : List ℕ) → IfOk result (λ r. IsReceiptOf (wanted.bench bench.workers bench.points bench.sweeps) (tree_of program.now) bytes r.0.items r.1) }
+    ensures { (bytes : List ℕ)
+        → IfOk result (λ r. IsReceiptOf (wanted.bench bench.workers bench.points bench.sweeps)
+        (tree_of program.now) bytes r.0.items r.1) }
 {
     let (plan, _) = make(host.alloc, program, bench.workers)?;
     let head = bench_head(host.alloc, bench, &plan)?;
@@ -59,7 +61,8 @@ pub fn bench_run<R: Threads + Sync, G: Gate + Sync>(
 
 /// The sizes, and how many waits of each kind a plan has. The error is that memory ran out.
 pub fn bench_head(alloc: Global, bench: Bench, plan: &Plan) -> Result<Vec<u8>, AllocError>
-    ensures { IfOk result (λ t. t.items ≡ texts.bench_head bench.workers bench.points bench.sweeps plan.now) }
+    ensures { IfOk result (λ t. t.items
+        ≡ texts.bench_head bench.workers bench.points bench.sweeps plan.now) }
 {
     let Bench {
         workers,

@@ -58,7 +58,8 @@ pub fn plan_in(alloc: Global, bytes: &[u8]) -> Result<Plan, Stop>
     requires short { length bytes.now ≤ MOST_BYTES }
     ensures shown { IfOk result HasText }
     ensures bytes { IfOk result (λ plan. bytes.now ≡ plan_text plan) }
-    ensures refused { (reason_of : Plan → Option PlanRefusal) → IfErr result (IsStopBy reason_of bytes.now) }
+    ensures refused { (reason_of : Plan → Option PlanRefusal)
+        → IfErr result (IsStopBy reason_of bytes.now) }
 {
     match read_plan(alloc, bytes) {
         Ok(plan) => Ok(plan),
@@ -79,7 +80,8 @@ fn check_asked<R: Threads + Sync>(
     requires limits { IsWithinLimits (tree_of program.now) }
     ensures workers { OnOk result (HasWorkers asked plan.now) }
     ensures accepted { OnOk result (IsAccepted (tree_of program.now) plan.now) }
-    ensures refused { IfErr result (λ reason. reason ≢ reasons.NoMemory → first_reason asked (tree_of program.now) plan.now ≡ Some reason) }
+    ensures refused { IfErr result (λ reason. reason ≢ reasons.NoMemory
+        → first_reason asked (tree_of program.now) plan.now ≡ Some reason) }
 {
     match asked {
         Some(workers) if workers != plan.workers => Err(PlanRefusal::Shape(1)),

@@ -42,11 +42,14 @@ pub fn plan_for<R: Threads + Sync, G>(
     requires ranges { IsInRange (tree_of program.now) }
     requires some { 1 ≤ asked.workers }
     requires few { asked.workers ≤ 64 }
-    ensures plan { IfOk result (IsPlanFor asked.choice asked.workers (tree_of program.now) bytes.now) }
+    ensures plan { IfOk result (IsPlanFor asked.choice asked.workers
+        (tree_of program.now) bytes.now) }
     ensures fits { IfOk result (IsFit (tree_of program.now)) }
     ensures ordered { IfOk result (IsOrdered (tree_of program.now)) }
     ensures counts { IfOk result HasCounts }
-    ensures refused { (settings : List Text) → IfErr result (IsStopFor (run asked.workers asked.choice asked.engine settings) (tree_of program.now) bytes.now) }
+    ensures refused { (settings : List Text)
+        → IfErr result (IsStopFor (run asked.workers asked.choice asked.engine settings)
+        (tree_of program.now) bytes.now) }
 {
     let workers = asked.workers;
     match asked.choice {

@@ -38,14 +38,17 @@ pub fn program_of(
     behind: Behind,
 ) -> Result<(Program, usize), Stop>
     requires short { length bytes.now ≤ MOST_BYTES }
-    ensures none { OnOk result (due_of_refusal behind bytes.now (map setting_of settings.now) ≡ None) }
-    ensures program { IfOk result (λ r. tree_of r.0 ≡ program_in (entries_of bytes.now) (map setting_of settings.now)) }
+    ensures none { OnOk result (due_of_refusal behind bytes.now (map setting_of settings.now)
+        ≡ None) }
+    ensures program { IfOk result (λ r. tree_of r.0
+        ≡ program_in (entries_of bytes.now) (map setting_of settings.now)) }
     ensures rest { IfOk result (λ r. r.1 ≡ size_to_end (columns.lines_of bytes.now)) }
     ensures within { IfOk result (λ r. r.1 ≤ length bytes.now) }
     ensures formed { IfOk result (λ r. IsWellFormed (tree_of r.0)) }
     ensures limits { IfOk result (λ r. IsWithinLimits (tree_of r.0)) }
     ensures ranges { IfOk result (λ r. IsInRange (tree_of r.0)) }
-    ensures refused { IfErr result (IsStop (due_of_refusal behind bytes.now (map setting_of settings.now))) }
+    ensures refused { IfErr result
+        (IsStop (due_of_refusal behind bytes.now (map setting_of settings.now))) }
 {
     let (lines, rest) = lines_of(alloc, bytes, behind)?;
     let program = read(alloc, &lines, settings, behind)?;
@@ -60,10 +63,15 @@ fn read(
     settings: &[Setting],
     behind: Behind,
 ) -> Result<Program, Stop>
-    ensures none { OnOk result (first_fault_in (map entry_of lines.now) (map setting_of settings.now) ≡ None) }
-    ensures program { IfOk result (λ p. tree_of p ≡ program_in (map entry_of lines.now) (map setting_of settings.now)) }
-    ensures formed { (bytes : List ℕ) (rest : ℕ) → Lists bytes (map entry_of lines.now) rest → IfOk result (λ p. IsWellFormed (tree_of p)) }
-    ensures refused { IfErr result (IsStop (option_map (due_of_fault behind) (first_fault_in (map entry_of lines.now) (map setting_of settings.now)))) }
+    ensures none { OnOk result (first_fault_in (map entry_of lines.now)
+        (map setting_of settings.now) ≡ None) }
+    ensures program { IfOk result (λ p. tree_of p ≡ program_in (map entry_of lines.now)
+        (map setting_of settings.now)) }
+    ensures formed { (bytes : List ℕ) (rest : ℕ) → Lists bytes (map entry_of lines.now) rest
+        → IfOk result (λ p. IsWellFormed (tree_of p)) }
+    ensures refused { IfErr result
+        (IsStop (option_map (due_of_fault behind) (first_fault_in (map entry_of lines.now)
+        (map setting_of settings.now)))) }
 {
     match read_program(alloc, lines, settings) {
         Ok(program) => Ok(program),

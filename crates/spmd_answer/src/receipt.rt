@@ -4,8 +4,8 @@ ghost use Rattle.std.specs.Prelude.{◌≡◌};
 ghost use Rattle.spmd_answer.specs.Ends.{HasEnded, memory_in};
 
 use fork_join::Receipt as JoinReceipt;
+use shared_words::Receipt as SpmdReceipt;
 use spmd_machine::Receipt as CoreReceipt;
-use styled_table::Receipt as SpmdReceipt;
 
 /// That a program was run by a plan: the receipt which the engine that ran it gives at the run's
 /// end, and which nothing else makes.

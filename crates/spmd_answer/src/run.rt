@@ -25,9 +25,9 @@ use seq_meaning::run_sequential;
 use spmd_machine::{Machine, Receipt as CoreReceipt};
 use spmd_model::Style;
 use spmd_ports::Gate;
+use spmd_workers::run_spmd_with;
 use std::alloc::{AllocError, Global};
 use std::thread::Threads;
-use styled_run::run_spmd_with;
 use sync_plan::Plan;
 
 /// What a program prints. The error is that memory ran out.
@@ -38,7 +38,7 @@ pub fn sequential_output(alloc: Global, program: &Program) -> Result<Vec<u8>, Al
     ensures { IfOk result (λ text. text.items ≡ output_of (tree_of program.now)) }
 {
     let (_, output) = run_sequential(alloc, program)?;
-    output.as_slice().to_vec(alloc)
+    Ok(output.into_bytes())
 }
 
 /// The text of a plan, and then the output of the run by it, which is the sequential one; and the
@@ -55,7 +55,8 @@ pub fn text_of_run<R: Threads + Sync, G: Gate + Sync>(
     requires fits { IsFit (tree_of program.now) plan.now }
     requires ordered { IsOrdered (tree_of program.now) plan.now }
     requires counts { HasCounts plan.now }
-    ensures text { IfOk result (λ r. r.0.items ≡ plan_text plan.now ++ output_of (tree_of program.now)) }
+    ensures text { IfOk result (λ r. r.0.items ≡ plan_text plan.now
+        ++ output_of (tree_of program.now)) }
     ensures receipt { IfOk result (λ r. IsLeftBy engine (tree_of program.now) plan.now r.1) }
 {
     let text = write_plan(host.alloc, plan)?;
@@ -103,7 +104,8 @@ pub fn text_of_plan(
     reasons: &Reasons,
 ) -> Result<Vec<u8>, AllocError>
     requires { HasCounts plan.now }
-    ensures { IfOk result (λ text. text.items ≡ plan_text plan.now ++ reason_text (tree_of program.now) reasons.now) }
+    ensures { IfOk result (λ text. text.items ≡ plan_text plan.now
+        ++ reason_text (tree_of program.now) reasons.now) }
 {
     let mut text = write_plan(alloc, plan)?;
     push_reasons(&mut text, program, reasons)?;
@@ -147,10 +149,7 @@ fn join_run<R: Threads + Sync, G: Gate + Sync>(
     ensures receipt { IfOk result (λ r. IsLeftBy Join (tree_of program.now) plan.now r.1) }
 {
     let (receipt, output) = run_join(host.rt, host.alloc, program, plan, host.gate)?;
-    Ok((
-        output.as_slice().to_vec(host.alloc)?,
-        Receipt::Join(receipt),
-    ))
+    Ok((output.into_bytes(), Receipt::Join(receipt)))
 }
 
 // The same by workers that share words, pass barriers in this style, and pass the gate.
@@ -170,5 +169,5 @@ fn spmd_run<R: Threads + Sync, G: Gate + Sync>(
 {
     let (closed, output) = run_spmd_with(host.rt, host.alloc, program, plan, host.gate, style)?;
     let receipt = Receipt::Spmd(closed.into_receipt());
-    Ok((output.as_slice().to_vec(host.alloc)?, receipt))
+    Ok((output.into_bytes(), receipt))
 }

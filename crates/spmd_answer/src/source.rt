@@ -48,7 +48,8 @@ pub fn behind_of(request: &Request) -> Behind
 /// first line behind END that is no comment; `NoMemory` may stand in place of any answer.
 pub fn lines_of(alloc: Global, bytes: &[u8], behind: Behind) -> Result<(Vec<Line>, usize), Stop>
     requires short { length bytes.now ≤ MOST_BYTES }
-    ensures lists { IfOk result (λ r. Lists bytes.now (map entry_of r.0.items) (size_to_end (columns.lines_of bytes.now))) }
+    ensures lists { IfOk result (λ r. Lists bytes.now (map entry_of r.0.items)
+        (size_to_end (columns.lines_of bytes.now))) }
     ensures rest { IfOk result (λ r. r.1 ≡ size_to_end (columns.lines_of bytes.now)) }
     ensures within { IfOk result (λ r. r.1 ≤ length bytes.now) }
     ensures none { OnOk result (due_of_lines behind bytes.now ≡ None) }

@@ -47,7 +47,8 @@ pub fn settings_for(
     request: &Request,
     settings: &[Setting],
 ) -> Result<Vec<Setting>, AllocError>
-    ensures { IfOk result (λ all. map setting_of all.items ≡ all_settings (wanted request.now) (map setting_of settings.now)) }
+    ensures { IfOk result (λ all. map setting_of all.items ≡ all_settings (wanted request.now)
+        (map setting_of settings.now)) }
 {
     match request {
         Request::Sweep(sweep, _) => settings_at(alloc, sweep, settings, sweep.low),
@@ -63,7 +64,8 @@ fn settings_at(
     settings: &[Setting],
     value: i64,
 ) -> Result<Vec<Setting>, AllocError>
-    ensures { IfOk result (λ all. map setting_of all.items ≡ with_value (sweep_of sweep.now) (map setting_of settings.now) value) }
+    ensures { IfOk result (λ all. map setting_of all.items
+        ≡ with_value (sweep_of sweep.now) (map setting_of settings.now) value) }
 {
     let mut all = copied(alloc, settings)?;
     all.insert(0, setting(alloc, &sweep.name, value)?)?;
@@ -103,7 +105,9 @@ pub fn swept<R: Threads + Sync, G>(
     requires bounds { IsTrue (are_bounds sweep.now.low sweep.now.high) }
     requires formed { IsWellFormed (tree_of program.now) }
     requires limits { IsWithinLimits (tree_of program.now) }
-    ensures { (settings : List Text) → IfOk result (λ a. IsDueOn (wanted_sweep (sweep_of sweep.now) settings) (tree_of program.now) (readings_of input.now) input.now.behind.now (due_in a)) }
+    ensures { (settings : List Text)
+        → IfOk result (λ a. IsDueOn (wanted_sweep (sweep_of sweep.now) settings)
+        (tree_of program.now) (readings_of input.now) input.now.behind.now (due_in a)) }
 {
     let plan = match plan_in(host.alloc, input.behind) {
         Ok(plan) => plan,
@@ -136,7 +140,10 @@ impl Sweeping<'_> {
     fn lines(&self, alloc: Global) -> Result<Vec<u8>, AllocError>
         requires short { length self.now.input.now.bytes.now ≤ MOST_BYTES }
         requires bounds { IsTrue (are_bounds self.now.sweep.now.low self.now.sweep.now.high) }
-        ensures { IfOk result (λ t. t.items ≡ swept_text (tree_of self.now.proven.now.program.now) self.now.proven.now.plan.now (readings_of self.now.input.now (sweep_of self.now.sweep.now)) (sweep_of self.now.sweep.now)) }
+        ensures { IfOk result (λ t. t.items
+            ≡ swept_text (tree_of self.now.proven.now.program.now) self.now.proven.now.plan.now
+            (readings_of self.now.input.now (sweep_of self.now.sweep.now))
+            (sweep_of self.now.sweep.now)) }
     {
         let mut text = Vec::new(alloc);
         for step in 0..count_in(self.sweep) {
@@ -149,7 +156,11 @@ impl Sweeping<'_> {
     // The line of a value.
     fn line_at(&self, alloc: Global, value: i64) -> Result<Vec<u8>, AllocError>
         requires short { length self.now.input.now.bytes.now ≤ MOST_BYTES }
-        ensures { IfOk result (λ t. t.items ≡ value_line (λ v. text_of_reading (tree_of self.now.proven.now.program.now) self.now.proven.now.plan.now (readings_of self.now.input.now (sweep_of self.now.sweep.now) v)) value) }
+        ensures { IfOk result (λ t. t.items
+            ≡ value_line
+            (λ v. text_of_reading
+            (tree_of self.now.proven.now.program.now) self.now.proven.now.plan.now
+            (readings_of self.now.input.now (sweep_of self.now.sweep.now) v)) value) }
     {
         let given = settings_at(alloc, self.sweep, self.input.settings, value)?;
         let text = reading_text(alloc, self.proven, &given, self.input.bytes)?;
@@ -177,7 +188,9 @@ fn reading_text(
     bytes: &[u8],
 ) -> Result<Vec<u8>, AllocError>
     requires short { length bytes.now ≤ MOST_BYTES }
-    ensures { IfOk result (λ t. t.items ≡ text_of_reading (tree_of proven.now.program.now) proven.now.plan.now (reading_with settings.now bytes.now)) }
+    ensures { IfOk result (λ t. t.items
+        ≡ text_of_reading (tree_of proven.now.program.now) proven.now.plan.now
+        (reading_with settings.now bytes.now)) }
 {
     match program_of(alloc, bytes, settings, Behind::SweptPlan) {
         Ok((program, _)) => fit_text(alloc, proven, &program),
@@ -189,7 +202,9 @@ fn reading_text(
 fn fit_text(alloc: Global, proven: &Proven, program: &Program) -> Result<Vec<u8>, AllocError>
     requires formed { IsWellFormed (tree_of program.now) }
     requires limits { IsWithinLimits (tree_of program.now) }
-    ensures { IfOk result (λ t. t.items ≡ text_of_fit (first_unfit (tree_of proven.now.program.now) proven.now.plan.now (tree_of program.now))) }
+    ensures { IfOk result (λ t. t.items
+        ≡ text_of_fit (first_unfit (tree_of proven.now.program.now) proven.now.plan.now
+        (tree_of program.now))) }
 {
     match proven.fits(program) {
         Ok(()) => b"ACCEPTED\n".to_vec(alloc),

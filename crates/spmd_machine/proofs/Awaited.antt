@@ -8,7 +8,7 @@ use Rattle.spmd_model.specs.Deeds.{Deed, awaiting, deed_of}
 use Rattle.spmd_model.specs.Timelines as Timelines
 use Rattle.spmd_model.specs.Timelines.{Act, Word, post, await, load, store, add, print, counter, signal, act_at}
 use Rattle.spmd_model.proofs.Counters.{awaited_post}
-use Rattle.spmd_model.proofs.StyledOrder.{sound_by}
+use Rattle.spmd_model.proofs.MachineOrder.{sound_by}
 use Rattle.styled_turns.specs.StyledTurns.{StyledTurn, waits, styled_deeds}
 use Rattle.styled_turns.specs.StyledLeft.{styled_left, styled_plan, styled_processor, styled_tree}
 use Rattle.spmd_machine.specs.Machines.{IsReady, model_of, plan_in, style_in, tree_in}

@@ -15,7 +15,7 @@ use Rattle.spmd_model.specs.Cells.{plus}
 use Rattle.spmd_model.specs.Closings.{given_first}
 use Rattle.spmd_model.specs.Deeds.{Deed, loading, storing, adding}
 use Rattle.spmd_model.specs.Quiet.{quiet_next}
-use Rattle.spmd_model.specs.StyledDeeds.{keeping_deeds, totalling_deeds}
+use Rattle.spmd_model.specs.MachineDeeds.{keeping_deeds, totalling_deeds}
 use Rattle.styled_turns.specs.StyledTurns.{StyledTurn, closes, close_deeds, scalar_at, styled_deeds}
 use Rattle.styled_turns.specs.StyledLeft.{AreStyled, ShowsClosing, styled_left, styled_plan, styled_processor, styled_style, styled_tree}
 use Rattle.styled_turns.specs.declared.turns.StyledNext.TheVariants.{Close}

@@ -17,9 +17,9 @@ use Rattle.owner_partition.specs.Phases.{phases}
 use Rattle.sync_plan.specs.Fit.{IsFit}
 use Rattle.sync_plan.specs.declared.plan.Plan.{Plan}
 use Rattle.spmd_model.specs.States.{State, first_state}
-use Rattle.spmd_model.specs.Styled.{machine_by}
+use Rattle.spmd_model.specs.Machines.{machine_by}
 use Rattle.spmd_model.specs.declared.style.Style.{Style}
-use Rattle.spmd_model.proofs.StyledDeeds.{styled_deeds as acts_do}
+use Rattle.spmd_model.proofs.MachineDeeds.{styled_deeds as acts_do}
 use Rattle.spmd_turns.specs.Loads.{AreWide, widths}
 use Rattle.spmd_turns.specs.Rooms.{longest_output, turn_room}
 use Rattle.spmd_turns.specs.Turns.{is_turn_inside, turns_from}

@@ -22,8 +22,8 @@ use Rattle.sync_plan.specs.declared.plan.Plan.{Plan}
 use Rattle.spmd_model.specs.Closings.{has_stored, last_owner}
 use Rattle.spmd_model.specs.Deeds.{Deed, awaiting, boundary_deeds, last_deed, loading, owned_by, posting}
 use Rattle.spmd_model.specs.Rounds.{awaited_in_round, rounds_of}
-use Rattle.spmd_model.specs.Styled.{is_by_signals, signal_barriers}
-use Rattle.spmd_model.specs.StyledDeeds.{HasNoOwn, closing_deeds, deeds_by, front_deeds, kept_by, own_deeds, part_deeds, round_deeds, totalled_by}
+use Rattle.spmd_model.specs.Machines.{is_by_signals, signal_barriers}
+use Rattle.spmd_model.specs.MachineDeeds.{HasNoOwn, closing_deeds, deeds_by, front_deeds, kept_by, own_deeds, part_deeds, round_deeds, totalled_by}
 use Rattle.spmd_model.specs.Timelines.{Word, counter}
 use Rattle.spmd_model.specs.declared.style.Style.{Style}
 use Rattle.spmd_model.proofs.NoOwnDeeds.{no_slot}

@@ -10,7 +10,7 @@ use Rattle.nest_tree.specs.Layout.{cell_count}
 use Rattle.nest_tree.specs.Tree.{Tree}
 use Rattle.sync_plan.specs.declared.plan.Plan.{Plan}
 use Rattle.spmd_model.specs.Deeds.{Deed}
-use Rattle.spmd_model.specs.Styled.{machine_by}
+use Rattle.spmd_model.specs.Machines.{machine_by}
 use Rattle.spmd_model.specs.declared.style.Style.{Style}
 use Rattle.spmd_model.specs.States.{State, first_state, stepped}
 use Rattle.spmd_model.specs.Timelines as Timelines

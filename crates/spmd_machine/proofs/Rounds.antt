@@ -1,82 +1,23 @@
 -- A round of turns: it comes nearer to the end, or no turn in it was possible.
-use Rattle.std.proofs.Common.{◌≡◌, ◌≢◌, ℕ, zero, suc, ◌+◌, ◌-◌, ◌<◌, ◌≤◌, Bool, true, false, nat_le, cond, [], ◌∷◌, ◌++◌, List, length, get_or, replicate, set, take, fold, Option, Some, None, refl, sym, ◌∙◌, ap, subst, inl, inr, zero-add, append-nil, below_more, arith}
-use Rattle.std.specs.Prelude.{slice_index, sum_by}
+use Rattle.std.proofs.Common.{◌≡◌, ◌≢◌, ℕ, zero, suc, ◌+◌, ◌<◌, ◌≤◌, Bool, true, false, nat_le, cond, [], ◌∷◌, ◌++◌, List, length, get_or, replicate, take, fold, Option, Some, None, refl, sym, ◌∙◌, ap, subst, inl, inr, zero-add, append-nil, below_more, arith}
+use Rattle.std.specs.Prelude.{slice_index}
 use Rattle.std.specs.List.{range_with_len, flat_map}
-use Rattle.std.proofs.lemmas.Bool.{cases_Bool, cases_eq}
-use Rattle.std.proofs.lemmas.List.{get_or-set_same, get_or-set_other}
-use Rattle.std.proofs.lemmas.List.Sums.{sum_by-cons, fold_push, fold-append}
+use Rattle.std.proofs.lemmas.Bool.{cases_Bool}
+use Rattle.std.proofs.lemmas.List.Sums.{fold_push, fold-append}
 use Rattle.std.proofs.lemmas.List.Concat.{flat_map-append}
 use Rattle.sync_plan.proofs.ProcessorSets.{range_split}
-use Rattle.spmd_model.specs.Ordered.{IsSound}
 use Rattle.spmd_model.specs.Quiet.{past_quiet, quiet_next, turned}
 use Rattle.spmd_model.specs.Reached.{HasCome}
-use Rattle.spmd_model.specs.States.{State, next_act, moved, acted, stepped, stepped_by, words_of, IsEnded}
-use Rattle.spmd_model.specs.Timelines.{Act, post, await, load, store, add, print, Machine, counter, signal, acts_of}
-use Rattle.spmd_model.proofs.Keeps.{within_acts}
+use Rattle.spmd_model.specs.States.{State, next_act, stepped, words_of}
+use Rattle.spmd_model.specs.Timelines.{Act, post, await, load, store, add, print, Machine}
 use Rattle.spmd_model.proofs.Runs.{come_stepped}
-use Rattle.spmd_model.proofs.Unstuck.{ended_or_goes}
 use Rattle.spmd_machine.specs.Machines.{answer_at, step_answer}
-use Rattle.spmd_machine.specs.Promises.{RoundTo, acts_to_go, can_go, can_step, one_round, rounds}
+use Rattle.spmd_model.specs.Fair.{acts_to_go, can_go, can_step}
+use Rattle.spmd_model.proofs.Fair.{step_goes, step_stays}
+use Rattle.spmd_machine.specs.Promises.{RoundTo, one_round, rounds}
 use Rattle.spmd_machine.specs.declared.answer.StepAnswer.{StepAnswer}
 use Rattle.spmd_machine.specs.declared.answer.StepAnswer.TheVariants.{Stepped, Blocked, Ended}
 use Rattle.spmd_machine.proofs.Settles.{blocked_quiet, quiet_none}
-
--- a sum over a range in which one term is one less
-same_sums : (f g : ℕ → ℕ) (a n : ℕ) → ((q : ℕ) → a ≤ q → q < a + n → g q ≡ f q) → sum_by g (range_with_len a n) ≡ sum_by f (range_with_len a n)
-same_sums f g a zero h = refl
-same_sums f g a (suc n) h =
-    omega (arith, sum_by-cons f a (range_with_len (a + 1) n), sum_by-cons g a (range_with_len (a + 1) n), h a (omega arith) (omega arith), same_sums f g (a + 1) n (λ q low high. h q (omega arith) (omega arith)))
-
-one_less : (f g : ℕ → ℕ) (a n p : ℕ) → a ≤ p → p < a + n → g p + 1 ≡ f p → ((q : ℕ) → q ≢ p → g q ≡ f q) → sum_by g (range_with_len a n) + 1 ≡ sum_by f (range_with_len a n)
-one_less f g a zero p low high here others = absurd (omega arith)
-one_less f g a (suc n) p low high here others =
-    let left = sum_by-cons f a (range_with_len (a + 1) n) in
-    let right = sum_by-cons g a (range_with_len (a + 1) n) in
-    elim (cases_eq a p) [
-      | inl e ↦ let rest = same_sums f g (a + 1) n (λ q low' high'. others q (λ (x : q ≡ p). omega arith)) in
-          let mine : g a + 1 ≡ f a = subst (λ k. g k + 1 ≡ f k) (sym e) here in omega (arith, left, right, rest, mine)
-      | inr ne ↦ let rest = one_less f g (a + 1) n p (omega arith) (omega arith) here others in omega (arith, left, right, rest, others a ne)
-    ]
-
--- the acts that a processor's step makes possible
-go_length : Machine → State → ℕ → ℕ
-go_length m s q = length (acts_of m q) - slice_index s.positions q
-
-moved_positions : (m : Machine) (s : State) (p : ℕ) (act : Act) → (moved (acted m s p act) p).positions ≡ set s.positions p (slice_index s.positions p + 1)
-moved_positions m s p (post counter number) = refl
-moved_positions m s p (post signal number) = refl
-moved_positions m s p (await w on wanted) = refl
-moved_positions m s p (load t cell) = refl
-moved_positions m s p (store t cell) = refl
-moved_positions m s p (add t cell) = refl
-moved_positions m s p (print t) = refl
-
-moved_less : (m : Machine) (s : State) (p : ℕ) (act : Act) → p < m.workers → HasCome m s → next_act m s p ≡ Some act → acts_to_go m (moved (acted m s p act) p) + 1 ≡ acts_to_go m s
-unfolding acts_to_go go_length
-moved_less m s p act lt law due =
-    let after = moved (acted m s p act) p in
-    let inside_acts = within_acts m p (slice_index s.positions p) act due in
-    let inside : p < length s.positions = omega (arith, law.count, lt) in
-    let moves = moved_positions m s p act in
-    let mine : slice_index after.positions p ≡ slice_index s.positions p + 1 = ap (λ l. slice_index l p) moves ∙ get_or-set_same s.positions p (slice_index s.positions p + 1) 0 inside in
-    one_less (go_length m s) (go_length m after) 0 m.workers p (omega arith) (omega arith) (omega (arith, mine, inside_acts))
-    (λ q ne. ap (λ k. length (acts_of m q) - k) (ap (λ l. slice_index l q) moves ∙ get_or-set_other s.positions p q (slice_index s.positions p + 1) 0 ne))
-
--- a step that is possible comes nearer, and another changes nothing
-goes_by : (m : Machine) (s : State) (p : ℕ) (o : Option Act) → p < m.workers → HasCome m s → next_act m s p ≡ o → can_go s o ≡ true → acts_to_go m (stepped_by m s p o) + 1 ≡ acts_to_go m s
-goes_by m s p None lt law due can = absurd (cc)
-goes_by m s p (Some act) lt law due can =
-    ap (λ b. acts_to_go m (cond b (moved (acted m s p act) p) s) + 1) can ∙ moved_less m s p act lt law due
-
-pub step_goes : (m : Machine) (s : State) (p : ℕ) → p < m.workers → HasCome m s → can_step m s p ≡ true → acts_to_go m (stepped m s p) + 1 ≡ acts_to_go m s
-step_goes m s p lt law can = goes_by m s p (next_act m s p) lt law refl can
-
-stays_by : (m : Machine) (s : State) (p : ℕ) (o : Option Act) → can_go s o ≡ false → stepped_by m s p o ≡ s
-stays_by m s p None can = refl
-stays_by m s p (Some act) can = ap (λ b. cond b (moved (acted m s p act) p) s) can
-
-pub step_stays : (m : Machine) (s : State) (p : ℕ) → can_step m s p ≡ false → stepped m s p ≡ s
-step_stays m s p can = stays_by m s p (next_act m s p) can
 
 -- no step comes less near
 step_nearer : (m : Machine) (s : State) (p : ℕ) → p < m.workers → HasCome m s → acts_to_go m (stepped m s p) ≤ acts_to_go m s
@@ -213,9 +154,3 @@ rounds_more m shared from now after count h e =
     e ∙ ap (λ s. fold (turned m shared) s (one_round m)) h ∙ sym (fold-append (turned m shared) from (rounds m count) (one_round m))
     ∙ ap (fold (turned m shared) from) (ap (λ l. rounds m count ++ l) (sym (append-nil (one_round m)))
     ∙ sym (ap (flat_map (λ n. one_round m)) (range_split 0 count 1) ∙ flat_map-append (λ n. one_round m) (range_with_len 0 count) (range_with_len (0 + count) 1)))
-
-pub ended_still : (m : Machine) (s : State) → IsSound m → HasCome m s → ((p : ℕ) → p < m.workers → can_step m s p ≡ false) → IsEnded m s
-ended_still m s sound come still = elim (ended_or_goes m s sound come) [
-  | inl ended ↦ ended
-  | inr go ↦ let can : can_step m s go.processor ≡ true = ap (can_go s) go.next ∙ go.possible in let clash : true ≡ false = sym can ∙ still go.processor go.below in absurd (cc)
-]

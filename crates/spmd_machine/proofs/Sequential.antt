@@ -14,16 +14,16 @@ use Rattle.sync_plan.proofs.Fits.{fit_parts}
 use Rattle.spmd_model.specs.Reached.{HasCome, IsSequential, positions_of}
 use Rattle.spmd_model.specs.Sequential.{memory_at}
 use Rattle.spmd_model.specs.States.{IsEnded, State, next_act}
-use Rattle.spmd_model.specs.Styled.{instances_in_front, machine_by, timeline_by}
+use Rattle.spmd_model.specs.Machines.{instances_in_front, machine_by, timeline_by}
 use Rattle.spmd_model.specs.Timelines.{Job, job, load}
 use Rattle.spmd_model.specs.declared.style.Style.{Style}
 use Rattle.spmd_model.proofs.ActLaws.{gives}
 use Rattle.spmd_model.proofs.Ends.{ended_memory, ended_output, output_front}
 use Rattle.spmd_model.proofs.Runs.{come_run, sequential_run}
-use Rattle.spmd_model.proofs.StyledLoads.{instance_in}
-use Rattle.spmd_model.proofs.StyledMemory.{shared_last}
-use Rattle.spmd_model.proofs.StyledOrder.{ordered_by, sound_by}
-use Rattle.spmd_model.proofs.StyledOutput.{output_by}
+use Rattle.spmd_model.proofs.MachineLoads.{instance_in}
+use Rattle.spmd_model.proofs.MachineMemory.{shared_last}
+use Rattle.spmd_model.proofs.MachineOrder.{ordered_by, sound_by}
+use Rattle.spmd_model.proofs.MachineOutput.{output_by}
 use Rattle.spmd_machine.specs.Machines.{IsReached}
 use Rattle.spmd_machine.specs.Promises.{FindsSequential}
 

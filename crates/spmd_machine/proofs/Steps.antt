@@ -8,12 +8,12 @@ use Rattle.nest_walk.specs.declared.table.WorkCells.{WorkCells}
 use Rattle.sync_plan.specs.Fit.{IsFit}
 use Rattle.sync_plan.specs.declared.plan.Plan.{Plan}
 use Rattle.spmd_model.specs.Deeds.{Deed, posting, awaiting, loading, storing, adding, printing, can_do, deed_of, did}
-use Rattle.spmd_model.specs.Styled.{machine_by}
+use Rattle.spmd_model.specs.Machines.{machine_by}
 use Rattle.spmd_model.specs.declared.style.Style.{Style}
 use Rattle.spmd_model.specs.States.{State, acted, is_possible, moved, next_act, registers_of, stepped, stepped_by, words_of}
 use Rattle.spmd_model.specs.Timelines.{Act, Word, post, await, load, store, add, print, counter, signal, acts_of}
 use Rattle.spmd_model.proofs.Deeds.{acted_is, possible_is}
-use Rattle.spmd_model.proofs.StyledDeeds.{styled_deeds}
+use Rattle.spmd_model.proofs.MachineDeeds.{styled_deeds}
 use Rattle.spmd_machine.specs.Machines.{answer_at, step_answer}
 use Rattle.spmd_machine.specs.Processors.{IsKept, all_of, left_of, memory_of, position_of, state_of}
 use Rattle.spmd_machine.proofs.OwnMemory.{same_memory}

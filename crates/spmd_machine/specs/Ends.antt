@@ -8,7 +8,7 @@ use Rattle.nest_tree.specs.declared.tree.Program.{Program}
 use Rattle.sync_plan.specs.contracts.plan.Plan as plans
 use Rattle.sync_plan.specs.declared.plan.Plan.{Plan}
 use Rattle.spmd_model.specs.States.{IsEnded, run_of}
-use Rattle.spmd_model.specs.Styled.{machine_by}
+use Rattle.spmd_model.specs.Machines.{machine_by}
 use Rattle.spmd_model.specs.Timelines.{Machine}
 use Rattle.spmd_model.specs.contracts.style.Style as styles
 use Rattle.spmd_model.specs.declared.style.Style.{Style}

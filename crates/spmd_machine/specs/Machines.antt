@@ -15,7 +15,7 @@ use Rattle.sync_plan.specs.Own.{own_of}
 use Rattle.sync_plan.specs.declared.plan.Plan.{Plan}
 use Rattle.spmd_model.specs.Quiet.{quiet_next}
 use Rattle.spmd_model.specs.States.{State, next_act, run_of, stepped, words_of}
-use Rattle.spmd_model.specs.Styled.{machine_by}
+use Rattle.spmd_model.specs.Machines.{machine_by}
 use Rattle.spmd_model.specs.Timelines as Timelines
 use Rattle.spmd_model.specs.Timelines.{Act, post, await, load, store, add, print}
 use Rattle.spmd_model.specs.declared.style.Style.{Style}

@@ -8,7 +8,7 @@ use Rattle.nest_walk.specs.declared.table.WorkCells.{WorkCells}
 use Rattle.owner_partition.specs.Phases.{phases}
 use Rattle.sync_plan.specs.declared.plan.Plan.{Plan}
 use Rattle.spmd_model.specs.Deeds.{Deed}
-use Rattle.spmd_model.specs.StyledDeeds.{deeds_by}
+use Rattle.spmd_model.specs.MachineDeeds.{deeds_by}
 use Rattle.spmd_model.specs.States.{State}
 use Rattle.spmd_model.specs.declared.style.Style.{Style}
 use Rattle.spmd_turns.specs.Loads.{IsLoading, widths}

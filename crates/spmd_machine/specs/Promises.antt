@@ -1,5 +1,5 @@
 -- What is promised of runs: rounds, and what an ordered plan gives.
-use Rattle.std.specs.Prelude.{ℕ, ◌-◌, ◌≡◌, ◌≤◌, ◌<◌, Bool, true, false, Contains, List, Option, Some, None, fold, length, slice_get, slice_index, sum_by}
+use Rattle.std.specs.Prelude.{ℕ, ◌≡◌, ◌≤◌, ◌<◌, Bool, true, false, Contains, List, Some, fold, slice_get}
 use Rattle.std.specs.List.{flat_map, range_with_len}
 use Rattle.nest_tree.specs.Tree.{Tree}
 use Rattle.nest_model.specs.Accesses.{loads_of}
@@ -8,10 +8,11 @@ use Rattle.nest_model.specs.Memory.{cell_value, memory_before}
 use Rattle.owner_partition.specs.Phases.{Execution}
 use Rattle.sync_plan.specs.Own.{own_cell, own_of}
 use Rattle.sync_plan.specs.declared.plan.Plan.{Plan}
+use Rattle.spmd_model.specs.Fair.{acts_to_go, can_step}
 use Rattle.spmd_model.specs.Quiet.{turned}
-use Rattle.spmd_model.specs.States.{State, is_possible, next_act}
-use Rattle.spmd_model.specs.Styled.{instances_in_front, job_under, machine_by}
-use Rattle.spmd_model.specs.Timelines.{Act, Job, Machine, acts_of, load}
+use Rattle.spmd_model.specs.States.{State, next_act}
+use Rattle.spmd_model.specs.Machines.{instances_in_front, job_under, machine_by}
+use Rattle.spmd_model.specs.Timelines.{Job, Machine, load}
 use Rattle.spmd_model.specs.declared.style.Style.{Style}
 
 -- a round, one step of each processor, and so many rounds
@@ -20,18 +21,6 @@ one_round m = range_with_len 0 m.workers
 
 abbrev pub rounds : Machine → ℕ → List ℕ
 rounds m count = flat_map (λ n. one_round m) (range_with_len 0 count)
-
--- processor p has a next act, and it is possible
-abbrev pub can_go : State → Option Act → Bool
-can_go s None = false
-can_go s (Some act) = is_possible s act
-
-abbrev pub can_step : Machine → State → ℕ → Bool
-can_step m s p = can_go s (next_act m s p)
-
--- how many acts the processors have left
-unfoldable pub acts_to_go : Machine → State → ℕ
-acts_to_go m s = sum_by (λ p. length (acts_of m p) - slice_index s.positions p) (one_round m)
 
 -- how far a round has come, where so many cells are shared: the state behind its first p steps, and whether one of them was possible
 pub record RoundTo (m : Machine) (shared : ℕ) (from now : State) (p : ℕ) (any : Bool) : Type 0 where

@@ -50,13 +50,14 @@ impl<'a> Machine<'a> {
     ghost use Rattle.std.specs.Prelude.{All, List, None, Some, true, false, ◌++◌};
     ghost use Rattle.nest_model.specs.Memory.{cell_value, last_memory, output_of};
     ghost use Rattle.sync_plan.specs.Ordered.{IsOrdered};
+    ghost use Rattle.spmd_model.specs.Fair.{acts_to_go, can_step};
     ghost use Rattle.spmd_model.specs.Quiet.{first_turn, past_quiet, quiet_next, turned};
     ghost use Rattle.spmd_model.specs.Sequential.{memory_at};
     ghost use Rattle.spmd_model.specs.States.{IsEnded, next_act, stepped};
     ghost use Rattle.std.specs.Prelude.{slice_get};
-    ghost use Rattle.spmd_model.specs.Styled.{timeline_by};
+    ghost use Rattle.spmd_model.specs.Machines.{timeline_by};
     ghost use Rattle.spmd_model.specs.Timelines.{Job, job, load};
-    ghost use Rattle.spmd_machine.specs.Promises.{FindsSequential, acts_to_go, can_step, one_round, rounds};
+    ghost use Rattle.spmd_machine.specs.Promises.{FindsSequential, one_round, rounds};
     ghost use Rattle.spmd_machine.specs.Machines.{ComesNext, GoesQuietly, HasDone, IsReady, IsSameMachine, IsSettled, IsSpot, LoadsNext, StepsTo, StoresNext, model_of, plan_in, shared_in, shown, step_answer, style_in, tree_in};
 
     /// The first state: nothing is done but what each processor begins with on its own cells, and
@@ -106,7 +107,8 @@ impl<'a> Machine<'a> {
     fn settle_all(&mut self)
         requires ready { IsReady self.old }
         ensures ready { IsReady self.new }
-        ensures state { shown self.new ≡ fold (past_quiet (model_of self.old) (shared_in self.old)) (shown self.old) (one_round (model_of self.old)) }
+        ensures state { shown self.new ≡ fold (past_quiet (model_of self.old) (shared_in self.old))
+            (shown self.old) (one_round (model_of self.old)) }
         ensures same { IsSameMachine self.old self.new }
     {
         for p in 0..self.plan.workers {
@@ -122,11 +124,19 @@ impl<'a> Machine<'a> {
         requires ready { IsReady self.old }
         requires worker { p < (plan_in self.old).workers }
         ensures ready { IsReady self.new }
-        ensures step { shown self.new ≡ turned (model_of self.old) (shared_in self.old) (shown self.old) p }
+        ensures step { shown self.new ≡ turned (model_of self.old) (shared_in self.old)
+            (shown self.old) p }
         ensures answer { result ≡ step_answer (model_of self.old) (shown self.old) p }
-        ensures load { IsOrdered (tree_in self.old) (plan_in self.old) → (place cell : ℕ) → next_act (model_of self.old) (shown self.old) p ≡ Some (load place cell) → cell_value (shown self.old).memory cell ≡ cell_value (memory_at (model_of self.old) place) cell }
-        ensures sequential { IsOrdered (tree_in self.old) (plan_in self.old) → (place : ℕ) → (j : Job) → slice_get (timeline_by (style_in self.old) (tree_in self.old) (plan_in self.old)) place ≡ Some (job j)
-            → j.counts ≡ 1 → j.owner ≡ p → FindsSequential (style_in self.old) (tree_in self.old) (plan_in self.old) (shown self.old) p place j }
+        ensures load { IsOrdered (tree_in self.old) (plan_in self.old) → (place cell : ℕ)
+            → next_act (model_of self.old) (shown self.old) p ≡ Some (load place cell)
+            → cell_value (shown self.old).memory cell
+            ≡ cell_value (memory_at (model_of self.old) place) cell }
+        ensures sequential { IsOrdered (tree_in self.old) (plan_in self.old) → (place : ℕ)
+            → (j : Job)
+            → slice_get (timeline_by (style_in self.old) (tree_in self.old)
+            (plan_in self.old)) place ≡ Some (job j) → j.counts ≡ 1 → j.owner ≡ p
+            → FindsSequential (style_in self.old) (tree_in self.old) (plan_in self.old)
+            (shown self.old) p place j }
         ensures same { IsSameMachine self.old self.new }
     {
         let answer = self.act(p as usize);
@@ -141,7 +151,8 @@ impl<'a> Machine<'a> {
         requires ready { IsReady self.old }
         requires worker { p < length self.old.processors.items }
         ensures ready { IsReady self.new }
-        ensures state { shown self.new ≡ past_quiet (model_of self.old) (shared_in self.old) (shown self.old) p }
+        ensures state { shown self.new ≡ past_quiet (model_of self.old) (shared_in self.old)
+            (shown self.old) p }
         ensures same { IsSameMachine self.old self.new }
     {
         if self.processors[p].turns.has_own() {
@@ -154,7 +165,8 @@ impl<'a> Machine<'a> {
         requires ready { IsReady self.old }
         requires worker { p < length self.old.processors.items }
         ensures ready { IsReady self.new }
-        ensures state { shown self.new ≡ past_quiet (model_of self.old) (shared_in self.old) (shown self.old) p }
+        ensures state { shown self.new ≡ past_quiet (model_of self.old) (shared_in self.old)
+            (shown self.old) p }
         ensures same { IsSameMachine self.old self.new }
     {
         while self.act_quietly(p) {}
@@ -165,7 +177,8 @@ impl<'a> Machine<'a> {
         requires ready { IsReady self.old }
         requires worker { p < length self.old.processors.items }
         ensures ready { IsReady self.new }
-        ensures quiet { result ≡ nat_lt 0 (quiet_next (model_of self.old) (shared_in self.old) (shown self.old) p) }
+        ensures quiet { result
+            ≡ nat_lt 0 (quiet_next (model_of self.old) (shared_in self.old) (shown self.old) p) }
         ensures acts { GoesQuietly self.old self.new p result }
         ensures same { IsSameMachine self.old self.new }
     {
@@ -184,7 +197,8 @@ impl<'a> Machine<'a> {
         requires worker { p < length self.old.processors.items }
         requires next { ComesNext self.old p (StyledNext.Work stop) }
         ensures ready { IsReady self.new }
-        ensures quiet { result ≡ nat_lt 0 (quiet_next (model_of self.old) (shared_in self.old) (shown self.old) p) }
+        ensures quiet { result
+            ≡ nat_lt 0 (quiet_next (model_of self.old) (shared_in self.old) (shown self.old) p) }
         ensures acts { GoesQuietly self.old self.new p result }
         ensures same { IsSameMachine self.old self.new }
     {
@@ -203,7 +217,8 @@ impl<'a> Machine<'a> {
         requires next { ComesNext self.old p (StyledNext.Work stop) }
         requires left { LoadsNext self.old p stop (Some cell) }
         ensures ready { IsReady self.new }
-        ensures quiet { result ≡ nat_lt 0 (quiet_next (model_of self.old) (shared_in self.old) (shown self.old) p) }
+        ensures quiet { result
+            ≡ nat_lt 0 (quiet_next (model_of self.old) (shared_in self.old) (shown self.old) p) }
         ensures acts { GoesQuietly self.old self.new p result }
         ensures same { IsSameMachine self.old self.new }
     {
@@ -222,7 +237,8 @@ impl<'a> Machine<'a> {
         requires next { ComesNext self.old p (StyledNext.Work stop) }
         requires loaded { LoadsNext self.old p stop None }
         ensures ready { IsReady self.new }
-        ensures quiet { result ≡ nat_lt 0 (quiet_next (model_of self.old) (shared_in self.old) (shown self.old) p) }
+        ensures quiet { result
+            ≡ nat_lt 0 (quiet_next (model_of self.old) (shared_in self.old) (shown self.old) p) }
         ensures acts { GoesQuietly self.old self.new p result }
         ensures same { IsSameMachine self.old self.new }
     {
@@ -239,9 +255,11 @@ impl<'a> Machine<'a> {
         requires worker { p < length self.old.processors.items }
         requires next { ComesNext self.old p (StyledNext.Work stop) }
         requires loaded { LoadsNext self.old p stop None }
-        requires statement { (target : Access) × (guard : Option Guard) × (line : ℕ) × (stop.item.now ≡ Item.Assign target e.now guard line) }
+        requires statement { (target : Access) × (guard : Option Guard) × (line : ℕ)
+            × (stop.item.now ≡ Item.Assign target e.now guard line) }
         ensures ready { IsReady self.new }
-        ensures quiet { result ≡ nat_lt 0 (quiet_next (model_of self.old) (shared_in self.old) (shown self.old) p) }
+        ensures quiet { result
+            ≡ nat_lt 0 (quiet_next (model_of self.old) (shared_in self.old) (shown self.old) p) }
         ensures acts { GoesQuietly self.old self.new p result }
         ensures same { IsSameMachine self.old self.new }
     {
@@ -260,7 +278,8 @@ impl<'a> Machine<'a> {
         requires worker { p < length self.now.processors.items }
         requires next { ComesNext self.now p (StyledNext.Work stop) }
         requires loaded { LoadsNext self.now p stop None }
-        requires statement { (target : Access) × (e : Expr) × (guard : Option Guard) × (line : ℕ) × (stop.item.now ≡ Item.Assign target e guard line) }
+        requires statement { (target : Access) × (e : Expr) × (guard : Option Guard) × (line : ℕ)
+            × (stop.item.now ≡ Item.Assign target e guard line) }
         ensures stores { StoresNext self.now p stop.entry result.cell }
         ensures own { IsSpot self.now p result }
     {
@@ -278,7 +297,8 @@ impl<'a> Machine<'a> {
         requires worker { p < length self.old.processors.items }
         requires next { ComesNext self.old p (StyledNext.Close place) }
         ensures ready { IsReady self.new }
-        ensures quiet { result ≡ nat_lt 0 (quiet_next (model_of self.old) (shared_in self.old) (shown self.old) p) }
+        ensures quiet { result
+            ≡ nat_lt 0 (quiet_next (model_of self.old) (shared_in self.old) (shown self.old) p) }
         ensures acts { GoesQuietly self.old self.new p result }
         ensures same { IsSameMachine self.old self.new }
     {
@@ -441,7 +461,8 @@ impl<'a> Machine<'a> {
         requires worker { p < length self.old.processors.items }
         requires next { ComesNext self.old p (StyledNext.Work stop) }
         requires loaded { LoadsNext self.old p stop None }
-        requires statement { (target : Access) × (guard : Option Guard) × (line : ℕ) × (stop.item.now ≡ Item.Assign target e.now guard line) }
+        requires statement { (target : Access) × (guard : Option Guard) × (line : ℕ)
+            × (stop.item.now ≡ Item.Assign target e.now guard line) }
         requires stores { StoresNext self.old p stop spot.cell }
         requires own { IsSpot self.old p spot }
         ensures { StepsTo self.old self.new p result }
@@ -463,7 +484,8 @@ impl<'a> Machine<'a> {
         requires worker { p < length self.old.processors.items }
         requires next { ComesNext self.old p (StyledNext.Work stop) }
         requires loaded { LoadsNext self.old p stop None }
-        requires statement { (listed : Vec PrintItem Global) × (line : ℕ) × (stop.item.now ≡ Item.Print listed line) × (items.now ≡ listed.items) }
+        requires statement { (listed : Vec PrintItem Global) × (line : ℕ)
+            × (stop.item.now ≡ Item.Print listed line) × (items.now ≡ listed.items) }
         ensures { StepsTo self.old self.new p result }
     {
         let processor = &mut self.processors[p];
@@ -549,7 +571,8 @@ impl<'a> Machine<'a> {
         requires ready { IsReady self.old }
         requires workers { All (λ p. p < (plan_in self.old).workers) schedule.now }
         ensures ready { IsReady self.new }
-        ensures run { shown self.new ≡ fold (turned (model_of self.old) (shared_in self.old)) (shown self.old) schedule.now }
+        ensures run { shown self.new ≡ fold (turned (model_of self.old) (shared_in self.old))
+            (shown self.old) schedule.now }
         ensures same { IsSameMachine self.old self.new }
     {
         for p in schedule {
@@ -561,10 +584,14 @@ impl<'a> Machine<'a> {
     pub fn round_robin(&mut self)
         requires ready { IsReady self.old }
         ensures ready { IsReady self.new }
-        ensures rounds { (count : ℕ) × (shown self.new ≡ fold (turned (model_of self.old) (shared_in self.old)) (shown self.old) (rounds (model_of self.old) count)) }
+        ensures rounds { (count : ℕ)
+            × (shown self.new ≡ fold (turned (model_of self.old) (shared_in self.old))
+            (shown self.old) (rounds (model_of self.old) count)) }
         ensures ended { IsEnded (model_of self.old) (shown self.new) }
-        ensures memory { IsOrdered (tree_in self.old) (plan_in self.old) → take (shared_in self.old) (shown self.new).memory ≡ last_memory (tree_in self.old) }
-        ensures output { IsOrdered (tree_in self.old) (plan_in self.old) → (shown self.new).output ≡ output_of (tree_in self.old) }
+        ensures memory { IsOrdered (tree_in self.old) (plan_in self.old)
+            → take (shared_in self.old) (shown self.new).memory ≡ last_memory (tree_in self.old) }
+        ensures output { IsOrdered (tree_in self.old) (plan_in self.old)
+            → (shown self.new).output ≡ output_of (tree_in self.old) }
         ensures same { IsSameMachine self.old self.new }
     {
         while self.round() {}
@@ -574,9 +601,13 @@ impl<'a> Machine<'a> {
     fn round(&mut self) -> bool
         requires ready { IsReady self.old }
         ensures ready { IsReady self.new }
-        ensures run { shown self.new ≡ fold (turned (model_of self.old) (shared_in self.old)) (shown self.old) (one_round (model_of self.old)) }
-        ensures nearer { result ≡ true → acts_to_go (model_of self.old) (shown self.new) < acts_to_go (model_of self.old) (shown self.old) }
-        ensures still { result ≡ false → (p : ℕ) → p < (plan_in self.old).workers → can_step (model_of self.old) (shown self.new) p ≡ false }
+        ensures run { shown self.new ≡ fold (turned (model_of self.old) (shared_in self.old))
+            (shown self.old) (one_round (model_of self.old)) }
+        ensures nearer { result ≡ true
+            → acts_to_go (model_of self.old) (shown self.new) < acts_to_go (model_of self.old)
+            (shown self.old) }
+        ensures still { result ≡ false → (p : ℕ) → p < (plan_in self.old).workers
+            → can_step (model_of self.old) (shown self.new) p ≡ false }
         ensures same { IsSameMachine self.old self.new }
     {
         let mut has_stepped = false;
@@ -592,7 +623,9 @@ impl<'a> Machine<'a> {
     pub fn memory(&self) -> &[i64]
         requires ready { IsReady self.now }
         ensures shown { result.now ≡ take (shared_in self.now) (shown self.now).memory }
-        ensures last { IsOrdered (tree_in self.now) (plan_in self.now) → IsEnded (model_of self.now) (shown self.now) → result.now ≡ last_memory (tree_in self.now) }
+        ensures last { IsOrdered (tree_in self.now) (plan_in self.now)
+            → IsEnded (model_of self.now) (shown self.now)
+            → result.now ≡ last_memory (tree_in self.now) }
     {
         self.memory.as_slice()
     }
@@ -601,8 +634,11 @@ impl<'a> Machine<'a> {
     pub fn output(&self) -> &Output
         requires ready { IsReady self.now }
         ensures shown { result.now.bytes ≡ (shown self.now).output }
-        ensures front { IsOrdered (tree_in self.now) (plan_in self.now) → (rest : List ℕ) × (result.now.bytes ++ rest ≡ output_of (tree_in self.now)) }
-        ensures whole { IsOrdered (tree_in self.now) (plan_in self.now) → IsEnded (model_of self.now) (shown self.now) → result.now.bytes ≡ output_of (tree_in self.now) }
+        ensures front { IsOrdered (tree_in self.now) (plan_in self.now) → (rest : List ℕ)
+            × (result.now.bytes ++ rest ≡ output_of (tree_in self.now)) }
+        ensures whole { IsOrdered (tree_in self.now) (plan_in self.now)
+            → IsEnded (model_of self.now) (shown self.now)
+            → result.now.bytes ≡ output_of (tree_in self.now) }
     {
         &self.output
     }

@@ -66,7 +66,9 @@ impl<'a> Processor<'a> {
         requires sound { AreStyled self.now.turns }
         requires cell { cell < cell_count (styled_tree self.now.turns) }
         ensures cell { result.cell ≡ cell }
-        ensures own { result.own ≡ (own_of (styled_tree self.now.turns) (styled_plan self.now.turns) self.now.turns.place).slot cell }
+        ensures own { result.own
+            ≡ (own_of (styled_tree self.now.turns)
+            (styled_plan self.now.turns) self.now.turns.place).slot cell }
     {
         Spot {
             cell,
@@ -79,7 +81,9 @@ impl<'a> Processor<'a> {
     fn place_of(&self, cell: usize) -> Option<usize>
         requires sound { AreStyled self.now.turns }
         requires cell { cell < cell_count (styled_tree self.now.turns) }
-        ensures { result ≡ (own_of (styled_tree self.now.turns) (styled_plan self.now.turns) self.now.turns.place).slot cell }
+        ensures { result
+            ≡ (own_of (styled_tree self.now.turns)
+            (styled_plan self.now.turns) self.now.turns.place).slot cell }
     {
         if self.turns.has_own() {
             self.turns.own_cells().place_of(cell as u32)

@@ -32,9 +32,21 @@ impl Model for Receipt {
 
     ghost coded = { end_code };
 
-    ghost view = { λ r. record { program = r.program.value; plan = r.plan.value; style = r.style; memory = r.memory.items } };
+    ghost view = { λ r.
+        record {
+          program = r.program.value;
+          plan = r.plan.value;
+          style = r.style;
+          memory = r.memory.items;
+        } };
 
-    ghost invariant = { λ r. HasRun (record { program = r.program.value; plan = r.plan.value; style = r.style; memory = r.memory.items }) };
+    ghost invariant = { λ r. HasRun
+        (record {
+          program = r.program.value;
+          plan = r.plan.value;
+          style = r.style;
+          memory = r.memory.items;
+        }) };
 }
 
 impl Receipt {
@@ -45,8 +57,10 @@ impl Receipt {
         ensures program { tree_of result.program ≡ tree_in machine.entry }
         ensures plan { result.plan ≡ plan_in machine.entry }
         ensures style { result.style ≡ style_in machine.entry }
-        ensures memory { result.memory ≡ take (shared_in machine.entry) (shown machine.entry).memory }
-        ensures last { IsOrdered (tree_in machine.entry) (plan_in machine.entry) → result.memory ≡ last_memory (tree_in machine.entry) }
+        ensures memory { result.memory
+            ≡ take (shared_in machine.entry) (shown machine.entry).memory }
+        ensures last { IsOrdered (tree_in machine.entry) (plan_in machine.entry)
+            → result.memory ≡ last_memory (tree_in machine.entry) }
         ensures run { HasRun result }
     {
         let Machine {

@@ -1,10 +1,10 @@
 -- An instance of a phase with own scalars, as a job: it loads what it may, and stores one cell or adds to a sum scalar.
-use Rattle.std.proofs.Common.{◌≡◌, ℕ, zero, suc, ◌+◌, ◌-◌, ◌<◌, ◌≤◌, ◌⊎◌, ℤ, pos, Bool, true, false, true≢false, ◌&&◌, ◌||◌, ◌==◌, not, nat_lt, List, [], ◌∷◌, length, map, Option, Some, None, refl, ap, sym, subst, ◌∙◌, inl, inr, arith, slice_index_or, leb-true}
+use Rattle.std.proofs.Common.{◌≡◌, ℕ, zero, suc, ◌+◌, ◌-◌, ◌<◌, ◌≤◌, ◌⊎◌, ℤ, pos, Bool, true, false, true≢false, ◌&&◌, ◌||◌, ◌==◌, not, nat_lt, List, [], ◌∷◌, ◌++◌, length, map, Option, Some, None, refl, ap, sym, subst, ◌∙◌, inl, inr, arith, slice_index_or, leb-true}
 use Rattle.std.specs.Prelude.{Contains}
 use Rattle.std.specs.List.{AllByRecursion, flat_map, list_all, list_any, range_with_len}
 use Rattle.std.specs.Option.{option_to_list}
 use Rattle.std.proofs.lemmas.Bool.{and_from, and_parts, cases_Bool, eq-eqb, eqb-true, ltb-true}
-use Rattle.std.proofs.lemmas.List.{length-map}
+use Rattle.std.proofs.lemmas.List.{length-map, map-append}
 use Rattle.std.proofs.lemmas.List.Elements.{All-contains, Contains-append_left, Contains-append_right, Contains-append_cases}
 use Rattle.std.proofs.lemmas.List.Folds.{list_all-append, list_any-append}
 use Rattle.nest_tree.specs.declared.tree.Access.{Access}
@@ -20,7 +20,7 @@ use Rattle.nest_model.specs.Ranges.{accesses_of, is_access_inside, is_instance_i
 use Rattle.nest_model.specs.Visits.{Visit}
 use Rattle.nest_walk.proofs.CellPlaces.{bounds-good, place_below}
 use Rattle.nest_walk.proofs.GoodAccesses.{good_access-there}
-use Rattle.own_scalars.specs.OwnScalars.{adds_to, has_access, is_addition, is_of, is_other, stores}
+use Rattle.own_scalars.specs.OwnScalars.{adds_once, adds_to, has_access, is_addition, is_of, is_other, is_sum_or_difference, stores}
 use Rattle.owner_partition.specs.Phases.{Execution}
 use Rattle.sync_plan.specs.declared.plan.Plan.{Plan}
 use Rattle.sync_plan.specs.Own.{is_cell_of, own_loop, own_of}
@@ -32,7 +32,7 @@ use Rattle.spmd_model.proofs.CellsThere.{IsGoodWork, cells_there, loads_good}
 use Rattle.spmd_model.proofs.OwnRuns.{IsGoodJob, no_store, to_shared, to_private, to_sum}
 use Rattle.spmd_model.proofs.OwnTexts.{AreOwnIn, IsScalar, Slots, private_slot, sum_slot, cell_there, not_both, passes_in, same_scalar, slots, some_scalar, sum_is}
 use Rattle.spmd_model.proofs.Stands.{in_map, slot_there}
-use Rattle.spmd_model.proofs.SumForms.{LoadsFirst, adds_its_terms, loads_first}
+use Rattle.spmd_model.proofs.SumForms.{AddsOnce, adds_its_terms, once}
 
 -- ---- an access of a scalar's cell is of that scalar
 
@@ -127,6 +127,18 @@ scalar_cell tree loops u a scalar is =
     let first_is = ap (first_cell tree) same in
     omega (arith, place, first_is)
 
+-- the others of a list with one more
+contains_more : {X : Type 0} (xs ys : List X) (x y : X) → Contains (xs ++ ys) y → Contains (xs ++ x ∷ ys) y
+contains_more xs ys x y among = elim (Contains-append_cases xs ys y among) [
+  | inl here ↦ Contains-append_left xs (x ∷ ys) y here
+  | inr later ↦ Contains-append_right xs (x ∷ ys) y (suc later.0, omega (arith, later.1), later.2)
+]
+
+all_but : {X : Type 0} (p : X → Bool) (xs : List X) (x : X) (ys : List X) → list_all p (xs ++ x ∷ ys) ≡ true → list_all p (xs ++ ys) ≡ true
+all_but p xs x ys all =
+    let parts = and_parts (list_all p xs) (p x && list_all p ys) (sym (list_all-append p xs (x ∷ ys)) ∙ all) in
+    list_all-append p xs ys ∙ and_from (list_all p xs) (list_all p ys) parts.0 (and_parts (p x) (list_all p ys) parts.1).1
+
 -- ---- the job of an instance
 
 module _ (tree : Tree) (plan : Plan) (e : ℕ) (v : Visit) (formed : IsWellFormed tree) (o : AreOwnIn tree plan v) (i : Instance) (good : IsGoodWork tree i) (inside : is_instance_inside tree i ≡ true) where
@@ -217,25 +229,31 @@ module _ (tree : Tree) (plan : Plan) (e : ℕ) (v : Visit) (formed : IsWellForme
         by (assign a) what adds =
             let both = and_parts (is_of u a.target) (adds_to u a.value) adds in
             let scalar = (sum_is tree plan v o u among).1 in
-            let f = loads_first u a.value both.1 in
+            let form = and_parts (is_sum_or_difference a.value) (adds_once u a.value) both.1 in
+            let f = once u a.value form.1 in
             let c = first_cell tree u in
+            let cell = access_cell tree i.loops in
             let s = slot_there tree plan v o c (inr (cell_there tree (own_loop tree plan v.place).sums u among)) in
-            let loads_are : loads_of tree i ≡ first_cell tree u ∷ map (access_cell tree i.loops) f.rest =
-            ap (work_loads tree i.loops) what ∙ ap (map (access_cell tree i.loops)) f.is ∙ ap (λ d. d ∷ map (access_cell tree i.loops) f.rest) (scalar_cell tree i.loops u f.first scalar f.of) in
+            let loads_are : loads_of tree i ≡ map (access_cell tree i.loops) f.front ++ first_cell tree u ∷ map (access_cell tree i.loops) f.rest =
+            ap (work_loads tree i.loops) what ∙ ap (map cell) f.is ∙ map-append cell f.front (f.own ∷ f.rest) ∙ ap (λ d. map cell f.front ++ d ∷ map cell f.rest) (scalar_cell tree i.loops u f.own scalar f.of) in
             let job_is : IsSumJob (own_of tree plan v.place) (job_of tree plan (record { phase = e; place = v.place; instance = i })) (first_cell tree u) s.0 = record {
               slot = s.1;
               sum = cell_there tree (own_loop tree plan v.place).sums u among;
               store = ap (work_store tree i.loops) what ∙ ap Some (scalar_cell tree i.loops u a.target scalar both.0);
+              front = map (access_cell tree i.loops) f.front;
               rest = map (access_cell tree i.loops) f.rest;
               loads = loads_are;
-              amount = λ vs. assigned_value tree i (pos 0 ∷ vs);
-              adds = λ x vs. ap (λ w. assigned tree i.loops w (x ∷ vs)) what ∙ adds_its_terms i.loops (param_values tree) u a.value x vs both.1 ∙ ap (plus x) (sym (ap (λ w. assigned tree i.loops w (pos 0 ∷ vs)) what));
+              amount = λ us vs. assigned_value tree i (us ++ pos 0 ∷ vs);
+              adds = λ us x vs long. ap (λ w. assigned tree i.loops w (us ++ x ∷ vs)) what ∙ adds_its_terms u a.value f form.0 i.loops (param_values tree) us x vs (long ∙ length-map f.front cell) ∙ ap (plus x) (sym (ap (λ w. assigned tree i.loops w (us ++ pos 0 ∷ vs)) what));
             } in
-            to_sum (first_cell tree u) s.0 job_is (all_by (IsGoodLoad (own_of tree plan v.place) last (phase_owner tree plan v i.loops)) (map (access_cell tree i.loops) f.rest) (λ d in_rest. rest_load a what both.0 f d in_rest loads_are))
+            to_sum (first_cell tree u) s.0 job_is (all_by (IsGoodLoad (own_of tree plan v.place) last (phase_owner tree plan v i.loops)) (map cell f.front ++ map cell f.rest)
+            (λ d in_others. other_load a what both.0 f d (subst (λ l. Contains l d) (sym (map-append cell f.front f.rest)) in_others) loads_are))
           where
-            rest_load : (a : Assignment) → i.what ≡ assign a → is_of u a.target ≡ true → (f : LoadsFirst u a.value) → (d : ℕ) → Contains (map (access_cell tree i.loops) f.rest) d → loads_of tree i ≡ first_cell tree u ∷ map (access_cell tree i.loops) f.rest → IsGoodLoad (own_of tree plan v.place) last (phase_owner tree plan v i.loops) d
-            rest_load a what target f d in_rest loads_are =
-                let in_all : Contains (loads_of tree i) d = subst (λ l. Contains l d) (sym loads_are) (suc in_rest.0, omega (arith, in_rest.1), in_rest.2) in
+            other_load : (a : Assignment) → i.what ≡ assign a → is_of u a.target ≡ true → (f : AddsOnce u a.value) → (d : ℕ) → Contains (map (access_cell tree i.loops) (f.front ++ f.rest)) d →
+                loads_of tree i ≡ map (access_cell tree i.loops) f.front ++ first_cell tree u ∷ map (access_cell tree i.loops) f.rest → IsGoodLoad (own_of tree plan v.place) last (phase_owner tree plan v i.loops) d
+            other_load a what target f d in_others loads_are =
+                let cell = access_cell tree i.loops in
+                let in_all : Contains (loads_of tree i) d = subst (λ l. Contains l d) (sym loads_are) (contains_more (map cell f.front) (map cell f.rest) (first_cell tree u) d (subst (λ l. Contains l d) (map-append cell f.front f.rest) in_others)) in
                 good_load d in_all (λ is. other_sum (some_scalar tree (own_loop tree plan v.place).sums d is) in_all)
               where
                 other_sum : (w : ℕ) × Contains (own_loop tree plan v.place).sums w × (first_cell tree w ≡ d) → Contains (loads_of tree i) d → ⊥
@@ -249,10 +267,10 @@ module _ (tree : Tree) (plan : Plan) (e : ℕ) (v : Visit) (formed : IsWellForme
                     let accesses_good = ap (list_all (is_good_access (scope_of tree) good.around)) (sym f.is) ∙ loads_good tree formed good.around i.loops a.value value_good in
                     let accesses_inside : list_all (is_access_inside tree i.loops) (accesses_of (assign a)) ≡ true = ap (λ w. list_all (is_access_inside tree i.loops) (accesses_of w)) (sym what) ∙ inside in
                     let loads_inside = (and_parts (list_all (is_access_inside tree i.loops) (loads_in a.value)) (is_access_inside tree i.loops a.target && true) (sym (list_all-append (is_access_inside tree i.loops) (loads_in a.value) (a.target ∷ [])) ∙ accesses_inside)).0 in
-                    let first_inside = ap (list_all (is_access_inside tree i.loops)) (sym f.is) ∙ loads_inside in
-                    let rest_good = (and_parts (is_good_access (scope_of tree) good.around f.first) (list_all (is_good_access (scope_of tree) good.around) f.rest) accesses_good).1 in
-                    let rest_inside = (and_parts (is_access_inside tree i.loops f.first) (list_all (is_access_inside tree i.loops) f.rest) first_inside).1 in
-                    let found = among_accesses tree formed good.around i.loops u (sum_is tree plan v o u among).1 f.rest d rest_good rest_inside in_rest (sym cell ∙ ap (first_cell tree) same) in
+                    let all_inside = ap (list_all (is_access_inside tree i.loops)) (sym f.is) ∙ loads_inside in
+                    let others_good = all_but (is_good_access (scope_of tree) good.around) f.front f.own f.rest accesses_good in
+                    let others_inside = all_but (is_access_inside tree i.loops) f.front f.own f.rest all_inside in
+                    let found = among_accesses tree formed good.around i.loops u (sum_is tree plan v o u among).1 (f.front ++ f.rest) d others_good others_inside in_others (sym cell ∙ ap (first_cell tree) same) in
                     true≢false (sym found ∙ f.others)
 
     pub good_job : IsGoodJob (own_of tree plan v.place) last (job_of tree plan (record { phase = e; place = v.place; instance = i }))

@@ -26,11 +26,11 @@ pub mod PlannedMemory
 pub mod Deeds
 pub mod CellsThere
 pub mod Parts
-pub mod StyledDeeds
+pub mod MachineDeeds
 pub mod NoOwnDeeds
-pub mod StyledPlaces
-pub mod StyledSound
-pub mod StyledChains
+pub mod MachinePlaces
+pub mod MachineSound
+pub mod MachineChains
 pub mod OwnTexts
 pub mod LastStores
 pub mod Stands
@@ -40,8 +40,19 @@ pub mod PhaseJobs
 pub mod OwnClosings
 pub mod PhaseMemory
 pub mod PhaseEnds
-pub mod StyledMemory
-pub mod StyledOutput
-pub mod StyledLoads
-pub mod StyledOrder
+pub mod MachineMemory
+pub mod MachineOutput
+pub mod MachineLoads
+pub mod MachineOrder
 mod Examples
+mod ProtocolLists
+mod Passed
+mod Arrivals
+mod Barriers
+mod Gathered
+mod Held
+mod States
+mod PlanBarriers
+mod PlanCells
+mod PlanHeld
+mod OwnValues

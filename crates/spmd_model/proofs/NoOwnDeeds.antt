@@ -14,8 +14,8 @@ use Rattle.sync_plan.specs.Own.{at_slot, own_cell, own_loop, own_of, place_in}
 use Rattle.sync_plan.specs.declared.plan.Plan.{Plan}
 use Rattle.spmd_model.specs.Closings.{has_stored, last_owner}
 use Rattle.spmd_model.specs.Deeds.{deeds_from, instance_deeds, last_deed, loading, owned_by, phase_deeds}
-use Rattle.spmd_model.specs.Styled.{signal_barriers}
-use Rattle.spmd_model.specs.StyledDeeds.{HasNoOwn, closing_deeds, deeds_by, front_deeds, kept_by, own_deeds, part_deeds, totalled_by}
+use Rattle.spmd_model.specs.Machines.{signal_barriers}
+use Rattle.spmd_model.specs.MachineDeeds.{HasNoOwn, closing_deeds, deeds_by, front_deeds, kept_by, own_deeds, part_deeds, totalled_by}
 use Rattle.spmd_model.specs.declared.style.Style.TheVariants.{Arrive}
 
 -- ---- each cell is the one that all share

@@ -1,10 +1,11 @@
 -- Where each processor has its own cells for privates and sum scalars, a phase comes to the same.
-use Rattle.std.proofs.Common.{◌≡◌, ◌≢◌, ◌==◌, ℕ, zero, suc, ◌<◌, ◌≤◌, ◌⊎◌, ℤ, pos, ◌+ℤ◌, Bool, true, false, true≢false, List, [], ◌∷◌, map, Option, Some, None, refl, ap, sym, subst, ◌∙◌, inl, inr, arith, if◌then◌else◌}
+use Rattle.std.proofs.Common.{◌≡◌, ◌≢◌, ◌==◌, ℕ, zero, suc, ◌<◌, ◌≤◌, ◌⊎◌, ℤ, pos, ◌+ℤ◌, Bool, true, false, true≢false, List, [], ◌∷◌, ◌++◌, map, Option, Some, None, refl, ap, sym, subst, ◌∙◌, inl, inr, arith, if◌then◌else◌}
 use Rattle.std.specs.Int.{int_wrap, w64}
 use Rattle.std.specs.List.{AllByRecursion}
 use Rattle.std.specs.Option.{option_map}
 use Rattle.std.proofs.lemmas.Bool.{cases_Bool, cases_eq, eq-eqb, eqb-true}
 use Rattle.std.proofs.lemmas.Int.{ints, int_wrap-add_left, int_wrap-add_right}
+use Rattle.std.proofs.lemmas.List.{length-map, map-append}
 use Rattle.spmd_model.specs.Cells.{changed, plus}
 use Rattle.spmd_model.specs.Timelines.{Job}
 use Rattle.spmd_model.specs.OwnPhases.{AreApart, Come, IsGoodLoad, IsSumJob, Own, adds_total, at_slot, behind_job, behind_store, clears, keeps_private, own_cell, own_job, put, sum_up, without}
@@ -76,6 +77,10 @@ sum_more o f g k b c x a p (suc n) lt now here none others = elim (cases_eq p n)
         had : (d : Bool) → b p ≡ d → plus (sum_up o f k b x p) (plus (f (o.cell p k)) a) ≡ plus (if b p then plus (sum_up o f k b x p) (f (o.cell p k)) else sum_up o f k b x p) a
         had true is = plus_nested (sum_up o f k b x p) (f (o.cell p k)) a ∙ ap (λ y. plus (if y then plus (sum_up o f k b x p) (f (o.cell p k)) else sum_up o f k b x p) a) (sym is)
         had false is = ap (λ y. plus (sum_up o f k b x p) (plus y a)) (none is) ∙ plus_behind (sum_up o f k b x p) a ∙ ap (λ y. plus (if y then plus (sum_up o f k b x p) (f (o.cell p k)) else sum_up o f k b x p) a) (sym is)
+
+good_parts : {X : Type 0} (P : X → Type 0) (xs ys : List X) → AllByRecursion P (xs ++ ys) → AllByRecursion P xs × AllByRecursion P ys
+good_parts P [] ys all = (tt, all)
+good_parts P (x ∷ xs) ys all = let rest = good_parts P xs ys all.1 in ((all.0, rest.0), rest.1)
 
 -- ---- what loads give
 
@@ -170,29 +175,39 @@ module _ (o : Own) (apart : AreApart o) (m f : ℕ → ℤ) (last : ℕ → Opti
 
   -- ---- an assignment to a sum scalar
 
-  pub by_sum : (j : Job) (c k : ℕ) → (s : IsSumJob o j c k) → j.adds ≡ false → j.owner < o.workers → AllByRecursion (IsGoodLoad o last j.owner) s.rest →
+  pub by_sum : (j : Job) (c k : ℕ) → (s : IsSumJob o j c k) → j.adds ≡ false → j.owner < o.workers → AllByRecursion (IsGoodLoad o last j.owner) (s.front ++ s.rest) →
       Come o (behind_job m j) (behind_job f (own_job o j)) last (put assigned c (put (assigned c) j.owner true))
   by_sum j c k s plain worker good =
       subst (λ g. Come o g (behind_job f (own_job o j)) last (put assigned c (put (assigned c) j.owner true))) (sym memory_is)
       (subst (λ g. Come o (put m c (plus (m c) a)) g last (put assigned c (put (assigned c) j.owner true))) (sym own_is) stored)
     where
       a : ℤ
-      a = s.amount (map m s.rest)
+      a = s.amount (map m s.front) (map m s.rest)
 
       own : ℕ
       own = o.cell j.owner k
 
-      memory_is : behind_job m j ≡ put m c (plus (m c) (s.amount (map m s.rest)))
-      memory_is = ap (λ x. behind_store m x j.adds (j.assigned (map m j.loads))) s.store ∙ ap (λ b. put m c (changed b (m c) (j.assigned (map m j.loads)))) plain ∙ ap (λ ls. put m c (j.assigned (map m ls))) s.loads ∙ ap (put m c) (s.adds (m c) (map m s.rest))
+      memory_is : behind_job m j ≡ put m c (plus (m c) (s.amount (map m s.front) (map m s.rest)))
+      memory_is = ap (λ x. behind_store m x j.adds (j.assigned (map m j.loads))) s.store ∙ ap (λ b. put m c (changed b (m c) (j.assigned (map m j.loads)))) plain ∙ ap (λ ls. put m c (j.assigned (map m ls))) s.loads ∙ ap (λ vs. put m c (j.assigned vs)) (map-append m s.front (c ∷ s.rest)) ∙ ap (put m c) (s.adds (map m s.front) (m c) (map m s.rest) (length-map s.front m))
 
-      own_is : behind_job f (own_job o j) ≡ put f (o.cell j.owner k) (plus (f (o.cell j.owner k)) (s.amount (map m s.rest)))
+      split_good : AllByRecursion (IsGoodLoad o last j.owner) s.front × AllByRecursion (IsGoodLoad o last j.owner) s.rest
+      split_good = good_parts (IsGoodLoad o last j.owner) s.front s.rest good
+
+      loaded : map f (map (own_cell o j.owner) j.loads) ≡ map m s.front ++ f (own_cell o j.owner c) ∷ map m s.rest
+      loaded =
+          ap (λ ls. map f (map (own_cell o j.owner) ls)) s.loads
+          ∙ ap (map f) (map-append (own_cell o j.owner) s.front (c ∷ s.rest))
+          ∙ map-append f (map (own_cell o j.owner) s.front) (map (own_cell o j.owner) (c ∷ s.rest))
+          ∙ ap (λ us. us ++ f (own_cell o j.owner c) ∷ map f (map (own_cell o j.owner) s.rest)) (loads_give j.owner s.front split_good.0)
+          ∙ ap (λ vs. map m s.front ++ f (own_cell o j.owner c) ∷ vs) (loads_give j.owner s.rest split_good.1)
+
+      own_is : behind_job f (own_job o j) ≡ put f (o.cell j.owner k) (plus (f (o.cell j.owner k)) (s.amount (map m s.front) (map m s.rest)))
       own_is =
           ap (λ x. behind_store f (option_map (own_cell o j.owner) x) j.adds (j.assigned (map f (map (own_cell o j.owner) j.loads)))) s.store
           ∙ ap (λ b. put f (own_cell o j.owner c) (changed b (f (own_cell o j.owner c)) (j.assigned (map f (map (own_cell o j.owner) j.loads))))) plain
-          ∙ ap (λ ls. put f (own_cell o j.owner c) (j.assigned (map f (map (own_cell o j.owner) ls)))) s.loads
-          ∙ ap (λ x. put f (own_cell o j.owner c) x) (s.adds (f (own_cell o j.owner c)) (map f (map (own_cell o j.owner) s.rest)))
-          ∙ ap (λ vs. put f (own_cell o j.owner c) (plus (f (own_cell o j.owner c)) (s.amount vs))) (loads_give j.owner s.rest good)
-          ∙ ap (λ x. put f (at_slot o j.owner c x) (plus (f (at_slot o j.owner c x)) (s.amount (map m s.rest)))) s.slot
+          ∙ ap (λ vs. put f (own_cell o j.owner c) (j.assigned vs)) loaded
+          ∙ ap (λ x. put f (own_cell o j.owner c) x) (s.adds (map m s.front) (f (own_cell o j.owner c)) (map m s.rest) (length-map s.front m))
+          ∙ ap (λ x. put f (at_slot o j.owner c x) (plus (f (at_slot o j.owner c x)) (s.amount (map m s.front) (map m s.rest)))) s.slot
 
       shared_apart : (d : ℕ) → d < o.shared → o.cell j.owner k ≢ d
       shared_apart d lt e = apart.behind j.owner k d lt e
@@ -209,10 +224,10 @@ module _ (o : Own) (apart : AreApart o) (m f : ℕ → ℤ) (last : ℕ → Opti
       same_place : (d l : ℕ) → o.slot d ≡ Some l → c ≡ d → k ≡ l
       same_place d l is e = let places : Some k ≡ Some l = sym s.slot ∙ ap o.slot e ∙ is in cc
 
-      stored : Come o (put m c (plus (m c) (s.amount (map m s.rest)))) (put f (o.cell j.owner k) (plus (f (o.cell j.owner k)) (s.amount (map m s.rest)))) last (put assigned c (put (assigned c) j.owner true))
+      stored : Come o (put m c (plus (m c) (s.amount (map m s.front) (map m s.rest)))) (put f (o.cell j.owner k) (plus (f (o.cell j.owner k)) (s.amount (map m s.front) (map m s.rest)))) last (put assigned c (put (assigned c) j.owner true))
       stored =
-          let v = plus (f (o.cell j.owner k)) (s.amount (map m s.rest)) in
-          let w = plus (m c) (s.amount (map m s.rest)) in
+          let v = plus (f (o.cell j.owner k)) (s.amount (map m s.front) (map m s.rest)) in
+          let w = plus (m c) (s.amount (map m s.front) (map m s.rest)) in
           record {
             plain = λ d lt is. put_other f (o.cell j.owner k) d v (shared_apart d lt) ∙ come.plain d lt is ∙ sym (put_other m c d w (λ e. absurd (clash d is e)));
             kept = λ d l p is sum h. put_other f (o.cell j.owner k) (o.cell p l) v (other_slot d l is (λ e. absurd (no_private d sum e)) p) ∙ come.kept d l p is sum h ∙ sym (put_other m c d w (λ e. absurd (no_private d sum e)));
@@ -235,9 +250,9 @@ module _ (o : Own) (apart : AreApart o) (m f : ℕ → ℤ) (last : ℕ → Opti
           other_owner : (p : ℕ) → p ≢ j.owner → o.cell j.owner k ≢ o.cell p k
           other_owner p ne e = ne (sym (apart.one c c k k s.slot s.slot j.owner p e).0)
 
-          mine : (d l : ℕ) → o.slot d ≡ Some l → c ≡ d → put m c (plus (m c) (s.amount (map m s.rest))) d ≡ sum_up o (put f (o.cell j.owner k) (plus (f (o.cell j.owner k)) (s.amount (map m s.rest)))) l (put assigned c (put (assigned c) j.owner true) d) (put f (o.cell j.owner k) (plus (f (o.cell j.owner k)) (s.amount (map m s.rest))) d) o.workers
+          mine : (d l : ℕ) → o.slot d ≡ Some l → c ≡ d → put m c (plus (m c) (s.amount (map m s.front) (map m s.rest))) d ≡ sum_up o (put f (o.cell j.owner k) (plus (f (o.cell j.owner k)) (s.amount (map m s.front) (map m s.rest)))) l (put assigned c (put (assigned c) j.owner true) d) (put f (o.cell j.owner k) (plus (f (o.cell j.owner k)) (s.amount (map m s.front) (map m s.rest))) d) o.workers
           mine d l is same =
-              let amount = s.amount (map m s.rest) in
+              let amount = s.amount (map m s.front) (map m s.rest) in
               let v = plus (f (o.cell j.owner k)) amount in
               let g = put f (o.cell j.owner k) v in
               let place : k ≡ l = same_place d l is same in
@@ -250,9 +265,9 @@ module _ (o : Own) (apart : AreApart o) (m f : ℕ → ℤ) (last : ℕ → Opti
               ∙ ap (λ n. sum_up o g n (put (assigned c) j.owner true) (g d) o.workers) place
               ∙ ap (λ b. sum_up o g l b (g d) o.workers) (sym (now d same))
 
-          still : (d l p : ℕ) → o.slot d ≡ Some l → o.is_sum d ≡ true → c ≡ d → put assigned c (put (assigned c) j.owner true) d p ≡ false → put f (o.cell j.owner k) (plus (f (o.cell j.owner k)) (s.amount (map m s.rest))) (o.cell p l) ≡ pos 0
+          still : (d l p : ℕ) → o.slot d ≡ Some l → o.is_sum d ≡ true → c ≡ d → put assigned c (put (assigned c) j.owner true) d p ≡ false → put f (o.cell j.owner k) (plus (f (o.cell j.owner k)) (s.amount (map m s.front) (map m s.rest))) (o.cell p l) ≡ pos 0
           still d l p is sum same not_yet =
-              let v = plus (f (o.cell j.owner k)) (s.amount (map m s.rest)) in
+              let v = plus (f (o.cell j.owner k)) (s.amount (map m s.front) (map m s.rest)) in
               let unassigned : put (assigned c) j.owner true p ≡ false = sym (ap (λ b. b p) (now d same)) ∙ not_yet in
               let ne : j.owner ≢ p = λ e. true≢false (sym (put_here (assigned c) j.owner true) ∙ ap (put (assigned c) j.owner true) e ∙ unassigned) in
               let place : k ≡ l = same_place d l is same in

@@ -25,7 +25,7 @@ pub data IsGoodJob (o : Own) (last : ℕ → Option ℕ) (j : Job) : Type 0 wher
   no_store : AllByRecursion (IsGoodLoad o last j.owner) j.loads → j.store ≡ None → IsGoodJob o last j
   to_shared : AllByRecursion (IsGoodLoad o last j.owner) j.loads → (c : ℕ) → j.store ≡ Some c → c < o.shared → o.slot c ≡ None → IsGoodJob o last j
   to_private : AllByRecursion (IsGoodLoad o last j.owner) j.loads → (c k : ℕ) → j.store ≡ Some c → c < o.shared → o.slot c ≡ Some k → o.is_sum c ≡ false → IsGoodJob o last j
-  to_sum : (c k : ℕ) → (s : IsSumJob o j c k) → AllByRecursion (IsGoodLoad o last j.owner) s.rest → IsGoodJob o last j
+  to_sum : (c k : ℕ) → (s : IsSumJob o j c k) → AllByRecursion (IsGoodLoad o last j.owner) (s.front ++ s.rest) → IsGoodJob o last j
 
 abbrev pub AreGoodJobs : Own → (ℕ → Option ℕ) → List Job → Type 0
 AreGoodJobs o last [] = Unit {0}

@@ -11,7 +11,7 @@ use Rattle.nest_model.specs.Visits.{Visit}
 use Rattle.sync_plan.specs.declared.plan.Plan.{Plan}
 use Rattle.sync_plan.proofs.Gets.{get-behind, get-front}
 use Rattle.spmd_model.specs.Timelines.{Job, Moment, job}
-use Rattle.spmd_model.specs.Styled.{Part, moments_of, part_of, part_place, parts_from, signal_barriers}
+use Rattle.spmd_model.specs.Machines.{Part, moments_of, part_of, part_place, parts_from, signal_barriers}
 use Rattle.spmd_model.specs.declared.style.Style.{Style}
 
 pub part_step : (ps : List Part) (k : ℕ) (p : Part) → slice_get ps k ≡ Some p → part_place ps (suc k) ≡ part_place ps k + length (moments_of p)

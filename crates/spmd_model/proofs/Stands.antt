@@ -26,7 +26,7 @@ use Rattle.sync_plan.proofs.Gets.{get-behind, get-front}
 use Rattle.spmd_model.specs.Closings.{closings_of, has_stored, keeping, keeping_of, last_loops, last_owner, moves_to, phase_owner, sets_to_zero, total_of, totalling, totalling_of}
 use Rattle.spmd_model.specs.Lawful.{stores_to}
 use Rattle.spmd_model.specs.Ordered.{Needs}
-use Rattle.spmd_model.specs.Styled.{instance_jobs, job_under}
+use Rattle.spmd_model.specs.Machines.{instance_jobs, job_under}
 use Rattle.spmd_model.specs.Timelines.{Job}
 use Rattle.spmd_model.proofs.CellsThere.{IsGoodWork, cells_there, execution_inside, good_of}
 use Rattle.spmd_model.proofs.LastStores.{last_store}

@@ -15,6 +15,11 @@ pub mod Trips
 pub mod Planned
 pub mod Deeds
 pub mod Closings
-pub mod Styled
-pub mod StyledDeeds
+pub mod Machines
+pub mod MachineDeeds
 pub mod Examples
+pub mod Protocols
+pub mod Laws
+pub mod Viewed
+pub mod PlanProtocols
+pub mod ProtocolExamples

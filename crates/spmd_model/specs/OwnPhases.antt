@@ -1,5 +1,5 @@
 -- A phase with own scalars: what its jobs do on memory as a whole, and what they do where each processor has cells of its own for these scalars.
-use Rattle.std.specs.Prelude.{ℕ, zero, suc, ◌≡◌, ◌≢◌, ◌<◌, ◌⊎◌, ◌==◌, ℤ, pos, Bool, true, false, List, [], ◌∷◌, map, Option, Some, None, if◌then◌else◌}
+use Rattle.std.specs.Prelude.{ℕ, zero, suc, ◌≡◌, ◌≢◌, ◌<◌, ◌⊎◌, ◌==◌, ℤ, pos, Bool, true, false, List, [], ◌∷◌, ◌++◌, length, map, Option, Some, None, if◌then◌else◌}
 use Rattle.std.specs.Option.{option_map}
 pub use Rattle.sync_plan.specs.Own.{Own, at_slot, own_cell}
 use Rattle.spmd_model.specs.Cells.{changed, plus}
@@ -46,15 +46,16 @@ pub record Come (o : Own) (m f : ℕ → ℤ) (last : ℕ → Option ℕ) (assig
 abbrev pub IsGoodLoad : Own → (ℕ → Option ℕ) → ℕ → ℕ → Type 0
 IsGoodLoad o last p c = (c < o.shared) × ((o.slot c ≡ None) ⊎ ((o.is_sum c ≡ false) × (last c ≡ Some p)))
 
--- an assignment to a sum scalar: it loads that first, and then adds to it what the other loads make
+-- an assignment to a sum scalar: it loads that once, and adds to it what the other loads make
 pub record IsSumJob (o : Own) (j : Job) (c k : ℕ) : Type 0 where
   pub slot : o.slot c ≡ Some k
   pub sum : o.is_sum c ≡ true
   pub store : j.store ≡ Some c
+  pub front : List ℕ
   pub rest : List ℕ
-  pub loads : j.loads ≡ c ∷ rest
-  pub amount : List ℤ → ℤ
-  pub adds : (x : ℤ) (vs : List ℤ) → j.assigned (x ∷ vs) ≡ plus x (amount vs)
+  pub loads : j.loads ≡ front ++ c ∷ rest
+  pub amount : List ℤ → List ℤ → ℤ
+  pub adds : (us : List ℤ) (x : ℤ) (vs : List ℤ) → length us ≡ length front → j.assigned (us ++ x ∷ vs) ≡ plus x (amount us vs)
 
 -- ---- closings
 

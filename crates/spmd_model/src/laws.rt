@@ -24,8 +24,8 @@ ghost use Rattle.spmd_model.specs.Reached.{CanGo, IsPossibleAt, memory_by, state
 ghost use Rattle.spmd_model.specs.Rounds.{AreEnough, AreRounds, rounds_of};
 ghost use Rattle.nest_model.specs.Accesses.{loads_of};
 ghost use Rattle.sync_plan.specs.Own.{own_of};
-ghost use Rattle.spmd_model.specs.Styled.{instances_in_front, is_by_signals, job_under, machine_by, part_place, parts_by, timeline_by};
-ghost use Rattle.spmd_model.specs.StyledDeeds.{HasNoOwn, deeds_by};
+ghost use Rattle.spmd_model.specs.Machines.{instances_in_front, is_by_signals, job_under, machine_by, part_place, parts_by, timeline_by};
+ghost use Rattle.spmd_model.specs.MachineDeeds.{HasNoOwn, deeds_by};
 ghost use Rattle.spmd_model.specs.declared.style.Style.{Style};
 ghost use Rattle.spmd_model.specs.declared.style.Style.TheVariants.{Arrive};
 ghost use Rattle.nest_model.specs.Ranges.{IsInRange};
@@ -105,7 +105,7 @@ pub fn own_cells_follow()
     ensures sum { (o : Own) (m f : ℕ → ℤ) (last : ℕ → Option ℕ) (assigned : ℕ → ℕ
         → Bool) (j : Job) (c k : ℕ) → AreApart o → Come o m f last assigned
         → (s : IsSumJob o j c k) → j.adds ≡ false → j.owner < o.workers
-        → AllByRecursion (IsGoodLoad o last j.owner) s.rest
+        → AllByRecursion (IsGoodLoad o last j.owner) (s.front ++ s.rest)
         → Come o (behind_job m j) (behind_job f (own_job o j)) last (put assigned c (put (assigned
         c) j.owner true)) }
     ensures kept { (o : Own) (m f : ℕ → ℤ) (last : ℕ → Option ℕ) (assigned : ℕ → ℕ

@@ -47,13 +47,17 @@ pub fn answer_in<R: Threads + Sync, S: Source, G: Gate + Sync>(
     words: &[&str],
     source: &mut S,
 ) -> Result<(Answer, Option<Receipt>), Trouble>
-    ensures due { IfOk result (λ r. IsAnswerFrom (texts words.now) (S.left source.old) (due_in r.0) r.1) }
+    ensures due { IfOk result (λ r. IsAnswerFrom (texts words.now) (S.left source.old)
+        (due_in r.0) r.1) }
     ensures said { IfOk result (λ r. IsTrue (is_said r.0.status)) }
-    ensures end { (w : Wanted) → ReadFor (texts words.now) w → IfOk result (λ r. r.0.status ≢ Status.TooLong → IsAtEnd (S.left source.new)) }
-    ensures stops { IfOk result (λ r. r.0.status ≡ Status.TooLong → TakesBytes (S.left source.old) (S.left source.new) (most_bytes + 1)) }
+    ensures end { (w : Wanted) → ReadFor (texts words.now) w
+        → IfOk result (λ r. r.0.status ≢ Status.TooLong → IsAtEnd (S.left source.new)) }
+    ensures stops { IfOk result (λ r. r.0.status ≡ Status.TooLong
+        → TakesBytes (S.left source.old) (S.left source.new) (most_bytes + 1)) }
     ensures unread { ((w : Wanted) → ReadFor (texts words.now) w → ⊥) → source.new ≡ source.old }
     ensures reads { result ≡ Err Trouble.ReadFault → (w : Wanted) × ReadFor (texts words.now) w }
-    ensures fault { result ≡ Err Trouble.ReadFault → Rose (S.faults source.old) (S.faults source.new) }
+    ensures fault { result ≡ Err Trouble.ReadFault
+        → Rose (S.faults source.old) (S.faults source.new) }
     ensures no_fault { S.faults source.old < S.faults source.new → result ≡ Err Trouble.ReadFault }
 {
     let alloc = host.alloc;
@@ -73,14 +77,20 @@ fn answer_for<R: Threads + Sync, S: Source, G: Gate + Sync>(
     source: &mut S,
 ) -> Result<(Answer, Option<Receipt>), Trouble>
     requires { IsCounted (wanted request.now) }
-    ensures due { IfOk result (λ r. IsAnswerOf (wanted request.now) (S.left source.old) (due_in r.0) r.1) }
+    ensures due { IfOk result (λ r. IsAnswerOf (wanted request.now) (S.left source.old)
+        (due_in r.0) r.1) }
     ensures said { IfOk result (λ r. IsTrue (is_said r.0.status)) }
-    ensures end { first_wrong (wanted request.now) ≡ None → reads (wanted request.now) ≡ true → IfOk result (λ r. r.0.status ≢ Status.TooLong → IsAtEnd (S.left source.new)) }
-    ensures stops { IfOk result (λ r. r.0.status ≡ Status.TooLong → TakesBytes (S.left source.old) (S.left source.new) (most_bytes + 1)) }
-    ensures unread { (index : ℕ) → first_wrong (wanted request.now) ≡ Some index → source.new ≡ source.old }
+    ensures end { first_wrong (wanted request.now) ≡ None → reads (wanted request.now) ≡ true
+        → IfOk result (λ r. r.0.status ≢ Status.TooLong → IsAtEnd (S.left source.new)) }
+    ensures stops { IfOk result (λ r. r.0.status ≡ Status.TooLong
+        → TakesBytes (S.left source.old) (S.left source.new) (most_bytes + 1)) }
+    ensures unread { (index : ℕ) → first_wrong (wanted request.now) ≡ Some index
+        → source.new ≡ source.old }
     ensures unasked { reads (wanted request.now) ≡ false → source.new ≡ source.old }
-    ensures reads { result ≡ Err Trouble.ReadFault → (first_wrong (wanted request.now) ≡ None) × (reads (wanted request.now) ≡ true) }
-    ensures fault { result ≡ Err Trouble.ReadFault → Rose (S.faults source.old) (S.faults source.new) }
+    ensures reads { result ≡ Err Trouble.ReadFault → (first_wrong (wanted request.now) ≡ None)
+        × (reads (wanted request.now) ≡ true) }
+    ensures fault { result ≡ Err Trouble.ReadFault
+        → Rose (S.faults source.old) (S.faults source.new) }
     ensures no_fault { S.faults source.old < S.faults source.new → result ≡ Err Trouble.ReadFault }
 {
     let alloc = host.alloc;
@@ -105,14 +115,17 @@ fn source_of<S: Source>(
     source: &mut S,
 ) -> Result<Vec<u8>, ReadTrouble>
     requires { IsCounted (wanted request.now) }
-    ensures bytes { IfOk result (λ bytes. (all : List ℕ) × AreTold (S.left source.old) all × (bytes.items ≡ source_for (wanted request.now) all)) }
+    ensures bytes { IfOk result (λ bytes. (all : List ℕ) × AreTold (S.left source.old) all
+        × (bytes.items ≡ source_for (wanted request.now) all)) }
     ensures short { IfOk result (λ bytes. length bytes.items ≤ most_bytes) }
     ensures end { reads (wanted request.now) ≡ true → OnOk result (IsAtEnd (S.left source.new)) }
     ensures unread { reads (wanted request.now) ≡ false → source.new ≡ source.old }
     ensures reads { result ≡ Err ReadTrouble.Fault → reads (wanted request.now) ≡ true }
-    ensures fault { result ≡ Err ReadTrouble.Fault → Rose (S.faults source.old) (S.faults source.new) }
+    ensures fault { result ≡ Err ReadTrouble.Fault
+        → Rose (S.faults source.old) (S.faults source.new) }
     ensures no_fault { S.faults source.old < S.faults source.new → result ≡ Err ReadTrouble.Fault }
-    ensures long { result ≡ Err ReadTrouble.TooLong → (reads (wanted request.now) ≡ true) × TakesBytes (S.left source.old) (S.left source.new) (most_bytes + 1) }
+    ensures long { result ≡ Err ReadTrouble.TooLong → (reads (wanted request.now) ≡ true)
+        × TakesBytes (S.left source.old) (S.left source.new) (most_bytes + 1) }
 {
     match request {
         Request::Bench(bench) => Ok(bench_source(alloc, *bench)?),

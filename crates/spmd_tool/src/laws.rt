@@ -12,10 +12,17 @@ ghost use Rattle.spmd_tool.specs.Due.{IsDue, MakeNoPlan};
 /// is made, but for help and the version, whose text is left open. Where no plan is made it is never
 /// so that none is due, and for words that take no plan from behind END either there is one.
 pub fn one_due_text()
-    ensures some { (words : List Text) (bytes : List ℕ) → ((w : Wanted) → Takes words w → behind_of w ≡ Comments) → MakeNoPlan words → (due : Due) × IsDue words bytes due }
-    ensures never_none { (words : List Text) (bytes : List ℕ) → MakeNoPlan words → ((due : Due) → IsDue words bytes due → ⊥) → ⊥ }
-    ensures status { (words : List Text) (bytes : List ℕ) (a b : Due) → IsDue words bytes a → IsDue words bytes b → a.status ≡ b.status }
-    ensures refusal { (words : List Text) (bytes : List ℕ) (a b : Due) → IsDue words bytes a → IsDue words bytes b → a.status ≢ Done → a ≡ b }
-    ensures only { (words : List Text) (bytes : List ℕ) (a b : Due) → asks_to_show words ≡ false → MakeNoPlan words → IsDue words bytes a → IsDue words bytes b → a ≡ b }
-    ensures shown { (words : List Text) (bytes : List ℕ) (a : Due) → asks_to_show words ≡ true → IsDue words bytes a → a.status ≡ Done }
+    ensures some { (words : List Text) (bytes : List ℕ)
+        → ((w : Wanted) → Takes words w → behind_of w ≡ Comments) → MakeNoPlan words → (due : Due)
+        × IsDue words bytes due }
+    ensures never_none { (words : List Text) (bytes : List ℕ) → MakeNoPlan words
+        → ((due : Due) → IsDue words bytes due → ⊥) → ⊥ }
+    ensures status { (words : List Text) (bytes : List ℕ) (a b : Due) → IsDue words bytes a
+        → IsDue words bytes b → a.status ≡ b.status }
+    ensures refusal { (words : List Text) (bytes : List ℕ) (a b : Due) → IsDue words bytes a
+        → IsDue words bytes b → a.status ≢ Done → a ≡ b }
+    ensures only { (words : List Text) (bytes : List ℕ) (a b : Due) → asks_to_show words ≡ false
+        → MakeNoPlan words → IsDue words bytes a → IsDue words bytes b → a ≡ b }
+    ensures shown { (words : List Text) (bytes : List ℕ) (a : Due) → asks_to_show words ≡ true
+        → IsDue words bytes a → a.status ≡ Done }
 {}

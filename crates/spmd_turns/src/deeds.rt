@@ -30,7 +30,8 @@ pub trait Deeds {
 
     /// Stores the value into the cell whose store comes next.
     fn store(&mut self, cell: u32, value: i64)
-        requires { (f : List ℤ → ℤ) × (rest : List Deed) × (left self.old ≡ storing cell f ∷ rest) × (value ≡ f (registers self.old)) }
+        requires { (f : List ℤ → ℤ) × (rest : List Deed) × (left self.old ≡ storing cell f ∷ rest)
+            × (value ≡ f (registers self.old)) }
         ensures left { (f : List ℤ → ℤ) × (left self.old ≡ storing cell f ∷ left self.new) }
         ensures registers { registers self.new ≡ [] }
         ensures printed { printed self.new ≡ printed self.old }
@@ -38,8 +39,10 @@ pub trait Deeds {
 
     /// Past the PRINT that comes next, whose line is printed.
     fn print(&mut self)
-        requires { (line : List ℤ → List ℕ) × (rest : List Deed) × (left self.old ≡ printing line ∷ rest) }
-        ensures left { (line : List ℤ → List ℕ) × (left self.old ≡ printing line ∷ left self.new) × (printed self.new ≡ printed self.old ++ line (registers self.old)) }
+        requires { (line : List ℤ → List ℕ) × (rest : List Deed)
+            × (left self.old ≡ printing line ∷ rest) }
+        ensures left { (line : List ℤ → List ℕ) × (left self.old ≡ printing line ∷ left self.new)
+            × (printed self.new ≡ printed self.old ++ line (registers self.old)) }
         ensures registers { registers self.new ≡ [] }
         ensures kept { kept self.new ≡ kept self.old };
 }

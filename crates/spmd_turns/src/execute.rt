@@ -98,17 +98,22 @@ impl<'a> Executor<'a> {
     /// its store or its line. It takes no memory.
     pub fn execute<D: Deeds>(&mut self, stop: Stop, path: &Path, deeds: &mut D)
         requires can { CanExecute self.old }
-        requires begins { Begins (executor_tree self.old) (rounds_of path.now) stop (D.left deeds.old) }
+        requires begins { Begins (executor_tree self.old) (rounds_of path.now) stop
+            (D.left deeds.old) }
         requires idle { D.registers deeds.old ≡ [] }
         requires output { executor_output self.old ≡ D.printed deeds.old }
-        requires room { length (executor_output self.old) + visit_room (executor_tree self.old) (visit_at (executor_tree self.old) (rounds_of path.now) stop) ≤ executor_room self.old }
+        requires room { length (executor_output self.old) + visit_room (executor_tree self.old)
+            (visit_at (executor_tree self.old) (rounds_of path.now) stop) ≤ executor_room self.old }
         ensures can { CanExecute self.new }
         ensures program { executor_tree self.new ≡ executor_tree self.old }
-        ensures left { (b : Begins (executor_tree self.old) (rounds_of path.now) stop.entry (D.left deeds.old)) → D.left deeds.new ≡ b.rest }
+        ensures left { (b : Begins (executor_tree self.old) (rounds_of path.now) stop.entry
+            (D.left deeds.old)) → D.left deeds.new ≡ b.rest }
         ensures idle { D.registers deeds.new ≡ [] }
         ensures output { executor_output self.new ≡ D.printed deeds.new }
         ensures room { executor_room self.old ≤ executor_room self.new }
-        ensures grown { length (executor_output self.new) ≤ length (executor_output self.old) + visit_room (executor_tree self.old) (visit_at (executor_tree self.old) (rounds_of path.now) stop.entry) }
+        ensures grown { length (executor_output self.new) ≤ length (executor_output self.old)
+            + visit_room (executor_tree self.old)
+            (visit_at (executor_tree self.old) (rounds_of path.now) stop.entry) }
         ensures kept { D.kept deeds.new ≡ D.kept deeds.old }
     {
         path.write_to(&mut self.loops);
@@ -123,12 +128,16 @@ impl<'a> Executor<'a> {
     pub fn repeat<D: Deeds>(&mut self, strip: Strip, deeds: &mut D)
         requires can { CanExecute self.old }
         requires walked { strip_tree strip ≡ executor_tree self.old }
-        requires inside { IsTrue (list_all (is_instance_inside (executor_tree self.old)) (strip_left strip)) }
-        requires left { (rest : List Deed) × (D.left deeds.old ≡ flat_map (instance_deeds (executor_tree self.old)) (strip_left strip) ++ rest) }
+        requires inside { IsTrue (list_all (is_instance_inside (executor_tree self.old))
+            (strip_left strip)) }
+        requires left { (rest : List Deed)
+            × (D.left deeds.old ≡ flat_map (instance_deeds (executor_tree self.old))
+            (strip_left strip) ++ rest) }
         requires idle { D.registers deeds.old ≡ [] }
         ensures can { CanExecute self.new }
         ensures program { executor_tree self.new ≡ executor_tree self.old }
-        ensures left { D.left deeds.old ≡ flat_map (instance_deeds (executor_tree self.old)) (strip_left strip.entry) ++ D.left deeds.new }
+        ensures left { D.left deeds.old ≡ flat_map (instance_deeds (executor_tree self.old))
+            (strip_left strip.entry) ++ D.left deeds.new }
         ensures idle { D.registers deeds.new ≡ [] }
         ensures printed { D.printed deeds.new ≡ D.printed deeds.old }
         ensures output { executor_output self.new ≡ executor_output self.old }
@@ -151,13 +160,16 @@ impl<'a> Executor<'a> {
     fn assign<D: Deeds>(&mut self, stop: Stop, e: &Expr, path: &Path, deeds: &mut D)
         requires can { CanExecute self.old }
         requires written { AreWritten self.old (rounds_of path.now) }
-        requires statement { (target : Access) × (guard : Option Guard) × (line : ℕ) × (stop.item.now ≡ Item.Assign target e.now guard line) }
-        requires begins { Begins (executor_tree self.old) (rounds_of path.now) stop (D.left deeds.old) }
+        requires statement { (target : Access) × (guard : Option Guard) × (line : ℕ)
+            × (stop.item.now ≡ Item.Assign target e.now guard line) }
+        requires begins { Begins (executor_tree self.old) (rounds_of path.now) stop
+            (D.left deeds.old) }
         requires idle { D.registers deeds.old ≡ [] }
         ensures can { CanExecute self.new }
         ensures program { executor_tree self.new ≡ executor_tree self.old }
         ensures loops { self.new.loops.items ≡ self.old.loops.items }
-        ensures left { (b : Begins (executor_tree self.old) (rounds_of path.now) stop.entry (D.left deeds.old)) → D.left deeds.new ≡ b.rest }
+        ensures left { (b : Begins (executor_tree self.old) (rounds_of path.now) stop.entry
+            (D.left deeds.old)) → D.left deeds.new ≡ b.rest }
         ensures idle { D.registers deeds.new ≡ [] }
         ensures printed { D.printed deeds.new ≡ D.printed deeds.old }
         ensures output { self.new.output ≡ self.old.output }
@@ -176,18 +188,24 @@ impl<'a> Executor<'a> {
     fn print<D: Deeds>(&mut self, stop: Stop, items: &[PrintItem], path: &Path, deeds: &mut D)
         requires can { CanExecute self.old }
         requires written { AreWritten self.old (rounds_of path.now) }
-        requires statement { (listed : Vec PrintItem Global) × (line : ℕ) × (stop.item.now ≡ Item.Print listed line) × (items.now ≡ listed.items) }
-        requires begins { Begins (executor_tree self.old) (rounds_of path.now) stop (D.left deeds.old) }
+        requires statement { (listed : Vec PrintItem Global) × (line : ℕ)
+            × (stop.item.now ≡ Item.Print listed line) × (items.now ≡ listed.items) }
+        requires begins { Begins (executor_tree self.old) (rounds_of path.now) stop
+            (D.left deeds.old) }
         requires idle { D.registers deeds.old ≡ [] }
         requires output { executor_output self.old ≡ D.printed deeds.old }
-        requires room { length (executor_output self.old) + visit_room (executor_tree self.old) (visit_at (executor_tree self.old) (rounds_of path.now) stop) ≤ executor_room self.old }
+        requires room { length (executor_output self.old) + visit_room (executor_tree self.old)
+            (visit_at (executor_tree self.old) (rounds_of path.now) stop) ≤ executor_room self.old }
         ensures can { CanExecute self.new }
         ensures program { executor_tree self.new ≡ executor_tree self.old }
-        ensures left { (b : Begins (executor_tree self.old) (rounds_of path.now) stop.entry (D.left deeds.old)) → D.left deeds.new ≡ b.rest }
+        ensures left { (b : Begins (executor_tree self.old) (rounds_of path.now) stop.entry
+            (D.left deeds.old)) → D.left deeds.new ≡ b.rest }
         ensures idle { D.registers deeds.new ≡ [] }
         ensures output { executor_output self.new ≡ D.printed deeds.new }
         ensures room { executor_room self.old ≤ executor_room self.new }
-        ensures grown { length (executor_output self.new) ≤ length (executor_output self.old) + visit_room (executor_tree self.old) (visit_at (executor_tree self.old) (rounds_of path.now) stop.entry) }
+        ensures grown { length (executor_output self.new) ≤ length (executor_output self.old)
+            + visit_room (executor_tree self.old)
+            (visit_at (executor_tree self.old) (rounds_of path.now) stop.entry) }
         ensures kept { D.kept deeds.new ≡ D.kept deeds.old }
     {
         let cells = self.table.work(stop.first);
@@ -211,10 +229,12 @@ fn load_all<D: Deeds>(
     deeds: &mut D,
 ) -> usize
     requires within { IsTrue (list_all (is_load_within 1048576 values.now) loads.now) }
-    requires left { (rest : List Deed) × (D.left deeds.old ≡ map loading (flat_map (cells_of_load values.now) loads.now) ++ rest) }
+    requires left { (rest : List Deed)
+        × (D.left deeds.old ≡ map loading (flat_map (cells_of_load values.now) loads.now) ++ rest) }
     requires idle { D.registers deeds.old ≡ [] }
     requires room { widths loads.now ≤ length registers.old }
-    ensures left { D.left deeds.old ≡ map loading (flat_map (cells_of_load values.now) loads.now) ++ D.left deeds.new }
+    ensures left { D.left deeds.old ≡ map loading (flat_map (cells_of_load values.now) loads.now)
+        ++ D.left deeds.new }
     ensures registers { D.registers deeds.new ≡ take result registers.new }
     ensures count { result ≡ widths loads.now }
     ensures printed { D.printed deeds.new ≡ D.printed deeds.old }
@@ -236,9 +256,11 @@ fn load_one<D: Deeds>(
     deeds: &mut D,
 ) -> usize
     requires within { IsTrue (is_load_within 1048576 values.now load.now) }
-    requires left { (rest : List Deed) × (D.left deeds.old ≡ map loading (cells_of_load values.now load.now) ++ rest) }
+    requires left { (rest : List Deed)
+        × (D.left deeds.old ≡ map loading (cells_of_load values.now load.now) ++ rest) }
     requires room { width load.now ≤ length registers.old }
-    ensures left { D.left deeds.old ≡ map loading (cells_of_load values.now load.now) ++ D.left deeds.new }
+    ensures left { D.left deeds.old ≡ map loading (cells_of_load values.now load.now)
+        ++ D.left deeds.new }
     ensures registers { D.registers deeds.new ≡ D.registers deeds.old ++ take result registers.new }
     ensures count { result ≡ width load.now }
     ensures printed { D.printed deeds.new ≡ D.printed deeds.old }

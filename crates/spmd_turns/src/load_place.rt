@@ -32,8 +32,11 @@ impl LoadPlace {
     /// The cell that the instance at a stop with these loops round it loads next, where it loads
     /// one more.
     pub fn cell(&self, table: &CellTable, stop: Stop, path: &Path) -> Option<usize>
-        requires { (tree : Tree) × (done : ℕ) × IsAtLoad tree table.now path.now stop done self.now }
-        ensures { (tree : Tree) (done : ℕ) (at : IsAtLoad tree table.now path.now stop.entry done self.now) → result ≡ slice_get (loads_of tree at.comes.instance) done }
+        requires { (tree : Tree) × (done : ℕ)
+            × IsAtLoad tree table.now path.now stop done self.now }
+        ensures { (tree : Tree) (done : ℕ)
+            (at : IsAtLoad tree table.now path.now stop.entry done self.now)
+            → result ≡ slice_get (loads_of tree at.comes.instance) done }
     {
         match table.work(stop.first).loads.get(self.load)? {
             LoadCells::Element(form) => Some(form.at(path.values())),
@@ -43,8 +46,12 @@ impl LoadPlace {
 
     /// Past a value that the instance at a stop loads.
     pub fn advance(&mut self, table: &CellTable, stop: Stop)
-        requires { (tree : Tree) × (path : Path) × (done cell : ℕ) × (at : IsAtLoad tree table.now path stop done self.old) × (slice_get (loads_of tree at.comes.instance) done ≡ Some cell) }
-        ensures { (tree : Tree) (path : Path) (done : ℕ) → IsAtLoad tree table.now path stop.entry done self.old → IsAtLoad tree table.now path stop.entry (suc done) self.new }
+        requires { (tree : Tree) × (path : Path) × (done cell : ℕ)
+            × (at : IsAtLoad tree table.now path stop done self.old)
+            × (slice_get (loads_of tree at.comes.instance) done ≡ Some cell) }
+        ensures { (tree : Tree) (path : Path) (done : ℕ)
+            → IsAtLoad tree table.now path stop.entry done self.old
+            → IsAtLoad tree table.now path stop.entry (suc done) self.new }
     {
         let Some(load) = table.work(stop.first).loads.get(self.load) else {
             unreachable!()

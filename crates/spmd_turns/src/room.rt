@@ -49,7 +49,8 @@ fn works_in(item: &Item) -> Option<u32>
 /// The greatest number of values that the loads of one piece of work give, if it can be counted.
 pub fn most_loads(program: &Program, table: &CellTable) -> Option<usize>
     requires { IsCellTable (tree_of program.now) table.now }
-    ensures most { IfSome result (λ n. (k : ℕ) (cells : WorkCells) → slice_get (entries table.now) k ≡ Some cells → widths cells.loads.items ≤ n) }
+    ensures most { IfSome result (λ n. (k : ℕ) (cells : WorkCells)
+        → slice_get (entries table.now) k ≡ Some cells → widths cells.loads.items ≤ n) }
     ensures reached { IfSome result (λ n. IsReached (entries table.now) n) }
 {
     let mut most = 0;
@@ -75,7 +76,8 @@ fn values_of(loads: &[LoadCells]) -> Option<usize>
 pub fn longest_output(program: &Program, closed: &[bool]) -> Option<usize>
     requires formed { IsWellFormed (tree_of program.now) }
     requires limits { IsWithinLimits (tree_of program.now) }
-    ensures { IfSome result (λ n. n ≡ sum_by (visit_room (tree_of program.now)) (visits (tree_of program.now) (enters_but closed.now))) }
+    ensures { IfSome result (λ n. n ≡ sum_by (visit_room (tree_of program.now))
+        (visits (tree_of program.now) (enters_but closed.now))) }
 {
     let mut room: usize = 0;
     let mut cursor = Cursor::new(program, closed);
@@ -90,7 +92,8 @@ pub fn longest_output(program: &Program, closed: &[bool]) -> Option<usize>
 // The greatest number of bytes that the line of a PRINT can have, if it can be counted.
 fn longest_line(program: &Program, items: &[PrintItem]) -> Option<usize>
     requires { IsWellFormed (tree_of program.now) }
-    ensures { IfSome result (λ n. n ≡ longest_items (tree_of program.now) (map printed_of items.now) + 1) }
+    ensures { IfSome result (λ n. n ≡ longest_items (tree_of program.now) (map printed_of items.now)
+        + 1) }
 {
     let mut room: usize = 1;
     for item in items {
@@ -114,7 +117,8 @@ fn longest_item(program: &Program, item: &PrintItem) -> Option<usize>
 // take, if it is there and they can be counted.
 fn longest_array(program: &Program, variable: u32) -> Option<usize>
     requires { IsWellFormed (tree_of program.now) }
-    ensures { IfSome result (λ n. n ≡ 21 * element_count (bounds_of (tree_of program.now) variable)) }
+    ensures { IfSome result (λ n. n
+        ≡ 21 * element_count (bounds_of (tree_of program.now) variable)) }
 {
     let number = variable as usize;
     if number == 0 || program.variables.len() < number {
@@ -134,7 +138,8 @@ pub fn open_printing(items: &[Item], closed: &mut [bool]) -> bool
     ensures prints { result ≡ have_print (statements_from items.now) }
     ensures kept { StayOpen closed.old closed.new }
     ensures silent { AreSilent closed.new (statements_from items.now) }
-    ensures only { (n : ℕ) → is_closed closed.old n ≡ true → is_closed closed.new n ≡ false → IsTrue (is_printing_among (n - 1) (statements_from items.now)) }
+    ensures only { (n : ℕ) → is_closed closed.old n ≡ true → is_closed closed.new n ≡ false
+        → IsTrue (is_printing_among (n - 1) (statements_from items.now)) }
 {
     let mut prints = false;
     for item in items {
@@ -150,7 +155,8 @@ fn opens(item: &Item, closed: &mut [bool]) -> bool
     ensures prints { result ≡ has_print (statement_of item.now) }
     ensures kept { StayOpen closed.old closed.new }
     ensures silent { IsSilent closed.new (statement_of item.now) }
-    ensures only { (n : ℕ) → is_closed closed.old n ≡ true → is_closed closed.new n ≡ false → IsTrue (is_printing_in (n - 1) (statement_of item.now)) }
+    ensures only { (n : ℕ) → is_closed closed.old n ≡ true → is_closed closed.new n ≡ false
+        → IsTrue (is_printing_in (n - 1) (statement_of item.now)) }
 {
     match item {
         Item::Loop(nest) => {
@@ -169,7 +175,8 @@ fn opens(item: &Item, closed: &mut [bool]) -> bool
 fn unmark(closed: &mut [bool], number: u32)
     ensures kept { StayOpen closed.old closed.new }
     ensures gone { is_closed closed.new number ≡ false }
-    ensures only { (n : ℕ) → is_closed closed.old n ≡ true → is_closed closed.new n ≡ false → n - 1 ≡ number - 1 }
+    ensures only { (n : ℕ) → is_closed closed.old n ≡ true → is_closed closed.new n ≡ false
+        → n - 1 ≡ number - 1 }
 {
     let place = (number as usize).saturating_sub(1);
     if place < closed.len() {

@@ -1,18 +1,23 @@
 // What a processor does, turn by turn.
 
-ghost use Rattle.std.specs.Prelude.{◌≡◌, ◌<◌, ◌-◌, ℕ, suc, List, [], ◌∷◌, ◌++◌, IfSome, MatchOption, Some, length, map, slice_get, true, false};
+ghost use Rattle.std.specs.Prelude.{◌≡◌, ◌<◌, ◌-◌, ℕ, suc, List, [], ◌∷◌, ◌++◌, IfSome, MatchOption, Some, length, map, min, slice_get, true, false};
 ghost use Rattle.nest_tree.specs.Limits.{IsWithinLimits};
+ghost use Rattle.nest_tree.specs.Tree.{param_values};
 ghost use Rattle.nest_tree.specs.View.{tree_of};
 ghost use Rattle.nest_tree.specs.WellFormed.{IsWellFormed};
+ghost use Rattle.nest_model.specs.Visits.{Visit};
 ghost use Rattle.nest_walk.specs.InstancesLeft.{instances_left};
 ghost use Rattle.owner_partition.specs.Phases.{phases as phases_of};
+ghost use Rattle.owner_partition.specs.PhasesLeft.{phase_last, phases_tree};
 ghost use Rattle.sync_plan.specs.Fit.{IsFit};
+ghost use Rattle.sync_plan.specs.ProcessorSets.{members};
+ghost use Rattle.sync_plan.specs.Waits.{kind_owner, posts_at, waits_for};
 ghost use Rattle.spmd_turns.specs.Turns.{boundary_of};
 
 use nest_tree::Program;
 use nest_walk::{Path, Stop, Strip};
 use owner_partition::{OwnStops, Phase, PhaseCursor};
-use sync_plan::{Kind, Plan, posts, waits};
+use sync_plan::{Kind, Plan, awaited, is_awaited};
 
 /// How the processors pass a boundary.
 #[derive(Clone, Copy, Debug, PartialEq, Eq)]
@@ -76,7 +81,8 @@ impl<'a> Turns<'a> {
         requires fits { IsFit (tree_of program.now) plan.now }
         requires worker { processor < plan.now.workers }
         ensures sound { AreSound result }
-        ensures turns { turns_left result ≡ turns_from (tree_of program.now) plan.now processor 1 (phases_of (tree_of program.now) plan.now.cut.marks) }
+        ensures turns { turns_left result ≡ turns_from (tree_of program.now) plan.now processor 1
+            (phases_of (tree_of program.now) plan.now.cut.marks) }
         ensures program { turns_tree result ≡ tree_of program.now }
         ensures plan { turns_plan result ≡ plan.now }
         ensures processor { turns_processor result ≡ processor }
@@ -207,12 +213,12 @@ impl<'a> Turns<'a> {
         self.number = phase.number - 1;
         self.boundary = boundary_before(self.plan, &phase);
         self.begins = Some(phase.number);
-        self.posts = posts(self.program, self.plan, self.processor, &phase);
-        self.awaits = waits(self.program, self.plan, self.processor, &phase);
+        let (posts, awaits) = waits_before(self.plan, &self.phases, phase.place, self.processor);
+        self.posts = posts;
+        self.awaits = awaits;
         let anchor = &self.plan.anchors.as_slice()[phase.place as usize - 1];
-        self.own = self
-            .phases
-            .own_iterations(anchor, self.processor, self.plan.workers);
+        self.phases
+            .restart_own(&mut self.own, anchor, self.processor, self.plan.workers);
         true
     }
 
@@ -270,8 +276,10 @@ impl<'a> Turns<'a> {
         ensures program { turns_tree self.new ≡ turns_tree self.old }
         ensures plan { turns_plan self.new ≡ turns_plan self.old }
         ensures processor { turns_processor self.new ≡ turns_processor self.old }
-        ensures passed { (number : ℕ) × (awaited : List ℕ) × (turns_left self.old ≡ map (λ q. awaits q number) awaited ++ turns_left self.new) }
-        ensures phase { (on wanted : ℕ) → IsNext self.old (Next.Await on wanted) → (rest : List Turn) × (turns_left self.new ≡ begins (suc wanted) ∷ rest) }
+        ensures passed { (number : ℕ) × (awaited : List ℕ)
+            × (turns_left self.old ≡ map (λ q. awaits q number) awaited ++ turns_left self.new) }
+        ensures phase { (on wanted : ℕ) → IsNext self.old (Next.Await on wanted)
+            → (rest : List Turn) × (turns_left self.new ≡ begins (suc wanted) ∷ rest) }
     {
         self.awaits = 0;
     }
@@ -283,7 +291,8 @@ impl<'a> Turns<'a> {
     pub fn strip(&mut self) -> Option<Strip<'a>>
         requires { AreSound self.old }
         ensures sound { AreSound self.new }
-        ensures left { MatchOption result (turns_left self.new ≡ turns_left self.old) (λ s. turns_left self.old ≡ map works (strip_left s) ++ turns_left self.new) }
+        ensures left { MatchOption result (turns_left self.new ≡ turns_left self.old)
+            (λ s. turns_left self.old ≡ map works (strip_left s) ++ turns_left self.new) }
         ensures some { IfSome result (λ s. 0 < length (strip_left s)) }
         ensures tree { IfSome result (λ s. strip_tree s ≡ turns_tree self.new) }
         ensures program { turns_tree self.new ≡ turns_tree self.old }
@@ -299,7 +308,8 @@ impl<'a> Turns<'a> {
 
 // How the processors pass the boundary in front of a phase.
 fn boundary_before(plan: &Plan, phase: &Phase) -> Boundary
-    ensures { result ≡ boundary_of (slice_get plan.now.kinds (phase.now.place - 1)) plan.now.workers }
+    ensures { result
+        ≡ boundary_of (slice_get plan.now.kinds (phase.now.place - 1)) plan.now.workers }
 {
     match plan.kind(phase.place) {
         Some(kind) => passed_by(kind, plan.workers),
@@ -316,5 +326,44 @@ fn passed_by(kind: &Kind, workers: u32) -> Boundary
         Boundary::Barrier
     } else {
         Boundary::Counters
+    }
+}
+
+// Whether processor `p` posts in front of the phase that was given last, which is one of this static
+// phase, and the word of those for which it waits there: bit q is processor q.
+fn waits_before(plan: &Plan, phases: &PhaseCursor<'_>, place: u32, p: u32) -> (bool, u64)
+    requires formed { IsWellFormed (phases_tree phases.now) }
+    requires fits { IsFit (phases_tree phases.now) plan.now }
+    requires worker { p < plan.now.workers }
+    ensures posts { (v : Visit) → phase_last phases.now ≡ Some v
+        → result.0 ≡ posts_at (phases_tree phases.now) plan.now p place v.loops }
+    ensures awaits { (v : Visit) → phase_last phases.now ≡ Some v
+        → members result.1 ≡ waits_for (phases_tree phases.now) plan.now p place v.loops }
+{
+    let workers = plan.workers;
+    let Some(kind) = plan.kind(place) else {
+        return (false, 0);
+    };
+    let owner = owner_before(plan, phases, kind, place);
+    (
+        is_awaited(kind, owner, p, workers),
+        awaited(kind, owner, p, workers),
+    )
+}
+
+// The processor that the kind in front of that phase names there: the number of workers where that
+// is none of them, and 0 where the kind has no anchor.
+fn owner_before(plan: &Plan, phases: &PhaseCursor<'_>, kind: &Kind, place: u32) -> u32
+    requires formed { IsWellFormed (phases_tree phases.now) }
+    requires fits { IsFit (phases_tree phases.now) plan.now }
+    requires kind { slice_get plan.now.kinds (place - 1) ≡ Some kind.now }
+    ensures { (v : Visit) → phase_last phases.now ≡ Some v
+        → result
+        ≡ min (kind_owner kind.now plan.now.workers v.loops (param_values (phases_tree phases.now)))
+        plan.now.workers }
+{
+    match kind.anchor() {
+        Some(anchor) => phases.owner(anchor, plan.workers),
+        None => 0,
     }
 }

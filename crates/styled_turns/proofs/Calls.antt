@@ -8,7 +8,7 @@ use Rattle.nest_walk.specs.declared.strip.Strip.{Strip}
 use Rattle.owner_partition.specs.Phases.{phases}
 use Rattle.owner_partition.specs.PhasesLeft.{phases_passed}
 use Rattle.sync_plan.specs.declared.plan.Plan.{Plan}
-use Rattle.spmd_model.specs.StyledDeeds.{HasNoOwn}
+use Rattle.spmd_model.specs.MachineDeeds.{HasNoOwn}
 use Rattle.spmd_model.specs.Timelines.{counter}
 use Rattle.spmd_model.specs.declared.style.Style.{Style}
 use Rattle.spmd_turns.specs.Turns.{Turn, posts, awaits, begins, works}

@@ -13,7 +13,7 @@ use Rattle.sync_plan.specs.declared.plan.Plan.{Plan}
 use Rattle.sync_plan.proofs.ProcessorSets.{range_split}
 use Rattle.spmd_model.specs.Closings.{has_stored, last_owner}
 use Rattle.spmd_model.specs.Deeds.{Deed}
-use Rattle.spmd_model.specs.StyledDeeds.{closing_deeds, kept_by, keeping_deeds, totalled_by, totalling_deeds}
+use Rattle.spmd_model.specs.MachineDeeds.{closing_deeds, kept_by, keeping_deeds, totalled_by, totalling_deeds}
 use Rattle.styled_turns.specs.StyledTurns.{closes, close_deeds, scalar_at}
 use Rattle.styled_turns.proofs.FrontDeeds.{doing}
 use Rattle.spmd_model.proofs.Lists.{contains_at}

@@ -16,7 +16,7 @@ use Rattle.sync_plan.specs.declared.plan.Kind.{Kind}
 use Rattle.sync_plan.specs.declared.plan.Plan.{Plan}
 use Rattle.spmd_model.specs.Deeds.{Deed, posting, awaiting, boundary_deeds}
 use Rattle.spmd_model.specs.Rounds.{awaited_in_round, rounds_of}
-use Rattle.spmd_model.specs.StyledDeeds.{front_deeds, own_deeds, round_deeds}
+use Rattle.spmd_model.specs.MachineDeeds.{front_deeds, own_deeds, round_deeds}
 use Rattle.spmd_model.specs.Timelines.{counter, signal}
 use Rattle.spmd_model.specs.declared.style.Style.{Style}
 use Rattle.spmd_model.specs.declared.style.Style.TheVariants.{Arrive, Dissemination}

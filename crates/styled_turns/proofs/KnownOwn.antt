@@ -29,8 +29,8 @@ use Rattle.own_cells.specs.FinalTrips.{is_final}
 use Rattle.nest_tree.specs.View.{head_of}
 use Rattle.nest_tree.specs.declared.tree.Nest.{Nest}
 use Rattle.own_cells.specs.OwnCells.{AreFew, IsScalarNumber, place_assigned}
-use Rattle.spmd_model.specs.Styled.{is_by_signals}
-use Rattle.spmd_model.specs.StyledDeeds.{HasNoOwn}
+use Rattle.spmd_model.specs.Machines.{is_by_signals}
+use Rattle.spmd_model.specs.MachineDeeds.{HasNoOwn}
 use Rattle.spmd_model.specs.declared.style.Style.{Style}
 use Rattle.spmd_model.specs.declared.style.Style.TheVariants.{Arrive, Dissemination}
 use Rattle.spmd_model.proofs.OwnTexts.{own_in_phase, passes_at, private_is, sum_is}

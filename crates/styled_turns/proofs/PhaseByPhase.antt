@@ -11,8 +11,8 @@ use Rattle.sync_plan.specs.Own.{own_of}
 use Rattle.sync_plan.specs.Waits.{posts_at, waits_for}
 use Rattle.sync_plan.specs.declared.plan.Plan.{Plan}
 use Rattle.spmd_model.specs.Deeds.{boundary_deeds, owned_by}
-use Rattle.spmd_model.specs.Styled.{is_by_signals, signal_barriers}
-use Rattle.spmd_model.specs.StyledDeeds.{closing_deeds, deeds_by, front_deeds, own_deeds}
+use Rattle.spmd_model.specs.Machines.{is_by_signals, signal_barriers}
+use Rattle.spmd_model.specs.MachineDeeds.{closing_deeds, deeds_by, front_deeds, own_deeds}
 use Rattle.spmd_model.specs.Timelines.{counter}
 use Rattle.spmd_model.specs.declared.style.Style.{Style}
 use Rattle.spmd_turns.specs.Turns.{begins, works, boundary_turns, turns_from}

@@ -20,14 +20,14 @@ use Rattle.sync_plan.specs.Shape.{static_phases}
 use Rattle.sync_plan.specs.declared.plan.Plan.{Plan}
 use Rattle.own_cells.specs.OwnCells.{place_assigned}
 use Rattle.spmd_model.specs.Deeds.{posting, awaiting, deed_of, owned_by}
-use Rattle.spmd_model.specs.Styled.{machine_by}
-use Rattle.spmd_model.specs.StyledDeeds.{closing_deeds, deeds_by, own_deeds}
+use Rattle.spmd_model.specs.Machines.{machine_by}
+use Rattle.spmd_model.specs.MachineDeeds.{closing_deeds, deeds_by, own_deeds}
 use Rattle.spmd_model.specs.Timelines.{acts_of, counter}
 use Rattle.spmd_model.specs.declared.style.Style.{Style}
 use Rattle.spmd_model.specs.declared.style.Style.TheVariants.{Arrive}
 use Rattle.spmd_model.proofs.NoOwnDeeds.{plain_deeds, same_deeds}
 use Rattle.spmd_model.proofs.OwnTexts.{AreOwnIn, own_in_phase}
-use Rattle.spmd_model.proofs.StyledDeeds.{styled_deeds}
+use Rattle.spmd_model.proofs.MachineDeeds.{styled_deeds}
 use Rattle.spmd_turns.specs.Turns.{Turn, posts, awaits, begins, works, turn_deeds, turns_from}
 use Rattle.spmd_turns.proofs.TurnDeeds.{turns_do}
 use Rattle.styled_turns.specs.StyledTurns.{closes, Standing, all_rounds, begun, closings, ends_phase, first_standing, is_watched, no_phase, none_pending, places_pending, styled}

@@ -16,8 +16,8 @@ use Rattle.own_cells.specs.FinalTrips.{is_final}
 use Rattle.own_cells.specs.OwnCells.{assigned_place}
 use Rattle.spmd_model.specs.Deeds.{Deed, posting, awaiting}
 use Rattle.spmd_model.specs.Rounds.{awaited_in_round, rounds_of}
-use Rattle.spmd_model.specs.Styled.{is_by_signals}
-use Rattle.spmd_model.specs.StyledDeeds.{keeping_deeds, own_deeds, totalling_deeds}
+use Rattle.spmd_model.specs.Machines.{is_by_signals}
+use Rattle.spmd_model.specs.MachineDeeds.{keeping_deeds, own_deeds, totalling_deeds}
 use Rattle.spmd_model.specs.Timelines.{Word, counter, signal}
 use Rattle.spmd_model.specs.declared.style.Style.{Style}
 use Rattle.spmd_model.specs.declared.style.Style.TheVariants.{Arrive, Dissemination}

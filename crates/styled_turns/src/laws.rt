@@ -10,7 +10,7 @@ ghost use Rattle.owner_partition.specs.Phases.{phases};
 ghost use Rattle.sync_plan.specs.Fit.{IsFit};
 ghost use Rattle.sync_plan.specs.declared.plan.Plan.{Plan};
 ghost use Rattle.spmd_model.specs.Deeds.{deed_of};
-ghost use Rattle.spmd_model.specs.Styled.{machine_by};
+ghost use Rattle.spmd_model.specs.Machines.{machine_by};
 ghost use Rattle.spmd_model.specs.Timelines.{acts_of};
 ghost use Rattle.spmd_model.specs.declared.style.Style.{Style};
 ghost use Rattle.spmd_turns.specs.Turns.{turns_from};
@@ -20,5 +20,9 @@ ghost use Rattle.styled_turns.specs.StyledTurns.{first_standing, styled, styled_
 /// in range do, one behind the other, exactly what its acts do along the plan's timeline in that
 /// style.
 pub fn styled_turns_are_acts()
-    ensures { (style : Style) → (tree : Tree) → (plan : Plan) → (p : ℕ) → IsWellFormed tree → IsWithinLimits tree → IsFit tree plan → IsInRange tree → p < plan.workers → flat_map (styled_deeds tree plan p) (styled style tree plan p first_standing (turns_from tree plan p 1 (phases tree plan.cut.marks))) ≡ map (deed_of (machine_by style tree plan)) (acts_of (machine_by style tree plan) p) }
+    ensures { (style : Style) → (tree : Tree) → (plan : Plan) → (p : ℕ) → IsWellFormed tree
+        → IsWithinLimits tree → IsFit tree plan → IsInRange tree → p < plan.workers
+        → flat_map (styled_deeds tree plan p) (styled style tree plan p first_standing
+        (turns_from tree plan p 1 (phases tree plan.cut.marks)))
+        ≡ map (deed_of (machine_by style tree plan)) (acts_of (machine_by style tree plan) p) }
 {}

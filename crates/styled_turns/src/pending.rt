@@ -7,7 +7,8 @@ use own_cells::OWN_PLACES;
 
 // The first place that is marked.
 pub(crate) fn first_pending(pending: &[bool; OWN_PLACES]) -> Option<usize>
-    ensures first { MatchOption result (places_pending pending.now ≡ []) (λ k. places_pending pending.now ≡ k ∷ places_pending (slice_set pending.now k false)) }
+    ensures first { MatchOption result (places_pending pending.now ≡ [])
+        (λ k. places_pending pending.now ≡ k ∷ places_pending (slice_set pending.now k false)) }
     ensures small { IfSome result (λ k. k < 32) }
 {
     for place in 0..OWN_PLACES {

@@ -92,15 +92,15 @@ pub struct StyledTurns<'a> {
 }
 
 impl<'a> StyledTurns<'a> {
-    ghost use Rattle.std.specs.Prelude.{◌∷◌, ◌++◌, suc, true, false, map, IfSome};
+    ghost use Rattle.std.specs.Prelude.{◌∷◌, ◌++◌, suc, true, false, map, IfSome, slice_set};
     ghost use Rattle.std.specs.List.{range_with_len};
     ghost use Rattle.nest_walk.specs.Strips.{strip_left, strip_tree};
-    ghost use Rattle.spmd_model.specs.StyledDeeds.{HasNoOwn};
+    ghost use Rattle.spmd_model.specs.MachineDeeds.{HasNoOwn};
     ghost use Rattle.spmd_model.specs.Timelines.{counter};
     ghost use Rattle.spmd_model.specs.declared.style.Style.TheVariants.{Arrive};
     ghost use Rattle.spmd_turns.specs.Turns.{Turn, boundary_at, works};
     ghost use Rattle.spmd_turns.specs.TurnsLeft.{IsInstance, turns_boundary, turns_left, turns_plan, turns_tree};
-    ghost use Rattle.styled_turns.specs.StyledTurns.{StyledTurn, runs, waits, behind, first_standing, is_signalled, styled};
+    ghost use Rattle.styled_turns.specs.StyledTurns.{StyledTurn, runs, waits, behind, first_standing, is_signalled, places_pending, styled};
     ghost use Rattle.styled_turns.specs.StyledLeft.{AreStyled, BeginsNext, EndsAlike, EndsPlainly, HasLooked, IsAtCounter, IsBeforeBeginning, IsBeforeCounter, IsCounterOf, IsNextOrPhase, IsOpen, IsSameRun, IsSilent, IsStyledNext, IsTurn, LooksPlainly, PassesPlainly, beginnings_left, standing, styled_left, styled_own, styled_place, styled_plan, styled_processor, styled_rounds, styled_style, styled_tree};
 
     /// All turns of a processor.
@@ -110,13 +110,19 @@ impl<'a> StyledTurns<'a> {
         requires fits { IsFit (tree_of program.now) plan.now }
         requires worker { processor < plan.now.workers }
         ensures sound { AreStyled result }
-        ensures turns { styled_left result ≡ styled style (tree_of program.now) plan.now processor first_standing (turns_from (tree_of program.now) plan.now processor 1 (phases_of (tree_of program.now) plan.now.cut.marks)) }
+        ensures turns { styled_left result
+            ≡ styled style (tree_of program.now) plan.now processor first_standing
+            (turns_from (tree_of program.now) plan.now processor 1
+            (phases_of (tree_of program.now) plan.now.cut.marks)) }
         ensures program { styled_tree result ≡ tree_of program.now }
         ensures plan { styled_plan result ≡ plan.now }
         ensures processor { styled_processor result ≡ processor }
         ensures style { styled_style result ≡ style }
-        ensures begins { beginnings_left result ≡ range_with_len 1 (length (phases_of (tree_of program.now) plan.now.cut.marks)) }
-        ensures plain { turns_left result.turns ≡ turns_from (tree_of program.now) plan.now processor 1 (phases_of (tree_of program.now) plan.now.cut.marks) }
+        ensures begins { beginnings_left result
+            ≡ range_with_len 1 (length (phases_of (tree_of program.now) plan.now.cut.marks)) }
+        ensures plain { turns_left result.turns
+            ≡ turns_from (tree_of program.now) plan.now processor 1
+            (phases_of (tree_of program.now) plan.now.cut.marks) }
     {
         let steps = rounds_of(plan.workers) * 2;
         let has_own = has_own(plan);
@@ -172,7 +178,8 @@ impl<'a> StyledTurns<'a> {
     /// How the boundary is passed whose post or await of a counter comes next.
     pub fn boundary(&self) -> Boundary
         requires { AreStyled self.now }
-        ensures { (number : ℕ) → IsAtCounter self.now number → result ≡ boundary_at (styled_tree self.now) (styled_plan self.now) number }
+        ensures { (number : ℕ) → IsAtCounter self.now number
+            → result ≡ boundary_at (styled_tree self.now) (styled_plan self.now) number }
     {
         self.turns.boundary()
     }
@@ -318,7 +325,7 @@ impl<'a> StyledTurns<'a> {
         if let Next::Work(_) = next {
             return false;
         }
-        if self.step < self.steps || first_pending(&self.pending).is_some() {
+        if self.step < self.steps || self.first_to_close().is_some() {
             return false;
         }
         match next {
@@ -331,7 +338,11 @@ impl<'a> StyledTurns<'a> {
     // Whether the boundary that comes next is passed by signals.
     fn is_signalled(&self) -> bool
         requires sound { AreStyled self.now }
-        ensures { (number : ℕ) → turns_boundary self.now.turns ≡ boundary_at (turns_tree self.now.turns) (turns_plan self.now.turns) number → result ≡ is_signalled self.now.style (styled_tree self.now) (styled_plan self.now) number }
+        ensures { (number : ℕ)
+            → turns_boundary self.now.turns ≡ boundary_at (turns_tree self.now.turns)
+            (turns_plan self.now.turns) number
+            → result ≡ is_signalled self.now.style (styled_tree self.now)
+            (styled_plan self.now) number }
     {
         match self.style {
             Style::Arrive => false,
@@ -363,8 +374,12 @@ impl<'a> StyledTurns<'a> {
         requires sound { AreStyled self.old }
         requires next { IsBeforeCounter self.old }
         ensures sound { AreStyled self.new }
-        ensures silent { (number : ℕ) → IsCounterOf (turns_left self.old.turns) number → is_signalled self.old.style (styled_tree self.old) (styled_plan self.old) number ≡ true → styled_left self.new ≡ styled_left self.old }
-        ensures passed { (number : ℕ) → IsCounterOf (turns_left self.old.turns) number → is_signalled self.old.style (styled_tree self.old) (styled_plan self.old) number ≡ false → (t : StyledTurn) × (styled_left self.old ≡ t ∷ styled_left self.new) }
+        ensures silent { (number : ℕ) → IsCounterOf (turns_left self.old.turns) number
+            → is_signalled self.old.style (styled_tree self.old) (styled_plan self.old) number
+            ≡ true → styled_left self.new ≡ styled_left self.old }
+        ensures passed { (number : ℕ) → IsCounterOf (turns_left self.old.turns) number
+            → is_signalled self.old.style (styled_tree self.old) (styled_plan self.old) number
+            ≡ false → (t : StyledTurn) × (styled_left self.old ≡ t ∷ styled_left self.new) }
         ensures plain { (t : Turn) × (turns_left self.old.turns ≡ t ∷ turns_left self.new.turns) }
         ensures nearer { length (turns_left self.new.turns) < length (turns_left self.old.turns) }
         ensures watched { self.new.is_watched ≡ self.old.is_watched }
@@ -415,7 +430,7 @@ impl<'a> StyledTurns<'a> {
         if let Next::Work(stop) = next {
             return StyledNext::Work(stop);
         }
-        if let Some(place) = first_pending(&self.pending) {
+        if let Some(place) = self.first_to_close() {
             return StyledNext::Close(place);
         }
         match next {
@@ -423,6 +438,21 @@ impl<'a> StyledTurns<'a> {
             Next::Await { on, wanted } => StyledNext::Await { on, wanted },
             Next::Phase(_) | Next::Work(_) => unreachable!(),
             Next::End => StyledNext::End,
+        }
+    }
+
+    // The place of the own scalar that is to be closed first.
+    fn first_to_close(&self) -> Option<usize>
+        requires { AreStyled self.now }
+        ensures first { MatchOption result (places_pending self.now.pending ≡ [])
+            (λ k. places_pending self.now.pending ≡ k
+            ∷ places_pending (slice_set self.now.pending k false)) }
+        ensures small { IfSome result (λ k. k < 32) }
+    {
+        if self.is_watched {
+            first_pending(&self.pending)
+        } else {
+            None
         }
     }
 
@@ -472,8 +502,11 @@ impl<'a> StyledTurns<'a> {
         requires sound { AreStyled self.old }
         requires next { (on wanted : ℕ) × IsStyledNext self.old (StyledNext.Await on wanted) }
         ensures sound { AreStyled self.new }
-        ensures passed { (number : ℕ) × (awaited : List ℕ) × (styled_left self.old ≡ map (λ q. waits counter q number) awaited ++ styled_left self.new) }
-        ensures phase { (on wanted : ℕ) → IsStyledNext self.old (StyledNext.Await on wanted) → BeginsNext self.new (suc wanted) }
+        ensures passed { (number : ℕ) × (awaited : List ℕ)
+            × (styled_left self.old ≡ map (λ q. waits counter q number) awaited
+            ++ styled_left self.new) }
+        ensures phase { (on wanted : ℕ) → IsStyledNext self.old (StyledNext.Await on wanted)
+            → BeginsNext self.new (suc wanted) }
         ensures begins { beginnings_left self.new ≡ beginnings_left self.old }
         ensures same { IsSameRun self.old self.new }
     {
@@ -488,12 +521,17 @@ impl<'a> StyledTurns<'a> {
     pub fn strip(&mut self) -> Option<Strip<'a>>
         requires { AreStyled self.old }
         ensures sound { AreStyled self.new }
-        ensures left { MatchOption result (styled_left self.new ≡ styled_left self.old) (λ s. styled_left self.old ≡ map (runs (styled_place self.old)) (strip_left s) ++ styled_left self.new) }
+        ensures left { MatchOption result (styled_left self.new ≡ styled_left self.old)
+            (λ s. styled_left self.old ≡ map (runs (styled_place self.old)) (strip_left s)
+            ++ styled_left self.new) }
         ensures some { IfSome result (λ s. 0 < length (strip_left s)) }
-        ensures own { IfSome result (λ s. HasNoOwn (styled_tree self.old) (styled_plan self.old) (styled_place self.old)) }
+        ensures own { IfSome result (λ s. HasNoOwn (styled_tree self.old) (styled_plan self.old)
+            (styled_place self.old)) }
         ensures tree { IfSome result (λ s. strip_tree s ≡ styled_tree self.new) }
         ensures begins { beginnings_left self.new ≡ beginnings_left self.old }
-        ensures plain { MatchOption result (turns_left self.new.turns ≡ turns_left self.old.turns) (λ s. turns_left self.old.turns ≡ map works (strip_left s) ++ turns_left self.new.turns) }
+        ensures plain { MatchOption result (turns_left self.new.turns ≡ turns_left self.old.turns)
+            (λ s. turns_left self.old.turns ≡ map works (strip_left s)
+            ++ turns_left self.new.turns) }
         ensures same { IsSameRun self.old self.new }
     {
         if self.step < self.steps || !self.own.is_empty() {
@@ -520,7 +558,11 @@ impl<'a> StyledTurns<'a> {
     fn mark(&mut self, stop: Stop<'a>)
         requires sound { AreStyled self.old }
         requires next { IsStyledNext self.old (StyledNext.Work stop) }
-        ensures marked { (at : IsInstance (turns_tree self.old.turns) (styled_rounds self.old) stop.entry) → self.new.pending ≡ (behind (styled_tree self.old) (styled_plan self.old) (standing self.old) at.instance).pending }
+        ensures marked { (at : IsInstance (turns_tree self.old.turns)
+            (styled_rounds self.old) stop.entry)
+            → self.new.pending
+            ≡ (behind (styled_tree self.old) (styled_plan self.old)
+            (standing self.old) at.instance).pending }
         ensures same { self.new ≡ record self.old { pending = self.new.pending } }
     {
         if !self.has_own {
@@ -537,7 +579,9 @@ impl<'a> StyledTurns<'a> {
     fn is_in_last_trip(&self, stop: Stop<'a>) -> bool
         requires sound { AreStyled self.now }
         requires next { IsStyledNext self.now (StyledNext.Work stop) }
-        ensures { (pending : List Bool) → (at : IsInstance (turns_tree self.now.turns) (styled_rounds self.now) stop.entry) → EndsAlike self.now pending result at.instance.loops }
+        ensures { (pending : List Bool)
+            → (at : IsInstance (turns_tree self.now.turns) (styled_rounds self.now) stop.entry)
+            → EndsAlike self.now pending result at.instance.loops }
     {
         let Some(nest) = self.nest else {
             return false;
@@ -580,8 +624,11 @@ fn own_at<'a>(
     requires cells { cell_count (tree_of program.now) ≤ 1048576 }
     requires few { AreFew (tree_of program.now) (own_loop (tree_of program.now) plan.now place) }
     requires has { is_some ≡ has_own plan.now }
-    ensures cells { AreOwnCells (tree_of program.now) (own_loop (tree_of program.now) plan.now place) result.0 }
-    ensures nest { MatchOption result.1 ((own_loop (tree_of program.now) plan.now place).privates ≡ []) (λ n. IsPlaced (slice_get (static_phases (tree_of program.now) plan.now.cut.marks) (place - 1)) n.now) }
+    ensures cells { AreOwnCells (tree_of program.now)
+        (own_loop (tree_of program.now) plan.now place) result.0 }
+    ensures nest { MatchOption result.1 ((own_loop (tree_of program.now) plan.now place).privates
+        ≡ []) (λ n. IsPlaced (slice_get (static_phases (tree_of program.now) plan.now.cut.marks)
+        (place - 1)) n.now) }
 {
     if !is_some {
         return (OwnCells::none(), None);

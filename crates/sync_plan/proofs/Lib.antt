@@ -1,12 +1,9 @@
 pub mod ProcessorSets
 pub mod KindBits
-pub mod PointForms
 pub mod NamedLoops
 pub mod Fits
-pub mod PhaseValues
 pub mod Gets
 pub mod PhasePlaces
 pub mod FitOwners
 pub mod BarrierOrder
-pub mod OuterLoops
 pub mod OwnVersions

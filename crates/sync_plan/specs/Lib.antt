@@ -1,6 +1,5 @@
 pub mod Kinds
 pub mod ProcessorSets
-pub mod PhaseLoops
 pub mod Waits
 pub mod Own
 pub mod Conflicts
@@ -9,5 +8,4 @@ pub mod Ordered
 pub mod Shape
 pub mod Fit
 pub mod Barriers
-pub mod Points
 pub mod Boundaries

@@ -22,7 +22,8 @@ pub fn all_barrier(
     workers: u32,
     certificates: Vec<Certificate>,
 ) -> Result<Plan, AllocError>
-    ensures { IfOk result (λ plan. plan ≡ barrier_plan cut anchors.items workers certificates.items) }
+    ensures { IfOk result (λ plan. plan
+        ≡ barrier_plan cut anchors.items workers certificates.items) }
 {
     let kinds = barriers(alloc, anchors.len())?;
     Ok(Plan {

@@ -8,11 +8,10 @@
 
 pub mod barriers;
 mod laws;
-mod owners;
 pub mod plan;
 pub mod waiting;
 
 pub use barriers::all_barrier;
-pub use laws::{barriers_order_phases, outer_values_give_loops, owners_are_processors};
+pub use laws::{barriers_order_phases, owners_are_processors};
 pub use plan::{ConditionRow, Conditions, Kind, Plan, Version};
-pub use waiting::{awaited, is_awaited, posts, waits};
+pub use waiting::{awaited, is_awaited};

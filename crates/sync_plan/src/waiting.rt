@@ -2,17 +2,10 @@
 
 ghost use Rattle.std.specs.Prelude.{◌≡◌, ◌==◌, ℕ, ◌<◌, ◌≤◌, if◌then◌else◌};
 ghost use Rattle.std.specs.Int.{bit_at};
-ghost use Rattle.nest_tree.specs.View.{tree_of};
-ghost use Rattle.nest_tree.specs.WellFormed.{IsWellFormed};
-ghost use Rattle.sync_plan.specs.Fit.{IsFit};
-ghost use Rattle.sync_plan.specs.PhaseLoops.{phase_loops};
 ghost use Rattle.sync_plan.specs.ProcessorSets.{members};
-ghost use Rattle.sync_plan.specs.Waits.{awaited_at, is_awaited_at, posts_at, waits_for};
+ghost use Rattle.sync_plan.specs.Waits.{awaited_at, is_awaited_at};
 
-use crate::owners::producer;
-use crate::plan::{Kind, Plan};
-use nest_tree::Program;
-use owner_partition::Phase;
+use crate::plan::Kind;
 
 impl Kind {
     ghost use Rattle.std.specs.Prelude.{Some};
@@ -38,33 +31,6 @@ impl Kind {
             Kind::Left | Kind::Right | Kind::Both | Kind::Barrier => false,
             Kind::Join => true,
         }
-    }
-}
-
-/// The word of the processors for which `p` waits in front of a phase: bit q is processor q. It
-/// goes down the program's text to the phase; [`awaited`] costs the same wherever the phase is.
-pub fn waits(program: &Program, plan: &Plan, p: u32, phase: &Phase) -> u64
-    requires formed { IsWellFormed (tree_of program.now) }
-    requires fits { IsFit (tree_of program.now) plan.now }
-    requires worker { p < plan.now.workers }
-    ensures { members result ≡ waits_for (tree_of program.now) plan.now p phase.now.place (phase_loops (tree_of program.now) plan.now.cut.marks phase.now.place phase.now.outer) }
-{
-    match plan.kind(phase.place) {
-        Some(kind) => awaited(kind, producer(program, plan, kind, phase), p, plan.workers),
-        None => 0,
-    }
-}
-
-/// Whether `q` posts in front of a phase: some processor waits for it there.
-pub fn posts(program: &Program, plan: &Plan, q: u32, phase: &Phase) -> bool
-    requires formed { IsWellFormed (tree_of program.now) }
-    requires fits { IsFit (tree_of program.now) plan.now }
-    requires worker { q < plan.now.workers }
-    ensures { result ≡ posts_at (tree_of program.now) plan.now q phase.now.place (phase_loops (tree_of program.now) plan.now.cut.marks phase.now.place phase.now.outer) }
-{
-    match plan.kind(phase.place) {
-        Some(kind) => is_awaited(kind, producer(program, plan, kind, phase), q, plan.workers),
-        None => false,
     }
 }
 

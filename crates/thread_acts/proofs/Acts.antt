@@ -20,10 +20,10 @@ use Rattle.sync_plan.specs.declared.plan.Plan.{Plan}
 use Rattle.sync_plan.specs.Waits.{awaited_at, awaited_behind, is_awaited_at, is_awaited_behind, kind_owner}
 use Rattle.sync_plan.proofs.PhasePlaces.{IsThereFrom, visit_there}
 use Rattle.spmd_model.specs.Deeds.{boundary_deeds, deed_of}
-use Rattle.spmd_model.specs.Styled.{machine_by}
-use Rattle.spmd_model.specs.StyledDeeds.{deeds_by}
+use Rattle.spmd_model.specs.Machines.{machine_by}
+use Rattle.spmd_model.specs.MachineDeeds.{deeds_by}
 use Rattle.spmd_model.proofs.Deeds.{anchored}
-use Rattle.spmd_model.proofs.StyledDeeds.{styled_deeds}
+use Rattle.spmd_model.proofs.MachineDeeds.{styled_deeds}
 use Rattle.spmd_model.specs.Timelines.{acts_of, counter}
 use Rattle.spmd_model.specs.declared.style.Style.TheVariants.{Arrive}
 use Rattle.spmd_model.proofs.OwnTexts.{own_in_phase}

@@ -11,7 +11,7 @@ use Rattle.owner_partition.specs.declared.anchor.Anchor.{Anchor}
 use Rattle.owner_partition.specs.Owners.{anchor_owner}
 use Rattle.sync_plan.specs.Own.{Own, own_cell}
 use Rattle.spmd_model.specs.Deeds.{Deed}
-use Rattle.spmd_model.specs.StyledDeeds.{keeping_deeds, kept_by}
+use Rattle.spmd_model.specs.MachineDeeds.{keeping_deeds, kept_by}
 use Rattle.thread_acts.specs.ThreadDeeds.{Thread, give_private, has_last_trip, has_trips, last_trip, thread_params}
 
 -- ---- lists

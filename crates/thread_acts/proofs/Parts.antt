@@ -22,7 +22,7 @@ use Rattle.sync_plan.specs.declared.plan.Plan.{Plan}
 use Rattle.spmd_model.specs.Closings.{last_loops}
 use Rattle.spmd_model.specs.Deeds.{Deed, owned_by}
 use Rattle.spmd_model.specs.Lawful.{stores_to}
-use Rattle.spmd_model.specs.StyledDeeds.{kept_by, own_deeds, totalled_by}
+use Rattle.spmd_model.specs.MachineDeeds.{kept_by, own_deeds, totalled_by}
 use Rattle.thread_code.specs.Closed.{AreTurnings}
 use Rattle.thread_code.specs.Code.{Finding, Table, finding_by, share_by, trips_of, up_to_sixteen, work_of}
 use Rattle.thread_acts.specs.ThreadDeeds.{Thread, has_assigned, has_trips, instances_found, is_named, own_for, share_closings, share_deeds, thread_of}

@@ -12,7 +12,7 @@ use Rattle.spmd_model.specs.Timelines.{Act, Machine, acts_of}
 use Rattle.spmd_model.proofs.Deeds.{acted_is, possible_is}
 use Rattle.spmd_model.specs.Fair.{IsFair, first_of}
 use Rattle.spmd_model.specs.Reached.{CanGo}
-use Rattle.spmd_model.specs.Styled.{machine_by}
+use Rattle.spmd_model.specs.Machines.{machine_by}
 use Rattle.spmd_model.specs.declared.style.Style.TheVariants.{Arrive}
 use Rattle.nest_tree.specs.Tree.{Tree}
 use Rattle.nest_tree.specs.WellFormed.{IsWellFormed}

@@ -11,7 +11,7 @@ use Rattle.sync_plan.specs.declared.plan.Plan.{Plan}
 use Rattle.sync_plan.specs.Own.{own_of}
 use Rattle.sync_plan.specs.Waits.{posts_at, waits_for}
 use Rattle.spmd_model.specs.Deeds.{Deed, boundary_deeds, owned_by}
-use Rattle.spmd_model.specs.StyledDeeds.{closing_deeds, deeds_by, own_deeds}
+use Rattle.spmd_model.specs.MachineDeeds.{closing_deeds, deeds_by, own_deeds}
 use Rattle.spmd_model.specs.Timelines.{counter}
 use Rattle.spmd_model.specs.declared.style.Style.TheVariants.{Arrive}
 use Rattle.thread_code.specs.Code.{Table, code_in, codes_in, codes_of, each, phase_at, share_by}

@@ -15,7 +15,7 @@ use Rattle.sync_plan.specs.declared.plan.Plan.{Plan}
 use Rattle.sync_plan.specs.Own.{Own, is_cell_of, own_cell, place_in}
 use Rattle.spmd_model.specs.Deeds.{Deed, posting, awaiting}
 use Rattle.spmd_model.specs.Lawful.{stores_to}
-use Rattle.spmd_model.specs.StyledDeeds.{keeping_deeds, own_deeds, totalled_by}
+use Rattle.spmd_model.specs.MachineDeeds.{keeping_deeds, own_deeds, totalled_by}
 use Rattle.spmd_model.specs.Timelines.{counter}
 use Rattle.thread_code.specs.Closed.{block_values, turn_values}
 use Rattle.thread_code.specs.Code.{Finding, all_of, in_block, in_turn, Share, trips_of, work_of, no_share, Node, each, phase, no_node, Nodes, end, one_then}

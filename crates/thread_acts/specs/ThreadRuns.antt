@@ -4,7 +4,7 @@ use Rattle.nest_tree.specs.Tree.{Tree}
 use Rattle.sync_plan.specs.declared.plan.Plan.{Plan}
 use Rattle.spmd_model.specs.Deeds.{Deed, can_do, did}
 use Rattle.spmd_model.specs.States.{State, first_state, moved}
-use Rattle.spmd_model.specs.Styled.{machine_by}
+use Rattle.spmd_model.specs.Machines.{machine_by}
 use Rattle.spmd_model.specs.declared.style.Style.TheVariants.{Arrive}
 use Rattle.thread_code.specs.Code.{Nodes}
 use Rattle.thread_acts.specs.ThreadDeeds.{code_deeds}

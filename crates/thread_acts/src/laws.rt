@@ -16,7 +16,7 @@ ghost use Rattle.sync_plan.specs.declared.plan.Plan.{Plan};
 ghost use Rattle.spmd_model.specs.Deeds.{deed_of};
 ghost use Rattle.spmd_model.specs.Fair.{IsFair, first_of};
 ghost use Rattle.spmd_model.specs.States.{next_act, run_of};
-ghost use Rattle.spmd_model.specs.Styled.{machine_by};
+ghost use Rattle.spmd_model.specs.Machines.{machine_by};
 ghost use Rattle.spmd_model.specs.Timelines.{acts_of};
 ghost use Rattle.spmd_model.specs.declared.style.Style.TheVariants.{Arrive};
 ghost use Rattle.thread_code.specs.Closed.{AreTurnings, IsTurningOf, floored, raised, turn_from};

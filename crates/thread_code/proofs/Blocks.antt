@@ -13,8 +13,8 @@ use Rattle.owner_partition.specs.declared.anchor.Anchor.{Anchor}
 use Rattle.owner_partition.specs.declared.anchor.Dist.TheVariants.{Block}
 use Rattle.owner_partition.specs.OwnInstances.{coefficient_of, own_values}
 use Rattle.owner_partition.specs.OwnTrips.{IsOwnRange}
-use Rattle.thread_code.proofs.Limits.{block_is}
-use Rattle.thread_code.proofs.Strides.{stretch}
+use Rattle.owner_partition.proofs.Limits.{block_is}
+use Rattle.owner_partition.proofs.Strides.{stretch}
 use Rattle.thread_code.specs.Closed.{block_values, high_value, low_value, raised, window}
 use Rattle.thread_code.proofs.Found.{rest_of}
 use Rattle.thread_code.proofs.OwnValues.{ceil_one, closed_values, trip_place}

@@ -10,7 +10,7 @@ use Rattle.nest_tree.specs.Layout.{count_of}
 use Rattle.nest_tree.specs.Form.{Form, dot, form_value, is_form, is_small, numbered, rises_above}
 use Rattle.nest_model.specs.Instances.{with_loop}
 use Rattle.nest_walk.proofs.Products.{add-mul, mul-add, mul_assoc_ℤ}
-use Rattle.thread_code.proofs.Congruences.{residue_of}
+use Rattle.owner_partition.proofs.Congruences.{residue_of}
 use Rattle.thread_code.specs.Closed.{IsSamePlace}
 use Rattle.thread_code.specs.Code.{plus_times, reduced, reduced_pairs, times_pairs, without}
 use Rattle.thread_code.proofs.Rounded.{same_rest}

@@ -1,7 +1,3 @@
-mod Euclid
-mod Congruences
-mod Limits
-mod Strides
 pub mod Rounded
 pub mod TripCounts
 pub mod OwnValues

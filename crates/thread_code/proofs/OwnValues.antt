@@ -13,7 +13,7 @@ use Rattle.owner_partition.specs.declared.anchor.Anchor.{Anchor}
 use Rattle.owner_partition.specs.OwnInstances.{coefficient_of, own_values}
 use Rattle.thread_code.proofs.Found.{rest_of}
 use Rattle.owner_partition.specs.OwnTrips.{IsOwnRange}
-use Rattle.thread_code.proofs.Strides.{own_strides}
+use Rattle.owner_partition.proofs.Strides.{own_strides}
 use Rattle.owner_partition.proofs.Trips.{own_values_are, strided_values}
 
 -- the form's value at a trip

@@ -3,7 +3,7 @@ use Rattle.std.proofs.Common.{◌≡◌, ◌↔◌, ℕ, suc, ◌+◌, ◌*◌, 
 use Rattle.std.specs.Int.{int_rem_euclid}
 use Rattle.std.proofs.lemmas.Int.{ints, quot-rem, rem_below}
 use Rattle.nest_walk.proofs.Products.{add-mul}
-use Rattle.thread_code.proofs.Congruences.{Residue, residue_of}
+use Rattle.owner_partition.proofs.Congruences.{Residue, residue_of}
 use Rattle.thread_code.specs.Closed.{floored, modulo, one_if, raised}
 
 -- ---- multiples of a number above 0

@@ -13,8 +13,8 @@ use Rattle.owner_partition.specs.declared.anchor.Anchor.{Anchor}
 use Rattle.owner_partition.specs.declared.anchor.Dist.TheVariants.{Cyclic}
 use Rattle.owner_partition.specs.OwnInstances.{coefficient_of, own_values}
 use Rattle.owner_partition.specs.OwnTrips.{IsSame, IsSolved}
-use Rattle.thread_code.proofs.Congruences.{Residue, in_turn_by, no_solution, residue_of, solutions}
-use Rattle.thread_code.proofs.Strides.{no_range, own_strides, turn_range}
+use Rattle.owner_partition.proofs.Congruences.{Residue, in_turn_by, no_solution, residue_of, solutions}
+use Rattle.owner_partition.proofs.Strides.{no_range, own_strides, turn_range}
 use Rattle.owner_partition.proofs.Trips.{own_values_are}
 use Rattle.thread_code.specs.Closed.{IsSamePlace, IsTurning, modulo, turn_from, turn_values}
 use Rattle.thread_code.specs.declared.turnings.Turning.{Turning}

@@ -32,7 +32,9 @@ pub fn code_of<'p>(
     requires some { 1 ≤ plan.now.workers }
     requires few { plan.now.workers ≤ 64 }
     ensures turnings { IfOk result (λ c. AreTurnings plan.now.workers (table_of c.turnings)) }
-    ensures tree { IsWellFormed (tree_of program.now) → IfOk result (λ c. codes_view c.codes.items ≡ codes_of (table_of c.turnings) (tree_of program.now) plan.now) }
+    ensures tree { IsWellFormed (tree_of program.now)
+        → IfOk result (λ c. codes_view c.codes.items
+        ≡ codes_of (table_of c.turnings) (tree_of program.now) plan.now) }
 {
     let turnings = Turnings::new(alloc, plan.workers)?;
     let maker = Maker {
@@ -58,8 +60,15 @@ impl Maker<'_> {
     #[cycle(codes)]
     fn codes<'p>(&self, items: &'p [Item], first: u32) -> Result<(Vec<Code<'p>>, u32), AllocError>
         requires some { 1 ≤ self.now.plan.now.workers }
-        ensures codes { first + stops_of (enters_outer self.now.plan.now.cut.marks) (statements_from items.now) < 2 ^ 32 → IfOk result (λ r. codes_view r.0.items ≡ codes_in (table_of self.now.turnings.now) self.now.plan.now (statements_from items.now) first) }
-        ensures behind { first + stops_of (enters_outer self.now.plan.now.cut.marks) (statements_from items.now) < 2 ^ 32 → IfOk result (λ r. r.1 ≡ first + stops_of (enters_outer self.now.plan.now.cut.marks) (statements_from items.now)) }
+        ensures codes { first + stops_of (enters_outer self.now.plan.now.cut.marks)
+            (statements_from items.now) < 2 ^ 32
+            → IfOk result (λ r. codes_view r.0.items
+            ≡ codes_in (table_of self.now.turnings.now) self.now.plan.now
+            (statements_from items.now) first) }
+        ensures behind { first + stops_of (enters_outer self.now.plan.now.cut.marks)
+            (statements_from items.now) < 2 ^ 32
+            → IfOk result (λ r. r.1 ≡ first + stops_of (enters_outer self.now.plan.now.cut.marks)
+            (statements_from items.now)) }
     {
         let mut codes = Vec::new(self.alloc);
         let mut place = first;
@@ -74,8 +83,15 @@ impl Maker<'_> {
     #[cycle(codes)]
     fn code<'p>(&self, item: &'p Item, place: u32) -> Result<(Code<'p>, u32), AllocError>
         requires some { 1 ≤ self.now.plan.now.workers }
-        ensures code { place + stops_in (enters_outer self.now.plan.now.cut.marks) (statement_of item.now) < 2 ^ 32 → IfOk result (λ r. code_view r.0 ≡ code_in (table_of self.now.turnings.now) self.now.plan.now (statement_of item.now) place) }
-        ensures behind { place + stops_in (enters_outer self.now.plan.now.cut.marks) (statement_of item.now) < 2 ^ 32 → IfOk result (λ r. r.1 ≡ place + stops_in (enters_outer self.now.plan.now.cut.marks) (statement_of item.now)) }
+        ensures code { place + stops_in (enters_outer self.now.plan.now.cut.marks)
+            (statement_of item.now) < 2 ^ 32
+            → IfOk result (λ r. code_view r.0
+            ≡ code_in (table_of self.now.turnings.now) self.now.plan.now
+            (statement_of item.now) place) }
+        ensures behind { place + stops_in (enters_outer self.now.plan.now.cut.marks)
+            (statement_of item.now) < 2 ^ 32
+            → IfOk result (λ r. r.1 ≡ place + stops_in (enters_outer self.now.plan.now.cut.marks)
+            (statement_of item.now)) }
     {
         match item {
             Item::Loop(nest) => {
@@ -95,7 +111,9 @@ impl Maker<'_> {
     // The phase with this number, from 1.
     fn phase<'p>(&self, item: &'p Item, place: u32) -> Result<Code<'p>, AllocError>
         requires some { 1 ≤ self.now.plan.now.workers }
-        ensures { IfOk result (λ c. code_view c ≡ phase_at (table_of self.now.turnings.now) self.now.plan.now (statement_of item.now) place) }
+        ensures { IfOk result (λ c. code_view c
+            ≡ phase_at (table_of self.now.turnings.now) self.now.plan.now
+            (statement_of item.now) place) }
     {
         let kind = match self.plan.kind(place) {
             Some(kind) => Some(kind.copy(self.alloc)?),
@@ -108,7 +126,9 @@ impl Maker<'_> {
     // A processor's part of a phase with this anchor, if it has one.
     fn part<'p>(&self, anchor: Option<&Anchor>, item: &'p Item) -> Result<Part<'p>, AllocError>
         requires some { 1 ≤ self.now.plan.now.workers }
-        ensures { IfOk result (λ part. share_view part ≡ share_by (table_of self.now.turnings.now) self.now.plan.now (option_copied anchor.entry) (statement_of item.now)) }
+        ensures { IfOk result (λ part. share_view part
+            ≡ share_by (table_of self.now.turnings.now) self.now.plan.now
+            (option_copied anchor.entry) (statement_of item.now)) }
     {
         let Some(anchor) = anchor else {
             return Ok(Part::Nothing);
@@ -133,14 +153,16 @@ impl Maker<'_> {
 
     // The scalars of which each processor has a cell of its own in a loop.
     fn privates(&self, nest: &Nest) -> Result<Vec<u32>, AllocError>
-        ensures { IfOk result (λ scalars. scalars.items ≡ privates_of self.now.plan.now.cut.privates nest.now.number) }
+        ensures { IfOk result (λ scalars. scalars.items
+            ≡ privates_of self.now.plan.now.cut.privates nest.now.number) }
     {
         self.plan.cut.privates_of(nest.number).to_vec(self.alloc)
     }
 
     // The scalars that each processor sums up in a loop by itself.
     fn sums(&self, nest: &Nest) -> Result<Vec<u32>, AllocError>
-        ensures { IfOk result (λ sums. sums.items ≡ sums_in self.now.plan.now.cut (head_of nest.now) (statements_from nest.now.items.items)) }
+        ensures { IfOk result (λ sums. sums.items ≡ sums_in self.now.plan.now.cut (head_of nest.now)
+            (statements_from nest.now.items.items)) }
     {
         if self.plan.cut.mark(nest.number).is_sum() {
             if let Some(sums) = sum_scalars(nest) {
@@ -153,7 +175,9 @@ impl Maker<'_> {
     // How a processor finds its own trips of a loop.
     fn trips(&self, anchor: &Anchor, nest: &Nest) -> Result<Trips, AllocError>
         requires some { 1 ≤ self.now.plan.now.workers }
-        ensures { IfOk result (λ trips. finding_view trips ≡ finding_by (table_of self.now.turnings.now) self.now.plan.now.workers anchor.now (head_of nest.now)) }
+        ensures { IfOk result (λ trips. finding_view trips
+            ≡ finding_by (table_of self.now.turnings.now) self.now.plan.now.workers anchor.now
+            (head_of nest.now)) }
     {
         let rise = coefficient_of(anchor.form.loops(), nest.number);
         if rise == 0 {
@@ -175,7 +199,8 @@ impl Maker<'_> {
     // loop's first value, each number by its remainder.
     fn start(&self, form: &Affine, rise: i64, nest: &Nest) -> Result<Place, AllocError>
         requires some { 1 ≤ self.now.plan.now.workers }
-        ensures { IfOk result (λ place. form_view place ≡ reduced self.now.plan.now.workers (plus_times (without nest.now.number form.now) rise nest.now.m1)) }
+        ensures { IfOk result (λ place. form_view place ≡ reduced self.now.plan.now.workers
+            (plus_times (without nest.now.number form.now) rise nest.now.m1)) }
     {
         let rest = rest(self.alloc, form, nest.number)?;
         let loops = self.start_pairs(rest.loops.as_slice(), nest.m1.loops(), rise)?;
@@ -196,7 +221,8 @@ impl Maker<'_> {
         factor: i64,
     ) -> Result<Pairs, AllocError>
         requires some { 1 ≤ self.now.plan.now.workers }
-        ensures { IfOk result (λ pairs. pairs ≡ reduced_pairs self.now.plan.now.workers (own.now ++ times_pairs factor first.now)) }
+        ensures { IfOk result (λ pairs. pairs ≡ reduced_pairs self.now.plan.now.workers (own.now
+            ++ times_pairs factor first.now)) }
     {
         let mut pairs = Pairs::new(self.alloc);
         self.push_remainders(own, 1, &mut pairs)?;
@@ -212,7 +238,8 @@ impl Maker<'_> {
         found: &mut Pairs,
     ) -> Result<(), AllocError>
         requires some { 1 ≤ self.now.plan.now.workers }
-        ensures { OnOk result (found.new ≡ found.old ++ reduced_pairs self.now.plan.now.workers (times_pairs factor pairs.now)) }
+        ensures { OnOk result (found.new ≡ found.old ++ reduced_pairs self.now.plan.now.workers
+            (times_pairs factor pairs.now)) }
     {
         for &(number, coefficient) in pairs {
             found.push(number, self.remainder(times(factor, coefficient)))?;

@@ -2,15 +2,15 @@
 
 ghost use Rattle.std.specs.Prelude.{◌≡◌, true};
 ghost use Rattle.nest_tree.specs.View.{tree_of};
-ghost use Rattle.styled_table.specs.Calls.{ArrivesNext, GathersNext};
-ghost use Rattle.styled_table.specs.Homes.{gone, through};
+ghost use Rattle.shared_words.specs.Calls.{ArrivesNext, GathersNext};
+ghost use Rattle.shared_words.specs.Homes.{gone, through};
 ghost use Rattle.house_tests.specs.StraightLine.{barriers, line, plan_with};
 
 use crate::straight_line::{line, plan_with};
 use nest_tree::Program;
 use std::alloc::{AllocError, Global};
 use std::thread::{Threads, join, yield_now};
-use styled_table::{CellSeat, Cells, Poll};
+use shared_words::{CellSeat, Cells, Poll};
 use sync_plan::{Kind, Plan};
 
 /// One thread's part: it arrives at the barrier in front of the first phase, and looks until all

@@ -1,6 +1,6 @@
-use Rattle.spmd_model.specs.Styled.{machine_by}
+use Rattle.spmd_model.specs.Machines.{machine_by}
 use Rattle.spmd_model.proofs.Fair.{blocks_end, fair_ends}
-use Rattle.spmd_model.proofs.StyledOrder.{sound_by}
+use Rattle.spmd_model.proofs.MachineOrder.{sound_by}
 use Rattle.accepted_runs.proofs.InStyles.{front_by, loads_by, memory_by_end, output_by_end, unstuck_by}
 use Rattle.accepted_runs.proofs.laws.accepted_plans_run_in_styles.Goals as goal
 

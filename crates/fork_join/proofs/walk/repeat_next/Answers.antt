@@ -7,7 +7,7 @@ use Rattle.nest_walk.specs.Strips.{strip_left}
 use Rattle.sync_plan.specs.Own.{own_of}
 use Rattle.sync_plan.specs.declared.plan.Plan.{Plan}
 use Rattle.spmd_model.specs.Deeds.{instance_deeds}
-use Rattle.spmd_model.specs.StyledDeeds.{HasNoOwn, own_deeds}
+use Rattle.spmd_model.specs.MachineDeeds.{HasNoOwn, own_deeds}
 use Rattle.spmd_turns.specs.Rooms.{turn_room}
 use Rattle.spmd_turns.specs.Turns.{Turn, is_turn_inside, works}
 use Rattle.styled_turns.specs.StyledTurns.{styled_deeds}

@@ -1,6 +1,6 @@
 use denote.Param.Send.{sendable}
 use Rattle.std.proofs.Crossing.{crosses}
-use Rattle.styled_run.proofs.Crosses.{Cells-sync, Worker-send}
+use Rattle.spmd_workers.proofs.Crosses.{Cells-sync, Worker-send}
 use Rattle.house_tests.proofs.runs.all_to_the_end.Goals as goal
 
 pub for_each_mut-requires-send-T : goal.for_each_mut-requires-send-T

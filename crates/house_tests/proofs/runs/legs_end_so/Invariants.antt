@@ -1,4 +1,4 @@
-use Rattle.styled_run.specs.Teams.{AreWorkersOf}
+use Rattle.spmd_workers.specs.Teams.{AreWorkersOf}
 use Rattle.house_tests.proofs.runs.legs_end_so.Given as goal
 
 abbrev pub invariant-loop-p : goal.invariant-loop-p

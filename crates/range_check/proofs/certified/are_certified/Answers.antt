@@ -1,4 +1,4 @@
-use Rattle.std.proofs.Common.{◌≡◌, ℕ, ◌-◌, ◌≤◌, ◌<◌, Some, true, arith}
+use Rattle.std.proofs.Common.{◌≡◌, ℕ, ◌-◌, ◌≤◌, Some, true, arith}
 use Rattle.std.specs.List.{slice_get}
 use borrow.Author.Count.{below_more}
 use Rattle.range_check.proofs.certified.are_certified.Goals as goal

@@ -1,5 +1,4 @@
-use Rattle.std.proofs.Common.{◌≡◌, ◌-◌, ◌↔◌, Err, None, IsOk, true, false, refl, subst, ap, sym, ◌∙◌, rules}
-use Rattle.std.specs.Prelude.{is_none}
+use Rattle.std.proofs.Common.{◌≡◌, ◌-◌, Err, None, subst, ap, sym, ◌∙◌, rules}
 use Rattle.std.specs.List.{AllByRecursion, list_all, slice_get}
 use Rattle.std.specs.Option.{option_or}
 use Rattle.std.specs.Result.{result_err}
@@ -8,17 +7,14 @@ use Rattle.nest_tree.specs.Tree.{param_values}
 use Rattle.nest_tree.specs.View.{statement_of, tree_of}
 use Rattle.nest_tree.proofs.Wide.{first_refused}
 use Rattle.nest_tree.specs.WellFormed.{is_number_of, loops_of}
-use Rattle.nest_model.specs.Instances.{Instance, instances}
-use Rattle.nest_model.specs.Ranges.{IsInRange}
+use Rattle.nest_model.specs.Instances.{Instance}
 use Rattle.nest_walk.specs.InstancesLeft.{instances_left, instances_rounds, instances_tree}
 use Rattle.nest_walk.specs.Paths.{Round}
 use Rattle.nest_walk.specs.RoundsOf.{rounds_of}
 use Rattle.nest_walk.proofs.PlacedWorks.{instance_at, reached_numbered}
 use Rattle.nest_rows.specs.Nested.{IsNestedInstance, nested_works}
-use Rattle.nest_rows.proofs.Nesting.{instance_nested}
 use Rattle.range_check.specs.Outside.{instances_outside, is_small_instance}
 use Rattle.range_check.proofs.CertifiedLists.{certified_instance}
-use Rattle.range_check.proofs.Lists.{none-instances, some_in_range}
 use Rattle.range_check.proofs.Sound.{here_outside, here_sound}
 use Rattle.range_check.proofs.check.check_instances.Goals as goal
 

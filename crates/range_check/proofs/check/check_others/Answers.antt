@@ -1,6 +1,6 @@
-use Rattle.std.proofs.Common.{◌≡◌, ◌+◌, ◌^◌, ◌<◌, Err, IsTrue, Some, None, List, refl, subst, ap, sym, ◌∙◌, rules, arith}
+use Rattle.std.proofs.Common.{◌≡◌, ◌+◌, Err, IsTrue, refl, subst, ap, sym, ◌∙◌, rules, arith}
 use Rattle.std.specs.Prelude.{is_none}
-use Rattle.std.specs.List.{AllByRecursion, flat_map, list_all, slice_get}
+use Rattle.std.specs.List.{AllByRecursion, flat_map, list_all}
 use Rattle.std.specs.Option.{option_or}
 use Rattle.std.specs.Result.{result_err}
 use Rattle.std.proofs.lemmas.Bool.{and_parts}
@@ -36,6 +36,7 @@ loop-stop-init c =
       small = ap (list_all (is_small_instance (param_values tree))) all ∙ instances_small tree c.requires.formed c.requires.limits;
       nested = subst (AllByRecursion (IsNestedInstance (param_values tree) (nested_works tree))) (sym all) (instance_nested tree c.requires.formed);
       first = ap (instances_outside tree) all;
+      own = c.none-instances.ensures.program;
     }
 
 pub works-requires : goal.works-requires
@@ -48,19 +49,19 @@ overflow_add-behind c =
     let known = reached (tree_in c.next.new.self) (rounds_in c.next.new.self) c.in-Some.stop c.in-Some.ensures.reached in
     omega (arith, known.few, c.works.ensures)
 
-pub over-instances-requires-clause-reached : goal.over-instances-requires-clause-reached
-over-instances-requires-clause-reached c =
+pub restart-requires-clause-reached : goal.restart-requires-clause-reached
+restart-requires-clause-reached c =
     let next = c.in-Some.ensures in
     let stop = c.in-Some.stop in
-    let walked = next.program ∙ c.loop-stop.invariant.walked in
+    let walked = next.program ∙ c.loop-stop.invariant.walked ∙ sym c.loop-stop.invariant.own in
     let here = subst (λ rs. IsTrue (is_reached (tree_in c.next.new.self) rs stop)) (sym c.path.ensures) next.reached in
     subst (λ t. IsTrue (is_reached t (rounds_of c.path.result.now) stop)) walked here
 
-pub over-instances-requires-clause-text : goal.over-instances-requires-clause-text
-over-instances-requires-clause-text c =
+pub restart-requires-clause-text : goal.restart-requires-clause-text
+restart-requires-clause-text c =
     let next = c.in-Some.ensures in
     let stop = c.in-Some.stop in
-    let walked = next.program ∙ c.loop-stop.invariant.walked in
+    let walked = next.program ∙ c.loop-stop.invariant.walked ∙ sym c.loop-stop.invariant.own in
     let here = subst (λ rs. StandFrom (works (tree_in c.next.new.self)) stop.first (placed_in every (numbers_of rs) (statement_of stop.item.now))) (sym c.path.ensures) next.text.works in
     subst (λ t. StandFrom (works t) stop.first (placed_in every (numbers_of (rounds_of c.path.result.now)) (statement_of stop.item.now))) walked here
 
@@ -76,7 +77,7 @@ check_instances-requires-clause-small c =
     let small = list_all (is_small_instance params) in
     let first = stop_first tree (tree_in c.next.new.self) rounds c.in-Some.stop (left_of c.loop-stop.stops) (left_of c.next.new.self) walked next.stop in
     let parts = and_parts (small here) (small rest) (sym (ap small first ∙ list_all-append (is_small_instance params) here rest) ∙ c.loop-stop.invariant.small) in
-    let same = c.over-instances.ensures.instances ∙ ap (λ rs. instances_there tree rs c.in-Some.stop) c.path.ensures in
+    let same = c.restart.ensures.instances ∙ ap (λ t. instances_there t (rounds_of c.path.result.now) c.in-Some.stop) c.loop-stop.invariant.own ∙ ap (λ rs. instances_there tree rs c.in-Some.stop) c.path.ensures in
     ap small same ∙ parts.0
 
 pub check_instances-requires-clause-nested : goal.check_instances-requires-clause-nested
@@ -91,7 +92,7 @@ check_instances-requires-clause-nested c =
     let nested = IsNestedInstance params (nested_works tree) in
     let first = stop_first tree (tree_in c.next.new.self) rounds c.in-Some.stop (left_of c.loop-stop.stops) (left_of c.next.new.self) walked next.stop in
     let parts = all-parts nested here rest (subst (AllByRecursion nested) first c.loop-stop.invariant.nested) in
-    let same = c.over-instances.ensures.instances ∙ ap (λ rs. instances_there tree rs c.in-Some.stop) c.path.ensures in
+    let same = c.restart.ensures.instances ∙ ap (λ t. instances_there t (rounds_of c.path.result.now) c.in-Some.stop) c.loop-stop.invariant.own ∙ ap (λ rs. instances_there tree rs c.in-Some.stop) c.path.ensures in
     subst (AllByRecursion nested) (sym same) parts.0
 
 -- the stop's instances are all certified
@@ -119,6 +120,7 @@ loop-stop-preserved c =
       small = parts.1;
       nested = nests.1;
       first = sym (ap (λ o. option_or o (instances_outside tree rest)) none) ∙ sym (outside-parts tree here rest) ∙ sym (ap (instances_outside tree) first) ∙ c.loop-stop.invariant.first;
+      own = c.loop-stop.invariant.own;
     }
 
 pub loop-stop-preserved-in-Continue-1 : goal.loop-stop-preserved-in-Continue-1
@@ -136,13 +138,14 @@ loop-stop-preserved-in-Continue-1 c =
     let first = stop_first tree (tree_in c.next.new.self) rounds stop (left_of c.loop-stop.stops) (left_of c.next.new.self) walked next.stop in
     let parts = and_parts (small here) (small rest) (sym (ap small first ∙ list_all-append (is_small_instance params) here rest) ∙ c.loop-stop.invariant.small) in
     let nests = all-parts nested here rest (subst (AllByRecursion nested) first c.loop-stop.invariant.nested) in
-    let same = c.over-instances.ensures.instances ∙ ap (λ rs. instances_there tree rs stop) c.path.ensures in
+    let same = c.restart.ensures.instances ∙ ap (λ t. instances_there t (rounds_of c.path.result.now) stop) c.loop-stop.invariant.own ∙ ap (λ rs. instances_there tree rs stop) c.path.ensures in
     let none = sym (ap (instances_outside tree) same) ∙ sym c.in_ok-check_instances.ensures in
     record {
       walked = walked;
       small = parts.1;
       nested = nests.1;
       first = sym (ap (λ o. option_or o (instances_outside tree rest)) none) ∙ sym (outside-parts tree here rest) ∙ sym (ap (instances_outside tree) first) ∙ c.loop-stop.invariant.first;
+      own = c.restart.ensures.program ∙ c.loop-stop.invariant.own;
     }
 
 pub returns-in_err-check_instances-clause-first : goal.returns-in_err-check_instances-clause-first
@@ -156,7 +159,7 @@ returns-in_err-check_instances-clause-first c =
     let here = instances_there tree rounds stop in
     let rest = flat_map (stop_instances params) (left_of c.next.new.self) in
     let first = stop_first tree (tree_in c.next.new.self) rounds stop (left_of c.loop-stop.stops) (left_of c.next.new.self) walked next.stop in
-    let same = c.over-instances.ensures.instances ∙ ap (λ rs. instances_there tree rs stop) c.path.ensures in
+    let same = c.restart.ensures.instances ∙ ap (λ t. instances_there t (rounds_of c.path.result.now) stop) c.loop-stop.invariant.own ∙ ap (λ rs. instances_there tree rs stop) c.path.ensures in
     let gone : c.from_residual.result ≡ Err c.in_err-check_instances.field-0.0 = search rules in
     let here_is = c.in_err-check_instances.ensures ∙ ap (instances_outside tree) same in
     let split = sym c.loop-stop.invariant.first ∙ ap (instances_outside tree) first ∙ outside-parts tree here rest in

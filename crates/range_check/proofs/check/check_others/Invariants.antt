@@ -3,6 +3,7 @@ use Rattle.std.specs.List.{AllByRecursion, flat_map, list_all}
 use Rattle.nest_tree.specs.Tree.{param_values}
 use Rattle.nest_tree.specs.View.{tree_of}
 use Rattle.nest_walk.specs.Cursors.{left_of, tree_in}
+use Rattle.nest_walk.specs.InstancesLeft.{instances_tree}
 use Rattle.nest_rows.specs.Nested.{IsNestedInstance, nested_works}
 use Rattle.range_check.specs.Outside.{instances_outside, is_small_instance, outside_of}
 use Rattle.range_check.specs.Stops.{stop_instances}
@@ -17,6 +18,7 @@ invariant-loop-stop l =
       small : IsTrue (list_all (is_small_instance (param_values tree)) left);
       nested : AllByRecursion (IsNestedInstance (param_values tree) (nested_works tree)) left;
       first : instances_outside tree left ≡ outside_of tree;
+      own : instances_tree l.instances ≡ tree;
     }
 
 abbrev pub decreases-loop-stop : goal.decreases-loop-stop

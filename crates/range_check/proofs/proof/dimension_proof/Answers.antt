@@ -1,7 +1,7 @@
-use Rattle.std.proofs.Common.{◌-◌, ◌-ℤ◌, neg_ℤ, pos, ℤ, IfNone, inl, inr, w64, FitsSigned, rules, to_z-of_z, ap, ◌∙◌, subst}
+use Rattle.std.proofs.Common.{◌-◌, ◌-ℤ◌, neg_ℤ, pos, ℤ, IfNone, length, inl, inr, w64, FitsSigned, rules, to_z-of_z, ap, ◌∙◌, subst}
 use Rattle.nest_tree.specs.View.{tree_of}
 use Rattle.nest_rows.specs.declared.constraint.Sign.TheVariants.{Plus, Minus}
-use Rattle.range_check.specs.RangeSystems.{IsKeptAs, order_of, side_system}
+use Rattle.range_check.specs.RangeSystems.{IsKeptAs, side_system}
 use Rattle.range_check.specs.Sites.{site_of}
 use Rattle.range_check.proofs.proof.dimension_proof.Goals as goal
 
@@ -12,9 +12,9 @@ returns-in_default-clause-kept c = λ whole n view.
     let place = c.args.dimension - 1 in
     let fits : FitsSigned w64 c.low_limit.result = search rules in
     let kept = simp to_z-of_z at (c.in_ok-low.ensures.kept whole n view) in
-    let here = subst (λ o. IfNone o (IsKeptAs (side_system tree site Plus place c.low_limit.result) (order_of tree site))) c.in_default.is kept in
+    let here = subst (λ o. IfNone o (IsKeptAs (side_system tree site Plus place c.low_limit.result) (length site.around))) c.in_default.is kept in
     let limit = c.low_limit.ensures ∙ ap (λ (b : ℤ × ℤ). b.0 -ℤ pos 1) c.bounds_at-bounds.ensures.bounds in
-    inl (subst (λ z. IsKeptAs (side_system tree site Plus place z) (order_of tree site)) limit here)
+    inl (subst (λ z. IsKeptAs (side_system tree site Plus place z) (length site.around)) limit here)
 
 pub returns-in_default-2-clause-kept : goal.returns-in_default-2-clause-kept
 returns-in_default-2-clause-kept c = λ whole n view.
@@ -23,6 +23,6 @@ returns-in_default-2-clause-kept c = λ whole n view.
     let place = c.args.dimension - 1 in
     let fits : FitsSigned w64 c.high_limit.result = search rules in
     let kept = simp to_z-of_z at (c.in_ok-high.ensures.kept (c.in_ok-low.ensures.same ∙ whole) n view) in
-    let here = subst (λ o. IfNone o (IsKeptAs (side_system tree site Minus place c.high_limit.result) (order_of tree site))) c.in_default-2.is kept in
+    let here = subst (λ o. IfNone o (IsKeptAs (side_system tree site Minus place c.high_limit.result) (length site.around))) c.in_default-2.is kept in
     let limit = c.high_limit.ensures ∙ ap (λ (b : ℤ × ℤ). neg_ℤ b.1 -ℤ pos 1) c.bounds_at-bounds.ensures.bounds in
-    inr (subst (λ z. IsKeptAs (side_system tree site Minus place z) (order_of tree site)) limit here)
+    inr (subst (λ z. IsKeptAs (side_system tree site Minus place z) (length site.around)) limit here)

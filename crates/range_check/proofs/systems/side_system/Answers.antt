@@ -32,5 +32,5 @@ returns c = λ n view.
     let long : length items ≡ length n.around = sym (length-map items (λ (x : Around). head_of x.nest.now)) ∙ ap (λ (hs : List Head). length hs) view.1 in
     let count : vars ≡ unknowns tree (site_of n a) = omega (arith, c.requires.count, long) in
     let last = at_most sign (first_loop tree) n.around (get_or a.subscripts place no_form) c.args.side.2 in
-    one_row_more vars S c.in_ok-bound.bound c.in_ok-system.system c.push_row.new.system (c.in_ok-system.ensures n a view) c.in_ok-push_row.ensures
+    one_row_more vars S c.in_ok-bound.bound c.in_ok-system.system c.push.new.self (c.in_ok-system.ensures n a view) c.in_ok-push.ensures.ok
     ∙ ap (λ b. system_of vars (S ++ b ∷ [])) bound ∙ ap (λ k. system_of k (S ++ last ∷ [])) count

@@ -14,5 +14,5 @@ returns c = λ n a view.
     let values = ap (λ ps. map (λ (q : Parameter). q.value) ps) c.deref.ensures.value ∙ sym (values_are params.items) in
     let first : c.len.result + 1 ≡ first_loop (tree_of c.args.program.now) = omega (arith, c.len.ensures, params.ok.0, length-map params.items constant_of) in
     let heads = ap heads_of c.as_slice-around.ensures.value ∙ view.1 in
-    standing_is (tree_of c.args.program.now) n a c.args.vars (c.len.result + 1) (map (λ (q : Parameter). q.value) c.deref.result.now) (heads_of c.as_slice-around.result.now) c.empty-system.result c.push_constants.new.system c.push_loops.new.system c.push_comparison.new.system
-    c.empty-system.ensures c.in_ok-push_constants.ensures c.in_ok-push_loops.ensures (c.in_ok-push_comparison.ensures n.what view.0) values first heads
+    standing_is (tree_of c.args.program.now) n a c.args.vars (c.len.result + 1) (map (λ (q : Parameter). q.value) c.deref.result.now) (heads_of c.as_slice-around.result.now) c.empty-system.result c.push_constants.new.self c.push_loops.new.system c.push_comparison.new.system
+    c.empty-system.ensures c.push_constants.ensures c.in_ok-push_loops.ensures (c.in_ok-push_comparison.ensures n.what view.0) values first heads

@@ -1,6 +1,6 @@
 use Rattle.std.proofs.Common.{sym, ◌∙◌, ap, subst}
-use Rattle.styled_table.specs.Ends.{End, HasEnded}
-use Rattle.styled_table.specs.Homes.{protocol_given}
+use Rattle.shared_words.specs.Ends.{End, HasEnded}
+use Rattle.shared_words.specs.Homes.{protocol_given}
 use Rattle.spmd_answer.proofs.Left.{spmd_left}
 use Rattle.spmd_answer.proofs.run.spmd_run.Goals as goal
 

@@ -1,9 +1,9 @@
 use Rattle.spmd_model.proofs.NoOwnDeeds.{plain_deeds}
-use Rattle.spmd_model.proofs.StyledDeeds.{styled_deeds}
-use Rattle.spmd_model.proofs.StyledOrder.{all_signalled, ordered_by, sound_by}
-use Rattle.spmd_model.proofs.StyledLoads.{instance_in}
-use Rattle.spmd_model.proofs.StyledMemory.{shared_last}
-use Rattle.spmd_model.proofs.StyledOutput.{output_by}
+use Rattle.spmd_model.proofs.MachineDeeds.{styled_deeds}
+use Rattle.spmd_model.proofs.MachineOrder.{all_signalled, ordered_by, sound_by}
+use Rattle.spmd_model.proofs.MachineLoads.{instance_in}
+use Rattle.spmd_model.proofs.MachineMemory.{shared_last}
+use Rattle.spmd_model.proofs.MachineOutput.{output_by}
 use Rattle.spmd_model.proofs.laws.timelines_in_styles.Goals as goal
 
 pub returns-clause-sound : goal.returns-clause-sound

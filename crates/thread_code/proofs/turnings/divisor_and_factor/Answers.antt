@@ -2,7 +2,7 @@ use Rattle.std.proofs.Common.{◌-◌, ◌/◌, ◌%◌, ◌<◌, arith}
 use Rattle.std.proofs.Math.Nat.{div-le_self}
 use Rattle.std.proofs.lemmas.Nat.{mul-le}
 use Rattle.std.proofs.lemmas.Nat.Gcd.{IsGcd-from_zero, IsGcd-from_mod}
-use Rattle.thread_code.proofs.Euclid.{same-step, same-one}
+use Rattle.owner_partition.proofs.Congruences.{same-step, same-one}
 use Rattle.thread_code.proofs.turnings.divisor_and_factor.Goals as goal
 
 pub loop-rest-init : goal.loop-rest-init

@@ -1,7 +1,7 @@
 use Rattle.std.proofs.Common.{◌≡◌, ◌+◌, sym, ◌∙◌, ap, subst, length}
 use Rattle.nest_tree.specs.View.{tree_of}
 use Rattle.spmd_model.specs.declared.style.Style.TheVariants.{Arrive}
-use Rattle.spmd_laws.specs.Styled.{printed_by, registers_by}
+use Rattle.spmd_model.specs.PlanProtocols.{printed_by, registers_by}
 use Rattle.fork_join.specs.Joins.{IsAlone}
 use Rattle.fork_join.proofs.Seeing.{print_alone, print_printed, print_registers}
 use Rattle.fork_join.proofs.overlay.Overlay.print_line.Goals as goal

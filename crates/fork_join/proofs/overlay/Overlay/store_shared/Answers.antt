@@ -2,7 +2,7 @@ use Rattle.std.proofs.Common.{◌≡◌, ◌+◌, sym, ◌∙◌, ap, subst, rul
 use Rattle.std.proofs.lemmas.Int.{to_z-of_z}
 use Rattle.nest_tree.specs.View.{tree_of}
 use Rattle.spmd_model.specs.declared.style.Style.TheVariants.{Arrive}
-use Rattle.spmd_laws.specs.Styled.{printed_by, registers_by}
+use Rattle.spmd_model.specs.PlanProtocols.{printed_by, registers_by}
 use Rattle.fork_join.specs.Joins.{IsAlone}
 use Rattle.fork_join.proofs.Seeing.{inside_cells, store_alone, store_printed, store_registers}
 use Rattle.fork_join.proofs.overlay.Overlay.store_shared.Goals as goal

@@ -8,7 +8,7 @@ use Rattle.sync_plan.proofs.Fits.{fit_parts}
 use Rattle.spmd_model.specs.declared.style.Style.TheVariants.{Arrive}
 use Rattle.crossbeam_utils.specs.declared.cache_padded.CachePadded.{CachePadded}
 use Rattle.crossbeam_utils.specs.Padded.{padded_value}
-use Rattle.spmd_laws.specs.Styled.{printed_by}
+use Rattle.spmd_model.specs.PlanProtocols.{printed_by}
 use Rattle.fork_join.specs.Workers.{IsAt}
 use Rattle.fork_join.specs.declared.worker.Worker.{Worker}
 use Rattle.fork_join.proofs.Running.{output_is}

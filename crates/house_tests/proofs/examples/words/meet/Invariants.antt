@@ -1,6 +1,6 @@
 use Rattle.std.proofs.Common.{◌≡◌}
-use Rattle.styled_table.specs.Calls.{GathersNext}
-use Rattle.styled_table.specs.Homes.{gone, through}
+use Rattle.shared_words.specs.Calls.{GathersNext}
+use Rattle.shared_words.specs.Homes.{gone, through}
 use Rattle.house_tests.proofs.examples.words.meet.Given as goal
 
 abbrev pub invariant-loop : goal.invariant-loop

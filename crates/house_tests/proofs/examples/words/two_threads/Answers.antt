@@ -1,9 +1,9 @@
 use denote.Param.Send.{sendable}
 use Rattle.std.proofs.Common.{ap, sym, subst, lit<}
 use Rattle.std.proofs.Crossing.{crosses}
-use Rattle.styled_table.specs.Calls.{ArrivesNext, GathersNext}
-use Rattle.styled_table.specs.Homes.{CellView, gone}
-use Rattle.styled_table.proofs.cells.CellSeat.TheSendSync as seat
+use Rattle.shared_words.specs.Calls.{ArrivesNext, GathersNext}
+use Rattle.shared_words.specs.Homes.{CellView, gone}
+use Rattle.shared_words.proofs.cells.CellSeat.TheSendSync as seat
 use Rattle.house_tests.proofs.StraightLine.{meets}
 use Rattle.house_tests.proofs.Sharing.{Cells-sync}
 use Rattle.house_tests.proofs.examples.words.two_threads.Goals as goal

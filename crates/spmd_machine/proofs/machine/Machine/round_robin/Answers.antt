@@ -1,10 +1,12 @@
 use Rattle.std.proofs.Common.{◌≡◌, ℕ, ◌+◌, ◌<◌, false, fold}
 use Rattle.spmd_model.specs.Quiet.{turned}
-use Rattle.spmd_model.proofs.StyledOrder.{sound_by}
+use Rattle.spmd_model.proofs.MachineOrder.{sound_by}
 use Rattle.spmd_machine.specs.Machines.{IsReached, model_of, plan_in, shared_in, shown, style_in, tree_in}
-use Rattle.spmd_machine.specs.Promises.{can_step, one_round}
+use Rattle.spmd_model.specs.Fair.{can_step}
+use Rattle.spmd_machine.specs.Promises.{one_round}
 use Rattle.spmd_machine.proofs.Ready.{along, along_shared, same_then}
-use Rattle.spmd_machine.proofs.Rounds.{rounds_more, ended_still}
+use Rattle.spmd_model.proofs.Fair.{ended_still}
+use Rattle.spmd_machine.proofs.Rounds.{rounds_more}
 use Rattle.spmd_machine.proofs.Sequential.{has_come, memory_at_end, output_at_end}
 use Rattle.spmd_machine.proofs.machine.Machine.round_robin.Goals as goal
 

@@ -1,7 +1,8 @@
 use Rattle.std.proofs.Common.{◌≡◌, ℕ, fold}
 use Rattle.spmd_model.specs.Quiet.{turned}
 use Rattle.spmd_machine.specs.Machines.{IsReady, IsSameMachine, model_of, shared_in, shown}
-use Rattle.spmd_machine.specs.Promises.{acts_to_go, rounds}
+use Rattle.spmd_model.specs.Fair.{acts_to_go}
+use Rattle.spmd_machine.specs.Promises.{rounds}
 use Rattle.spmd_machine.proofs.machine.Machine.round_robin.Given as goal
 
 abbrev pub invariant-loop : goal.invariant-loop

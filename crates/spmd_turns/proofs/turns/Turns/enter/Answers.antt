@@ -7,10 +7,7 @@ use Rattle.nest_model.specs.Visits.{Visit}
 use Rattle.nest_model.specs.Instances.{Instance}
 use Rattle.std.specs.Option.{MatchOption}
 use Rattle.nest_walk.specs.InstancesLeft.{instances_left, instances_rounds}
-use Rattle.nest_walk.specs.Places.{numbers_of}
-use Rattle.nest_walk.specs.Texts.{IsInText}
 use Rattle.owner_partition.specs.declared.anchor.Anchor.{Anchor}
-use Rattle.owner_partition.specs.Marks.{enters_outer}
 use Rattle.owner_partition.specs.OwnInstances.{names_no_inner}
 use Rattle.owner_partition.specs.Owners.{own_instances}
 use Rattle.owner_partition.specs.Phases.{phases}
@@ -21,10 +18,8 @@ use Rattle.nest_walk.specs.Paths.{Round}
 use Rattle.sync_plan.specs.declared.plan.Plan.{Plan}
 use Rattle.nest_tree.specs.WellFormed.{IsWellFormed}
 use Rattle.sync_plan.specs.Boundaries.{kind_before}
-use Rattle.sync_plan.specs.PhaseLoops.{phase_loops}
 use Rattle.sync_plan.specs.ProcessorSets.{members}
 use Rattle.sync_plan.specs.Waits.{posts_at, waits_for}
-use Rattle.sync_plan.proofs.OuterLoops.{phase_has_loops}
 use Rattle.spmd_model.specs.Deeds.{owned_by}
 use Rattle.spmd_turns.specs.Turns.{works, boundary_at, boundary_of, boundary_turns, turns_from}
 use Rattle.spmd_turns.specs.TurnsLeft.{IsOne, begun_by, come_of, phases_to_go, turns_plan, turns_rounds, turns_tree}
@@ -59,8 +54,8 @@ bounds-as_slice-phase c =
 read_is : (anchors read : List Anchor) (place visited : ℕ) (x a : Anchor) → read ≡ anchors → place ≡ visited → x ≡ get_or read (place - 1) x → slice_get anchors (visited - 1) ≡ Some a → x ≡ a
 read_is anchors read place visited x a same at is there = is ∙ ap (λ l. get_or l (place - 1) x) same ∙ ap (λ k. get_or anchors (k - 1) x) at ∙ get_or_from_slice_get anchors (visited - 1) a x there
 
-pub own_iterations-self-requires-clause-outside : goal.own_iterations-self-requires-clause-outside
-own_iterations-self-requires-clause-outside c = λ x h.
+pub restart_own-requires-clause-outside : goal.restart_own-requires-clause-outside
+restart_own-requires-clause-outside c = λ x h.
     let t = c.args.self.now in
     let sound = c.requires.sound in
     let (v, left, last, is) = c.in-Some.ensures.phase in
@@ -71,8 +66,8 @@ own_iterations-self-requires-clause-outside c = λ x h.
     let visit : v ≡ x = cc in
     subst (λ b. b ≡ true) (ap (λ (w : Visit). names_no_inner w.what a.anchor.form) visit ∙ ap (λ (b : Anchor). names_no_inner x.what b.form) (sym read)) a.outside
 
-pub own_iterations-self-requires-clause-given : goal.own_iterations-self-requires-clause-given
-own_iterations-self-requires-clause-given c =
+pub restart_own-requires-clause-given : goal.restart_own-requires-clause-given
+restart_own-requires-clause-given c =
     let t = c.args.self.now in
     let sound = c.requires.sound in
     let (v, left, last, is) = c.in-Some.ensures.phase in
@@ -82,8 +77,8 @@ own_iterations-self-requires-clause-given c =
     let walked = c.next.ensures.program ∙ sound.walked in
     subst (λ b. b ≡ true) (ap (λ (b : Anchor). reach_within (length (turns_tree t).params) b.form.params) (sym read) ∙ ap (λ (w : Tree). reach_within (length w.params) c.index-as_slice-phase.result.form.params) (sym walked)) a.given
 
-pub own_iterations-self-requires-clause-block : goal.own_iterations-self-requires-clause-block
-own_iterations-self-requires-clause-block c = λ b block.
+pub restart_own-requires-clause-block : goal.restart_own-requires-clause-block
+restart_own-requires-clause-block c = λ b block.
     let t = c.args.self.now in
     let sound = c.requires.sound in
     let (v, left, last, is) = c.in-Some.ensures.phase in
@@ -101,13 +96,6 @@ own_is tree walked p workers v found x a own at same last read there h =
     ∙ ap (λ (b : Anchor). own_instances (param_values tree) b workers p v) read
     ∙ ap (λ o. owned_by tree o workers p v) (sym there)
 
--- the phase's loops by number
-loops_are : (tree : Tree) (plan : Plan) (k : ℕ) (v : Visit) (phase : Phase) (walked : Tree) (enters : ℕ → Bool) (rounds : List Round) (number : ℕ) → IsWellFormed tree → slice_get (phases tree plan.cut.marks) k ≡ Some v → walked ≡ tree → enters ≡ enters_outer plan.cut.marks →
-    IsPhase walked enters rounds number v phase → phase_loops tree plan.cut.marks v.place phase.outer ≡ v.loops
-loops_are tree plan k v phase walked enters rounds number formed at same entered is =
-    let text = subst (λ w. IsInText w (enters_outer plan.cut.marks) (numbers_of rounds) v.what v.place v.first) same (subst (λ e. IsInText walked e (numbers_of rounds) v.what v.place v.first) entered is.text) in
-    ap (phase_loops tree plan.cut.marks v.place) is.outer_is ∙ phase_has_loops tree plan.cut.marks k v rounds formed at text (is.loops_are ∙ ap (λ w. loops_in w rounds) same)
-
 pub returns-clause-sound : goal.returns-clause-sound
 returns-clause-sound c =
     let t = c.args.self.now in
@@ -122,7 +110,7 @@ returns-clause-sound c =
       fits = sound.fits;
       worker = sound.worker;
       walked = c.next.ensures.program ∙ sound.walked;
-      owned = c.own_iterations-self.ensures.program ∙ c.next.ensures.program ∙ sound.walked;
+      owned = c.restart_own.ensures.program ∙ c.next.ensures.program ∙ sound.walked;
       entered = c.next.ensures.enters ∙ sound.entered;
       behind = sym n.1 ∙ ap (λ k. drop k (phases (turns_tree t) (turns_plan t).cut.marks)) passed;
       boundary = λ _. record {
@@ -130,7 +118,7 @@ returns-clause-sound c =
             ∙ ap (boundary_at (turns_tree t) (turns_plan t)) (omega (arith, is.number_is));
         phase = ap (λ k. Some k) (omega (arith, is.number_is));
       };
-      one = subst (IsOne (turns_tree t) (instances_rounds c.own_iterations-self.result)) (sym none) tt;
+      one = subst (IsOne (turns_tree t) (instances_rounds c.restart_own.new.own)) (sym none) tt;
     }
 
 pub returns-clause-left : goal.returns-clause-left
@@ -148,16 +136,15 @@ returns-clause-left c =
     let read = read_is plan.anchors c.as_slice.result.now c.in-Some.phase.place v.place c.index-as_slice-phase.result a.anchor c.as_slice.ensures is.place_is c.index-as_slice-phase.is a.at in
     let b = bare_parts t.posts t.awaits (is_some t.begins) (is_some t.come) c.requires.bare in
     let walked = c.next.ensures.program ∙ sound.walked in
-    let loops = loops_are tree plan passed v c.in-Some.phase (phases_tree new) (phases_enters new) (phases_rounds new) (passed + 1) sound.formed n.0 walked (c.next.ensures.enters ∙ sound.entered) is in
-    let own = own_is tree (phases_tree new) t.processor plan.workers v (phase_last new) c.index-as_slice-phase.result a.anchor (instances_left c.own_iterations-self.result) (slice_get plan.anchors (v.place - 1)) walked last read a.at c.own_iterations-self.ensures.own in
-    let posted = c.posts-self.ensures ∙ ap (λ k. posts_at tree plan t.processor k (phase_loops tree plan.cut.marks k c.in-Some.phase.outer)) is.place_is ∙ ap (posts_at tree plan t.processor v.place) loops in
-    let awaited = c.waits-self.ensures ∙ ap (λ k. waits_for tree plan t.processor k (phase_loops tree plan.cut.marks k c.in-Some.phase.outer)) is.place_is ∙ ap (waits_for tree plan t.processor v.place) loops in
+    let own = own_is tree (phases_tree new) t.processor plan.workers v (phase_last new) c.index-as_slice-phase.result a.anchor (instances_left c.restart_own.new.own) (slice_get plan.anchors (v.place - 1)) walked last read a.at c.restart_own.ensures.own in
+    let posted = c.waits_before-posts.ensures.posts v last ∙ ap (λ w. posts_at w plan t.processor c.in-Some.phase.place v.loops) walked ∙ ap (λ k. posts_at tree plan t.processor k v.loops) is.place_is in
+    let awaited = c.waits_before-posts.ensures.awaits v last ∙ ap (λ w. waits_for w plan t.processor c.in-Some.phase.place v.loops) walked ∙ ap (λ k. waits_for tree plan t.processor k v.loops) is.place_is in
     let number : c.in-Some.phase.number - 1 ≡ suc passed - 1 = omega (arith, is.number_is) in
     let begin : Some c.in-Some.phase.number ≡ Some (suc passed) = ap (λ n. Some n) (omega (arith, is.number_is)) in
     let next : phases_passed new ≡ suc passed = omega (arith, c.in-Some.ensures.passed) in
-    let rounds = instances_rounds c.own_iterations-self.result in
-    let entered = entered_turns tree plan t.processor (suc passed) t.number (c.in-Some.phase.number - 1) t.awaits c.waits-self.result t.posts c.posts-self.result t.begins (Some c.in-Some.phase.number) v rest (turns_rounds t) rounds t.come (instances_left t.own) (instances_left c.own_iterations-self.result) b c.requires.own number begin posted awaited own in
-    ap (λ e. boundary_turns (c.in-Some.phase.number - 1) c.posts-self.result (members c.waits-self.result) ++ (begun_by (Some c.in-Some.phase.number) ++ (map works (come_of tree rounds t.come) ++ (map works (instances_left c.own_iterations-self.result) ++ turns_from tree plan t.processor (suc e) rest)))) next
+    let rounds = instances_rounds c.restart_own.new.own in
+    let entered = entered_turns tree plan t.processor (suc passed) t.number (c.in-Some.phase.number - 1) t.awaits c.waits_before-posts.result.1 t.posts c.waits_before-posts.result.0 t.begins (Some c.in-Some.phase.number) v rest (turns_rounds t) rounds t.come (instances_left t.own) (instances_left c.restart_own.new.own) b c.requires.own number begin posted awaited own in
+    ap (λ e. boundary_turns (c.in-Some.phase.number - 1) c.waits_before-posts.result.0 (members c.waits_before-posts.result.1) ++ (begun_by (Some c.in-Some.phase.number) ++ (map works (come_of tree rounds t.come) ++ (map works (instances_left c.restart_own.new.own) ++ turns_from tree plan t.processor (suc e) rest)))) next
     ∙ entered
     ∙ ap (λ l. boundary_turns t.number t.posts (members t.awaits) ++ (begun_by t.begins ++ (map works (come_of tree (turns_rounds t) t.come) ++ (map works (instances_left t.own) ++ turns_from tree plan t.processor (suc passed) l)))) (sym left)
 
@@ -174,7 +161,7 @@ returns-clause-nearer c = λ _.
     let a = phase_anchor tree plan passed v sound.formed sound.fits n.0 in
     let read = read_is plan.anchors c.as_slice.result.now c.in-Some.phase.place v.place c.index-as_slice-phase.result a.anchor c.as_slice.ensures is.place_is c.index-as_slice-phase.is a.at in
     let walked = c.next.ensures.program ∙ sound.walked in
-    let own = own_is tree (phases_tree new) t.processor plan.workers v (phase_last new) c.index-as_slice-phase.result a.anchor (instances_left c.own_iterations-self.result) (slice_get plan.anchors (v.place - 1)) walked last read a.at c.own_iterations-self.ensures.own in
+    let own = own_is tree (phases_tree new) t.processor plan.workers v (phase_last new) c.index-as_slice-phase.result a.anchor (instances_left c.restart_own.new.own) (slice_get plan.anchors (v.place - 1)) walked last read a.at c.restart_own.ensures.own in
     let far : phases_to_go tree plan t.processor (phases_left t.phases) ≡ suc (length (owned_by tree (slice_get plan.anchors (v.place - 1)) plan.workers t.processor v)) + phases_to_go tree plan t.processor (phases_left new) = ap (phases_to_go tree plan t.processor) left in
     let long = ap length own in
     omega (arith, far, long)

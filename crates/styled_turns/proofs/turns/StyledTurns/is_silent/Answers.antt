@@ -28,7 +28,7 @@ returns-then-self-clause-open c = λ _.
     let s = c.args.self.now in
     elim c.then-self.branch [
       | then-self-via-then-self w ↦ in_rounds w.if-self.true
-      | then-self-via-else-self+then-is_some w ↦ pends_some s c.args.next w.first_pending.result (omega (arith, c.requires.sound.within, w.if-self.false)) w.first_pending.ensures.first (sym w.is_some.ensures ∙ w.if-is_some.true)
+      | then-self-via-else-self+then-is_some w ↦ pends_some s c.args.next w.first_to_close.result (omega (arith, c.requires.sound.within, w.if-self.false)) w.first_to_close.ensures.first (sym w.is_some.ensures ∙ w.if-is_some.true)
     ]
 
 pub returns-in-Post-clause-silent : goal.returns-in-Post-clause-silent
@@ -36,6 +36,6 @@ returns-in-Post-clause-silent c = λ h.
     let s = c.args.self.now in
     record {
       rounds = omega (arith, c.requires.sound.within, c.if-self.false);
-      none = none_pends s c.first_pending.result c.first_pending.ensures.first (sym c.is_some.ensures ∙ c.if-is_some.false);
+      none = none_pends s c.first_to_close.result c.first_to_close.ensures.first (sym c.is_some.ensures ∙ c.if-is_some.false);
       turn = silent_counter s c.args.next c.is_signalled.result c.requires.looked.next c.is_signalled.ensures c.in-Post.is h;
     }

@@ -32,7 +32,7 @@ pub returns-in-Post-clause-next : goal.returns-in-Post-clause-next
 returns-in-Post-clause-next c =
     let s = c.args.self.now in
     let rounds : s.step ≡ s.steps = omega (arith, c.requires.sound.within, c.if-self.false) in
-    let none = none_pends s c.first_pending.result c.first_pending.ensures.first c.in_default-first_pending.not-Some in
+    let none = none_pends s c.first_to_close.result c.first_to_close.ensures.first c.in_default-first_to_close.not-Some in
     let off = subst (IsSomeTurn s) c.in-Post.is (something s c.args.next c.requires.open rounds none) in
     let n = subst (IsNext s.turns) c.in-Post.is c.requires.looked.next in
     (post_comes s c.in-Post.number n.0 rounds none off n.1, record { shows = record { next = n; end = c.requires.looked.end; rounds = rounds }; none = none; by_counters = off })
@@ -41,7 +41,7 @@ pub returns-in-Await-clause-next : goal.returns-in-Await-clause-next
 returns-in-Await-clause-next c =
     let s = c.args.self.now in
     let rounds : s.step ≡ s.steps = omega (arith, c.requires.sound.within, c.if-self.false) in
-    let none = none_pends s c.first_pending.result c.first_pending.ensures.first c.in_default-first_pending.not-Some in
+    let none = none_pends s c.first_to_close.result c.first_to_close.ensures.first c.in_default-first_to_close.not-Some in
     let off = subst (IsSomeTurn s) c.in-Await.is (something s c.args.next c.requires.open rounds none) in
     let n = subst (IsNext s.turns) c.in-Await.is c.requires.looked.next in
     (await_comes s c.in-Await.on c.in-Await.wanted n.0 rounds none off n.1, record { shows = record { next = n; end = c.requires.looked.end; rounds = rounds }; none = none; by_counters = off })

@@ -1,0 +1,6 @@
+use Rattle.std.proofs.lemmas.Result.{on_ok_weaker}
+use Rattle.c_statements.proofs.Writing.{joined}
+use Rattle.c_owners.proofs.layout.Layout.put_given_lines.Goals as goal
+
+pub returns : goal.returns
+returns c = on_ok_weaker c.put_given.result (λ e. joined c.in_ok-put_last_line.ensures e) c.put_given.ensures

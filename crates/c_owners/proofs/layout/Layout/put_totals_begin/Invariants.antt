@@ -1,0 +1,8 @@
+use Rattle.std.proofs.Common.{string_bytes, take}
+use Rattle.nest_tree.specs.View.{tree_of}
+use Rattle.c_statements.specs.Texts.{Written, each_of}
+use Rattle.c_owners.specs.Closings.{total_begins}
+use Rattle.c_owners.proofs.layout.Layout.put_totals_begin.Given as goal
+
+abbrev pub invariant-loop-variable : goal.invariant-loop-variable
+invariant-loop-variable l = Written (each_of (total_begins (tree_of l.self.program.now)) (take l.variable-index l.sums)) (string_bytes l.fn.out) (string_bytes l.out)

@@ -1,0 +1,5 @@
+pub mod Standing
+pub mod KeptPlaces
+pub mod KeptConstants
+pub mod KeptRowLists
+pub mod GrowingParts

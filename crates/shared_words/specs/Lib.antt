@@ -1,0 +1,13 @@
+pub mod Places
+pub mod Words
+pub mod Seats
+pub mod Steps
+pub mod Runs
+pub mod Vain
+pub mod Rounds
+pub mod Schedules
+pub mod Homes
+pub mod Rule
+pub mod Calls
+pub mod Ends
+pub mod Codes

@@ -1,0 +1,182 @@
+-- Instances that come next of a walk.
+use Rattle.std.proofs.Common.{◌≡◌, ℕ, ◌+◌, ◌≤◌, true, false, IsTrue, List, [], ◌∷◌, ◌++◌, length, map, refl, sym, ◌∙◌, ap, subst, arith, sum_by, if◌then◌else◌}
+use Rattle.std.specs.List.{flat_map, list_all}
+use Rattle.std.specs.Option.{option_map}
+use Rattle.std.proofs.lemmas.Bool.{and_from, and_parts}
+use Rattle.std.proofs.lemmas.Grind.{flat_map-append}
+use Rattle.std.proofs.lemmas.List.{length-map, map-append}
+use Rattle.std.proofs.lemmas.List.Sums.{sum_by-cons}
+use Rattle.nest_tree.specs.Tree.{Tree, do_loop, work, continue, param_values, Statement}
+use Rattle.nest_tree.specs.View.{statement_of}
+use Rattle.nest_model.specs.Accesses.{loads_of, store_of}
+use Rattle.nest_model.specs.Instances.{Instance, is_executed}
+use Rattle.nest_model.specs.Memory.{assigned_value, line_of}
+use Rattle.nest_model.specs.Ranges.{is_instance_inside}
+use Rattle.nest_model.specs.Visits.{Visit, every, instances_at}
+use Rattle.nest_walk.specs.Cursors.{is_reached, visit_at}
+use Rattle.nest_walk.specs.Paths.{Round}
+use Rattle.nest_walk.specs.Places.{numbers_of}
+use Rattle.nest_walk.specs.Texts.{StandFrom, placed_in}
+use Rattle.nest_walk.specs.Texts as Texts
+use Rattle.nest_walk.specs.declared.cursor.Stop.{Stop}
+use Rattle.sync_plan.specs.Own.{Own, own_cell, own_loop, own_of}
+use Rattle.sync_plan.specs.declared.plan.Plan.{Plan}
+use Rattle.own_cells.specs.OwnCells.{AreFew, AreOwnCells}
+use Rattle.spmd_model.specs.Deeds.{Deed, instance_deeds, last_deed, loading}
+use Rattle.spmd_model.specs.MachineDeeds.{own_deeds}
+use Rattle.spmd_turns.specs.Executors.{Begins, executor_output, executor_room, executor_tree}
+use Rattle.spmd_turns.specs.Rooms.{statement_room, turn_room, visit_room}
+use Rattle.spmd_turns.specs.Turns.{works}
+use Rattle.spmd_turns.specs.TurnsLeft.{IsInstance, turns_tree}
+use Rattle.styled_turns.specs.StyledTurns.{StyledTurn, runs, styled_deeds, styled_room}
+use Rattle.styled_turns.specs.StyledLeft.{styled_left, styled_own, styled_place, styled_plan, styled_rounds, styled_tree}
+use Rattle.shared_words.specs.Homes.{Home}
+use Rattle.spmd_workers.specs.OwnPlaces.{AreKnown}
+use Rattle.spmd_workers.specs.Places.{deeds_in, left_behind, plan_at, tree_at}
+use Rattle.spmd_workers.specs.Walks.{IsReady, is_instance_there, is_styled_there, walk_place}
+use Rattle.spmd_workers.specs.declared.walk.Walk.{Walk}
+use Rattle.spmd_workers.proofs.ByProgram.{all_instances, instance_inside}
+use Rattle.spmd_workers.proofs.Turned.{AreNoPosts, last_no_post, loads_no_posts, no_posts_append}
+use Rattle.spmd_workers.proofs.Walks.{walk_left}
+
+-- ---- the deeds of instances
+
+pub runs_deeds : (h : Home) (p place : ℕ) (is : List Instance) → deeds_in h p (map (runs place) is) ≡ flat_map (own_deeds (tree_at h) (own_of (tree_at h) (plan_at h) place) p) is
+runs_deeds h p place [] = refl
+runs_deeds h p place (i ∷ is) = ap (λ l. own_deeds (tree_at h) (own_of (tree_at h) (plan_at h) place) p i ++ l) (runs_deeds h p place is)
+
+all_there : (tree : Tree) (place : ℕ) (is : List Instance) (rest : List StyledTurn) → list_all (is_styled_there tree) (map (runs place) is ++ rest) ≡ true → list_all (is_instance_there tree) is ≡ true
+all_there tree place [] rest all = refl
+all_there tree place (i ∷ is) rest all =
+    let parts = and_parts (is_instance_there tree i) (list_all (is_styled_there tree) (map (runs place) is ++ rest)) all in
+    and_from (is_instance_there tree i) (list_all (is_instance_there tree) is) parts.0 (all_there tree place is rest parts.1)
+
+insides : (tree : Tree) (is : List Instance) → list_all (is_instance_there tree) is ≡ true → list_all (is_instance_inside tree) is ≡ true
+insides tree [] all = refl
+insides tree (i ∷ is) all =
+    let parts = and_parts (is_instance_there tree i) (list_all (is_instance_there tree) is) all in
+    and_from (is_instance_inside tree i) (list_all (is_instance_inside tree) is) (instance_inside tree i parts.0) (insides tree is parts.1)
+
+instances_no_posts : (tree : Tree) (o : Own) (p : ℕ) (is : List Instance) → AreNoPosts (flat_map (own_deeds tree o p) is)
+instances_no_posts tree o p [] = tt
+instances_no_posts tree o p (i ∷ is) =
+    let g = own_cell o p in
+    let last = last_deed (option_map g (store_of tree i)) false (assigned_value tree i) (line_of tree i) in
+    no_posts_append (own_deeds tree o p i) (flat_map (own_deeds tree o p) is)
+    (no_posts_append (map loading (map g (loads_of tree i))) (last ∷ []) (loads_no_posts (map g (loads_of tree i))) (last_no_post (option_map g (store_of tree i)) (assigned_value tree i) (line_of tree i), tt))
+    (instances_no_posts tree o p is)
+
+-- ---- the room of an instance
+
+pub same_room : (tree : Tree) (rounds : List Round) (stop : Stop) (at : IsInstance tree rounds stop) → visit_room tree (visit_at tree rounds stop) ≡ turn_room tree (works at.instance)
+same_room tree rounds stop at = by (visit_at tree rounds stop) at.instance at.is
+  where
+    executed : (b : _) (i j : Instance) → (if b then i ∷ [] else []) ≡ j ∷ [] → j ≡ i
+    executed true i j is = cc
+    executed false i j is = absurd (cc)
+
+    by : (v : Visit) (i : Instance) → instances_at (param_values tree) v ≡ i ∷ [] → visit_room tree v ≡ turn_room tree (works i)
+    by v i is = on v.what is
+      where
+        on : (s : Statement) → instances_at (param_values tree) (record { place = v.place; first = v.first; what = s; loops = v.loops }) ≡ i ∷ [] → statement_room tree s ≡ turn_room tree (works i)
+        on (do_loop head body) is = absurd (cc)
+        on (work w) is = ap (λ (j : Instance). turn_room tree (works j)) (sym (executed (is_executed w v.loops (param_values tree)) (record { statement = v.first; what = w; loops = v.loops }) i is))
+        on (continue line) is = absurd (cc)
+
+-- an instance of one tree with some loops is one of the same with the same
+pub moved_instance : (t u : Tree) (rounds others : List Round) (stop : Stop) → t ≡ u → rounds ≡ others → (at : IsInstance t rounds stop) → (here : IsInstance u others stop) × (here.instance ≡ at.instance)
+moved_instance t u rounds others stop same loops at =
+    let both : (t, rounds) ≡ (u, others) = λ k. (same k, loops k) in
+    let i = at.instance in (
+      record {
+        instance = i;
+        is = subst (λ (k : Tree × List Round). instances_at (param_values k.0) (visit_at k.0 k.1 stop) ≡ i ∷ []) both at.is;
+        reached = subst (λ (k : Tree × List Round). IsTrue (is_reached k.0 k.1 stop)) both at.reached;
+        text = subst (λ (k : Tree × List Round). StandFrom (Texts.works k.0) stop.first (placed_in every (numbers_of k.1) (statement_of stop.item.now))) both at.text;
+      },
+      refl,
+    )
+
+-- ---- instances that come next, as a map of deeds has them that gives the program's
+
+module _ (f : Deed → Deed) (x : Walk) (ready : IsReady x) (place : ℕ)
+    (gives : (i : Instance) → is_instance_there (tree_at x.seat.home) i ≡ true → map f (own_deeds (tree_at x.seat.home) (own_of (tree_at x.seat.home) (plan_at x.seat.home) place) x.seat.processor i) ≡ instance_deeds (tree_at x.seat.home) i) where
+  abbrev rest_seen : List StyledTurn → List Deed
+  rest_seen rest = map f (deeds_in x.seat.home x.seat.processor rest)
+
+  -- a strip
+  pub strip_here : (is : List Instance) (rest : List StyledTurn) → styled_left x.turns ≡ map (runs place) is ++ rest → map f (left_behind x.seat x.seat x.own (walk_place x)) ≡ flat_map (instance_deeds (executor_tree x.executor)) is ++ map f (deeds_in x.seat.home x.seat.processor rest)
+  strip_here is rest next =
+      let h = x.seat.home in
+      let p = x.seat.processor in
+      let all = all_there (tree_at h) place is rest (ap (list_all (is_styled_there (tree_at h))) (sym next) ∙ ready.there) in
+      ap (map f) (walk_left x ready ∙ ap (deeds_in h p) next ∙ flat_map-append (styled_deeds (tree_at h) (plan_at h) p) (map (runs place) is) rest) ∙ map-append f (deeds_in h p (map (runs place) is)) (deeds_in h p rest)
+      ∙ ap (λ l. map f l ++ rest_seen rest) (runs_deeds h p place is) ∙ ap (λ l. l ++ rest_seen rest) (all_instances f (tree_at h) (plan_at h) place p is gives all)
+      ∙ ap (λ t. flat_map (instance_deeds t) is ++ rest_seen rest) (sym ready.executes)
+
+  -- one instance
+  module _ (stop : Stop) (at : IsInstance (turns_tree x.turns.turns) (styled_rounds x.turns) stop) (rest : List StyledTurn) (next : styled_left x.turns ≡ runs place at.instance ∷ rest) where
+    abbrev tree : Tree
+    tree = executor_tree x.executor
+
+    same_tree : turns_tree x.turns.turns ≡ tree
+    same_tree = ready.sound.same_tree ∙ ready.tree ∙ sym ready.executes
+
+    here : IsInstance tree (styled_rounds x.turns) stop
+    here = (moved_instance (turns_tree x.turns.turns) tree (styled_rounds x.turns) (styled_rounds x.turns) stop same_tree refl at).0
+
+    is_there : is_instance_there (tree_at x.seat.home) at.instance ≡ true
+    is_there =
+        let all : list_all (is_styled_there (tree_at x.seat.home)) (runs place at.instance ∷ rest) ≡ true = ap (list_all (is_styled_there (tree_at x.seat.home))) (sym next) ∙ ready.there in
+        (and_parts (is_instance_there (tree_at x.seat.home) at.instance) (list_all (is_styled_there (tree_at x.seat.home)) rest) all).0
+
+    pub begins_here : Begins tree (styled_rounds x.turns) stop (map f (left_behind x.seat x.seat x.own (walk_place x)))
+    unfolding here moved_instance
+    begins_here = record {
+      at = here;
+      inside = ap (λ t. is_instance_inside t at.instance) ready.executes ∙ instance_inside (tree_at x.seat.home) at.instance is_there;
+      rest = map f (deeds_in x.seat.home x.seat.processor rest);
+      is = ap (map f) (walk_left x ready ∙ ap (deeds_in x.seat.home x.seat.processor) next) ∙ map-append f (own_deeds (tree_at x.seat.home) (own_of (tree_at x.seat.home) (plan_at x.seat.home) place) x.seat.processor at.instance) (deeds_in x.seat.home x.seat.processor rest)
+          ∙ ap (λ l. l ++ map f (deeds_in x.seat.home x.seat.processor rest)) (gives at.instance is_there) ∙ ap (λ t. instance_deeds t at.instance ++ map f (deeds_in x.seat.home x.seat.processor rest)) (sym ready.executes);
+    }
+
+    pub rest_here : begins_here.rest ≡ map f (deeds_in x.seat.home x.seat.processor rest)
+    unfolding begins_here
+    rest_here = refl
+
+    pub room_here : visit_room tree (visit_at tree (styled_rounds x.turns) stop) ≡ turn_room (tree_at x.seat.home) (works at.instance)
+    unfolding here moved_instance
+    room_here = same_room tree (styled_rounds x.turns) stop here ∙ ap (λ t. turn_room t (works at.instance)) ready.executes
+
+    pub fits_here : length (executor_output x.executor) + visit_room tree (visit_at tree (styled_rounds x.turns) stop) ≤ executor_room x.executor
+    fits_here =
+        let room = styled_room (tree_at x.seat.home) in
+        let all : sum_by room (styled_left x.turns) ≡ turn_room (tree_at x.seat.home) (works at.instance) + sum_by room rest = ap (sum_by room) next ∙ sum_by-cons room (runs place at.instance) rest in
+        let most = ready.room in
+        let one = room_here in
+        omega (arith, all, most, one)
+
+pub inside_here : (x : Walk) (ready : IsReady x) (place : ℕ) (is : List Instance) (rest : List StyledTurn) → styled_left x.turns ≡ map (runs place) is ++ rest → list_all (is_instance_inside (executor_tree x.executor)) is ≡ true
+inside_here x ready place is rest next =
+    ap (λ t. list_all (is_instance_inside t) is) ready.executes ∙ insides (tree_at x.seat.home) is (all_there (tree_at x.seat.home) place is rest (ap (list_all (is_styled_there (tree_at x.seat.home))) (sym next) ∙ ready.there))
+
+-- ---- behind instances
+
+pub no_posts_run : (h : Home) (p place : ℕ) (is : List Instance) → AreNoPosts (deeds_in h p (map (runs place) is))
+no_posts_run h p place is = subst AreNoPosts (sym (runs_deeds h p place is)) (instances_no_posts (tree_at h) (own_of (tree_at h) (plan_at h) place) p is)
+
+-- as many deeds are left as a map of them has
+pub same_count : (f : Deed → Deed) (xs ys : List Deed) → map f xs ≡ map f ys → length xs ≡ length ys
+same_count f xs ys same = sym (length-map xs f) ∙ ap (λ (l : List Deed). length l) same ∙ length-map ys f
+
+-- the own scalars of the phase are known
+pub own_known : (x : Walk) → IsReady x → AreKnown x.seat.home x.turns (styled_own x.turns)
+own_known x ready =
+    let both : (styled_tree x.turns, styled_plan x.turns) ≡ (tree_at x.seat.home, plan_at x.seat.home) = λ i. (ready.tree i, ready.plan i) in
+    record {
+      few = subst (λ (k : Tree × Plan). AreFew k.0 (own_loop k.0 k.1 (styled_place x.turns))) both ready.sound.own.few;
+      cells = subst (λ (k : Tree × Plan). AreOwnCells k.0 (own_loop k.0 k.1 (styled_place x.turns)) (styled_own x.turns)) both ready.sound.own.cells;
+    }
+
+pub same_tail : {t u : StyledTurn} {ts us left : List StyledTurn} → left ≡ t ∷ ts → left ≡ u ∷ us → ts ≡ us
+same_tail {t} {u} {ts} {us} {left} a b = let both : t ∷ ts ≡ u ∷ us = sym a ∙ b in cc

@@ -1,4 +1,0 @@
-mod Keeps
-mod Seating
-mod Calls
-mod Reading

@@ -1,5 +1,0 @@
-pub mod Homes
-pub mod Rule
-pub mod Calls
-pub mod Ends
-pub mod Codes
