@@ -7,12 +7,12 @@ use bstr::ByteSlice;
 use fork_join::run_join;
 use spmd_model::Style;
 use spmd_ports::Gate;
+use spmd_workers::run_spmd_with;
 use std::alloc::Global;
 use std::hint;
 use std::sync::atomic::{AtomicU64, Ordering};
 use std::test::Fail;
 use std::thread::Threads;
-use spmd_workers::run_spmd_with;
 
 // So often a gate looks for a worker that is to come, which on a busy machine may take seconds, and
 // for one that isn't to, before it lets a worker pass.

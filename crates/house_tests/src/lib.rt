@@ -22,10 +22,10 @@ mod plans;
 #[cfg(test)]
 mod runs;
 #[cfg(test)]
-mod word_steps;
-#[cfg(test)]
 mod straight_line;
 #[cfg(test)]
 mod streams;
 #[cfg(test)]
 mod systems;
+#[cfg(test)]
+mod word_steps;

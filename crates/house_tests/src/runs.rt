@@ -20,14 +20,14 @@ use plan_checker::check;
 use plan_checker::laws::accepted_plans_are_ordered;
 use plan_input::{read_fitting, read_source};
 use range_check::check_ranges;
+use shared_words::{Cells, CloseRefused, Closed, MainSeat};
 use spmd_model::Style;
 use spmd_ports::NoGate;
+use spmd_workers::run::{gathered, have_ended, workers_of};
+use spmd_workers::{Leg, Tables, Worker};
 use std::alloc::Global;
 use std::test::Fail;
 use std::thread::{self, Threads};
-use spmd_workers::run::{gathered, have_ended, workers_of};
-use spmd_workers::{Leg, Tables, Worker};
-use shared_words::{Cells, CloseRefused, Closed, MainSeat};
 use sync_plan::Plan;
 
 // So many legs a worker has.

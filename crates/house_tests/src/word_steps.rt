@@ -1,6 +1,6 @@
 use crate::straight_line::{line, plan_with};
-use std::test::Fail;
 use shared_words::{Cells, Poll};
+use std::test::Fail;
 use sync_plan::Kind;
 
 #[test]

@@ -51,15 +51,24 @@ pub fn tool<R: Threads + Sync, S: Source, K: Sink, G: Gate + Sync>(
     // What is written, when each status comes, how far the source is read, when a fault is told, and
     // the receipt of a run.
     ensures behaves { Behaves (record {
-        words = texts words.now;
-        before = record { left = S.left source.old; source_faults = S.faults source.old;
-            written = K.written sink.old; sink_faults = K.faults sink.old;
-            empties = K.empties sink.old };
-        behind = record { left = S.left source.new; source_faults = S.faults source.new;
-            written = K.written sink.new; sink_faults = K.faults sink.new;
-            empties = K.empties sink.new };
-        status = result.0;
-        receipt = result.1 }) }
+      words = texts words.now;
+      before = record {
+        left = S.left source.old;
+        source_faults = S.faults source.old;
+        written = K.written sink.old;
+        sink_faults = K.faults sink.old;
+        empties = K.empties sink.old;
+      };
+      behind = record {
+        left = S.left source.new;
+        source_faults = S.faults source.new;
+        written = K.written sink.new;
+        sink_faults = K.faults sink.new;
+        empties = K.empties sink.new;
+      };
+      status = result.0;
+      receipt = result.1;
+    }) }
 
     // Unless words stand for a request that reads the source and whose settings have the form of
     // settings, nothing is read.

@@ -8,9 +8,9 @@ ghost use Rattle.house_tests.specs.StraightLine.{barriers, line, plan_with};
 
 use crate::straight_line::{line, plan_with};
 use nest_tree::Program;
+use shared_words::{CellSeat, Cells, Poll};
 use std::alloc::{AllocError, Global};
 use std::thread::{Threads, join, yield_now};
-use shared_words::{CellSeat, Cells, Poll};
 use sync_plan::{Kind, Plan};
 
 /// One thread's part: it arrives at the barrier in front of the first phase, and looks until all
