@@ -45,10 +45,10 @@ mod FirstWorks
 mod PrivateScalars
 mod ListSteps
 mod SystemParts
-mod NarrowRows
 pub mod ShapeParts
 mod SmallLoops
 mod Steps
 mod Looks
 mod RowSteps
 mod LastRows
+mod Growings

@@ -1,6 +1,6 @@
 -- The systems of a pair's pieces, part by part.
 use Rattle.std.proofs.Common.{◌≡◌, ℕ, zero, suc, ◌+◌, ◌-◌, ◌<◌, ◌≤◌, negsuc, List, [], ◌∷◌, ◌++◌, length, map, drop, get_or, Bool, slice_get, take, Some, refl, ap, ap₂, sym, ◌∙◌, arith}
-use Rattle.std.specs.Prelude.{Err, Ok, OnErr, Result}
+use Rattle.std.specs.Prelude.{Err, Ok, OnErr, OnOk, Result}
 use Rattle.std.proofs.lemmas.List.{drop_more, length-drop, length-map, map-append, take_all}
 use Rattle.farkas_cert.specs.Inequalities.{Inequalities}
 use Rattle.nest_tree.specs.Tree.{Tree}
@@ -97,10 +97,14 @@ piece_system tree plan slot left right producers pair shared p system is more =
     let rows = pair_rows tree plan.conditions (order_at (common slot.first.outer slot.second.outer) slot.level) (lasts_at plan.cut slot pair) pair ++ owners_have plan.workers q owners in
     system_more vars rows (last_of left right shared.owners.items p) shared.system system is.system more ∙ ap (λ os. system_of vars (rows ++ last_of left right os p)) is.owners
 
--- what holds, if there is an error
-pub on_error : {T E P : Type 0} (r : Result T E) → P → OnErr r P
-on_error (Ok x) p = tt
-on_error (Err e) p = p
+-- what follows where there is none, or an error
+pub ok_then : {T E : Type 0} (r : Result T E) (P Q : Type 0) → OnOk r P → (P → Q) → OnOk r Q
+ok_then (Ok x) P Q h f = f h
+ok_then (Err e) P Q h f = tt
+
+pub err_then : {T E : Type 0} (r : Result T E) (P Q : Type 0) → OnErr r P → (P → Q) → OnErr r Q
+err_then (Ok x) P Q h f = tt
+err_then (Err e) P Q h f = f h
 
 -- the pieces of two functions that agree
 pub pieces_same : (f g : ℕ → Piece → Task) → ((n : ℕ) (p : Piece) → f n p ≡ g n p) → (n : ℕ) (ps : List Piece) → pieces_from f n ps ≡ pieces_from g n ps

@@ -24,4 +24,5 @@ pub mod Subjects
 pub mod SubjectViews
 pub mod GroupViews
 pub mod PieceViews
+pub mod Owned
 pub mod SystemViews

@@ -46,4 +46,4 @@ pub use laws::{
     groups_make_obligations, meeting_owners_solve, meeting_trips_solve, obligations_order,
     slots_see_certain_boundaries,
 };
-pub use obligation::Obligation;
+pub use obligation::{Obligation, Topic};

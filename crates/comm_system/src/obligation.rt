@@ -21,3 +21,34 @@ pub struct Obligation {
     /// plan's waits order, and the least above; 0 and 0 for two trips of a Doall loop.
     pub range: (i32, i32),
 }
+
+/// What an obligation speaks of: all of it but the system.
+#[derive(Clone, Copy)]
+pub struct Topic {
+    pub number: u64,
+    pub lines: (u32, u32),
+    pub variable: u32,
+    pub level: u32,
+    pub piece: u32,
+    pub range: (i32, i32),
+}
+
+impl Topic {
+    ghost use Rattle.std.specs.Prelude.{◌≡◌};
+    ghost use Rattle.comm_system.specs.SystemViews.{about};
+
+    /// The obligation with this system.
+    pub fn obligation(self, system: System) -> Obligation
+        ensures { result ≡ about self system }
+    {
+        Obligation {
+            number: self.number,
+            system,
+            lines: self.lines,
+            variable: self.variable,
+            level: self.level,
+            piece: self.piece,
+            range: self.range,
+        }
+    }
+}

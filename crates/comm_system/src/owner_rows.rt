@@ -13,10 +13,9 @@ ghost use Rattle.comm_system.specs.OwnerRows.{owner_has, owner_numbers, owner_un
 ghost use Rattle.comm_system.specs.OwnerViews.{dealt_of, fits_owner, placed_seen};
 
 use crate::rows::single;
-use farkas_cert::NarrowSystem;
-use nest_rows::rows::push_row;
 use nest_rows::terms::push_form;
 use nest_rows::{Around, Constraint, Sign};
+use nest_systems::ConstraintSystem;
 use nest_tree::Pairs;
 use owner_partition::{Anchor, Dist};
 use std::alloc::{AllocError, Global};
@@ -125,7 +124,7 @@ fn dealt(
 // The unknown q is the owner that an anchor names.
 fn push_owns(
     alloc: Global,
-    system: &mut NarrowSystem,
+    system: &mut ConstraintSystem,
     workers: u32,
     q: u32,
     placed: Placed,
@@ -141,20 +140,12 @@ fn push_owns(
 {
     match placed.anchor.dist {
         Dist::Block(block) => {
-            push_row(alloc, system, &block_begins(alloc, q, placed, block)?)?;
-            push_row(alloc, system, &block_ends(alloc, q, placed, block)?)
+            system.push(block_begins(alloc, q, placed, block)?)?;
+            system.push(block_ends(alloc, q, placed, block)?)
         }
         Dist::Cyclic => {
-            push_row(
-                alloc,
-                system,
-                &dealt(alloc, Sign::Plus, q, placed, workers)?,
-            )?;
-            push_row(
-                alloc,
-                system,
-                &dealt(alloc, Sign::Minus, q, placed, workers)?,
-            )
+            system.push(dealt(alloc, Sign::Plus, q, placed, workers)?)?;
+            system.push(dealt(alloc, Sign::Minus, q, placed, workers)?)
         }
     }
 }
@@ -162,7 +153,7 @@ fn push_owns(
 // The unknown q is the owner that an anchor names, and a processor.
 fn push_owner(
     alloc: Global,
-    system: &mut NarrowSystem,
+    system: &mut ConstraintSystem,
     workers: u32,
     q: u32,
     placed: Placed,
@@ -174,18 +165,14 @@ fn push_owner(
         (HasMore (owner_has workers q (placed_seen placed.entry)) system.old system.new) }
 {
     push_owns(alloc, system, workers, q, placed)?;
-    push_row(alloc, system, &single(alloc, q, -1, 0)?)?;
-    push_row(
-        alloc,
-        system,
-        &single(alloc, q, 1, i128::from(workers) - 1)?,
-    )
+    system.push(single(alloc, q, -1, 0)?)?;
+    system.push(single(alloc, q, 1, i128::from(workers) - 1)?)
 }
 
 // Owners one behind another, from this unknown on. The answer has their unknowns.
 pub(crate) fn push_owners(
     alloc: Global,
-    system: &mut NarrowSystem,
+    system: &mut ConstraintSystem,
     workers: u32,
     first: u32,
     placed: &[Placed],

@@ -1,12 +1,14 @@
 // The system of a pair of accesses in two trips of a phase, and the parts of those in two phases.
 
-ghost use Rattle.std.specs.Prelude.{◌≡◌, ◌+◌, ◌*◌, ◌-◌, ◌<◌, ◌≤◌, ◌^◌, ◌⊎◌, [], ◌∷◌, IfErr, IfOk, IsTrue, None, OnErr, OnOk, length, map, neg_ℤ, pos};
-ghost use Rattle.std.specs.List.{list_all};
+ghost use Rattle.std.specs.Prelude.{List, ◌≡◌, ◌+◌, ◌*◌, ◌-◌, ◌<◌, ◌≤◌, ◌^◌, ◌⊎◌, [], ◌∷◌, IfErr, IfOk, IsTrue, None, OnErr, OnOk, length, map, neg_ℤ, pos};
+ghost use Rattle.std.specs.List.{list_all, range_with_len};
 ghost use Rattle.farkas_cert.specs.Narrow.{AreNarrow};
 ghost use Rattle.nest_tree.specs.Tree.{Tree};
 ghost use Rattle.nest_tree.specs.View.{tree_of};
-ghost use Rattle.nest_rows.specs.Constraints.{is_tame};
-ghost use Rattle.nest_rows.specs.More.{HasMore};
+ghost use Rattle.nest_rows.specs.declared.constraint.Constraint.{Constraint as Constraints};
+ghost use Rattle.presolve.specs.Presolution.{IsPresolved};
+ghost use Rattle.nest_systems.specs.Widened.{Widens};
+ghost use Rattle.farkas_cert.specs.Inequalities.{Inequalities};
 ghost use Rattle.owner_partition.specs.declared.anchor.Dist.TheVariants.{Cyclic};
 ghost use Rattle.sync_plan.specs.Shape.{has_places, wrong_field};
 ghost use Rattle.comm_system.specs.Levels.{common as in_common, order_at, two_trips as two_trips_of};
@@ -19,11 +21,14 @@ ghost use Rattle.comm_system.specs.PhaseViews.{phase_seen};
 ghost use Rattle.comm_system.specs.PieceViews.{direction_seen, piece_seen};
 ghost use Rattle.comm_system.specs.RowViews.{order_seen};
 ghost use Rattle.comm_system.specs.Seen.{pair_of};
+ghost use Rattle.conflict_rules.specs.References.{variable_of};
+ghost use Rattle.conflict_rules.specs.Seen.{target_seen};
 ghost use Rattle.conflict_rules.specs.SideViews.{producer_seen, side_seen};
 ghost use Rattle.comm_system.specs.SlotViews.{slot_seen};
-ghost use Rattle.comm_system.specs.SystemViews.{AreUnknowns, Begins, IsShared};
+ghost use Rattle.comm_system.specs.Owned.{HasOwners};
+ghost use Rattle.comm_system.specs.SystemViews.{AreUnknowns, IsShared, about, grown};
 
-use crate::obligation::Obligation;
+use crate::obligation::{Obligation, Topic};
 use crate::own::is_private_in;
 use crate::owner_rows::{Placed, owners_unknowns, push_owners};
 use crate::phase::Phase;
@@ -33,11 +38,10 @@ use crate::slot::Slot;
 use crate::waits::Waits;
 use conflict_rules::producer::Side;
 use conflict_rules::reference::Reference;
-use farkas_cert::{NarrowSystem, System};
-use nest_rows::Constraint;
-use nest_rows::rows::row;
+use nest_systems::{ConstraintSystem, GrowingSystem};
 use nest_tree::{Affine, Pairs, Program};
 use owner_partition::{Anchor, Dist};
+use presolve::Presolved;
 use std::alloc::{AllocError, Global};
 use sync_plan::Plan;
 
@@ -91,26 +95,45 @@ fn two_trips(outer: usize) -> Result<Order, AllocError>
     })
 }
 
-/// The obligation, with this number, that two accesses don't meet in two trips of a phase.
-pub fn trips_obligation(
+// What two accesses in two trips of a phase speak of.
+fn trips_topic(a: &Reference, b: &Reference, number: u64) -> Topic
+    ensures { result ≡ record {
+      number = number;
+      lines = (a.now.line, b.now.line);
+      variable = variable_of (target_seen a.now.target);
+      level = 0;
+      piece = 0;
+      range = (pos 0, pos 0);
+    } }
+{
+    Topic {
+        number,
+        lines: (a.line, b.line),
+        variable: a.target.variable(),
+        level: 0,
+        piece: 0,
+        range: (0, 0),
+    }
+}
+
+// The system that two accesses don't meet in two trips of a phase.
+fn trips_system<'p>(
     alloc: Global,
-    program: &Program,
+    program: &'p Program,
     plan: &Plan,
     phase: &Phase,
     a: &Reference,
     b: &Reference,
-    number: u64,
-) -> Result<Obligation, AllocError>
+) -> Result<ConstraintSystem<'p>, AllocError>
     requires { wrong_field (tree_of program.now) plan.now ≡ None }
-    ensures made { IfOk result (λ o. o
-        ≡ numbered number (trips_task (tree_of program.now) plan.now (phase_seen phase.now)
-        (pair_of a.now b.now))) }
-    ensures narrow { IfOk result (λ o. AreNarrow o.system.rows) }
-    ensures few { IfOk result (λ o. o.system.vars < 2 ^ 32 - 1) }
+    ensures made { IfOk result (λ s. s
+        ≡ (trips_task (tree_of program.now) plan.now (phase_seen phase.now)
+        (pair_of a.now b.now)).system) }
+    ensures few { IfOk result (λ s. s.vars < 2 ^ 32 - 1) }
 {
     let n = unknowns_of_pair(program, a, b)?;
     let order = two_trips(phase.text.outer.as_slice().len())?;
-    let mut system = NarrowSystem::empty(alloc, n.behind - 1);
+    let mut system = ConstraintSystem::empty(alloc, n.behind - 1, n.first - 1);
     push_pair(
         alloc,
         &mut system,
@@ -128,15 +151,51 @@ pub fn trips_obligation(
             last: false,
         },
     )?;
-    Ok(Obligation {
-        number,
-        system: system.as_system().copy(alloc)?,
-        lines: (a.line, b.line),
-        variable: a.target.variable(),
-        level: 0,
-        piece: 0,
-        range: (0, 0),
-    })
+    Ok(system)
+}
+
+/// The obligation, with this number, that two accesses don't meet in two trips of a phase.
+pub fn trips_obligation(
+    alloc: Global,
+    program: &Program,
+    plan: &Plan,
+    phase: &Phase,
+    a: &Reference,
+    b: &Reference,
+    number: u64,
+) -> Result<Obligation, AllocError>
+    requires { wrong_field (tree_of program.now) plan.now ≡ None }
+    ensures made { IfOk result (λ o. o
+        ≡ numbered number (trips_task (tree_of program.now) plan.now (phase_seen phase.now)
+        (pair_of a.now b.now))) }
+    ensures narrow { IfOk result (λ o. AreNarrow o.system.rows) }
+    ensures few { IfOk result (λ o. o.system.vars < 2 ^ 32 - 1) }
+{
+    let system = trips_system(alloc, program, plan, phase, a, b)?;
+    let dense = system.dense(alloc)?.into_system();
+    Ok(trips_topic(a, b, number).obligation(dense))
+}
+
+/// What it speaks of, and what is left of its system.
+pub fn trips_presolved(
+    alloc: Global,
+    program: &Program,
+    plan: &Plan,
+    phase: &Phase,
+    a: &Reference,
+    b: &Reference,
+    number: u64,
+) -> Result<(Topic, Presolved), AllocError>
+    requires { wrong_field (tree_of program.now) plan.now ≡ None }
+    ensures made { IfOk result (λ r. (whole : Inequalities)
+        × (about r.0 whole
+        ≡ numbered number (trips_task (tree_of program.now) plan.now (phase_seen phase.now)
+        (pair_of a.now b.now))) × IsPresolved whole r.1 × Widens whole r.1) }
+    ensures few { IfOk result (λ r. r.1.system.vars < 2 ^ 32 - 1) }
+{
+    let system = trips_system(alloc, program, plan, phase, a, b)?;
+    let presolved = system.presolved(alloc, &[])?;
+    Ok((trips_topic(a, b, number), presolved))
 }
 
 // How the loops round the phases of a slot stand. A level of 2^29 and more has no room.
@@ -238,22 +297,37 @@ fn placed_anchors<'b, 'a>(
     Ok(all)
 }
 
-// What all pieces of a pair have: the rows before the last ones, and the owners' unknowns.
+// What all pieces of a pair have: the rows before the last ones, the owners' unknowns, and these
+// with their rounds.
 #[derive(Drop)]
-pub(crate) struct Shared {
-    pub(crate) system: NarrowSystem,
+pub(crate) struct Shared<'p> {
+    pub(crate) system: ConstraintSystem<'p>,
     pub(crate) owners: Vec<u32>,
+    pub(crate) owned: Vec<u32>,
 }
 
-pub(crate) fn make_shared<'a>(
+// The unknowns from this number on, of so many.
+fn unknowns_from(alloc: Global, first: u32, vars: u32) -> Result<Vec<u32>, AllocError>
+    requires first { first ≤ vars + 1 }
+    requires room { vars < 2 ^ 32 - 1 }
+    ensures { IfOk result (λ all. all.items ≡ range_with_len first (vars + 1 - first)) }
+{
+    let mut all = Vec::new(alloc);
+    for number in first..vars + 1 {
+        all.push(number)?;
+    }
+    Ok(all)
+}
+
+pub(crate) fn make_shared<'a, 'p>(
     alloc: Global,
-    program: &Program,
+    program: &'p Program,
     plan: &Plan,
     slot: &Slot,
     waits: &Waits,
     a: &Reference<'a>,
     b: &Reference<'a>,
-) -> Result<Shared, AllocError>
+) -> Result<Shared<'p>, AllocError>
     requires { wrong_field (tree_of program.now) plan.now ≡ None }
     ensures shared { IfOk result (λ shared. IsShared (tree_of program.now) plan.now
         (slot_seen slot.now) (map producer_seen waits.now.producers.items)
@@ -270,7 +344,7 @@ pub(crate) fn make_shared<'a>(
     let second = anchor_at(plan, &none, slot.t);
     let placed = placed_anchors(alloc, n, a, b, first, second, waits)?;
     let vars = n.behind + owners_unknowns(placed.as_slice()) - 1;
-    let mut system = NarrowSystem::empty(alloc, vars);
+    let mut system = ConstraintSystem::empty(alloc, vars, n.first - 1);
     push_pair(
         alloc,
         &mut system,
@@ -295,18 +369,12 @@ pub(crate) fn make_shared<'a>(
         n.behind,
         placed.as_slice(),
     )?;
-    Ok(Shared { system, owners })
-}
-
-// One row more. Where memory runs out nothing has changed.
-fn push_row(alloc: Global, system: &mut System, constraint: &Constraint) -> Result<(), AllocError>
-    requires { IsTrue (is_tame constraint.now) }
-    ensures ok { OnOk result (HasMore (constraint.now ∷ []) system.old system.new) }
-    ensures err { OnErr result (system.new ≡ system.old) }
-    ensures narrow { AreNarrow system.old.rows → AreNarrow system.new.rows }
-{
-    let vars = system.vars();
-    system.push(row(alloc, vars, constraint)?)
+    let owned = unknowns_from(alloc, n.behind, vars)?;
+    Ok(Shared {
+        system,
+        owners,
+        owned,
+    })
 }
 
 // How far the first owner lies from the second on this side.
@@ -340,47 +408,47 @@ fn farthest(range: Direction, waits: &Waits) -> i64
 // The last rows of a piece, behind the others; where memory runs out some of them.
 pub(crate) fn push_last(
     alloc: Global,
-    system: &mut System,
+    system: &mut GrowingSystem,
     waits: &Waits,
     owners: &[u32],
     piece: &Piece,
 ) -> Result<(), AllocError>
-    ensures ok { OnOk result
-        (HasMore (last_of waits.now.left waits.now.right owners.now
-        (piece_seen piece.now)) system.old system.new) }
-    ensures err { OnErr result (Begins system.old system.new) }
-    ensures narrow { AreNarrow system.old.rows → AreNarrow system.new.rows }
+    requires { HasOwners owners.now system.old }
+    ensures ok { OnOk result (system.new
+        ≡ grown (last_of waits.now.left waits.now.right owners.now
+        (piece_seen piece.now)) system.old) }
+    ensures err { OnErr result ((more : List Constraints) × (system.new ≡ grown more system.old)) }
 {
     if owners.len() < 2 {
         return Ok(());
     }
     let far = farthest(piece.range, waits);
     let range = apart(alloc, piece.range.sign(), owners[0], owners[1], far)?;
-    push_row(alloc, system, &range)?;
+    system.push(alloc, range)?;
     let sides = piece.producers.as_slice();
-    push_beside(alloc, system, owners[0], &owners[2..], sides)?;
-    Ok(())
+    push_beside(alloc, system, owners[0], &owners[2..], sides)
 }
 
 // The first owner lies on these sides of the others.
 fn push_beside(
     alloc: Global,
-    system: &mut System,
+    system: &mut GrowingSystem,
     q: u32,
     others: &[u32],
     sides: &[Direction],
 ) -> Result<(), AllocError>
-    ensures ok { OnOk result
-        (HasMore (beside q others.now (map direction_seen sides.now)) system.old system.new) }
-    ensures err { OnErr result (Begins system.old system.new) }
-    ensures narrow { AreNarrow system.old.rows → AreNarrow system.new.rows }
+    requires first { HasOwners (q ∷ []) system.old }
+    requires others { HasOwners others.now system.old }
+    ensures ok { OnOk result (system.new
+        ≡ grown (beside q others.now (map direction_seen sides.now)) system.old) }
+    ensures err { OnErr result ((more : List Constraints) × (system.new ≡ grown more system.old)) }
 {
     for (index, &other) in others.iter().enumerate() {
         if index >= sides.len() {
             return Ok(());
         }
         let row = apart(alloc, sides[index].sign(), q, other, -1)?;
-        push_row(alloc, system, &row)?;
+        system.push(alloc, row)?;
     }
     Ok(())
 }

@@ -22,11 +22,10 @@ ghost use Rattle.conflict_rules.specs.SmallSteps.{are_small_steps};
 ghost use Rattle.comm_system.specs.RowViews.{bounds_have, condition_of, free_at, is_small_sum, order_seen, sum_seen};
 
 use conflict_rules::reference::{Reference, Target};
-use farkas_cert::NarrowSystem;
-use nest_rows::groups::{bounded, push_constants, push_guard, push_loops};
-use nest_rows::rows::push_row;
 use nest_rows::terms::push_form;
 use nest_rows::{Around, Constraint, Sign};
+use nest_systems::ConstraintSystem;
+use nest_systems::groups::{bounded, push_guard, push_loops};
 use nest_tree::{Affine, Nest, Pairs, Program};
 use std::alloc::{AllocError, Global};
 use sync_plan::{ConditionRow, Conditions};
@@ -101,13 +100,14 @@ pub(crate) fn single(
 }
 
 // The conditions on the named constants, behind the others.
-fn push_conditions(
+fn push_conditions<'p>(
     alloc: Global,
-    system: &mut NarrowSystem,
-    program: &Program,
+    system: &mut ConstraintSystem<'p>,
+    program: &'p Program,
     conditions: &Conditions,
 ) -> Result<(), AllocError>
-    requires room { length (tree_of program.now).params < 2 ^ 31 }
+    requires none { system.old.rows ≡ [] }
+    requires room { length (tree_of program.now).params ≤ system.old.vars }
     requires good { (constants : ℕ) × (version : Version)
         × IsTrue (are_good_conditions constants version conditions.now) }
     ensures { OnOk result
@@ -115,7 +115,10 @@ fn push_conditions(
         system.new) }
 {
     match conditions {
-        Conditions::Values => push_constants(alloc, system, &program.params),
+        Conditions::Values => {
+            system.push_constants(&program.params);
+            Ok(())
+        }
         Conditions::Rows(rows) => push_condition_rows(alloc, system, rows.as_slice()),
     }
 }
@@ -123,7 +126,7 @@ fn push_conditions(
 // Rows of conditions, behind the others.
 fn push_condition_rows(
     alloc: Global,
-    system: &mut NarrowSystem,
+    system: &mut ConstraintSystem,
     rows: &[ConditionRow],
 ) -> Result<(), AllocError>
     requires { (constants : ℕ) × IsTrue (list_all (is_good_row constants) rows.now) }
@@ -138,13 +141,13 @@ fn push_condition_rows(
 // A row of the conditions.
 fn push_condition(
     alloc: Global,
-    system: &mut NarrowSystem,
+    system: &mut ConstraintSystem,
     row: &ConditionRow,
 ) -> Result<(), AllocError>
     requires { (constants : ℕ) × IsTrue (is_good_row constants row.now) }
     ensures { OnOk result (HasMore (condition_of row.now ∷ []) system.old system.new) }
 {
-    push_row(alloc, system, &condition(alloc, row)?)
+    system.push(condition(alloc, row)?)
 }
 
 fn condition(alloc: Global, row: &ConditionRow) -> Result<Constraint, AllocError>
@@ -201,7 +204,7 @@ pub(crate) fn unknowns(program: &Program, reference: &Reference) -> Option<u32>
 // The free subscripts, from this unknown on, lie within their bounds.
 fn push_free(
     alloc: Global,
-    system: &mut NarrowSystem,
+    system: &mut ConstraintSystem,
     first: u32,
     bounds: &[(i64, i64)],
 ) -> Result<(), AllocError>
@@ -217,15 +220,15 @@ fn push_free(
 // An unknown lies within these bounds.
 fn push_bounds(
     alloc: Global,
-    system: &mut NarrowSystem,
+    system: &mut ConstraintSystem,
     unknown: u32,
     bounds: (i64, i64),
 ) -> Result<(), AllocError>
     ensures { OnOk result (HasMore (bounds_have unknown bounds) system.old system.new) }
 {
     let (low, high) = bounds;
-    push_row(alloc, system, &bounded(alloc, Sign::Plus, unknown, high)?)?;
-    push_row(alloc, system, &bounded(alloc, Sign::Minus, unknown, low)?)
+    system.push(bounded(alloc, Sign::Plus, unknown, high)?)?;
+    system.push(bounded(alloc, Sign::Minus, unknown, low)?)
 }
 
 // An access, the first unknown of whose instance has this number, and whether it is made in its
@@ -241,7 +244,7 @@ pub(crate) struct Instance<'b, 'a> {
 // comparison, and the last trip.
 fn push_instance(
     alloc: Global,
-    system: &mut NarrowSystem,
+    system: &mut ConstraintSystem,
     program: &Program,
     instance: Instance,
 ) -> Result<(), AllocError>
@@ -271,7 +274,7 @@ fn push_instance(
 // access is made in that alone.
 fn push_last_trip(
     alloc: Global,
-    system: &mut NarrowSystem,
+    system: &mut ConstraintSystem,
     first: u32,
     around: &[Around],
     last: bool,
@@ -288,7 +291,7 @@ fn push_last_trip(
         Some((innermost, outer)) => {
             let place = first + 2 * outer.len() as u32;
             let row = past_next(alloc, first, around, place, innermost.nest)?;
-            push_row(alloc, system, &row)
+            system.push(row)
         }
         None => Ok(()),
     }
@@ -431,7 +434,7 @@ fn no_more(alloc: Global, sign: Sign, x: &Sum, y: &Sum) -> Result<Constraint, Al
 // The subscripts are equal, dimension by dimension.
 fn push_same_element(
     alloc: Global,
-    system: &mut NarrowSystem,
+    system: &mut ConstraintSystem,
     xs: &[Sum],
     ys: &[Sum],
 ) -> Result<(), AllocError>
@@ -450,20 +453,25 @@ fn push_same_element(
 }
 
 // Two subscripts are equal.
-fn push_same(alloc: Global, system: &mut NarrowSystem, x: &Sum, y: &Sum) -> Result<(), AllocError>
+fn push_same(
+    alloc: Global,
+    system: &mut ConstraintSystem,
+    x: &Sum,
+    y: &Sum,
+) -> Result<(), AllocError>
     requires left { IsTrue (is_small_sum x.now) }
     requires right { IsTrue (is_small_sum y.now) }
     ensures { OnOk result (HasMore (no_more_of Plus (sum_seen x.now) (sum_seen y.now)
         ∷ no_more_of Minus (sum_seen x.now) (sum_seen y.now) ∷ []) system.old system.new) }
 {
-    push_row(alloc, system, &no_more(alloc, Sign::Plus, x, y)?)?;
-    push_row(alloc, system, &no_more(alloc, Sign::Minus, x, y)?)
+    system.push(no_more(alloc, Sign::Plus, x, y)?)?;
+    system.push(no_more(alloc, Sign::Minus, x, y)?)
 }
 
 // So many loops from the outermost have equal values.
 fn push_same_loops(
     alloc: Global,
-    system: &mut NarrowSystem,
+    system: &mut ConstraintSystem,
     m: u32,
     n: u32,
     count: u32,
@@ -479,18 +487,23 @@ fn push_same_loops(
 }
 
 // Two unknowns are equal.
-fn push_equal(alloc: Global, system: &mut NarrowSystem, m: u32, n: u32) -> Result<(), AllocError>
+fn push_equal(
+    alloc: Global,
+    system: &mut ConstraintSystem,
+    m: u32,
+    n: u32,
+) -> Result<(), AllocError>
     ensures { OnOk result (HasMore (apart_of Plus m n (pos 0) ∷ apart_of Minus m n (pos 0)
         ∷ []) system.old system.new) }
 {
-    push_row(alloc, system, &apart(alloc, Sign::Plus, m, n, 0)?)?;
-    push_row(alloc, system, &apart(alloc, Sign::Minus, m, n, 0)?)
+    system.push(apart(alloc, Sign::Plus, m, n, 0)?)?;
+    system.push(apart(alloc, Sign::Minus, m, n, 0)?)
 }
 
 // The order of two instances whose first loops have these numbers.
 fn push_order(
     alloc: Global,
-    system: &mut NarrowSystem,
+    system: &mut ConstraintSystem,
     m: u32,
     n: u32,
     order: Order,
@@ -502,21 +515,23 @@ fn push_order(
     push_same_loops(alloc, system, m, n, order.equal)?;
     if order.earlier {
         let (i, j) = (m + 2 * order.equal + 1, n + 2 * order.equal + 1);
-        push_row(alloc, system, &apart(alloc, Sign::Plus, i, j, -1)?)?;
+        system.push(apart(alloc, Sign::Plus, i, j, -1)?)?;
     }
     Ok(())
 }
 
 // The rows of two accesses, the first unknowns of whose instances have these numbers.
-pub(crate) fn push_pair(
+pub(crate) fn push_pair<'p>(
     alloc: Global,
-    system: &mut NarrowSystem,
-    program: &Program,
+    system: &mut ConstraintSystem<'p>,
+    program: &'p Program,
     conditions: &Conditions,
     order: Order,
     a: Instance,
     b: Instance,
 ) -> Result<(), AllocError>
+    requires none { system.old.rows ≡ [] }
+    requires constants { length (tree_of program.now).params ≤ system.old.vars }
     requires good { (constants : ℕ) × (version : Version)
         × IsTrue (are_good_conditions constants version conditions.now) }
     requires first { a.first ≡ first_of (tree_of program.now) }

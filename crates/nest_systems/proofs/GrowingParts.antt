@@ -18,7 +18,7 @@ use Rattle.nest_systems.proofs.KeptPlaces.{kept-same, zero-outside}
 pub none-behind : (s : Inequalities) → with_constraints [] s ≡ s
 none-behind s = let of : List Row → Inequalities = λ rs. record { vars = s.vars; rows = rs } in ap of (append-nil s.rows)
 
-one-behind : (s : Inequalities) (cs : List Constraint) (c : Constraint) → with_constraints (cs ++ c ∷ []) s ≡ with_row (row_of s.vars c) (with_constraints cs s)
+pub one-behind : (s : Inequalities) (cs : List Constraint) (c : Constraint) → with_constraints (cs ++ c ∷ []) s ≡ with_row (row_of s.vars c) (with_constraints cs s)
 one-behind s cs c =
     let of : List Row → Inequalities = λ rs. record { vars = s.vars; rows = rs } in
     ap of (ap (λ rs. s.rows ++ rs) (map-append (row_of s.vars) cs (c ∷ [])) ∙ sym (append_assoc s.rows (map (row_of s.vars) cs) (row_of s.vars c ∷ [])))

@@ -3,3 +3,4 @@ pub mod KeptPlaces
 pub mod KeptConstants
 pub mod KeptRowLists
 pub mod GrowingParts
+pub mod Widening

@@ -7,6 +7,7 @@ ghost use Rattle.presolve.specs.Presolution.{IsPresolved};
 ghost use Rattle.nest_rows.specs.Constraints.{is_tame};
 ghost use Rattle.nest_rows.specs.Groups.{constants_have};
 ghost use Rattle.nest_rows.specs.More.{HasMore};
+ghost use Rattle.nest_systems.specs.Widened.{Widens};
 
 use crate::kept::{KeptRows, columns_of, kept_constants};
 use crate::rows::{push_rows, push_values};
@@ -96,6 +97,7 @@ impl<'p> ConstraintSystem<'p> {
     /// unknowns.
     pub fn presolved(&self, alloc: Global, wanted: &[u32]) -> Result<Presolved, AllocError>
         ensures presolved { IfOk result (IsPresolved self.now) }
+        ensures widened { IfOk result (Widens self.now) }
         ensures room { IfOk result (λ p. p.count < 2 ^ 62) }
         ensures wanted { IfOk result (λ p. (k : ℕ) → k < self.now.vars
             → is_kept wanted.now (k + 1) ≡ true → is_kept p.columns k ≡ true) }

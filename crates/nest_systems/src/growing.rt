@@ -7,6 +7,7 @@ ghost use Rattle.presolve.specs.Presolution.{IsPresolved};
 ghost use Rattle.nest_rows.specs.Constraints.{is_tame};
 ghost use Rattle.nest_systems.specs.Growing.{whole_of};
 ghost use Rattle.nest_systems.specs.Kept.{NamesKept};
+ghost use Rattle.nest_systems.specs.Widened.{Widens};
 
 use crate::constraint_system::ConstraintSystem;
 use crate::kept::row_over;
@@ -34,6 +35,7 @@ impl<'p> Model for GrowingSystem<'p> {
     ghost use Rattle.presolve.specs.Presolution.{IsPresolved, first_kept};
     ghost use Rattle.nest_rows.specs.Constraints.{is_tame};
     ghost use Rattle.nest_systems.specs.Growing.{Growing, with_constraints};
+    ghost use Rattle.nest_systems.specs.Widened.{Widens};
 
     ghost Value = { Growing };
 
@@ -43,16 +45,20 @@ impl<'p> Model for GrowingSystem<'p> {
     ghost invariant = { λ s. IsPresolved s.shared (first_kept s.kept s.presolved)
         × IsPresolved (with_constraints s.last.items s.shared) s.presolved
         × (s.kept ≤ length s.presolved.numbers) × All (λ c. IsTrue (is_tame c)) s.last.items
-        × (s.presolved.count < 2 ^ 62 + length s.last.items) };
+        × (s.presolved.count < 2 ^ 62 + length s.last.items)
+        × Widens s.shared (first_kept s.kept s.presolved)
+        × Widens (with_constraints s.last.items s.shared) s.presolved };
 }
 
 impl<'p> GrowingSystem<'p> {
-    ghost use Rattle.presolve.specs.Presolution.{IsPresolved};
+    ghost use Rattle.presolve.specs.Presolution.{IsPresolved, Presolution};
     ghost use Rattle.nest_systems.specs.Growing.{Growing};
+    ghost use Rattle.nest_systems.specs.Widened.{Widens};
 
     /// A system and what is left of it, with no constraint behind.
     pub fn new(alloc: Global, shared: ConstraintSystem<'p>, presolved: Presolved) -> Self
         requires presolved { IsPresolved shared presolved }
+        requires widened { Widens shared presolved }
         requires room { presolved.count < 2 ^ 62 }
         ensures { result
             ≡ record { shared = shared.entry; last = []; columns = presolved.columns } }
@@ -103,9 +109,19 @@ impl<'p> GrowingSystem<'p> {
         }
     }
 
+    /// How many rows are left of the system that stays.
+    pub fn kept(&self) -> usize
+        ensures { (p : Presolution) × IsPresolved self.now.shared p
+            × (p.columns ≡ self.now.columns) × (length p.numbers ≡ result) }
+    {
+        self.kept
+    }
+
     /// What is left.
     pub fn presolved(&self) -> &Presolved
-        ensures { IsPresolved (whole_of self.now) result.now }
+        ensures left { IsPresolved (whole_of self.now) result.now }
+        ensures widened { Widens (whole_of self.now) result.now }
+        ensures columns { result.now.columns ≡ self.now.columns }
     {
         &self.presolved
     }

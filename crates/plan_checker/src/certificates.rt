@@ -1,22 +1,25 @@
 // The first obligation whose certificate is missing or bad.
 
-ghost use Rattle.std.specs.Prelude.{◌≡◌, IfOk, List, None, Option, map};
+ghost use Rattle.std.specs.Prelude.{◌≡◌, IfOk, IfSome, List, None, Option, map};
 ghost use Rattle.std.specs.List.{AllZip};
 ghost use Rattle.plan_checker.specs.declared.refusal.PlanRefusal.{PlanRefusal};
 ghost use Rattle.nest_tree.specs.View.{tree_of};
 ghost use Rattle.sync_plan.specs.Shape.{wrong_field};
 ghost use Rattle.comm_system.specs.GroupViews.{group_seen};
-ghost use Rattle.comm_system.specs.SystemViews.{obligations_seen};
+ghost use Rattle.comm_system.specs.SystemViews.{about, last_made, obligations_seen};
+ghost use Rattle.farkas_cert.specs.Inequalities.{Inequalities};
+ghost use Rattle.presolve.specs.Presolution.{IsPresolved};
 ghost use Rattle.plan_checker.specs.Certificates.{fault_in as stands_fault_in, fault_of as stands_fault_of, first_of};
 
 use crate::refusal::PlanRefusal;
-use comm_system::Obligation;
 use comm_system::group::Group;
 use comm_system::in_place::PairSystems;
-use comm_system::pair_systems::trips_obligation;
+use comm_system::pair_systems::{trips_obligation, trips_presolved};
 use comm_system::subject::Subject;
+use comm_system::{Obligation, Topic};
 use farkas_cert::{CertRefusal, Certificate, check_cert};
 use nest_tree::Program;
+use presolve::{Checked, Presolved};
 use rayon::prelude::*;
 use std::alloc::{AllocError, Global};
 use std::thread::Threads;
@@ -44,6 +47,46 @@ fn fault_of(
     }
 }
 
+// What is found of the certificate of an obligation, of whose system this is left: nothing where it
+// names a row that is left out.
+fn fault_left(
+    alloc: Global,
+    certificates: &[Certificate],
+    topic: Topic,
+    left: &Presolved,
+) -> Result<Option<Option<PlanRefusal>>, AllocError>
+    ensures { (whole : Inequalities) → IsPresolved whole left.now
+        → IfOk result (λ told. IfSome told (λ fault. fault
+        ≡ stands_fault_of certificates.now (about topic whole))) }
+{
+    let number = topic.number;
+    let place = number.saturating_sub(1) as usize;
+    if place >= certificates.len() {
+        return Ok(Some(Some(PlanRefusal::Missing(number))));
+    }
+    match left.check(alloc, &certificates[place])? {
+        Checked::Good => Ok(Some(None)),
+        Checked::Bad(reason) => Ok(Some(Some(PlanRefusal::Bad(number, reason)))),
+        Checked::LeftOut(_) => Ok(None),
+    }
+}
+
+// What is wrong with the certificate of a pair's obligation that was made last.
+fn fault_made(
+    alloc: Global,
+    certificates: &[Certificate],
+    systems: &PairSystems,
+) -> Result<Option<PlanRefusal>, AllocError>
+    ensures { IfOk result (λ found. found
+        ≡ stands_fault_of certificates.now (last_made systems.now)) }
+{
+    if let Some(fault) = fault_left(alloc, certificates, systems.topic(), systems.presolved())? {
+        return Ok(fault);
+    }
+    let obligation = systems.obligation(alloc)?;
+    fault_of(alloc, certificates, &obligation)
+}
+
 // The first of a pair's obligations whose certificate is missing or bad: each is made in the place
 // of the one before.
 fn fault_in_place(
@@ -56,7 +99,7 @@ fn fault_in_place(
 {
     for index in 0..systems.count() {
         systems.make(alloc, index)?;
-        let found = fault_of(alloc, certificates, systems.obligation())?;
+        let found = fault_made(alloc, certificates, systems)?;
         if found.is_some() {
             return Ok(found);
         }
@@ -79,6 +122,10 @@ fn fault_in(
     let number = group.number;
     match &group.subject {
         Subject::Trips(phase, a, b) => {
+            let (topic, left) = trips_presolved(alloc, program, plan, phase, a, b, number)?;
+            if let Some(fault) = fault_left(alloc, certificates, topic, &left)? {
+                return Ok(fault);
+            }
             let obligation = trips_obligation(alloc, program, plan, phase, a, b, number)?;
             fault_of(alloc, certificates, &obligation)
         }

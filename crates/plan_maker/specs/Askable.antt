@@ -5,7 +5,8 @@ use Rattle.farkas_cert.specs.Narrow.{AreNarrow}
 use Rattle.owner_partition.specs.declared.anchor.Dist.{Dist}
 use Rattle.sync_plan.specs.declared.plan.Plan.{Plan}
 use Rattle.comm_system.specs.Subjects.{Subject, of_slot, of_trips}
-use Rattle.comm_system.specs.declared.obligation.Obligation.{Obligation}
+use Rattle.comm_system.specs.SystemViews.{kept_columns}
+use Rattle.comm_system.specs.declared.in_place.PairSystems.{PairSystems}
 use Rattle.plan_maker.specs.Asked.{owners_dealt}
 use Rattle.plan_maker.specs.Orders.{unknowns_of}
 
@@ -16,9 +17,9 @@ pub record IsAskable (system : Inequalities) (dists : List Dist) : Type 0 where
   pub room : system.vars < 2 ^ 32 - 1
   pub few : length dists < 2 ^ 20
 
--- the unknowns of owners that are dealt so are among those of an obligation
-abbrev pub HasOwners : List Dist → Obligation → Type 0
-HasOwners dists o = unknowns_of dists ≤ o.system.vars
+-- the unknowns of owners that are dealt so are among those that each system of a pair keeps
+abbrev pub HasOwners : List Dist → PairSystems → Type 0
+HasOwners dists p = unknowns_of dists ≤ length (kept_columns p)
 
 -- the owners of what a subject asks are dealt so: two trips have none
 abbrev pub IsDealtSo : Plan → List Dist → Subject → Type 0

@@ -1,4 +1,4 @@
--- What elimination is asked of a plan: its systems one behind another, each with the order in which its unknowns are removed; and what is known of the answers.
+-- What elimination is asked of a plan: its systems one behind another, each with its owners, which say in which order its unknowns are removed; and what is known of the answers.
 use Rattle.std.specs.Prelude.{ℕ, ℤ, ◌≡◌, ◌⊎◌, List, [], ◌∷◌, map, take, slice_get, Option, Some, None}
 use Rattle.std.specs.List.{AllZip, flat_map}
 use Rattle.farkas_cert.specs.declared.certificate.Certificate.{Certificate}
@@ -7,6 +7,7 @@ use Rattle.farkas_cert.specs.Inequalities.{Inequalities, IsWholeSolution}
 use Rattle.fm_elim.specs.declared.answer.Answer.{Answer}
 use Rattle.fm_elim.specs.declared.answer.Answer.TheVariants as answers
 use Rattle.fm_elim.specs.Answers.{IsKept}
+use Rattle.presolve.specs.Presolution.{IsPresolved, Presolution}
 use Rattle.nest_tree.specs.Tree.{Tree}
 use Rattle.owner_partition.specs.declared.anchor.Anchor.{Anchor}
 use Rattle.owner_partition.specs.declared.anchor.Dist.{Dist}
@@ -20,14 +21,13 @@ use Rattle.plan_maker.specs.declared.cause.Word.{Word}
 use Rattle.plan_maker.specs.declared.cause.Word.TheVariants.{Open, Wide, Many, Work}
 use Rattle.plan_maker.specs.Orders.{elimination_order}
 
--- a system with the order of its unknowns
+-- a system whose owners are dealt so
 pub record Asked : Type 0 where
   pub task : Task
-  pub order : List ℕ
+  pub dists : List Dist
 
--- with owners that are dealt so
 abbrev pub asked : List Dist → Task → Asked
-asked dists k = record { task = k; order = elimination_order k.system.vars dists }
+asked dists k = record { task = k; dists = dists }
 
 -- of two trips of a Doall phase, which have no owners
 abbrev pub trips_asked : Tree → Plan → StaticPhase → List Asked
@@ -70,9 +70,19 @@ IsWitnessed system word = (x : List ℤ) × IsWholeSolution system x × (word �
 abbrev pub IsKeptAs : Inequalities → List ℕ → Word → Type 0
 IsKeptAs system order word = IsKeptBy system order word ⊎ IsWitnessed system word
 
+-- elimination keeps what is left of a system whose owners are dealt so, without rows and columns that play no part: its unknowns are removed in their order
+pub record IsLeftKept (system : Inequalities) (dists : List Dist) (word : Word) : Type 0 where
+  pub left : Presolution
+  pub presolved : IsPresolved system left
+  pub kept : IsKeptBy left.system (elimination_order left.system.vars dists) word
+
+-- why a system is kept whose owners are dealt so: elimination keeps what is left of it, or a whole solution of the system is a witness
+abbrev pub IsKeptOf : Inequalities → List Dist → Word → Type 0
+IsKeptOf system dists word = IsLeftKept system dists word ⊎ IsWitnessed system word
+
 -- what is said of a system that is kept
 pub record IsSaid (q : Asked) (cause : Cause) : Type 0 where
-  pub kept : IsKeptAs q.task.system q.order cause.word
+  pub kept : IsKeptOf q.task.system q.dists cause.word
   pub lines : cause.lines ≡ q.task.lines
   pub variable : cause.variable ≡ q.task.variable
   pub level : cause.level ≡ q.task.level

@@ -1,16 +1,20 @@
 // What elimination says of systems one behind another.
 
-ghost use Rattle.std.specs.Prelude.{◌≡◌, ◌<◌, ◌^◌, [], ◌∷◌, IfOk, IfSome, List, None, OnOk, length, map, take};
+ghost use Rattle.std.specs.Prelude.{◌≡◌, ◌-◌, ◌<◌, ◌≤◌, ◌^◌, [], ◌∷◌, IfOk, IfSome, List, None, OnOk, length, map, take};
 ghost use Rattle.std.specs.List.{All, flat_map};
 ghost use Rattle.nest_tree.specs.View.{tree_of};
 ghost use Rattle.owner_partition.specs.declared.anchor.Dist.{Dist as Dealt};
 ghost use Rattle.comm_system.specs.GroupViews.{group_seen};
 ghost use Rattle.comm_system.specs.SubjectViews.{subject_seen};
 ghost use Rattle.comm_system.specs.declared.group.Group.{Group as HeldGroup};
-ghost use Rattle.comm_system.specs.SystemViews.{obligations_seen};
-ghost use Rattle.plan_maker.specs.Askable.{HasOwners, IsAskable, IsDealtSo};
+ghost use Rattle.comm_system.specs.SystemViews.{about, kept_columns, obligations_seen};
+ghost use Rattle.farkas_cert.specs.Inequalities.{Inequalities};
+ghost use Rattle.presolve.specs.Presolution.{IsPresolved};
+ghost use Rattle.nest_systems.specs.Widened.{Widens};
+ghost use Rattle.plan_maker.specs.Askable.{HasOwners, IsDealtSo};
 ghost use Rattle.plan_maker.specs.Asked.{AreRefuted};
 ghost use Rattle.plan_maker.specs.Beginnings.{IsBeginning, IsPrefix};
+ghost use Rattle.plan_maker.specs.Orders.{unknowns_of};
 ghost use Rattle.plan_maker.specs.Judged.{IsJudgement, IsVerdict, asked_about, asked_in, cause_for, cause_in, certificates_in};
 
 use crate::beginnings::{Beginning, Prefix};
@@ -18,13 +22,14 @@ use crate::cause::{Cause, Word};
 use crate::findings::{Findings, SharedRows};
 use crate::problem::Problem;
 use crate::verdict::Verdict;
-use comm_system::Obligation;
+use comm_system::Topic;
 use comm_system::group::Group;
 use comm_system::in_place::PairSystems;
-use comm_system::pair_systems::trips_obligation;
+use comm_system::pair_systems::trips_presolved;
 use comm_system::subject::Subject;
 use farkas_cert::Certificate;
 use owner_partition::Dist;
+use presolve::Presolved;
 use std::alloc::{AllocError, Global};
 
 /// What is known of systems one behind another: a certificate for each, or the first that is kept.
@@ -51,35 +56,41 @@ pub(crate) fn cause_of(verdict: &Judged) -> Option<Cause>
 }
 
 // What is said of an obligation that is kept with this answer.
-fn cause_for(obligation: &Obligation, word: Word) -> Cause
-    ensures { result ≡ cause_for obligation.now word }
+fn cause_for(topic: Topic, word: Word) -> Cause
+    ensures { (whole : Inequalities) → result ≡ cause_for (about topic whole) word }
 {
     Cause {
-        lines: obligation.lines,
-        variable: obligation.variable,
-        level: obligation.level,
-        piece: obligation.piece,
+        lines: topic.lines,
+        variable: topic.variable,
+        level: topic.level,
+        piece: topic.piece,
         word,
     }
 }
 
-// What is known of an obligation.
-#[tactic(auto, using(crate::proofs::Judgements::kept_so))]
+// What is known of an obligation, of whose system this is left.
 fn judge_one(
     alloc: Global,
-    obligation: &Obligation,
+    topic: Topic,
+    left: &Presolved,
     shared: SharedRows,
     dists: &[Dist],
     beginning: Option<&Beginning>,
     findings: &mut Findings,
 ) -> Result<Verdict<Certificate, Cause>, AllocError>
-    requires asked { IsAskable obligation.now.system dists.now }
+    requires owners { unknowns_of dists.now ≤ left.now.system.vars }
+    requires room { left.now.system.vars < 2 ^ 32 - 1 }
+    requires few { length dists.now < 2 ^ 20 }
     requires beginning { IfSome beginning (λ b. IsBeginning b.now) }
-    ensures { IfOk result (IsJudgement (asked_about dists.now obligation.now)) }
+    ensures { (whole : Inequalities) → IsPresolved whole left.now → Widens whole left.now
+        → IfOk result (IsJudgement (asked_about dists.now (about topic whole))) }
 {
-    match findings.find(alloc, &obligation.system, shared, dists, beginning)? {
-        Verdict::Refuted(certificate) => Ok(Verdict::Refuted(certificate)),
-        Verdict::Kept(word) => Ok(Verdict::Kept(cause_for(obligation, word))),
+    match findings.find(alloc, left.system(), shared, dists, beginning)? {
+        Verdict::Refuted(certificate) => {
+            let told = left.postsolve(alloc, certificate)?;
+            Ok(Verdict::Refuted(told))
+        }
+        Verdict::Kept(word) => Ok(Verdict::Kept(cause_for(topic, word))),
     }
 }
 
@@ -91,6 +102,7 @@ fn known_first(
     findings: &Findings,
 ) -> Result<Vec<Certificate>, AllocError>
     ensures same { OnOk result (obligations_seen systems.new ≡ obligations_seen systems.old) }
+    ensures columns { OnOk result (kept_columns systems.new ≡ kept_columns systems.old) }
     ensures refuted { (dists : List Dealt)
         → IfOk result
         (λ cs. AreRefuted
@@ -100,8 +112,12 @@ fn known_first(
     let mut certificates = Vec::new(alloc);
     for index in 0..systems.count() {
         systems.make(alloc, index)?;
-        match findings.known(alloc, &systems.obligation().system, shared)? {
-            Some(certificate) => certificates.push(certificate)?,
+        let left = systems.presolved();
+        match findings.known(alloc, left.system(), shared)? {
+            Some(certificate) => {
+                let told = left.postsolve(alloc, certificate)?;
+                certificates.push(told)?;
+            }
             None => return Ok(certificates),
         }
     }
@@ -120,7 +136,7 @@ fn judge_from(
     findings: &mut Findings,
 ) -> Result<Judged, AllocError>
     requires few { length dists.now < 2 ^ 20 }
-    requires owners { All (HasOwners dists.now) (obligations_seen systems.old) }
+    requires owners { HasOwners dists.now systems.old }
     requires beginning { IfSome beginning (λ b. IsBeginning b.now) }
     requires known { AreRefuted
         (map (asked_about dists.now) (take (length known.items) (obligations_seen systems.old)))
@@ -132,7 +148,8 @@ fn judge_from(
         systems.make(alloc, index)?;
         match judge_one(
             alloc,
-            systems.obligation(),
+            systems.topic(),
+            systems.presolved(),
             shared,
             dists,
             beginning,
@@ -154,13 +171,13 @@ fn prefix_of(
     dists: &[Dist],
 ) -> Result<Option<Prefix>, AllocError>
     requires few { length dists.now < 2 ^ 20 }
-    requires owners { All (HasOwners dists.now) (obligations_seen systems.now) }
+    requires owners { HasOwners dists.now systems.now }
     ensures { IfOk result (λ found. IfSome found IsPrefix) }
 {
     if index.saturating_add(1) >= systems.count() {
         return Ok(None);
     }
-    let prefix = Prefix::of(alloc, &systems.obligation().system, dists)?;
+    let prefix = Prefix::of(alloc, systems.presolved().system(), dists)?;
     Ok(Some(prefix))
 }
 
@@ -183,10 +200,10 @@ fn judge_pair(
     findings: &mut Findings,
 ) -> Result<Judged, AllocError>
     requires few { length dists.now < 2 ^ 20 }
-    requires owners { All (HasOwners dists.now) (obligations_seen systems.old) }
+    requires owners { HasOwners dists.now systems.old }
     ensures { IfOk result (IsVerdict (map (asked_about dists.now) (obligations_seen systems.old))) }
 {
-    let shared = SharedRows::of(&systems.obligation().system, systems.shared());
+    let shared = SharedRows::of(systems.presolved().system(), systems.shared());
     let known = known_first(alloc, systems, shared, findings)?;
     let prefix = prefix_of(alloc, systems, known.len(), dists)?;
     match beginning_of(alloc, &prefix)? {
@@ -201,15 +218,19 @@ fn judge_pair(
 // What is known of an obligation alone.
 fn judge_single(
     alloc: Global,
-    obligation: &Obligation,
+    topic: Topic,
+    left: &Presolved,
     dists: &[Dist],
     findings: &mut Findings,
 ) -> Result<Judged, AllocError>
-    requires { IsAskable obligation.now.system dists.now }
-    ensures { IfOk result (IsVerdict (asked_about dists.now obligation.now ∷ [])) }
+    requires owners { unknowns_of dists.now ≤ left.now.system.vars }
+    requires room { left.now.system.vars < 2 ^ 32 - 1 }
+    requires few { length dists.now < 2 ^ 20 }
+    ensures { (whole : Inequalities) → IsPresolved whole left.now → Widens whole left.now
+        → IfOk result (IsVerdict (asked_about dists.now (about topic whole) ∷ [])) }
 {
-    let shared = SharedRows::of(&obligation.system, 0);
-    match judge_one(alloc, obligation, shared, dists, None, findings)? {
+    let shared = SharedRows::of(left.system(), 0);
+    match judge_one(alloc, topic, left, shared, dists, None, findings)? {
         Verdict::Refuted(certificate) => {
             let mut certificates = Vec::new(alloc);
             certificates.push(certificate)?;
@@ -237,8 +258,8 @@ fn judge_group(
     let (program, plan) = (problem.program, problem.plan);
     match &group.subject {
         Subject::Trips(phase, a, b) => {
-            let obligation = trips_obligation(alloc, program, plan, phase, a, b, number)?;
-            judge_single(alloc, &obligation, dists, findings)
+            let (topic, left) = trips_presolved(alloc, program, plan, phase, a, b, number)?;
+            judge_single(alloc, topic, &left, dists, findings)
         }
         Subject::Slot(slot, waits, a, b) => {
             let mut systems = PairSystems::new(alloc, program, plan, slot, waits, a, b, number)?;

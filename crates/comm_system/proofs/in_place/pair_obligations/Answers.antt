@@ -21,7 +21,7 @@ loop-index-preserved c =
     let at : slice_get os k ≡ Some made = ap (λ xs. slice_get xs k) (sym same) ∙ c.in_ok-make.ensures.made in
     record {
       same = same;
-      found = c.in_ok-push.ensures.items ∙ ap (λ o. c.loop-index.found.items ++ o ∷ []) (c.in_ok-copy_of.ensures ∙ c.obligation.ensures.made) ∙ ap (λ xs. xs ++ made ∷ []) c.loop-index.invariant.found ∙ sym (take_got os k made at);
+      found = c.in_ok-push.ensures.items ∙ ap (λ o. c.loop-index.found.items ++ o ∷ []) c.in_ok-obligation.ensures.made ∙ ap (λ xs. xs ++ made ∷ []) c.loop-index.invariant.found ∙ sym (take_got os k made at);
     }
 
 pub returns : goal.returns

@@ -1,4 +1,5 @@
-use Rattle.std.proofs.Common.{◌∷◌, arith, length, map, ap, ap₂, ◌∙◌}
+use Rattle.std.proofs.Common.{◌≡◌, ◌+◌, ◌-◌, ◌≤◌, ◌∷◌, arith, length, map, ap, ap₂, ◌∙◌}
+use Rattle.std.specs.List.{range_with_len}
 use Rattle.farkas_cert.specs.Inequalities.{Inequalities}
 use Rattle.nest_tree.specs.View.{tree_of}
 use Rattle.conflict_rules.specs.Boundaries.{of_first, of_second}
@@ -38,7 +39,32 @@ returns-clause-shared c =
       system = shared_system tree plan slot producers pair n (map placed_seen c.as_slice-2.result.now) (order_seen c.in_ok-order.order) (c.is_private_in.result, c.is_private_in-2.result) c.empty-system.result c.push_pair.new.system c.push_owners.new.system c.owners_unknowns.result
           are second c.in_ok-order.ensures.order (ap₂ (λ x y. (x, y)) c.is_private_in.ensures c.is_private_in-2.ensures) (c.owners_unknowns.ensures.unknowns ∙ ap owners_unknowns first) c.empty-system.ensures c.in_ok-push_pair.ensures c.in_ok-owners.ensures.rows;
       owners = c.in_ok-owners.ensures.numbers ∙ shared_numbers tree plan slot producers pair n (map placed_seen c.as_slice-2.result.now) are second;
+      owned =
+          let count = c.owners_unknowns.ensures.unknowns ∙ ap owners_unknowns first in
+          let some : 1 ≤ n.behind = let b = are.behind in omega (arith, b) in
+          let many : n.behind + c.owners_unknowns.result - 1 + 1 - n.behind ≡ c.owners_unknowns.result = omega (arith, some) in
+          c.in_ok-owned.ensures ∙ ap₂ range_with_len are.behind (many ∙ count);
     }
+
+pub empty-system-requires : goal.empty-system-requires
+empty-system-requires c = let are = c.in_ok-n.ensures.are in omega (arith, are.first, are.second, are.behind)
+
+pub push_pair-requires-clause-none : goal.push_pair-requires-clause-none
+push_pair-requires-clause-none c = ap (λ (s : Inequalities). s.rows) c.empty-system.ensures
+
+pub push_pair-requires-clause-constants : goal.push_pair-requires-clause-constants
+push_pair-requires-clause-constants c =
+    let are = c.in_ok-n.ensures.are in
+    let empty = ap (λ (s : Inequalities). s.vars) c.empty-system.ensures in
+    omega (arith, are.behind, empty)
+
+pub unknowns_from-requires-clause-first : goal.unknowns_from-requires-clause-first
+unknowns_from-requires-clause-first c = let are = c.in_ok-n.ensures.are in omega (arith, are.behind)
+
+pub unknowns_from-requires-clause-room : goal.unknowns_from-requires-clause-room
+unknowns_from-requires-clause-room c =
+    let long = ap length c.as_slice.ensures.value in
+    omega (arith, long, c.in_ok-n.ensures.are.few, c.owners_unknowns.ensures.few, c.in_ok-placed.ensures.count)
 
 pub returns-clause-few : goal.returns-clause-few
 returns-clause-few c =

@@ -1,4 +1,4 @@
-use Rattle.std.proofs.Common.{◌≡◌, OnOk, List, map, ap, sym, ◌∙◌, subst}
+use Rattle.std.proofs.Common.{◌≡◌, List, map, ap, sym, ◌∙◌, subst}
 use Rattle.nest_tree.specs.Tree.{param_values}
 use Rattle.nest_tree.specs.View.{tree_of}
 use Rattle.nest_tree.specs.declared.tree.Parameter.{Parameter}
@@ -14,4 +14,4 @@ returns-in-Values c =
     let ps = c.args.program.now.params.items in
     let same : conditions_have (param_values (tree_of c.args.program.now)) c.args.conditions.now ≡ constants_have 1 (map (λ (p : Parameter). p.value) c.deref.result.now) =
     ap (conditions_have (param_values (tree_of c.args.program.now))) c.in-Values.is ∙ ap (constants_have 1) (values_of_constants ps ∙ ap (λ (qs : List Parameter). map (λ (p : Parameter). p.value) qs) (sym c.deref.ensures.value)) in
-    subst (λ (cs : List Constraint). OnOk c.push_constants.result (HasMore cs c.args.system.now c.push_constants.new.system)) (sym same) c.push_constants.ensures
+    subst (λ (cs : List Constraint). HasMore cs c.args.system.now c.push_constants.new.self) (sym same) c.push_constants.ensures

@@ -12,4 +12,4 @@ returns-in_ok-row-in-Some c =
     let same : last_has c.args.last first (heads_of around) ≡ c.in_ok-row-in-Some.row ∷ [] =
     ap (λ b. last_has b first (heads_of around)) c.if-not-last.false ∙ last_row first around c.in-Some.outer.now c.in-Some.innermost.now c.in-Some.ensures.cases.0
     ∙ ap (λ r. r ∷ []) (sym c.in_ok-row-in-Some.ensures.is) in
-    subst (λ rows. OnOk c.push_row.result (HasMore rows c.args.system.now c.push_row.new.system)) (sym same) c.push_row.ensures
+    subst (λ rows. OnOk c.push.result (HasMore rows c.args.system.now c.push.new.self)) (sym same) c.push.ensures.ok

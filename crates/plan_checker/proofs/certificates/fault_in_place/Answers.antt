@@ -28,7 +28,7 @@ returns-then-is_some c =
     let f = fault_of c.args.certificates.now in
     let same = c.in_ok-make.ensures.same ∙ c.loop-index.invariant.same in
     let at : slice_get os i ≡ Some o = ap (λ xs. slice_get xs i) (sym same) ∙ c.in_ok-make.ensures.made in
-    let is : c.in_ok-found.found ≡ f o = c.in_ok-found.ensures ∙ ap f c.obligation.ensures.made in
+    let is : c.in_ok-found.found ≡ f o = c.in_ok-found.ensures in
     let some : is_some (f o) ≡ true = ap is_some (sym is) ∙ sym c.is_some.ensures ∙ c.if-is_some.true in
     is ∙ sym (first_stands (f o) (first_of f (drop (i + 1) os)) some) ∙ sym (ap (first_of f) (from_place os i o at)) ∙ c.loop-index.invariant.first
 
@@ -40,7 +40,7 @@ loop-index-preserved c =
     let f = fault_of c.args.certificates.now in
     let same = c.in_ok-make.ensures.same ∙ c.loop-index.invariant.same in
     let at : slice_get os i ≡ Some o = ap (λ xs. slice_get xs i) (sym same) ∙ c.in_ok-make.ensures.made in
-    let is : c.in_ok-found.found ≡ f o = c.in_ok-found.ensures ∙ ap f c.obligation.ensures.made in
+    let is : c.in_ok-found.found ≡ f o = c.in_ok-found.ensures in
     let none : is_some (f o) ≡ false = ap is_some (sym is) ∙ sym c.is_some.ensures ∙ c.if-is_some.false in
     record {
       same = same;

@@ -3,7 +3,7 @@ use Rattle.std.specs.Prelude.{IfSome}
 use Rattle.std.proofs.lemmas.List.{length_push}
 use Rattle.std.proofs.lemmas.Option.{get_or_from_slice_get}
 use Rattle.farkas_cert.specs.Good.{IsGood}
-use Rattle.comm_system.specs.declared.obligation.Obligation.{Obligation}
+use Rattle.farkas_cert.specs.Inequalities.{Inequalities}
 use Rattle.comm_system.specs.SystemViews.{last_made, obligations_seen}
 use Rattle.plan_maker.specs.Asked.{AreRefuted}
 use Rattle.plan_maker.specs.Judged.{asked_about}
@@ -23,15 +23,19 @@ loop-index-preserved c =
     let here : o ≡ get_or os i o = sym (get_or_from_slice_get os i o o at) in
     let long = ap length c.loop-index.invariant.same in
     let inside : i < length os = omega (arith, c.loop-index-test.true, c.count-index-end.ensures) in
-    let good = subst (λ (x : Obligation). IsGood x.system c.in-Some.certificate) c.obligation.ensures.made (subst (λ f. IfSome f (IsGood c.obligation.result.now.system)) c.in-Some.is c.in_ok-certificate.ensures) in
+    let found = subst (λ f. IfSome f (IsGood c.system.result.now)) c.in-Some.is c.in_ok-certificate.ensures in
+    let left = subst (λ (s : Inequalities). IsGood s c.in-Some.certificate) c.system.ensures.system found in
+    let told = c.in_ok-told-in-Some.told in
+    let good = c.in_ok-told-in-Some.ensures o.system c.presolved-left.ensures.left left in
     let items = c.in_ok-push-in-Some.ensures.items in
-    let size : length new ≡ i + 1 = omega (arith, ap length items, length_push cs c.in-Some.certificate, count) in
+    let size : length new ≡ i + 1 = omega (arith, ap length items, length_push cs told, count) in
     record {
       same = same;
+      columns = c.in_ok-make.ensures.columns ∙ c.loop-index.invariant.columns;
       count = size;
       refuted = λ dists.
           let ask = asked_about dists in
           let before = subst (λ n. AreRefuted (map ask (take n os)) cs) count (c.loop-index.invariant.refuted dists) in
-          let more = map_more ask os i o inside here cs c.in-Some.certificate before good in
+          let more = map_more ask os i o inside here cs told before good in
           subst (λ n. AreRefuted (map ask (take n os)) new) (sym size) (subst (AreRefuted (map ask (take (i + 1) os))) (sym items) more);
     }

@@ -5,11 +5,14 @@ use Rattle.farkas_cert.specs.Inequalities.{Inequalities}
 use Rattle.nest_tree.specs.declared.tree.Parameter.{Parameter}
 use Rattle.presolve.specs.Columns.{AreRising, is_kept}
 use Rattle.presolve.specs.Presolution.{IsPresolved, Presolution}
-use Rattle.nest_rows.specs.Constraints.{system_of}
+use Rattle.presolve.specs.Rows.{rows_at}
+use Rattle.nest_rows.specs.Constraints.{row_of, system_of}
 use Rattle.nest_rows.specs.Groups.{constants_have}
 use Rattle.nest_systems.specs.Kept.{IsConstant, row_over, value_of}
+use Rattle.nest_systems.specs.Widened.{Widens}
 use Rattle.nest_systems.proofs.KeptConstants.{all-named, columns-none, columns-rising, columns-wanted, rising-few}
-use Rattle.nest_systems.proofs.KeptRowLists.{kept-long, kept-within, left-of, presolved}
+use Rattle.nest_systems.proofs.KeptRowLists.{kept-long, kept-within, left-of, presolved, rows-kept}
+use Rattle.nest_systems.proofs.Widening.{widened}
 use Rattle.nest_systems.proofs.constraint_system.ConstraintSystem.presolved.Goals as goal
 
 abbrev no-rows : ℕ → Inequalities
@@ -109,3 +112,25 @@ returns-clause-wanted c =
     let all = columns-wanted s.constants s.vars c.as_slice.result.now rising c.self.invariant.0 c.args.wanted.now
     (λ n is h. subst (λ ks. is_kept ks n ≡ true) (sym c.as_slice.ensures.value) (c.in_ok-kept.ensures.wanted n is h)) k (omega (arith, lt, vars)) named in
     ap (λ (p : Presolution). is_kept p.columns k) c.new-2.ensures ∙ ap (λ cols. is_kept cols k) c.in_ok-columns.ensures ∙ all
+
+pub returns-clause-widened : goal.returns-clause-widened
+returns-clause-widened c =
+    let s = c.self.inside in
+    let vs = map (λ (p : Parameter). p.value) s.values.now in
+    let cs = c.as_slice-rest.result.now in
+    let kept = c.in_ok-kept.kept.items in
+    let columns = c.in_ok-columns.columns.items in
+    let rising = c.in_ok-kept.ensures.rising in
+    let long = length-map s.values.now (λ (p : Parameter). p.value) in
+    let wide : c.len.result ≡ length columns = search rules in
+    let empty = c.empty.ensures ∙ ap (λ n. no-rows n) wide in
+    let left = left-of vs (length s.values.now) cs kept c.as_slice-3.result.now columns _ c.push_values.new.self c.push_all.new.self long c.as_slice-3.ensures.value c.new.ensures.items c.as_slice-2.ensures.value empty c.in_ok-push_values.ensures c.in_ok-push_all.ensures in
+    let within = c.self.invariant.0 in
+    let columns-is = c.in_ok-columns.ensures ∙ ap (λ ks. columns-from s.constants s.vars ks) c.as_slice.ensures.value in
+    let most = c.self.invariant.1 in
+    let p = c.new-2.result in
+    let is = c.new-2.ensures in
+    let same = ap (λ xs. system_of s.vars (constants_have 1 vs ++ xs)) c.as_slice-rest.ensures.value ∙ c.self.view_is in
+    let of-rows = subst (λ (w : Inequalities). IsPresolved w p) (sym same) (returns-clause-presolved c) in
+    let rows = ap (λ ns. rows_at ns (map (row_of s.vars) (constants_have 1 vs ++ cs))) (ap (λ (x : Presolution). x.numbers) is ∙ left.0) ∙ rows-kept s.vars vs cs (s.constants + 1) kept rising in
+    subst (λ (w : Inequalities). Widens w p) same (widened s.constants s.vars vs cs kept p rising within (omega (arith, long, most)) of-rows (ap (λ (x : Presolution). x.columns) is ∙ columns-is) rows)
