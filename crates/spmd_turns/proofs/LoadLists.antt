@@ -1,9 +1,9 @@
 -- Loads that are done one behind another.
-use Rattle.std.proofs.Common.{◌≡◌, ◌≤◌, ℕ, zero, suc, ◌+◌, ℤ, length, take, refl, List, [], ◌∷◌, ◌++◌, map, sym, ap, ◌∙◌, append_assoc, arith}
+use Rattle.std.proofs.Common.{◌≡◌, ◌≤◌, ◌<◌, ℕ, zero, suc, ◌+◌, ℤ, length, drop, get_or, take, refl, List, [], ◌∷◌, ◌++◌, map, sym, ap, ◌∙◌, append_assoc, arith}
 use Rattle.std.specs.List.{range_with_len}
 use borrow.Rule.Slice.PartMut.{put_mid}
-use Rattle.std.proofs.Math.Seq.{take-append-add}
-use Rattle.std.proofs.lemmas.List.{append_cancel_left, length-take-le, map-append, take-take}
+use Rattle.std.proofs.Math.Seq.{split_at, take-append-add}
+use Rattle.std.proofs.lemmas.List.{append_cancel_left, length-take-le, map-append, map_more, take-take}
 use Rattle.std.proofs.lemmas.Slice.{take-put_mid}
 use Rattle.spmd_model.specs.Deeds.{Deed, loading}
 
@@ -42,3 +42,10 @@ front_written a k w xs ys inside few =
     let long : length (take a xs) ≡ a = length-take-le a xs inside in
     let at : a + w ≡ length (take a xs) + w = omega (arith, long) in
     sym (take-take (a + w) (a + length ys) (put_mid a k xs ys) more) ∙ ap (take (a + w)) (take-put_mid a k xs ys (a + length ys) refl inside) ∙ ap (λ n. take n (take a xs ++ ys)) at ∙ take-append-add (take a xs) ys w
+
+-- what a list's elements become, with one of them
+pub map_split : {A : Type 0} (f : A → ℕ) (xs : List A) (k : ℕ) (d : A) (n : ℕ) → k < length xs → n ≡ f (get_or xs k d) → map f xs ≡ map f (take k xs) ++ ((n ∷ []) ++ map f (drop (suc k) xs))
+map_split f xs k d n lt is = ap (map f) (split_at xs k d lt) ∙ map-append f (take k xs) (get_or xs k d ∷ drop (suc k) xs) ∙ ap (λ m. map f (take k xs) ++ (m ∷ map f (drop (suc k) xs))) (sym is)
+
+pub map_next : {A : Type 0} (f : A → ℕ) (xs : List A) (k : ℕ) (d : A) (n : ℕ) → k < length xs → n ≡ f (get_or xs k d) → map f (take (k + 1) xs) ≡ map f (take k xs) ++ (n ∷ [])
+map_next f xs k d n lt is = map_more f xs k d lt ∙ ap (λ m. map f (take k xs) ++ (m ∷ [])) (sym is)

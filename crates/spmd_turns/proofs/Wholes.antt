@@ -1,7 +1,7 @@
 -- The instance at a stop, whole: what it loads, and what stands behind its loads.
-use Rattle.std.proofs.Common.{◌≡◌, ℕ, ◌+◌, ◌-◌, ◌<◌, ◌≤◌, ℤ, true, false, List, [], ◌∷◌, ◌++◌, length, map, Option, Some, None, refl, sym, ◌∙◌, ap, append_assoc, arith}
+use Rattle.std.proofs.Common.{◌≡◌, ℕ, ◌+◌, ◌-◌, ◌<◌, ◌≤◌, ℤ, nat_lt, true, false, List, [], ◌∷◌, ◌++◌, length, map, Option, Some, None, refl, sym, ◌∙◌, ap, append_assoc, arith}
 use Rattle.std.specs.Prelude.{slice_get}
-use Rattle.std.specs.List.{flat_map, list_all}
+use Rattle.std.specs.List.{AllZip, flat_map, list_all}
 use Rattle.std.specs.Option.{option_to_list}
 use Rattle.std.proofs.lemmas.Bool.{and_from, and_parts, leb-true, ltb-true}
 use Rattle.std.proofs.lemmas.Bool.Decides.{nat_tests}
@@ -10,12 +10,8 @@ use Rattle.nest_tree.specs.Layout.{cell_count}
 use Rattle.nest_tree.specs.Limits.{IsWithinLimits}
 use Rattle.nest_tree.specs.Loads.{loads_in}
 use Rattle.nest_tree.specs.Tree.{Assignment, Printing, Work, assign, print, work, Tree, param_values}
-use Rattle.nest_tree.specs.View.{expression_of, printed_of, statement_of}
+use Rattle.nest_tree.specs.View.{printed_of, statement_of}
 use Rattle.nest_tree.specs.WellFormed.{IsWellFormed, is_good_item, is_good_work, loops_of, scope_of}
-use Rattle.nest_tree.specs.declared.tree.Access.{Access}
-use Rattle.nest_tree.specs.declared.tree.Expr.{Expr}
-use Rattle.nest_tree.specs.declared.tree.Guard.{Guard}
-use Rattle.nest_tree.specs.declared.tree.Item.TheVariants.{Assign}
 use Rattle.nest_tree.specs.declared.tree.PrintItem.{PrintItem}
 use Rattle.nest_model.specs.Accesses.{access_cell, loads_of, store_of, work_loads, work_store}
 use Rattle.nest_model.specs.Instances.{Instance}
@@ -27,6 +23,7 @@ use Rattle.nest_walk.specs.Cursors.{loops_in}
 use Rattle.nest_walk.specs.Paths.{Round, by_depth}
 use Rattle.nest_walk.specs.Places.{numbers_of}
 use Rattle.nest_walk.specs.RoundsOf.{rounds_of}
+use Rattle.nest_walk.specs.Strips.{at_value}
 use Rattle.nest_walk.specs.Tables.{IsCellTable, entries}
 use Rattle.nest_walk.specs.declared.cells.CellForm.{CellForm}
 use Rattle.nest_walk.specs.declared.cursor.Stop.{Stop}
@@ -37,12 +34,15 @@ use Rattle.nest_walk.specs.declared.table.LoadCells.TheVariants.{Element, Array}
 use Rattle.nest_walk.specs.declared.table.WorkCells.{WorkCells}
 use Rattle.nest_walk.proofs.CellPlaces.{few_cells}
 use Rattle.nest_walk.proofs.PlacedWorks.{instance_at}
+use Rattle.flat_code.specs.Lines.{IsLoadLine, cell_on, first_of_load}
+use Rattle.flat_code.specs.declared.lines.Line.{Line}
 use Rattle.seq_meaning.specs.Executions.{IsPlacedWork}
 use Rattle.seq_meaning.specs.Lines.{has_text, items_load_count}
-use Rattle.seq_meaning.specs.Loads.{cells_of_load, is_load_within, is_store_within}
-use Rattle.seq_meaning.proofs.Found.{Found}
+use Rattle.seq_meaning.specs.Loads.{cells_of_load, is_first_within, is_load_within, is_store_within}
+use Rattle.seq_meaning.proofs.Found.{Found, FoundFirsts}
+use Rattle.seq_meaning.proofs.Registers.{line_cells, lines_within}
 use Rattle.seq_meaning.proofs.RunInstances.{placed_work}
-use Rattle.seq_meaning.proofs.RunSteps.{assign_same, assign_valued, items_loads-length, placed-found, placed-good, same_work, texts_same, texts_there}
+use Rattle.seq_meaning.proofs.RunSteps.{assign_same, assign_valued, items_loads-length, placed-firsts, placed-found, placed-good, same_work, texts_same, texts_there}
 use Rattle.spmd_model.specs.Deeds.{Deed, last_deed, loading, printing, storing}
 use Rattle.spmd_turns.specs.Executors.{Begins}
 use Rattle.spmd_turns.specs.Loads.{widths}
@@ -57,6 +57,12 @@ all_within n m values [] more h = refl
 all_within n m values (l ∷ loads) more h =
     let parts = and_parts (is_load_within n values l) (list_all (is_load_within n values) loads) h in
     and_from (is_load_within m values l) (list_all (is_load_within m values) loads) (one_within n m values l more parts.0) (all_within n m values loads more parts.1)
+
+all_firsts : (n m : ℕ) (values : List ℤ) (loads : List LoadCells) → n ≤ m → list_all (is_first_within n values) loads ≡ true → list_all (is_first_within m values) loads ≡ true
+all_firsts n m values [] more h = refl
+all_firsts n m values (l ∷ loads) more h =
+    let parts = and_parts (is_first_within n values l) (list_all (is_first_within n values) loads) h in
+    and_from (is_first_within m values l) (list_all (is_first_within m values) loads) (grind (arith, nat_tests, ltb-true (first_of_load values l) n parts.0, more)) (all_firsts n m values loads more parts.1)
 
 one_in : (o : Option ℕ) (n : ℕ) → n ∷ [] ≡ option_to_list o → o ≡ Some n
 one_in None n h = cc
@@ -110,46 +116,61 @@ module _ (tree : Tree) (path : Path) (stop : Stop) (left : List Deed) (b : Begin
     good : is_good_work (scope_of tree) (numbers_of (rounds_of path)) placed.what ≡ true
     good = placed-good tree path stop.first (statement_of stop.item.now) placed formed
 
+    -- of a trip of a loop round an assignment: the cells on its lines are those that it loads
+    module _ (a : Assignment) (assigns : placed.what ≡ assign a) (around : List Round) (v : ℤ) (here : at_value around v ≡ rounds_of path) (lines : List Line) (laid : AllZip (λ l m. IsLoadLine l around m) cells.loads.items lines) where
+      firsts : FoundFirsts tree path placed.numbered a cells.loads.items
+      firsts = placed-firsts tree path stop.first (statement_of stop.item.now) placed a assigns table cells are at
+
+      lines_are : map (λ m. cell_on m v) lines ≡ loads_of tree i
+      lines_are =
+          line_cells around v cells.loads.items lines laid ∙ ap (λ rs. map (first_of_load (by_depth rs)) cells.loads.items) here ∙ firsts.firsts
+          ∙ ap (work_loads tree loops) (sym assigns) ∙ ap (loads_of tree) (sym instance_is)
+
+      pub lines_first : left ≡ map loading (map (λ m. cell_on m v) lines) ++ (last ∷ b.rest)
+      lines_first = b.is ∙ append_assoc (map loading (loads_of tree i)) (last ∷ []) b.rest ∙ ap (λ cs. map loading cs ++ (last ∷ b.rest)) (sym lines_are)
+
+      pub lines_last : (now : List Deed) → left ≡ map loading (map (λ m. cell_on m v) lines) ++ now → now ≡ last ∷ b.rest
+      lines_last now is = append_cancel_left (map loading (map (λ m. cell_on m v) lines)) now (last ∷ b.rest) (sym is ∙ lines_first)
+
+      pub lines_small : IsWithinLimits tree → list_all (λ m. nat_lt (cell_on m v) 1048576) lines ≡ true
+      lines_small limits =
+          lines_within around v cells.loads.items lines 1048576 laid ∙ ap (λ rs. list_all (is_first_within 1048576 (by_depth rs)) cells.loads.items) here
+          ∙ all_firsts (cell_count tree) 1048576 (by_depth (rounds_of path)) cells.loads.items (few_cells tree limits) firsts.within
+
     -- what is written of the loops' values, what the named constants are, and the registers
     module _ (before ls : List ℤ) (long : loops_of tree.items ≤ length before) (written : ls ≡ with_rounds before (rounds_of path)) (ps : List ℤ) (params : ps ≡ param_values tree) where
       -- ---- an assignment
-      module _ (e : Expr) (target : Access) (guard : Option Guard) (line : ℕ) (statement : stop.item.now ≡ Assign target e guard line) where
-        abbrev a : Assignment
-        a = record { target = target; value = expression_of e; guard = guard; line = line }
-
-        assigns : placed.what ≡ assign a
-        assigns = same_work placed.what (assign a) (sym placed.is ∙ ap statement_of statement)
-
+      module _ (a : Assignment) (assigns : placed.what ≡ assign a) where
         good_here : is_good_work (scope_of tree) (numbers_of (rounds_of path)) (assign a) ≡ true
         good_here = sym (ap (is_good_work (scope_of tree) (numbers_of (rounds_of path))) assigns) ∙ good
 
-        pub store_valued : has_value (length ls) (length ps) (expression_of e) ≡ true
+        pub store_valued : has_value (length ls) (length ps) a.value ≡ true
         store_valued =
-            ap (λ (l : List ℤ). has_value (length l) (length ps) (expression_of e)) written
-            ∙ ap (λ (l : List ℤ). has_value (length (with_rounds before (rounds_of path))) (length l) (expression_of e)) params
+            ap (λ (l : List ℤ). has_value (length l) (length ps) a.value) written
+            ∙ ap (λ (l : List ℤ). has_value (length (with_rounds before (rounds_of path))) (length l) a.value) params
             ∙ assign_valued tree (rounds_of path) placed.numbered before long a good_here
 
-        pub store_loads : length (loads_in (expression_of e)) ≡ widths cells.loads.items
+        pub store_loads : length (loads_in a.value) ≡ widths cells.loads.items
         store_loads =
-            let these = ap (λ (j : Instance). length (loads_of tree j)) instance_is ∙ ap (λ (w : Work). length (work_loads tree loops w)) assigns ∙ length-map (loads_in (expression_of e)) (access_cell tree loops) in
+            let these = ap (λ (j : Instance). length (loads_of tree j)) instance_is ∙ ap (λ (w : Work). length (work_loads tree loops w)) assigns ∙ length-map (loads_in a.value) (access_cell tree loops) in
             omega (arith, count, these)
 
-        pub store_value : (v : ℤ) (given registers : List ℤ) → v ≡ value_of (expression_of e) ls ps given → given ≡ registers → v ≡ assigned_value tree i registers
+        pub store_value : (v : ℤ) (given registers : List ℤ) → v ≡ value_of a.value ls ps given → given ≡ registers → v ≡ assigned_value tree i registers
         store_value v given registers is same =
-            is ∙ ap (λ l. value_of (expression_of e) l ps given) written ∙ ap (λ l. value_of (expression_of e) (with_rounds before (rounds_of path)) l given) params
-            ∙ ap (value_of (expression_of e) (with_rounds before (rounds_of path)) (param_values tree)) same
+            is ∙ ap (λ l. value_of a.value l ps given) written ∙ ap (λ l. value_of a.value (with_rounds before (rounds_of path)) l given) params
+            ∙ ap (value_of a.value (with_rounds before (rounds_of path)) (param_values tree)) same
             ∙ assign_same tree (rounds_of path) placed.numbered before long a registers good_here
             ∙ ap (λ w. assigned tree loops w registers) (sym assigns)
             ∙ ap (λ (j : Instance). assigned_value tree j registers) (sym instance_is)
 
-        stores : store_of tree i ≡ Some (access_cell tree loops target)
+        stores : store_of tree i ≡ Some (access_cell tree loops a.target)
         stores = ap (store_of tree) instance_is ∙ ap (work_store tree loops) assigns
 
         stored_by : (o : Option CellForm) → cells.store ≡ o → map (λ f. cell_at f (by_depth (rounds_of path))) (option_to_list o) ≡ option_to_list (store_of tree i)
         stored_by o is = ap (λ q. map (λ f. cell_at f (by_depth (rounds_of path))) (option_to_list q)) (sym is) ∙ found.store ∙ ap (λ (j : Instance). option_to_list (store_of tree j)) (sym instance_is)
 
         pub some_store : cells.store ≡ None → ⊥
-        some_store none = let clash : [] ≡ option_to_list (Some (access_cell tree loops target)) = stored_by None none ∙ ap option_to_list stores in cc
+        some_store none = let clash : [] ≡ option_to_list (Some (access_cell tree loops a.target)) = stored_by None none ∙ ap option_to_list stores in cc
 
         module _ (f : CellForm) (stored : cells.store ≡ Some f) (k : ℕ) (values : List ℤ) (k_is : k ≡ cell_at f values) (depth : values ≡ by_depth (rounds_of path)) where
           store_is : store_of tree i ≡ Some k

@@ -9,6 +9,7 @@ use Rattle.nest_walk.specs.ByNumber.{with_rounds}
 use Rattle.nest_walk.specs.Paths.{Round}
 use Rattle.nest_walk.specs.Tables.{IsCellTable, entries}
 use Rattle.nest_walk.specs.declared.table.WorkCells.{WorkCells}
+use Rattle.flat_code.specs.CodeTables.{IsCodeTable, most_registers}
 use Rattle.spmd_model.specs.Deeds.{Deed, instance_deeds}
 use Rattle.spmd_turns.specs.Loads.{widths}
 use Rattle.spmd_turns.specs.TurnsLeft.{IsInstance}
@@ -25,13 +26,16 @@ executor_output x = x.output.bytes
 abbrev pub executor_room : Executor → ℕ
 executor_room x = x.output.room
 
--- what it is lent is its program's, and it has room for the registers of any piece of work
+-- what it is lent and its codes are its program's, and it has room for the registers and lines of any piece of work
 pub record CanExecute (x : Executor) : Type 0 where
   pub formed : IsWellFormed (executor_tree x)
   pub limits : IsWithinLimits (executor_tree x)
   pub table : IsCellTable (executor_tree x) x.table.now
   pub params : x.params.now ≡ param_values (executor_tree x)
+  pub codes : IsCodeTable (executor_tree x) x.codes
   pub loops : loops_of (executor_tree x).items ≤ length x.loops.items
+  pub lines : most_registers x.codes ≤ length x.lines.items
+  pub registers : most_registers x.codes ≤ length x.registers.items
   pub room : (n : ℕ) (cells : WorkCells) → slice_get (entries x.table.now) n ≡ Some cells → widths cells.loads.items ≤ length x.registers.items
 
 -- its values of loops by number are those of these loops, and of others whatever they were

@@ -1,24 +1,24 @@
 // Instances run whole.
 
-ghost use Rattle.std.specs.Prelude.{◌≡◌, ◌+◌, ◌≤◌, ◌<◌, ℕ, [], ◌∷◌, ◌++◌, IfOk, IsTrue, List, Option, length, map, take};
+ghost use Rattle.std.specs.Prelude.{◌≡◌, ◌+◌, ◌≤◌, ◌<◌, ℕ, [], ◌∷◌, ◌++◌, IfOk, IsTrue, List, length, map, nat_lt, take};
 ghost use Rattle.std.specs.List.{flat_map, list_all};
 ghost use Rattle.nest_tree.specs.Limits.{IsWithinLimits};
-ghost use Rattle.nest_tree.specs.Tree.{param_values};
+ghost use Rattle.nest_tree.specs.Tree.{Assignment, assign, param_values, work};
 ghost use Rattle.nest_tree.specs.View.{statement_of, tree_of};
 ghost use Rattle.nest_tree.specs.WellFormed.{IsWellFormed};
-ghost use Rattle.nest_tree.specs.declared.tree.Access.{Access};
-ghost use Rattle.nest_tree.specs.declared.tree.Guard.{Guard};
 ghost use Rattle.nest_walk.specs.RoundsOf.{rounds_of};
 ghost use Rattle.nest_walk.specs.Tables.{IsCellTable};
+ghost use Rattle.flat_code.specs.Lines.{cell_on};
 ghost use Rattle.seq_meaning.specs.Loads.{cells_of_load, is_load_within};
 ghost use Rattle.spmd_model.specs.Deeds.{Deed, loading};
 ghost use Rattle.spmd_turns.specs.Loads.{width, widths};
 
 use crate::deeds::Deeds;
 use crate::room::most_loads;
-use nest_tree::{Expr, Item, PrintItem, Program};
+use flat_code::{CodeTable, Line, lay_lines, line_of, run_code};
+use nest_tree::{Item, PrintItem, Program};
 use nest_walk::{CellTable, LoadCells, MOST_LOOPS, Path, Stop, Strip};
-use seq_meaning::{Given, Output, eval};
+use seq_meaning::{Given, Output};
 use std::alloc::{AllocError, Global};
 
 // The most statements that a program has, and so the most loops.
@@ -29,14 +29,17 @@ const MOST_STATEMENTS: usize = 400;
 const APART: usize = 16;
 
 /// What a processor executes its instances with: the program with its cells and the values of its
-/// named constants, which others may be lent too, the values of loops by number, what the loads of
-/// the instance that has begun gave, and the output.
+/// named constants, which others may be lent too, the codes of what it assigns, the values of loops
+/// by number, the lines of a strip, registers, in whose first ones stands what the loads of the
+/// instance that has begun gave, and the output.
 #[derive(Drop)]
 pub struct Executor<'a> {
     program: &'a Program,
     table: &'a CellTable,
+    codes: CodeTable,
     params: &'a [i64],
     loops: Vec<i64>,
+    lines: Vec<Line>,
     registers: Vec<i64>,
     output: Output,
 }
@@ -69,13 +72,21 @@ impl<'a> Executor<'a> {
         ensures output { IfOk result (λ x. executor_output x ≡ []) }
         ensures room { IfOk result (λ x. room ≤ executor_room x) }
     {
-        let most = most_loads(program, table).ok_or(AllocError)?;
+        let loaded = most_loads(program, table).ok_or(AllocError)?;
+        let codes = CodeTable::new(alloc, program)?;
+        let most = codes.registers() as usize;
+        let none = Line {
+            origin: 0,
+            stride: 0,
+        };
         Ok(Executor {
             program,
             table,
+            codes,
             params,
             loops: vec![in alloc; 0; MOST_STATEMENTS]?,
-            registers: vec![in alloc; 0; most.saturating_add(APART)]?,
+            lines: vec![in alloc; none; most]?,
+            registers: vec![in alloc; 0; loaded.saturating_add(most).saturating_add(APART)]?,
             output: Output::with_room(alloc, room)?,
         })
     }
@@ -118,7 +129,7 @@ impl<'a> Executor<'a> {
     {
         path.write_to(&mut self.loops);
         match stop.item {
-            Item::Assign(_, e, _, _) => self.assign(stop, e, path, deeds),
+            Item::Assign(..) => self.assign(stop, path, deeds),
             Item::Print(items, _) => self.print(stop, items, path, deeds),
             Item::Loop(_) | Item::Continue(_) => unreachable!(),
         }
@@ -145,23 +156,32 @@ impl<'a> Executor<'a> {
         ensures kept { D.kept deeds.new ≡ D.kept deeds.old }
     {
         let mut trips = strip;
+        let path = trips.path();
         let stop = trips.stop();
-        let e = trips.value();
+        let cells = self.table.work(stop.first);
+        let Some(form) = &cells.store else {
+            unreachable!()
+        };
+        let code = self.codes.work(stop.first);
+        let store = line_of(form, path);
+        lay_lines(&cells.loads, path, &mut self.lines);
+        let lines = &self.lines[..cells.loads.len()];
+        path.write_to(&mut self.loops);
         let place = trips.number() as usize - 1;
-        trips.path().write_to(&mut self.loops);
         while let Some(value) = trips.next() {
             self.loops[place] = value;
-            self.assign(stop, e, trips.path(), deeds);
+            load_lines(lines, value, &mut self.registers, deeds);
+            let result = run_code(code, &self.loops, self.params, &mut self.registers);
+            deeds.store(store.at(value) as u32, result);
         }
     }
 
     // An assignment with these loops round it, whose values are written.
     #[inline(always)]
-    fn assign<D: Deeds>(&mut self, stop: Stop, e: &Expr, path: &Path, deeds: &mut D)
+    fn assign<D: Deeds>(&mut self, stop: Stop, path: &Path, deeds: &mut D)
         requires can { CanExecute self.old }
         requires written { AreWritten self.old (rounds_of path.now) }
-        requires statement { (target : Access) × (guard : Option Guard) × (line : ℕ)
-            × (stop.item.now ≡ Item.Assign target e.now guard line) }
+        requires statement { (a : Assignment) × (statement_of stop.item.now ≡ work (assign a)) }
         requires begins { Begins (executor_tree self.old) (rounds_of path.now) stop
             (D.left deeds.old) }
         requires idle { D.registers deeds.old ≡ [] }
@@ -176,8 +196,9 @@ impl<'a> Executor<'a> {
         ensures kept { D.kept deeds.new ≡ D.kept deeds.old }
     {
         let cells = self.table.work(stop.first);
-        let count = load_all(&cells.loads, path.values(), &mut self.registers, deeds);
-        let value = eval(e, &self.loops, self.params, &self.registers[..count]);
+        let code = self.codes.work(stop.first);
+        load_all(&cells.loads, path.values(), &mut self.registers, deeds);
+        let value = run_code(code, &self.loops, self.params, &mut self.registers);
         let Some(form) = &cells.store else {
             unreachable!()
         };
@@ -217,6 +238,27 @@ impl<'a> Executor<'a> {
         };
         self.output.push_line(self.program, items, &given).unwrap();
         deeds.print();
+    }
+}
+
+// What the cells of lines hold where their loop has this value, one load behind another, into the
+// first registers.
+#[inline(always)]
+fn load_lines<D: Deeds>(lines: &[Line], value: i64, registers: &mut [i64], deeds: &mut D)
+    requires within { IsTrue (list_all (λ line. nat_lt (cell_on line value) 1048576) lines.now) }
+    requires left { (rest : List Deed)
+        × (D.left deeds.old ≡ map loading (map (λ line. cell_on line value) lines.now) ++ rest) }
+    requires idle { D.registers deeds.old ≡ [] }
+    requires room { length lines.now ≤ length registers.old }
+    ensures left { D.left deeds.old ≡ map loading (map (λ line. cell_on line value) lines.now)
+        ++ D.left deeds.new }
+    ensures registers { D.registers deeds.new ≡ take (length lines.now) registers.new }
+    ensures room { length registers.new ≡ length registers.old }
+    ensures printed { D.printed deeds.new ≡ D.printed deeds.old }
+    ensures kept { D.kept deeds.new ≡ D.kept deeds.old }
+{
+    for (k, line) in lines.iter().enumerate() {
+        registers[k] = deeds.load(line.at(value) as u32);
     }
 }
 

@@ -13,13 +13,17 @@ returns-clause-can c =
     let tree = tree_of c.args.program.now in
     let table = c.args.table.now in
     let loops = ap (λ xs. length xs) (c.in_ok-vec.ensures.items_if_clones_equal (λ y e. e)) ∙ length-replicate 400 (pos 0) in
-    let most = subst (λ (o : Option ℕ). IfSome o (λ n. (k : ℕ) (w : WorkCells) → slice_get (entries table) k ≡ Some w → widths w.loads.items ≤ n)) c.in_ok-most.ensures.ok_part c.most_loads.ensures.most in
-    let long = ap (λ xs. length xs) (c.in_ok-vec-2.ensures.items_if_clones_equal (λ y e. e)) ∙ length-replicate c.saturating_add.result (pos 0) in
+    let most = subst (λ (o : Option ℕ). IfSome o (λ n. (k : ℕ) (w : WorkCells) → slice_get (entries table) k ≡ Some w → widths w.loads.items ≤ n)) c.in_ok-loaded.ensures.ok_part c.most_loads.ensures.most in
+    let lines = ap (λ xs. length xs) (c.in_ok-vec-2.ensures.items_if_clones_equal (λ y e. e)) ∙ length-replicate c.registers-most.result _ in
+    let long = ap (λ xs. length xs) (c.in_ok-vec-3.ensures.items_if_clones_equal (λ y e. e)) ∙ length-replicate c.saturating_add-2.result (pos 0) in
     record {
       formed = c.requires.formed;
       limits = c.requires.limits;
       table = c.requires.table;
       params = c.requires.params;
+      codes = c.in_ok-codes.ensures;
       loops = omega (arith, loops, loops-few tree c.requires.formed);
-      room = λ n cells at. omega (arith, most n cells at, long, c.saturating_add.ensures);
+      lines = omega (arith, lines, c.registers-most.ensures);
+      registers = omega (arith, long, c.registers-most.ensures, c.saturating_add.ensures, c.saturating_add-2.ensures);
+      room = λ n cells at. omega (arith, most n cells at, long, c.saturating_add.ensures, c.saturating_add-2.ensures);
     }
