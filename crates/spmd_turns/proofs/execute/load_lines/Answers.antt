@@ -1,4 +1,4 @@
-use Rattle.std.proofs.Common.{◌≡◌, ◌<◌, ◌+◌, [], ◌∷◌, ◌++◌, drop, map, take, length, length-set, set, w64, FitsSigned, to_z, of_z, sym, ap, ◌∙◌, arith, rules, suc}
+use Rattle.std.proofs.Common.{◌≡◌, ◌<◌, ◌+◌, [], ◌∷◌, ◌++◌, drop, map, take, length, length-set, w64, FitsSigned, to_z, of_z, sym, ap, ◌∙◌, arith, rules, suc}
 use Rattle.std.proofs.lemmas.Int.{to_z-of_z}
 use Rattle.std.proofs.lemmas.List.{take_all, take_more_set}
 use Rattle.spmd_model.specs.Deeds.{loading}

@@ -1,4 +1,4 @@
-use Rattle.std.proofs.Common.{◌-◌, ◌≡◌, Some, ap, sym, subst, ◌∙◌, length, arith}
+use Rattle.std.proofs.Common.{◌-◌, ◌≡◌, ap, sym, subst, ◌∙◌, length, arith}
 use Rattle.std.specs.Option.{MatchOption}
 use Rattle.std.specs.Prelude.{min}
 use Rattle.std.proofs.lemmas.Bool.{and_parts}
@@ -6,7 +6,7 @@ use Rattle.nest_tree.specs.Form.{reach_within}
 use Rattle.nest_tree.specs.Tree.{param_values}
 use Rattle.nest_tree.specs.WellFormed.{loops_of}
 use Rattle.owner_partition.specs.Owners.{anchor_owner, owner_by}
-use Rattle.owner_partition.specs.PhasesLeft.{phase_last, phases_tree}
+use Rattle.owner_partition.specs.PhasesLeft.{phases_tree}
 use Rattle.sync_plan.proofs.Fits.{IsGivenAnchor, producer_given, fit_parts}
 use Rattle.spmd_turns.proofs.turns.owner_before.Goals as goal
 use Rattle.spmd_turns.proofs.turns.owner_before.Goals.{In-Some}

@@ -1,4 +1,4 @@
-use Rattle.std.proofs.Common.{◌≡◌, ◌+◌, ◌-◌, ◌++◌, ◌≤◌, ℤ, nat_le, nat_lt, IsTrue, List, [], ◌∷◌, length, set, take, w64, FitsSigned, to_z, of_z, refl, ap, sym, ◌∙◌, subst, rules, arith}
+use Rattle.std.proofs.Common.{◌≡◌, ◌+◌, ◌-◌, ◌++◌, ◌≤◌, ℤ, nat_le, IsTrue, List, ◌∷◌, length, set, take, w64, FitsSigned, to_z, of_z, refl, ap, sym, ◌∙◌, subst, rules, arith}
 use Rattle.std.specs.List.{AllZip, flat_map, list_all}
 use Rattle.std.specs.Option.{option_to_list}
 use Rattle.std.specs.Vec.{with_items}
@@ -6,8 +6,7 @@ use Rattle.std.proofs.lemmas.Bool.{and_parts, leb-true}
 use Rattle.std.proofs.lemmas.Int.{to_z-of_z}
 use Rattle.std.proofs.lemmas.List.{length-take, length-take-le}
 use Rattle.std.proofs.lemmas.Slice.Zip.{AllZip-long}
-use Rattle.nest_tree.specs.Loads.{loads_in}
-use Rattle.nest_tree.specs.Tree.{Tree, assign, param_values}
+use Rattle.nest_tree.specs.Tree.{Tree, assign}
 use Rattle.nest_tree.specs.View.{statement_of}
 use Rattle.nest_tree.specs.WellFormed.{is_number_of, loops_of}
 use Rattle.nest_model.specs.Memory.{assigned_value}

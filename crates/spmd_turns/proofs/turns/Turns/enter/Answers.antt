@@ -1,4 +1,4 @@
-use Rattle.std.proofs.Common.{◌≡◌, Bool, suc, ◌+◌, ◌-◌, ◌++◌, map, is_some, length, drop, get_or, List, [], Option, Some, true, ap, sym, subst, ◌∙◌, ℕ, arith}
+use Rattle.std.proofs.Common.{◌≡◌, suc, ◌+◌, ◌-◌, ◌++◌, map, is_some, length, drop, get_or, List, [], Option, Some, true, ap, sym, subst, ◌∙◌, ℕ, arith}
 use Rattle.std.specs.Prelude.{slice_get}
 use Rattle.std.proofs.lemmas.Option.{get_or_from_slice_get}
 use Rattle.nest_tree.specs.Form.{reach_within}
@@ -11,12 +11,7 @@ use Rattle.owner_partition.specs.declared.anchor.Anchor.{Anchor}
 use Rattle.owner_partition.specs.OwnInstances.{names_no_inner}
 use Rattle.owner_partition.specs.Owners.{own_instances}
 use Rattle.owner_partition.specs.Phases.{phases}
-use Rattle.owner_partition.specs.declared.phases.Phase.{Phase}
-use Rattle.owner_partition.specs.PhasesLeft.{IsPhase, phase_last, phases_enters, phases_left, phases_passed, phases_rounds, phases_tree}
-use Rattle.nest_walk.specs.Cursors.{loops_in}
-use Rattle.nest_walk.specs.Paths.{Round}
-use Rattle.sync_plan.specs.declared.plan.Plan.{Plan}
-use Rattle.nest_tree.specs.WellFormed.{IsWellFormed}
+use Rattle.owner_partition.specs.PhasesLeft.{phase_last, phases_left, phases_passed, phases_tree}
 use Rattle.sync_plan.specs.Boundaries.{kind_before}
 use Rattle.sync_plan.specs.ProcessorSets.{members}
 use Rattle.sync_plan.specs.Waits.{posts_at, waits_for}
