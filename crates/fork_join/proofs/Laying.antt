@@ -1,11 +1,15 @@
--- Stores laid over memory, and the places of their cells.
-use Rattle.std.proofs.Common.{◌≡◌, ◌≢◌, ◌-◌, ℕ, zero, suc, ◌+◌, ◌<◌, ◌≤◌, ℤ, pos, List, [], ◌∷◌, ◌++◌, length, length-append, length-set, set, get_or, replicate, refl, sym, ◌∙◌, ap, subst, inl, inr, arith, sum_by}
-use Rattle.std.specs.Prelude.{slice_index}
-use Rattle.std.proofs.lemmas.Bool.{cases_eq, cases_lt}
-use Rattle.std.proofs.lemmas.List.{get_or-set_other, get_or-set_same, get_or_append_left, get_or_at, set-set, set_comm}
+-- Stores laid over memory, and the cells that have one.
+use Rattle.std.proofs.Common.{◌≡◌, ◌≢◌, ◌==◌, ◌||◌, ℕ, zero, suc, ◌+◌, ◌<◌, ◌≤◌, ℤ, pos, Bool, true, false, List, [], ◌∷◌, ◌++◌, append-nil, append_assoc, fold, if◌then◌else◌, length, length-append, length-set, map, set, get_or, refl, replicate, sym, ◌∙◌, ap, subst, inl, inr, arith, sum_by}
+use Rattle.std.specs.List.{flat_map, list_any, range_with_len}
+use Rattle.std.proofs.lemmas.Bool.{cases_Bool, cases_eq, eq-eqb, ne_eqb}
+use Rattle.std.proofs.lemmas.Grind.{flat_map-append}
+use Rattle.std.proofs.lemmas.List.{ext_get_or, get_or-set_other, get_or-set_same, map-append}
+use Rattle.std.proofs.lemmas.List.Folds.{list_any-append}
+use Rattle.std.proofs.lemmas.List.FromFn.{length-range_with_len}
 use Rattle.std.proofs.lemmas.List.Sums.{fold-append, sum_by-cons, sum_by-set}
 use Rattle.nest_model.specs.Memory.{cell_value}
-use Rattle.fork_join.specs.Overlays.{AreIndexed, cell_at, is_named, laid_in}
+use Rattle.spmd_turns.proofs.LoadLists.{range_more}
+use Rattle.fork_join.specs.Overlays.{AreMarked, is_among, is_marked, laid_in, stores_to, stretched, unmarked}
 
 pub laid-append : (xs ys : List (ℕ × ℤ)) (memory : List ℤ) → laid_in (xs ++ ys) memory ≡ laid_in ys (laid_in xs memory)
 laid-append xs ys memory = fold-append (λ cells s. set cells s.0 s.1) memory xs ys
@@ -14,199 +18,217 @@ pub length-laid : (stores : List (ℕ × ℤ)) (memory : List ℤ) → length (l
 length-laid [] memory = refl
 length-laid (s ∷ rest) memory = length-laid rest (set memory s.0 s.1) ∙ length-set memory s.0 s.1
 
--- no store is to this cell
-abbrev pub IsAway : ℕ → List (ℕ × ℤ) → Type 0
-IsAway c stores = (k : ℕ) → k < length stores → cell_at stores k ≢ c
+-- ---- among cells
 
-away-tail : (c : ℕ) (s : ℕ × ℤ) (rest : List (ℕ × ℤ)) → IsAway c (s ∷ rest) → IsAway c rest
-away-tail c s rest away k lt = away (suc k) (omega arith)
+or_true : (b : Bool) → (b || true) ≡ true
+or_true true = refl
+or_true false = refl
 
-pub away_value : (stores : List (ℕ × ℤ)) (memory : List ℤ) (c : ℕ) → IsAway c stores → cell_value (laid_in stores memory) c ≡ cell_value memory c
-away_value [] memory c away = refl
-away_value (s ∷ rest) memory c away =
-    away_value rest (set memory s.0 s.1) c (away-tail c s rest away) ∙ get_or-set_other memory s.0 c s.1 (pos 0) (λ e. away 0 (omega arith) (sym e))
+or_false : (b : Bool) → (b || false) ≡ b
+or_false true = refl
+or_false false = refl
 
-pub away_set : (stores : List (ℕ × ℤ)) (memory : List ℤ) (c : ℕ) (v : ℤ) → IsAway c stores → laid_in stores (set memory c v) ≡ set (laid_in stores memory) c v
-away_set [] memory c v away = refl
-away_set (s ∷ rest) memory c v away =
-    ap (laid_in rest) (set_comm memory c s.0 v s.1 (λ e. away 0 (omega arith) (sym e))) ∙ away_set rest (set memory s.0 s.1) c v (away-tail c s rest away)
+among-append : (c : ℕ) (xs ys : List ℕ) → is_among c (xs ++ ys) ≡ (is_among c xs || is_among c ys)
+among-append c xs ys = list_any-append (λ x. x == c) xs ys
 
--- the store at this place is the last one to its cell
-abbrev pub IsLast : ℕ → ℕ → List (ℕ × ℤ) → Type 0
-IsLast c k stores = (j : ℕ) → k < j → j < length stores → cell_at stores j ≢ c
+pub among_last : (c : ℕ) (cells : List ℕ) → is_among c (cells ++ c ∷ []) ≡ true
+among_last c cells = among-append c cells (c ∷ []) ∙ ap (λ b. is_among c cells || (b || false)) (eq-eqb c c refl) ∙ or_true (is_among c cells)
 
-pub last_value : (stores : List (ℕ × ℤ)) (memory : List ℤ) (k c : ℕ) (d : ℕ × ℤ) → k < length stores → cell_at stores k ≡ c → IsLast c k stores → c < length memory → cell_value (laid_in stores memory) c ≡ (get_or stores k d).1
-last_value [] memory k c d lt is last inside = absurd (omega arith)
-last_value (s ∷ rest) memory zero c d lt is last inside =
-    away_value rest (set memory s.0 s.1) c (λ k small. last (suc k) (omega arith) (omega arith)) ∙ ap (λ n. cell_value (set memory n s.1) c) is ∙ get_or-set_same memory c s.1 (pos 0) inside
-last_value (s ∷ rest) memory (suc k) c d lt is last inside =
-    last_value rest (set memory s.0 s.1) k c d (omega arith) is (λ j more small. last (suc j) (omega arith) (omega arith)) (omega (arith, length-set memory s.0 s.1))
+pub among_others : (c : ℕ) (cells : List ℕ) (d : ℕ) → d ≢ c → is_among d (cells ++ c ∷ []) ≡ is_among d cells
+among_others c cells d other = among-append d cells (c ∷ []) ∙ ap (λ b. is_among d cells || (b || false)) (ne_eqb c d (λ e. other (sym e))) ∙ or_false (is_among d cells)
 
-pub replaced : (stores : List (ℕ × ℤ)) (memory : List ℤ) (k c : ℕ) (v : ℤ) → k < length stores → cell_at stores k ≡ c → IsLast c k stores → laid_in (set stores k (c, v)) memory ≡ set (laid_in stores memory) c v
-replaced [] memory k c v lt is last = absurd (omega arith)
-replaced (s ∷ rest) memory zero c v lt is last =
-    let away : IsAway c rest = λ k small. last (suc k) (omega arith) (omega arith) in
-    away_set rest memory c v away ∙ sym (set-set (laid_in rest memory) c s.1 v) ∙ ap (λ l. set l c v) (sym (away_set rest memory c s.1 away)) ∙ ap (λ n. set (laid_in rest (set memory n s.1)) c v) (sym is)
-replaced (s ∷ rest) memory (suc k) c v lt is last = replaced rest (set memory s.0 s.1) k c v (omega arith) is (λ j more small. last (suc j) (omega arith) (omega arith))
+pub among_front : (c : ℕ) (xs ys : List ℕ) → is_among c xs ≡ true → is_among c (xs ++ ys) ≡ true
+among_front c xs ys here = among-append c xs ys ∙ ap (λ b. b || is_among c ys) here
 
-pub same_cells : (stores : List (ℕ × ℤ)) (k c : ℕ) (v : ℤ) (j : ℕ) → k < length stores → cell_at stores k ≡ c → cell_at (set stores k (c, v)) j ≡ cell_at stores j
-same_cells stores k c v j lt is = elim (cases_eq j k) [
-  | inl e ↦ ap (cell_at (set stores k (c, v))) e ∙ ap (λ (s : ℕ × ℤ). s.0) (get_or-set_same stores k (c, v) (0, pos 0) lt) ∙ sym is ∙ ap (cell_at stores) (sym e)
-  | inr ne ↦ ap (λ (s : ℕ × ℤ). s.0) (get_or-set_other stores k j (c, v) (0, pos 0) ne)
-]
+pub among_behind : (c : ℕ) (xs ys : List ℕ) → is_among c ys ≡ true → is_among c (xs ++ ys) ≡ true
+among_behind c xs ys here = among-append c xs ys ∙ ap (λ b. is_among c xs || b) here ∙ or_true (is_among c xs)
 
--- ---- counting
+pub among_left : (c : ℕ) (xs ys : List ℕ) → is_among c (xs ++ ys) ≡ true → is_among c ys ≡ false → is_among c xs ≡ true
+among_left c xs ys all none = sym (or_false (is_among c xs)) ∙ ap (λ b. is_among c xs || b) (sym none) ∙ sym (among-append c xs ys) ∙ all
 
-named_one : (n : ℕ) → is_named (suc n) ≡ 1
-named_one n = refl
+pub among_range : (a k n : ℕ) → k < n → is_among (a + k) (range_with_len a n) ≡ true
+among_range a k zero lt = absurd (omega arith)
+among_range a zero (suc n) lt = let same : a ≡ a + zero = omega arith in ap (λ b. b || is_among (a + zero) (range_with_len (a + 1) n)) (eq-eqb a (a + zero) same)
+among_range a (suc k) (suc n) lt =
+    let next : a + suc k ≡ a + 1 + k = omega arith in
+    ap (λ c. (a == a + suc k) || is_among c (range_with_len (a + 1) n)) next ∙ ap (λ b. (a == a + suc k) || b) (among_range (a + 1) k n (omega arith)) ∙ or_true (a == a + suc k)
 
-named_most : (place : ℕ) → is_named place ≤ 1
-named_most zero = omega arith
-named_most (suc n) = omega arith
+-- ---- what memory holds
 
-count_most : (places : List ℕ) → sum_by is_named places ≤ length places
-count_most [] = omega arith
-count_most (x ∷ xs) = omega (arith, sum_by-cons is_named x xs, named_most x, count_most xs)
-
-module _ (stores : List (ℕ × ℤ)) (places : List ℕ) (indexed : AreIndexed stores places) where
-  pub last_of : (k : ℕ) → k < length stores → IsLast (cell_at stores k) k stores
-  last_of k lt j more small same =
-      let here = indexed.found k lt in let there = indexed.found j small in
-      absurd (omega (arith, sym here.1 ∙ ap (slice_index places) (sym same) ∙ there.1))
-
-  pub away_of : (c : ℕ) → slice_index places c ≡ 0 → IsAway c stores
-  away_of c none k lt same = absurd (omega (arith, sym none ∙ ap (slice_index places) (sym same) ∙ (indexed.found k lt).1))
-
-  pub room_of : (c : ℕ) → c < length places → slice_index places c ≡ 0 → length stores < length places
-  room_of c inside none =
-      let one = sum_by-set is_named places c 1 0 inside in
-      let zero_is : is_named (get_or places c 0) ≡ 0 = ap is_named none in
-      omega (arith, one, zero_is, count_most (set places c 1), length-set places c 1, indexed.counted)
-
-  pub added : (c : ℕ) (v : ℤ) → c < length places → slice_index places c ≡ 0 → AreIndexed (stores ++ (c, v) ∷ []) (set places c (length stores + 1))
-  added c v inside none =
-      let all = stores ++ (c, v) ∷ [] in
-      let long : length all ≡ length stores + 1 = length-append stores ((c, v) ∷ []) in
-      let n = length stores + 1 in
-      let front = λ (k : ℕ) (lt : k < length stores). ap (λ (s : ℕ × ℤ). s.0) (get_or_append_left stores ((c, v) ∷ []) (0, pos 0) k lt) in
-      let end = λ (k : ℕ) (e : length stores ≡ k). ap (λ (s : ℕ × ℤ). s.0) (get_or_at stores (c, v) [] (0, pos 0) k e) in
-      record {
-        found = λ k lt. elim (cases_lt k (length stores)) [
-          | inl small ↦
-              let was = indexed.found k small in let cell : cell_at all k ≡ cell_at stores k = front k small in (
-                omega (arith, was.0, cell, length-set places c n),
-                ap (slice_index (set places c n)) cell ∙ get_or-set_other places c (cell_at stores k) n 0 (away_of c none k small) ∙ was.1,
-              )
-          | inr past ↦
-              let e : length stores ≡ k = omega (arith, lt, long, past) in let cell : cell_at all k ≡ c = end k e in (
-                omega (arith, inside, cell, length-set places c n),
-                ap (slice_index (set places c n)) cell ∙ get_or-set_same places c n 0 inside ∙ omega (arith, e),
-              )
-        ];
-        named = λ cell k lt is. elim (cases_eq cell c) [
-          | inl here ↦
-              let e : length stores ≡ k = omega (arith, sym (get_or-set_same places c n 0 inside) ∙ ap (slice_index (set places c n)) (sym here) ∙ is) in
-              (omega (arith, e, long), end k e ∙ sym here)
-          | inr other ↦
-              let was = indexed.named cell k (omega (arith, lt, length-set places c n)) (sym (get_or-set_other places c cell n 0 other) ∙ is) in
-              (omega (arith, was.0, long), front k was.0 ∙ was.1)
-        ];
-        counted =
-            let more = sum_by-set is_named places c n 0 inside in
-            let zero_is : is_named (get_or places c 0) ≡ 0 = ap is_named none in
-            let next : n ≡ suc (length stores) = omega arith in let one : is_named n ≡ 1 = ap is_named next ∙ named_one (length stores) in
-            omega (arith, more, zero_is, one, long, indexed.counted);
-      }
-
-  pub changed : (k c : ℕ) (v : ℤ) → k < length stores → cell_at stores k ≡ c → AreIndexed (set stores k (c, v)) places
-  changed k c v lt is = record {
-    found = λ j small. let was = indexed.found j (omega (arith, small, length-set stores k (c, v))) in let cell = same_cells stores k c v j lt is in
-        (omega (arith, was.0, cell), ap (slice_index places) cell ∙ was.1);
-    named = λ cell j small place. let was = indexed.named cell j small place in
-        (omega (arith, was.0, length-set stores k (c, v)), same_cells stores k c v j lt is ∙ was.1);
-    counted = length-set stores k (c, v) ∙ indexed.counted;
-  }
-
--- without the last store
-module _ (front : List (ℕ × ℤ)) (c : ℕ) (v : ℤ) (places : List ℕ) (indexed : AreIndexed (front ++ (c, v) ∷ []) places) where
-  long : length (front ++ (c, v) ∷ []) ≡ length front + 1
-  long = length-append front ((c, v) ∷ [])
-
-  last_cell : cell_at (front ++ (c, v) ∷ []) (length front) ≡ c
-  last_cell = ap (λ (s : ℕ × ℤ). s.0) (get_or_at front (c, v) [] (0, pos 0) (length front) refl)
-
-  front_cell : (k : ℕ) → k < length front → cell_at (front ++ (c, v) ∷ []) k ≡ cell_at front k
-  front_cell k lt = ap (λ (s : ℕ × ℤ). s.0) (get_or_append_left front ((c, v) ∷ []) (0, pos 0) k lt)
-
-  here : (c < length places) × (slice_index places c ≡ length front + 1)
-  here = let found = indexed.found (length front) (omega (arith, long)) in (omega (arith, found.0, last_cell), ap (slice_index places) (sym last_cell) ∙ found.1)
-
-  pub popped_inside : c < length places
-  popped_inside = here.0
-
-  pub popped_away : IsAway c front
-  popped_away k lt same =
-      let found = indexed.found k (omega (arith, lt, long)) in
-      absurd (omega (arith, lt, sym here.1 ∙ ap (slice_index places) (sym (front_cell k lt ∙ same)) ∙ found.1))
-
-  pub popped : AreIndexed front (set places c 0)
-  popped = record {
-    found = λ k lt.
-        let was = indexed.found k (omega (arith, lt, long)) in let cell = front_cell k lt in
-        (omega (arith, was.0, cell, length-set places c 0), get_or-set_other places c (cell_at front k) 0 0 (popped_away k lt) ∙ ap (slice_index places) (sym cell) ∙ was.1);
-    named = λ cell k lt is. elim (cases_eq cell c) [
-      | inl e ↦ absurd (omega (arith, sym (get_or-set_same places c 0 0 here.0) ∙ ap (slice_index (set places c 0)) (sym e) ∙ is))
-      | inr other ↦
-          let was = indexed.named cell k (omega (arith, lt, length-set places c 0)) (sym (get_or-set_other places c cell 0 0 other) ∙ is) in
-          let small : k < length front = elim (cases_eq k (length front)) [
-            | inl e ↦ absurd (other (sym was.1 ∙ ap (cell_at (front ++ (c, v) ∷ [])) e ∙ last_cell))
-            | inr ne ↦ omega (arith, was.0, long, ne)
+pub laid_value : (cells : List ℕ) (values memory : List ℤ) (c : ℕ) → c < length memory → cell_value (laid_in (stores_to cells values) memory) c ≡ (if is_among c cells then cell_value values c else cell_value memory c)
+laid_value [] values memory c inside = refl
+laid_value (d ∷ rest) values memory c inside =
+    let after = set memory d (cell_value values d) in
+    let more = laid_value rest values after c (omega (arith, inside, length-set memory d (cell_value values d))) in
+    elim (cases_eq d c) [
+      | inl same ↦
+          let among : is_among c (d ∷ rest) ≡ true = ap (λ b. b || is_among c rest) (eq-eqb d c same) in
+          let held : cell_value after c ≡ cell_value values c = ap (λ n. cell_value (set memory n (cell_value values n)) c) same ∙ get_or-set_same memory c (cell_value values c) (pos 0) inside in
+          let one : (if is_among c rest then cell_value values c else cell_value after c) ≡ cell_value values c = elim (cases_Bool (is_among c rest)) [
+            | inl marked_is ↦ ap (λ b. if b then cell_value values c else cell_value after c) marked_is
+            | inr unmarked_is ↦ ap (λ b. if b then cell_value values c else cell_value after c) unmarked_is ∙ held
           ] in
-          (small, sym (front_cell k small) ∙ was.1)
+          more ∙ one ∙ sym (ap (λ b. if b then cell_value values c else cell_value memory c) among)
+      | inr other ↦
+          let among : is_among c (d ∷ rest) ≡ is_among c rest = ap (λ b. b || is_among c rest) (ne_eqb d c other) in
+          let held : cell_value after c ≡ cell_value memory c = get_or-set_other memory d c (cell_value values d) (pos 0) (λ e. other (sym e)) in
+          more ∙ ap (λ z. if is_among c rest then cell_value values c else z) held ∙ sym (ap (λ b. if b then cell_value values c else cell_value memory c) among)
+    ]
+
+pub laid_there : (cells : List ℕ) (values memory : List ℤ) (c : ℕ) → c < length memory → is_among c cells ≡ true → cell_value (laid_in (stores_to cells values) memory) c ≡ cell_value values c
+laid_there cells values memory c inside here = laid_value cells values memory c inside ∙ ap (λ b. if b then cell_value values c else cell_value memory c) here
+
+pub laid_away : (cells : List ℕ) (values memory : List ℤ) (c : ℕ) → c < length memory → is_among c cells ≡ false → cell_value (laid_in (stores_to cells values) memory) c ≡ cell_value memory c
+laid_away cells values memory c inside away = laid_value cells values memory c inside ∙ ap (λ b. if b then cell_value values c else cell_value memory c) away
+
+-- a store to one more cell, or once more to one of them
+pub laid_set : (cells new : List ℕ) (values memory : List ℤ) (c : ℕ) (v : ℤ) → c < length values → is_among c new ≡ true → ((d : ℕ) → d ≢ c → is_among d new ≡ is_among d cells) →
+    laid_in (stores_to new (set values c v)) memory ≡ set (laid_in (stores_to cells values) memory) c v
+laid_set cells new values memory c v inside here others =
+    let old = laid_in (stores_to cells values) memory in
+    let now = laid_in (stores_to new (set values c v)) memory in
+    let long = length-laid (stores_to new (set values c v)) memory in
+    let was = length-laid (stores_to cells values) memory in
+    ext_get_or (pos 0) now (set old c v) (long ∙ sym was ∙ sym (length-set old c v)) (λ d lt.
+    let small : d < length memory = omega (arith, lt, long) in
+    let is = laid_value new (set values c v) memory d small in
+    elim (cases_eq d c) [
+      | inl same ↦
+          let below : c < length old = omega (arith, small, same, was) in
+          laid_there new (set values c v) memory d small (ap (λ n. is_among n new) same ∙ here) ∙ ap (cell_value (set values c v)) same ∙ get_or-set_same values c v (pos 0) inside
+          ∙ sym (ap (cell_value (set old c v)) same ∙ get_or-set_same old c v (pos 0) below)
+      | inr other ↦
+          is ∙ ap (λ b. if b then cell_value (set values c v) d else cell_value memory d) (others d other)
+          ∙ ap (λ z. if is_among d cells then z else cell_value memory d) (get_or-set_other values c d v (pos 0) other)
+          ∙ sym (get_or-set_other old c d v (pos 0) other ∙ laid_value cells values memory d small)
+    ])
+
+-- some cells first, and then the others
+pub laid_both : (xs ys : List ℕ) (values memory : List ℤ) → laid_in (stores_to xs values) (laid_in (stores_to ys values) memory) ≡ laid_in (stores_to (xs ++ ys) values) memory
+laid_both xs ys values memory =
+    let mid = laid_in (stores_to ys values) memory in
+    let now = laid_in (stores_to xs values) mid in
+    let all = laid_in (stores_to (xs ++ ys) values) memory in
+    let was = length-laid (stores_to ys values) memory in
+    let long = length-laid (stores_to xs values) mid ∙ was in
+    ext_get_or (pos 0) now all (long ∙ sym (length-laid (stores_to (xs ++ ys) values) memory)) (λ c lt.
+    let small : c < length memory = omega (arith, lt, long) in
+    let there : c < length mid = omega (arith, small, was) in
+    elim (cases_Bool (is_among c xs)) [
+      | inl marked_is ↦ laid_there xs values mid c there marked_is ∙ sym (laid_there (xs ++ ys) values memory c small (among_front c xs ys marked_is))
+      | inr unmarked_is ↦
+          let same : is_among c (xs ++ ys) ≡ is_among c ys = among-append c xs ys ∙ ap (λ b. b || is_among c ys) unmarked_is in
+          laid_away xs values mid c there unmarked_is ∙ laid_value ys values memory c small
+          ∙ sym (laid_value (xs ++ ys) values memory c small ∙ ap (λ b. if b then cell_value values c else cell_value memory c) same)
+    ])
+
+-- one cell more
+pub laid_next : (a k : ℕ) (values memory : List ℤ) → laid_in (stores_to (range_with_len a (k + 1)) values) memory ≡ set (laid_in (stores_to (range_with_len a k) values) memory) (a + k) (cell_value values (a + k))
+laid_next a k values memory =
+    ap (λ cs. laid_in (stores_to cs values) memory) (range_more a k)
+    ∙ ap (λ ss. laid_in ss memory) (map-append (λ c. (c, cell_value values c)) (range_with_len a k) ((a + k) ∷ []))
+    ∙ laid-append (stores_to (range_with_len a k) values) ((a + k, cell_value values (a + k)) ∷ []) memory
+
+-- ---- marks
+
+marked_most : (b : Bool) → is_marked b ≤ 1
+marked_most true = omega arith
+marked_most false = omega arith
+
+count_most : (marks : List Bool) → sum_by is_marked marks ≤ length marks
+count_most [] = omega arith
+count_most (m ∷ ms) = omega (arith, sum_by-cons is_marked m ms, marked_most m, count_most ms)
+
+module _ (cells : List ℕ) (marks : List Bool) (are : AreMarked cells marks) (c : ℕ) (inside : c < length marks) (none : get_or marks c false ≡ false) where
+  pub room_of : length cells < length marks
+  room_of =
+      let one = sum_by-set is_marked marks c true false inside in
+      let zero_is : is_marked (get_or marks c false) ≡ 0 = ap is_marked none in
+      omega (arith, one, zero_is, count_most (set marks c true), length-set marks c true, are.counted)
+
+  pub marked_more : AreMarked (cells ++ c ∷ []) (set marks c true)
+  marked_more = record {
+    marked = λ d. elim (cases_eq d c) [
+      | inl same ↦ ap (λ n. is_among n (cells ++ c ∷ [])) same ∙ among_last c cells ∙ sym (ap (λ n. get_or (set marks c true) n false) same ∙ get_or-set_same marks c true false inside)
+      | inr other ↦ among_others c cells d other ∙ are.marked d ∙ sym (get_or-set_other marks c d true false other)
     ];
     counted =
-        let less = sum_by-set is_named places c 0 0 here.0 in
-        let next : slice_index places c ≡ suc (length front) = omega (arith, here.1) in let one : is_named (get_or places c 0) ≡ 1 = ap is_named next ∙ named_one (length front) in
-        omega (arith, less, one, long, indexed.counted);
+        let one = sum_by-set is_marked marks c true false inside in
+        let zero_is : is_marked (get_or marks c false) ≡ 0 = ap is_marked none in
+        omega (arith, one, zero_is, are.counted, length-append cells (c ∷ []));
   }
 
-  pub popped_laid : (memory : List ℤ) → laid_in (front ++ (c, v) ∷ []) memory ≡ laid_in front (set memory c v)
-  popped_laid memory = laid-append front ((c, v) ∷ []) memory ∙ sym (away_set front memory c v popped_away)
+unset : (marks : List Bool) (c : ℕ) → get_or (set marks c false) c false ≡ false
+unset [] zero = refl
+unset [] (suc c) = refl
+unset (m ∷ ms) zero = refl
+unset (m ∷ ms) (suc c) = unset ms c
 
--- ---- no store yet
+pub length-unmarked : (cells : List ℕ) (marks : List Bool) → length (unmarked cells marks) ≡ length marks
+length-unmarked [] marks = refl
+length-unmarked (d ∷ rest) marks = length-unmarked rest (set marks d false) ∙ length-set marks d false
 
-none_at : (n c : ℕ) → slice_index (replicate n 0) c ≡ 0
-none_at zero c = refl
-none_at (suc n) zero = refl
-none_at (suc n) (suc c) = none_at n c
+pub unmarked_next : (a k : ℕ) (marks : List Bool) → unmarked (range_with_len a (k + 1)) marks ≡ set (unmarked (range_with_len a k) marks) (a + k) false
+unmarked_next a k marks = ap (λ cs. unmarked cs marks) (range_more a k) ∙ fold-append (λ ms c. set ms c false) marks (range_with_len a k) ((a + k) ∷ [])
 
-none_counted : (n : ℕ) → sum_by is_named (replicate n 0) ≡ 0
-none_counted zero = refl
-none_counted (suc n) = omega (arith, sum_by-cons is_named 0 (replicate n 0), none_counted n)
+-- what is still marked was, and is none of these cells
+pub unmarked_kept : (cells : List ℕ) (marks : List Bool) (c : ℕ) → get_or (unmarked cells marks) c false ≡ true → (get_or marks c false ≡ true) × (is_among c cells ≡ false)
+unmarked_kept [] marks c is = (is, refl)
+unmarked_kept (d ∷ rest) marks c is =
+    let more = unmarked_kept rest (set marks d false) c is in
+    elim (cases_eq d c) [
+      | inl same ↦ absurd (let clash : true ≡ false = sym more.0 ∙ ap (λ n. get_or (set marks n false) c false) same ∙ unset marks c in cc)
+      | inr other ↦ (sym (get_or-set_other marks d c false false (λ e. other (sym e))) ∙ more.0, ap (λ b. b || is_among c rest) (ne_eqb d c other) ∙ more.1)
+    ]
 
-pub indexed_none : (n : ℕ) → AreIndexed [] (replicate n 0)
-indexed_none n = record {
-  found = λ k lt. absurd (omega arith);
-  named = λ cell k lt is. absurd (omega (arith, none_at n cell, is));
-  counted = sym (none_counted n);
-}
+pub marked_inside : (marks : List Bool) (c : ℕ) → get_or marks c false ≡ true → c < length marks
+marked_inside [] zero is = absurd (let clash : false ≡ true = is in cc)
+marked_inside [] (suc c) is = absurd (let clash : false ≡ true = is in cc)
+marked_inside (m ∷ ms) zero is = omega arith
+marked_inside (m ∷ ms) (suc c) is = omega (arith, marked_inside ms c is)
+
+none_marked : (marks : List Bool) → ((c : ℕ) → get_or marks c false ≡ false) → sum_by is_marked marks ≡ 0
+none_marked [] none = refl
+none_marked (m ∷ ms) none = omega (arith, sum_by-cons is_marked m ms, ap is_marked (none 0), none_marked ms (λ c. none (suc c)))
+
+pub marked_none : (marks : List Bool) → ((c : ℕ) → get_or marks c false ≡ true → is_among c [] ≡ true) → AreMarked [] marks
+marked_none marks only =
+    let none : (c : ℕ) → get_or marks c false ≡ false = λ c. elim (cases_Bool (get_or marks c false)) [
+      | inl marked_is ↦ absurd (let clash : false ≡ true = only c marked_is in cc)
+      | inr unmarked_is ↦ unmarked_is
+    ] in
+    record { marked = λ c. sym (none c); counted = sym (none_marked marks none) }
+
+pub unmarked_all : (n c : ℕ) → get_or (replicate n false) c false ≡ false
+unmarked_all zero zero = refl
+unmarked_all zero (suc c) = refl
+unmarked_all (suc n) zero = refl
+unmarked_all (suc n) (suc c) = unmarked_all n c
+
+pub marked_new : (n : ℕ) → AreMarked [] (replicate n false)
+marked_new n = record { marked = λ c. sym (unmarked_all n c); counted = sym (none_marked (replicate n false) (unmarked_all n)) }
+
+-- ---- stretches
+
+pub stretched-append : (xs : List (ℕ × ℕ)) (a n : ℕ) → stretched (xs ++ (a, n) ∷ []) ≡ stretched xs ++ range_with_len a n
+stretched-append xs a n = flat_map-append (λ (s : ℕ × ℕ). range_with_len s.0 s.1) xs ((a, n) ∷ []) ∙ ap (λ cs. stretched xs ++ cs) (append-nil (range_with_len a n))
+
+pub stretched_grown : (xs : List (ℕ × ℕ)) (k : ℕ) (d : ℕ × ℕ) → length xs ≡ suc k → stretched (set xs k ((get_or xs k d).0, (get_or xs k d).1 + 1)) ≡ stretched xs ++ ((get_or xs k d).0 + (get_or xs k d).1) ∷ []
+stretched_grown [] k d long = absurd (omega arith)
+stretched_grown (x ∷ []) zero d long = append-nil (range_with_len x.0 (x.1 + 1)) ∙ range_more x.0 x.1 ∙ ap (λ cs. cs ++ (x.0 + x.1) ∷ []) (sym (append-nil (range_with_len x.0 x.1)))
+stretched_grown (x ∷ []) (suc k) d long = absurd (omega arith)
+stretched_grown (x ∷ y ∷ ys) zero d long = absurd (omega arith)
+stretched_grown (x ∷ y ∷ ys) (suc k) d long =
+    let e = get_or (y ∷ ys) k d in
+    ap (λ cs. range_with_len x.0 x.1 ++ cs) (stretched_grown (y ∷ ys) k d (omega arith)) ∙ sym (append_assoc (range_with_len x.0 x.1) (stretched (y ∷ ys)) ((e.0 + e.1) ∷ []))
+
+pub stretch_least : (xs : List (ℕ × ℕ)) (k : ℕ) (d : ℕ × ℕ) → k < length xs → (get_or xs k d).1 ≤ length (stretched xs)
+stretch_least [] k d lt = absurd (omega arith)
+stretch_least (x ∷ xs) zero d lt = omega (arith, length-append (range_with_len x.0 x.1) (stretched xs), length-range_with_len x.0 x.1)
+stretch_least (x ∷ xs) (suc k) d lt = omega (arith, length-append (range_with_len x.0 x.1) (stretched xs), stretch_least xs k d (omega arith))
 
 -- what stands at a place within, whatever stands for the others
 pub within_any : {X : Type 0} (xs : List X) (i : ℕ) (d e : X) → i < length xs → get_or xs i d ≡ get_or xs i e
 within_any [] i d e lt = absurd (omega arith)
 within_any (x ∷ xs) zero d e lt = refl
 within_any (x ∷ xs) (suc i) d e lt = within_any xs i d e (omega arith)
-
--- where a cell is named, its store is there, and it is the last one to the cell
-module _ (stores : List (ℕ × ℤ)) (places : List ℕ) (indexed : AreIndexed stores places) (c place : ℕ) (inside : c < length places) (is : slice_index places c ≡ place) (some : place ≢ 0) where
-  one_less : slice_index places c ≡ place - 1 + 1
-  one_less = omega (arith, is, some)
-
-  pub place_inside : place - 1 < length stores
-  place_inside = (indexed.named c (place - 1) inside one_less).0
-
-  pub place_cell : cell_at stores (place - 1) ≡ c
-  place_cell = (indexed.named c (place - 1) inside one_less).1
-
-  pub place_last : IsLast c (place - 1) stores
-  place_last = subst (λ n. IsLast n (place - 1) stores) place_cell (last_of stores places indexed (place - 1) place_inside)

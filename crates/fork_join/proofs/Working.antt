@@ -12,7 +12,7 @@ use Rattle.nest_tree.specs.Tree.{Tree, param_values}
 use Rattle.nest_tree.specs.View.{tree_of}
 use Rattle.nest_tree.specs.WellFormed.{IsWellFormed}
 use Rattle.nest_tree.proofs.Cells.{well_formed_parts}
-use Rattle.nest_model.specs.Accesses.{cells_of}
+use Rattle.nest_model.specs.Accesses.{cells_of as cells_in}
 use Rattle.nest_model.specs.Instances.{Instance, instances, no_values}
 use Rattle.nest_model.specs.Memory.{cell_value}
 use Rattle.nest_model.specs.Ranges.{IsInRange, is_instance_inside}
@@ -27,6 +27,7 @@ use Rattle.spmd_model.specs.Protocols.{held_at}
 use Rattle.spmd_turns.specs.Rooms.{longest_output, turn_room}
 use Rattle.spmd_turns.specs.Turns.{Turn, awaits, begins, boundary_turns, posts, turns_from, works}
 use Rattle.spmd_turns.proofs.PhaseSums.{phases_whole, rooms_below}
+use Rattle.fork_join.specs.StoreLists.{cells_of, entries_of}
 use Rattle.fork_join.specs.Joins.{Goes, HoldsOwn, IsAlone, IsSafe, begun, own_place, protocol}
 use Rattle.fork_join.specs.Workers.{IsOverlay, IsTurnThere}
 use Rattle.fork_join.specs.declared.overlay.Overlay.{Overlay}
@@ -56,11 +57,11 @@ module _ (tree : Tree) (plan : Plan) (n p : ℕ) (memory : List ℤ) (o : Overla
   far : ◌≡◌ {A = Far} (tree_of o.program.now, (o.plan.now, (o.processor, o.behind))) (tree, (plan, (p, n)))
   far = λ i. (kept.program i, (kept.plan_is i, (kept.processor i, kept.behind i)))
 
-  pub worked : ∥ Goes (protocol tree plan) p (begun tree plan n p) o.stores.entries.items o.done.done ∥₁
-  worked = ∥∥₁_map o.goes (λ a. subst (λ (k : Far). Goes (protocol k.0 k.1.0) k.1.1.0 (begun k.0 k.1.0 k.1.1.1 k.1.1.0) o.stores.entries.items o.done.done) far a.goes)
+  pub worked : ∥ Goes (protocol tree plan) p (begun tree plan n p) (entries_of o.stores) o.done.done ∥₁
+  worked = ∥∥₁_map o.goes (λ a. subst (λ (k : Far). Goes (protocol k.0 k.1.0) k.1.1.0 (begun k.0 k.1.0 k.1.1.1 k.1.1.0) (entries_of o.stores) o.done.done) far a.goes)
 
-  pub its_cells : length o.stores.places.items ≡ cell_count tree
-  its_cells = ∥∥₁_elim o.goes (same_number (length o.stores.places.items) (cell_count tree)) (λ a. a.count ∙ ap cell_count kept.program)
+  pub its_cells : cells_of o.stores ≡ cell_count tree
+  its_cells = ∥∥₁_elim o.goes (same_number (cells_of o.stores) (cell_count tree)) (λ a. a.count ∙ ap cell_count kept.program)
 
   pub its_own : HoldsOwn tree plan p o.own o.done.done
   its_own k lt = ∥∥₁_elim o.goes (same_value (cell_value o.own k) (held_at (protocol tree plan) p (own_place tree p k) o.done.done)) (λ a.
@@ -78,7 +79,7 @@ holds_none tree plan p own is k lt = ap (λ l. cell_value l k) is ∙ none_held 
 -- ---- each cell of an instance is there
 
 abbrev AreCells : Tree → Instance → Type 0
-AreCells tree i = All (λ c. c < cell_count tree) (cells_of tree i)
+AreCells tree i = All (λ c. c < cell_count tree) (cells_in tree i)
 
 good_cells : (tree : Tree) (is : List Instance) → IsWellFormed tree → All (IsGoodWork tree) is → list_all (is_instance_inside tree) is ≡ true → All (AreCells tree) is
 good_cells tree [] formed good inside = All-nil (AreCells tree)

@@ -1,21 +1,33 @@
 -- Stores laid over memory.
-use Rattle.std.specs.Prelude.{ℕ, zero, suc, ◌+◌, ◌≡◌, ◌<◌, ℤ, pos, List, fold, length, slice_index, slice_index_or, slice_set, sum_by}
+use Rattle.std.specs.Prelude.{ℕ, ◌≡◌, ◌<◌, ◌==◌, ℤ, Bool, true, false, List, fold, get_or, length, map, slice_set, sum_by}
+use Rattle.std.specs.List.{flat_map, list_any, range_with_len}
+use Rattle.nest_model.specs.Memory.{cell_value}
 
 -- memory with stores laid in, one behind another
 abbrev pub laid_in : List (ℕ × ℤ) → List ℤ → List ℤ
 laid_in stores memory = fold (λ cells s. slice_set cells s.0 s.1) memory stores
 
--- the cell of the store at this place
-abbrev pub cell_at : List (ℕ × ℤ) → ℕ → ℕ
-cell_at stores k = (slice_index_or stores k (0, pos 0)).0
+-- the cells of stretches, each a first cell with how many there are from it on
+abbrev pub stretched : List (ℕ × ℕ) → List ℕ
+stretched stretches = flat_map (λ s. range_with_len s.0 s.1) stretches
 
--- 1 where a cell has a store: this is one more than its place, or 0
-abbrev pub is_named : ℕ → ℕ
-is_named zero = 0
-is_named (suc place) = 1
+-- the stores to these cells, where values stand by cells
+abbrev pub stores_to : List ℕ → List ℤ → List (ℕ × ℤ)
+stores_to cells values = map (λ c. (c, cell_value values c)) cells
 
--- each cell has at most one store, and for each cell these are one more than its place, or 0 where it has none
-pub record AreIndexed (stores : List (ℕ × ℤ)) (places : List ℕ) : Type 0 where
-  pub found : (k : ℕ) → k < length stores → (cell_at stores k < length places) × (slice_index places (cell_at stores k) ≡ k + 1)
-  pub named : (cell k : ℕ) → cell < length places → slice_index places cell ≡ k + 1 → (k < length stores) × (cell_at stores k ≡ cell)
-  pub counted : length stores ≡ sum_by is_named places
+-- whether a cell is one of these
+abbrev pub is_among : ℕ → List ℕ → Bool
+is_among cell cells = list_any (λ c. c == cell) cells
+
+-- marks without those of these cells
+abbrev pub unmarked : List ℕ → List Bool → List Bool
+unmarked cells marks = fold (λ ms c. slice_set ms c false) marks cells
+
+abbrev pub is_marked : Bool → ℕ
+is_marked false = 0
+is_marked true = 1
+
+-- these cells are those with a mark, each once
+pub record AreMarked (cells : List ℕ) (marks : List Bool) : Type 0 where
+  pub marked : (cell : ℕ) → is_among cell cells ≡ get_or marks cell false
+  pub counted : length cells ≡ sum_by is_marked marks

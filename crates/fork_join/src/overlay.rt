@@ -1,13 +1,13 @@
 // The cells as a worker sees them in a phase.
 
-ghost use Rattle.std.specs.Prelude.{◌≤◌, ◌<◌, ◌^◌, ℕ, ℤ, List, drop, length, map, vec_capacity};
+ghost use Rattle.std.specs.Prelude.{◌<◌, ℕ, ℤ, List, drop, length, map};
 ghost use Rattle.nest_tree.specs.Tree.{Tree};
 ghost use Rattle.nest_tree.specs.View.{tree_of};
 ghost use Rattle.sync_plan.specs.declared.plan.Plan.{Plan};
 ghost use Rattle.spmd_model.specs.declared.style.Style.TheVariants.{Arrive};
 ghost use Rattle.spmd_model.specs.PlanProtocols.{printed_by, registers_by};
 ghost use Rattle.fork_join.specs.Joins.{IsAlone, all_deeds};
-ghost use Rattle.fork_join.specs.Overlays.{AreIndexed};
+ghost use Rattle.fork_join.specs.StoreLists.{AreKept, cells_of, entries_of};
 ghost use Rattle.fork_join.specs.SeenDeeds.{shared_deed};
 
 use crate::stores::Stores;
@@ -31,11 +31,9 @@ pub(crate) struct Overlay<'a> {
     pub(crate) done: Progress,
     // it alone has gone on from lawful memory
     ghost goes: { ∥ IsAlone
-        (tree_of program.now) plan.now processor behind memory.now stores.entries.items own
-        (length stores.places.items) done.done ∥₁ },
-    ghost indexed: { AreIndexed stores.entries.items stores.places.items },
-    ghost room: { length stores.places.items ≤ vec_capacity stores.entries },
-    ghost few: { length stores.places.items < 2 ^ 32 },
+        (tree_of program.now) plan.now processor behind memory.now (entries_of stores) own
+        (cells_of stores) done.done ∥₁ },
+    ghost kept_stores: { AreKept stores },
 }
 
 impl<'a> Overlay<'a> {
@@ -50,10 +48,10 @@ impl<'a> Overlay<'a> {
     // What a cell that all share holds, as the worker sees it.
     #[inline(always)]
     fn seen(&self, cell: u32) -> i64
-        requires inside { cell < length self.now.stores.places.items }
+        requires inside { cell < cells_of self.now.stores }
         requires memory { cell < length self.now.memory.now }
         ensures { result
-            ≡ cell_value (laid_in self.now.stores.entries.items self.now.memory.now) cell }
+            ≡ cell_value (laid_in (entries_of self.now.stores) self.now.memory.now) cell }
     {
         match self.stores.get(cell) {
             Some(value) => value,

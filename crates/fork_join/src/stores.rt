@@ -1,19 +1,20 @@
 // A worker's stores since a phase began.
 
-ghost use Rattle.std.specs.Prelude.{◌≡◌, ◌<◌, ◌≤◌, ◌++◌, ℕ, ℤ, IfOk, List, MatchOption, [], ◌∷◌, length, pos, replicate, slice_index, slice_set, vec_capacity};
+ghost use Rattle.std.specs.Prelude.{◌≡◌, ◌<◌, ◌≤◌, ◌+◌, ◌-◌, ◌^◌, ◌++◌, ◌∷◌, ℕ, ℤ, false, IfOk, List, MatchOption, [], get_or, length, slice_set, vec_capacity};
+ghost use Rattle.std.specs.List.{range_with_len};
 ghost use Rattle.nest_model.specs.Memory.{cell_value};
-ghost use Rattle.fork_join.specs.Overlays.{AreIndexed, laid_in};
+ghost use Rattle.fork_join.specs.Overlays.{laid_in, stores_to, stretched, unmarked};
 
 use std::alloc::{AllocError, Global};
 
-/// The stores of one worker since a phase began, the last to each cell, with the place of each
-/// cell's store among them.
+/// The stores of one worker since a phase began: the cells that have one, in stretches of cells that
+/// stand side by side, and by cells whether there is one, and the last value.
 #[derive(Drop)]
 pub(crate) struct Stores {
-    // cells with their values
-    entries: Vec<(u32, i64)>,
-    // for each cell one more than the place of its entry, or 0 where it has none
-    places: Vec<u32>,
+    // first cells, each with how many there are from it on
+    stretches: Vec<(u32, u32)>,
+    stored: Vec<bool>,
+    values: Vec<i64>,
 }
 
 impl Stores {
@@ -26,8 +27,9 @@ impl Stores {
         ensures cells { IfOk result (λ s. cells_of s ≡ cells) }
     {
         Ok(Stores {
-            entries: Vec::with_capacity(alloc, cells as usize)?,
-            places: vec![in alloc; 0; cells as usize]?,
+            stretches: Vec::with_capacity(alloc, cells as usize)?,
+            stored: vec![in alloc; false; cells as usize]?,
+            values: vec![in alloc; 0; cells as usize]?,
         })
     }
 
@@ -37,8 +39,9 @@ impl Stores {
         ensures cells { cells_of result ≡ 0 }
     {
         Stores {
-            entries: Vec::new(alloc),
-            places: Vec::new(alloc),
+            stretches: Vec::new(alloc),
+            stored: Vec::new(alloc),
+            values: Vec::new(alloc),
         }
     }
 
@@ -52,11 +55,11 @@ impl Stores {
             ≡ cell_value memory cell) (λ v. cell_value (laid_in (entries_of self.now) memory) cell
             ≡ v) }
     {
-        let place = self.places[cell as usize];
-        if place == 0 {
-            return None;
+        if self.stored[cell as usize] {
+            Some(self.values[cell as usize])
+        } else {
+            None
         }
-        Some(self.entries[place as usize - 1].1)
     }
 
     /// Stores the value into the cell. It takes no memory.
@@ -69,11 +72,10 @@ impl Stores {
         ensures laid { (memory : List ℤ) → laid_in (entries_of self.new) memory
             ≡ slice_set (laid_in (entries_of self.old) memory) cell value }
     {
-        let place = self.places[cell as usize];
-        if place == 0 {
-            self.add(cell, value);
+        if self.stored[cell as usize] {
+            self.values[cell as usize] = value;
         } else {
-            self.entries[place as usize - 1] = (cell, value);
+            self.add(cell, value);
         }
     }
 
@@ -82,14 +84,42 @@ impl Stores {
     fn add(&mut self, cell: u32, value: i64)
         requires kept { AreKept self.old }
         requires inside { cell < cells_of self.old }
-        requires none { slice_index self.old.places.items cell ≡ 0 }
+        requires none { get_or self.old.stored.items cell false ≡ false }
         ensures kept { AreKept self.new }
         ensures cells { cells_of self.new ≡ cells_of self.old }
         ensures laid { (memory : List ℤ) → laid_in (entries_of self.new) memory
             ≡ slice_set (laid_in (entries_of self.old) memory) cell value }
     {
-        self.entries.push((cell, value)).unwrap();
-        self.places[cell as usize] = self.entries.len() as u32;
+        self.stored[cell as usize] = true;
+        self.values[cell as usize] = value;
+        self.log(cell);
+    }
+
+    // The cell behind those of the stretches.
+    #[inline(always)]
+    fn log(&mut self, cell: u32)
+        requires few { length (stretched self.old.stretches.items) < 2 ^ 32 - 1 }
+        requires room { length (stretched self.old.stretches.items)
+            < vec_capacity self.old.stretches }
+        requires spread { length self.old.stretches.items
+            ≤ length (stretched self.old.stretches.items) }
+        ensures logged { stretched self.new.stretches.items ≡ stretched self.old.stretches.items
+            ++ cell ∷ [] }
+        ensures spread { length self.new.stretches.items
+            ≤ length (stretched self.new.stretches.items) }
+        ensures room { vec_capacity self.old.stretches ≤ vec_capacity self.new.stretches }
+        ensures stored { self.new.stored ≡ self.old.stored }
+        ensures values { self.new.values ≡ self.old.values }
+    {
+        let count = self.stretches.len();
+        if count > 0 {
+            let (first, long) = self.stretches[count - 1];
+            if u64::from(first) + u64::from(long) == u64::from(cell) {
+                self.stretches[count - 1] = (first, long + 1);
+                return;
+            }
+        }
+        self.stretches.push((cell, 1)).unwrap();
     }
 
     /// Lays the stores into memory: there is none then.
@@ -101,9 +131,32 @@ impl Stores {
         ensures none { entries_of self.new ≡ [] }
         ensures laid { memory.new ≡ laid_in (entries_of self.old) memory.old }
     {
-        while let Some((cell, value)) = self.entries.pop() {
-            self.places[cell as usize] = 0;
-            memory[cell as usize] = value;
+        while let Some((first, count)) = self.stretches.pop() {
+            copy_stretch(&self.values, first, count, memory);
+            unmark(&mut self.stored, first, count);
         }
+    }
+}
+
+// The values of so many cells from one on, into memory.
+fn copy_stretch(values: &[i64], first: u32, count: u32, memory: &mut [i64])
+    requires inside { (k : ℕ) → k < count → first + k < length memory.old }
+    requires values { (k : ℕ) → k < count → first + k < length values.now }
+    ensures { memory.new ≡ laid_in (stores_to (range_with_len first count) values.now) memory.old }
+{
+    let first = first as usize;
+    for k in 0..count as usize {
+        memory[first + k] = values[first + k];
+    }
+}
+
+// The marks of so many cells from one on are taken away.
+fn unmark(stored: &mut [bool], first: u32, count: u32)
+    requires inside { (k : ℕ) → k < count → first + k < length stored.old }
+    ensures { stored.new ≡ unmarked (range_with_len first count) stored.old }
+{
+    let first = first as usize;
+    for k in 0..count as usize {
+        stored[first + k] = false;
     }
 }

@@ -3,6 +3,7 @@ use Rattle.std.proofs.lemmas.Int.{to_z-of_z}
 use Rattle.nest_tree.specs.View.{tree_of}
 use Rattle.spmd_model.specs.declared.style.Style.TheVariants.{Arrive}
 use Rattle.spmd_model.specs.PlanProtocols.{printed_by, registers_by}
+use Rattle.fork_join.specs.StoreLists.{cells_of, entries_of}
 use Rattle.fork_join.specs.Joins.{IsAlone}
 use Rattle.fork_join.specs.Joins.{own_place}
 use Rattle.fork_join.proofs.Seeing.{own_alone, store_printed, store_registers}
@@ -13,11 +14,9 @@ invariant_of-self c =
     let o = c.args.self.now in
     let r = c.requires.next in
     let next : o.done.done + 1 ≡ c.further-self.result.done = sym c.further-self.ensures in record {
-      goes = subst (λ k. ∥ IsAlone (tree_of o.program.now) o.plan.now o.processor o.behind o.memory.now o.stores.entries.items (set o.own c.args.place (to_z w64 (of_z w64 c.args.value))) (length o.stores.places.items) k ∥₁) next
-          (own_alone (tree_of o.program.now) o.plan.now o.processor o.behind o.memory.now o.stores.entries.items o.own (length o.stores.places.items) o.done.done o.goes (own_place (tree_of o.program.now) o.processor c.args.place) r.0 r.1 r.2 c.args.place refl (omega arith) (to_z w64 (of_z w64 c.args.value)) (to_z-of_z w64 c.args.value (search rules) ∙ r.3));
-      indexed = o.indexed;
-      room = o.room;
-      few = o.few;
+      goes = subst (λ k. ∥ IsAlone (tree_of o.program.now) o.plan.now o.processor o.behind o.memory.now (entries_of o.stores) (set o.own c.args.place (to_z w64 (of_z w64 c.args.value))) (cells_of o.stores) k ∥₁) next
+          (own_alone (tree_of o.program.now) o.plan.now o.processor o.behind o.memory.now (entries_of o.stores) o.own (cells_of o.stores) o.done.done o.goes (own_place (tree_of o.program.now) o.processor c.args.place) r.0 r.1 r.2 c.args.place refl (omega arith) (to_z w64 (of_z w64 c.args.value)) (to_z-of_z w64 c.args.value (search rules) ∙ r.3));
+      kept_stores = o.kept_stores;
     }
 
 pub returns-clause-registers : goal.returns-clause-registers
@@ -25,11 +24,11 @@ returns-clause-registers c =
     let o = c.args.self.now in
     let r = c.requires.next in
     let next : o.done.done + 1 ≡ c.further-self.result.done = sym c.further-self.ensures in
-    ap (registers_by Arrive (tree_of o.program.now) o.plan.now o.processor) (sym next) ∙ store_registers (tree_of o.program.now) o.plan.now o.processor o.behind o.memory.now o.stores.entries.items o.own (length o.stores.places.items) o.done.done o.goes _ r.0 r.1 r.2
+    ap (registers_by Arrive (tree_of o.program.now) o.plan.now o.processor) (sym next) ∙ store_registers (tree_of o.program.now) o.plan.now o.processor o.behind o.memory.now (entries_of o.stores) o.own (cells_of o.stores) o.done.done o.goes _ r.0 r.1 r.2
 
 pub returns-clause-printed : goal.returns-clause-printed
 returns-clause-printed c =
     let o = c.args.self.now in
     let r = c.requires.next in
     let next : o.done.done + 1 ≡ c.further-self.result.done = sym c.further-self.ensures in
-    ap (printed_by Arrive (tree_of o.program.now) o.plan.now o.processor) (sym next) ∙ store_printed (tree_of o.program.now) o.plan.now o.processor o.behind o.memory.now o.stores.entries.items o.own (length o.stores.places.items) o.done.done o.goes _ r.0 r.1 r.2
+    ap (printed_by Arrive (tree_of o.program.now) o.plan.now o.processor) (sym next) ∙ store_printed (tree_of o.program.now) o.plan.now o.processor o.behind o.memory.now (entries_of o.stores) o.own (cells_of o.stores) o.done.done o.goes _ r.0 r.1 r.2

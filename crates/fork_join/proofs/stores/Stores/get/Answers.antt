@@ -1,29 +1,22 @@
-use Rattle.std.proofs.Common.{◌≡◌, ◌-◌, ℕ, ℤ, ◌∙◌, sym, ap, w64, FitsSigned, arith, rules}
+use Rattle.std.proofs.Common.{◌≡◌, true, false, pos, ◌∙◌, sym, w64, FitsSigned, arith, rules}
 use Rattle.std.proofs.lemmas.Int.{to_z-of_z}
-use Rattle.fork_join.proofs.Laying.{away_of, away_value, last_value, place_cell, place_inside, place_last, within_any}
+use Rattle.fork_join.specs.Overlays.{stretched}
+use Rattle.fork_join.proofs.Laying.{laid_away, laid_there, within_any}
 use Rattle.fork_join.proofs.stores.Stores.get.Goals as goal
 
-pub returns-then-place-eq0 : goal.returns-then-place-eq0
-returns-then-place-eq0 c memory inside =
+pub returns-then-index : goal.returns-then-index
+returns-then-index c memory inside =
     let s = c.args.self.now in let kept = c.requires.kept in
-    let place = c.index-place.ensures ∙ within_any s.places.items c.args.cell c.index-place.result.now 0 c.requires.inside in
-    let none : c.index-place.result.now ≡ 0 = search rules in
-    away_value s.entries.items memory c.args.cell (away_of s.entries.items s.places.items kept.indexed c.args.cell (sym place ∙ none))
-
-pub index-requires : goal.index-requires
-index-requires c =
-    let s = c.args.self.now in let kept = c.requires.kept in
-    let place = c.index-place.ensures ∙ within_any s.places.items c.args.cell c.index-place.result.now 0 c.requires.inside in
-    omega (arith, place_inside s.entries.items s.places.items kept.indexed c.args.cell c.index-place.result.now c.requires.inside (sym place) c.if-place-eq0.false, s.entries.ok.0)
-
-pub returns : goal.returns
-returns c memory inside =
-    let s = c.args.self.now in let kept = c.requires.kept in
-    let k = c.index-place.result.now in
-    let place = c.index-place.ensures ∙ within_any s.places.items c.args.cell k 0 c.requires.inside in
-    let lt = place_inside s.entries.items s.places.items kept.indexed c.args.cell k c.requires.inside (sym place) c.if-place-eq0.false in
-    let is = place_cell s.entries.items s.places.items kept.indexed c.args.cell k c.requires.inside (sym place) c.if-place-eq0.false in
-    let last = place_last s.entries.items s.places.items kept.indexed c.args.cell k c.requires.inside (sym place) c.if-place-eq0.false in
-    let v = c.index.result.now.1 in
+    let mark = c.index.ensures ∙ within_any s.stored.items c.args.cell c.index.result.now false c.requires.inside in
+    let is : c.index.result.now ≡ true = search rules in
+    let v = c.index-then-index.result.now in
     let fits : FitsSigned w64 v = search rules in
-    last_value s.entries.items memory (k - 1) c.args.cell c.index.result.now lt is last inside ∙ ap (λ (x : ℕ × ℤ). x.1) (sym c.index.ensures) ∙ sym (to_z-of_z w64 v fits)
+    laid_there (stretched s.stretches.items) s.values.items memory c.args.cell inside (kept.marked.marked c.args.cell ∙ sym mark ∙ is)
+    ∙ within_any s.values.items c.args.cell (pos 0) v (omega (arith, kept.values, c.requires.inside)) ∙ sym c.index-then-index.ensures ∙ sym (to_z-of_z w64 v fits)
+
+pub returns-else-index : goal.returns-else-index
+returns-else-index c memory inside =
+    let s = c.args.self.now in let kept = c.requires.kept in
+    let mark = c.index.ensures ∙ within_any s.stored.items c.args.cell c.index.result.now false c.requires.inside in
+    let is : c.index.result.now ≡ false = search rules in
+    laid_away (stretched s.stretches.items) s.values.items memory c.args.cell inside (kept.marked.marked c.args.cell ∙ sym mark ∙ is)

@@ -1,9 +1,9 @@
 use mathlib.Core.Logic.{∥∥₁_map}
-use Rattle.std.proofs.Common.{◌≤◌, ◌<◌, ◌^◌, length, vec_capacity, refl, sym, subst}
+use Rattle.std.proofs.Common.{refl, sym, subst}
 use Rattle.nest_tree.specs.View.{tree_of}
 use Rattle.spmd_turns.specs.declared.progress.Progress.{Progress}
 use Rattle.fork_join.specs.Joins.{IsAlone}
-use Rattle.fork_join.specs.Overlays.{AreIndexed}
+use Rattle.fork_join.specs.StoreLists.{AreKept, cells_of, entries_of}
 use Rattle.fork_join.specs.declared.stores.Stores.{Stores}
 use Rattle.fork_join.proofs.Working.{alone_first, its_cells, its_own, worked}
 use Rattle.fork_join.proofs.worker.Worker.work.Goals as goal
@@ -20,13 +20,11 @@ invariant_of-overlay c =
     let stands = begun.stands in
     let stores = sym c.replace.ensures.value in
     let done = sym c.replace-2.ensures.value in
-    let first = ∥∥₁_map c.requires.lawful (λ lawful. alone_first tree plan p n memory w.stores.entries.items w.own (length w.stores.places.items) w.done.done c.requires.safe c.requires.below lawful begun.none stands.holds stands.cells begun.place) in
+    let first = ∥∥₁_map c.requires.lawful (λ lawful. alone_first tree plan p n memory (entries_of w.stores) w.own (cells_of w.stores) w.done.done c.requires.safe c.requires.below lawful begun.none stands.holds stands.cells begun.place) in
     record {
-      goes = subst (λ (s : Stores). ∥ IsAlone tree plan p n memory s.entries.items w.own (length s.places.items) c.replace-2.result.done ∥₁) stores
-          (subst (λ (d : Progress). ∥ IsAlone tree plan p n memory w.stores.entries.items w.own (length w.stores.places.items) d.done ∥₁) done first);
-      indexed = subst (λ (s : Stores). AreIndexed s.entries.items s.places.items) stores stands.kept.indexed;
-      room = subst (λ (s : Stores). length s.places.items ≤ vec_capacity s.entries) stores stands.kept.room;
-      few = subst (λ (s : Stores). length s.places.items < 2 ^ 32) stores stands.kept.few;
+      goes = subst (λ (s : Stores). ∥ IsAlone tree plan p n memory (entries_of s) w.own (cells_of s) c.replace-2.result.done ∥₁) stores
+          (subst (λ (d : Progress). ∥ IsAlone tree plan p n memory (entries_of w.stores) w.own (cells_of w.stores) d.done ∥₁) done first);
+      kept_stores = subst AreKept stores stands.kept;
     }
 
 pub returns : goal.returns
@@ -46,7 +44,7 @@ returns c =
         plan_is = refl;
         processor = refl;
         runs = runs;
-        kept = record { indexed = o.indexed; room = o.room; few = o.few };
+        kept = o.kept_stores;
         cells = its_cells tree plan n p memory o kept;
         holds = its_own tree plan n p memory o kept;
       };
