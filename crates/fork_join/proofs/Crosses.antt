@@ -17,6 +17,8 @@ use Rattle.nest_tree.proofs.tree.Parameter.TheSendSync as parameter
 use Rattle.nest_tree.proofs.tree.Variable.TheSendSync as variable
 use Rattle.nest_walk.proofs.trips.Trips.TheSendSync as trips
 use Rattle.nest_walk.proofs.path.Path.TheSendSync as path
+use Rattle.flat_code.proofs.table.CodeTable.TheSendSync as codes
+use Rattle.flat_code.proofs.lines.Line.TheSendSync as line
 use Rattle.sync_plan.proofs.plan.Plan.TheSendSync as plan
 use Rattle.nest_walk.specs.contracts.cursor.Stop as Stop
 use Rattle.nest_walk.specs.contracts.cursor.Cursor as Walks
@@ -107,7 +109,7 @@ Turns-field-send a =
     )
 
 pub Executor-field-send : (a : NamedLft) → IsSend (Executor.the_field a).row
-Executor-field-send a = let p = Program-sync in let t = CellTable-sync in search (sendable, crosses) depth 20
+Executor-field-send a = let p = Program-sync in let t = CellTable-sync in search (sendable, crosses, codes.the_field_send, line.the_send, line.the_field_send) depth 20
 
 pub StyledTurns-field-send : (a : NamedLft) → IsSend (StyledTurns.the_field a).row
 StyledTurns-field-send a =
