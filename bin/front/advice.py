@@ -229,8 +229,6 @@ def why_kept(program, loop, name):
     if all(it.target == name and re.match(r"(MAX|MIN)\(", it.value) for it in uses):
         which = uses[0].value[:3]
         return f"a {which} over trips is not dealt out; what it is taken of can be, stored in an array by a loop in front of this one"
-    if all(it.target == name and (is_sum(name, it) or is_turned_sum(name, it)) for it in uses):
-        return f"a sum that can be dealt out is written {name} = {name} + .. or {name} = {name} - .."
     if all(it.target == name and is_read(name, it) and not it.guard for it in uses):
         return f"a trip needs what another one stored, and only sums, {name} = {name} + .., are dealt out all the same"
     return "a trip needs what another one stored"
@@ -249,13 +247,7 @@ def is_named(name, text):
 
 
 def is_sum(name, action):
-    """Whether a statement adds to a scalar and does nothing else with it, K = K + .. or K = K - .."""
-    found = re.match(rf"{name}[+-](.*)", action.value)
-    return action.target == name and found is not None and not is_named(name, found[1])
-
-
-def is_turned_sum(name, action):
-    """Whether a statement adds to a scalar, and names it behind what it adds."""
+    """Whether a statement adds to a scalar once, K = K + .., K = K - .. or K = .. + K, and names it nowhere else."""
     parts, depth = [""], 0
     for c in action.value:
         depth += (c == "(") - (c == ")")
@@ -263,7 +255,7 @@ def is_turned_sum(name, action):
             parts.append("")
         parts[-1] += c
     others = [it for it in parts if it.lstrip("+") != name]
-    return action.target == name and not action.guard and len(others) == len(parts) - 1 and not any(is_named(name, it) for it in [*others, *action.subscripts])
+    return action.target == name and len(others) == len(parts) - 1 and not any(is_named(name, it) for it in [*others, *action.subscripts])
 
 
 # ---- the summary
