@@ -1,5 +1,5 @@
 -- The store or the PRINT of an instance whose loads are done.
-use Rattle.std.proofs.Common.{false, ◌≡◌, ℕ, ◌+◌, ◌-◌, ◌<◌, ◌≤◌, ℤ, true, List, [], ◌∷◌, ◌++◌, length, map, set, get_or, Vec, Global, Option, Some, None, refl, sym, ◌∙◌, ap, arith, length-set, sum_by}
+use Rattle.std.proofs.Common.{false, ◌≡◌, ℕ, ◌+◌, ◌-◌, ◌<◌, ◌≤◌, ℤ, true, List, [], ◌∷◌, ◌++◌, length, map, set, get_or, Vec, Global, Option, Some, None, refl, sym, ◌∙◌, ap, subst, arith, length-set, sum_by}
 use Rattle.std.specs.Prelude.{slice_get}
 use Rattle.std.specs.List.{list_all}
 use Rattle.std.specs.Option.{option_map, option_to_list}
@@ -28,15 +28,20 @@ use Rattle.nest_walk.specs.Paths.{Round, by_depth}
 use Rattle.nest_walk.specs.Places.{numbers_of}
 use Rattle.nest_walk.specs.RoundsOf.{rounds_of}
 use Rattle.nest_walk.specs.Tables.{entries}
+use Rattle.nest_walk.specs.Texts.{StandFrom, works}
 use Rattle.nest_walk.specs.declared.cells.CellForm.{CellForm}
 use Rattle.nest_walk.specs.declared.cursor.Stop.{Stop}
 use Rattle.nest_walk.specs.declared.table.WorkCells.{WorkCells}
 use Rattle.nest_walk.proofs.ByNumberLists.{with_rounds-length}
+use Rattle.flat_code.specs.Codes.{IsCodeOf, registers_of}
+use Rattle.flat_code.specs.CodeTables.{HasCode, codes_of}
+use Rattle.flat_code.specs.declared.code.Code.{Code}
 use Rattle.seq_meaning.specs.Executions.{IsPlacedWork}
 use Rattle.seq_meaning.specs.Lines.{has_text, items_load_count}
 use Rattle.seq_meaning.specs.Room.{Written, longest_items, longest_line}
 use Rattle.seq_meaning.proofs.Found.{Found}
-use Rattle.seq_meaning.proofs.RunSteps.{assign_same, assign_valued, items_loads-length, numbered_more, placed-good, same_work, store_within, texts_same, texts_there}
+use Rattle.seq_meaning.proofs.RunSteps.{assign_same, assign_valued, code_room, items_loads-length, numbered_more, placed-good, same_work, store_within, texts_same, texts_there}
+use Rattle.seq_meaning.proofs.TextAssigns.{text-code, text-high, text-low}
 use Rattle.spmd_model.specs.Deeds.{last_deed, printing, storing}
 use Rattle.spmd_machine.specs.Machines.{ComesNext, IsReady, LoadsNext, StepsTo, plan_in, style_in, tree_in}
 use Rattle.spmd_machine.specs.Processors.{IsKept, PassesTurn, left_of, memory_of, room_of}
@@ -150,6 +155,22 @@ module _ (m : Machine) (ready : IsReady m) (p : ℕ) (x : Processor) (lt : p < l
 
       good_here : is_good_work (scope_of tree) (numbers_of rounds) (assign a) ≡ true
       good_here = sym (ap (is_good_work (scope_of tree) (numbers_of rounds)) assigns) ∙ good
+
+      -- it has a code, which fits
+      text : StandFrom (works tree) stop.first (record { what = work (assign a); around = numbers_of rounds } ∷ [])
+      text = subst (λ w. StandFrom (works tree) stop.first (record { what = work w; around = numbers_of rounds } ∷ [])) assigns placed.text
+
+      pub code_low : 1 ≤ stop.first
+      code_low = text-low tree (numbers_of rounds) stop.first a text HasCode (codes_of m.codes) ready.codes.each
+
+      pub code_high : stop.first ≤ length (codes_of m.codes)
+      code_high = text-high tree (numbers_of rounds) stop.first a text HasCode (codes_of m.codes) ready.codes.each
+
+      pub store_code : (code : Code) → slice_get (codes_of m.codes) (stop.first - 1) ≡ Some code → IsCodeOf (expression_of e) code
+      store_code code is = text-code tree (numbers_of rounds) stop.first a text m.codes code ready.codes is
+
+      pub code_fits : (code : Code) → slice_get (codes_of m.codes) (stop.first - 1) ≡ Some code → registers_of code ≤ length m.code_registers.items
+      code_fits code is = omega (arith, code_room tree m.codes code (stop.first - 1) ready.codes is, ready.code_room)
 
       pub store_valued : (ls ps : List ℤ) → ls ≡ with_rounds m.loops.items rounds → ps ≡ m.params.items → has_value (length ls) (length ps) (expression_of e) ≡ true
       store_valued ls ps written params =

@@ -60,8 +60,10 @@ module _ (m : Machine) (ready : IsReady m) (p : ℕ) (x y : Processor) (lt : p <
         fits = ready.fits;
         table = ready.table;
         wide = ready.wide;
+        codes = ready.codes;
         params = ready.params;
         loops = omega (arith, ready.loops, written);
+        code_room = ready.code_room;
         cells = cells ∙ ready.cells;
         count = length-set m.processors.items p y ∙ ready.count;
         kept = written_all (IsKept (style_in m) (tree_in m) (plan_in m) (entries m.table)) m.processors.items p y ready.kept kept;
@@ -92,6 +94,33 @@ module _ (m : Machine) (ready : IsReady m) (p : ℕ) (x y : Processor) (lt : p <
   pub still_ready : IsKept (style_in m) (tree_in m) (plan_in m) (entries m.table) p y → room_of (tree_in m) y ≡ room_of (tree_in m) x →
       ShowsSame (style_in m) (tree_in m) (plan_in m) ready.formed ready.fits (entries m.table) m.processors.items m.memory.items m.output.bytes p worker_here x lt read kept_here y → IsReady (with_parts m.loops m.memory m.output)
   still_ready kept room same = ready_with m.loops m.memory m.output kept refl refl (omega (arith, room)) (omega arith) (subst (IsReached (model_of m)) (sym (still_shown same)) ready.reached)
+
+-- a code has filled its registers
+pub code_filled : (old new : Machine) (p : ℕ) (said : StepAnswer) (registers : Vec ℤ Global) → length registers.items ≡ length new.code_registers.items → StepsTo old new p said → StepsTo old (record new { code_registers = registers }) p said
+unfolding shown
+code_filled old new p said registers same step =
+    let ready = step.ready in
+    record {
+      ready = record {
+        formed = ready.formed;
+        ranges = ready.ranges;
+        fits = ready.fits;
+        table = ready.table;
+        wide = ready.wide;
+        codes = ready.codes;
+        params = ready.params;
+        loops = ready.loops;
+        code_room = omega (arith, ready.code_room, same);
+        cells = ready.cells;
+        count = ready.count;
+        kept = ready.kept;
+        room = ready.room;
+        reached = ready.reached;
+      };
+      same = record { program = step.same.program; plan = step.same.plan; style = step.same.style; count = step.same.count };
+      state = step.state;
+      answer = step.answer;
+    }
 
 -- a processor at its end
 pub at_end : (m : Machine) → IsReady m → (p : ℕ) → p < length m.processors.items → ComesNext m p End → (shown m ≡ stepped (model_of m) (shown m) p) × (Ended ≡ step_answer (model_of m) (shown m) p)

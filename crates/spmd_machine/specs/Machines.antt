@@ -10,6 +10,7 @@ use Rattle.nest_walk.specs.Tables.{IsCellTable, entries}
 use Rattle.nest_walk.specs.declared.cursor.Stop.{Stop}
 use Rattle.nest_walk.specs.declared.table.LoadCells.{LoadCells}
 use Rattle.nest_walk.specs.declared.table.WorkCells.{WorkCells}
+use Rattle.flat_code.specs.CodeTables.{IsCodeTable, most_registers}
 use Rattle.sync_plan.specs.Fit.{IsFit}
 use Rattle.sync_plan.specs.Own.{own_of}
 use Rattle.sync_plan.specs.declared.plan.Plan.{Plan}
@@ -76,8 +77,10 @@ pub record IsReady (m : Machine) : Type 0 where
   pub fits : IsFit (tree_in m) (plan_in m)
   pub table : IsCellTable (tree_in m) m.table
   pub wide : (n k : ℕ) (cells : WorkCells) (l : LoadCells) → slice_get (entries m.table) n ≡ Some cells → slice_get cells.loads.items k ≡ Some l → 0 < width l
+  pub codes : IsCodeTable (tree_in m) m.codes
   pub params : m.params.items ≡ param_values (tree_in m)
   pub loops : loops_of (tree_in m).items ≤ length m.loops.items
+  pub code_room : most_registers m.codes ≤ length m.code_registers.items
   pub cells : length m.memory.items ≡ cell_count (tree_in m)
   pub count : length m.processors.items ≡ (plan_in m).workers
   pub kept : (p : ℕ) (d : Processor) → p < length m.processors.items → IsKept (style_in m) (tree_in m) (plan_in m) (entries m.table) p (slice_index_or m.processors.items p d)

@@ -10,10 +10,11 @@ ghost use Rattle.spmd_machine.specs.Processors.{AreFresh};
 
 use crate::answer::StepAnswer;
 use crate::processor::{Processor, Spot};
-use nest_tree::{Expr, Item, PrintItem, Program};
+use flat_code::{CodeTable, value_of_code};
+use nest_tree::{Item, PrintItem, Program};
 use nest_walk::{CellTable, Stop};
 use own_cells::{OWN_PLACES, is_sum_place};
-use seq_meaning::{Given, Output, eval};
+use seq_meaning::{Given, Output};
 use spmd_model::Style;
 use spmd_turns::{LoadPlace, longest_output, most_loads, open_printing};
 use std::alloc::{AllocError, Global};
@@ -29,11 +30,14 @@ pub struct Machine<'a> {
     pub(crate) program: &'a Program,
     pub(crate) plan: &'a Plan,
     pub(crate) style: Style,
-    // The cells of all accesses.
+    // The cells of all accesses, and the codes of all that is assigned.
     pub(crate) table: CellTable,
+    pub(crate) codes: CodeTable,
     // The values of the named constants, and those of loops, by number.
     pub(crate) params: Vec<i64>,
     pub(crate) loops: Vec<i64>,
+    // What the code of a store fills.
+    pub(crate) code_registers: Vec<i64>,
     pub(crate) processors: Vec<Processor<'a>>,
     // The cells that all share.
     pub(crate) memory: Vec<i64>,
@@ -80,11 +84,13 @@ impl<'a> Machine<'a> {
         ensures style { IfOk result (λ m. style_in m ≡ style) }
     {
         let table = CellTable::new(alloc, program)?;
+        let codes = CodeTable::new(alloc, program)?;
         let mut params = Vec::with_capacity(alloc, program.params.len())?;
         for parameter in &program.params {
             params.push(parameter.value)?;
         }
-        let registers = most_loads(program, &table).ok_or(AllocError)?;
+        let loaded = most_loads(program, &table).ok_or(AllocError)?;
+        let most = codes.registers() as usize;
         let mut closed = vec![in alloc; true; MOST_STATEMENTS]?;
         open_printing(&program.items, &mut closed);
         let room = longest_output(program, &closed).ok_or(AllocError)?;
@@ -93,9 +99,11 @@ impl<'a> Machine<'a> {
             plan,
             style,
             table,
+            codes,
             params,
             loops: vec![in alloc; 0; MOST_STATEMENTS]?,
-            processors: processors_of(alloc, program, plan, style, registers.max(1))?,
+            code_registers: vec![in alloc; 0; most]?,
+            processors: processors_of(alloc, program, plan, style, loaded.max(1))?,
             memory: vec![in alloc; 0; program.cell_count() as usize]?,
             output: Output::with_room(alloc, room)?,
         };
@@ -243,20 +251,20 @@ impl<'a> Machine<'a> {
         ensures same { IsSameMachine self.old self.new }
     {
         match stop.item {
-            Item::Assign(_, e, _, _) => self.assign_quietly(p, stop, e),
+            Item::Assign(..) => self.assign_quietly(p, stop),
             Item::Print(..) => false,
             Item::Loop(_) | Item::Continue(_) => unreachable!(),
         }
     }
 
     // The same at an assignment.
-    fn assign_quietly(&mut self, p: usize, stop: Stop<'a>, e: &Expr) -> bool
+    fn assign_quietly(&mut self, p: usize, stop: Stop<'a>) -> bool
         requires ready { IsReady self.old }
         requires worker { p < length self.old.processors.items }
         requires next { ComesNext self.old p (StyledNext.Work stop) }
         requires loaded { LoadsNext self.old p stop None }
-        requires statement { (target : Access) × (guard : Option Guard) × (line : ℕ)
-            × (stop.item.now ≡ Item.Assign target e.now guard line) }
+        requires statement { (target : Access) × (e : Expr) × (guard : Option Guard) × (line : ℕ)
+            × (stop.item.now ≡ Item.Assign target e guard line) }
         ensures ready { IsReady self.new }
         ensures quiet { result
             ≡ nat_lt 0 (quiet_next (model_of self.old) (shared_in self.old) (shown self.old) p) }
@@ -265,7 +273,7 @@ impl<'a> Machine<'a> {
     {
         let spot = self.store_spot(p, stop);
         if spot.own.is_some() {
-            self.store(p, stop, e, spot);
+            self.store(p, stop, spot);
             return true;
         }
         false
@@ -423,9 +431,9 @@ impl<'a> Machine<'a> {
         ensures { StepsTo self.old self.new p result }
     {
         match stop.item {
-            Item::Assign(_, e, _, _) => {
+            Item::Assign(..) => {
                 let spot = self.store_spot(p, stop);
-                self.store(p, stop, e, spot)
+                self.store(p, stop, spot)
             }
             Item::Print(items, _) => self.print(p, stop, items),
             Item::Loop(_) | Item::Continue(_) => unreachable!(),
@@ -456,20 +464,27 @@ impl<'a> Machine<'a> {
 
     // The store of an assignment whose loads are done, to its cell or the processor's own one.
     #[inline(always)]
-    fn store(&mut self, p: usize, stop: Stop<'a>, e: &Expr, spot: Spot) -> StepAnswer
+    fn store(&mut self, p: usize, stop: Stop<'a>, spot: Spot) -> StepAnswer
         requires ready { IsReady self.old }
         requires worker { p < length self.old.processors.items }
         requires next { ComesNext self.old p (StyledNext.Work stop) }
         requires loaded { LoadsNext self.old p stop None }
-        requires statement { (target : Access) × (guard : Option Guard) × (line : ℕ)
-            × (stop.item.now ≡ Item.Assign target e.now guard line) }
+        requires statement { (target : Access) × (e : Expr) × (guard : Option Guard) × (line : ℕ)
+            × (stop.item.now ≡ Item.Assign target e guard line) }
         requires stores { StoresNext self.old p stop spot.cell }
         requires own { IsSpot self.old p spot }
         ensures { StepsTo self.old self.new p result }
     {
         let processor = &mut self.processors[p];
         processor.turns.path().write_to(&mut self.loops);
-        let value = eval(e, &self.loops, &self.params, &processor.registers);
+        let code = self.codes.work(stop.first);
+        let value = value_of_code(
+            code,
+            &self.loops,
+            &self.params,
+            &processor.registers,
+            &mut self.code_registers,
+        );
         match spot.own {
             Some(place) => processor.own[place] = value,
             None => self.memory[spot.cell] = value,

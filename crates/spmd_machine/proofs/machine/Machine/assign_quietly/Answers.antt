@@ -5,11 +5,6 @@ use Rattle.spmd_machine.proofs.LoadSteps.{slot_here, stores_here}
 use Rattle.spmd_machine.proofs.WorkQuiets.{store_quiet}
 use Rattle.spmd_machine.proofs.machine.Machine.assign_quietly.Goals as goal
 
-pub store_spot-spot-requires-clause-statement : goal.store_spot-spot-requires-clause-statement
-store_spot-spot-requires-clause-statement c =
-    let (target, guard, line, statement) = c.requires.statement in
-    (target, c.args.e.now, guard, line, statement)
-
 pub returns-then-is_some-clause-quiet : goal.returns-then-is_some-clause-quiet
 returns-then-is_some-clause-quiet c =
     let m = c.args.self.now in

@@ -34,7 +34,7 @@ settle_all-requires c =
     let tree = tree_of c.args.program.now in
     let plan = c.args.plan.now in
     let size : c.cell_count.result ≡ cell_count tree = omega (arith, c.cell_count.ensures, few_cells tree c.requires.limits) in
-    let memory = c.in_ok-vec-2.ensures.items_if_clones_equal (λ y e. e) ∙ ap (λ n. replicate n (pos 0)) size in
+    let memory = c.in_ok-vec-3.ensures.items_if_clones_equal (λ y e. e) ∙ ap (λ n. replicate n (pos 0)) size in
     let ps = c.in_ok-processors_of.field-0.items in
     let count = c.in_ok-processors_of.ensures.count in
     let fresh = c.in_ok-processors_of.ensures.fresh in
@@ -42,10 +42,11 @@ settle_all-requires c =
     let wide = table_wide tree table c.requires.formed c.in_ok-table.ensures in
     let all = take_all c.loop-parameter.parameter-index c.deref-parameter-items.result.now c.loop-parameter-test.false in
     let loops = ap (λ xs. length xs) (c.in_ok-vec.ensures.items_if_clones_equal (λ y e. e)) ∙ length-replicate 400 (pos 0) in
-    let cells = ap (λ xs. length xs) (c.in_ok-vec-2.ensures.items_if_clones_equal (λ y e. e)) ∙ length-replicate c.cell_count.result (pos 0) ∙ size in
-    let most = subst (λ (o : Option ℕ). IfSome o (λ n. (k : ℕ) (w : WorkCells) → slice_get (entries table) k ≡ Some w → widths w.loads.items ≤ n)) c.in_ok-registers.ensures.ok_part c.most_loads.ensures.most in
+    let room_of_codes = ap (λ xs. length xs) (c.in_ok-vec-2.ensures.items_if_clones_equal (λ y e. e)) ∙ length-replicate c.registers-most.result (pos 0) in
+    let cells = ap (λ xs. length xs) (c.in_ok-vec-3.ensures.items_if_clones_equal (λ y e. e)) ∙ length-replicate c.cell_count.result (pos 0) ∙ size in
+    let most = subst (λ (o : Option ℕ). IfSome o (λ n. (k : ℕ) (w : WorkCells) → slice_get (entries table) k ≡ Some w → widths w.loads.items ≤ n)) c.in_ok-loaded.ensures.ok_part c.most_loads.ensures.most in
     let some : 1 ≤ c.max.result = omega (arith, c.max.ensures) in
-    let larger : c.in_ok-registers.registers ≤ c.max.result = omega (arith, c.max.ensures) in
+    let larger : c.in_ok-loaded.loaded ≤ c.max.result = omega (arith, c.max.ensures) in
     let back = written_whole c.in_ok-closed.closed.len c.open_printing.new.closed c.in_ok-closed.closed.items c.in_ok-closed.closed.ok.0 (c.open_printing.auto.closed ∙ ap (λ (l : List Bool). length l) c.deref_mut.ensures.value) in
     let silent = subst (λ xs. AreSilent c.open_printing.new.closed (statements_from xs)) c.deref.ensures.value c.open_printing.ensures.silent in
     let walked = subst (λ (o : Option ℕ). IfSome o (λ n. n ≡ sum_by (visit_room tree) (visits tree (enters_but c.deref-2.result.now)))) c.in_ok-room.ensures.ok_part c.longest_output.ensures in
@@ -57,13 +58,15 @@ settle_all-requires c =
         fits = c.requires.fits;
         table = c.in_ok-table.ensures;
         wide = wide;
+        codes = c.in_ok-codes.ensures;
         params = c.loop-parameter.invariant ∙ ap (map (λ (p : Parameter). p.value)) (all ∙ c.deref-parameter-items.ensures.value) ∙ sym (values_are c.args.program.now.params.items);
         loops = omega (arith, loops, loops-few tree c.requires.formed);
+        code_room = omega (arith, room_of_codes, c.registers-most.ensures);
         cells = cells;
         count = count;
         kept = λ p d lt. kept_fresh c.args.style tree plan c.max.result c.requires.formed c.requires.limits c.requires.fits c.requires.ranges (entries table) p _ (omega (arith, lt, count)) wide c.requires.ranges (λ n w at. omega (arith, most n w at, larger)) some (fresh p d lt);
         room = omega (arith, ap (λ (l : List ℕ). length l) c.in_ok-with_room.ensures.bytes, fresh_rooms c.args.style tree plan c.max.result c.requires.formed c.requires.limits c.requires.fits c.requires.ranges ps count fresh, room, c.in_ok-with_room.ensures.room);
-        reached = reached_first c.args.style tree plan _ (first_is c.args.style tree plan c.max.result c.requires.formed c.requires.limits c.requires.fits c.requires.ranges c.in_ok-processors_of.field-0.items c.in_ok-processors_of.ensures.count c.in_ok-processors_of.ensures.fresh c.in_ok-vec-2.field-0.items c.in_ok-with_room.field-0.bytes memory c.in_ok-with_room.ensures.bytes);
+        reached = reached_first c.args.style tree plan _ (first_is c.args.style tree plan c.max.result c.requires.formed c.requires.limits c.requires.fits c.requires.ranges c.in_ok-processors_of.field-0.items c.in_ok-processors_of.ensures.count c.in_ok-processors_of.ensures.fresh c.in_ok-vec-3.field-0.items c.in_ok-with_room.field-0.bytes memory c.in_ok-with_room.ensures.bytes);
       };
     }
 
@@ -73,9 +76,9 @@ returns-clause-first c =
     let tree = tree_of c.args.program.now in
     let plan = c.args.plan.now in
     let size : c.cell_count.result ≡ cell_count tree = omega (arith, c.cell_count.ensures, few_cells tree c.requires.limits) in
-    let memory = c.in_ok-vec-2.ensures.items_if_clones_equal (λ y e. e) ∙ ap (λ n. replicate n (pos 0)) size in
-    let begun = first_is c.args.style tree plan c.max.result c.requires.formed c.requires.limits c.requires.fits c.requires.ranges c.in_ok-processors_of.field-0.items c.in_ok-processors_of.ensures.count c.in_ok-processors_of.ensures.fresh c.in_ok-vec-2.field-0.items c.in_ok-with_room.field-0.bytes memory c.in_ok-with_room.ensures.bytes in
-    let first : Machine = record { program = c.args.program; plan = c.args.plan; style = c.args.style; table = c.in_ok-table.table; params = c.loop-parameter.params; loops = c.in_ok-vec.field-0; processors = c.in_ok-processors_of.field-0; memory = c.in_ok-vec-2.field-0; output = c.in_ok-with_room.field-0 } in
+    let memory = c.in_ok-vec-3.ensures.items_if_clones_equal (λ y e. e) ∙ ap (λ n. replicate n (pos 0)) size in
+    let begun = first_is c.args.style tree plan c.max.result c.requires.formed c.requires.limits c.requires.fits c.requires.ranges c.in_ok-processors_of.field-0.items c.in_ok-processors_of.ensures.count c.in_ok-processors_of.ensures.fresh c.in_ok-vec-3.field-0.items c.in_ok-with_room.field-0.bytes memory c.in_ok-with_room.ensures.bytes in
+    let first : Machine = record { program = c.args.program; plan = c.args.plan; style = c.args.style; table = c.in_ok-table.table; codes = c.in_ok-codes.codes; params = c.loop-parameter.params; loops = c.in_ok-vec.field-0; code_registers = c.in_ok-vec-2.field-0; processors = c.in_ok-processors_of.field-0; memory = c.in_ok-vec-3.field-0; output = c.in_ok-with_room.field-0 } in
     settled_first first c.settle_all.new.self begun c.settle_all.ensures.same c.settle_all.ensures.state
 
 pub returns-clause-settled : goal.returns-clause-settled

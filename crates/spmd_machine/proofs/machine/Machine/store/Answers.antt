@@ -2,6 +2,7 @@ use Rattle.std.proofs.Common.{◌≡◌, ℤ, List, length, set, vec_capacity, w
 use Rattle.std.specs.List.{list_all}
 use Rattle.std.specs.Vec.{with_items}
 use Rattle.std.proofs.lemmas.Int.{to_z-of_z}
+use Rattle.nest_tree.specs.View.{expression_of}
 use Rattle.nest_tree.specs.WellFormed.{is_number_of}
 use Rattle.nest_walk.specs.ByNumber.{with_rounds}
 use Rattle.nest_walk.specs.Paths.{Round}
@@ -9,13 +10,14 @@ use Rattle.nest_walk.specs.RoundsOf.{rounds_of}
 use Rattle.seq_meaning.proofs.RunSteps.{written_back}
 use Rattle.styled_turns.specs.StyledLeft.{AreStyled, IsStyledNext}
 use Rattle.spmd_machine.specs.Machines.{plan_in, tree_in}
+use Rattle.spmd_machine.specs.declared.answer.StepAnswer.TheVariants.{Stepped}
 use Rattle.spmd_machine.specs.declared.processor.Processor.{Processor}
 use Rattle.styled_turns.specs.declared.turns.StyledNext.TheVariants.{Work}
 use Rattle.spmd_machine.proofs.Kept.{passed_from}
-use Rattle.spmd_machine.proofs.LastSteps.{cells_there, numbers_there, store_loads, store_steps, store_valued, stored_below}
+use Rattle.spmd_machine.proofs.LastSteps.{cells_there, code_fits, code_high, code_low, numbers_there, store_code, store_loads, store_steps, store_valued, stored_below}
 use Rattle.spmd_machine.proofs.LoadSteps.{few_here, slot_here, stores_here}
 use Rattle.spmd_machine.proofs.OwnAccess.{Stores, to_own, to_shared, slot_small}
-use Rattle.spmd_machine.proofs.Ready.{kept_here, next_here}
+use Rattle.spmd_machine.proofs.Ready.{code_filled, kept_here, next_here}
 use Rattle.spmd_machine.proofs.machine.Machine.store.Goals as goal
 use Rattle.spmd_machine.proofs.machine.Machine.store.Goals.{in-Some, in-None}
 
@@ -24,25 +26,63 @@ write_to-requires c =
     let numbered = numbers_there c.args.self.now c.requires.ready c.args.p c.index_mut-processor.result.now c.requires.worker c.index_mut-processor.ensures.value c.args.stop c.requires.next (length c.deref_mut.result.now) (ap (λ (l : List ℤ). length l) c.deref_mut.ensures.value) in
     subst (λ (rs : List Round). IsTrue (list_all (λ (r : Round). is_number_of (length c.deref_mut.result.now) r.number) rs)) (sym c.path.ensures) numbered
 
-pub eval-value-requires-clause-valued : goal.eval-value-requires-clause-valued
-eval-value-requires-clause-valued c =
+pub work-code-requires-clause-low : goal.work-code-requires-clause-low
+work-code-requires-clause-low c =
     let m = c.args.self.now in
     let x = c.index_mut-processor.result.now in
     let read = c.index_mut-processor.ensures.value in
-    let (target, guard, line, statement) = c.requires.statement in
+    let (target, e, guard, line, statement) = c.requires.statement in
+    let (cells, at) = cells_there m c.requires.ready c.args.p x c.requires.worker read c.args.stop c.requires.next in
+    code_low m c.requires.ready c.args.p x c.requires.worker read c.args.stop c.requires.next cells at c.requires.loaded e target guard line statement
+
+pub work-code-requires-clause-high : goal.work-code-requires-clause-high
+work-code-requires-clause-high c =
+    let m = c.args.self.now in
+    let x = c.index_mut-processor.result.now in
+    let read = c.index_mut-processor.ensures.value in
+    let (target, e, guard, line, statement) = c.requires.statement in
+    let (cells, at) = cells_there m c.requires.ready c.args.p x c.requires.worker read c.args.stop c.requires.next in
+    code_high m c.requires.ready c.args.p x c.requires.worker read c.args.stop c.requires.next cells at c.requires.loaded e target guard line statement
+
+pub value_of_code-value-requires-clause-room : goal.value_of_code-value-requires-clause-room
+value_of_code-value-requires-clause-room c =
+    let m = c.args.self.now in
+    let x = c.index_mut-processor.result.now in
+    let read = c.index_mut-processor.ensures.value in
+    let (target, e, guard, line, statement) = c.requires.statement in
+    let (cells, at) = cells_there m c.requires.ready c.args.p x c.requires.worker read c.args.stop c.requires.next in
+    omega (arith, code_fits m c.requires.ready c.args.p x c.requires.worker read c.args.stop c.requires.next cells at c.requires.loaded e target guard line statement c.work-code.result.now c.work-code.ensures, ap (λ (l : List ℤ). length l) c.deref_mut-2.ensures.value)
+
+pub value_of_code-value-requires-clause-loads : goal.value_of_code-value-requires-clause-loads
+value_of_code-value-requires-clause-loads c =
+    let m = c.args.self.now in
+    let x = c.index_mut-processor.result.now in
+    let read = c.index_mut-processor.ensures.value in
+    let (target, e, guard, line, statement) = c.requires.statement in
+    let (cells, at) = cells_there m c.requires.ready c.args.p x c.requires.worker read c.args.stop c.requires.next in
+    let coded = store_code m c.requires.ready c.args.p x c.requires.worker read c.args.stop c.requires.next cells at c.requires.loaded e target guard line statement c.work-code.result.now c.work-code.ensures in
+    omega (arith, coded.loads, store_loads m c.requires.ready c.args.p x c.requires.worker read c.args.stop c.requires.next cells at c.requires.loaded e target guard line statement, ap (λ (l : List ℤ). length l) c.deref-3.ensures.value)
+
+pub value_of_code-value-requires-clause-inside : goal.value_of_code-value-requires-clause-inside
+value_of_code-value-requires-clause-inside c =
+    let m = c.args.self.now in
+    let x = c.index_mut-processor.result.now in
+    let read = c.index_mut-processor.ensures.value in
+    let (target, e, guard, line, statement) = c.requires.statement in
+    let (cells, at) = cells_there m c.requires.ready c.args.p x c.requires.worker read c.args.stop c.requires.next in
+    (store_code m c.requires.ready c.args.p x c.requires.worker read c.args.stop c.requires.next cells at c.requires.loaded e target guard line statement c.work-code.result.now c.work-code.ensures).inside
+
+pub value_of_code-value-requires-clause-good : goal.value_of_code-value-requires-clause-good
+value_of_code-value-requires-clause-good c =
+    let m = c.args.self.now in
+    let x = c.index_mut-processor.result.now in
+    let read = c.index_mut-processor.ensures.value in
+    let (target, e, guard, line, statement) = c.requires.statement in
     let (cells, at) = cells_there m c.requires.ready c.args.p x c.requires.worker read c.args.stop c.requires.next in
     let back = written_back m.loops.len c.write_to.new.loops m.loops.items m.loops.ok.0 (c.write_to.auto.loops ∙ ap (λ (l : List ℤ). length l) c.deref_mut.ensures.value) in
     let written = back ∙ c.write_to.ensures ∙ ap (λ (l : List ℤ). with_rounds l (rounds_of c.path.result.now)) c.deref_mut.ensures.value ∙ ap (with_rounds m.loops.items) c.path.ensures in
-    store_valued m c.requires.ready c.args.p x c.requires.worker read c.args.stop c.requires.next cells at c.requires.loaded c.args.e.now target guard line statement c.deref.result.now c.deref-2.result.now (c.deref.ensures.value ∙ written) c.deref-2.ensures.value
-
-pub eval-value-requires-clause-loads : goal.eval-value-requires-clause-loads
-eval-value-requires-clause-loads c =
-    let m = c.args.self.now in
-    let x = c.index_mut-processor.result.now in
-    let read = c.index_mut-processor.ensures.value in
-    let (target, guard, line, statement) = c.requires.statement in
-    let (cells, at) = cells_there m c.requires.ready c.args.p x c.requires.worker read c.args.stop c.requires.next in
-    omega (arith, store_loads m c.requires.ready c.args.p x c.requires.worker read c.args.stop c.requires.next cells at c.requires.loaded c.args.e.now target guard line statement, ap (λ (l : List ℤ). length l) c.deref-3.ensures.value)
+    let coded = store_code m c.requires.ready c.args.p x c.requires.worker read c.args.stop c.requires.next cells at c.requires.loaded e target guard line statement c.work-code.result.now c.work-code.ensures in
+    coded.good _ _ (store_valued m c.requires.ready c.args.p x c.requires.worker read c.args.stop c.requires.next cells at c.requires.loaded e target guard line statement c.deref.result.now c.deref-2.result.now (c.deref.ensures.value ∙ written) c.deref-2.ensures.value)
 
 pub offset_bounds-processor-place : goal.offset_bounds-processor-place
 offset_bounds-processor-place c =
@@ -96,7 +136,7 @@ returns c =
     let x = c.index_mut-processor.result.now in
     let read = c.index_mut-processor.ensures.value in
     let slot = slot_here m ready c.args.p x c.requires.worker read c.args.stop c.requires.next c.args.spot c.requires.own in
-    let (target, guard, line, statement) = c.requires.statement in
+    let (target, e, guard, line, statement) = c.requires.statement in
     let (cells, at) = cells_there m ready c.args.p x c.requires.worker read c.args.stop c.requires.next in
     let z = c.match-spot.processor in
     let y = c.finish.new.self in
@@ -108,16 +148,20 @@ returns c =
     let counter : z.counter ≡ x.counter = elim c.match-spot.branch [ in-Some w ↦ ap (λ (u : Processor). u.counter) w.processor-is | in-None w ↦ ap (λ (u : Processor). u.counter) w.processor-is ] in
     let signal : z.signal ≡ x.signal = elim c.match-spot.branch [ in-Some w ↦ ap (λ (u : Processor). u.signal) w.processor-is | in-None w ↦ ap (λ (u : Processor). u.signal) w.processor-is ] in
     let passes = passed_from x z y t turns capacity passed in
-    let fits : FitsSigned w64 c.eval-value.result = search rules in
-    let value = to_z-of_z w64 c.eval-value.result fits in
-    let after = c.match-spot.self.1.1.1.1.1.1.1.1.0 in
-    let stored : Stores x y m.memory.items after.items c.args.spot.cell c.eval-value.result c.args.spot.own = elim c.match-spot.branch [
-      | in-Some w ↦ subst (Stores x y m.memory.items after.items c.args.spot.cell c.eval-value.result) (sym w.in-Some.is)
-          (to_own (c.finish.ensures.own_cells ∙ ap (λ (u : Processor). u.own) w.processor-is ∙ ap (set x.own w.in-Some.place) value) (ap (λ q. q.1.1.1.1.1.1.1.1.0.items) w.self-is))
-      | in-None w ↦ subst (Stores x y m.memory.items after.items c.args.spot.cell c.eval-value.result) (sym w.in-None.is)
-          (to_shared (c.finish.ensures.own_cells ∙ ap (λ (u : Processor). u.own) w.processor-is) (ap (λ q. q.1.1.1.1.1.1.1.1.0.items) w.self-is ∙ ap (set m.memory.items c.args.spot.cell) value))
+    let fits : FitsSigned w64 c.value_of_code-value.result = search rules in
+    let value = to_z-of_z w64 c.value_of_code-value.result fits in
+    let after = c.match-spot.self.1.1.1.1.1.1.1.1.1.1.0 in
+    let stored : Stores x y m.memory.items after.items c.args.spot.cell c.value_of_code-value.result c.args.spot.own = elim c.match-spot.branch [
+      | in-Some w ↦ subst (Stores x y m.memory.items after.items c.args.spot.cell c.value_of_code-value.result) (sym w.in-Some.is)
+          (to_own (c.finish.ensures.own_cells ∙ ap (λ (u : Processor). u.own) w.processor-is ∙ ap (set x.own w.in-Some.place) value) (ap (λ q. q.1.1.1.1.1.1.1.1.1.1.0.items) w.self-is))
+      | in-None w ↦ subst (Stores x y m.memory.items after.items c.args.spot.cell c.value_of_code-value.result) (sym w.in-None.is)
+          (to_shared (c.finish.ensures.own_cells ∙ ap (λ (u : Processor). u.own) w.processor-is) (ap (λ q. q.1.1.1.1.1.1.1.1.1.1.0.items) w.self-is ∙ ap (set m.memory.items c.args.spot.cell) value))
     ] in
-    store_steps m ready c.args.p x c.requires.worker read c.args.stop c.requires.next cells at c.requires.loaded c.args.e.now target guard line statement
+    let coded = store_code m ready c.args.p x c.requires.worker read c.args.stop c.requires.next cells at c.requires.loaded e target guard line statement c.work-code.result.now c.work-code.ensures in
+    let same = c.value_of_code-value.ensures.room ∙ ap (λ (l : List ℤ). length l) c.deref_mut-2.ensures.value in
+    let filled = written_back m.code_registers.len c.value_of_code-value.new.registers m.code_registers.items m.code_registers.ok.0 same in
+    code_filled m _ c.args.p Stepped (with_items m.code_registers c.value_of_code-value.new.registers) (ap (λ (l : List ℤ). length l) filled ∙ same)
+    (store_steps m ready c.args.p x c.requires.worker read c.args.stop c.requires.next cells at c.requires.loaded e target guard line statement
     c.args.spot.cell (stores_here m ready c.args.p x c.requires.worker read c.args.stop c.requires.next c.args.spot.cell c.requires.stores)
-    y t c.eval-value.result c.deref.result.now c.deref-2.result.now c.deref-3.result.now (with_items m.loops c.write_to.new.loops) after c.args.spot.own passes (c.finish.ensures.counter ∙ counter) (c.finish.ensures.signal ∙ signal)
-    slot stored c.eval-value.ensures (c.deref.ensures.value ∙ written) c.deref-2.ensures.value c.deref-3.ensures.value written
+    y t c.value_of_code-value.result c.deref.result.now c.deref-2.result.now c.deref-3.result.now (with_items m.loops c.write_to.new.loops) after c.args.spot.own passes (c.finish.ensures.counter ∙ counter) (c.finish.ensures.signal ∙ signal)
+    slot stored (c.value_of_code-value.ensures.value (expression_of e) coded) (c.deref.ensures.value ∙ written) c.deref-2.ensures.value c.deref-3.ensures.value written)
