@@ -2,7 +2,7 @@
 //!
 //! [`run_sequential`] executes the instances one by one, in sequential order.
 //!
-//! - [`value`]: the value of an expression.
+//! - [`value`]: what the items of a PRINT are evaluated from.
 //! - [`output`]: the bytes of the lines that a run prints.
 //! - `line`, `load`: the line of a PRINT, and what loads give.
 //! - [`run`]: the run.
@@ -17,4 +17,4 @@ pub mod value;
 
 pub use output::Output;
 pub use run::run_sequential;
-pub use value::{Given, eval};
+pub use value::Given;

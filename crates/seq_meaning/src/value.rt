@@ -1,4 +1,4 @@
-// The value of an expression.
+// The value of an expression by its tree.
 
 ghost use Rattle.std.specs.Prelude.{◌≡◌, ◌+◌, ◌≤◌, ◌<◌, IsTrue, drop, length, slice_index_or, pos};
 ghost use Rattle.nest_tree.specs.Loads.{loads_among, loads_in};
@@ -8,28 +8,8 @@ ghost use Rattle.nest_model.specs.Meaning.{greatest, has_value, have_values, lea
 use flat_code::arithmetic::{difference, negated, product, sum, truncated_quotient};
 use nest_tree::Expr;
 
-/// The value of an expression, in whole numbers of 64 bits: sums, differences, negatives and
-/// products wrap (modulo 2^64), and a quotient is truncated toward zero (ANSI X3.9-1978, 6.1.5),
-/// where -2^63 divided by -1 is itself.
-///
-/// Loops and named constants have these values by number, from 1; the expression's loads gave
-/// what `loaded` begins with, in text order.
-pub fn eval(e: &Expr, loops: &[i64], params: &[i64], loaded: &[i64]) -> i64
-    requires valued { IsTrue (has_value (length loops.now) (length params.now)
-        (expression_of e.now)) }
-    requires loads { length (loads_in (expression_of e.now)) ≤ length loaded.now }
-    ensures { result ≡ value_of (expression_of e.now) loops.now params.now loaded.now }
-{
-    let given = Given {
-        loops,
-        params,
-        loaded,
-    };
-    given.value(e, &mut 0)
-}
-
-/// What expressions are evaluated from: the values of loops and of named constants by number, and
-/// those that loads gave, in text order.
+/// What the items of a PRINT are evaluated from: the values of loops and of named constants by
+/// number, from 1, and those that loads gave, in text order.
 #[derive(Clone, Copy)]
 pub struct Given<'a> {
     pub loops: &'a [i64],
