@@ -297,6 +297,7 @@ impl Page<'_> {
                 Word::Wide => b": numbers of elimination grow too large",
                 Word::Many => b": rows of elimination grow too many",
                 Word::Work => b": elimination gave up after 65,536 pairs of rows",
+                Word::Spent => b": it isn't decided, since the plan's 1,000,000 pairs of rows were used up",
             },
         )?;
         push_words(

@@ -9,7 +9,8 @@ use Rattle.fm_elim.specs.declared.elimination.Advance.TheVariants as advances
 use Rattle.fm_elim.specs.declared.answer.Answer.{Answer}
 use Rattle.elim_rows.specs.Pairs.{coef_of}
 use Rattle.fm_elim.specs.Lean.{IsLean}
-use Rattle.elim_level.specs.Levels.{IsDerived, IsWork}
+use Rattle.elim_level.specs.Levels.{IsDerived}
+pub use Rattle.elim_level.specs.Levels.{IsWork}
 use Rattle.elim_level.specs.Logs.{rows_of}
 use Rattle.fm_elim.specs.Answers.{NamesEachOnce, IsDecided, IfInfeasible, IfWide, IfMany, IfWork, IsFreeOfClashes}
 use Rattle.fm_elim.specs.Reached.{IsReached}
@@ -30,13 +31,17 @@ gone_of level = level.gone
 abbrev pub rows_in : Level → List Row
 rows_in level = rows_of level.rows.rows.items
 
+-- of how many pairs the levels from 1 up to it are formed
+abbrev pub pairs_of : Level → ℕ
+pairs_of level = level.pairs
+
 -- the level is that of its system, of this number: its rows are exactly the derived rows, and it knows of how many pairs the levels up to it are formed
 pub record IsLevel (level : Level) : Type 0 where
   pub order : NamesEachOnce (system_of level).vars (order_of level)
   pub gone : gone_of level ≤ length (order_of level)
   pub reached : IsReached (system_of level) (order_of level) (gone_of level) level.most level.log.items level.rows
-  pub work : IsWork (system_of level) (order_of level) (gone_of level) level.pairs
-  pub soon : level.pairs ≤ 65536
+  pub work : IsWork (system_of level) (order_of level) (gone_of level) (pairs_of level)
+  pub soon : pairs_of level ≤ 65536
 
 -- no level of this elimination from 1 on has had more rows
 abbrev pub most_of : Level → ℕ

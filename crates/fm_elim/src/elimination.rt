@@ -5,7 +5,7 @@ ghost use Rattle.farkas_cert.specs.Narrow.{AreNarrow};
 ghost use Rattle.elim_level.specs.Levels.{IsDerived};
 ghost use Rattle.fm_elim.specs.Lean.{IsLean};
 ghost use Rattle.fm_elim.specs.Answers.{NamesEachOnce, IsDecided, IfInfeasible, IfWide, IfMany, IfWork, IsFreeOfClashes};
-ghost use Rattle.fm_elim.specs.Advances.{IsLevel, IsExtension, IsAdvance, system_of, order_of, gone_of, most_of};
+ghost use Rattle.fm_elim.specs.Advances.{IsLevel, IsExtension, IsAdvance, system_of, order_of, gone_of, most_of, pairs_of};
 
 use crate::answer::{Answer, NoMemory};
 use crate::extension::{extended_rows, moved_log};
@@ -81,6 +81,13 @@ impl<'a> Level<'a> {
             Some(count) => count <= MOST_ROWS,
             None => false,
         }
+    }
+
+    /// Of how many pairs of rows the levels from 1 up to this one are formed.
+    pub fn pairs(&self) -> u128
+        ensures { result ≡ pairs_of self.now }
+    {
+        self.pairs
     }
 
     /// The level of this number of a system with further rows behind those of the level's system.

@@ -15,7 +15,7 @@ use Rattle.comm_system.specs.SystemViews.{about}
 use Rattle.comm_system.specs.declared.obligation.Topic.{Topic}
 use Rattle.plan_maker.specs.declared.cause.Cause.{Cause}
 use Rattle.plan_maker.specs.declared.cause.Word.{Word}
-use Rattle.plan_maker.specs.declared.cause.Word.TheVariants.{Open, Wide, Many, Work}
+use Rattle.plan_maker.specs.declared.cause.Word.TheVariants.{Open, Wide, Many, Work, Spent}
 use Rattle.plan_maker.specs.declared.verdict.Verdict.{Verdict}
 use Rattle.plan_maker.specs.declared.verdict.Verdict.TheVariants.{Kept, Refuted}
 use Rattle.nest_systems.specs.Widened.{Widens}
@@ -24,6 +24,7 @@ use Rattle.plan_maker.specs.Beginnings.{IsLevelOf}
 use Rattle.plan_maker.specs.Found.{IsFound}
 use Rattle.plan_maker.specs.Judged.{IsJudgement, asked_about, cause_for}
 use Rattle.plan_maker.specs.Orders.{elimination_order}
+use Rattle.plan_maker.specs.PlanWork.{IsUsedUp}
 
 module _ (system : Inequalities) (order : List ℕ) where
   pub found_open : IsKept system order answers.Open → IsFound system order (Kept Open)
@@ -39,7 +40,10 @@ module _ (system : Inequalities) (order : List ℕ) where
   found_work k pairs h = inl (answers.Work k pairs, h, refl)
 
   pub found_witness : (x : List ℤ) → IsWholeSolution system x → IsFound system order (Kept Open)
-  found_witness x h = inr (x, h, refl)
+  found_witness x h = inr (inl (x, h, refl))
+
+  pub found_spent : IsUsedUp → IsFound system order (Kept Spent)
+  found_spent h = inr (inr (h, refl))
 
 -- what is decided of a level's system in its order is decided of the same ones
 pub level_decided : (s : Inequalities) (o : List ℕ) (l : Level) (answer : Answer) → IsLevelOf s o l → IsDecided (system_of l) (order_of l) answer → IsDecided s o answer
@@ -48,10 +52,11 @@ level_decided s o l answer level h = subst (λ x. IsDecided x o answer) level.sy
 -- what keeps what is left of a system keeps it
 kept_of : (dists : List Dist) (whole : Inequalities) (left : Presolution) (word : Word) → IsPresolved whole left → Widens whole left → IsKeptAs left.system (elimination_order left.system.vars dists) word → IsKeptOf whole dists word
 kept_of dists whole left word is widens (inl by) = inl (record { left = left; presolved = is; kept = by })
-kept_of dists whole left word is widens (inr witness) =
+kept_of dists whole left word is widens (inr (inl witness)) =
     let (x, solution, said) = witness in
     let (ys, back, solved) = widens x solution in
-    inr (ys, solved, said)
+    inr (inl (ys, solved, said))
+kept_of dists whole left word is widens (inr (inr left_out)) = inr (inr left_out)
 
 pub kept_so : (dists : List Dist) (topic : Topic) (whole : Inequalities) (left : Presolution) (word : Word) (cause : Cause) → IsPresolved whole left → Widens whole left → IsFound left.system (elimination_order left.system.vars dists) (Kept word) → cause ≡ cause_for (about topic whole) word →
     IsJudgement (asked_about dists (about topic whole)) (Kept cause)

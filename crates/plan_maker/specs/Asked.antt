@@ -18,8 +18,9 @@ use Rattle.comm_system.specs.References.{StaticPhase, phases_of}
 use Rattle.comm_system.specs.Signatures.{Signature, blocked, waits}
 use Rattle.plan_maker.specs.declared.cause.Cause.{Cause}
 use Rattle.plan_maker.specs.declared.cause.Word.{Word}
-use Rattle.plan_maker.specs.declared.cause.Word.TheVariants.{Open, Wide, Many, Work}
+use Rattle.plan_maker.specs.declared.cause.Word.TheVariants.{Open, Wide, Many, Work, Spent}
 use Rattle.plan_maker.specs.Orders.{elimination_order}
+use Rattle.plan_maker.specs.PlanWork.{IsUsedUp}
 
 -- a system whose owners are dealt so
 pub record Asked : Type 0 where
@@ -66,9 +67,13 @@ IsKeptBy system order word = (answer : Answer) × IsKept system order answer × 
 abbrev pub IsWitnessed : Inequalities → Word → Type 0
 IsWitnessed system word = (x : List ℤ) × IsWholeSolution system x × (word ≡ Open)
 
--- why a system is kept, with this word: elimination in this order answers so, or a whole solution is a witness
+-- the plan's work was used up before it was decided, and the word is Spent
+abbrev pub IsLeftOut : Word → Type 0
+IsLeftOut word = IsUsedUp × (word ≡ Spent)
+
+-- why a system is kept, with this word: elimination in this order answers so, a whole solution is a witness, or it wasn't decided
 abbrev pub IsKeptAs : Inequalities → List ℕ → Word → Type 0
-IsKeptAs system order word = IsKeptBy system order word ⊎ IsWitnessed system word
+IsKeptAs system order word = IsKeptBy system order word ⊎ (IsWitnessed system word ⊎ IsLeftOut word)
 
 -- elimination keeps what is left of a system whose owners are dealt so, without rows and columns that play no part: its unknowns are removed in their order
 pub record IsLeftKept (system : Inequalities) (dists : List Dist) (word : Word) : Type 0 where
@@ -76,9 +81,9 @@ pub record IsLeftKept (system : Inequalities) (dists : List Dist) (word : Word) 
   pub presolved : IsPresolved system left
   pub kept : IsKeptBy left.system (elimination_order left.system.vars dists) word
 
--- why a system is kept whose owners are dealt so: elimination keeps what is left of it, or a whole solution of the system is a witness
+-- why a system is kept whose owners are dealt so: elimination keeps what is left of it, a whole solution of the system is a witness, or it wasn't decided
 abbrev pub IsKeptOf : Inequalities → List Dist → Word → Type 0
-IsKeptOf system dists word = IsLeftKept system dists word ⊎ IsWitnessed system word
+IsKeptOf system dists word = IsLeftKept system dists word ⊎ (IsWitnessed system word ⊎ IsLeftOut word)
 
 -- what is said of a system that is kept
 pub record IsSaid (q : Asked) (cause : Cause) : Type 0 where

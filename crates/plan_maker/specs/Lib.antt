@@ -14,5 +14,6 @@ pub mod Weakest
 pub mod Searches
 pub mod Numbers
 pub mod Made
+pub mod PlanWork
 pub mod Found
 pub mod Beginnings

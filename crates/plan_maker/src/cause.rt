@@ -1,6 +1,6 @@
 // Why a system is kept.
 
-/// The answer by which elimination keeps a system.
+/// Why a system is kept: the answer of elimination, or that none is asked for.
 #[derive(Clone, Copy, Debug, PartialEq, Eq)]
 pub enum Word {
     /// It has a rational solution.
@@ -11,6 +11,8 @@ pub enum Word {
     Many,
     /// Levels are formed of too many pairs of rows.
     Work,
+    /// Others took all the work that a plan may take, and it isn't decided.
+    Spent,
 }
 
 /// A system that is kept: what it speaks of, and the answer.

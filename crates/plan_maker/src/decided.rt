@@ -3,7 +3,7 @@
 ghost use Rattle.std.specs.Prelude.{◌≡◌, ℕ, List, IfOk, IfSome};
 ghost use Rattle.farkas_cert.specs.Narrow.{AreNarrow};
 ghost use Rattle.farkas_cert.specs.Inequalities.{Inequalities};
-ghost use Rattle.fm_elim.specs.Advances.{IsLevel, order_of, system_of};
+ghost use Rattle.fm_elim.specs.Advances.{IsAdvance, IsLevel, order_of, system_of};
 ghost use Rattle.fm_elim.specs.Answers.{IsDecided, NamesEachOnce};
 ghost use Rattle.plan_maker.specs.Askable.{IsAskable};
 ghost use Rattle.plan_maker.specs.Beginnings.{IsBeginning, IsLevelOf};
@@ -13,6 +13,7 @@ ghost use Rattle.plan_maker.specs.Orders.{elimination_order as order_of_owners};
 use crate::beginnings::{Beginning, is_short};
 use crate::cause::Word;
 use crate::orders::elimination_order;
+use crate::plan_work::PlanWork;
 use crate::verdict::Verdict;
 use farkas_cert::{Certificate, System};
 use fm_elim::{Advance, Answer, Level, NoMemory};
@@ -41,14 +42,35 @@ fn level_of<'a>(
     }
 }
 
+// Removes the next unknown. An elimination that ends is counted.
+fn advance<'a>(
+    alloc: Global,
+    level: Level<'a>,
+    work: &mut PlanWork,
+) -> Result<Advance<'a>, NoMemory>
+    requires { IsLevel level }
+    ensures { IfOk result (IsAdvance level.entry) }
+{
+    let pairs = level.pairs();
+    let advance = level.advance(alloc)?;
+    if let Advance::Answer(answer) = &advance {
+        work.add_elimination(pairs, answer);
+    }
+    Ok(advance)
+}
+
 // Removes unknowns as long as levels are short.
-fn advance_short<'a>(alloc: Global, level: Level<'a>) -> Result<Advance<'a>, NoMemory>
+fn advance_short<'a>(
+    alloc: Global,
+    level: Level<'a>,
+    work: &mut PlanWork,
+) -> Result<Advance<'a>, NoMemory>
     requires { IsLevel level }
     ensures { IfOk result (IsUnderway (system_of level.entry) (order_of level.entry)) }
 {
     let mut level = level;
     while is_short(&level) {
-        match level.advance(alloc)? {
+        match advance(alloc, level, work)? {
             Advance::Level(next) => level = next,
             Advance::Answer(answer) => return Ok(Advance::Answer(answer)),
         }
@@ -56,16 +78,38 @@ fn advance_short<'a>(alloc: Global, level: Level<'a>) -> Result<Advance<'a>, NoM
     Ok(Advance::Level(level))
 }
 
+// Removes the unknowns that are left.
+fn answer(alloc: Global, level: Level, work: &mut PlanWork) -> Result<Answer, NoMemory>
+    requires { IsLevel level }
+    ensures { IfOk result (IsDecided (system_of level.entry) (order_of level.entry)) }
+{
+    let mut level = level;
+    loop {
+        match advance(alloc, level, work)? {
+            Advance::Level(next) => level = next,
+            Advance::Answer(answer) => return Ok(answer),
+        }
+    }
+}
+
 // What a quick look finds of a system, if anything.
 #[tactic(auto, using(crate::proofs::Judgements::found_witness))]
-fn quick_look(alloc: Global, system: &System) -> Result<Option<Found>, NoMemory>
+fn quick_look(
+    alloc: Global,
+    system: &System,
+    work: &mut PlanWork,
+) -> Result<Option<Found>, NoMemory>
     ensures { (order : List ℕ) → IfOk result (λ found. IfSome found (IsFound system.now order)) }
 {
-    match settle(alloc, system, &Budget::default()) {
-        Ok(Settled::Refuted(certificate)) => Ok(Some(Verdict::Refuted(certificate))),
-        Ok(Settled::Solved(_)) => Ok(Some(Verdict::Kept(Word::Open))),
-        Ok(Settled::Unknown) => Ok(None),
-        Err(_) => Err(NoMemory),
+    let settled = match settle(alloc, system, &Budget::default()) {
+        Ok(settled) => settled,
+        Err(_) => return Err(NoMemory),
+    };
+    work.add_look(system, !matches!(&settled, Settled::Unknown));
+    match settled {
+        Settled::Refuted(certificate) => Ok(Some(Verdict::Refuted(certificate))),
+        Settled::Solved(_point) => Ok(Some(Verdict::Kept(Word::Open))),
+        Settled::Unknown => Ok(None),
     }
 }
 
@@ -85,26 +129,36 @@ fn found_by(answer: Answer) -> Found
 }
 
 // What is found of a system at a long level: by a quick look, or else by going on.
-fn find_long(alloc: Global, system: &System, level: Level) -> Result<Found, NoMemory>
+fn find_long(
+    alloc: Global,
+    system: &System,
+    level: Level,
+    work: &mut PlanWork,
+) -> Result<Found, NoMemory>
     requires level { IsLevel level }
     requires system { system_of level ≡ system.now }
     ensures { IfOk result (IsFound system.now (order_of level.entry)) }
 {
-    match quick_look(alloc, system)? {
+    match quick_look(alloc, system, work)? {
         Some(found) => Ok(found),
-        None => Ok(found_by(level.answer(alloc)?)),
+        None => Ok(found_by(answer(alloc, level, work)?)),
     }
 }
 
 // What is found of a system by an answer of elimination: a certificate stands, and else a quick look may
 // find one, or a witness.
-fn find_behind(alloc: Global, system: &System, answer: Answer) -> Result<Found, NoMemory>
+fn find_behind(
+    alloc: Global,
+    system: &System,
+    answer: Answer,
+    work: &mut PlanWork,
+) -> Result<Found, NoMemory>
     ensures { (order : List ℕ) → IsDecided system.now order answer
         → IfOk result (IsFound system.now order) }
 {
     match found_by(answer) {
         Verdict::Refuted(certificate) => Ok(Verdict::Refuted(certificate)),
-        Verdict::Kept(word) => match quick_look(alloc, system)? {
+        Verdict::Kept(word) => match quick_look(alloc, system, work)? {
             Some(found) => Ok(found),
             None => Ok(Verdict::Kept(word)),
         },
@@ -118,6 +172,7 @@ fn find_in(
     system: &System,
     order: &[u32],
     beginning: Option<&Beginning>,
+    work: &mut PlanWork,
 ) -> Result<Found, NoMemory>
     requires order { NamesEachOnce system.now.vars order.now }
     requires narrow { AreNarrow system.now.rows }
@@ -125,16 +180,16 @@ fn find_in(
     ensures { IfOk result (IsFound system.now order.now) }
 {
     if is_long(beginning) {
-        if let Some(found) = quick_look(alloc, system)? {
+        if let Some(found) = quick_look(alloc, system, work)? {
             return Ok(found);
         }
         let level = level_of(alloc, system, order, beginning)?;
-        return Ok(found_by(level.answer(alloc)?));
+        return Ok(found_by(answer(alloc, level, work)?));
     }
     let level = level_of(alloc, system, order, beginning)?;
-    match advance_short(alloc, level)? {
-        Advance::Level(level) => find_long(alloc, system, level),
-        Advance::Answer(answer) => find_behind(alloc, system, answer),
+    match advance_short(alloc, level, work)? {
+        Advance::Level(level) => find_long(alloc, system, level, work),
+        Advance::Answer(answer) => find_behind(alloc, system, answer, work),
     }
 }
 
@@ -146,19 +201,24 @@ fn is_long(beginning: Option<&Beginning>) -> bool {
     }
 }
 
-/// What is found of a system whose owners are dealt so, from a beginning if there is one.
+/// What is found of a system whose owners are dealt so, from a beginning if there is one, and of a plan
+/// that took so much work. Where that is used up nothing is looked for.
 pub(crate) fn find(
     alloc: Global,
     system: &System,
     dists: &[Dist],
     beginning: Option<&Beginning>,
+    work: &mut PlanWork,
 ) -> Result<Found, AllocError>
     requires asked { IsAskable system.now dists.now }
     requires beginning { IfSome beginning (λ b. IsBeginning b.now) }
     ensures { IfOk result (IsFound system.now (order_of_owners system.now.vars dists.now)) }
 {
+    if work.is_used_up() {
+        return Ok(Verdict::Kept(Word::Spent));
+    }
     let order = elimination_order(alloc, system.vars(), dists)?;
-    match find_in(alloc, system, order.as_slice(), beginning) {
+    match find_in(alloc, system, order.as_slice(), beginning, work) {
         Ok(found) => Ok(found),
         Err(_) => Err(AllocError),
     }

@@ -9,6 +9,7 @@ ghost use Rattle.plan_maker.specs.Orders.{elimination_order as order_of};
 
 use crate::beginnings::Beginning;
 use crate::decided::{Found, find};
+use crate::plan_work::PlanWork;
 use crate::verdict::Verdict;
 use farkas_cert::{CertRefusal, Certificate, Row, System, check_cert};
 use maker_anchors::places::item_at;
@@ -34,11 +35,12 @@ struct Known {
     certificate: Certificate,
 }
 
-/// Certificates of the systems that were asked about, found by a hash of their rows. Nothing is
-/// known of them: each is checked before it is taken.
+/// Certificates of the systems that were asked about, found by a hash of their rows, and the work that
+/// these took. Nothing is known of the certificates: each is checked before it is taken.
 #[derive(Drop)]
 pub(crate) struct Findings {
     chains: Vec<Vec<Known>>,
+    work: PlanWork,
 }
 
 // The hash with one number more.
@@ -146,36 +148,26 @@ fn recall(
     Ok(None)
 }
 
-// What elimination finds of a system with this hash whose owners are dealt so. Its certificate, if
-// there is one, is kept.
-fn find_anew(
-    alloc: Global,
-    chain: &mut Vec<Known>,
-    hash: u64,
-    system: &System,
-    dists: &[Dist],
-    beginning: Option<&Beginning>,
-) -> Result<Found, AllocError>
-    requires asked { IsAskable system.now dists.now }
-    requires beginning { IfSome beginning (λ b. IsBeginning b.now) }
-    ensures { IfOk result (IsFound system.now (order_of system.now.vars dists.now)) }
-{
-    let found = find(alloc, system, dists, beginning)?;
-    if let Verdict::Refuted(certificate) = &found {
+// Keeps a certificate that was found of a system with this hash.
+fn keep(alloc: Global, chain: &mut Vec<Known>, hash: u64, found: &Found) -> Result<(), AllocError> {
+    if let Verdict::Refuted(certificate) = found {
         let certificate = certificate.copy(alloc)?;
         chain.push(Known { hash, certificate })?;
     }
-    Ok(found)
+    Ok(())
 }
 
 impl Findings {
-    /// No certificate yet.
+    /// No certificate yet, and no work.
     pub(crate) fn new(alloc: Global) -> Result<Self, AllocError> {
         let mut chains = Vec::new(alloc);
         for _ in 0..CHAINS {
             chains.push(Vec::new(alloc))?;
         }
-        Ok(Findings { chains })
+        Ok(Findings {
+            chains,
+            work: PlanWork::none(),
+        })
     }
 
     /// The certificate that is there for a system, if any.
@@ -194,8 +186,13 @@ impl Findings {
         }
     }
 
-    /// What elimination finds of a system whose owners are dealt so, from a beginning if there is
-    /// one. It isn't asked where a certificate is there.
+    /// Whether all the work is used up that a plan may take: nothing more is found anew.
+    pub(crate) fn is_used_up(&self) -> bool {
+        self.work.is_used_up()
+    }
+
+    /// What is found of a system whose owners are dealt so, from a beginning if there is one. Nothing is
+    /// looked for where a certificate is there, or where the plan's work is used up.
     pub(crate) fn find(
         &mut self,
         alloc: Global,
@@ -211,12 +208,14 @@ impl Findings {
         let hash = shared.hash_of(system);
         let place = chain_of(hash);
         if place >= self.chains.len() {
-            return find(alloc, system, dists, beginning);
+            return find(alloc, system, dists, beginning, &mut self.work);
         }
         let chain = &mut self.chains[place];
         if let Some(certificate) = recall(alloc, chain.as_slice(), hash, system)? {
             return Ok(Verdict::Refuted(certificate));
         }
-        find_anew(alloc, chain, hash, system, dists, beginning)
+        let found = find(alloc, system, dists, beginning, &mut self.work)?;
+        keep(alloc, chain, hash, &found)?;
+        Ok(found)
     }
 }

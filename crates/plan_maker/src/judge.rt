@@ -163,18 +163,19 @@ fn judge_from(
 }
 
 // The first rows of a pair's obligation that was made last, where at least two are left from this
-// index on.
+// index on, and work.
 fn prefix_of(
     alloc: Global,
     systems: &PairSystems,
     index: usize,
     dists: &[Dist],
+    findings: &Findings,
 ) -> Result<Option<Prefix>, AllocError>
     requires few { length dists.now < 2 ^ 20 }
     requires owners { HasOwners dists.now systems.now }
     ensures { IfOk result (λ found. IfSome found IsPrefix) }
 {
-    if index.saturating_add(1) >= systems.count() {
+    if findings.is_used_up() || index.saturating_add(1) >= systems.count() {
         return Ok(None);
     }
     let prefix = Prefix::of(alloc, systems.presolved().system(), dists)?;
@@ -205,7 +206,7 @@ fn judge_pair(
 {
     let shared = SharedRows::of(systems.presolved().system(), systems.shared());
     let known = known_first(alloc, systems, shared, findings)?;
-    let prefix = prefix_of(alloc, systems, known.len(), dists)?;
+    let prefix = prefix_of(alloc, systems, known.len(), dists, findings)?;
     match beginning_of(alloc, &prefix)? {
         Some(beginning) => {
             let beginning = Some(&beginning);

@@ -22,6 +22,7 @@ mod maker;
 mod numbers;
 mod orders;
 mod partners;
+mod plan_work;
 mod problem;
 pub mod reasons;
 mod search;

@@ -6,7 +6,7 @@ use Rattle.plan_text.specs.PlanText.{text_of}
 use Rattle.plan_text.specs.Words.{kind_words, line_of}
 use Rattle.plan_maker.specs.declared.cause.Cause.{Cause}
 use Rattle.plan_maker.specs.declared.cause.Word.{Word}
-use Rattle.plan_maker.specs.declared.cause.Word.TheVariants.{Open, Wide, Many, Work}
+use Rattle.plan_maker.specs.declared.cause.Word.TheVariants.{Open, Wide, Many, Work, Spent}
 use Rattle.plan_maker.specs.declared.reasons.Bar.{Bar}
 use Rattle.plan_maker.specs.declared.reasons.Bar.TheVariants.{Print, Meeting}
 use Rattle.plan_maker.specs.declared.reasons.LoopReason.{LoopReason}
@@ -29,6 +29,7 @@ answer_word Open = codes "OPEN"
 answer_word Wide = codes "WIDE"
 answer_word Many = codes "MANY"
 answer_word Work = codes "WORK"
+answer_word Spent = codes "WORK"
 
 -- the two accesses of a system that is kept: the lines of their statements, and what they access
 abbrev pub accesses_words : Tree → Cause → List (List ℕ)

@@ -173,6 +173,6 @@ fn answer_word(word: Word) -> &'static [u8]
         Word::Open => b"OPEN",
         Word::Wide => b"WIDE",
         Word::Many => b"MANY",
-        Word::Work => b"WORK",
+        Word::Work | Word::Spent => b"WORK",
     }
 }
