@@ -36,6 +36,18 @@ fn word_of(reason: &Reason) -> Word {
     }
 }
 
+// Why a wait stands in whose way nothing is, by the maker's word for it.
+fn certified_words(word: Word) -> &'static [u8] {
+    match word {
+        Word::Open | Word::Wide | Word::Many | Word::Work => {
+            b"no two iterations meet; elimination's order doesn't see it".as_slice()
+        }
+        Word::Spent => {
+            b"no two iterations meet; the plan's limit of 800,000 pairs of rows was used up before"
+        }
+    }
+}
+
 // Whether all wait for all.
 fn is_barrier(kind: &Kind) -> bool {
     matches!(kind, Kind::Barrier | Kind::Join)
@@ -269,9 +281,7 @@ impl Page<'_> {
             Why::Certified => push_words(
                 text,
                 match &reason.wanted {
-                    Wanted::Named(_) => {
-                        b"no two iterations meet; elimination's order doesn't see it".as_slice()
-                    }
+                    Wanted::Named(cause) => certified_words(cause.word),
                     Wanted::First | Wanted::Number(_) => {
                         b"nothing is in its way: each obligation has a certificate"
                     }
@@ -297,7 +307,7 @@ impl Page<'_> {
                 Word::Wide => b": numbers of elimination grow too large",
                 Word::Many => b": rows of elimination grow too many",
                 Word::Work => b": elimination gave up after 65,536 pairs of rows",
-                Word::Spent => b": it isn't decided, since the plan's 1,000,000 pairs of rows were used up",
+                Word::Spent => b": the plan's limit of 800,000 pairs of rows was used up before",
             },
         )?;
         push_words(

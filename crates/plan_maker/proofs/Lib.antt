@@ -1,6 +1,7 @@
 pub mod OrderOnce
 pub mod Questions
 pub mod Askable
+pub mod PlanWorks
 pub mod Judgements
 pub mod Extended
 pub mod Numbered

@@ -1,6 +1,6 @@
 -- The work that the systems of a plan took, counted in pairs of rows.
-use Rattle.std.specs.Prelude.{⊤, ℕ, ◌≡◌, ◌*◌, ◌<◌, List, length, map}
-use Rattle.std.specs.List.{All, sum}
+use Rattle.std.specs.Prelude.{⊤, ℕ, ◌≡◌, ◌+◌, ◌*◌, ◌/◌, ◌<◌, List, [], ◌∷◌, length}
+use Rattle.std.specs.List.{All}
 use Rattle.farkas_cert.specs.Inequalities.{Inequalities}
 use Rattle.fm_elim.specs.Advances.{IsWork}
 
@@ -24,25 +24,30 @@ IsPiece given_up = ⊤
 IsPiece (settled system) = ⊤
 IsPiece (unsettled system) = ⊤
 
--- the rows of a system times its unknowns
-abbrev pub size_of : Inequalities → ℕ
-size_of system = length system.rows * system.vars
+-- for how many pairs a quick look counts that settles its system: a quarter of the rows times the unknowns
+abbrev pub pairs_of_look : Inequalities → ℕ
+pairs_of_look system = length system.rows * system.vars / 4
 
--- for how many pairs a piece counts: in each of 200 orders a look that settles nothing goes over all rows
+-- for how many pairs a piece counts: a look that settles nothing for a hundred times as many
 abbrev pub pairs_of : Piece → ℕ
 pairs_of (elimination pairs) = pairs
 pairs_of given_up = 65536
-pairs_of (settled system) = size_of system
-pairs_of (unsettled system) = size_of system * 200
+pairs_of (settled system) = pairs_of_look system
+pairs_of (unsettled system) = pairs_of_look system * 100
 
 abbrev pub IsPieceOf : ℕ → Type 0
 IsPieceOf pairs = (piece : Piece) × IsPiece piece × (pairs_of piece ≡ pairs)
 
--- these pieces count for so many pairs in all
+-- for how many they count in all
+abbrev pub pairs_in : List Piece → ℕ
+pairs_in [] = 0
+pairs_in (piece ∷ pieces) = pairs_of piece + pairs_in pieces
+
+-- these pieces count for so many pairs
 pub record IsPlanWork (pairs : ℕ) : Type 0 where
   pub pieces : List Piece
   pub each : All IsPiece pieces
-  pub sum_is : sum (map pairs_of pieces) ≡ pairs
+  pub sum_is : pairs_in pieces ≡ pairs
 
 -- some pieces do
 abbrev pub PlanWorks : ℕ → Type 0

@@ -203,6 +203,7 @@ fn is_long(beginning: Option<&Beginning>) -> bool {
 
 /// What is found of a system whose owners are dealt so, from a beginning if there is one, and of a plan
 /// that took so much work. Where that is used up nothing is looked for.
+#[tactic(auto, using(crate::proofs::Judgements::found_spent))]
 pub(crate) fn find(
     alloc: Global,
     system: &System,

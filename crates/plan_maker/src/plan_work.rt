@@ -1,7 +1,7 @@
 // The work that the systems of a plan took, counted in pairs of rows.
 
-ghost use Rattle.std.specs.Prelude.{IsTrue};
-ghost use Rattle.plan_maker.specs.PlanWork.{IsLevelWork, IsPieceOf, IsUsedUp, PlanWorks, size_of};
+ghost use Rattle.std.specs.Prelude.{◌≡◌, IsTrue};
+ghost use Rattle.plan_maker.specs.PlanWork.{IsLevelWork, IsPieceOf, IsUsedUp, PlanWorks, pairs_of_look};
 
 use farkas_cert::System;
 use fm_elim::Answer;
@@ -12,8 +12,12 @@ const MOST_PAIRS: u128 = 800_000;
 /// An elimination with a number too large, or too many rows, counts as so many.
 const GIVEN_UP: u128 = 65_536;
 
-/// How often a quick look that settles nothing counts: once for each order that it tries.
-const ORDERS: u128 = 200;
+/// A quick look that settles nothing counts so many times as one that settles its system: it tries 200
+/// orders, some of which end early.
+const UNSETTLED: u128 = 100;
+
+/// How many numbers in a system's rows count for one pair.
+const NUMBERS: u128 = 4;
 
 /// The work that the systems of a plan took so far.
 #[derive(Drop)]
@@ -22,11 +26,12 @@ pub(crate) struct PlanWork {
     ghost taken: { PlanWorks pairs },
 }
 
-// The rows of a system times its unknowns: as many pairs an order of a quick look counts for.
-fn size_of(system: &System) -> u128
-    ensures { result ≡ size_of system.now }
+// For how many pairs a quick look counts that settles its system: a quarter of the system's rows times its
+// unknowns.
+fn pairs_of_look(system: &System) -> u128
+    ensures { result ≡ pairs_of_look system.now }
 {
-    system.rows().len() as u128 * u128::from(system.vars())
+    system.rows().len() as u128 * u128::from(system.vars()) / NUMBERS
 }
 
 impl PlanWork {
@@ -64,10 +69,10 @@ impl PlanWork {
 
     /// One quick look at a system more, which settles it or doesn't.
     pub(crate) fn add_look(&mut self, system: &System, settles: bool) {
-        let size = size_of(system);
+        let look = pairs_of_look(system);
         if settles {
-            self.add(size);
-        } else if let Some(pairs) = size.checked_mul(ORDERS) {
+            self.add(look);
+        } else if let Some(pairs) = look.checked_mul(UNSETTLED) {
             self.add(pairs);
         }
     }

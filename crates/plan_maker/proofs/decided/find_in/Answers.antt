@@ -11,7 +11,7 @@ pub returns-then-is_long : goal.returns-then-is_long
 returns-then-is_long c =
     let system = c.args.system.now in
     let order = c.args.order.now in
-    c.found_by.ensures system order (level_decided system order c.in_ok-level.level c.in_ok-answer.field-0 c.in_ok-level.ensures c.in_ok-answer.ensures.decided)
+    c.found_by.ensures system order (level_decided system order c.in_ok-level.level c.in_ok-answer.field-0 c.in_ok-level.ensures c.in_ok-answer.ensures)
 
 pub returns-in-Answer : goal.returns-in-Answer
 returns-in-Answer c =

@@ -10,4 +10,4 @@ returns-in-Some c = subst (λ o. IfSome o (IsFound c.args.system.now (order_of c
 pub returns-in_ok-answer-in-None : goal.returns-in_ok-answer-in-None
 returns-in_ok-answer-in-None c =
     let order = order_of c.args.level in
-    c.found_by.ensures c.args.system.now order (subst (λ s. IsDecided s order c.in_ok-answer-in-None.field-0) c.requires.system c.in_ok-answer-in-None.ensures.decided)
+    c.found_by.ensures c.args.system.now order (subst (λ s. IsDecided s order c.in_ok-answer-in-None.field-0) c.requires.system c.in_ok-answer-in-None.ensures)
