@@ -8,9 +8,10 @@ order, and of each two iterations that are told to meet it is looked up that bot
 these values of the loops, that both access this element in these lines, one of them storing, that the
 first comes before the second, and that the plan gives them these owners; of an array's element that is
 stored and then loaded, that no store of it stands in between but of the load's own processor; where a
-loop isn't dealt out, that the two stand in two of its trips. And behind the plan there is a line for
-each reason, in the same order, that names the same obligation. The status is 0 where all is so, else 1
-with a line for each fault.
+loop isn't dealt out, that the two stand in two of its trips. Of a loop that is told to make no trip it is
+looked up that it makes none where those outside it have these values, and that it stands round the store.
+And behind the plan there is a line for each reason, in the same order, that names the same obligation. The
+status is 0 where all is so, else 1 with a line for each fault.
 """
 import json
 import os
@@ -35,12 +36,13 @@ class Fault(Exception):
 
 
 class Walk:
-    """The instances of a program, in order: the statement, and the values of the loops round it."""
+    """The instances of a program, in order: the statement, and the values of the loops round it; and how many
+    trips each loop makes, by its number and the values of the loops round it."""
 
     def __init__(self, path):
         with open(path, "rb") as file:
             self.program = sources.Program(sources.Source(file.read()))
-        self.instances, self.places = [], {}
+        self.instances, self.places, self.trips = [], {}, {}
         self.walk(self.children(None), {})
 
     def children(self, loop):
@@ -63,7 +65,9 @@ class Walk:
             if isinstance(it, sources.Loop):
                 bounds = [self.value(text, it.above, values) for text in it.bounds]
                 step = bounds[2] if len(bounds) > 2 else 1
-                for value in range(bounds[0], bounds[1] + (1 if step > 0 else -1), step):
+                trips = range(bounds[0], bounds[1] + (1 if step > 0 else -1), step)
+                self.trips[it.number, tuple(values.values())] = len(trips)
+                for value in trips:
                     self.walk(self.children(it), {**values, it.number: value})
             elif self.is_done(it, values):
                 self.places[it.line, tuple(values.values())] = len(self.instances)
@@ -178,6 +182,20 @@ def hold_last(walk, owners, load, between):
             return
 
 
+def hold_zero_trip(walk, reason):
+    """Holds that a loop makes no trip where those outside it have these values."""
+    line, store = reason["obligation"]["lines"]
+    loop = next((it for it in walk.program.loops if it.line == line), None)
+    if loop is None or [it.number for it in loop.above] != [it["loop"] for it in reason["outside"]]:
+        raise Fault(f"line {line} has no loop that stands in these")
+    values = tuple(it["value"] for it in reason["outside"])
+    if walk.trips.get((loop.number, values)) != 0:
+        raise Fault(f"the loop of line {line} makes {walk.trips.get((loop.number, values))} trips at {values}")
+    inside = [it for it in walk.program.actions if it.line == store and loop in it.loops]
+    if not any(it.target == reason["obligation"]["name"] for it in inside):
+        raise Fault(f"line {store} stores no {reason['obligation']['name']} in that loop")
+
+
 def hold_lines(text, reasons):
     """Holds the reasons against the lines behind a plan, one by one."""
     lines = [it for it in text.split("END PLAN\n")[1].split("\n") if it not in ("END REASONS", "")]
@@ -201,7 +219,7 @@ def run(words, path):
 
 
 def main(program, tool, workers, *paths):
-    held, status = 0, 0
+    held, without, status = 0, 0, 0
     for path in paths:
         walk = Walk(path)
         plan = run([tool, "plan", "--workers", workers], path)
@@ -217,10 +235,13 @@ def main(program, tool, workers, *paths):
                 if reason["why"] == "meeting":
                     hold(walk, owners, reason)
                     held += 1
+                elif reason["why"] == "zero_trip":
+                    hold_zero_trip(walk, reason)
+                    without += 1
             except Fault as fault:
                 print(f"{path}: {fault}: {json.dumps(reason)}")
                 status = 1
-    print(f"{held} meetings of two iterations are as a walk has them")
+    print(f"{held} meetings of two iterations and {without} loops without a trip are as a walk has them")
     return status
 
 

@@ -10,6 +10,7 @@ use Rattle.nest_model.specs.Memory as Model
 use Rattle.nest_model.specs.Memory.{cell_value, memory_before, output_of}
 use Rattle.nest_model.specs.Ranges.{IsInRange}
 use Rattle.owner_partition.specs.Phases.{Execution}
+use Rattle.sync_plan.specs.Stored.{AreStoredFirst}
 use Rattle.sync_plan.specs.Own.{own_cell, own_of}
 use Rattle.sync_plan.specs.declared.plan.Plan.{Plan}
 use Rattle.sync_plan.proofs.Fits.{fit_parts}
@@ -44,6 +45,9 @@ module _ (style : Style) (tree : Tree) (plan : Plan) (schedule : List ℕ) (form
     ordered : IsOrdered (machine_by style tree plan)
     ordered = ordered_by style tree plan formed accepted.fits ranges (accepted_ordered tree plan formed ranges accepted)
 
+    stored : AreStoredFirst tree plan
+    stored = (accepted_ordered tree plan formed ranges accepted).stored
+
     sequential : IsSequential (machine_by style tree plan) come_by
     sequential = sequential_run (machine_by style tree plan) schedule sound ordered workers
 
@@ -60,19 +64,19 @@ module _ (style : Style) (tree : Tree) (plan : Plan) (schedule : List ℕ) (form
 
     owner_loads : (place : ℕ) (j : Job) → slice_get (timeline_by style tree plan) place ≡ Some (job j) → j.counts ≡ 1 → IsInFront place j j.owner
     owner_loads place j at counts =
-        let x = instance_in style tree plan formed accepted.fits ranges place j at counts in
+        let x = instance_in style tree plan formed accepted.fits ranges stored place j at counts in
         (x.execution, x.is, x.at, λ c among plain next. gives (machine_by style tree plan) come_by.memory (positions_of come_by) j.owner place (own_cell (own_of tree plan x.execution.place) j.owner c) sound ordered sequential.lawful next ∙ x.gives c among plain)
 
     pub loads_by : (p place : ℕ) (j : Job) → slice_get (timeline_by style tree plan) place ≡ Some (job j) → j.counts ≡ 1 → j.owner ≡ p → IsInFront place j p
     loads_by p place j at counts owned = subst (IsInFront place j) owned (owner_loads place j at counts)
 
     pub front_by : (rest : List ℕ) × (come_by.output ++ rest ≡ output_of tree)
-    front_by = let (rest, is) = output_front (machine_by style tree plan) come_by sound sequential in (rest, is ∙ output_by style tree plan formed accepted.fits ranges)
+    front_by = let (rest, is) = output_front (machine_by style tree plan) come_by sound sequential in (rest, is ∙ output_by style tree plan formed accepted.fits ranges stored)
 
     pub memory_by_end : IsEnded (machine_by style tree plan) come_by → take (cell_count tree) come_by.memory ≡ Model.last_memory tree
-    memory_by_end ended = ap (take (cell_count tree)) (ended_memory (machine_by style tree plan) come_by sound sequential ended) ∙ shared_last style tree plan formed accepted.fits ranges
+    memory_by_end ended = ap (take (cell_count tree)) (ended_memory (machine_by style tree plan) come_by sound sequential ended) ∙ shared_last style tree plan formed accepted.fits ranges stored
 
     pub output_by_end : IsEnded (machine_by style tree plan) come_by → come_by.output ≡ output_of tree
     output_by_end ended =
         let some : 0 < plan.workers = omega (arith, (fit_parts tree plan accepted.fits).some) in
-        ended_output (machine_by style tree plan) come_by some sound sequential ended ∙ output_by style tree plan formed accepted.fits ranges
+        ended_output (machine_by style tree plan) come_by some sound sequential ended ∙ output_by style tree plan formed accepted.fits ranges stored

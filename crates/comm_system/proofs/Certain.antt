@@ -1,7 +1,7 @@
 -- The certain boundaries of a slot stand between its two instances.
 use Rattle.std.proofs.Common.{◌≡◌, ℕ, suc, ◌+◌, ◌-◌, ◌<◌, ◌≤◌, ◌⊎◌, ◌&&◌, not, nat_le, nat_lt, ℤ, Bool, true, false, Some, List, [], ◌∷◌, length, if◌then◌else◌, refl, ap, sym, ◌∙◌, subst, inl, inr, arith}
 use Rattle.std.specs.List.{AllByRecursion, slice_get}
-use Rattle.std.proofs.lemmas.Bool.{and_parts, cases_eq, cases_lt, leb-true, ltb-true}
+use Rattle.std.proofs.lemmas.Bool.{and_parts, cases_lt, leb-true, ltb-true}
 use Rattle.nest_tree.specs.Tree.{Head, Tree, param_values}
 use Rattle.nest_tree.specs.WellFormed.{IsWellFormed, loops_of, scope_of}
 use Rattle.nest_tree.proofs.Cells.{well_formed_parts}
@@ -25,7 +25,7 @@ use Rattle.comm_system.proofs.FewLoops.{common_within}
 use Rattle.comm_system.proofs.StationOrder.{Rises, comes, comes_at, comes_back, differ_test, never_both, rises_in}
 use Rattle.comm_system.proofs.Stations.{Station, at_trip, stations_in, text_among, visit_in}
 use Rattle.comm_system.proofs.StationsThere.{IsStop, there_in}
-use Rattle.comm_system.proofs.Timeline.{Agree, IsFrontOf, agree_turned, carried_comes, common_same, front_itself, front_valid, one_side_comes, plain_comes, taken, taken_all, taken_same}
+use Rattle.comm_system.proofs.Timeline.{Agree, IsFrontOf, agree_turned, carried_comes, front_itself, front_valid, one_side_comes, plain_comes, taken, taken_all, taken_same}
 
 -- ---- what the tests of boundaries say
 

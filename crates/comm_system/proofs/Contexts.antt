@@ -1,8 +1,8 @@
 -- What is known of a statement where a walk stands in front of it.
-use Rattle.std.proofs.Common.{◌≡◌, ℕ, suc, ◌+◌, ◌-◌, ◌<◌, ◌≤◌, nat_le, nat_lt, ℤ, pos, ◌+ℤ◌, ◌*ℤ◌, true, unsigned_abs, List, [], ◌∷◌, ◌++◌, length, refl, ap, sym, ◌∙◌, subst, arith}
-use Rattle.std.specs.List.{AllByRecursion, list_all}
+use Rattle.std.proofs.Common.{◌≡◌, ℕ, suc, ◌+◌, ◌-◌, ◌<◌, ◌≤◌, nat_le, nat_lt, ℤ, pos, ◌+ℤ◌, ◌*ℤ◌, ◌&&◌, ◌==◌, true, unsigned_abs, List, [], ◌∷◌, ◌++◌, length, refl, ap, sym, ◌∙◌, subst, arith}
+use Rattle.std.specs.List.{AllByRecursion, list_all, list_any}
 use Rattle.std.proofs.lemmas.Bool.{and_from, and_parts, le-leb}
-use Rattle.std.proofs.lemmas.List.{get_or-set_same, length-replicate, length-set}
+use Rattle.std.proofs.lemmas.List.{get_or-set_same, length-replicate, length-set, map-append}
 use Rattle.nest_tree.specs.Form.{form_value, is_small}
 use Rattle.nest_tree.specs.Tree.{Head, Statement, Statements, do_loop, next, Tree, param_values}
 use Rattle.nest_tree.specs.WellFormed.{IsWellFormed, Scope, are_good_statements, is_good_statement, loops_in, loops_of, names_only, scope_of}
@@ -10,16 +10,21 @@ use Rattle.nest_tree.proofs.Cells.{well_formed_parts}
 use Rattle.nest_tree.proofs.Good.{AreWithin, good_loop}
 use Rattle.nest_model.specs.Instances.{no_values, trip_count, with_loop}
 use Rattle.nest_rows.specs.Nested.{AreTrips, IsTrip}
+use Rattle.nest_rows.proofs.Dots.{numbers}
+use Rattle.nest_rows.proofs.GoodNesting.{AreAmong, any-left, any-more, form-among}
+use Rattle.nest_rows.proofs.GroupsMet.{is_head_among}
 use Rattle.nest_rows.proofs.Nesting.{IsBefore, all-append, all-weaker, before-more, below-more, form-below, is_below, kept-form, trips-inside, within-more}
 use Rattle.comm_system.proofs.Stations.{at_trip, trips_of}
 
--- in front of a statement: the loops round it are at trips of theirs, and it is good
+-- in front of a statement: the loops round it are at trips of theirs and name those outside them alone, and it is good
 pub record IsInFront (params : List ℤ) (scope : Scope) (heads : List Head) (ns : List ℕ) (loops : List ℤ) (number : ℕ) (s : Statement) : Type 0 where
   pub around : List ℕ
   pub good : is_good_statement scope around number s ≡ true
   pub low : 1 ≤ number
   pub count : number + loops_in s ≤ suc (length loops)
   pub within : AreWithin (number - 1) around
+  pub among : AreAmong around (numbers heads)
+  pub named : AllByRecursion (λ h. is_head_among scope.constants (numbers heads) h ≡ true) heads
   pub before : AllByRecursion (IsBefore number) heads
   pub trips : AreTrips params loops heads ns
 
@@ -30,14 +35,28 @@ pub record AreInFront (params : List ℤ) (scope : Scope) (heads : List Head) (n
   pub low : 1 ≤ number
   pub count : number + loops_of ss ≤ suc (length loops)
   pub within : AreWithin (number - 1) around
+  pub among : AreAmong around (numbers heads)
+  pub named : AllByRecursion (λ h. is_head_among scope.constants (numbers heads) h ≡ true) heads
   pub before : AllByRecursion (IsBefore number) heads
   pub trips : AreTrips params loops heads ns
+
+-- heads that name these loops name those
+pub heads_further : (constants : ℕ) (these those : List ℕ) (hs : List Head) → AreAmong these those → AllByRecursion (λ h. is_head_among constants these h ≡ true) hs → AllByRecursion (λ h. is_head_among constants those h ≡ true) hs
+heads_further constants these those [] among all = tt
+heads_further constants these those (h ∷ hs) among all =
+    let moves = nat_lt 0 (unsigned_abs h.step) in
+    let last = and_parts (names_only constants these h.m1 && names_only constants these h.m2) moves all.0 in
+    let two = and_parts (names_only constants these h.m1) (names_only constants these h.m2) last.0 in (
+      and_from (names_only constants those h.m1 && names_only constants those h.m2) moves
+          (and_from (names_only constants those h.m1) (names_only constants those h.m2) (form-among constants these those h.m1 among two.0) (form-among constants these those h.m2 among two.1)) last.1,
+      heads_further constants these those hs among all.1,
+    )
 
 module _ (params : List ℤ) (scope : Scope) (heads : List Head) (ns : List ℕ) (loops : List ℤ) (number : ℕ) where
   pub front : (s : Statement) (rest : Statements) → AreInFront params scope heads ns loops number (next s rest) → IsInFront params scope heads ns loops number s
   front s rest h =
       let both = and_parts (is_good_statement scope h.around number s) (are_good_statements scope h.around (number + loops_in s) rest) h.good in
-      record { around = h.around; good = both.0; low = h.low; count = omega (arith, h.count); within = h.within; before = h.before; trips = h.trips }
+      record { around = h.around; good = both.0; low = h.low; count = omega (arith, h.count); within = h.within; among = h.among; named = h.named; before = h.before; trips = h.trips }
 
   pub behind : (s : Statement) (rest : Statements) → AreInFront params scope heads ns loops number (next s rest) → AreInFront params scope heads ns loops (number + loops_in s) rest
   behind s rest h =
@@ -48,6 +67,8 @@ module _ (params : List ℤ) (scope : Scope) (heads : List Head) (ns : List ℕ)
         low = omega (arith, h.low);
         count = omega (arith, h.count);
         within = within-more (number - 1) (number + loops_in s - 1) h.around (omega arith) h.within;
+        among = h.among;
+        named = h.named;
         before = all-weaker (IsBefore number) (IsBefore (number + loops_in s)) heads (λ g b. before-more number (number + loops_in s) g (omega arith) b) h.before;
         trips = h.trips;
       }
@@ -70,6 +91,8 @@ module _ (params : List ℤ) (scope : Scope) (heads : List Head) (ns : List ℕ)
         m1 = below-more number (number + 1) head.m1.loops (omega arith) below1;
         m2 = below-more number (number + 1) head.m2.loops (omega arith) below2;
       } in
+      let longer : numbers (heads ++ head ∷ []) ≡ numbers heads ++ head.number ∷ [] = map-append (λ (x : Head). x.number) heads (head ∷ []) in
+      let more : AreAmong (numbers heads) (numbers (heads ++ head ∷ [])) = λ n k. ap (list_any (λ l. l == n)) longer ∙ any-left (numbers heads) (head.number ∷ []) n k in
       let inner = and_from (nat_le head.number (number + 1 - 1)) (list_all (λ l. nat_le l (number + 1 - 1)) h.around) (le-leb head.number (number + 1 - 1) (omega (arith, g.number))) (within-more (number - 1) (number + 1 - 1) h.around (omega arith) h.within) in
       let m1 = form_value head.m1 loops params in
       let m2 = form_value head.m2 loops params in
@@ -89,6 +112,9 @@ module _ (params : List ℤ) (scope : Scope) (heads : List Head) (ns : List ℕ)
         low = omega arith;
         count = omega (arith, h.count, length-set loops (head.number - 1) v);
         within = inner;
+        among = λ n k. ap (list_any (λ l. l == n)) longer ∙ any-more h.around (numbers heads) head.number h.among n k;
+        named = all-append (λ x. is_head_among scope.constants (numbers (heads ++ head ∷ [])) x ≡ true) heads (head ∷ []) (heads_further scope.constants (numbers heads) (numbers (heads ++ head ∷ [])) heads more h.named)
+            (heads_further scope.constants h.around (numbers (heads ++ head ∷ [])) (head ∷ []) (λ n k. more n (h.among n k)) (d.0, tt));
         before = all-append (IsBefore (number + 1)) heads (head ∷ []) (all-weaker (IsBefore number) (IsBefore (number + 1)) heads (λ x b. before-more number (number + 1) x (omega arith) b) h.before) (here, tt);
         trips = trips-inside params loops head.number v heads ns head n earlier h.trips at;
       }
@@ -101,6 +127,8 @@ at_first tree formed = record {
   low = omega arith;
   count = omega (arith, length-replicate (loops_of tree.items) (pos 0));
   within = refl;
+  among = λ n k. k;
+  named = tt;
   before = tt;
   trips = tt;
 }

@@ -4,19 +4,20 @@ use Rattle.std.specs.Prelude.{is_none, slice_get}
 use Rattle.std.specs.List.{AllByRecursion, Contains, flat_map, list_any}
 use Rattle.std.proofs.lemmas.Bool.{and_from, and_parts, cases_Bool, eq-eqb, eqb-true, ltb-true}
 use Rattle.std.proofs.lemmas.Grind.{flat_map-append}
+use Rattle.std.proofs.lemmas.List.{append-nil}
 use Rattle.std.proofs.lemmas.List.Folds.{list_any-append}
 use Rattle.nest_tree.specs.declared.tree.Access.{Access}
 use Rattle.nest_tree.specs.Loads.{loads_in, loads_in_item, loads_in_work}
-use Rattle.nest_tree.specs.Tree.{Head, Printed, value, whole, text, Work, assign, print, Statement, Statements, do_loop, work, continue, done, next}
+use Rattle.nest_tree.specs.Tree.{Head, Printed, value, whole, text, Assignment, Work, assign, print, Statement, Statements, do_loop, work, continue, done, next}
 use Rattle.nest_tree.specs.WellFormed.{Scope, is_good_access, is_number_of, rank_of}
 use Rattle.nest_walk.specs.Tables.{Loaded, element, loaded_in_item, loaded_in_work, stores_in}
 use Rattle.nest_model.specs.Instances.{works_in, works_of}
 use Rattle.nest_rows.specs.Nested.{Nested, nested_among, nested_in}
 use Rattle.nest_rows.proofs.GoodNesting.{IsGoodNested}
 use Rattle.nest_rows.proofs.Nesting.{all-append}
-use Rattle.own_scalars.specs.OwnScalars.{has_access, is_of, is_plain_statement, is_plain_store, is_private, loads, some_in, some_of, stores}
+use Rattle.own_scalars.specs.OwnScalars.{has_access, is_of, is_plain_store, is_private, is_stored_first, loads, some_in, some_of, stores}
 use Rattle.own_scalars.proofs.Stored.{neither}
-use Rattle.sync_plan.specs.Conflicts.{works_before}
+use Rattle.sync_plan.specs.Conflicts.{works_before, works_before_in}
 use Rattle.sync_plan.proofs.Gets.{get-behind}
 use Rattle.conflict_rules.specs.References.{Reference, reference_of, references_in, variable_of}
 use Rattle.comm_system.specs.Shown.{is_among, shown_among}
@@ -48,45 +49,70 @@ mutual
       let parts = neither (some_in (has_access v) s) (some_of (has_access v) rest) none in
       all-append (λ (n : Nested). has_access v n.what ≡ false) (nested_in around s) (nested_among around rest) (none_nested v around s parts.0) (nones_nested v around rest parts.1)
 
--- up to a store without comparison, which is in no loop inside, no piece of work has the scalar
-pub record IsFirstStore (v : ℕ) (around : List Head) (body : Statements) : Type 0 where
+-- the path of a scalar: the loops inside a text round its first access, from the outermost
+abbrev mutual
+  pub path_in : ℕ → Statement → List Head
+  path_in v (do_loop head body) = head ∷ path_among v body
+  path_in v (work w) = []
+  path_in v (continue line) = []
+
+  pub path_among : ℕ → Statements → List Head
+  path_among v done = []
+  path_among v (next s rest) = if some_in (has_access v) s then path_in v s else path_among v rest
+
+-- of these pieces of work one is a store without comparison inside these loops, and has so many in front of it, none of which has the scalar
+pub record IsFirstStore (v : ℕ) (around : List Head) (all : List Nested) (front : ℕ) : Type 0 where
   pub before : List Nested
   pub store : Work
   pub after : List Nested
-  pub split : nested_among around body ≡ before ++ record { what = store; around = around } ∷ after
-  pub place : works_before v body ≡ length before
+  pub split : all ≡ before ++ record { what = store; around = around } ∷ after
+  pub place : front ≡ length before
   pub plain : is_plain_store v store ≡ true
   pub away : AllByRecursion (λ (n : Nested). has_access v n.what ≡ false) before
 
-pub first_store : (v : ℕ) (around : List Head) (body : Statements) → is_private v body ≡ true → IsFirstStore v around body
-first_store v around done is = absurd (true≢false (sym is))
-first_store v around (next s rest) is = elim (cases_Bool (some_in (has_access v) s)) [
-  | inl held ↦ here s held (sym (ap (λ b. if b then is_plain_statement v s else is_private v rest) held) ∙ is)
-  | inr failed ↦ later failed (first_store v around rest (sym (ap (λ b. if b then is_plain_statement v s else is_private v rest) failed) ∙ is))
-]
-  where
-    here : (s : Statement) → some_in (has_access v) s ≡ true → is_plain_statement v s ≡ true → IsFirstStore v around (next s rest)
-    here (do_loop head body) held plain = absurd (true≢false (sym plain))
-    here (work w) held plain = record { before = []; store = w; after = nested_among around rest; split = refl; place = ap (λ b. if b then 0 else 1 + works_before v rest) held; plain = plain; away = tt }
-    here (continue line) held plain = absurd (true≢false (sym plain))
+mutual
+  first_in : (v : ℕ) (around : List Head) (s : Statement) → is_stored_first v s ≡ true → IsFirstStore v (around ++ path_in v s) (nested_in around s) (works_before_in v s)
+  first_in v around (do_loop head body) is =
+      subst (λ hs. IsFirstStore v hs (nested_among (around ++ head ∷ []) body) (works_before v body)) (append_assoc around (head ∷ []) (path_among v body)) (first_store v (around ++ head ∷ []) body is)
+  first_in v around (work w) is = record { before = []; store = w; after = []; split = ap (λ hs. record { what = w; around = hs } ∷ []) (sym (append-nil around)); place = refl; plain = is; away = tt }
+  first_in v around (continue line) is = absurd (true≢false (sym is))
 
-    later : some_in (has_access v) s ≡ false → IsFirstStore v around rest → IsFirstStore v around (next s rest)
-    later failed r = record {
-      before = nested_in around s ++ r.before;
-      store = r.store;
-      after = r.after;
-      split = ap (λ ns. nested_in around s ++ ns) r.split ∙ sym (append_assoc (nested_in around s) r.before (record { what = r.store; around = around } ∷ r.after));
-      place = let more : works_before v (next s rest) ≡ works_in s + works_before v rest = ap (λ b. if b then 0 else works_in s + works_before v rest) failed in
-          omega (arith, more, r.place, nested_count around s, length-append (nested_in around s) r.before);
-      plain = r.plain;
-      away = all-append (λ (n : Nested). has_access v n.what ≡ false) (nested_in around s) r.before (none_nested v around s failed) r.away;
-    }
+  pub first_store : (v : ℕ) (around : List Head) (body : Statements) → is_private v body ≡ true → IsFirstStore v (around ++ path_among v body) (nested_among around body) (works_before v body)
+  first_store v around done is = absurd (true≢false (sym is))
+  first_store v around (next s rest) is = by (some_in (has_access v) s) refl (first_in v around s) (first_store v around rest) is
+    where
+      by : (b : Bool) → some_in (has_access v) s ≡ b → (is_stored_first v s ≡ true → IsFirstStore v (around ++ path_in v s) (nested_in around s) (works_before_in v s)) →
+          (is_private v rest ≡ true → IsFirstStore v (around ++ path_among v rest) (nested_among around rest) (works_before v rest)) → (if b then is_stored_first v s else is_private v rest) ≡ true →
+          IsFirstStore v (around ++ (if b then path_in v s else path_among v rest)) (nested_among around (next s rest)) (if b then works_before_in v s else works_in s + works_before v rest)
+      by true e here later is =
+          let f = here is in
+          record {
+            before = f.before;
+            store = f.store;
+            after = f.after ++ nested_among around rest;
+            split = ap (λ ns. ns ++ nested_among around rest) f.split ∙ append_assoc f.before (record { what = f.store; around = around ++ path_in v s } ∷ f.after) (nested_among around rest);
+            place = f.place;
+            plain = f.plain;
+            away = f.away;
+          }
+      by false e here later is =
+          let f = later is in
+          record {
+            before = nested_in around s ++ f.before;
+            store = f.store;
+            after = f.after;
+            split = ap (λ ns. nested_in around s ++ ns) f.split ∙ sym (append_assoc (nested_in around s) f.before (record { what = f.store; around = around ++ path_among v rest } ∷ f.after));
+            place = omega (arith, f.place, nested_count around s, length-append (nested_in around s) f.before);
+            plain = f.plain;
+            away = all-append (λ (n : Nested). has_access v n.what ≡ false) (nested_in around s) f.before (none_nested v around s e) f.away;
+          }
 
 -- the piece of work there
-pub first_at : (v : ℕ) (around : List Head) (body : Statements) (f : IsFirstStore v around body) → slice_get (nested_among around body) (works_before v body) ≡ Some (record { what = f.store; around = around })
-first_at v around body f =
-    let none : length f.before + 0 ≡ works_before v body = omega (arith, f.place) in
-    ap (λ ns. slice_get ns (works_before v body)) f.split ∙ ap (slice_get (f.before ++ record { what = f.store; around = around } ∷ f.after)) (sym none) ∙ get-behind f.before (record { what = f.store; around = around } ∷ f.after) 0
+pub first_at : (v : ℕ) (around : List Head) (all : List Nested) (front : ℕ) (f : IsFirstStore v around all front) → slice_get all front ≡ Some (record { what = f.store; around = around })
+first_at v around all front f =
+    let none : length f.before + 0 ≡ front = omega (arith, f.place) in
+    let n : Nested = record { what = f.store; around = around } in
+    ap (λ ns. slice_get ns front) f.split ∙ ap (slice_get (f.before ++ n ∷ f.after)) (sym none) ∙ get-behind f.before (n ∷ f.after) 0
 
 -- ---- a scalar has no subscripts
 
@@ -162,7 +188,38 @@ module _ (scope : Scope) (v : ℕ) (scalar : rank_of scope v ≡ 0) where
   all_away [] good none = tt
   all_away (n ∷ ns) good none = all-append (λ (b : Reference). (variable_of b.what == v) ≡ false) (references_in n) (flat_map references_in ns) (nested_away n good.0 none.0) (all_away ns good.1 none.1)
 
-  -- its first store is among the accesses that others see
+  -- a store of it is its first access
+  pub record IsFirstAccess (rs : List Reference) (store : Reference) : Type 0 where
+    pub before : List Reference
+    pub after : List Reference
+    pub split : rs ≡ before ++ store ∷ after
+    pub away : AllByRecursion (λ (b : Reference). (variable_of b.what == v) ≡ false) before
+    pub variable : (variable_of store.what == v) ≡ true
+
+  pub store_first : (before after : List Nested) (s : Assignment) (around : List Head) → AllByRecursion (IsGoodNested scope) before → IsGoodNested scope (record { what = assign s; around = around }) → AllByRecursion (λ (m : Nested). has_access v m.what ≡ false) before → is_plain_store v (assign s) ≡ true →
+      IsFirstAccess (flat_map references_in (before ++ record { what = assign s; around = around } ∷ after)) (reference_of (record { what = assign s; around = around }) true (element s.target))
+  store_first before after s around goods good none plain =
+      let n : Nested = record { what = assign s; around = around } in
+      let t : Reference = reference_of n true (element s.target) in
+      let q = and_parts (is_of v s.target && not (loads v s.value)) (is_none s.guard) plain in
+      let o = and_parts (is_of v s.target) (not (loads v s.value)) q.0 in
+      let first : List Reference = flat_map references_in before in
+      let loaded : List Reference = map (reference_of n false) (loaded_in_work (assign s)) in
+      let later : List Reference = flat_map references_in after in
+      record {
+        before = first ++ loaded;
+        after = later;
+        split = flat_map-append references_in before (n ∷ after) ∙ ap (λ l. first ++ l) (append_assoc loaded (t ∷ []) later) ∙ sym (append_assoc first loaded (t ∷ later));
+        away = all-append (λ (b : Reference). (variable_of b.what == v) ≡ false) first loaded (all_away before goods none)
+            (loads_apart n (loaded_in_work (assign s)) (loaded_away good.loops (assign s) (loaded_good scope good.loops (assign s) good.good) (unloaded (loads v s.value) o.1)));
+        variable = (and_parts (s.target.variable == v) (length s.target.subscripts == 0) o.0).0;
+      }
+    where
+      unloaded : (b : Bool) → not b ≡ true → b ≡ false
+      unloaded true h = absurd (true≢false (sym h))
+      unloaded false h = refl
+
+  -- it is among the accesses that others see
   pub store_shown : (privates : List ℕ) (before after : List Nested) (w : Work) (around : List Head) (r : Reference) → is_among privates v ≡ true → AllByRecursion (IsGoodNested scope) before → IsGoodNested scope (record { what = w; around = around }) →
       AllByRecursion (λ (m : Nested). has_access v m.what ≡ false) before → is_plain_store v w ≡ true → Contains (map (λ x. reference_of (record { what = w; around = around }) true (element x)) (stores_in w)) r →
       Contains (shown_among privates [] (flat_map references_in (before ++ record { what = w; around = around } ∷ after))) r
@@ -171,25 +228,12 @@ module _ (scope : Scope) (v : ℕ) (scalar : rank_of scope v ≡ 0) where
       let n : Nested = record { what = assign s; around = around } in
       let t : Reference = reference_of n true (element s.target) in
       let same : t ≡ r = only t (contains_cases t r [] is) in
-      let q = and_parts (is_of v s.target && not (loads v s.value)) (is_none s.guard) plain in
-      let o = and_parts (is_of v s.target) (not (loads v s.value)) q.0 in
-      let number : s.target.variable ≡ v = eqb-true s.target.variable v (and_parts (s.target.variable == v) (length s.target.subscripts == 0) o.0).0 in
-      let none_loaded = unloaded (loads v s.value) o.1 in
-      let first : List Reference = flat_map references_in before in
-      let loaded : List Reference = map (reference_of n false) (loaded_in_work (assign s)) in
-      let later : List Reference = flat_map references_in after in
-      let whole : flat_map references_in (before ++ n ∷ after) ≡ (first ++ loaded) ++ t ∷ later =
-      flat_map-append references_in before (n ∷ after) ∙ ap (λ l. first ++ l) (append_assoc loaded (t ∷ []) later) ∙ sym (append_assoc first loaded (t ∷ later)) in
-      let away : AllByRecursion (λ (b : Reference). (variable_of b.what == v) ≡ false) (first ++ loaded) = all-append (λ (b : Reference). (variable_of b.what == v) ≡ false) first loaded (all_away before goods none)
-      (loads_apart n (loaded_in_work (assign s)) (loaded_away good.loops (assign s) (loaded_good scope good.loops (assign s) good.good) none_loaded)) in
-      let away' : AllByRecursion (λ (b : Reference). (variable_of b.what == s.target.variable) ≡ false) (first ++ loaded) = subst (λ m. AllByRecursion (λ (b : Reference). (variable_of b.what == m) ≡ false) (first ++ loaded)) (sym number) away in
-      let there = shown_first privates [] (first ++ loaded) later t (ap (is_among privates) number ∙ private) refl away' in
-      subst (λ z. Contains (shown_among privates [] (flat_map references_in (before ++ n ∷ after))) z) same (subst (λ rs. Contains (shown_among privates [] rs) t) (sym whole) there)
+      let f = store_first before after s around goods good none plain in
+      let number : s.target.variable ≡ v = eqb-true s.target.variable v f.variable in
+      let away : AllByRecursion (λ (b : Reference). (variable_of b.what == s.target.variable) ≡ false) f.before = subst (λ m. AllByRecursion (λ (b : Reference). (variable_of b.what == m) ≡ false) f.before) (sym number) f.away in
+      let there = shown_first privates [] f.before f.after t (ap (is_among privates) number ∙ private) refl away in
+      subst (λ z. Contains (shown_among privates [] (flat_map references_in (before ++ n ∷ after))) z) same (subst (λ rs. Contains (shown_among privates [] rs) t) (sym f.split) there)
     where
       only : (t : Reference) → (t ≡ r) ⊎ Contains [] r → t ≡ r
       only t (inl same) = same
       only t (inr none) = absurd (contains_nothing r none)
-
-      unloaded : (b : Bool) → not b ≡ true → b ≡ false
-      unloaded true h = absurd (true≢false (sym h))
-      unloaded false h = refl

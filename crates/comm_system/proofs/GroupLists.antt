@@ -13,12 +13,13 @@ use Rattle.sync_plan.specs.Fit.{is_dealt}
 use Rattle.sync_plan.proofs.Gets.{get-behind, get-front}
 use Rattle.conflict_rules.specs.Boundaries.{Side}
 use Rattle.conflict_rules.specs.Slots.{Slot}
-use Rattle.comm_system.specs.Obligations.{Task, numbered_from, obligations_of, pair_tasks, piece_task, pieces_from, slot_signature, slot_tasks, slots_of, tasks_of, trips_task, trips_tasks}
+use Rattle.comm_system.specs.Obligations.{Task, numbered_from, obligations_of, pair_tasks, paths_tasks, piece_task, pieces_from, slot_signature, slot_tasks, slots_of, tasks_of, trips_task, trips_tasks, zero_trip_task}
 use Rattle.comm_system.specs.OwnerRows.{Piece, pieces}
 use Rattle.comm_system.specs.Pairs.{Pair, pairs_of, pairs_within}
+use Rattle.comm_system.specs.Paths.{PathLoop, paths_of}
 use Rattle.conflict_rules.specs.References.{StaticPhase, phases_of}
 use Rattle.comm_system.specs.Signatures.{Signature, blocked, waits}
-use Rattle.comm_system.specs.Subjects.{Group, Listed, Subject, count_about, groups_of, obligations_in, of_slot, of_trips, slot_subjects, subjects_of, tasks_about, trips_subjects, with_subject, with_subjects}
+use Rattle.comm_system.specs.Subjects.{Group, Listed, Subject, count_about, groups_of, obligations_in, of_path, of_slot, of_trips, paths_subjects, slot_subjects, subjects_of, tasks_about, trips_subjects, with_subject, with_subjects}
 use Rattle.comm_system.specs.declared.obligation.Obligation.{Obligation}
 
 -- ---- numbers
@@ -39,6 +40,7 @@ pieces_length f n (p ∷ ps) = ap suc (pieces_length f (suc n) ps)
 
 pub count_is : (tree : Tree) (plan : Plan) (s : Subject) → length (tasks_about tree plan s) ≡ count_about s
 count_is tree plan (of_trips s pair) = refl
+count_is tree plan (of_path p) = refl
 count_is tree plan (of_slot slot left right producers pair) = pieces_length (piece_task tree plan slot left right producers pair) 1 (pieces (length producers))
 
 -- ---- the systems of all subjects are those of the plan
@@ -63,6 +65,13 @@ slot_systems : (tree : Tree) (plan : Plan) (slot : Slot) (signature : Signature)
 slot_systems tree plan slot blocked = refl
 slot_systems tree plan slot (waits left right producers) = pairs_systems tree plan slot left right producers (pairs_of plan.cut slot.first slot.second)
 
+loops_systems : (tree : Tree) (plan : Plan) (ps : List PathLoop) → flat_map (tasks_about tree plan) (map of_path ps) ≡ map (zero_trip_task tree plan) ps
+loops_systems tree plan [] = refl
+loops_systems tree plan (p ∷ ps) = ap (λ ts. zero_trip_task tree plan p ∷ ts) (loops_systems tree plan ps)
+
+pub path_systems : (tree : Tree) (plan : Plan) (s : StaticPhase) → flat_map (tasks_about tree plan) (paths_subjects plan.cut s) ≡ paths_tasks tree plan s
+path_systems tree plan s = loops_systems tree plan (paths_of plan.cut s)
+
 flat_twice : {A : Type 0} (tree : Tree) (plan : Plan) (subjects : A → List Subject) (tasks : A → List Task) → ((x : A) → flat_map (tasks_about tree plan) (subjects x) ≡ tasks x) → (xs : List A) →
     flat_map (tasks_about tree plan) (flat_map subjects xs) ≡ flat_map tasks xs
 flat_twice tree plan subjects tasks each [] = refl
@@ -75,9 +84,14 @@ all_systems tree plan =
     let signature = λ (slot : Slot). slot_signature plan.version plan.kinds phases slot in
     let first = flat_map (trips_subjects plan) phases in
     let second = flat_map (λ (slot : Slot). slot_subjects plan.cut slot (slot_signature plan.version plan.kinds phases slot)) (slots_of phases) in
-    flat_map-append (tasks_about tree plan) first second
+    let third = flat_map (paths_subjects plan.cut) phases in
+    let slots = flat_map (λ (slot : Slot). slot_tasks tree plan slot (slot_signature plan.version plan.kinds phases slot)) (slots_of phases) in
+    let trips = flat_map (trips_tasks tree plan) phases in
+    flat_map-append (tasks_about tree plan) (first ++ second) third
+    ∙ ap (λ ts. ts ++ flat_map (tasks_about tree plan) third) (flat_map-append (tasks_about tree plan) first second
     ∙ ap (λ ts. ts ++ flat_map (tasks_about tree plan) second) (flat_twice tree plan (trips_subjects plan) (trips_tasks tree plan) (phase_systems tree plan) phases)
-    ∙ ap (λ ts. flat_map (trips_tasks tree plan) phases ++ ts) (flat_twice tree plan (λ slot. slot_subjects plan.cut slot (slot_signature plan.version plan.kinds phases slot)) (λ slot. slot_tasks tree plan slot (slot_signature plan.version plan.kinds phases slot)) (λ slot. slot_systems tree plan slot (slot_signature plan.version plan.kinds phases slot)) (slots_of phases))
+    ∙ ap (λ ts. trips ++ ts) (flat_twice tree plan (λ slot. slot_subjects plan.cut slot (slot_signature plan.version plan.kinds phases slot)) (λ slot. slot_tasks tree plan slot (slot_signature plan.version plan.kinds phases slot)) (λ slot. slot_systems tree plan slot (slot_signature plan.version plan.kinds phases slot)) (slots_of phases)))
+    ∙ ap (λ ts. (trips ++ slots) ++ ts) (flat_twice tree plan (paths_subjects plan.cut) (paths_tasks tree plan) (path_systems tree plan) phases)
 
 -- ---- what is listed
 

@@ -13,7 +13,7 @@ use Rattle.comm_system.specs.Meetings.{IsBehind, IsPast}
 
 -- ---- one trip more is past the end
 
-over_quotient : (d m : ℕ) → 0 < m → d < m * (d / m) + m
+pub over_quotient : (d m : ℕ) → 0 < m → d < m * (d / m) + m
 over_quotient d m some =
     let rem : d % m < m = omega (arith, some) in
     let whole : m * (d / m) + d % m ≡ d = omega (arith, some) in

@@ -50,5 +50,8 @@ mod SmallLoops
 mod Steps
 mod Looks
 mod RowSteps
-mod LastRows
 mod Growings
+mod PathRows
+mod PathGroups
+pub mod NoTrips
+pub mod PathRuns

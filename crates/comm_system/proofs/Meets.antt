@@ -1,5 +1,5 @@
 -- Where accesses meet, values solve a system of the plan.
-use Rattle.std.proofs.Common.{ℕ, false, List, [], ◌∷◌, length, map}
+use Rattle.std.proofs.Common.{ℕ, None, List, [], ◌∷◌, length, map}
 use Rattle.std.specs.List.{Contains}
 use Rattle.nest_tree.specs.Tree.{Tree}
 use Rattle.nest_tree.specs.WellFormed.{IsWellFormed, scope_of}
@@ -18,12 +18,12 @@ use Rattle.conflict_rules.specs.References.{StaticPhase, phases_of}
 use Rattle.comm_system.proofs.PairLists.{fit_conditions, pair_good, within_good}
 use Rattle.comm_system.proofs.Systems.{holders_named, owners_solved, trips_solved}
 
-pub trips_meet : (tree : Tree) (plan : Plan) (s : StaticPhase) (pair : Pair) (x y : Point) → IsWellFormed tree → IsFit tree plan → Contains (phases_of tree plan.cut.marks) s → Contains (pairs_within plan.cut s) pair → Meet tree (two_trips (length s.outer)) (false, false) pair x y →
+pub trips_meet : (tree : Tree) (plan : Plan) (s : StaticPhase) (pair : Pair) (x y : Point) → IsWellFormed tree → IsFit tree plan → Contains (phases_of tree plan.cut.marks) s → Contains (pairs_within plan.cut s) pair → Meet tree (two_trips (length s.outer)) (None, None) pair x y →
     IsWholeSolution (trips_task tree plan s pair).system (values_of tree pair x y [])
 trips_meet tree plan s pair x y formed fits here among meet =
     let known = fit_conditions tree plan fits in
     let good = within_good tree plan s pair formed here among in
-    trips_solved tree plan.conditions (two_trips (length s.outer)) (false, false) pair x y (scope_of tree).ranks meet known.0 known.1 good.0 good.1
+    trips_solved tree plan.conditions (two_trips (length s.outer)) (None, None) pair x y (scope_of tree).ranks meet known.0 known.1 good.0 good.1
 
 pub owners_meet : (tree : Tree) (plan : Plan) (slot : Slot) (pair : Pair) (x y : Point) (left right : ℕ) (producers : List (Anchor × Side)) (q p : Holder) (os : List Holder) (piece : Piece) (n : ℕ) → IsWellFormed tree → IsFit tree plan →
     Contains (phases_of tree plan.cut.marks) slot.first → Contains (phases_of tree plan.cut.marks) slot.second → Contains (pairs_of plan.cut slot.first slot.second) pair → Meet tree (order_at (common slot.first.outer slot.second.outer) slot.level) (lasts_at plan.cut slot pair) pair x y →

@@ -91,7 +91,7 @@ conflict_so tree cut s t around around' i j cell c =
 pub meeting_pair : (tree : Tree) (cut : Cutting) (s t : StaticPhase) (around around' : List Head) (i j : Instance) (cell : ℕ) (c : Conflicting tree cut s t around around' i j cell) → Contains (pairs_of cut s t) (record { first = c.a; second = c.b })
 meeting_pair tree cut s t around around' i j cell c = pair_there (shown_of cut s) (shown_of cut t) c.a c.b c.first_seen.shown c.second_seen.shown (conflict_so tree cut s t around around' i j cell c)
 
-pub meeting : (tree : Tree) (cut : Cutting) (s t : StaticPhase) (around around' : List Head) (i j : Instance) (cell : ℕ) (c : Conflicting tree cut s t around around' i j cell) (ns ms : List ℕ) (order : Order) (lasts : Bool × Bool) → AreTrips (param_values tree) i.loops around ns → AreTrips (param_values tree) j.loops around' ms →
+pub meeting : (tree : Tree) (cut : Cutting) (s t : StaticPhase) (around around' : List Head) (i j : Instance) (cell : ℕ) (c : Conflicting tree cut s t around around' i j cell) (ns ms : List ℕ) (order : Order) (lasts : Option ℕ × Option ℕ) → AreTrips (param_values tree) i.loops around ns → AreTrips (param_values tree) j.loops around' ms →
     AreSame order.equal around around' i.loops j.loops → (order.earlier ≡ true → IsEarlier order.equal ns ms) → IsInLastTripWhere lasts.0 (param_values tree) i.loops around → IsInLastTripWhere lasts.1 (param_values tree) j.loops around' →
     Meet tree order lasts (record { first = c.a; second = c.b }) (point_at i ns c.first.touches.free) (point_at j ms c.second.touches.free)
 meeting tree cut s t around around' i j cell c ns ms order lasts trips trips' same earlier last last' = record {

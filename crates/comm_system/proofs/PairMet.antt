@@ -1,5 +1,5 @@
 -- Two points at which accesses meet meet the rows of their pair.
-use Rattle.std.proofs.Common.{◌≡◌, ℕ, zero, suc, ◌+◌, ◌*◌, ℤ, pos, negsuc, ◌+ℤ◌, ◌*ℤ◌, ◌-ℤ◌, ◌≤ℤ◌, int_le, ◌&&◌, nat_lt, unsigned_abs, Bool, true, false, List, [], ◌∷◌, map, length, if◌then◌else◌, refl, ap, sym, ◌∙◌, subst, arith}
+use Rattle.std.proofs.Common.{◌≡◌, ℕ, zero, suc, ◌+◌, ◌*◌, ℤ, pos, negsuc, ◌+ℤ◌, ◌*ℤ◌, ◌-ℤ◌, ◌≤ℤ◌, int_le, ◌&&◌, nat_lt, unsigned_abs, Bool, true, false, Option, Some, None, List, [], ◌∷◌, map, length, slice_get, if◌then◌else◌, refl, ap, sym, ◌∙◌, subst, arith}
 use Rattle.std.specs.List.{AllByRecursion, list_all}
 use Rattle.std.proofs.lemmas.Bool.{and_parts}
 use Rattle.std.proofs.lemmas.Int.{ints}
@@ -15,7 +15,7 @@ use Rattle.nest_rows.proofs.Dots.{AreConstants, dot-append, dot-form, dot-signed
 use Rattle.nest_rows.proofs.GroupsMet.{both_met, is_head_among}
 use Rattle.comm_system.specs.Levels.{Order}
 use Rattle.comm_system.specs.Meetings.{AreFree, AreSame, IsEarlier, IsEarlierWhere, IsBehind, IsInLastTrip, IsInLastTripWhere, IsPast}
-use Rattle.comm_system.specs.PairRows.{Sum, apart, free_have, free_sums, innermost_last, last_has, no_more, ordered_so, past_next, same_element, same_loops, sum_of}
+use Rattle.comm_system.specs.PairRows.{Sum, apart, free_have, free_sums, last_at, last_has, no_more, ordered_so, past_next, same_element, same_loops, sum_of}
 use Rattle.comm_system.proofs.Lies.{LiesAt}
 
 -- free subscripts within their bounds
@@ -107,7 +107,7 @@ order_met values m n order loops loops' heads others ns ms here there few few' s
     by true h = (apart_met values Plus (m + 2 * order.equal + 1) (n + 2 * order.equal + 1) (negsuc 0) (earlier_apart values m n order.equal loops loops' heads others ns ms here there few few' h), tt)
     by false h = tt
 
--- ---- the innermost loop's last trip
+-- ---- a loop's last trip
 
 module _ (values : List ℤ) (first : ℕ) (loops : List ℤ) (heads : List Head) (ns : List ℕ) (params : List ℤ) (are : AreLaid values first loops heads ns) (constants : AreConstants values params) where
   past_met : (place : ℕ) (head : Head) → numbered values place ≡ numbered loops head.number → names_only (length params) (numbers heads) head.m2 ≡ true → IsPast head.step (numbered loops head.number +ℤ head.step) (form_value head.m2 loops params) →
@@ -121,17 +121,21 @@ module _ (values : List ℤ) (first : ℕ) (loops : List ℤ) (heads : List Head
       by true h = omega (arith, ints, dot-signed Plus (terms_of first heads head.m2) values, dot-form values first loops heads ns params head.m2 are constants named, at, h)
       by false h = omega (arith, ints, dot-signed Minus (terms_of first heads head.m2) values, dot-form values first loops heads ns params head.m2 are constants named, at, h)
 
-  innermost_met : (place : ℕ) (rest : List Head) (more : List ℕ) → AreLaid values place loops rest more → AllByRecursion (λ h. is_head_among (length params) (numbers heads) h ≡ true) rest → IsInLastTrip params loops rest → AllByRecursion (IsMet values) (innermost_last first heads place rest)
-  innermost_met place [] more laid good last = tt
-  innermost_met place (h ∷ []) [] laid good last = absurd laid
-  innermost_met place (h ∷ []) (n ∷ more) laid good last =
+  -- of the loop inside so many of these
+  inside_met : (k place : ℕ) (rest : List Head) (more : List ℕ) → AreLaid values place loops rest more → AllByRecursion (λ h. is_head_among (length params) (numbers heads) h ≡ true) rest → IsInLastTrip params loops (slice_get rest k) →
+      AllByRecursion (IsMet values) (last_at first heads (place + 2 * k) (slice_get rest k))
+  inside_met k place [] more laid good last = tt
+  inside_met k place (h ∷ rest) [] laid good last = absurd laid
+  inside_met zero place (h ∷ rest) (n ∷ more) laid good last =
       let parts = and_parts (names_only (length params) (numbers heads) h.m1 && names_only (length params) (numbers heads) h.m2) (nat_lt 0 (unsigned_abs h.step)) good.0 in
       let named = (and_parts (names_only (length params) (numbers heads) h.m1) (names_only (length params) (numbers heads) h.m2) parts.0).1 in
-      (past_met place h laid.0 named last, tt)
-  innermost_met place (h ∷ g ∷ rest) [] laid good last = absurd laid
-  innermost_met place (h ∷ g ∷ rest) (n ∷ more) laid good last = innermost_met (place + 2) (g ∷ rest) more laid.2 good.1 last
+      let same : place + 2 * 0 ≡ place = omega arith in
+      (past_met (place + 2 * 0) h (ap (numbered values) same ∙ laid.0) named last, tt)
+  inside_met (suc k) place (h ∷ rest) (n ∷ more) laid good last =
+      let same : place + 2 + 2 * k ≡ place + 2 * suc k = omega arith in
+      subst (λ q. AllByRecursion (IsMet values) (last_at first heads q (slice_get rest k))) same (inside_met k (place + 2) rest more laid.2 good.1 last)
 
   -- an access that is made in the last trip alone
-  pub last_trip_met : (last : Bool) → AllByRecursion (λ h. is_head_among (length params) (numbers heads) h ≡ true) heads → IsInLastTripWhere last params loops heads → AllByRecursion (IsMet values) (last_has last first heads)
-  last_trip_met true good is = innermost_met first heads ns are good is
-  last_trip_met false good is = tt
+  pub last_trip_met : (last : Option ℕ) → AllByRecursion (λ h. is_head_among (length params) (numbers heads) h ≡ true) heads → IsInLastTripWhere last params loops heads → AllByRecursion (IsMet values) (last_has last first heads)
+  last_trip_met (Some k) good is = inside_met k first heads ns are good is
+  last_trip_met None good is = tt

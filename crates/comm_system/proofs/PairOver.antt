@@ -1,5 +1,5 @@
 -- The terms of a pair's rows are among its unknowns.
-use Rattle.std.proofs.Common.{◌≡◌, ℕ, zero, suc, ◌+◌, ◌*◌, ◌≤◌, ℤ, pos, negsuc, neg_ℤ, ◌&&◌, nat_lt, unsigned_abs, Bool, true, false, List, [], ◌∷◌, ◌++◌, length, if◌then◌else◌, refl, ◌∙◌, arith}
+use Rattle.std.proofs.Common.{◌≡◌, ℕ, zero, suc, ◌+◌, ◌*◌, ◌≤◌, ℤ, pos, negsuc, neg_ℤ, ◌&&◌, nat_lt, unsigned_abs, Bool, true, false, Option, Some, None, List, [], ◌∷◌, ◌++◌, length, slice_get, if◌then◌else◌, refl, ap, sym, ◌∙◌, arith}
 use Rattle.std.specs.List.{AllByRecursion, list_all}
 use Rattle.std.proofs.lemmas.Bool.{and_from, and_parts}
 use Rattle.std.proofs.lemmas.List.Folds.{list_all-append}
@@ -19,7 +19,7 @@ use Rattle.owner_partition.specs.declared.anchor.Dist.{Dist}
 use Rattle.owner_partition.specs.declared.anchor.Dist.TheVariants.{Block, Cyclic}
 use Rattle.comm_system.specs.Levels.{Order}
 use Rattle.comm_system.specs.OwnerRows.{Direction, Piece, Placed, beside, distance, last_rows, owner_has, owner_numbers, owner_unknowns, owners_have, owners_unknowns, owns, sign_of}
-use Rattle.comm_system.specs.PairRows.{Sum, apart, free_have, free_sums, innermost_last, last_has, ordered_so, same_element, same_loops}
+use Rattle.comm_system.specs.PairRows.{Sum, apart, free_have, free_sums, last_at, last_has, ordered_so, same_element, same_loops}
 
 abbrev pub are_over : ℕ → List (ℕ × ℤ) → Bool
 are_over vars terms = list_all (λ t. is_number_of vars t.0) terms
@@ -33,19 +33,22 @@ free_over vars n (b ∷ bounds) low room =
     let number = number-from vars n low (omega (arith, room)) in
     and_from _ _ (and_from (is_number_of vars n) true number refl) (and_from _ _ (and_from (is_number_of vars n) true number refl) (free_over vars (suc n) bounds (omega (arith, low)) (omega (arith, room))))
 
--- the innermost loop's last trip
+-- a loop's last trip
 module _ (vars constants first : ℕ) (heads : List Head) (low : 1 ≤ first) (few : constants ≤ vars) (room : first + 2 * length heads ≤ vars + 1) where
-  innermost_over : (place : ℕ) (rest : List Head) → 1 ≤ place → place + 2 * length rest ≤ vars + 1 → AllByRecursion (λ h. is_head_among constants (numbers heads) h ≡ true) rest → list_all (is_over vars) (innermost_last first heads place rest) ≡ true
-  innermost_over place [] from to good = refl
-  innermost_over place (h ∷ []) from to good =
+  inside_over : (k place : ℕ) (rest : List Head) → 1 ≤ place → place + 2 * length rest ≤ vars + 1 → AllByRecursion (λ h. is_head_among constants (numbers heads) h ≡ true) rest → list_all (is_over vars) (last_at first heads (place + 2 * k) (slice_get rest k)) ≡ true
+  inside_over k place [] from to good = refl
+  inside_over zero place (h ∷ rest) from to good =
       let parts = and_parts (names_only constants (numbers heads) h.m1 && names_only constants (numbers heads) h.m2) (nat_lt 0 (unsigned_abs h.step)) good.0 in
       let named = (and_parts (names_only constants (numbers heads) h.m1) (names_only constants (numbers heads) h.m2) parts.0).1 in
-      and_from _ true (and_from (is_number_of vars place) (are_over vars (with_sign (sign_of_step h.step) (terms_of first heads h.m2))) (number-from vars place from (omega (arith, to))) (form-over vars constants first heads low few room (sign_of_step h.step) h.m2 named)) refl
-  innermost_over place (h ∷ g ∷ rest) from to good = innermost_over (place + 2) (g ∷ rest) (omega (arith, from)) (omega (arith, to)) good.1
+      and_from _ true (and_from (is_number_of vars (place + 2 * 0)) (are_over vars (with_sign (sign_of_step h.step) (terms_of first heads h.m2))) (number-from vars (place + 2 * 0) (omega (arith, from)) (omega (arith, to)))
+      (form-over vars constants first heads low few room (sign_of_step h.step) h.m2 named)) refl
+  inside_over (suc k) place (h ∷ rest) from to good =
+      let same : place + 2 + 2 * k ≡ place + 2 * suc k = omega arith in
+      sym (ap (λ q. list_all (is_over vars) (last_at first heads q (slice_get rest k))) same) ∙ inside_over k (place + 2) rest (omega (arith, from)) (omega (arith, to)) good.1
 
-  pub last_trip_over : (last : Bool) → AllByRecursion (λ h. is_head_among constants (numbers heads) h ≡ true) heads → list_all (is_over vars) (last_has last first heads) ≡ true
-  last_trip_over true good = innermost_over first heads low room good
-  last_trip_over false good = refl
+  pub last_trip_over : (last : Option ℕ) → AllByRecursion (λ h. is_head_among constants (numbers heads) h ≡ true) heads → list_all (is_over vars) (last_has last first heads) ≡ true
+  last_trip_over (Some k) good = inside_over k first heads low room good
+  last_trip_over None good = refl
 
 -- a subscript's terms, with either sign
 abbrev pub IsSumOver : ℕ → Sum → Type 0

@@ -23,7 +23,7 @@ use Rattle.comm_system.specs.Meetings.{AreFree}
 use Rattle.conflict_rules.specs.References.{StaticPhase, phases_among, phases_in, phases_of}
 use Rattle.comm_system.specs.Shown.{is_among}
 use Rattle.comm_system.proofs.Cells.{IsElement}
-use Rattle.comm_system.proofs.FirstStores.{first_store, stored_rank}
+use Rattle.comm_system.proofs.FirstStores.{first_store, path_among, stored_rank}
 use Rattle.comm_system.proofs.GoodReferences.{stored_good}
 use Rattle.comm_system.proofs.Lists.{all_split}
 
@@ -108,7 +108,7 @@ stored_scalar tree n v good stored = by n.what good.good stored
 pub private_scalar : (tree : Tree) (v : ℕ) (around : List Head) (body : Statements) → AllByRecursion (IsGoodNested (scope_of tree)) (nested_among around body) → is_private v body ≡ true → IsScalar tree v
 private_scalar tree v around body goods is =
     let f = first_store v around body is in
-    let n : Nested = record { what = f.store; around = around } in
+    let n : Nested = record { what = f.store; around = around ++ path_among v body } in
     let split = all_split (IsGoodNested (scope_of tree)) f.before (n ∷ f.after) (subst (AllByRecursion (IsGoodNested (scope_of tree))) f.split goods) in
     stored_scalar tree n v split.1.0 (plain_stores f.store f.plain)
   where

@@ -1,5 +1,5 @@
 -- Two executions of one phase that conflict have one owner, where no system of two trips has a whole solution.
-use Rattle.std.proofs.Common.{◌≡◌, ℕ, suc, ◌+◌, ◌-◌, ◌<◌, ◌≤◌, ◌⊎◌, ◌&&◌, ◌||◌, not, nat_lt, unsigned_abs, ℤ, ◌+ℤ◌, Bool, true, false, true≢false, Some, List, [], ◌∷◌, ◌++◌, length, map, if◌then◌else◌, refl, ap, sym, ◌∙◌, subst, inl, inr, arith}
+use Rattle.std.proofs.Common.{◌≡◌, ℕ, suc, ◌+◌, ◌-◌, ◌<◌, ◌≤◌, ◌⊎◌, ◌&&◌, ◌||◌, not, nat_lt, unsigned_abs, ℤ, ◌+ℤ◌, Bool, true, false, true≢false, Some, None, List, [], ◌∷◌, ◌++◌, length, map, if◌then◌else◌, refl, ap, sym, ◌∙◌, subst, inl, inr, arith}
 use Rattle.std.specs.List.{AllByRecursion, Contains, flat_map, slice_get}
 use Rattle.std.proofs.lemmas.Bool.{and_parts, cases_Bool, cases_eq, ltb-true}
 use Rattle.std.proofs.lemmas.List.Elements.{Contains-append_left}
@@ -22,12 +22,13 @@ use Rattle.owner_partition.specs.Owners.{anchor_owner, dealt}
 use Rattle.owner_partition.specs.Phases.{phase_instances, phases}
 use Rattle.sync_plan.specs.declared.plan.Plan.{Plan}
 use Rattle.sync_plan.specs.Fit.{IsFit, is_dealt}
-use Rattle.sync_plan.specs.Ordered.{IsChain, IsOrdered, owner_under}
+use Rattle.sync_plan.specs.Ordered.{AreChained, IsChain, owner_under}
 use Rattle.comm_system.specs.Levels.{two_trips}
 use Rattle.comm_system.specs.Meetings.{AreSame, IsEarlier, IsPast, values_of}
-use Rattle.comm_system.specs.Obligations.{Task, anchor_at, slot_signature, slot_tasks, slots_of, tasks_of, trips_task, trips_tasks}
+use Rattle.comm_system.specs.Obligations.{Task, anchor_at, paths_tasks, slot_signature, slot_tasks, slots_of, tasks_of, trips_task, trips_tasks}
 use Rattle.comm_system.specs.Pairs.{Pair, pairs_within}
 use Rattle.conflict_rules.specs.References.{StaticPhase, phases_of, references_of, variable_of}
+use Rattle.conflict_rules.specs.Slots.{Slot}
 use Rattle.comm_system.specs.Shown.{is_own_in, is_private_in, is_summed, shared_of}
 use Rattle.comm_system.proofs.Accesses.{IsExecutedAt, executed_at_station, pair_there, phase_there, point_at, station_known}
 use Rattle.comm_system.proofs.Certain.{valid-length}
@@ -131,7 +132,7 @@ module _ (tree : Tree) (plan : Plan) (formed : IsWellFormed tree) (fits : IsFit 
       let pair : Pair = record { first = c.a; second = c.b } in
       let X = point_at i (s.trips ++ p.inner.trips) c.first.touches.free in
       let Y = point_at j (s.trips ++ q.inner.trips) c.second.touches.free in
-      let meet = meeting tree plan.cut phase phase (s.heads ++ p.inner.heads) (s.heads ++ q.inner.heads) i j cell c (s.trips ++ p.inner.trips) (s.trips ++ q.inner.trips) (two_trips (length s.heads)) (false, false) p.trips q.trips same (λ e. early) tt tt in
+      let meet = meeting tree plan.cut phase phase (s.heads ++ p.inner.heads) (s.heads ++ q.inner.heads) i j cell c (s.trips ++ p.inner.trips) (s.trips ++ q.inner.trips) (two_trips (length s.heads)) (None, None) p.trips q.trips same (λ e. early) tt tt in
       let here = get_contains (phases_of tree plan.cut.marks) (s.visit.place - 1) phase (phase_there tree plan.cut.marks formed e s at) in
       let first = in_filter (λ r. not (is_own_in plan.cut phase r)) (references_of phase) c.a c.first.among (ap not shared) in
       let among : Contains (pairs_within plan.cut phase) pair = pair_there (shared_of plan.cut phase) (references_of phase) c.a c.b first c.second.among (conflict_so tree plan.cut phase phase (s.heads ++ p.inner.heads) (s.heads ++ q.inner.heads) i j cell c) in
@@ -139,8 +140,10 @@ module _ (tree : Tree) (plan : Plan) (formed : IsWellFormed tree) (fits : IsFit 
       let task = in_map (trips_task tree plan phase) (pairs_within plan.cut phase) pair among in
       let task' : Contains (trips_tasks tree plan phase) (trips_task tree plan phase pair) = subst (λ b. Contains (if b then map (trips_task tree plan phase) (pairs_within plan.cut phase) else []) (trips_task tree plan phase pair)) (sym is) task in
       let all = phases_of tree plan.cut.marks in
-      let there = Contains-append_left (flat_map (trips_tasks tree plan) all) (flat_map (λ slot. slot_tasks tree plan slot (slot_signature plan.version plan.kinds all slot)) (slots_of all)) (trips_task tree plan phase pair)
-      (in_flat_map (trips_tasks tree plan) all phase (trips_task tree plan phase pair) here task') in
+      let slots = flat_map (λ (slot : Slot). slot_tasks tree plan slot (slot_signature plan.version plan.kinds all slot)) (slots_of all) in
+      let trips = flat_map (trips_tasks tree plan) all in
+      let there = Contains-append_left (trips ++ slots) (flat_map (paths_tasks tree plan) all) (trips_task tree plan phase pair)
+      (Contains-append_left trips slots (trips_task tree plan phase pair) (in_flat_map (trips_tasks tree plan) all phase (trips_task tree plan phase pair) here task')) in
       none (trips_task tree plan phase pair) there (values_of tree pair X Y []) solved
 
   -- no trip comes behind that of a private scalar's access
@@ -211,13 +214,13 @@ module _ (tree : Tree) (plan : Plan) (formed : IsWellFormed tree) (fits : IsFit 
             | inr plain ↦ absurd (two_trips_meet is cell c (neither_own (is_summed plan.cut s.visit.what (variable_of c.a.what)) plain unsummed) earlier)
           ]
 
--- ---- the plan is ordered
+-- ---- chains lead between them
 
 some_same : (v w : Visit) → Some v ≡ Some w → v ≡ w
 some_same v w e = cc
 
-pub obligations_order : (tree : Tree) (plan : Plan) → IsWellFormed tree → IsInRange tree → IsFit tree plan → ((task : Task) → Contains (tasks_of tree plan) task → HasNoWholeSolution task.system) → IsOrdered tree plan
-obligations_order tree plan formed ranged fits none j k x y lt at at' seen apart =
+pub obligations_chain : (tree : Tree) (plan : Plan) → IsWellFormed tree → IsInRange tree → IsFit tree plan → ((task : Task) → Contains (tasks_of tree plan) task → HasNoWholeSolution task.system) → AreChained tree plan
+obligations_chain tree plan formed ranged fits none j k x y lt at at' seen apart =
     let params = param_values tree in
     let o = in_order params 1 (phases tree plan.cut.marks) x y j k lt at at' in
     let hx = executed_at_station tree plan.cut.marks formed ranged x j at o.first in

@@ -1,5 +1,5 @@
 -- What others see of an execution at a cell is an access of its phase that others see; a private scalar's is made in the last trip.
-use Rattle.std.proofs.Common.{◌≡◌, ℕ, ◌+◌, ◌-◌, ◌⊎◌, ◌&&◌, ◌||◌, ◌==◌, not, nat_lt, unsigned_abs, ℤ, ◌+ℤ◌, Bool, true, false, true≢false, cond, Option, Some, None, List, [], ◌∷◌, ◌++◌, map, if◌then◌else◌, refl, ap, sym, ◌∙◌, subst, inl, inr, arith}
+use Rattle.std.proofs.Common.{◌≡◌, ℕ, ◌+◌, ◌-◌, ◌⊎◌, ◌&&◌, ◌||◌, ◌==◌, not, nat_lt, unsigned_abs, ℤ, ◌+ℤ◌, Bool, true, false, true≢false, cond, Option, Some, None, List, [], ◌∷◌, ◌++◌, append_assoc, length, map, if◌then◌else◌, refl, ap, sym, ◌∙◌, subst, inl, inr, arith}
 use Rattle.std.specs.Prelude.{find, slice_get}
 use Rattle.std.specs.List.{AllByRecursion, Contains, filter, flat_map, list_any}
 use Rattle.std.specs.Option.{option_to_list}
@@ -29,9 +29,9 @@ use Rattle.sync_plan.specs.Own.{OwnLoop, is_cell_of, own_loop, own_loop_at, own_
 use Rattle.sync_plan.specs.Shape.{static_phases}
 use Rattle.comm_system.specs.Meetings.{IsInLastTrip, IsInLastTripWhere, IsPast}
 use Rattle.conflict_rules.specs.References.{Reference, StaticPhase, phases_of, reference_of, references_in, references_of, variable_of}
-use Rattle.comm_system.specs.Shown.{is_among, is_private_in, is_summed, privates_in, shown_among, shown_of}
+use Rattle.comm_system.specs.Shown.{is_among, is_private_in, is_summed, last_in, privates_in, shown_among, shown_of}
 use Rattle.comm_system.proofs.Accesses.{IsAccessAt, IsExecutedAt, load_access, nested_good, phase_there, store_access}
-use Rattle.comm_system.proofs.FirstStores.{first_at, first_store, store_shown}
+use Rattle.comm_system.proofs.FirstStores.{first_at, first_store, path_among, store_shown}
 use Rattle.comm_system.proofs.FirstWorks.{first_work_is}
 use Rattle.comm_system.proofs.GoodReferences.{AllIn, among_phases}
 use Rattle.comm_system.proofs.LastTrips.{last_past}
@@ -95,11 +95,10 @@ listed (w ∷ vs) v c = by (λ d. listed vs v d) (contains_cases w v vs c)
     by rest (inl same) = ap (λ b. b || is_among vs v) (eq-eqb w v same)
     by rest (inr later) = behind (w == v) (rest later)
 
--- the innermost of these loops
-innermost : (params loops : List ℤ) (heads : List Head) (head : Head) → IsPast head.step (numbered loops head.number +ℤ head.step) (form_value head.m2 loops params) → IsInLastTrip params loops (heads ++ head ∷ [])
-innermost params loops [] head past = past
-innermost params loops (g ∷ []) head past = past
-innermost params loops (g ∷ h ∷ heads) head past = innermost params loops (h ∷ heads) head past
+-- the loop inside these
+inside_these : (heads : List Head) (head : Head) (inner : List Head) → slice_get (heads ++ head ∷ inner) (length heads) ≡ Some head
+inside_these [] head inner = refl
+inside_these (g ∷ heads) head inner = inside_these heads head inner
 
 -- ---- an access that others see
 
@@ -112,7 +111,7 @@ IsOwnLast true params (continue line) loops = ⊥
 
 pub record IsSeen (tree : Tree) (cut : Cutting) (phase : StaticPhase) (around : List Head) (i : Instance) (a : Reference) : Type 0 where
   pub shown : Contains (shown_of cut phase) a
-  pub last : IsInLastTripWhere (is_private_in cut phase a) (param_values tree) i.loops around
+  pub last : IsInLastTripWhere (last_in cut phase a) (param_values tree) i.loops around
   pub own : IsOwnLast (is_private_in cut phase a) (param_values tree) phase.what i.loops
 
 module _ (tree : Tree) (plan : Plan) (formed : IsWellFormed tree) (fits : IsFit tree plan) (x : Execution) (e : ℕ) (h : IsExecutedAt tree plan.cut.marks x e) where
@@ -178,7 +177,7 @@ module _ (tree : Tree) (plan : Plan) (formed : IsWellFormed tree) (fits : IsFit 
         absurd (true≢false (sym is ∙ sym (ap (λ vs. is_cell_of tree vs cell) privates_are) ∙ none))
     | inr plain ↦ record {
       shown = shown_plain privates [] (references_of phase) a access.among plain;
-      last = subst (λ b. IsInLastTripWhere b (param_values tree) x.instance.loops around) (sym plain) tt;
+      last = subst (λ b. IsInLastTripWhere (if b then Some (length h.station.heads) else None) (param_values tree) x.instance.loops around) (sym plain) tt;
       own = subst (λ b. IsOwnLast b (param_values tree) h.station.visit.what x.instance.loops) (sym plain) tt;
     }
   ]
@@ -202,6 +201,7 @@ module _ (tree : Tree) (plan : Plan) (formed : IsWellFormed tree) (fits : IsFit 
       let loops = x.instance.loops in
       let outer : List Head = h.station.heads ++ p.head ∷ [] in
       let f = first_store v outer p.body p.private in
+      let inside : outer ++ path_among v p.body ≡ h.station.heads ++ p.head ∷ path_among v p.body = append_assoc h.station.heads (p.head ∷ []) (path_among v p.body) in
       let parts = and_parts (is_last_trip params (slice_get (static_phases tree plan.cut.marks) (x.place - 1)) loops) (x.instance.statement == first_work tree plan x.place + works_before v (own_loop tree plan x.place).body) last in
       let statement = eqb-true x.instance.statement (first_work tree plan x.place + works_before v (own_loop tree plan x.place).body) parts.1 in
       let body_is : (own_loop tree plan x.place).body ≡ p.body = ap (λ (o : OwnLoop). o.body) (own_is ∙ ap (own_loop_of plan.cut) p.what) in
@@ -210,28 +210,28 @@ module _ (tree : Tree) (plan : Plan) (formed : IsWellFormed tree) (fits : IsFit 
       let index : x.instance.statement - h.station.visit.first ≡ works_before v p.body = omega (arith, statement, before, work_is) in
       let number : slice_get (nested_among outer p.body) (works_before v p.body) ≡ Some (record { what = x.instance.what; around = around }) =
       sym (ap (λ w. slice_get (nested_in h.station.heads w) (works_before v p.body)) p.what) ∙ sym (ap (slice_get (nested_in h.station.heads h.station.visit.what)) index) ∙ h.placed.number in
-      let same = some_nested (record { what = f.store; around = outer }) (record { what = x.instance.what; around = around }) (sym (first_at v outer p.body f) ∙ number) in
+      let same = some_nested (record { what = f.store; around = outer ++ path_among v p.body }) (record { what = x.instance.what; around = around }) (sym (first_at v (outer ++ path_among v p.body) (nested_among outer p.body) (works_before v p.body) f) ∙ number) in
       let split : nested_in h.station.heads h.station.visit.what ≡ f.before ++ record { what = x.instance.what; around = around } ∷ f.after = ap (nested_in h.station.heads) p.what ∙ f.split ∙ ap (λ n. f.before ++ n ∷ f.after) same in
       let good = all_split (IsGoodNested (scope_of tree)) f.before (record { what = x.instance.what; around = around } ∷ f.after) (subst (AllByRecursion (IsGoodNested (scope_of tree))) split goods) in
       let plain = ap (λ (n : Nested). is_plain_store v n.what) (sym same) ∙ f.plain in
       let there : Contains (shown_among privates [] (flat_map references_in (f.before ++ record { what = x.instance.what; around = around } ∷ f.after))) a = store_shown (scope_of tree) v p.scalar.rank privates f.before f.after x.instance.what around a among good.0 good.1.0 f.away plain stored in
-      let around_is : outer ≡ around = ap (λ (n : Nested). n.around) same in
+      let around_is : h.station.heads ++ p.head ∷ path_among v p.body ≡ around = sym inside ∙ ap (λ (n : Nested). n.around) same in
       let heads = subst (λ hs. AllByRecursion (λ g. is_head_among (scope_of tree).constants (numbers hs) g ≡ true) hs) (sym around_is) good.1.0.heads in
-      let head_good = (all_split (λ g. is_head_among (scope_of tree).constants (numbers outer) g ≡ true) h.station.heads (p.head ∷ []) heads).1.0 in
-      let moves = ltb-true 0 (unsigned_abs p.head.step) (and_parts (names_only (scope_of tree).constants (numbers outer) p.head.m1 && names_only (scope_of tree).constants (numbers outer) p.head.m2) (nat_lt 0 (unsigned_abs p.head.step)) head_good).1 in
+      let head_good = (all_split (λ g. is_head_among (scope_of tree).constants (numbers (h.station.heads ++ p.head ∷ path_among v p.body)) g ≡ true) h.station.heads (p.head ∷ path_among v p.body) heads).1.0 in
+      let moves = ltb-true 0 (unsigned_abs p.head.step) (and_parts (names_only (scope_of tree).constants (numbers (h.station.heads ++ p.head ∷ path_among v p.body)) p.head.m1 && names_only (scope_of tree).constants (numbers (h.station.heads ++ p.head ∷ path_among v p.body)) p.head.m2) (nat_lt 0 (unsigned_abs p.head.step)) head_good).1 in
       let trip : is_value (last_value (head_trips params p.head loops)) (numbered loops p.head.number) ≡ true =
       sym (ap (λ w. is_last_trip params (Some (record { what = w; around = (there_at tree plan formed fits e h.station h.at).there.around })) loops) p.what) ∙ sym (ap (λ o. is_last_trip params o loops) static_at) ∙ parts.0 in
       let past = last_past (form_value p.head.m1 loops params) (form_value p.head.m2 loops params) p.head.step (numbered loops p.head.number) moves trip in
       record {
         shown = subst (λ ns. Contains (shown_among privates [] (flat_map references_in ns)) a) (sym split) there;
-        last = in_trip (is_private_in plan.cut phase a) (subst (IsInLastTrip params loops) around_is (innermost params loops h.station.heads p.head past));
+        last = in_trip (is_private_in plan.cut phase a) (subst (IsInLastTrip params loops) (sym (inside_these h.station.heads p.head (path_among v p.body)) ∙ ap (λ hs. slice_get hs (length h.station.heads)) around_is) past);
         own = own_trip (is_private_in plan.cut phase a) (subst (λ w. IsOwnLast true params w loops) (sym p.what) past);
       }
     where
       some_nested : (m n : Nested) → Some m ≡ Some n → m ≡ n
       some_nested m n is = cc
 
-      in_trip : (b : Bool) → IsInLastTrip (param_values tree) x.instance.loops around → IsInLastTripWhere b (param_values tree) x.instance.loops around
+      in_trip : (b : Bool) → IsInLastTrip (param_values tree) x.instance.loops (slice_get around (length h.station.heads)) → IsInLastTripWhere (if b then Some (length h.station.heads) else None) (param_values tree) x.instance.loops around
       in_trip true is = is
       in_trip false is = tt
 

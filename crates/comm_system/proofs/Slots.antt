@@ -1,5 +1,5 @@
 -- Each slot, pair and piece has its task in the list.
-use Rattle.std.proofs.Common.{◌≡◌, ℕ, zero, suc, ◌+◌, ◌-◌, ◌<◌, ◌≤◌, nat_lt, Some, None, List, [], ◌∷◌, length, if◌then◌else◌, sym, subst, arith}
+use Rattle.std.proofs.Common.{◌≡◌, ℕ, zero, suc, ◌+◌, ◌-◌, ◌<◌, ◌≤◌, nat_lt, Some, None, List, [], ◌∷◌, ◌++◌, length, if◌then◌else◌, sym, subst, arith}
 use Rattle.std.specs.List.{AllByRecursion, Contains, flat_map, range_with_len, slice_get}
 use Rattle.std.proofs.lemmas.Bool.{lt-ltb}
 use Rattle.std.proofs.lemmas.List.Elements.{Contains-append_left, Contains-append_right}
@@ -10,7 +10,7 @@ use Rattle.sync_plan.specs.declared.plan.Plan.{Plan}
 use Rattle.conflict_rules.specs.Boundaries.{Side}
 use Rattle.comm_system.specs.Levels.{common, levels}
 use Rattle.conflict_rules.specs.Slots.{Slot}
-use Rattle.comm_system.specs.Obligations.{Task, pair_tasks, piece_task, pieces_from, slot_signature, slot_tasks, slots_before, slots_between, slots_from, slots_of, tasks_of, trips_tasks}
+use Rattle.comm_system.specs.Obligations.{Task, pair_tasks, paths_tasks, piece_task, pieces_from, slot_signature, slot_tasks, slots_before, slots_between, slots_from, slots_of, tasks_of, trips_tasks}
 use Rattle.comm_system.specs.OwnerRows.{Piece, pieces}
 use Rattle.comm_system.specs.Pairs.{Pair, pairs_of}
 use Rattle.conflict_rules.specs.References.{StaticPhase, phases_of}
@@ -68,8 +68,11 @@ module _ (tree : Tree) (plan : Plan) where
   slot_task : (slot : Slot) (task : Task) → Contains (slots_of (phases_of tree plan.cut.marks)) slot → Contains (slot_tasks tree plan slot (slot_signature plan.version plan.kinds (phases_of tree plan.cut.marks) slot)) task → Contains (tasks_of tree plan) task
   slot_task slot task there among =
       let phases = phases_of tree plan.cut.marks in
-      Contains-append_right (flat_map (trips_tasks tree plan) phases) (flat_map (λ slot. slot_tasks tree plan slot (slot_signature plan.version plan.kinds phases slot)) (slots_of phases)) task
-      (in_flat_map (λ slot. slot_tasks tree plan slot (slot_signature plan.version plan.kinds phases slot)) (slots_of phases) slot task there among)
+      let slots = flat_map (λ (slot : Slot). slot_tasks tree plan slot (slot_signature plan.version plan.kinds phases slot)) (slots_of phases) in
+      let paths = flat_map (paths_tasks tree plan) phases in
+      let trips = flat_map (trips_tasks tree plan) phases in
+      Contains-append_left (trips ++ slots) paths task
+      (Contains-append_right trips slots task (in_flat_map (λ slot. slot_tasks tree plan slot (slot_signature plan.version plan.kinds phases slot)) (slots_of phases) slot task there among))
 
   -- each piece of a pair has its task
   pub pieces_tasks : (slot : Slot) (left right : ℕ) (producers : List (Anchor × Side)) (pair : Pair) → Contains (slots_of (phases_of tree plan.cut.marks)) slot → slot_signature plan.version plan.kinds (phases_of tree plan.cut.marks) slot ≡ waits left right producers → Contains (pairs_of plan.cut slot.first slot.second) pair →

@@ -1,5 +1,5 @@
 -- Where accesses meet, the values of the unknowns solve the system.
-use Rattle.std.proofs.Common.{◌≡◌, ℕ, zero, suc, ◌+◌, ◌*◌, ◌-◌, ◌<◌, ◌≤◌, ◌&&◌, ℤ, pos, ◌≤ℤ◌, int_le, Bool, true, false, Some, None, List, [], ◌∷◌, ◌++◌, append_assoc, map, length, length-append, get_or, slice_index_or, if◌then◌else◌, refl, ap, sym, ◌∙◌, subst, arith}
+use Rattle.std.proofs.Common.{◌≡◌, ℕ, zero, suc, ◌+◌, ◌*◌, ◌-◌, ◌<◌, ◌≤◌, ◌&&◌, ℤ, pos, ◌≤ℤ◌, int_le, Bool, true, false, Option, Some, None, List, [], ◌∷◌, ◌++◌, append_assoc, map, length, length-append, get_or, slice_index_or, if◌then◌else◌, refl, ap, sym, ◌∙◌, subst, arith}
 use Rattle.std.specs.List.{AllByRecursion, list_all}
 use Rattle.std.proofs.lemmas.Bool.{and_from, and_parts, leb-true}
 use Rattle.std.proofs.lemmas.Int.{ints}
@@ -73,12 +73,12 @@ rows_over vars constants (r ∷ rows) few good =
         let number = and_parts _ _ ps.0 in
         and_from _ _ (number-from vars p.0 (leb-true 1 p.0 number.0) (omega (arith, few, leb-true p.0 constants number.1))) (named_over pairs ps.1)
 
-conditions_met : (values params : List ℤ) (conditions : Conditions) → AreConstants values params → ((k : ℕ) (d : ℤ) → k < length params → numbered values (1 + k) ≡ slice_index_or params k d) → AreGoodConditions (length params) conditions → unmet params conditions ≡ None →
+pub conditions_met : (values params : List ℤ) (conditions : Conditions) → AreConstants values params → ((k : ℕ) (d : ℤ) → k < length params → numbered values (1 + k) ≡ slice_index_or params k d) → AreGoodConditions (length params) conditions → unmet params conditions ≡ None →
     AllByRecursion (IsMet values) (conditions_have params conditions)
 conditions_met values params Values are at good none = constants_met values 1 params at
 conditions_met values params (Rows rows) are at good none = rows_met values params 1 rows are good none
 
-conditions_over : (vars : ℕ) (params : List ℤ) (conditions : Conditions) → length params ≤ vars → AreGoodConditions (length params) conditions → list_all (is_over vars) (conditions_have params conditions) ≡ true
+pub conditions_over : (vars : ℕ) (params : List ℤ) (conditions : Conditions) → length params ≤ vars → AreGoodConditions (length params) conditions → list_all (is_over vars) (conditions_have params conditions) ≡ true
 conditions_over vars params Values few good = constants_have-over vars 1 params (omega arith) (omega (arith, few))
 conditions_over vars params (Rows rows) few good = rows_over vars (length params) rows few good
 
@@ -116,7 +116,7 @@ module _ (tree : Tree) (values : List ℤ) (first : ℕ) (a : Reference) (x : Po
       let place : first + length (laid x.loops a.around x.trips) ≡ first + 2 * length a.around = omega (arith, laid-length (param_values tree) x.loops a.around x.trips made.trips) in
       subst (λ n. LiesAt values n x.free) place (lies-right values first (laid x.loops a.around x.trips) x.free lies)
 
-  pub access_met : (last : Bool) → IsInLastTripWhere last (param_values tree) x.loops a.around → AllByRecursion (IsMet values) (instance_has tree first last a)
+  pub access_met : (last : Option ℕ) → IsInLastTripWhere last (param_values tree) x.loops a.around → AllByRecursion (IsMet values) (instance_has tree first last a)
   access_met last is =
       let params = param_values tree in
       let L = loops_have first a.around first a.around in
@@ -136,7 +136,7 @@ module _ (tree : Tree) (values : List ℤ) (first : ℕ) (a : Reference) (x : Po
       by (array variable) named free = free_valued values (first + 2 * length a.around) (bounds_of tree variable) x.free free_lies free
 
 module _ (tree : Tree) (vars first : ℕ) (a : Reference) (ranks : List ℕ) (good : IsGoodReference (length (param_values tree)) ranks a) (few : length (param_values tree) ≤ vars) (low : 1 ≤ first) (room : first + unknowns_of tree a ≤ vars + 1) where
-  access_over : (last : Bool) → list_all (is_over vars) (instance_has tree first last a) ≡ true
+  access_over : (last : Option ℕ) → list_all (is_over vars) (instance_has tree first last a) ≡ true
   access_over last =
       let C = length (param_values tree) in
       let L = loops_have first a.around first a.around in
@@ -193,7 +193,7 @@ seated-length values params workers (p ∷ placed) [] h = absurd h
 seated-length values params workers (p ∷ placed) (o ∷ os) h = omega (arith, length-append (holder_values p.anchor.dist o) (holders_values placed os), holder-length p.anchor.dist o, seated-length values params workers placed os h.1)
 
 -- what is known of a pair whose accesses meet
-module _ (tree : Tree) (conditions : Conditions) (order : Order) (lasts : Bool × Bool) (pair : Pair) (x y : Point) (ranks : List ℕ) (meet : Meet tree order lasts pair x y) (goods : AreGoodConditions (length (param_values tree)) conditions) (none : unmet (param_values tree) conditions ≡ None)
+module _ (tree : Tree) (conditions : Conditions) (order : Order) (lasts : Option ℕ × Option ℕ) (pair : Pair) (x y : Point) (ranks : List ℕ) (meet : Meet tree order lasts pair x y) (goods : AreGoodConditions (length (param_values tree)) conditions) (none : unmet (param_values tree) conditions ≡ None)
     (good : IsGoodReference (length (param_values tree)) ranks pair.first) (good' : IsGoodReference (length (param_values tree)) ranks pair.second) (owners : List ℤ) where
   abbrev vs : List ℤ
   vs = values_of tree pair x y owners

@@ -1,5 +1,5 @@
 -- The systems of a pair's pieces, part by part.
-use Rattle.std.proofs.Common.{◌≡◌, ℕ, zero, suc, ◌+◌, ◌-◌, ◌<◌, ◌≤◌, negsuc, List, [], ◌∷◌, ◌++◌, length, map, drop, get_or, Bool, slice_get, take, Some, refl, ap, ap₂, sym, ◌∙◌, arith}
+use Rattle.std.proofs.Common.{◌≡◌, ℕ, zero, suc, ◌+◌, ◌-◌, ◌<◌, ◌≤◌, negsuc, List, [], ◌∷◌, ◌++◌, length, map, drop, get_or, slice_get, take, Option, Some, refl, ap, ap₂, sym, ◌∙◌, arith}
 use Rattle.std.specs.Prelude.{Err, Ok, OnErr, OnOk, Result}
 use Rattle.std.proofs.lemmas.List.{drop_more, length-drop, length-map, map-append, take_all}
 use Rattle.farkas_cert.specs.Inequalities.{Inequalities}
@@ -66,7 +66,7 @@ few_made n ps is le =
     omega (arith, few, long)
 
 -- the rows that all pieces share, and the owners' unknowns
-pub shared_system : (tree : Tree) (plan : Plan) (slot : Slot) (producers : List (Anchor × Side)) (pair : Pair) (n : Unknowns) (placed : List Placed) (order : Order) (lasts : Bool × Bool) (old middle new : Inequalities) (count : ℕ) →
+pub shared_system : (tree : Tree) (plan : Plan) (slot : Slot) (producers : List (Anchor × Side)) (pair : Pair) (n : Unknowns) (placed : List Placed) (order : Order) (lasts : Option ℕ × Option ℕ) (old middle new : Inequalities) (count : ℕ) →
     AreUnknowns tree pair n → placed ≡ owners_of tree plan slot producers pair → order ≡ order_at (common slot.first.outer slot.second.outer) slot.level → lasts ≡ lasts_at plan.cut slot pair → count ≡ owners_unknowns (owners_of tree plan slot producers pair) →
     old ≡ record { vars = n.behind + count - 1; rows = [] } → HasMore (pair_rows tree plan.conditions order lasts pair) old middle → HasMore (owners_have plan.workers n.behind placed) middle new →
     new ≡ system_of (behind_pair tree pair + owners_unknowns (owners_of tree plan slot producers pair) - 1)

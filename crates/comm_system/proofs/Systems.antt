@@ -1,5 +1,5 @@
 -- The systems that values solve where accesses meet: of two trips, and of a piece.
-use Rattle.std.proofs.Common.{◌≡◌, ℕ, ◌+◌, ◌-◌, ◌≤◌, nat_lt, ℤ, Bool, true, false, None, List, [], ◌∷◌, ◌++◌, map, length, if◌then◌else◌, sym, subst, inl, inr, arith}
+use Rattle.std.proofs.Common.{◌≡◌, ℕ, ◌+◌, ◌-◌, ◌≤◌, nat_lt, ℤ, Bool, true, false, Option, None, List, [], ◌∷◌, ◌++◌, map, length, if◌then◌else◌, sym, subst, inl, inr, arith}
 use Rattle.std.specs.List.{AllByRecursion}
 use Rattle.std.proofs.lemmas.Bool.{cases_lt, le-ltb, lt-ltb}
 use Rattle.nest_tree.specs.Form.{form_value}
@@ -41,7 +41,7 @@ holders_named tree workers pair x y [] (o ∷ os) h = absurd h
 holders_named tree workers pair x y (u ∷ us) [] h = absurd h
 holders_named tree workers pair x y (u ∷ us) (o ∷ os) h = let rest = holders_named tree workers pair x y us os h.1 in ((h.0.named, rest.0), (h.0.holds, rest.1))
 
-module _ (tree : Tree) (conditions : Conditions) (order : Order) (lasts : Bool × Bool) (pair : Pair) (x y : Point) (ranks : List ℕ) (meet : Meet tree order lasts pair x y) (goods : AreGoodConditions (length (param_values tree)) conditions) (none : unmet (param_values tree) conditions ≡ None)
+module _ (tree : Tree) (conditions : Conditions) (order : Order) (lasts : Option ℕ × Option ℕ) (pair : Pair) (x y : Point) (ranks : List ℕ) (meet : Meet tree order lasts pair x y) (goods : AreGoodConditions (length (param_values tree)) conditions) (none : unmet (param_values tree) conditions ≡ None)
     (good : IsGoodReference (length (param_values tree)) ranks pair.first) (good' : IsGoodReference (length (param_values tree)) ranks pair.second) where
   -- two trips of a loop
   pub trips_solved : IsWholeSolution (system_of (behind_pair tree pair - 1) (pair_rows tree conditions order lasts pair)) (values_of tree pair x y [])

@@ -1,5 +1,5 @@
 -- Of two executions that conflict, the owner of the second waits for that of the first, where no system has a whole solution.
-use Rattle.std.proofs.Common.{◌≡◌, ℕ, suc, ◌+◌, ◌<◌, ◌⊎◌, ◌||◌, Bool, true, false, true≢false, Some, List, [], ◌++◌, length, refl, ap, sym, ◌∙◌, subst, inl, inr, arith}
+use Rattle.std.proofs.Common.{◌≡◌, ℕ, suc, ◌+◌, ◌<◌, ◌⊎◌, ◌||◌, true, false, true≢false, Option, Some, List, [], ◌++◌, length, refl, ap, sym, ◌∙◌, subst, inl, inr, arith}
 use Rattle.std.specs.List.{Contains}
 use Rattle.std.proofs.Math.Bool.{or-true}
 use Rattle.nest_tree.specs.Form.{form_value}
@@ -20,7 +20,7 @@ use Rattle.comm_system.specs.Meetings.{AreSame, IsEarlier, IsHolder, Meet}
 use Rattle.comm_system.specs.Obligations.{Task, anchor_at, tasks_of}
 use Rattle.comm_system.specs.Pairs.{Pair}
 use Rattle.conflict_rules.specs.References.{StaticPhase, phases_of}
-use Rattle.comm_system.specs.Shown.{is_private_in}
+use Rattle.comm_system.specs.Shown.{last_in}
 use Rattle.comm_system.proofs.Accesses.{IsExecutedAt, phase_there, point_at, station_known}
 use Rattle.comm_system.proofs.Certain.{AreTwo, heads_x, heads_y, long_x, long_y}
 use Rattle.comm_system.proofs.CertainLists.{AreCertain, carried_certain, plain_certain}
@@ -101,7 +101,7 @@ module _ (tree : Tree) (plan : Plan) (formed : IsWellFormed tree) (fits : IsFit 
         let X = point_at x.instance (sx.trips ++ px.inner.trips) c.first.touches.free in
         let Y = point_at y.instance (sy.trips ++ py.inner.trips) c.second.touches.free in
         let pair : Pair = record { first = c.a; second = c.b } in
-        let lasts : Bool × Bool = (is_private_in plan.cut first_phase c.a, is_private_in plan.cut second_phase c.b) in
+        let lasts : Option ℕ × Option ℕ = (last_in plan.cut first_phase c.a, last_in plan.cut second_phase c.b) in
         let meet0 = meeting tree plan.cut first_phase second_phase around_x around_y x.instance y.instance conflict.cell c (sx.trips ++ px.inner.trips) (sy.trips ++ py.inner.trips) order lasts px.trips py.trips same2 early c.first_seen.last c.second_seen.last in
         let meet1 : Meet tree (order_at (common sx.heads sy.heads) level) lasts pair X Y = subst (λ o. Meet tree o lasts pair X Y) is meet0 in
         let ax = anchor_at plan sx.visit.place in

@@ -1,6 +1,5 @@
 -- The certain boundaries of a slot, on both sides and on one.
-use Rattle.std.specs.Prelude.{ℕ, Bool, List}
-use Rattle.nest_tree.specs.Tree.{Head}
+use Rattle.std.specs.Prelude.{List}
 pub use Rattle.conflict_rules.specs.Slots.{is_certain}
 use Rattle.conflict_rules.specs.Boundaries.{Boundary, Side, boundaries_where, certain_boundaries}
 use Rattle.conflict_rules.specs.Slots.{Slot}

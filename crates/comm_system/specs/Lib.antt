@@ -8,6 +8,7 @@ pub mod Levels
 pub mod Signatures
 pub mod PairRows
 pub mod OwnerRows
+pub mod Paths
 pub mod Obligations
 pub mod Meetings
 pub mod Rows

@@ -1,5 +1,5 @@
 -- Two instances that access one element, and what the unknowns of their system are there.
-use Rattle.std.specs.Prelude.{ℕ, zero, suc, ◌+◌, ◌<◌, ◌≤◌, ◌≡◌, ℤ, pos, ◌+ℤ◌, ◌-ℤ◌, ◌*ℤ◌, ◌≤ℤ◌, Bool, true, false, IsTrue, int_le, List, [], ◌∷◌, ◌++◌, length, map}
+use Rattle.std.specs.Prelude.{ℕ, zero, suc, ◌+◌, ◌<◌, ◌≤◌, ◌≡◌, ℤ, pos, ◌+ℤ◌, ◌-ℤ◌, ◌*ℤ◌, ◌≤ℤ◌, Bool, true, false, IsTrue, int_le, List, [], ◌∷◌, ◌++◌, length, map, slice_get, Option, Some, None}
 use Rattle.nest_tree.specs.Form.{form_value, numbered}
 use Rattle.nest_tree.specs.Guards.{holds}
 use Rattle.nest_tree.specs.Tree.{Head, Tree, param_values}
@@ -42,7 +42,7 @@ abbrev pub subscripts_at : Tree → Loaded → Point → List ℤ
 subscripts_at tree (element a) x = subscript_values tree x.loops a.subscripts
 subscripts_at tree (array variable) x = x.free
 
--- a value is behind a loop's end, in rising order or in falling one; the innermost of these loops is in its last trip: with one step more its value is past its end
+-- a value is behind a loop's end, in rising order or in falling one; a loop is in its last trip: with one step more its value is past its end
 abbrev pub IsBehind : Bool → ℤ → ℤ → Type 0
 IsBehind true value end = (end +ℤ pos 1) ≤ℤ value
 IsBehind false value end = (value +ℤ pos 1) ≤ℤ end
@@ -50,14 +50,14 @@ IsBehind false value end = (value +ℤ pos 1) ≤ℤ end
 abbrev pub IsPast : ℤ → ℤ → ℤ → Type 0
 IsPast step value end = IsBehind (int_le (pos 0) step) value end
 
-abbrev pub IsInLastTrip : List ℤ → List ℤ → List Head → Type 0
-IsInLastTrip params loops [] = Unit {0}
-IsInLastTrip params loops (h ∷ []) = IsPast h.step (numbered loops h.number +ℤ h.step) (form_value h.m2 loops params)
-IsInLastTrip params loops (h ∷ g ∷ rest) = IsInLastTrip params loops (g ∷ rest)
+abbrev pub IsInLastTrip : List ℤ → List ℤ → Option Head → Type 0
+IsInLastTrip params loops None = Unit {0}
+IsInLastTrip params loops (Some h) = IsPast h.step (numbered loops h.number +ℤ h.step) (form_value h.m2 loops params)
 
-abbrev pub IsInLastTripWhere : Bool → List ℤ → List ℤ → List Head → Type 0
-IsInLastTripWhere true params loops heads = IsInLastTrip params loops heads
-IsInLastTripWhere false params loops heads = Unit {0}
+-- of these loops that inside so many, if one is
+abbrev pub IsInLastTripWhere : Option ℕ → List ℤ → List ℤ → List Head → Type 0
+IsInLastTripWhere None params loops heads = Unit {0}
+IsInLastTripWhere (Some k) params loops heads = IsInLastTrip params loops (slice_get heads k)
 
 -- so many loops from the outermost have equal values
 abbrev pub AreSame : ℕ → List Head → List Head → List ℤ → List ℤ → Type 0
@@ -78,7 +78,7 @@ IsEarlierWhere true k ns ms = IsEarlier k ns ms
 IsEarlierWhere false k ns ms = Unit {0}
 
 -- two points at which the accesses of a pair meet: both are made there, in the last trip where they are made in that alone, at one element, and the loops round them stand in this order
-pub record Meet (tree : Tree) (order : Order) (lasts : Bool × Bool) (pair : Pair) (x y : Point) : Type 0 where
+pub record Meet (tree : Tree) (order : Order) (lasts : Option ℕ × Option ℕ) (pair : Pair) (x y : Point) : Type 0 where
   pub first : IsMadeAt tree pair.first x
   pub second : IsMadeAt tree pair.second y
   pub first_last : IsInLastTripWhere lasts.0 (param_values tree) x.loops pair.first.around

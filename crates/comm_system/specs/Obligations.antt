@@ -1,8 +1,8 @@
--- The obligations of a plan: two trips of a Doall loop, then slot by slot two instances of phases s and t at a level.
-use Rattle.std.specs.Prelude.{ℕ, suc, ◌+◌, ◌-◌, ◌==◌, ℤ, pos, neg_ℤ, Bool, false, List, [], ◌∷◌, ◌++◌, length, map, Option, Some, None, slice_get, if◌then◌else◌}
+-- The obligations of a plan: two trips of a Doall loop, then slot by slot two instances of phases s and t at a level, then the paths of private scalars.
+use Rattle.std.specs.Prelude.{ℕ, suc, ◌+◌, ◌*◌, ◌-◌, ◌==◌, ℤ, pos, neg_ℤ, List, [], ◌∷◌, ◌++◌, length, map, Option, Some, None, slice_get, if◌then◌else◌}
 use Rattle.std.specs.List.{flat_map}
 use Rattle.farkas_cert.specs.Inequalities.{Inequalities}
-use Rattle.nest_tree.specs.Tree.{Tree}
+use Rattle.nest_tree.specs.Tree.{Tree, param_values}
 use Rattle.nest_rows.specs.declared.constraint.Constraint.{Constraint}
 use Rattle.nest_rows.specs.Constraints.{system_of}
 use Rattle.owner_partition.specs.declared.anchor.Anchor.{Anchor}
@@ -16,10 +16,11 @@ pub use Rattle.conflict_rules.specs.Slots.{Slot}
 use Rattle.conflict_rules.specs.Boundaries.{Side, of_first, of_second, certain_boundaries}
 use Rattle.comm_system.specs.Levels.{common, levels, order_at, two_trips}
 use Rattle.comm_system.specs.OwnerRows.{Piece, Placed, distance, last_rows, owner_numbers, owners_have, owners_unknowns, pieces, below, above}
-use Rattle.comm_system.specs.PairRows.{behind_pair, first_of, pair_rows, second_of}
+use Rattle.comm_system.specs.PairRows.{behind_pair, conditions_have, first_of, pair_rows, second_of}
 use Rattle.comm_system.specs.Pairs.{Pair, pairs_of, pairs_within}
 use Rattle.conflict_rules.specs.References.{StaticPhase, phases_of, variable_of}
-use Rattle.comm_system.specs.Shown.{is_private_in}
+use Rattle.comm_system.specs.Paths.{PathLoop, line_of, loops_from, loops_outside, paths_of, zero_trip_has}
+use Rattle.comm_system.specs.Shown.{last_in}
 use Rattle.comm_system.specs.Signatures.{Signature, blocked, waits, signature_of}
 use Rattle.comm_system.specs.declared.obligation.Obligation.{Obligation}
 
@@ -38,7 +39,7 @@ task system pair level piece range = record { system = system; lines = (pair.fir
 -- two trips of a Doall phase access one element
 abbrev pub trips_task : Tree → Plan → StaticPhase → Pair → Task
 trips_task tree plan s pair =
-    task (system_of (behind_pair tree pair - 1) (pair_rows tree plan.conditions (two_trips (length s.outer)) (false, false) pair)) pair 0 0 (pos 0, pos 0)
+    task (system_of (behind_pair tree pair - 1) (pair_rows tree plan.conditions (two_trips (length s.outer)) (None, None) pair)) pair 0 0 (pos 0, pos 0)
 
 abbrev pub trips_tasks : Tree → Plan → StaticPhase → List Task
 trips_tasks tree plan s = if is_dealt plan.cut.marks s.what then map (trips_task tree plan s) (pairs_within plan.cut s) else []
@@ -61,9 +62,9 @@ abbrev pub owners_of : Tree → Plan → Slot → List (Anchor × Side) → Pair
 owners_of tree plan slot producers pair =
     placed_at tree pair (anchor_at plan slot.s, of_first) ∷ placed_at tree pair (anchor_at plan slot.t, of_second) ∷ map (placed_at tree pair) producers
 
--- whether the accesses of a pair are those of private scalars: these are made in the last trip alone
-abbrev pub lasts_at : Cutting → Slot → Pair → Bool × Bool
-lasts_at cut slot pair = (is_private_in cut slot.first pair.first, is_private_in cut slot.second pair.second)
+-- of the accesses of a pair that are those of private scalars, how many loops stand outside the one in whose last trip alone they are made
+abbrev pub lasts_at : Cutting → Slot → Pair → Option ℕ × Option ℕ
+lasts_at cut slot pair = (last_in cut slot.first pair.first, last_in cut slot.second pair.second)
 
 -- the last rows, by the owners' unknowns
 abbrev pub last_of : ℕ → ℕ → List ℕ → Piece → List Constraint
@@ -107,6 +108,20 @@ abbrev pub slot_tasks : Tree → Plan → Slot → Signature → List Task
 slot_tasks tree plan slot blocked = []
 slot_tasks tree plan slot (waits left right producers) = flat_map (pair_tasks tree plan slot left right producers) (pairs_of plan.cut slot.first slot.second)
 
+-- a loop on the path of a private scalar makes no trip; and each of a phase
+abbrev pub zero_trip_task : Tree → Plan → PathLoop → Task
+zero_trip_task tree plan p = record {
+  system = system_of (first_of tree + 2 * length (loops_outside p) - 1) (conditions_have (param_values tree) plan.conditions ++ zero_trip_has (first_of tree) p);
+  lines = (line_of (loops_from p), p.store.line);
+  variable = variable_of p.store.what;
+  level = 0;
+  piece = 0;
+  range = (pos 0, pos 0);
+}
+
+abbrev pub paths_tasks : Tree → Plan → StaticPhase → List Task
+paths_tasks tree plan s = map (zero_trip_task tree plan) (paths_of plan.cut s)
+
 -- the slots in order: the second phase, then the first, then the level
 abbrev pub slots_between : ℕ → StaticPhase → ℕ → StaticPhase → List Slot
 slots_between s first t second = map (λ level. record { s = s; first = first; t = t; second = second; level = level }) (levels (common first.outer second.outer) s t)
@@ -130,6 +145,7 @@ abbrev pub tasks_of : Tree → Plan → List Task
 tasks_of tree plan =
     let phases = phases_of tree plan.cut.marks in
     flat_map (trips_tasks tree plan) phases ++ flat_map (λ slot. slot_tasks tree plan slot (slot_signature plan.version plan.kinds phases slot)) (slots_of phases)
+    ++ flat_map (paths_tasks tree plan) phases
 
 -- an obligation: a task with its number
 abbrev pub numbered : ℕ → Task → Obligation

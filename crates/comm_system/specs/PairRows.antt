@@ -1,5 +1,5 @@
 -- The rows of two instances that access one element: their loops and comparisons, their subscripts, and their order.
-use Rattle.std.specs.Prelude.{ℕ, zero, suc, ◌+◌, ◌*◌, ℤ, pos, negsuc, ◌-ℤ◌, neg_ℤ, Bool, true, false, List, [], ◌∷◌, ◌++◌, length, map, if◌then◌else◌}
+use Rattle.std.specs.Prelude.{ℕ, zero, suc, ◌+◌, ◌*◌, ℤ, pos, negsuc, ◌-ℤ◌, neg_ℤ, List, [], ◌∷◌, ◌++◌, length, map, slice_get, Option, Some, None, if◌then◌else◌}
 use Rattle.nest_tree.specs.Form.{Form}
 use Rattle.nest_tree.specs.Layout.{bounds_of}
 use Rattle.nest_tree.specs.Tree.{Head, Tree, param_values}
@@ -43,18 +43,18 @@ past_next first heads place head = record {
   bound = signed (sign_of head.step) head.step -ℤ pos 1 -ℤ signed (sign_of head.step) head.m2.constant;
 }
 
--- the innermost of these loops, from the one whose value has this number on, is in its last trip
-abbrev pub innermost_last : ℕ → List Head → ℕ → List Head → List Constraint
-innermost_last first heads place [] = []
-innermost_last first heads place (h ∷ []) = past_next first heads place h ∷ []
-innermost_last first heads place (h ∷ g ∷ rest) = innermost_last first heads (place + 2) (g ∷ rest)
+-- the loop whose value has this number, if there is one, is in its last trip
+abbrev pub last_at : ℕ → List Head → ℕ → Option Head → List Constraint
+last_at first heads place None = []
+last_at first heads place (Some h) = past_next first heads place h ∷ []
 
-abbrev pub last_has : Bool → ℕ → List Head → List Constraint
-last_has false first heads = []
-last_has true first heads = innermost_last first heads first heads
+-- of these loops that inside so many is in its last trip, if one is
+abbrev pub last_has : Option ℕ → ℕ → List Head → List Constraint
+last_has None first heads = []
+last_has (Some k) first heads = last_at first heads (first + 2 * k) (slice_get heads k)
 
--- an access's instance: its loops, whose first value has this number, its free subscripts, its comparison, and the innermost loop's last trip where it is made in that alone
-abbrev pub instance_has : Tree → ℕ → Bool → Reference → List Constraint
+-- an access's instance: its loops, whose first value has this number, its free subscripts, its comparison, and the last trip of a loop where it is made in that alone
+abbrev pub instance_has : Tree → ℕ → Option ℕ → Reference → List Constraint
 instance_has tree first last a =
     loops_have first a.around first a.around ++ free_have (first + 2 * length a.around) (free_bounds tree a.what) ++ guard_has first a.around a.guard ++ last_has last first a.around
 
@@ -108,8 +108,8 @@ second_of tree pair = first_of tree + unknowns_of tree pair.first
 abbrev pub behind_pair : Tree → Pair → ℕ
 behind_pair tree pair = second_of tree pair + unknowns_of tree pair.second
 
--- all of them, where each access is made in its innermost loop's last trip alone or not
-abbrev pub pair_rows : Tree → Conditions → Order → Bool × Bool → Pair → List Constraint
+-- all of them, where each access is made in the last trip alone of the loop inside so many of its loops, or not
+abbrev pub pair_rows : Tree → Conditions → Order → Option ℕ × Option ℕ → Pair → List Constraint
 pair_rows tree conditions order lasts pair =
     let m = first_of tree in
     let n = second_of tree pair in

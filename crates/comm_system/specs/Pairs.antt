@@ -1,5 +1,5 @@
 -- Which two accesses conflict, and the pairs of two phases.
-use Rattle.std.specs.Prelude.{◌==◌, Bool, ◌&&◌, ◌||◌, List, map}
+use Rattle.std.specs.Prelude.{List, map}
 use Rattle.std.specs.List.{filter, flat_map}
 use Rattle.owner_partition.specs.Cuts.{Cutting}
 pub use Rattle.conflict_rules.specs.Conflicts.{conflict}

@@ -7,12 +7,13 @@ use Rattle.nest_tree.specs.Form.{Form}
 use Rattle.nest_tree.specs.Tree.{Statement, assign, do_loop, done, load, loop_value, next, print, value, work, Expression, Tree, Declaration}
 use Rattle.owner_partition.specs.declared.anchor.Anchor.{Anchor}
 use Rattle.owner_partition.specs.declared.anchor.Dist.TheVariants.{Block}
-use Rattle.owner_partition.specs.declared.cut.Mark.TheVariants.{Doall, Outer}
+use Rattle.owner_partition.specs.declared.cut.Mark.TheVariants.{Doall, Inner, Outer}
 use Rattle.sync_plan.specs.declared.plan.Conditions.TheVariants.{Values}
 use Rattle.sync_plan.specs.declared.plan.Kind.TheVariants.{Nothing, Barrier, Both}
 use Rattle.sync_plan.specs.declared.plan.Plan.{Plan}
-use Rattle.sync_plan.specs.declared.plan.Version.TheVariants.{One, Two}
-use Rattle.comm_system.specs.Obligations.{Task, tasks_of}
+use Rattle.sync_plan.specs.declared.plan.Version.TheVariants.{One, Two, Five}
+use Rattle.comm_system.specs.Obligations.{Task, paths_tasks, tasks_of}
+use Rattle.conflict_rules.specs.References.{StaticPhase}
 
 -- the form of a number, of a loop's value times a number, and that plus a number
 abbrev fixed : ℤ → Form
@@ -87,6 +88,20 @@ pub no_trips-rows : second (tasks_of no_trips barrier_inside)
     ∷ (pos 0 ∷ pos 0 ∷ pos 0 ∷ negsuc 0 ∷ [], pos 0) ∷ (pos 0 ∷ pos 0 ∷ pos 0 ∷ pos 1 ∷ [], pos 1)
     ∷ (pos 0 ∷ pos 0 ∷ pos 1 ∷ negsuc 0 ∷ [], negsuc 0) ∷ []
 no_trips-rows = refl
+
+-- DO 10 J = 1, 4 round DO 10 I = 1, 3 with K = I, private in J's loop: that I's loop makes no trip, over J and its trip; 3 - 1 <= -1 is its last row
+abbrev stored_inside : StaticPhase
+stored_inside = record { what = loop 1 (pos 1) (pos 4) 2 (loop 2 (pos 1) (pos 3) 3 (set (record { variable = 1; subscripts = [] }) (loop_value 2) 4)); outer = [] }
+
+abbrev private_inside : Plan
+private_inside = record barrier_inside { version = Five; cut = record { marks = Doall ∷ Inner ∷ []; privates = (1 ∷ []) ∷ [] ∷ [] } }
+
+abbrev lined : Task → (ℕ × ℕ) × List (List ℤ × ℤ)
+lined t = (t.lines, rows t)
+
+pub inside-rows : map lined (paths_tasks no_trips private_inside stored_inside)
+    ≡ ((3, 4), (pos 1 ∷ negsuc 0 ∷ [], pos 1) ∷ (negsuc 0 ∷ pos 1 ∷ [], negsuc 0) ∷ (pos 0 ∷ negsuc 0 ∷ [], pos 0) ∷ (pos 1 ∷ pos 0 ∷ [], pos 4) ∷ (pos 0 ∷ pos 0 ∷ [], negsuc 2) ∷ []) ∷ []
+inside-rows = refl
 
 -- DO 10 I = 1, 6 with A(I) = I, DO 20 I = 1, 6 with B(I) = I, DO 30 I = 1, 6 with C(I) = A(7-I), in blocks of two: between the first and the third loop stand two boundaries between neighbours, which in version Two order processors two apart
 abbrev three_loops : Tree

@@ -1,7 +1,7 @@
 -- Accesses and where they stand, as plain data.
 use Rattle.std.specs.Prelude.{Bool}
 use Rattle.std.specs.Option.{option_copied}
-use Rattle.nest_walk.specs.Tables.{Loaded, element, array}
+use Rattle.nest_walk.specs.Tables.{Loaded}
 use Rattle.nest_rows.specs.Views.{heads_of}
 pub use Rattle.conflict_rules.specs.Seen.{target_seen, reference_seen}
 use Rattle.conflict_rules.specs.References.{Reference}

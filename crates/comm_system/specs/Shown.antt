@@ -1,5 +1,5 @@
 -- The own scalars of a phase under a cut, and which accesses others see: of a private scalar its first alone, the store in the loop's last trip.
-use Rattle.std.specs.Prelude.{ℕ, ◌==◌, Bool, false, not, ◌&&◌, ◌||◌, List, [], ◌∷◌, ◌++◌, if◌then◌else◌}
+use Rattle.std.specs.Prelude.{ℕ, ◌==◌, Bool, false, not, ◌&&◌, ◌||◌, List, [], ◌∷◌, ◌++◌, length, Option, Some, None, if◌then◌else◌}
 use Rattle.std.specs.List.{filter, list_any}
 use Rattle.nest_tree.specs.Tree.{Statement, do_loop, work, continue}
 use Rattle.own_scalars.specs.OwnScalars.{is_sum}
@@ -24,6 +24,10 @@ is_among vs v = list_any (λ w. w == v) vs
 -- an access is that of a private scalar of a phase, and of an own scalar
 abbrev pub is_private_in : Cutting → StaticPhase → Reference → Bool
 is_private_in cut s r = is_among (privates_in cut s.what) (variable_of r.what)
+
+-- an access of a private scalar is made, as others see it, in the last trip of the phase's loop alone: how many loops stand outside that one
+abbrev pub last_in : Cutting → StaticPhase → Reference → Option ℕ
+last_in cut s r = if is_private_in cut s r then Some (length s.outer) else None
 
 abbrev pub is_own_in : Cutting → StaticPhase → Reference → Bool
 is_own_in cut s r = is_private_in cut s r || is_summed cut s.what (variable_of r.what)

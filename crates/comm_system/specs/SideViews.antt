@@ -1,5 +1,4 @@
 -- Sides, boundaries and producers as plain data.
-use Rattle.owner_partition.specs.declared.anchor.Anchor.{Anchor}
 pub use Rattle.conflict_rules.specs.SideViews.{side_seen, producer_seen}
 use Rattle.conflict_rules.specs.Boundaries.{Boundary}
 use Rattle.comm_system.specs.declared.boundary.Boundary.{Boundary as HeldBoundary}

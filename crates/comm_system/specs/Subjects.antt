@@ -8,26 +8,30 @@ use Rattle.sync_plan.specs.declared.plan.Plan.{Plan}
 use Rattle.sync_plan.specs.Fit.{is_dealt}
 use Rattle.conflict_rules.specs.Boundaries.{Side}
 use Rattle.conflict_rules.specs.Slots.{Slot}
-use Rattle.comm_system.specs.Obligations.{Task, numbered_from, pair_tasks, slot_signature, slots_of, trips_task}
+use Rattle.comm_system.specs.Obligations.{Task, numbered_from, pair_tasks, slot_signature, slots_of, trips_task, zero_trip_task}
 use Rattle.comm_system.specs.OwnerRows.{pieces}
 use Rattle.comm_system.specs.Pairs.{Pair, pairs_of, pairs_within}
+use Rattle.comm_system.specs.Paths.{PathLoop, path_of, paths_of}
 use Rattle.conflict_rules.specs.References.{StaticPhase, phases_of}
 use Rattle.comm_system.specs.Signatures.{Signature, blocked, waits}
 use Rattle.comm_system.specs.declared.obligation.Obligation.{Obligation}
 
--- a pair of accesses in two trips of a phase, or at a slot, of whose waits the plan shows so many for neighbours and these producers
+-- a pair of accesses in two trips of a phase, or at a slot, of whose waits the plan shows so many for neighbours and these producers; or a loop on the path of a private scalar
 pub data Subject : Type 0 where
   of_trips : StaticPhase → Pair → Subject
   of_slot : Slot → (left right : ℕ) (producers : List (Anchor × Side)) → Pair → Subject
+  of_path : PathLoop → Subject
 
 abbrev pub tasks_about : Tree → Plan → Subject → List Task
 tasks_about tree plan (of_trips s pair) = trips_task tree plan s pair ∷ []
 tasks_about tree plan (of_slot slot left right producers pair) = pair_tasks tree plan slot left right producers pair
+tasks_about tree plan (of_path p) = zero_trip_task tree plan p ∷ []
 
 -- how many systems it has
 abbrev pub count_about : Subject → ℕ
 count_about (of_trips s pair) = 1
 count_about (of_slot slot left right producers pair) = length (pieces (length producers))
+count_about (of_path p) = 1
 
 -- the subjects of a Doall phase, and of a slot, of which the kinds show only its signature
 abbrev pub trips_subjects : Plan → StaticPhase → List Subject
@@ -37,9 +41,18 @@ abbrev pub slot_subjects : Cutting → Slot → Signature → List Subject
 slot_subjects cut slot blocked = []
 slot_subjects cut slot (waits left right producers) = map (of_slot slot left right producers) (pairs_of cut slot.first slot.second)
 
+-- those of the path of a scalar in a phase, and of the paths of its private scalars
+abbrev pub path_subjects : StaticPhase → ℕ → List Subject
+path_subjects s v = map of_path (path_of s v)
+
+abbrev pub paths_subjects : Cutting → StaticPhase → List Subject
+paths_subjects cut s = map of_path (paths_of cut s)
+
 -- all of a plan with these static phases, and all of a plan
 abbrev pub subjects_among : Plan → List StaticPhase → List Subject
-subjects_among plan phases = flat_map (trips_subjects plan) phases ++ flat_map (λ slot. slot_subjects plan.cut slot (slot_signature plan.version plan.kinds phases slot)) (slots_of phases)
+subjects_among plan phases =
+    flat_map (trips_subjects plan) phases ++ flat_map (λ slot. slot_subjects plan.cut slot (slot_signature plan.version plan.kinds phases slot)) (slots_of phases)
+    ++ flat_map (paths_subjects plan.cut) phases
 
 abbrev pub subjects_of : Tree → Plan → List Subject
 subjects_of tree plan = subjects_among plan (phases_of tree plan.cut.marks)

@@ -1,4 +1,4 @@
-// The systems of one pair of accesses.
+// The systems of one pair of accesses, or that of a loop without a trip.
 
 ghost use Rattle.std.specs.Prelude.{◌+◌, ◌<◌, ◌^◌};
 ghost use Rattle.comm_system.specs.Subjects.{count_about};
@@ -12,7 +12,8 @@ use nest_tree::Program;
 use std::alloc::{AllocError, Global};
 use sync_plan::Plan;
 
-/// The systems of one pair of accesses, with the number of the first, from 1.
+/// The systems of one pair of accesses, or that of a loop without a trip, with the number of the
+/// first, from 1.
 #[derive(Drop)]
 pub struct Group<'b, 'a, 'p> {
     pub number: u64,
@@ -47,6 +48,11 @@ impl Group<'_, '_, '_> {
             }
             Subject::Slot(slot, waits, a, b) => {
                 pair_obligations(alloc, program, plan, slot, waits, a, b, self.number)
+            }
+            Subject::ZeroTrip(inside) => {
+                let mut found = Vec::new(alloc);
+                found.push(inside.obligation(alloc, program, plan, self.number)?)?;
+                Ok(found)
             }
         }
     }

@@ -55,7 +55,7 @@ impl<'b, 'a, 'p> Groups<'b, 'a, 'p> {
     }
 
     // One subject more, unless the systems before it pass a number.
-    fn add(&mut self, most: u64, subject: Subject<'b, 'a, 'p>) -> Result<(), AllocError>
+    pub(crate) fn add(&mut self, most: u64, subject: Subject<'b, 'a, 'p>) -> Result<(), AllocError>
         ensures { OnOk result (listed_seen self.new ≡ with_subject most (listed_seen self.old)
             (subject_seen subject.entry)) }
     {
@@ -287,6 +287,7 @@ pub fn list_groups<'b, 'a, 'p>(
     let slots = slots(alloc, phases)?;
     found.add_all_trips(alloc, plan, most, phases)?;
     found.add_all_slots(alloc, plan, phases, most, slots.as_slice())?;
+    found.add_all_paths(&plan.cut, most, phases)?;
     Ok(found)
 }
 

@@ -1,6 +1,6 @@
 // Laws: there is nothing to run.
 
-ghost use Rattle.std.specs.Prelude.{◌≡◌, ◌+◌, ◌-◌, ◌≤◌, ℕ, List, [], ◌∷◌, false, length, map, take};
+ghost use Rattle.std.specs.Prelude.{◌≡◌, ◌+◌, ◌-◌, ◌≤◌, ℕ, List, [], ◌∷◌, None, length, map, take};
 ghost use Rattle.std.specs.List.{AllByRecursion, Contains, flat_map};
 ghost use Rattle.farkas_cert.specs.Inequalities.{HasNoWholeSolution, IsWholeSolution};
 ghost use Rattle.nest_tree.specs.Tree.{Tree};
@@ -41,7 +41,7 @@ pub fn meeting_trips_solve()
     ensures { (tree : Tree) (plan : Plan) (s : StaticPhase) (pair : Pair) (x y : Point)
         → IsWellFormed tree → IsFit tree plan → Contains (phases_of tree plan.cut.marks) s
         → Contains (pairs_within plan.cut s) pair
-        → Meet tree (two_trips (length s.outer)) (false, false) pair x y
+        → Meet tree (two_trips (length s.outer)) (None, None) pair x y
         → IsWholeSolution (trips_task tree plan s pair).system (values_of tree pair x y []) }
 {}
 

@@ -8,6 +8,8 @@
 //!   phases at a level, the boundaries that are certain there, and what they see of a plan's kinds.
 //! - [`pair_systems`], [`in_place`]: the obligation of a pair of accesses in two trips of a phase;
 //!   those in two phases one at a time, in the same memory.
+//! - [`path_loop`], [`paths`]: the loops round the first store of a private scalar, and the
+//!   obligation that one of them makes no trip.
 //! - [`group`], [`groups`], [`obligations`]: the obligations of a plan, and in groups, each of which
 //!   can be made without the others.
 //! - [`laws`]: which slots a kind's change changes; what solves the systems, and that
@@ -29,6 +31,8 @@ pub mod obligations;
 pub mod own;
 mod owner_rows;
 pub mod pair_systems;
+pub mod path_loop;
+pub mod paths;
 pub mod phase;
 pub mod phases;
 mod pieces;

@@ -8,17 +8,18 @@ pub struct Obligation {
     /// The number, from 1.
     pub number: u64,
     pub system: System,
-    /// The lines of the two accesses' statements, from 1.
+    /// The lines of the two accesses' statements, from 1; of a loop without a trip those of its DO and
+    /// of the store inside it.
     pub lines: (u32, u32),
-    /// The variable that both access, from 1.
+    /// The variable that both access, or that is stored, from 1.
     pub variable: u32,
     /// The common loop, from 1, that is at an earlier trip for the first access; 0 where all
-    /// common loops are equal, and for two trips of a Doall loop.
+    /// common loops are equal, for two trips of a Doall loop, and for a loop without a trip.
     pub level: u32,
-    /// The piece, from 1; 0 for two trips of a Doall loop.
+    /// The piece, from 1; 0 for two trips of a Doall loop, and for a loop without a trip.
     pub piece: u32,
     /// Of the first owner's number less the second's: the greatest difference below those that the
-    /// plan's waits order, and the least above; 0 and 0 for two trips of a Doall loop.
+    /// plan's waits order, and the least above; 0 and 0 where the piece is 0.
     pub range: (i32, i32),
 }
 

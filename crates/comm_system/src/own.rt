@@ -6,7 +6,7 @@ ghost use Rattle.comm_system.specs.KeptViews.{kept_seen};
 ghost use Rattle.comm_system.specs.PhaseViews.{phase_seen};
 ghost use Rattle.conflict_rules.specs.References.{references_of};
 ghost use Rattle.conflict_rules.specs.Seen.{reference_seen};
-ghost use Rattle.comm_system.specs.Shown.{is_own_in, is_private_in, is_summed, privates_in, shared_of, shown_of};
+ghost use Rattle.comm_system.specs.Shown.{is_own_in, is_private_in, is_summed, last_in, privates_in, shared_of, shown_of};
 
 use crate::phase::Phase;
 use conflict_rules::reference::Reference;
@@ -42,10 +42,22 @@ pub(crate) struct Kept<'b, 'a> {
 }
 
 // Whether an access is that of a private scalar of a phase.
-pub(crate) fn is_private_in(cut: &Cut, phase: &Phase, reference: &Reference) -> bool
+fn is_private_in(cut: &Cut, phase: &Phase, reference: &Reference) -> bool
     ensures { result ≡ is_private_in cut.now (phase_seen phase.now) (reference_seen reference.now) }
 {
     privates_in(cut, phase.text.item).contains(&reference.target.variable())
+}
+
+// Of an access of a private scalar of a phase, which others see as made in the last trip of the
+// phase's loop alone, how many loops stand outside that loop; none of another access.
+pub(crate) fn last_in(cut: &Cut, phase: &Phase, reference: &Reference) -> Option<usize>
+    ensures { result ≡ last_in cut.now (phase_seen phase.now) (reference_seen reference.now) }
+{
+    if is_private_in(cut, phase, reference) {
+        Some(phase.text.outer.as_slice().len())
+    } else {
+        None
+    }
 }
 
 // Whether an access is that of an own scalar of a phase.

@@ -29,7 +29,7 @@ ghost use Rattle.comm_system.specs.Owned.{HasOwners};
 ghost use Rattle.comm_system.specs.SystemViews.{AreUnknowns, IsShared, about, grown};
 
 use crate::obligation::{Obligation, Topic};
-use crate::own::is_private_in;
+use crate::own::last_in;
 use crate::owner_rows::{Placed, owners_unknowns, push_owners};
 use crate::phase::Phase;
 use crate::pieces::{Direction, Piece};
@@ -143,12 +143,12 @@ fn trips_system<'p>(
         Instance {
             first: n.first,
             reference: a,
-            last: false,
+            last: None,
         },
         Instance {
             first: n.second,
             reference: b,
-            last: false,
+            last: None,
         },
     )?;
     Ok(system)
@@ -354,12 +354,12 @@ pub(crate) fn make_shared<'a, 'p>(
         Instance {
             first: n.first,
             reference: a,
-            last: is_private_in(&plan.cut, slot.first, a),
+            last: last_in(&plan.cut, slot.first, a),
         },
         Instance {
             first: n.second,
             reference: b,
-            last: is_private_in(&plan.cut, slot.second, b),
+            last: last_in(&plan.cut, slot.second, b),
         },
     )?;
     let owners = push_owners(

@@ -100,7 +100,7 @@ pub(crate) fn single(
 }
 
 // The conditions on the named constants, behind the others.
-fn push_conditions<'p>(
+pub(crate) fn push_conditions<'p>(
     alloc: Global,
     system: &mut ConstraintSystem<'p>,
     program: &'p Program,
@@ -231,13 +231,13 @@ fn push_bounds(
     system.push(bounded(alloc, Sign::Minus, unknown, low)?)
 }
 
-// An access, the first unknown of whose instance has this number, and whether it is made in its
-// innermost loop's last trip alone.
+// An access, the first unknown of whose instance has this number; and where it is made in the last
+// trip of a loop alone, how many of the loops round it stand outside that one.
 #[derive(Clone, Copy)]
 pub(crate) struct Instance<'b, 'a> {
     pub(crate) first: u32,
     pub(crate) reference: &'b Reference<'a>,
-    pub(crate) last: bool,
+    pub(crate) last: Option<usize>,
 }
 
 // An access's instance: its loops, whose first value has this number, its free subscripts, its
@@ -270,27 +270,27 @@ fn push_instance(
     push_last_trip(alloc, system, first, around, last)
 }
 
-// The innermost of these loops, whose first value has this number, is in its last trip, where an
-// access is made in that alone.
+// Of these loops, whose first value has this number, that inside so many is in its last trip, where
+// an access is made in that alone.
 fn push_last_trip(
     alloc: Global,
     system: &mut ConstraintSystem,
     first: u32,
     around: &[Around],
-    last: bool,
+    last: Option<usize>,
 ) -> Result<(), AllocError>
     requires room { first + 2 * length around.now < 2 ^ 32 }
     requires steps { IsTrue (are_small_steps (heads_of around.now)) }
     ensures { OnOk result
         (HasMore (last_has last first (heads_of around.now)) system.old system.new) }
 {
-    if !last {
+    let Some(outside) = last else {
         return Ok(());
-    }
-    match around.split_last() {
-        Some((innermost, outer)) => {
-            let place = first + 2 * outer.len() as u32;
-            let row = past_next(alloc, first, around, place, innermost.nest)?;
+    };
+    match around.get(outside) {
+        Some(dealt) => {
+            let place = first + 2 * outside as u32;
+            let row = past_next(alloc, first, around, place, dealt.nest)?;
             system.push(row)
         }
         None => Ok(()),
@@ -333,7 +333,7 @@ fn past_bound(sign: Sign, step: i64, constant: i64) -> i128
 }
 
 // The sign that turns a loop's order to a rising one.
-fn sign_of(step: i64) -> Sign
+pub(crate) fn sign_of(step: i64) -> Sign
     ensures { result ≡ sign_of_step step }
 {
     if step >= 0 { Sign::Plus } else { Sign::Minus }

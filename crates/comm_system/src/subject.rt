@@ -6,19 +6,23 @@ ghost use Rattle.comm_system.specs.Seen.{pair_of};
 ghost use Rattle.comm_system.specs.Subjects.{count_about};
 ghost use Rattle.comm_system.specs.SubjectViews.{subject_at, subject_seen};
 
+use crate::path_loop::PathLoop;
 use crate::phase::Phase;
 use crate::slot::Slot as PhasePair;
 use crate::waits::Waits;
 use conflict_rules::reference::Reference;
 use std::alloc::{AllocError, Global};
 
-/// What the systems of a group speak of: two accesses that conflict.
+/// What the systems of a group speak of: two accesses that conflict, or a loop round the first store
+/// of a private scalar.
 #[derive(Drop)]
 pub enum Subject<'b, 'a, 'p> {
     /// In two trips of a Doall phase.
     Trips(&'b Phase<'a>, &'b Reference<'a>, &'b Reference<'a>),
     /// In the phases of a slot, with what the second waits for.
     Slot(PhasePair<'b, 'a>, Waits<'p>, &'b Reference<'a>, &'b Reference<'a>),
+    /// That this loop makes no trip.
+    ZeroTrip(PathLoop<'b, 'a>),
 }
 
 impl Subject<'_, '_, '_> {
@@ -27,7 +31,7 @@ impl Subject<'_, '_, '_> {
         ensures { result ≡ count_about (subject_seen self.now) }
     {
         match self {
-            Subject::Trips(..) => 1,
+            Subject::Trips(..) | Subject::ZeroTrip(..) => 1,
             Subject::Slot(_, waits, ..) => piece_count(waits),
         }
     }

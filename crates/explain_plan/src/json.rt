@@ -6,7 +6,7 @@ use plan_maker::tries::Tried;
 use plan_text::put_kind;
 use reason_witness::account::{About, Reason, Why};
 use reason_witness::found::Finding;
-use reason_witness::meeting::{Meeting, Touch};
+use reason_witness::meeting::{Meeting, Touch, Witness};
 use serde_json::{Map, Value, json};
 use std::alloc::{AllocError, Global};
 use sync_plan::Kind;
@@ -168,8 +168,14 @@ impl Page<'_> {
                     "obligation",
                     self.obligation_value(alloc, &found.obligation)?,
                 )?;
-                if let Finding::Solved(_, meeting) = &found.finding {
-                    self.put_meeting(alloc, map, place, meeting)?;
+                match &found.finding {
+                    Finding::Solved(_, Witness::Meeting(meeting)) => {
+                        self.put_meeting(alloc, map, place, meeting)?;
+                    }
+                    Finding::Solved(_, Witness::ZeroTrip(loops)) => {
+                        enter(map, alloc, "outside", self.loops_value(alloc, loops)?)?;
+                    }
+                    Finding::Refuted | Finding::Unknown => {}
                 }
                 word_of(&found.finding)
             }
@@ -231,14 +237,15 @@ impl Page<'_> {
             numbers_value(alloc, touch.subscripts.as_slice())?,
         )?;
         enter(&mut map, alloc, "line", Value::from(touch.line))?;
-        enter(&mut map, alloc, "loops", self.loops_value(alloc, touch)?)?;
+        let loops = self.loops_value(alloc, &touch.loops)?;
+        enter(&mut map, alloc, "loops", loops)?;
         Ok(Value::Object(map))
     }
 
-    // The loops round an access, from the outermost, with their values.
-    fn loops_value(&self, alloc: Global, touch: &Touch) -> Result<Value, AllocError> {
+    // Loops, from the outermost, with their values.
+    fn loops_value(&self, alloc: Global, loops: &[(u32, i128)]) -> Result<Value, AllocError> {
         let mut list = Vec::new(alloc);
-        for (number, value) in &touch.loops {
+        for (number, value) in loops {
             let mut map = Map::new(alloc);
             self.put_loop(alloc, &mut map, *number)?;
             enter(&mut map, alloc, "value", number_value(alloc, *value)?)?;
@@ -270,7 +277,8 @@ impl Page<'_> {
 
 fn word_of(finding: &Finding) -> &'static str {
     match finding {
-        Finding::Solved(..) => "meeting",
+        Finding::Solved(_, Witness::Meeting(_)) => "meeting",
+        Finding::Solved(_, Witness::ZeroTrip(_)) => "zero_trip",
         Finding::Refuted => "certified",
         Finding::Unknown => "unknown",
     }

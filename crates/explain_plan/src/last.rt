@@ -10,7 +10,7 @@ use nest_walk::{Instances, Path, value_at};
 use owner_partition::{Anchor, Dist};
 use reason_witness::account::{Account, Reason, Why};
 use reason_witness::found::Finding;
-use reason_witness::meeting::{Meeting, Touch};
+use reason_witness::meeting::{Meeting, Touch, Witness};
 use std::alloc::{AllocError, Global};
 use sync_plan::Plan;
 
@@ -55,7 +55,7 @@ fn load_of(place: usize, reason: &Reason) -> Option<Load<'_>> {
     let Why::Found(found) = &reason.why else {
         return None;
     };
-    let Finding::Solved(_, meeting) = &found.finding else {
+    let Finding::Solved(_, Witness::Meeting(meeting)) = &found.finding else {
         return None;
     };
     let Meeting { first, second, .. } = meeting;

@@ -81,6 +81,12 @@ impl Page<'_> {
         self.loops.get((number as usize).checked_sub(1)?)
     }
 
+    /// Whether a loop's DO stands in this line: an obligation whose first line it is speaks of a loop
+    /// without a trip.
+    pub(crate) fn is_loop_line(&self, line: u32) -> bool {
+        self.loops.iter().any(|it| it.line == line)
+    }
+
     /// The line of a static phase by its number, from 1; 0 where there is none.
     pub(crate) fn line_of(&self, phase: u32) -> u32 {
         let place = (phase as usize).saturating_sub(1);

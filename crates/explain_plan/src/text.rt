@@ -7,7 +7,7 @@ use plan_maker::tries::Tried;
 use plan_text::put_kind;
 use reason_witness::account::{About, Reason, Why};
 use reason_witness::found::{Finding, Found, Wanted};
-use reason_witness::meeting::{Meeting, Touch};
+use reason_witness::meeting::{Meeting, Touch, Witness};
 use std::alloc::{AllocError, Global};
 use sync_plan::Kind;
 
@@ -36,15 +36,24 @@ fn word_of(reason: &Reason) -> Word {
     }
 }
 
-// Why a wait stands in whose way nothing is, by the maker's word for it.
-fn certified_words(word: Word) -> &'static [u8] {
+// Why the maker kept what has a certificate, by its word.
+fn unseen_words(word: Word) -> &'static [u8] {
     match word {
         Word::Open | Word::Wide | Word::Many | Word::Work => {
-            b"no two iterations meet; elimination's order doesn't see it".as_slice()
+            b"; elimination's order doesn't see it".as_slice()
         }
-        Word::Spent => {
-            b"no two iterations meet; the plan's limit of 800,000 pairs of rows was used up before"
-        }
+        Word::Spent => b"; the plan's limit of 800,000 pairs of rows was used up before",
+    }
+}
+
+// How elimination left an obligation for which nothing is found.
+fn answer_words(word: Word) -> &'static [u8] {
+    match word {
+        Word::Open => b": elimination leaves it open".as_slice(),
+        Word::Wide => b": numbers of elimination grow too large",
+        Word::Many => b": rows of elimination grow too many",
+        Word::Work => b": elimination gave up after 65,536 pairs of rows",
+        Word::Spent => b": the plan's limit of 800,000 pairs of rows was used up before",
     }
 }
 
@@ -273,47 +282,78 @@ impl Page<'_> {
         match &reason.why {
             Why::Print => push_words(text, b"a PRINT stands in it"),
             Why::Found(found) => match &found.finding {
-                Finding::Solved(_, meeting) => self.push_meeting(text, place, meeting),
+                Finding::Solved(_, Witness::Meeting(meeting)) => {
+                    self.push_meeting(text, place, meeting)
+                }
+                Finding::Solved(_, Witness::ZeroTrip(loops)) => {
+                    self.push_zero_trip(text, &found.obligation, loops)
+                }
                 Finding::Refuted | Finding::Unknown => {
                     self.push_unmet(text, found, word_of(reason))
                 }
             },
-            Why::Certified => push_words(
-                text,
-                match &reason.wanted {
-                    Wanted::Named(cause) => certified_words(cause.word),
-                    Wanted::First | Wanted::Number(_) => {
-                        b"nothing is in its way: each obligation has a certificate"
-                    }
-                },
-            ),
+            Why::Certified => match &reason.wanted {
+                Wanted::Named(cause) => {
+                    self.push_certified(text, cause.lines)?;
+                    push_words(text, unseen_words(cause.word))
+                }
+                Wanted::First | Wanted::Number(_) => push_words(
+                    text,
+                    b"nothing is in its way: each obligation has a certificate",
+                ),
+            },
             Why::Unfit(_) => push_words(text, b"nothing is known of it"),
         }
     }
 
-    // What is found of an obligation but two iterations; elimination's answer is the word.
+    // What is found of an obligation but a witness; elimination's answer is the word.
     fn push_unmet(&self, text: &mut Vec<u8>, found: &Found, word: Word) -> Result<(), AllocError> {
+        let lines = found.obligation.lines;
         if matches!(&found.finding, Finding::Refuted) {
+            self.push_certified(text, lines)?;
             return push_words(
                 text,
-                b"no two iterations meet: a certificate exists, and the plan has no good one",
+                b": a certificate exists, and the plan has no good one",
             );
         }
         self.push_obligation(text, &found.obligation)?;
+        push_words(text, answer_words(word))?;
+        push_words(text, b", and neither a certificate nor ")?;
         push_words(
             text,
-            match word {
-                Word::Open => b": elimination leaves it open".as_slice(),
-                Word::Wide => b": numbers of elimination grow too large",
-                Word::Many => b": rows of elimination grow too many",
-                Word::Work => b": elimination gave up after 65,536 pairs of rows",
-                Word::Spent => b": the plan's limit of 800,000 pairs of rows was used up before",
+            if self.is_loop_line(lines.0) {
+                b"a case without a trip is".as_slice()
+            } else {
+                b"two iterations are"
             },
         )?;
-        push_words(
-            text,
-            b", and neither a certificate nor two iterations are found within the budget",
-        )
+        push_words(text, b" found within the budget")
+    }
+
+    // That what an obligation of these lines speaks of never comes.
+    fn push_certified(&self, text: &mut Vec<u8>, lines: (u32, u32)) -> Result<(), AllocError> {
+        if !self.is_loop_line(lines.0) {
+            return push_words(text, b"no two iterations meet");
+        }
+        push_part(text, b"line ", i128::from(lines.0))?;
+        push_words(text, b"'s loop always makes a trip")
+    }
+
+    // That a loop round a private scalar's first store may make no trip, where those outside it have
+    // these values.
+    fn push_zero_trip(
+        &self,
+        text: &mut Vec<u8>,
+        o: &Obligation,
+        loops: &[(u32, i128)],
+    ) -> Result<(), AllocError> {
+        push_part(text, b"line ", i128::from(o.lines.0))?;
+        push_words(text, b"'s loop may make no trip")?;
+        self.push_values(text, loops)?;
+        push_words(text, b", and ")?;
+        push_words(text, self.name_of(o.variable))?;
+        push_part(text, b" isn't stored in line ", i128::from(o.lines.1))?;
+        push_words(text, b" then")
     }
 
     // Two iterations that meet, of the reason at a place.
@@ -371,8 +411,13 @@ impl Page<'_> {
         )?;
         self.push_element(text, touch)?;
         push_part(text, b" in line ", i128::from(touch.line))?;
+        self.push_values(text, &touch.loops)
+    }
+
+    // The values of loops.
+    fn push_values(&self, text: &mut Vec<u8>, loops: &[(u32, i128)]) -> Result<(), AllocError> {
         let mut word = b" at ".as_slice();
-        for (number, value) in &touch.loops {
+        for (number, value) in loops {
             push_words(text, word)?;
             match self.loop_at(*number) {
                 Some(it) => push_words(text, it.variable.as_slice())?,

@@ -8,6 +8,7 @@ use Rattle.nest_model.specs.Ranges.{IsInRange}
 use Rattle.owner_partition.specs.Phases.{Execution, executions}
 use Rattle.sync_plan.specs.Fit.{IsFit}
 use Rattle.sync_plan.specs.Ordered.{IsOrdered, owner_under}
+use Rattle.sync_plan.proofs.OwnLoops.{nothing_in}
 use Rattle.sync_plan.specs.declared.plan.Kind.{Kind}
 use Rattle.sync_plan.specs.declared.plan.Kind.TheVariants.{Join}
 use Rattle.spmd_model.specs.Timelines.{counter, post, await}
@@ -49,8 +50,11 @@ one_owner : (kinds : List Kind) → AllByRecursion (λ x. owner_under line (plan
 one_owner kinds = (refl, (refl, (refl, tt)))
 
 pub ordered : (kinds : List Kind) → IsOrdered line (plan_with kinds)
-ordered kinds j k x y less first second clash apart =
-    absurd (apart (all_at (λ x. owner_under line (plan_with kinds) x ≡ 0) (executions line []) j x (one_owner kinds) first ∙ sym (all_at (λ x. owner_under line (plan_with kinds) x ≡ 0) (executions line []) k y (one_owner kinds) second)))
+ordered kinds = record {
+  chained = λ j k x y less first second clash apart.
+      absurd (apart (all_at (λ x. owner_under line (plan_with kinds) x ≡ 0) (executions line []) j x (one_owner kinds) first ∙ sym (all_at (λ x. owner_under line (plan_with kinds) x ≡ 0) (executions line []) k y (one_owner kinds) second)));
+  stored = λ k v head body x u at what trip private. absurd (nothing_in u private);
+}
 
 -- ---- the acts of processor 1
 

@@ -12,4 +12,5 @@ pub mod nests;
 mod privates;
 pub mod tries;
 
-pub use cut::{cut_of, cut_of_try};
+pub use cut::{cut_alone, cut_of, cut_of_try};
+pub use privates::DealtBy;

@@ -33,8 +33,8 @@ impl Tried {
         }
     }
 
-    /// The private scalars of a loop that is dealt out so.
-    pub(crate) fn privates(self, alloc: Global, nest: &Nest) -> Result<Privates, AllocError>
+    /// The private scalars of a loop that is dealt out so. The error is that memory ran out.
+    pub fn privates(self, alloc: Global, nest: &Nest) -> Result<Privates, AllocError>
         ensures { IfOk result (λ privates. privates ≡ tried_privates self (nest_body nest.now)) }
     {
         match self {

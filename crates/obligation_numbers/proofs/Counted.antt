@@ -15,7 +15,7 @@ use Rattle.sync_plan.specs.declared.plan.Plan.{Plan}
 use Rattle.sync_plan.specs.Fit.{is_dealt}
 use Rattle.sync_plan.specs.Shape.{do_rise}
 use Rattle.comm_system.specs.Levels.{common, levels}
-use Rattle.comm_system.specs.Obligations.{Slot, Task, obligations_of, pair_tasks, piece_task, slot_signature, slot_tasks, slots_before, slots_between, slots_from, slots_of, tasks_of, trips_task, trips_tasks}
+use Rattle.comm_system.specs.Obligations.{Slot, Task, obligations_of, pair_tasks, paths_tasks, piece_task, slot_signature, slot_tasks, slots_before, slots_between, slots_from, slots_of, tasks_of, trips_task, trips_tasks}
 use Rattle.comm_system.specs.OwnerRows.{pieces}
 use Rattle.comm_system.specs.Pairs.{Pair, conflict, pairs_among, pairs_of, pairs_within}
 use Rattle.comm_system.specs.References.{Reference, StaticPhase, phases_of, reference_of, references_in, references_of, variable_of}
@@ -23,7 +23,7 @@ use Rattle.comm_system.specs.Shown.{is_among, is_own_in, is_summed, privates_in,
 use Rattle.comm_system.specs.Signatures.{Signature, blocked, waits}
 use Rattle.comm_system.proofs.GroupLists.{numbered_length, pieces_length}
 use Rattle.obligation_numbers.specs.Sums.{access_sum, access_sums, shown_sum, sum_from, without, work_sum}
-use Rattle.obligation_numbers.specs.Counts.{conflict_count, count_before, count_between, count_of, pair_count, piece_count, slot_count, trips_count, within_count}
+use Rattle.obligation_numbers.specs.Counts.{conflict_count, count_before, count_between, count_of, pair_count, path_count, paths_count, piece_count, slot_count, trips_count, within_count}
 use Rattle.obligation_numbers.proofs.SeenSums.{by_key, first_stores, seen_sum}
 
 -- sums of equal terms, of what is mapped, and of what is flattened
@@ -178,10 +178,23 @@ module _ (tree : Tree) (plan : Plan) (phases : List StaticPhase) where
       ∙ ap (λ k. k + length (flat_map tasks_at (slots_from phases (suc t) rest))) (before 1 phases t second stored stored'.0)
       ∙ ap (λ k. count_before plan phases t second + k) (all_slots (suc t) rest stored stored'.1)
 
-pub all_counted : (tree : Tree) (plan : Plan) → AllByRecursion (AreStoredFirst plan.cut) (phases_of tree plan.cut.marks) → length (obligations_of tree plan) ≡ count_of tree plan
-all_counted tree plan stored =
+-- ---- those of the paths
+
+abbrev pub ArePathsCounted : Tree → Plan → StaticPhase → Type 0
+ArePathsCounted tree plan s = length (paths_tasks tree plan s) ≡ path_count plan.cut s.what
+
+all_paths : (tree : Tree) (plan : Plan) (n : ℕ) (ps : List StaticPhase) → AllByRecursion (ArePathsCounted tree plan) ps → length (flat_map (paths_tasks tree plan) ps) ≡ sum_from (paths_count plan) n ps
+all_paths tree plan n [] counted = refl
+all_paths tree plan n (p ∷ ps) counted =
+    length-append (paths_tasks tree plan p) (flat_map (paths_tasks tree plan) ps)
+    ∙ ap (λ k. k + length (flat_map (paths_tasks tree plan) ps)) counted.0 ∙ ap (λ k. path_count plan.cut p.what + k) (all_paths tree plan (suc n) ps counted.1)
+
+pub all_counted : (tree : Tree) (plan : Plan) → AllByRecursion (AreStoredFirst plan.cut) (phases_of tree plan.cut.marks) → AllByRecursion (ArePathsCounted tree plan) (phases_of tree plan.cut.marks) → length (obligations_of tree plan) ≡ count_of tree plan
+all_counted tree plan stored counted =
     let phases = phases_of tree plan.cut.marks in
     let trips = flat_map (trips_tasks tree plan) phases in
     let slots = flat_map (tasks_at tree plan phases) (slots_of phases) in
-    numbered_length 1 (tasks_of tree plan) ∙ length-append trips slots
-    ∙ ap (λ k. k + length slots) (all_trips tree plan 1 phases) ∙ ap (λ k. sum_from (trips_count plan) 1 phases + k) (all_slots tree plan phases 1 phases stored stored)
+    let paths = flat_map (paths_tasks tree plan) phases in
+    numbered_length 1 (tasks_of tree plan) ∙ length-append (trips ++ slots) paths ∙ ap (λ k. k + length paths) (length-append trips slots)
+    ∙ ap (λ k. k + length slots + length paths) (all_trips tree plan 1 phases) ∙ ap (λ k. sum_from (trips_count plan) 1 phases + k + length paths) (all_slots tree plan phases 1 phases stored stored)
+    ∙ ap (λ k. sum_from (trips_count plan) 1 phases + sum_from (count_before plan phases) 1 phases + k) (all_paths tree plan 1 phases counted)

@@ -5,3 +5,4 @@ pub mod Walked
 pub mod Shown
 pub mod Saturated
 pub mod Levels
+pub mod PathCounts

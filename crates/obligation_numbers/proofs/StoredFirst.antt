@@ -19,8 +19,8 @@ use Rattle.sync_plan.specs.declared.plan.Version.{Version}
 use Rattle.sync_plan.specs.Shape.{are_good_anchors, are_good_conditions, are_good_kinds, are_good_privates, are_marked_well, do_rise, has_good_privates, has_privates, have_good_privates, have_good_sums, is_privately_good, static_phases, wrong_field}
 use Rattle.sync_plan.proofs.Fits.{field_right}
 use Rattle.comm_system.specs.References.{Reference, StaticPhase, phases_among, phases_in, phases_of, reference_of, references_in, variable_of}
-use Rattle.comm_system.proofs.FirstStores.{all_away, first_store, loaded_away, loads_apart, stored_rank}
-use Rattle.comm_system.proofs.GoodReferences.{AllIn, among_phases, loaded_good, stored_good}
+use Rattle.comm_system.proofs.FirstStores.{first_store, path_among, store_first, stored_rank}
+use Rattle.comm_system.proofs.GoodReferences.{AllIn, among_phases, stored_good}
 use Rattle.comm_system.proofs.Lists.{all_split}
 use Rattle.obligation_numbers.proofs.Counted.{AreStoredFirst}
 use Rattle.obligation_numbers.proofs.SeenSums.{first_stores}
@@ -28,10 +28,6 @@ use Rattle.obligation_numbers.proofs.SeenSums.{first_stores}
 first_behind : (v : ℕ) (before : List Reference) (r : Reference) (rest : List Reference) → AllByRecursion (λ (b : Reference). (variable_of b.what == v) ≡ false) before → (variable_of r.what == v) ≡ true → first_stores v (before ++ r ∷ rest) ≡ r.stores
 first_behind v [] r rest away here = ap (λ b. if b then r.stores else first_stores v rest) here
 first_behind v (b ∷ before) r rest away here = ap (λ c. if c then b.stores else first_stores v (before ++ r ∷ rest)) away.0 ∙ first_behind v before r rest away.1 here
-
-not_true : (b : Bool) → not b ≡ true → b ≡ false
-not_true true h = absurd (true≢false (sym h))
-not_true false h = refl
 
 -- behind pieces of work that haven't a scalar, a plain store of it is its first access
 module _ (scope : Scope) (v : ℕ) (around : List Head) (before after : List Nested) where
@@ -43,33 +39,24 @@ module _ (scope : Scope) (v : ℕ) (around : List Head) (before after : List Nes
   plain_first (assign s) plain goods none =
       let n : Nested = record { what = assign s; around = around } in
       let split = all_split (IsGoodNested scope) before (n ∷ after) goods in
-      let good = split.1.0 in
       let q = and_parts (is_of v s.target && not (loads v s.value)) (is_none s.guard) plain in
       let o = and_parts (is_of v s.target) (not (loads v s.value)) q.0 in
-      let number = (and_parts (s.target.variable == v) (length s.target.subscripts == 0) o.0).0 in
-      let scalar = (stored_rank scope good.loops v s.target (stored_good scope good.loops (assign s) good.good).0 o.0).0 in
-      let t : Reference = reference_of n true (element s.target) in
-      let first : List Reference = flat_map references_in before in
-      let loaded : List Reference = map (reference_of n false) (loaded_in_work (assign s)) in
-      let later : List Reference = flat_map references_in after in
-      let whole : flat_map references_in (there (assign s)) ≡ (first ++ loaded) ++ t ∷ later =
-      flat_map-append references_in before (n ∷ after) ∙ ap (λ l. first ++ l) (append_assoc loaded (t ∷ []) later) ∙ sym (append_assoc first loaded (t ∷ later)) in
-      let away = all-append (λ (b : Reference). (variable_of b.what == v) ≡ false) first loaded (all_away scope v scalar before split.0 none)
-      (loads_apart scope v scalar n (loaded_in_work (assign s)) (loaded_away scope v scalar good.loops (assign s) (loaded_good scope good.loops (assign s) good.good) (not_true (loads v s.value) o.1))) in
-      ap (first_stores v) whole ∙ first_behind v (first ++ loaded) t later away number
+      let scalar = (stored_rank scope split.1.0.loops v s.target (stored_good scope split.1.0.loops (assign s) split.1.0.good).0 o.0).0 in
+      let f = store_first scope v scalar before after s around split.0 split.1.0 none plain in
+      ap (first_stores v) f.split ∙ first_behind v f.before (reference_of n true (element s.target)) f.after f.away f.variable
 
 module _ (scope : Scope) (around : List Head) (body : Statements) (goods : AllByRecursion (IsGoodNested scope) (nested_among around body)) where
   private_first : (v : ℕ) → is_private v body ≡ true → first_stores v (flat_map references_in (nested_among around body)) ≡ true
   private_first v is =
       let f = first_store v around body is in
       ap (λ ns. first_stores v (flat_map references_in ns)) f.split
-      ∙ plain_first scope v around f.before f.after f.store f.plain (subst (AllByRecursion (IsGoodNested scope)) f.split goods) f.away
+      ∙ plain_first scope v (around ++ path_among v body) f.before f.after f.store f.plain (subst (AllByRecursion (IsGoodNested scope)) f.split goods) f.away
 
   privates_first : (vs : List ℕ) → list_all (λ v. is_private v body) vs ≡ true → AllByRecursion (λ v. first_stores v (flat_map references_in (nested_among around body)) ≡ true) vs
   privates_first [] good = tt
   privates_first (v ∷ vs) good = let parts = and_parts (is_private v body) (list_all (λ v. is_private v body) vs) good in (private_first v parts.0, privates_first vs parts.1)
 
-good_parts : (version : Version) (mark : Mark) (body : Statements) (vs : List ℕ) → are_good_privates version mark body vs ≡ true → (do_rise 0 vs ≡ true) × (list_all (λ v. is_private v body) vs ≡ true)
+pub good_parts : (version : Version) (mark : Mark) (body : Statements) (vs : List ℕ) → are_good_privates version mark body vs ≡ true → (do_rise 0 vs ≡ true) × (list_all (λ v. is_private v body) vs ≡ true)
 good_parts version mark body [] good = (refl, refl)
 good_parts version mark body (v ∷ vs) good =
     let few = has_privates version && is_doall mark && nat_le (length (v ∷ vs)) 16 in
@@ -101,7 +88,7 @@ module _ (version : Version) (cut : Cutting) (enters : ℕ → Bool) where
     good_in outer (work w) good = (refl, tt)
     good_in outer (continue line) good = tt
 
-    good_among : (outer : List Head) (ss : Statements) → have_good_privates version cut ss ≡ true → AllByRecursion (λ (p : StaticPhase). has_good_privates version cut p.what ≡ true) (phases_among enters outer ss)
+    pub good_among : (outer : List Head) (ss : Statements) → have_good_privates version cut ss ≡ true → AllByRecursion (λ (p : StaticPhase). has_good_privates version cut p.what ≡ true) (phases_among enters outer ss)
     good_among outer done good = tt
     good_among outer (next s rest) good =
         let parts = and_parts (has_good_privates version cut s) (have_good_privates version cut rest) good in
@@ -111,7 +98,7 @@ each_first : (scope : Scope) (version : Version) (cut : Cutting) (ps : List Stat
 each_first scope version cut [] good goods = tt
 each_first scope version cut (p ∷ ps) good goods = (phase_first scope version cut p.outer p.what good.0 goods.0, each_first scope version cut ps good.1 goods.1)
 
-shape_privates : (tree : Tree) (plan : Plan) → wrong_field tree plan ≡ None → have_good_privates plan.version plan.cut tree.items ≡ true
+pub shape_privates : (tree : Tree) (plan : Plan) → wrong_field tree plan ≡ None → have_good_privates plan.version plan.cut tree.items ≡ true
 shape_privates tree plan none =
     let text = static_phases tree plan.cut.marks in
     let constants = length tree.params in

@@ -1,8 +1,9 @@
 -- How many obligations a plan has, counted over its static phases.
 use Rattle.std.specs.Prelude.{ℕ, ◌+◌, ◌*◌, ◌-◌, ◌==◌, Bool, ◌&&◌, ◌||◌, List, length, slice_get, sum_by, if◌then◌else◌}
 use Rattle.std.specs.Option.{is_some}
-use Rattle.nest_tree.specs.Tree.{Head, Statement, Tree}
-use Rattle.owner_partition.specs.Cuts.{Cutting}
+use Rattle.nest_tree.specs.Tree.{Head, Statement, Tree, do_loop, work, continue}
+use Rattle.own_scalars.specs.OwnScalars.{path_length}
+use Rattle.owner_partition.specs.Cuts.{Cutting, privates_of}
 use Rattle.sync_plan.specs.declared.plan.Kind.{Kind}
 use Rattle.sync_plan.specs.declared.plan.Plan.{Plan}
 use Rattle.sync_plan.specs.Fit.{is_dealt}
@@ -68,8 +69,17 @@ count_before plan phases t second = sum_from (count_between plan phases t second
 abbrev pub trips_count : Plan → ℕ → StaticPhase → ℕ
 trips_count plan n s = if is_dealt plan.cut.marks s.what then within_count plan.cut s.what else 0
 
+-- those of the loops on the paths of the private scalars of a phase
+abbrev pub path_count : Cutting → Statement → ℕ
+path_count cut (do_loop head body) = sum_by (λ v. path_length v body) (privates_of cut.privates head.number)
+path_count cut (work w) = 0
+path_count cut (continue line) = 0
+
+abbrev pub paths_count : Plan → ℕ → StaticPhase → ℕ
+paths_count plan n s = path_count plan.cut s.what
+
 -- those of a plan
 abbrev pub count_of : Tree → Plan → ℕ
 count_of tree plan =
     let phases = phases_of tree plan.cut.marks in
-    sum_from (trips_count plan) 1 phases + sum_from (count_before plan phases) 1 phases
+    sum_from (trips_count plan) 1 phases + sum_from (count_before plan phases) 1 phases + sum_from (paths_count plan) 1 phases

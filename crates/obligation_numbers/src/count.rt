@@ -9,7 +9,7 @@ ghost use Rattle.comm_system.specs.Obligations.{obligations_of};
 
 use crate::phases::phases_weight;
 use crate::scene::Scene;
-use crate::slots::Trips;
+use crate::slots::{Paths, Trips};
 use nest_tree::Program;
 use sync_plan::Plan;
 
@@ -21,5 +21,6 @@ pub fn obligation_count(program: &Program, plan: &Plan) -> u64
 {
     let trips = phases_weight(&Trips { plan }, program, &plan.cut);
     let slots = phases_weight(&Scene { program, plan }, program, &plan.cut);
-    trips.saturating_add(slots)
+    let paths = phases_weight(&Paths { plan }, program, &plan.cut);
+    trips.saturating_add(slots).saturating_add(paths)
 }

@@ -1,12 +1,13 @@
-// How many obligations two phases have, and each phase with all others.
+// How many obligations two phases have, each phase with all others, and each by itself.
 
 ghost use Rattle.std.specs.Prelude.{◌≡◌, ◌+◌, ◌-◌, ◌≤◌, sum_by};
 ghost use Rattle.std.specs.Io.Iter.{u64_saturate};
 ghost use Rattle.std.specs.List.{range_with_len};
-ghost use Rattle.nest_tree.specs.View.{tree_of};
+ghost use Rattle.nest_tree.specs.View.{statement_of, statements_from, tree_of};
+ghost use Rattle.own_scalars.specs.OwnScalars.{path_length};
 ghost use Rattle.comm_system.specs.Obligations.{slot_signature};
 ghost use Rattle.comm_system.specs.References.{phases_of};
-ghost use Rattle.obligation_numbers.specs.Counts.{certain_count, count_before, count_between, pair_count as pairs_between, piece_count, slot_count, trips_count};
+ghost use Rattle.obligation_numbers.specs.Counts.{certain_count, count_before, count_between, pair_count as pairs_between, path_count, paths_count, piece_count, slot_count, trips_count};
 ghost use Rattle.obligation_numbers.specs.SlotViews.{first_of, phases_at, second_of, slot_at};
 ghost use Rattle.obligation_numbers.specs.Tests.{passes};
 
@@ -15,7 +16,9 @@ use crate::conflicts::{pair_count, within_count};
 use crate::phases::{PhaseWeight, phases_weight};
 use crate::scene::{Both, Scene, Second};
 use nest_rows::common;
-use owner_partition::StaticPhase;
+use nest_tree::Item;
+use own_scalars::path_length;
+use owner_partition::{Cut, StaticPhase};
 use sync_plan::Plan;
 
 impl Both<'_, '_> {
@@ -155,4 +158,40 @@ impl PhaseWeight for Trips<'_> {
             0
         }
     }
+}
+
+// The loops on the paths of the private scalars of each phase.
+#[derive(Clone, Copy)]
+pub(crate) struct Paths<'x> {
+    pub(crate) plan: &'x Plan,
+}
+
+impl PhaseWeight for Paths<'_> {
+    ghost weight = { λ x. paths_count x.plan.now };
+
+    fn weigh(&self, _number: u32, phase: &StaticPhase) -> u64 {
+        path_count(&self.plan.cut, phase.item)
+    }
+}
+
+// Those of a phase.
+fn path_count(cut: &Cut, item: &Item) -> u64
+    ensures { result ≡ u64_saturate (path_count cut.now (statement_of item.now)) }
+{
+    match item {
+        Item::Loop(nest) => path_lengths(&nest.items, cut.privates_of(nest.number)),
+        Item::Assign(..) | Item::Print(..) | Item::Continue(_) => 0,
+    }
+}
+
+// The loops on the paths of these scalars in a loop with this body.
+fn path_lengths(body: &[Item], scalars: &[u32]) -> u64
+    ensures { result
+        ≡ u64_saturate (sum_by (λ v. path_length v (statements_from body.now)) scalars.now) }
+{
+    let mut total = 0u64;
+    for &scalar in scalars {
+        total = total.saturating_add(path_length(body, scalar));
+    }
+    total
 }

@@ -6,7 +6,7 @@ use Rattle.std.proofs.lemmas.Bool.{and_from, and_parts, cases_Bool, eqb-true}
 use Rattle.std.proofs.lemmas.List.Folds.{list_any-append}
 use Rattle.nest_tree.specs.Loads.{loads_in}
 use Rattle.nest_tree.specs.Tree.{Expression, number, loop_value, param, load, neg, add, sub, mul, div, least_of, greatest_of, Work, assign, print, Statement, Statements, do_loop, work, continue, done, next}
-use Rattle.own_scalars.specs.OwnScalars.{adds_once, adds_to, has_access, is_addition, is_of, is_other, is_plain_statement, is_plain_store, is_private, is_sum, is_sum_or_difference, last_stored, last_stored_in, loads, private_scalars, some_in, some_of, stores, sum_scalars}
+use Rattle.own_scalars.specs.OwnScalars.{adds_once, adds_to, has_access, is_addition, is_of, is_other, is_plain_store, is_private, is_stored_first, is_sum, is_sum_or_difference, last_stored, last_stored_in, loads, private_scalars, some_in, some_of, stores, sum_scalars}
 use Rattle.own_scalars.proofs.Ranges.{there}
 use Rattle.own_scalars.proofs.Stored.{neither, unstored_private}
 
@@ -96,20 +96,21 @@ plain_other v (assign a) e =
     unadded true false l f h = refl
     unadded false false l f h = refl
 
-plain_not : (v : ℕ) (s : Statement) → some_in (is_other v) s ≡ false → is_plain_statement v s ≡ false
-plain_not v (do_loop head body) e = refl
-plain_not v (continue line) e = refl
-plain_not v (work w) e = elim (cases_Bool (is_plain_store v w)) [
-  | inl plain ↦ absurd (true≢false (sym (plain_other v w plain) ∙ e))
-  | inr other ↦ other
-]
+mutual
+  plain_not : (v : ℕ) (s : Statement) → some_in (is_other v) s ≡ false → is_stored_first v s ≡ false
+  plain_not v (do_loop head body) e = others_none v body e
+  plain_not v (continue line) e = refl
+  plain_not v (work w) e = elim (cases_Bool (is_plain_store v w)) [
+    | inl plain ↦ absurd (true≢false (sym (plain_other v w plain) ∙ e))
+    | inr other ↦ other
+  ]
 
-others_none : (v : ℕ) (ss : Statements) → some_of (is_other v) ss ≡ false → is_private v ss ≡ false
-others_none v done e = refl
-others_none v (next s rest) e =
-    let parts = neither (some_in (is_other v) s) (some_of (is_other v) rest) e in
-    elim (some_in (has_access v) s) as (λ b. (if b then is_plain_statement v s else is_private v rest) ≡ false)
-    [ true ↦ plain_not v s parts.0 | false ↦ others_none v rest parts.1 ]
+  others_none : (v : ℕ) (ss : Statements) → some_of (is_other v) ss ≡ false → is_private v ss ≡ false
+  others_none v done e = refl
+  others_none v (next s rest) e =
+      let parts = neither (some_in (is_other v) s) (some_of (is_other v) rest) e in
+      elim (some_in (has_access v) s) as (λ b. (if b then is_stored_first v s else is_private v rest) ≡ false)
+      [ true ↦ plain_not v s parts.0 | false ↦ others_none v rest parts.1 ]
 
 pub sum_private : (body : Statements) (v : ℕ) → is_sum v body ≡ true → is_private v body ≡ false
 sum_private body v is = others_none v body (none (some_of (is_other v) body) (and_parts (some_of (stores v) body) (not (some_of (is_other v) body)) is).1)

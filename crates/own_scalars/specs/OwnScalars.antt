@@ -82,16 +82,27 @@ is_other v w = has_access v w && not (is_addition v w)
 abbrev pub is_sum : ℕ → Statements → Bool
 is_sum v body = some_of (stores v) body && not (some_of (is_other v) body)
 
--- a statement is a plain store of the scalar, in no loop
-abbrev pub is_plain_statement : ℕ → Statement → Bool
-is_plain_statement v (do_loop head body) = false
-is_plain_statement v (work w) = is_plain_store v w
-is_plain_statement v (continue line) = false
+-- the scalar's first access in a statement, loads before the store, is the store of an assignment without comparison; and so in a loop with this body: it may be private
+abbrev mutual
+  pub is_stored_first : ℕ → Statement → Bool
+  is_stored_first v (do_loop head body) = is_private v body
+  is_stored_first v (work w) = is_plain_store v w
+  is_stored_first v (continue line) = false
 
--- its first access in a loop with this body, loads before the store, is the store of an assignment without comparison that stands in no loop inside: it may be private
-abbrev pub is_private : ℕ → Statements → Bool
-is_private v done = false
-is_private v (next s rest) = if some_in (has_access v) s then is_plain_statement v s else is_private v rest
+  pub is_private : ℕ → Statements → Bool
+  is_private v done = false
+  is_private v (next s rest) = if some_in (has_access v) s then is_stored_first v s else is_private v rest
+
+-- the length of its path: how many loops inside a loop with this body stand round its first access there, 0 where there is none
+abbrev mutual
+  pub path_length_in : ℕ → Statement → ℕ
+  path_length_in v (do_loop head body) = suc (path_length v body)
+  path_length_in v (work w) = 0
+  path_length_in v (continue line) = 0
+
+  pub path_length : ℕ → Statements → ℕ
+  path_length v done = 0
+  path_length v (next s rest) = if some_in (has_access v) s then path_length_in v s else path_length v rest
 
 -- the greatest number of a scalar that a text stores, 0 where there is none
 abbrev pub stored_by : Work → ℕ

@@ -1,8 +1,9 @@
 // The sum scalars of a loop, and its scalars that may be private.
 
+ghost use Rattle.std.specs.Io.Iter.{u64_saturate};
 ghost use Rattle.std.specs.Prelude.{◌≡◌, ◌≤◌, ◌↔◌, IfSome, IsSome, length, take};
 ghost use Rattle.nest_tree.specs.View.{statement_of, statements_from};
-ghost use Rattle.own_scalars.specs.OwnScalars.{is_plain_statement, is_private, is_sum, last_stored, last_stored_in, private_scalars, sum_scalars};
+ghost use Rattle.own_scalars.specs.OwnScalars.{is_private, is_stored_first, is_sum, last_stored, last_stored_in, path_length, path_length_in, private_scalars, sum_scalars};
 
 use crate::expressions::{is_of, loads};
 use crate::works::{Look, some_in, some_of};
@@ -22,35 +23,63 @@ pub fn is_sum(body: &[Item], scalar: u32) -> bool
 }
 
 /// Whether the scalar with this number, from 1, may be private in a loop with this body: its first
-/// access there, loads before the store, is the store of an assignment without comparison that
-/// stands in no loop inside. It takes no memory.
+/// access there, loads before the store, is the store of an assignment without comparison, which may
+/// stand in loops inside. It takes no memory.
 pub fn is_private(body: &[Item], scalar: u32) -> bool
     ensures { result ≡ is_private scalar (statements_from body.now) }
 {
-    some_of(body, Look::Store, scalar) && is_stored_first(body, scalar)
+    some_of(body, Look::Store, scalar) && are_stored_first(body, scalar)
 }
 
 // The same of a scalar of which it isn't known that it is stored at all.
-fn is_stored_first(body: &[Item], scalar: u32) -> bool
-    ensures { result ≡ is_private scalar (statements_from body.now) }
+#[cycle(first)]
+fn are_stored_first(items: &[Item], scalar: u32) -> bool
+    ensures { result ≡ is_private scalar (statements_from items.now) }
 {
-    for item in body {
+    for item in items {
         if some_in(item, Look::Access, scalar) {
-            return is_plain_statement(item, scalar);
+            return is_stored_first(item, scalar);
         }
     }
     false
 }
 
-// Whether a statement stores the scalar, doesn't load it, and has no comparison.
-fn is_plain_statement(item: &Item, scalar: u32) -> bool
-    ensures { result ≡ is_plain_statement scalar (statement_of item.now) }
+// Whether the first access of the scalar in a statement is such a store.
+#[cycle(first)]
+fn is_stored_first(item: &Item, scalar: u32) -> bool
+    ensures { result ≡ is_stored_first scalar (statement_of item.now) }
 {
     match item {
+        Item::Loop(nest) => are_stored_first(&nest.items, scalar),
         Item::Assign(target, value, guard, _) => {
             is_of(target, scalar) && !loads(value, scalar) && guard.is_none()
         }
-        Item::Loop(_) | Item::Print(..) | Item::Continue(_) => false,
+        Item::Print(..) | Item::Continue(_) => false,
+    }
+}
+
+/// How many loops inside a loop with this body stand round the first access of the scalar with this
+/// number, from 1: the length of its path. 0 where there is no access; 2^64 - 1 where there are more.
+/// It takes no memory.
+#[cycle(path)]
+pub fn path_length(body: &[Item], scalar: u32) -> u64
+    ensures { result ≡ u64_saturate (path_length scalar (statements_from body.now)) }
+{
+    for item in body {
+        if some_in(item, Look::Access, scalar) {
+            return path_length_in(item, scalar);
+        }
+    }
+    0
+}
+
+#[cycle(path)]
+fn path_length_in(item: &Item, scalar: u32) -> u64
+    ensures { result ≡ u64_saturate (path_length_in scalar (statement_of item.now)) }
+{
+    match item {
+        Item::Loop(nest) => path_length(&nest.items, scalar).saturating_add(1),
+        Item::Assign(..) | Item::Print(..) | Item::Continue(_) => 0,
     }
 }
 

@@ -1,5 +1,5 @@
 -- Programs that agree have the same obligations, where the conditions on their named constants are the same.
-use Rattle.std.proofs.Common.{◌≡◌, ℕ, suc, ◌+◌, ◌-◌, ◌*◌, ℤ, pos, neg_ℤ, Bool, true, false, not, cond, List, [], ◌∷◌, ◌++◌, length, map, if◌then◌else◌, refl, sym, ap, subst, ◌∙◌}
+use Rattle.std.proofs.Common.{◌≡◌, ℕ, suc, ◌+◌, ◌-◌, ◌*◌, ℤ, pos, neg_ℤ, Bool, true, false, not, cond, Option, None, List, [], ◌∷◌, ◌++◌, length, map, if◌then◌else◌, refl, sym, ap, subst, ◌∙◌}
 use Rattle.std.specs.List.{AllByRecursion, filter, flat_map}
 use Rattle.std.proofs.lemmas.List.{length-map, map-append}
 use Rattle.nest_tree.specs.declared.tree.Access.{Access}
@@ -20,10 +20,11 @@ use Rattle.sync_plan.specs.Fit.{is_dealt}
 use Rattle.sync_plan.specs.Shape.{wrong_field}
 use Rattle.comm_system.specs.Boundaries.{Side, of_first, of_second}
 use Rattle.comm_system.specs.Levels.{Order, common, levels, order_at, two_trips}
-use Rattle.comm_system.specs.Obligations.{Slot, Task, anchor_at, last_of, lasts_at, numbered_from, obligations_of, owners_of, pair_tasks, piece_task, pieces_from, placed_at, slot_signature, slot_tasks, slots_before, slots_between, slots_from, slots_of, trips_task, trips_tasks}
+use Rattle.comm_system.specs.Obligations.{Slot, Task, anchor_at, last_of, lasts_at, numbered_from, obligations_of, owners_of, pair_tasks, paths_tasks, piece_task, pieces_from, placed_at, slot_signature, slot_tasks, slots_before, slots_between, slots_from, slots_of, trips_task, trips_tasks, zero_trip_task}
 use Rattle.comm_system.specs.OwnerRows.{Piece, Placed, below, above, distance, owner_numbers, owners_have, owners_unknowns, pieces}
 use Rattle.comm_system.specs.PairRows.{Sum, behind_pair, conditions_have, first_of, free_bounds, free_have, free_sums, instance_has, last_has, ordered_so, pair_rows, same_element, second_of, subscripts_of, unknowns_of}
 use Rattle.comm_system.specs.Pairs.{Pair, conflict, pairs_of, pairs_within}
+use Rattle.comm_system.specs.Paths.{PathLoop, line_of, loops_from, loops_outside, paths_of, zero_trip_has}
 use Rattle.comm_system.specs.References.{Reference, StaticPhase, phases_among, reference_of, references_in, references_of, variable_of}
 use Rattle.comm_system.specs.Shown.{is_among, is_own_in, privates_in, shared_of, shown_among, shown_of}
 use Rattle.comm_system.specs.Signatures.{Signature, blocked, waits}
@@ -172,14 +173,14 @@ module _ (f g : Tree) (plan : Plan) (long : length f.params ≡ length g.params)
   behind : (pair : Pair) → PairSame f g pair → behind_pair f pair ≡ behind_pair g pair
   behind pair h = ap (λ n. n + unknowns_of f pair.second) (second pair h) ∙ ap (λ n. second_of g pair + n) (unknowns pair.second h.1)
 
-  instance : (n : ℕ) (last : Bool) (a : Reference) → HasSame f g a → instance_has f n last a ≡ instance_has g n last a
+  instance : (n : ℕ) (last : Option ℕ) (a : Reference) → HasSame f g a → instance_has f n last a ≡ instance_has g n last a
   instance n last a h = ap (λ bs. loops_have n a.around n a.around ++ free_have (n + 2 * length a.around) bs ++ guard_has n a.around a.guard ++ last_has last n a.around) h
 
   subscripts : (n : ℕ) (heads : List Head) (l : Loaded) → free_bounds f l ≡ free_bounds g l → subscripts_of f n heads l ≡ subscripts_of g n heads l
   subscripts n heads (element a) h = refl
   subscripts n heads (array v) h = ap (free_sums (n + 2 * length heads)) h
 
-  rows : (order : Order) (lasts : Bool × Bool) (pair : Pair) → PairSame f g pair → pair_rows f plan.conditions order lasts pair ≡ pair_rows g plan.conditions order lasts pair
+  rows : (order : Order) (lasts : Option ℕ × Option ℕ) (pair : Pair) → PairSame f g pair → pair_rows f plan.conditions order lasts pair ≡ pair_rows g plan.conditions order lasts pair
   rows order lasts pair h =
       let a = pair.first in
       let b = pair.second in
@@ -201,7 +202,7 @@ module _ (f g : Tree) (plan : Plan) (long : length f.params ≡ length g.params)
   trips s pair h =
       let order = two_trips (length s.outer) in
       let K : ℕ → List Constraint → Task = λ q rs. record { system = system_of (q - 1) rs; lines = (pair.first.line, pair.second.line); variable = variable_of pair.first.what; level = 0; piece = 0; range = (pos 0, pos 0) } in
-      ap (λ q. K q (pair_rows f plan.conditions order (false, false) pair)) (behind pair h) ∙ ap (K (behind_pair g pair)) (rows order (false, false) pair h)
+      ap (λ q. K q (pair_rows f plan.conditions order (None, None) pair)) (behind pair h) ∙ ap (K (behind_pair g pair)) (rows order (None, None) pair h)
 
   all_trips : (s : StaticPhase) → PhaseSame f g s → trips_tasks f plan s ≡ trips_tasks g plan s
   all_trips s h = ap (λ ts. if is_dealt plan.cut.marks s.what then ts else []) (each_mapped (trips_task f plan s) (trips_task g plan s) (PairSame f g) (trips s) (pairs_within plan.cut s) (within_same f g plan.cut s h))
@@ -246,15 +247,27 @@ module _ (f g : Tree) (plan : Plan) (long : length f.params ≡ length g.params)
       each_joined (pair_tasks f plan slot left right producers) (pair_tasks g plan slot left right producers) (PairSame f g) (λ pair k. all_pieces slot left right producers pair k 1 (pieces (length producers)))
       (pairs_of plan.cut slot.first slot.second) (pairs_same f g plan.cut slot.first slot.second h.0 h.1)
 
+  path_same : (p : PathLoop) → zero_trip_task f plan p ≡ zero_trip_task g plan p
+  path_same p =
+      let K : ℕ → List Constraint → Task = λ m cs. record { system = system_of (m + 2 * length (loops_outside p) - 1) (cs ++ zero_trip_has m p); lines = (line_of (loops_from p), p.store.line); variable = variable_of p.store.what; level = 0; piece = 0; range = (pos 0, pos 0) } in
+      ap (λ m. K m (conditions_have (param_values f) plan.conditions)) first ∙ ap (K (first_of g)) conds
+
+  paths_same : (s : StaticPhase) → paths_tasks f plan s ≡ paths_tasks g plan s
+  paths_same s = all_mapped (zero_trip_task f plan) (zero_trip_task g plan) path_same (paths_of plan.cut s)
+
   abbrev tasks_among : Tree → List StaticPhase → List Task
-  tasks_among tree phases = flat_map (trips_tasks tree plan) phases ++ flat_map (λ slot. slot_tasks tree plan slot (slot_signature plan.version plan.kinds phases slot)) (slots_of phases)
+  tasks_among tree phases =
+      flat_map (trips_tasks tree plan) phases ++ flat_map (λ slot. slot_tasks tree plan slot (slot_signature plan.version plan.kinds phases slot)) (slots_of phases) ++ flat_map (paths_tasks tree plan) phases
 
   among_same : (phases : List StaticPhase) → AllByRecursion (PhaseSame f g) phases → tasks_among f phases ≡ tasks_among g phases
   among_same phases h =
-      ap (λ ts. ts ++ flat_map (λ slot. slot_tasks f plan slot (slot_signature plan.version plan.kinds phases slot)) (slots_of phases)) (each_joined (trips_tasks f plan) (trips_tasks g plan) (PhaseSame f g) all_trips phases h)
-      ∙ ap (λ ts. flat_map (trips_tasks g plan) phases ++ ts)
+      let slots = λ (tree : Tree). flat_map (λ (slot : Slot). slot_tasks tree plan slot (slot_signature plan.version plan.kinds phases slot)) (slots_of phases) in
+      let paths = λ (tree : Tree). flat_map (paths_tasks tree plan) phases in
+      ap (λ ts. (ts ++ slots f) ++ paths f) (each_joined (trips_tasks f plan) (trips_tasks g plan) (PhaseSame f g) all_trips phases h)
+      ∙ ap (λ ts. (flat_map (trips_tasks g plan) phases ++ ts) ++ paths f)
       (each_joined (λ slot. slot_tasks f plan slot (slot_signature plan.version plan.kinds phases slot)) (λ slot. slot_tasks g plan slot (slot_signature plan.version plan.kinds phases slot)) (SlotSame f g)
       (λ slot k. slot_same slot (slot_signature plan.version plan.kinds phases slot) k) (slots_of phases) (from_same f g phases 1 phases h h))
+      ∙ ap (λ ts. (flat_map (trips_tasks g plan) phases ++ slots g) ++ ts) (each_joined (paths_tasks f plan) (paths_tasks g plan) (PhaseSame f g) (λ s k. paths_same s) phases h)
 
   by_parts : f.items ≡ g.items → HaveSameBounds f g (printed_whole f.items) → obligations_of f plan ≡ obligations_of g plan
   by_parts items bounds =

@@ -1,4 +1,4 @@
--- Where a barrier stands in front of each phase, each slot is blocked, and a plan has no obligations but those of its Doall loops.
+-- Where a barrier stands in front of each phase, each slot is blocked, and a plan has no obligations but those of its Doall loops and of its private scalars' paths.
 use Rattle.std.proofs.Common.{◌≡◌, ℕ, zero, suc, ◌+◌, ◌-◌, ◌<◌, ◌≤◌, ◌==◌, Bool, true, false, ◌&&◌, ◌||◌, not, nat_le, nat_lt, List, [], ◌∷◌, ◌++◌, length, map, Some, None, if◌then◌else◌, refl, ap, sym, ◌∙◌, subst, inl, inr, arith}
 use Rattle.std.specs.Prelude.{◌⊎◌, replicate, slice_get, sum_by}
 use Rattle.std.specs.List.{AllByRecursion, flat_map, list_any, range_with_len}
@@ -20,7 +20,7 @@ use Rattle.sync_plan.specs.Fit.{IsFit}
 use Rattle.sync_plan.specs.Shape.{static_phases, wrong_field}
 use Rattle.comm_system.specs.Boundaries.{Boundary, Side, boundaries_where, certain_boundaries, is_before_second, is_behind_first, is_prefix, of_first, of_second}
 use Rattle.comm_system.specs.Levels.{common, levels}
-use Rattle.comm_system.specs.Obligations.{Slot, Task, numbered_from, obligations_of, slot_signature, slot_tasks, slots_before, slots_between, slots_from, slots_of, trips_tasks}
+use Rattle.comm_system.specs.Obligations.{Slot, Task, numbered_from, obligations_of, paths_tasks, slot_signature, slot_tasks, slots_before, slots_between, slots_from, slots_of, trips_tasks}
 use Rattle.comm_system.specs.References.{StaticPhase, phases_of}
 use Rattle.comm_system.specs.Signatures.{blocked, waits, counted, is_barrier, kind_at, last_three, left_waits, or_nothing, producers_at, right_waits, signature_of}
 use Rattle.comm_system.proofs.Slots.{slot_at}
@@ -190,8 +190,9 @@ barriers_there tree plan kinds fits k x at =
 pub only_doall : (tree : Tree) (plan : Plan) → plan.kinds ≡ replicate (length plan.anchors) Barrier → wrong_field tree plan ≡ None → obligations_of tree plan ≡ doall_obligations tree plan
 only_doall tree plan kinds fits =
     let phases = phases_of tree plan.cut.marks in
-    ap (λ ts. numbered_from 1 (flat_map (trips_tasks tree plan) phases ++ ts)) (none_of_slots tree plan phases (barriers_there tree plan kinds fits))
-    ∙ ap (numbered_from 1) (append-nil (flat_map (trips_tasks tree plan) phases))
+    let paths = flat_map (paths_tasks tree plan) phases in
+    ap (λ ts. numbered_from 1 ((flat_map (trips_tasks tree plan) phases ++ ts) ++ paths)) (none_of_slots tree plan phases (barriers_there tree plan kinds fits))
+    ∙ ap (λ ts. numbered_from 1 (ts ++ paths)) (append-nil (flat_map (trips_tasks tree plan) phases))
 
 pub barriers_accepted : (tree : Tree) (cut : Cutting) (anchors : List Anchor) (workers : ℕ) (certificates : List Certificate) → IsFit tree (barrier_plan cut anchors workers certificates) →
     AreCertified (doall_obligations tree (barrier_plan cut anchors workers certificates)) certificates → IsAccepted tree (barrier_plan cut anchors workers certificates)

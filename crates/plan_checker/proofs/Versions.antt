@@ -24,7 +24,7 @@ use Rattle.sync_plan.specs.Fit.{IsFit}
 use Rattle.sync_plan.specs.Shape.{are_good_conditions}
 use Rattle.comm_system.specs.Boundaries.{Boundary, Side, certain_boundaries}
 use Rattle.comm_system.specs.Levels.{common, order_at}
-use Rattle.comm_system.specs.Obligations.{Slot, Task, last_of, lasts_at, numbered_from, obligations_of, owners_of, pair_tasks, piece_task, pieces_from, slot_signature, slot_tasks, slots_of, tasks_of, trips_tasks}
+use Rattle.comm_system.specs.Obligations.{Slot, Task, last_of, lasts_at, numbered_from, obligations_of, owners_of, pair_tasks, paths_tasks, piece_task, pieces_from, slot_signature, slot_tasks, slots_of, tasks_of, trips_tasks}
 use Rattle.comm_system.specs.OwnerRows.{Direction, Piece, beside, distance, owner_numbers, owners_have, owners_unknowns, pieces, above, below}
 use Rattle.comm_system.specs.PairRows.{behind_pair, pair_rows}
 use Rattle.comm_system.specs.Pairs.{Pair, pairs_of}
@@ -124,8 +124,12 @@ plan_stricter tree plan =
     let phases = phases_of tree plan.cut.marks in
     let trips = flat_map (trips_tasks tree plan) phases in
     let made = λ (version : Version) (slot : Slot). slot_tasks tree plan slot (slot_signature version plan.kinds phases slot) in
-    stricter_append trips trips (flat_map (made One) (slots_of phases)) (flat_map (made Two) (slots_of phases)) (stricter_self trips)
-    (stricter_each (made One) (made Two) (slots_of phases) (λ slot. seen_stricter tree plan slot (certain_boundaries phases slot.first.outer slot.second.outer slot.s slot.t slot.level)))
+    let paths = flat_map (paths_tasks tree plan) phases in
+    let one = flat_map (made One) (slots_of phases) in
+    let two = flat_map (made Two) (slots_of phases) in
+    stricter_append (trips ++ one) (trips ++ two) paths paths
+    (stricter_append trips trips one two (stricter_self trips) (stricter_each (made One) (made Two) (slots_of phases) (λ slot. seen_stricter tree plan slot (certain_boundaries phases slot.first.outer slot.second.outer slot.s slot.t slot.level))))
+    (stricter_self paths)
 
 -- ---- its certificates
 

@@ -133,6 +133,14 @@ fn fault_in(
             let mut systems = PairSystems::new(alloc, program, plan, slot, waits, a, b, number)?;
             fault_in_place(alloc, certificates, &mut systems)
         }
+        Subject::ZeroTrip(inside) => {
+            let (topic, left) = inside.presolved(alloc, program, plan, number)?;
+            if let Some(fault) = fault_left(alloc, certificates, topic, &left)? {
+                return Ok(fault);
+            }
+            let obligation = inside.obligation(alloc, program, plan, number)?;
+            fault_of(alloc, certificates, &obligation)
+        }
     }
 }
 

@@ -26,8 +26,8 @@ use Rattle.maker_marks.specs.declared.tries.Tried.TheVariants as tries
 use Rattle.plan_maker.specs.Cut.{IsTriedCut}
 use Rattle.maker_marks.specs.Marks.{has_free, have_free, inner_in, inner_of, marks_by, marks_of}
 use Rattle.maker_marks.specs.Privates.{none_in, none_of, privates_by, privates_in, privates_of}
-use Rattle.maker_marks.specs.Tries.{IsMadeOf, body_among, body_in, has_few_sums, has_no_privates, is_admitted, tried_mark, tried_privates}
-use Rattle.plan_maker.proofs.DealtPhases.{HasIn, HasOf, has-all, has-first, has-rest, tried-closed}
+use Rattle.maker_marks.specs.Tries.{IsMadeOf, body_among, body_in, has_few_sums, has_no_privates, is_admitted, tried_mark}
+use Rattle.plan_maker.proofs.DealtPhases.{HasIn, HasOf, has-all, has-first, has-rest, tried-closed, tried_dealt}
 use Rattle.plan_maker.proofs.Marked.{inner-count_in, marks_count}
 use Rattle.plan_maker.proofs.OwnRising.{privates_good}
 use Rattle.plan_maker.proofs.Standing.{StandsAt, enters_at, front_stands, mark_at, more_stand, none-count_in, one_stands, privates_count, rest_stands}
@@ -55,12 +55,38 @@ mutual
         | Some b ↦ λ e at. let r = within_in scope around first n s b parts.0 e in (r.0, omega (arith, r.1))
       ] refl found
 
--- each loop that is dealt out among these is so by a try that is made of it
-abbrev pub IsTriedIn : (ℕ → Option Tried) → Statement → Type 0
-IsTriedIn dealt s = (n : ℕ) (t : Tried) (body : Statements) → dealt n ≡ Some t → body_in n s ≡ Some body → IsMadeOf t body
+-- and its statements are good
+pub record AreGood (scope : Scope) (ss : Statements) : Type 0 where
+  pub around : List ℕ
+  pub first : ℕ
+  pub good : are_good_statements scope around first ss ≡ true
 
-abbrev pub AreTried : (ℕ → Option Tried) → Statements → Type 0
-AreTried dealt ss = (n : ℕ) (t : Tried) (body : Statements) → dealt n ≡ Some t → body_among n ss ≡ Some body → IsMadeOf t body
+mutual
+  good_in : (scope : Scope) (around : List ℕ) (first n : ℕ) (s : Statement) (body : Statements) → is_good_statement scope around first s ≡ true → body_in n s ≡ Some body → AreGood scope body
+  good_in scope around first n (do_loop head inner) body good found =
+      let g = good_loop scope around first head inner good in
+      elim (head.number == n) as (λ b. (if b then Some inner else body_among n inner) ≡ Some body → AreGood scope body) [
+        | true ↦ λ at. let same : inner ≡ body = cc in record { around = head.number ∷ around; first = first + 1; good = subst (λ ss. are_good_statements scope (head.number ∷ around) (first + 1) ss ≡ true) same g.inside }
+        | false ↦ λ at. found_good scope (head.number ∷ around) (first + 1) n inner body g.inside at
+      ] found
+  good_in scope around first n (work w) body good found = absurd (cc)
+  good_in scope around first n (continue line) body good found = absurd (cc)
+
+  pub found_good : (scope : Scope) (around : List ℕ) (first n : ℕ) (ss : Statements) (body : Statements) → are_good_statements scope around first ss ≡ true → body_among n ss ≡ Some body → AreGood scope body
+  found_good scope around first n done body good found = absurd (cc)
+  found_good scope around first n (next s rest) body good found =
+      let parts = and_parts (is_good_statement scope around first s) (are_good_statements scope around (first + loops_in s) rest) good in
+      elim (body_in n s) as (λ o. body_in n s ≡ o → option_or o (body_among n rest) ≡ Some body → AreGood scope body) [
+        | None ↦ λ e at. found_good scope around (first + loops_in s) n rest body parts.1 at
+        | Some b ↦ λ e at. good_in scope around first n s body parts.0 (e ∙ at)
+      ] refl found
+
+-- each loop that is dealt out among these is so by a try that is made of it
+abbrev pub IsTriedIn : (ℕ → Option Tried) → (ℕ → List ℕ) → Statement → Type 0
+IsTriedIn dealt owned s = (n : ℕ) (t : Tried) (body : Statements) → dealt n ≡ Some t → body_in n s ≡ Some body → IsMadeOf t (owned n) body
+
+abbrev pub AreTried : (ℕ → Option Tried) → (ℕ → List ℕ) → Statements → Type 0
+AreTried dealt owned ss = (n : ℕ) (t : Tried) (body : Statements) → dealt n ≡ Some t → body_among n ss ≡ Some body → IsMadeOf t (owned n) body
 
 none-or : {X : Type 0} (a b : Option X) → a ≡ None → option_or a b ≡ b
 none-or None b e = refl
@@ -73,21 +99,21 @@ not-within scope around first n s good far = by (body_in n s) refl
     by None e = e
     by (Some body) e = let r = within_in scope around first n s body good e in absurd (omega (arith, r.1, far))
 
-module _ (dealt : ℕ → Option Tried) (scope : Scope) (around : List ℕ) (first : ℕ) where
-  tried-first : (s : Statement) (rest : Statements) → AreTried dealt (next s rest) → IsTriedIn dealt s
+module _ (dealt : ℕ → Option Tried) (owned : ℕ → List ℕ) (scope : Scope) (around : List ℕ) (first : ℕ) where
+  tried-first : (s : Statement) (rest : Statements) → AreTried dealt owned (next s rest) → IsTriedIn dealt owned s
   tried-first s rest h = λ n t body is found. h n t body is (ap (λ o. option_or o (body_among n rest)) found)
 
-  tried-rest : (s : Statement) (rest : Statements) → are_good_statements scope around first (next s rest) ≡ true → AreTried dealt (next s rest) → AreTried dealt rest
+  tried-rest : (s : Statement) (rest : Statements) → are_good_statements scope around first (next s rest) ≡ true → AreTried dealt owned (next s rest) → AreTried dealt owned rest
   tried-rest s rest good h =
       let parts = and_parts (is_good_statement scope around first s) (are_good_statements scope around (first + loops_in s) rest) good in
       λ n t body is found.
       let r = found_within scope around (first + loops_in s) n rest body parts.1 found in
       h n t body is (none-or (body_in n s) (body_among n rest) (not-within scope around first n s parts.0 r.0) ∙ found)
 
-  tried-here : (head : Head) (body : Statements) (t : Tried) → IsTriedIn dealt (do_loop head body) → dealt head.number ≡ Some t → IsMadeOf t body
+  tried-here : (head : Head) (body : Statements) (t : Tried) → IsTriedIn dealt owned (do_loop head body) → dealt head.number ≡ Some t → IsMadeOf t (owned head.number) body
   tried-here head body t h is = h head.number t body is (ap (λ b. if b then Some body else body_among head.number body) (eq-eqb head.number head.number refl))
 
-  tried-inside : (head : Head) (body : Statements) → is_good_statement scope around first (do_loop head body) ≡ true → IsTriedIn dealt (do_loop head body) → AreTried dealt body
+  tried-inside : (head : Head) (body : Statements) → is_good_statement scope around first (do_loop head body) ≡ true → IsTriedIn dealt owned (do_loop head body) → AreTried dealt owned body
   tried-inside head body good h =
       let g = good_loop scope around first head body good in
       λ n t inner is found.
@@ -101,16 +127,16 @@ neither-free : (o : Option Tried) (b : Bool) → (is_some o || b) ≡ false → 
 neither-free None b e = (refl, e)
 neither-free (Some t) b e = absurd (let no : true ≡ false = e in cc)
 
-module _ (dealt : ℕ → Option Tried) where
+module _ (dealt : ℕ → Option Tried) (owned : ℕ → List ℕ) where
   mutual
-    none-free_in : (s : Statement) → has_free dealt s ≡ false → privates_in dealt s ≡ none_in s
+    none-free_in : (s : Statement) → has_free dealt s ≡ false → privates_in dealt owned s ≡ none_in s
     none-free_in (do_loop head body) h =
         let parts = neither-free (dealt head.number) (have_free dealt body) h in
-        ap (λ o. privates_by o body (privates_of dealt body)) parts.0 ∙ ap (λ xs. [] ∷ xs) (none-free body parts.1)
+        ap (λ o. privates_by o (owned head.number) body (privates_of dealt owned body)) parts.0 ∙ ap (λ xs. [] ∷ xs) (none-free body parts.1)
     none-free_in (work w) h = refl
     none-free_in (continue line) h = refl
 
-    none-free : (ss : Statements) → have_free dealt ss ≡ false → privates_of dealt ss ≡ none_of ss
+    none-free : (ss : Statements) → have_free dealt ss ≡ false → privates_of dealt owned ss ≡ none_of ss
     none-free done h = refl
     none-free (next s rest) h =
         let parts = or_parts (has_free dealt s) (have_free dealt rest) h in
@@ -186,18 +212,12 @@ tried-sums tries.Sum version body h has =
     let both = and_parts (nat_le 1 (length (sum_scalars body))) (nat_le (length (sum_scalars body)) 16) few in
     and_from (has_sums version && nat_le 1 (length (sum_scalars body))) (nat_le (length (sum_scalars body)) 16) (and_from (has_sums version) (nat_le 1 (length (sum_scalars body))) (has refl) both.0) both.1
 
-tried-owns : (t : Tried) (scope : Scope) (around : List ℕ) (first : ℕ) (body : Statements) (version : Version) → are_good_statements scope around first body ≡ true → ((length (tried_privates t body) == 0) ≡ false → has_privates version ≡ true) →
-    are_good_privates version (tried_mark t) body (tried_privates t body) ≡ true
-tried-owns tries.Doall scope around first body version good has = refl
-tried-owns tries.Private scope around first body version good has = privates_good scope around first body version (tried_mark tries.Private) good refl has
-tried-owns tries.Sum scope around first body version good has = privates_good scope around first body version (tried_mark tries.Sum) good refl has
-
 fits-outside : (t : Tried) → fits_mark false (tried_mark t) ≡ true
 fits-outside tries.Doall = refl
 fits-outside tries.Private = refl
 fits-outside tries.Sum = refl
 
-module _ (cut : Cutting) (version : Version) (dealt : ℕ → Option Tried) (sums : (n : ℕ) → is_sum_mark (mark_of cut.marks n) ≡ true → has_sums version ≡ true) (owns : (n : ℕ) → (length (own_privates cut.privates n) == 0) ≡ false → has_privates version ≡ true) where
+module _ (cut : Cutting) (version : Version) (dealt : ℕ → Option Tried) (owned : ℕ → List ℕ) (sums : (n : ℕ) → is_sum_mark (mark_of cut.marks n) ≡ true → has_sums version ≡ true) (owns : (n : ℕ) → (length (own_privates cut.privates n) == 0) ≡ false → has_privates version ≡ true) where
   record IsFittingIn (around : List ℕ) (s : Statement) : Type 0 where
     fine : IsFineIn cut version false s
     prints : list_all (is_silent cut.marks) (placed_in (enters_outer cut.marks) around s) ≡ true
@@ -218,38 +238,38 @@ module _ (cut : Cutting) (version : Version) (dealt : ℕ → Option Tried) (sum
       }
 
   mutual
-    fitting_in : (scope : Scope) (around : List ℕ) (first : ℕ) (s : Statement) → is_good_statement scope around first s ≡ true → HasIn cut dealt first s → IsTriedIn dealt s → IsFittingIn around s
+    fitting_in : (scope : Scope) (around : List ℕ) (first : ℕ) (s : Statement) → is_good_statement scope around first s ≡ true → HasIn cut dealt owned first s → IsTriedIn dealt owned s → IsFittingIn around s
     fitting_in scope around first (do_loop head body) good has made =
         let g = good_loop scope around first head body good in
-        by g.number (dealt head.number) (have_free dealt body) refl refl g.inside (λ t is. tried-here dealt scope around first head body t made is) (λ has'. fitting_of scope (head.number ∷ around) (first + 1) body g.inside has' (tried-inside dealt scope around first head body good made))
+        by g.number (dealt head.number) (have_free dealt body) refl refl g.inside (λ t is. tried-here dealt owned scope around first head body t made is) (λ has'. fitting_of scope (head.number ∷ around) (first + 1) body g.inside has' (tried-inside dealt owned scope around first head body good made))
       where
-        by : head.number ≡ first → (o : Option Tried) (b : Bool) → dealt head.number ≡ o → have_free dealt body ≡ b → are_good_statements scope (head.number ∷ around) (first + 1) body ≡ true → ((t : Tried) → dealt head.number ≡ Some t → IsMadeOf t body) →
-            (HasOf cut dealt (first + 1) body → AreFitting (head.number ∷ around) body) → IsFittingIn around (do_loop head body)
+        by : head.number ≡ first → (o : Option Tried) (b : Bool) → dealt head.number ≡ o → have_free dealt body ≡ b → are_good_statements scope (head.number ∷ around) (first + 1) body ≡ true → ((t : Tried) → dealt head.number ≡ Some t → IsMadeOf t (owned head.number) body) →
+            (HasOf cut dealt owned (first + 1) body → AreFitting (head.number ∷ around) body) → IsFittingIn around (do_loop head body)
         by number (Some t) b is free inside made_of later =
             let made_is = made_of t is in
             let marks = subst (λ o. StandsAt cut.marks first (marks_by o (have_free dealt body) body (marks_of dealt body))) is has.marks in
-            let privates = subst (λ o. StandsAt cut.privates first (privates_by o body (privates_of dealt body))) is has.privates in
+            let privates = subst (λ o. StandsAt cut.privates first (privates_by o (owned head.number) body (privates_of dealt owned body))) is has.privates in
             let here = ap (λ n. slice_get cut.marks (n - 1)) number ∙ one_stands cut.marks first (tried_mark t) (inner_of body) marks in
             let at = mark_at cut.marks head.number (tried_mark t) here in
-            let own = get_or_from_slice_get cut.privates (head.number - 1) (tried_privates t body) [] (ap (λ n. slice_get cut.privates (n - 1)) number ∙ one_stands cut.privates first (tried_privates t body) (none_of body) privates) in
-            let inner = inner-fine cut version scope (head.number ∷ around) (first + 1) body inside (record { marks = more_stand cut.marks first (tried_mark t) (inner_of body) marks; privates = more_stand cut.privates first (tried_privates t body) (none_of body) privates }) in
+            let own = get_or_from_slice_get cut.privates (head.number - 1) (owned head.number) [] (ap (λ n. slice_get cut.privates (n - 1)) number ∙ one_stands cut.privates first (owned head.number) (none_of body) privates) in
+            let inner = inner-fine cut version scope (head.number ∷ around) (first + 1) body inside (record { marks = more_stand cut.marks first (tried_mark t) (inner_of body) marks; privates = more_stand cut.privates first (owned head.number) (none_of body) privates }) in
             let good_sums = tried-sums t version body made_is.admitted (λ e. sums head.number (ap is_sum_mark at ∙ e)) in
-            let good_owns = tried-owns t scope (head.number ∷ around) (first + 1) body version inside (λ e. owns head.number (ap (λ vs. length vs == 0) own ∙ e)) in
-            closed-fits around head body (tried_mark t) here (tried-closed t) (fine-loop cut version false true head body (tried_mark t) (tried_privates t body) at own (tried-closed t) (fits-outside t) good_sums good_owns inner) (not_from_false (have_print body && is_doall (tried_mark t)) (and_left (have_print body) (is_doall (tried_mark t)) made_is.silent))
+            let good_owns = privates_good body version (tried_mark t) (owned head.number) (tried_dealt t) made_is.few made_is.rising made_is.private (λ e. owns head.number (ap (λ vs. length vs == 0) own ∙ e)) in
+            closed-fits around head body (tried_mark t) here (tried-closed t) (fine-loop cut version false true head body (tried_mark t) (owned head.number) at own (tried-closed t) (fits-outside t) good_sums good_owns inner) (not_from_false (have_print body && is_doall (tried_mark t)) (and_left (have_print body) (is_doall (tried_mark t)) made_is.silent))
         by number None true is free inside made_of later =
             let marks = subst (λ b. StandsAt cut.marks first (marks_by None b body (marks_of dealt body))) free (subst (λ o. StandsAt cut.marks first (marks_by o (have_free dealt body) body (marks_of dealt body))) is has.marks) in
-            let privates = subst (λ o. StandsAt cut.privates first (privates_by o body (privates_of dealt body))) is has.privates in
+            let privates = subst (λ o. StandsAt cut.privates first (privates_by o (owned head.number) body (privates_of dealt owned body))) is has.privates in
             let here = ap (λ n. slice_get cut.marks (n - 1)) number ∙ one_stands cut.marks first Outer (marks_of dealt body) marks in
-            let own = get_or_from_slice_get cut.privates (head.number - 1) [] [] (ap (λ n. slice_get cut.privates (n - 1)) number ∙ one_stands cut.privates first [] (privates_of dealt body) privates) in
-            let deeper = later (record { marks = more_stand cut.marks first Outer (marks_of dealt body) marks; privates = more_stand cut.privates first [] (privates_of dealt body) privates }) in
+            let own = get_or_from_slice_get cut.privates (head.number - 1) [] [] (ap (λ n. slice_get cut.privates (n - 1)) number ∙ one_stands cut.privates first [] (privates_of dealt owned body) privates) in
+            let deeper = later (record { marks = more_stand cut.marks first Outer (marks_of dealt body) marks; privates = more_stand cut.privates first [] (privates_of dealt owned body) privates }) in
             record {
               fine = fine-loop cut version false false head body Outer [] (mark_at cut.marks head.number Outer here) own refl refl refl refl deeper.fine;
               prints = ap (λ b. list_all (is_silent cut.marks) (if b then placed_of (enters_outer cut.marks) (head.number ∷ around) body else record { what = do_loop head body; around = around } ∷ [])) (enters_at cut.marks head.number Outer here) ∙ deeper.prints;
             }
         by number None false is free inside made_of later =
             let marks = subst (λ b. StandsAt cut.marks first (marks_by None b body (marks_of dealt body))) free (subst (λ o. StandsAt cut.marks first (marks_by o (have_free dealt body) body (marks_of dealt body))) is has.marks) in
-            let whole = subst (λ o. StandsAt cut.privates first (privates_by o body (privates_of dealt body))) is has.privates in
-            let privates = subst (λ ys. StandsAt cut.privates first ([] ∷ ys)) (none-free dealt body free) whole in
+            let whole = subst (λ o. StandsAt cut.privates first (privates_by o (owned head.number) body (privates_of dealt owned body))) is has.privates in
+            let privates = subst (λ ys. StandsAt cut.privates first ([] ∷ ys)) (none-free dealt owned body free) whole in
             let here = ap (λ n. slice_get cut.marks (n - 1)) number ∙ one_stands cut.marks first Single (inner_of body) marks in
             let own = get_or_from_slice_get cut.privates (head.number - 1) [] [] (ap (λ n. slice_get cut.privates (n - 1)) number ∙ one_stands cut.privates first [] (none_of body) privates) in
             let inner = inner-fine cut version scope (head.number ∷ around) (first + 1) body inside (record { marks = more_stand cut.marks first Single (inner_of body) marks; privates = more_stand cut.privates first [] (none_of body) privates }) in
@@ -260,12 +280,12 @@ module _ (cut : Cutting) (version : Version) (dealt : ℕ → Option Tried) (sum
     }
     fitting_in scope around first (continue line) good has made = record { fine = record { marked = refl; sums = refl; privates = refl }; prints = refl }
 
-    pub fitting_of : (scope : Scope) (around : List ℕ) (first : ℕ) (ss : Statements) → are_good_statements scope around first ss ≡ true → HasOf cut dealt first ss → AreTried dealt ss → AreFitting around ss
+    pub fitting_of : (scope : Scope) (around : List ℕ) (first : ℕ) (ss : Statements) → are_good_statements scope around first ss ≡ true → HasOf cut dealt owned first ss → AreTried dealt owned ss → AreFitting around ss
     fitting_of scope around first done good has made = record { fine = record { marked = refl; sums = refl; privates = refl }; prints = refl }
     fitting_of scope around first (next s rest) good has made =
         let parts = and_parts (is_good_statement scope around first s) (are_good_statements scope around (first + loops_in s) rest) good in
-        let front = fitting_in scope around first s parts.0 (has-first cut dealt first s rest has) (tried-first dealt scope around first s rest made) in
-        let behind = fitting_of scope around (first + loops_in s) rest parts.1 (has-rest cut dealt first s rest has) (tried-rest dealt scope around first s rest good made) in
+        let front = fitting_in scope around first s parts.0 (has-first cut dealt owned first s rest has) (tried-first dealt owned scope around first s rest made) in
+        let behind = fitting_of scope around (first + loops_in s) rest parts.1 (has-rest cut dealt owned first s rest has) (tried-rest dealt owned scope around first s rest good made) in
         let silent = is_silent cut.marks in
         let text = placed_in (enters_outer cut.marks) around s in
         let later = placed_of (enters_outer cut.marks) around rest in
@@ -310,10 +330,10 @@ pub record IsFittingCut (tree : Tree) (cut : Cutting) : Type 0 where
 
 pub cut_fits : (tree : Tree) (cut : Cutting) → IsWellFormed tree → IsTriedCut tree cut → IsFittingCut tree cut
 cut_fits tree cut formed h =
-    let all = fitting_of cut (least_version cut) h.dealt (least-sums cut) (least-owns cut) (scope_of tree) [] 1 tree.items (well_formed_parts tree formed).statements (has-all cut h.dealt tree.items h.cut_is) h.made in
+    let all = fitting_of cut (least_version cut) h.dealt h.own (least-sums cut) (least-owns cut) (scope_of tree) [] 1 tree.items (well_formed_parts tree formed).statements (has-all cut h.dealt h.own tree.items h.cut_is) h.made in
     record {
       marks = ap (λ (c : Cutting). length c.marks) h.cut_is ∙ marks_count h.dealt tree.items;
-      privates = ap (λ (c : Cutting). length c.privates) h.cut_is ∙ privates_count h.dealt tree.items;
+      privates = ap (λ (c : Cutting). length c.privates) h.cut_is ∙ privates_count h.dealt h.own tree.items;
       fine = all.fine;
       prints = all.prints;
     }

@@ -24,6 +24,8 @@ pub mod FitParts
 pub mod OwnRising
 pub mod CutFits
 pub mod TriedCuts
+pub mod SureScalars
 pub mod AnchorsFit
 pub mod AnchorsKept
 pub mod CandidatesFit
+mod AloneAsked

@@ -12,7 +12,7 @@ use Rattle.sync_plan.specs.Barriers.{barrier_plan}
 use Rattle.sync_plan.specs.Fit.{IsFit}
 use Rattle.sync_plan.specs.declared.plan.Kind.{Kind}
 use Rattle.sync_plan.specs.declared.plan.Plan.{Plan}
-use Rattle.comm_system.specs.Obligations.{Slot, Task, numbered_from, slot_signature, slot_tasks, slots_of, tasks_of, trips_tasks}
+use Rattle.comm_system.specs.Obligations.{Slot, Task, numbered_from, paths_tasks, slot_signature, slot_tasks, slots_of, tasks_of, trips_tasks}
 use Rattle.comm_system.specs.References.{StaticPhase, phases_of}
 use Rattle.comm_system.specs.Signatures.{Signature, blocked, waits}
 use Rattle.plan_checker.specs.Accepted.{AreCertified}
@@ -23,11 +23,12 @@ use Rattle.plan_maker.specs.declared.maker.Weakest.{Weakest}
 use Rattle.plan_maker.specs.declared.reasons.PhaseReason.{PhaseReason}
 use Rattle.plan_maker.specs.declared.reasons.Reasons.{Reasons}
 use Rattle.maker_anchors.specs.Anchors.{maker_anchors}
-use Rattle.plan_maker.specs.Asked.{AreRefuted, Asked, IsCause, all_trips_asked, asked, owners_dealt, slot_asked, trips_asked}
+use Rattle.plan_maker.specs.Asked.{AreRefuted, Asked, IsCause, all_paths_asked, all_trips_asked, asked, owners_dealt, paths_asked, slot_asked, trips_asked}
 use Rattle.plan_maker.specs.Bars.{IsChosen, IsLoopReason, IsReasonedCut, all_attempts, open_loops}
 use Rattle.plan_maker.specs.Candidates.{kinds_taken, weaker_from}
 use Rattle.maker_marks.specs.Cut.{cut_of}
-use Rattle.plan_maker.specs.Loops.{AreLoopVerdicts, IsLoopVerdict, LoopVerdict, tried_in}
+use Rattle.plan_maker.specs.Loops.{AreLoopVerdicts, IsLoopVerdict, LoopVerdict, own_in, tried_in}
+use Rattle.maker_marks.specs.Privates.{own_at}
 use Rattle.plan_maker.specs.Made.{IsBarrierPlan, IsMade, with_found}
 use Rattle.plan_maker.specs.Numbers.{IsShown}
 use Rattle.plan_maker.specs.PhaseCauses.{IsPhaseCause}
@@ -35,6 +36,7 @@ use Rattle.plan_maker.specs.Trials.{asked_of_slot, slots_asked}
 use Rattle.maker_marks.specs.Tries.{tried_at}
 use Rattle.plan_maker.specs.Weakest.{IsPhaseReason, IsWeakest, asked_under, candidates_in}
 use Rattle.plan_maker.proofs.CandidatesFit.{candidates_fit}
+use Rattle.plan_maker.proofs.Marked.{own_is, tried_is}
 use Rattle.plan_maker.proofs.Verdicts.{trips_same}
 use Rattle.plan_maker.proofs.Weakest.{zip_weaker}
 
@@ -69,6 +71,9 @@ module _ (tree : Tree) (base : Plan) (kinds : List Kind) (certificates : List Ce
   trips-tasks : (s : StaticPhase) → map (λ (q : Asked). q.task) (trips_asked tree base s) ≡ trips_tasks tree found s
   trips-tasks s = tasks_asked [] (trips_tasks tree base s)
 
+  paths-tasks : (s : StaticPhase) → map (λ (q : Asked). q.task) (paths_asked tree base s) ≡ paths_tasks tree found s
+  paths-tasks s = tasks_asked [] (paths_tasks tree base s)
+
   slot-tasks : (slot : Slot) (sig : Signature) → map (λ (q : Asked). q.task) (slot_asked tree base slot sig) ≡ slot_tasks tree found slot sig
   slot-tasks slot blocked = refl
   slot-tasks slot (waits left right producers) = tasks_asked (owners_dealt base slot producers) (slot_tasks tree base slot (waits left right producers))
@@ -78,7 +83,9 @@ module _ (tree : Tree) (base : Plan) (kinds : List Kind) (certificates : List Ce
       let phases = phases_of tree base.cut.marks in
       let trips = map-flat (λ (q : Asked). q.task) (trips_asked tree base) (trips_tasks tree found) trips-tasks phases in
       let slots = map-flat (λ (q : Asked). q.task) (asked_of_slot tree base kinds) (λ slot. slot_tasks tree found slot (signature kinds slot)) (λ slot. slot-tasks slot (signature kinds slot)) all-slots in
-      map-append (λ (q : Asked). q.task) (all_trips_asked tree base) (slots_asked tree base kinds all-slots) ∙ ap₂ (λ a b. a ++ b) trips slots
+      let paths = map-flat (λ (q : Asked). q.task) (paths_asked tree base) (paths_tasks tree found) paths-tasks phases in
+      map-append (λ (q : Asked). q.task) (all_trips_asked tree base ++ slots_asked tree base kinds all-slots) (all_paths_asked tree base)
+      ∙ ap₂ (λ a b. a ++ b) (map-append (λ (q : Asked). q.task) (all_trips_asked tree base) (slots_asked tree base kinds all-slots) ∙ ap₂ (λ a b. a ++ b) trips slots) paths
 
   pub certified : AreRefuted (asked_under tree base kinds) certificates → AreCertified (numbered_from 1 (tasks_of tree found)) certificates
   certified h = subst (λ ks. AreCertified (numbered_from 1 ks) certificates) all-tasks (certified-numbered 1 (asked_under tree base kinds) certificates h)
@@ -138,34 +145,38 @@ made_is tree workers cut base w plan reasons formed base-is plan-is fit weak num
     subst (λ p. IsMade tree workers p reasons) (sym whole) made
 
 -- a loop may be dealt out as its verdict says
-tried-there : (vs : List LoopVerdict) (k : ℕ) → k < length vs → (v : LoopVerdict) × (slice_get vs k ≡ Some v) × (get_or (map tried_in vs) k None ≡ tried_in v)
-tried-there [] k lt = absurd (omega (arith, lt))
-tried-there (v ∷ vs) zero lt = (v, refl, refl)
-tried-there (v ∷ vs) (suc k) lt = tried-there vs k (omega (arith, lt))
+verdict-there : (vs : List LoopVerdict) (k : ℕ) → k < length vs → (v : LoopVerdict) × (slice_get vs k ≡ Some v)
+verdict-there [] k lt = absurd (omega (arith, lt))
+verdict-there (v ∷ vs) zero lt = (v, refl)
+verdict-there (v ∷ vs) (suc k) lt = verdict-there vs k (omega (arith, lt))
 
-chosen-by : (tree : Tree) (n : ℕ) (v : LoopVerdict) → IsLoopVerdict tree n v → IsChosen tree n (tried_in v)
+chosen-by : (tree : Tree) (n : ℕ) (v : LoopVerdict) → IsLoopVerdict tree n v → IsChosen tree n (tried_in v) (own_in v)
 chosen-by tree n (Refuted dealt) h = h.0
-chosen-by tree n (Kept reasons) h = (reasons.items, h)
+chosen-by tree n (Kept reasons) h = record { reasons = reasons.items; barred = h.0; sure = h.1 }
 
-pub reasoned : (tree : Tree) (vs : List LoopVerdict) (cut : Cutting) → length vs ≡ loops_of tree.items → AreLoopVerdicts tree vs → cut ≡ cut_of (tried_at (map tried_in vs)) tree → IsReasonedCut tree cut
+pub reasoned : (tree : Tree) (vs : List LoopVerdict) (cut : Cutting) → length vs ≡ loops_of tree.items → AreLoopVerdicts tree vs → cut ≡ cut_of (tried_at (map tried_in vs)) (own_at (map own_in vs)) tree → IsReasonedCut tree cut
 reasoned tree vs cut long all is = record {
   dealt = tried_at (map tried_in vs);
+  own = own_at (map own_in vs);
   cut_is = is;
   why = λ n from to.
-      let there = tried-there vs (n - 1) (omega (arith, long, from, to)) in
-      subst (IsChosen tree n) (sym there.2) (chosen-by tree n there.0 (all n there.0 from there.1));
+      let there = verdict-there vs (n - 1) (omega (arith, long, from, to)) in
+      let here = subst (λ o. IsChosen tree n o (own_in there.0)) (tried_is vs (n - 1) there.0 there.1) (chosen-by tree n there.0 (all n there.0 from there.1)) in
+      subst (IsChosen tree n (tried_at (map tried_in vs) n)) (own_is vs (n - 1) there.0 there.1) here;
 }
 
 -- the same with a barrier in front of each phase
 pub barriers_are : (tree : Tree) (workers : ℕ) (cut : Cutting) (base plan : Plan) (certificates : List Certificate) → base ≡ barrier_plan cut (maker_anchors tree cut.marks workers) workers [] → plan ≡ barrier_plan base.cut base.anchors workers certificates →
-    IsFit tree base → AreRefuted (all_trips_asked tree base) certificates → IsShown plan → IsReasonedCut tree cut → IsBarrierPlan tree workers plan
+    IsFit tree base → AreRefuted (all_trips_asked tree base ++ all_paths_asked tree base) certificates → IsShown plan → IsReasonedCut tree cut → IsBarrierPlan tree workers plan
 barriers_are tree workers cut base plan certificates base-is plan-is fit refuted numbers reasoned =
     let anchors = maker_anchors tree cut.marks workers in
     let start = barrier_plan cut anchors workers [] in
-    let here = subst (λ b. AreRefuted (all_trips_asked tree b) certificates) base-is refuted in
-    let tasks = map-flat (λ (q : Asked). q.task) (trips_asked tree start) (trips_tasks tree start) (λ s. tasks_asked [] (trips_tasks tree start s)) (phases_of tree cut.marks) in
+    let here = subst (λ b. AreRefuted (all_trips_asked tree b ++ all_paths_asked tree b) certificates) base-is refuted in
+    let trips = map-flat (λ (q : Asked). q.task) (trips_asked tree start) (trips_tasks tree start) (λ s. tasks_asked [] (trips_tasks tree start s)) (phases_of tree cut.marks) in
+    let paths = map-flat (λ (q : Asked). q.task) (paths_asked tree start) (paths_tasks tree start) (λ s. tasks_asked [] (paths_tasks tree start s)) (phases_of tree cut.marks) in
+    let tasks = map-append (λ (q : Asked). q.task) (all_trips_asked tree start) (all_paths_asked tree start) ∙ ap₂ (λ a b. a ++ b) trips paths in
     let whole : plan ≡ barrier_plan cut anchors workers certificates = plan-is ∙ ap (λ b. barrier_plan b.cut b.anchors workers certificates) base-is in
-    let good = subst (λ ks. AreCertified (numbered_from 1 ks) certificates) tasks (certified-numbered 1 (all_trips_asked tree start) certificates here) in
+    let good = subst (λ ks. AreCertified (numbered_from 1 ks) certificates) tasks (certified-numbered 1 (all_trips_asked tree start ++ all_paths_asked tree start) certificates here) in
     let made : IsBarrierPlan tree workers (barrier_plan cut anchors workers certificates) = record {
       version = refl;
       conditions = refl;

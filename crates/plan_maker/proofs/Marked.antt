@@ -9,7 +9,7 @@ use Rattle.owner_partition.specs.declared.cut.Mark.TheVariants.{Inner}
 use Rattle.maker_marks.specs.declared.tries.Tried.{Tried}
 use Rattle.maker_marks.specs.declared.tries.Tried.TheVariants as tries
 use Rattle.plan_maker.specs.Bars.{is_open}
-use Rattle.plan_maker.specs.Loops.{AreOpenBarred, LoopVerdict, tried_in}
+use Rattle.plan_maker.specs.Loops.{AreOpenBarred, LoopVerdict, own_in, tried_in}
 use Rattle.maker_marks.specs.Marks.{have_free, inner_in, inner_of, marks_by, marks_in, marks_of}
 use Rattle.maker_marks.specs.Tries.{tried_at, tried_mark}
 use Rattle.maker_marks.proofs.LoopsThere.{loop_at}
@@ -109,6 +109,11 @@ pub tried_is : (vs : List LoopVerdict) (k : ℕ) (v : LoopVerdict) → slice_get
 tried_is [] k v h = absurd (cc)
 tried_is (w ∷ vs) zero v h = ap (λ o. tried_in (unwrap_or o v)) (sym h)
 tried_is (w ∷ vs) (suc k) v h = tried_is vs k v h
+
+pub own_is : (vs : List LoopVerdict) (k : ℕ) (v : LoopVerdict) → slice_get vs k ≡ Some v → own_in v ≡ get_or (map own_in vs) k []
+own_is [] k v h = absurd (cc)
+own_is (w ∷ vs) zero v h = ap (λ o. own_in (unwrap_or o v)) (sym h)
+own_is (w ∷ vs) (suc k) v h = own_is vs k v h
 
 pub open_are_barred : (tree : Tree) (vs : List LoopVerdict) (marks : List Mark) → IsWellFormed tree → marks ≡ marks_of (tried_at (map tried_in vs)) tree.items → AreOpenBarred marks vs
 open_are_barred tree vs marks formed is k m v at there opened =

@@ -51,17 +51,17 @@ mutual
   none-count done = refl
   none-count (next s rest) = length-append (none_in s) (none_of rest) ∙ ap₂ (λ m n. m + n) (none-count_in s) (none-count rest)
 
-module _ (dealt : ℕ → Option Tried) where
-  loop-count : (o : Option Tried) (body : Statements) → length (privates_of dealt body) ≡ loops_of body → length (privates_by o body (privates_of dealt body)) ≡ 1 + loops_of body
-  loop-count (Some t) body h = omega (arith, none-count body)
-  loop-count None body h = omega (arith, h)
+module _ (dealt : ℕ → Option Tried) (owned : ℕ → List ℕ) where
+  loop-count : (o : Option Tried) (vs : List ℕ) (body : Statements) → length (privates_of dealt owned body) ≡ loops_of body → length (privates_by o vs body (privates_of dealt owned body)) ≡ 1 + loops_of body
+  loop-count (Some t) vs body h = omega (arith, none-count body)
+  loop-count None vs body h = omega (arith, h)
 
   mutual
-    pub privates_count_in : (s : Statement) → length (privates_in dealt s) ≡ loops_in s
-    privates_count_in (do_loop head body) = loop-count (dealt head.number) body (privates_count body)
+    pub privates_count_in : (s : Statement) → length (privates_in dealt owned s) ≡ loops_in s
+    privates_count_in (do_loop head body) = loop-count (dealt head.number) (owned head.number) body (privates_count body)
     privates_count_in (work w) = refl
     privates_count_in (continue line) = refl
 
-    pub privates_count : (ss : Statements) → length (privates_of dealt ss) ≡ loops_of ss
+    pub privates_count : (ss : Statements) → length (privates_of dealt owned ss) ≡ loops_of ss
     privates_count done = refl
-    privates_count (next s rest) = length-append (privates_in dealt s) (privates_of dealt rest) ∙ ap₂ (λ m n. m + n) (privates_count_in s) (privates_count rest)
+    privates_count (next s rest) = length-append (privates_in dealt owned s) (privates_of dealt owned rest) ∙ ap₂ (λ m n. m + n) (privates_count_in s) (privates_count rest)

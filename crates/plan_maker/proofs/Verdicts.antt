@@ -7,7 +7,7 @@ use Rattle.nest_tree.specs.Tree.{Tree}
 use Rattle.owner_partition.specs.declared.cut.Mark.{Mark}
 use Rattle.sync_plan.specs.declared.plan.Plan.{Plan}
 use Rattle.comm_system.specs.References.{StaticPhase}
-use Rattle.plan_maker.specs.Asked.{trips_asked}
+use Rattle.plan_maker.specs.Asked.{paths_asked, trips_asked}
 use Rattle.plan_maker.specs.Bars.{is_open, open_loops}
 use Rattle.plan_maker.specs.Loops.{AreLoopVerdicts, IsLoopVerdict, LoopVerdict}
 use Rattle.plan_maker.proofs.Lists.{get_pushed, take_got}
@@ -25,6 +25,12 @@ pub trips_same : (tree : Tree) (a b : Plan) → a.cut ≡ b.cut → a.conditions
 trips_same tree a b cut conditions [] = refl
 trips_same tree a b cut conditions (s ∷ phases) =
     ap₂ (λ x y. x ++ y) (ap₂ (λ c k. trips_asked tree (record b { cut = c; conditions = k }) s) cut conditions) (trips_same tree a b cut conditions phases)
+
+-- nor what is asked of paths
+pub paths_same : (tree : Tree) (a b : Plan) → a.cut ≡ b.cut → a.conditions ≡ b.conditions → (phases : List StaticPhase) → flat_map (paths_asked tree a) phases ≡ flat_map (paths_asked tree b) phases
+paths_same tree a b cut conditions [] = refl
+paths_same tree a b cut conditions (s ∷ phases) =
+    ap₂ (λ x y. x ++ y) (ap₂ (λ c k. paths_asked tree (record b { cut = c; conditions = k }) s) cut conditions) (paths_same tree a b cut conditions phases)
 
 open-more : (n : ℕ) (marks : List Mark) (m : Mark) → open_loops n (marks ++ m ∷ []) ≡ open_loops n marks ++ (if is_open m then (n + length marks) ∷ [] else [])
 open-more n [] m = let e : n ≡ n + 0 = omega arith in ap (λ k. if is_open m then k ∷ [] else []) e

@@ -13,7 +13,7 @@ use Rattle.plan_maker.specs.declared.maker.Weakest.{Weakest}
 use Rattle.plan_maker.specs.declared.reasons.PhaseReason.{PhaseReason}
 use Rattle.plan_maker.specs.declared.problem.Problem.{Problem}
 use Rattle.plan_maker.specs.declared.search.Search.{Search}
-use Rattle.plan_maker.specs.Asked.{AreRefuted, all_trips_asked}
+use Rattle.plan_maker.specs.Asked.{AreRefuted, all_paths_asked, all_trips_asked}
 use Rattle.plan_maker.specs.Candidates.{ArePlaces, Choice, candidate, kinds_taken, weaker_from}
 use Rattle.plan_maker.specs.Meeting.{meets}
 use Rattle.plan_maker.specs.PhaseCauses.{IsPhaseCause}
@@ -48,14 +48,14 @@ phase-cause tree plan kinds u trips slots cause refuted h =
     }
 
 -- what a search ends with
-module _ (s : Search) (trips : List Certificate) where
+module _ (s : Search) (trips paths : List Certificate) where
   abbrev tree : Tree
   tree = tree_of s.problem.program.now
 
   abbrev plan : Plan
   plan = s.problem.plan.now
 
-  module _ (search : IsSearch s) (refuted : AreRefuted (all_trips_asked tree plan) trips) (slots : slots_in s ≡ filter meets (slots_of (phases_in s.problem))) where
+  module _ (search : IsSearch s) (refuted : AreRefuted (all_trips_asked tree plan) trips) (more-refuted : AreRefuted (all_paths_asked tree plan) paths) (slots : slots_in s ≡ filter meets (slots_of (phases_in s.problem))) where
     weak : (c : Choice) (r : PhaseReason) → IsTrialReason s c r → IsPhaseReason tree plan s.taken.items c r
     weak c r h =
         let kinds : kinds_with s c ≡ kinds_taken (candidates_in tree plan) (slice_set s.taken.items c.phase c.place) = ap (λ cs. kinds_taken cs (slice_set s.taken.items c.phase c.place)) search.candidates in
@@ -67,8 +67,8 @@ module _ (s : Search) (trips : List Certificate) where
               (subst (λ ks. IsPhaseCause tree plan ks (suc c.phase) [] (filter meets (slots_of (phases_in s.problem))) r.cause) kinds here);
         }
 
-    pub weakest_is : (w : Weakest) → w.kinds.items ≡ kinds_in s → HasCertificates s trips w.certificates.items → AllZip (IsTrialReason s) (weaker_from 0 s.taken.items) w.reasons.items → IsWeakest tree plan w
-    weakest_is w kinds more reasons =
+    pub weakest_is : (w : Weakest) (found : List Certificate) → w.kinds.items ≡ kinds_in s → HasCertificates s trips found → w.certificates.items ≡ found ++ paths → AllZip (IsTrialReason s) (weaker_from 0 s.taken.items) w.reasons.items → IsWeakest tree plan w
+    weakest_is w found kinds more behind reasons =
         let all = slots_of (phases_in s.problem) in
         let asked : slots_asked tree plan (kinds_in s) (slots_in s) ≡ slots_asked tree plan w.kinds.items all =
         ap (slots_asked tree plan (kinds_in s)) slots ∙ meeting_asked tree plan (kinds_in s) all ∙ ap (λ ks. slots_asked tree plan ks all) (sym kinds) in
@@ -77,14 +77,15 @@ module _ (s : Search) (trips : List Certificate) where
           taken = s.taken.items;
           places = subst (λ cs. ArePlaces cs s.taken.items) search.candidates search.places;
           kinds = kinds ∙ ap (λ cs. kinds_taken cs s.taken.items) search.candidates;
-          certified = subst (AreRefuted (asked_under tree plan w.kinds.items)) (sym more.behind) whole;
+          certified = subst (AreRefuted (asked_under tree plan w.kinds.items)) (sym (behind ∙ ap (λ cs. cs ++ paths) more.behind)) (refuted-append (all_trips_asked tree plan ++ slots_asked tree plan w.kinds.items all) (all_paths_asked tree plan) (trips ++ more.more) paths whole more-refuted);
           reasons = zip_weaker (IsTrialReason s) (IsPhaseReason tree plan s.taken.items) (weaker_from 0 s.taken.items) w.reasons.items weak reasons;
         }
 
 -- of the problem that it began with
-pub weakest_for : (p : Problem) (s : Search) (trips : List Certificate) → s.problem ≡ p → IsSearch s → AreRefuted (all_trips_asked (tree_of p.program.now) p.plan.now) trips → slots_in s ≡ filter meets (slots_of (phases_in p)) →
-    (w : Weakest) → w.kinds.items ≡ kinds_in s → HasCertificates s trips w.certificates.items → AllZip (IsTrialReason s) (weaker_from 0 s.taken.items) w.reasons.items → IsWeakest (tree_of p.program.now) p.plan.now w
-weakest_for p s trips e search refuted slots w kinds more reasons =
+pub weakest_for : (p : Problem) (s : Search) (trips paths : List Certificate) → s.problem ≡ p → IsSearch s → AreRefuted (all_trips_asked (tree_of p.program.now) p.plan.now) trips → AreRefuted (all_paths_asked (tree_of p.program.now) p.plan.now) paths → slots_in s ≡ filter meets (slots_of (phases_in p)) →
+    (w : Weakest) (found : List Certificate) → w.kinds.items ≡ kinds_in s → HasCertificates s trips found → w.certificates.items ≡ found ++ paths → AllZip (IsTrialReason s) (weaker_from 0 s.taken.items) w.reasons.items → IsWeakest (tree_of p.program.now) p.plan.now w
+weakest_for p s trips paths e search refuted more-refuted slots w found kinds more behind reasons =
     let here = subst (λ (q : Problem). AreRefuted (all_trips_asked (tree_of q.program.now) q.plan.now) trips) (sym e) refuted in
+    let last = subst (λ (q : Problem). AreRefuted (all_paths_asked (tree_of q.program.now) q.plan.now) paths) (sym e) more-refuted in
     let there = subst (λ (q : Problem). slots_in s ≡ filter meets (slots_of (phases_in q))) (sym e) slots in
-    subst (λ (q : Problem). IsWeakest (tree_of q.program.now) q.plan.now w) e (weakest_is s trips search here there w kinds more reasons)
+    subst (λ (q : Problem). IsWeakest (tree_of q.program.now) q.plan.now w) e (weakest_is s trips paths search here last there w found kinds more behind reasons)

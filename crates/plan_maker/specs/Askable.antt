@@ -4,7 +4,7 @@ use Rattle.farkas_cert.specs.Inequalities.{Inequalities}
 use Rattle.farkas_cert.specs.Narrow.{AreNarrow}
 use Rattle.owner_partition.specs.declared.anchor.Dist.{Dist}
 use Rattle.sync_plan.specs.declared.plan.Plan.{Plan}
-use Rattle.comm_system.specs.Subjects.{Subject, of_slot, of_trips}
+use Rattle.comm_system.specs.Subjects.{Subject, of_path, of_slot, of_trips}
 use Rattle.comm_system.specs.SystemViews.{kept_columns}
 use Rattle.comm_system.specs.declared.in_place.PairSystems.{PairSystems}
 use Rattle.plan_maker.specs.Asked.{owners_dealt}
@@ -21,7 +21,8 @@ pub record IsAskable (system : Inequalities) (dists : List Dist) : Type 0 where
 abbrev pub HasOwners : List Dist → PairSystems → Type 0
 HasOwners dists p = unknowns_of dists ≤ length (kept_columns p)
 
--- the owners of what a subject asks are dealt so: two trips have none
+-- the owners of what a subject asks are dealt so: two trips, and a loop on a path, have none
 abbrev pub IsDealtSo : Plan → List Dist → Subject → Type 0
 IsDealtSo plan dists (of_trips s pair) = dists ≡ []
 IsDealtSo plan dists (of_slot slot left right producers pair) = dists ≡ owners_dealt plan slot producers
+IsDealtSo plan dists (of_path p) = dists ≡ []

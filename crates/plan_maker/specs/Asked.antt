@@ -13,7 +13,7 @@ use Rattle.owner_partition.specs.declared.anchor.Anchor.{Anchor}
 use Rattle.owner_partition.specs.declared.anchor.Dist.{Dist}
 use Rattle.sync_plan.specs.declared.plan.Plan.{Plan}
 use Rattle.comm_system.specs.Boundaries.{Side}
-use Rattle.comm_system.specs.Obligations.{Slot, Task, anchor_at, slot_tasks, trips_tasks}
+use Rattle.comm_system.specs.Obligations.{Slot, Task, anchor_at, paths_tasks, slot_tasks, trips_tasks}
 use Rattle.comm_system.specs.References.{StaticPhase, phases_of}
 use Rattle.comm_system.specs.Signatures.{Signature, blocked, waits}
 use Rattle.plan_maker.specs.declared.cause.Cause.{Cause}
@@ -46,6 +46,13 @@ slot_asked tree plan slot (waits left right producers) = map (asked (owners_deal
 -- of two trips of all Doall phases of a plan
 abbrev pub all_trips_asked : Tree → Plan → List Asked
 all_trips_asked tree plan = flat_map (trips_asked tree plan) (phases_of tree plan.cut.marks)
+
+-- of the paths of the private scalars of a phase, and of all phases of a plan
+abbrev pub paths_asked : Tree → Plan → StaticPhase → List Asked
+paths_asked tree plan s = map (asked []) (paths_tasks tree plan s)
+
+abbrev pub all_paths_asked : Tree → Plan → List Asked
+all_paths_asked tree plan = flat_map (paths_asked tree plan) (phases_of tree plan.cut.marks)
 
 -- each of them has a good certificate
 abbrev pub AreRefuted : List Asked → List Certificate → Type 0

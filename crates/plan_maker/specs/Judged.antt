@@ -1,6 +1,6 @@
 -- Verdicts on systems one behind another.
 use Rattle.std.specs.Global.{Vec}
-use Rattle.std.specs.Prelude.{List, map, Option, Some, None}
+use Rattle.std.specs.Prelude.{Bool, true, false, List, map, Option, Some, None}
 use Rattle.owner_partition.specs.declared.anchor.Dist.{Dist}
 use Rattle.nest_tree.specs.Tree.{Tree}
 use Rattle.sync_plan.specs.declared.plan.Plan.{Plan}
@@ -37,6 +37,11 @@ Judged = Verdict (Vec Certificate) Cause
 abbrev pub IsVerdict : List Asked → Judged → Type 0
 IsVerdict questions (Refuted certificates) = AreRefuted questions certificates.items
 IsVerdict questions (Kept cause) = IsCause questions cause
+
+-- whether each is refuted; else one is kept
+abbrev pub IsSettled : List Asked → Bool → Type 0
+IsSettled questions true = (certificates : List Certificate) × AreRefuted questions certificates
+IsSettled questions false = (cause : Cause) × IsCause questions cause
 
 -- of one system
 abbrev pub IsJudgement : Asked → Verdict Certificate Cause → Type 0

@@ -9,14 +9,14 @@ use Rattle.comm_system.specs.References.{phases_of}
 pub use Rattle.maker_candidates.specs.Candidates.{candidates_in}
 use Rattle.plan_maker.specs.declared.maker.Weakest.{Weakest}
 use Rattle.plan_maker.specs.declared.reasons.PhaseReason.{PhaseReason}
-use Rattle.plan_maker.specs.Asked.{AreRefuted, Asked, all_trips_asked}
+use Rattle.plan_maker.specs.Asked.{AreRefuted, Asked, all_paths_asked, all_trips_asked}
 use Rattle.plan_maker.specs.Candidates.{ArePlaces, Choice, candidate, kinds_taken, weaker_from}
 use Rattle.plan_maker.specs.PhaseCauses.{IsPhaseCause}
 use Rattle.plan_maker.specs.Trials.{slots_asked}
 
 -- what is asked of a plan with other kinds
 abbrev pub asked_under : Tree → Plan → List Kind → List Asked
-asked_under tree plan kinds = all_trips_asked tree plan ++ slots_asked tree plan kinds (slots_of (phases_of tree plan.cut.marks))
+asked_under tree plan kinds = all_trips_asked tree plan ++ slots_asked tree plan kinds (slots_of (phases_of tree plan.cut.marks)) ++ all_paths_asked tree plan
 
 -- the plan with a weaker candidate in front of a phase has a system that is kept: this is its first, and one of a slot that has the boundary in front of that phase among its certain ones
 pub record IsPhaseReason (tree : Tree) (plan : Plan) (taken : List ℕ) (c : Choice) (reason : PhaseReason) : Type 0 where

@@ -266,6 +266,10 @@ fn judge_group(
             let mut systems = PairSystems::new(alloc, program, plan, slot, waits, a, b, number)?;
             judge_pair(alloc, &mut systems, dists, findings)
         }
+        Subject::ZeroTrip(inside) => {
+            let (topic, left) = inside.presolved(alloc, program, plan, number)?;
+            judge_single(alloc, topic, &left, dists, findings)
+        }
     }
 }
 

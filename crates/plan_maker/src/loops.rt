@@ -1,6 +1,6 @@
 // How loops may be dealt out.
 
-ghost use Rattle.std.specs.Prelude.{◌≡◌, ◌≤◌, ◌<◌, ℕ, IfOk, None, OnOk, Some, false, length, map, slice_get, true};
+ghost use Rattle.std.specs.Prelude.{◌≡◌, ◌≤◌, ◌<◌, ◌++◌, ◌∷◌, [], ℕ, IfOk, None, OnOk, Some, false, length, map, slice_get, true};
 ghost use Rattle.std.specs.List.{AllZip};
 ghost use Rattle.nest_tree.specs.Limits.{IsWithinLimits};
 ghost use Rattle.nest_tree.specs.Tree.{Tree};
@@ -8,40 +8,54 @@ ghost use Rattle.nest_tree.specs.View.{tree_of};
 ghost use Rattle.nest_tree.specs.WellFormed.{IsWellFormed, loops_of};
 ghost use Rattle.sync_plan.specs.declared.plan.Conditions.TheVariants.{Values};
 ghost use Rattle.sync_plan.specs.Fit.{IsFit};
-ghost use Rattle.plan_maker.specs.Bars.{HasLoopReasons, IsLoopReason, all_attempts, is_open, loop_prints, open_loop, open_loops};
-ghost use Rattle.plan_maker.specs.Cut.{IsTriedCut, cut_asked};
+ghost use Rattle.plan_maker.specs.Bars.{AreSure, HasLoopReasons, IsLoopReason, all_attempts, is_open, loop_prints, open_loop, open_loops};
+ghost use Rattle.maker_marks.specs.declared.tries.Tried.TheVariants.{Private};
+ghost use Rattle.plan_maker.specs.Cut.{IsTriedCut, path_asked};
+ghost use Rattle.plan_maker.specs.Judged.{IsSettled};
 ghost use Rattle.plan_maker.specs.Asked.{AreRefuted};
-ghost use Rattle.plan_maker.specs.Judged.{IsVerdict};
-ghost use Rattle.plan_maker.specs.Loops.{AreLoopVerdicts, AreOpenBarred, IsLoopVerdict, loops_asked, marked_asked, tried_in};
-ghost use Rattle.maker_marks.specs.Tries.{body_among, nest_body, tried_at};
+ghost use Rattle.plan_maker.specs.Loops.{AreLoopVerdicts, AreOpenBarred, IsDealtVerdict, IsLoopVerdict, IsSureVerdict, own_in, tried_in, loops_asked, loops_paths_asked, marked_asked, marked_paths_asked};
+ghost use Rattle.maker_marks.specs.Tries.{IsMadeOf, body_among, body_of, nest_body, tried_at, tried_privates};
+ghost use Rattle.maker_marks.specs.Privates.{own_at};
 ghost use Rattle.plan_maker.specs.Trials.{HasMoreCertificates};
 
-use crate::dealt::judge_trips;
+use crate::cause::Cause;
+use crate::dealt::{judge_paths, judge_trips};
 use crate::findings::Findings;
-use crate::judge::Judged;
 use crate::problem::Problem;
 use crate::reasons::{Bar, LoopReason};
 use crate::verdict::Verdict;
 use comm_system::phases::phases;
 use farkas_cert::Certificate;
 use maker_anchors::places::first_processors;
-use maker_marks::cut_of_try;
+use maker_marks::cut_alone;
 use maker_marks::nests::{have_print, nest_of};
 use maker_marks::tries::{Tried, tries_of};
-use nest_tree::{Nest, Program};
-use owner_partition::{Cut, Mark, StaticPhase};
+use nest_tree::{Listed, Nest, Program};
+use own_scalars::{MOST_OWN, is_private};
+use owner_partition::{Cut, Mark, Privates, StaticPhase};
 use std::alloc::{AllocError, Global};
 use sync_plan::{Plan, all_barrier};
 
-/// A try by which a loop may be dealt out, with certificates of two trips of it.
+/// A try by which a loop may be dealt out, with its private scalars, and certificates of two trips of
+/// it and of their paths.
 #[derive(Drop)]
 pub(crate) struct Dealt {
     tried: Tried,
-    certificates: Vec<Certificate>,
+    privates: Privates,
+    trips: Vec<Certificate>,
+    paths: Vec<Certificate>,
 }
 
 /// How a loop may be dealt out, or why it may not by each of its tries.
 pub(crate) type LoopVerdict = Verdict<Dealt, Vec<LoopReason>>;
+
+/// Certificates of the loops that are dealt out, in the order of their phases: of two trips of them,
+/// and of the paths of their private scalars.
+#[derive(Drop)]
+pub(crate) struct LoopCertificates {
+    pub(crate) trips: Vec<Certificate>,
+    pub(crate) paths: Vec<Certificate>,
+}
 
 /// Verdicts on a program's loops, by number.
 pub(crate) fn judge_loops(
@@ -89,7 +103,8 @@ fn judge_loop(
     Ok(Verdict::Kept(reasons))
 }
 
-// The verdict on a loop without PRINT: the first try that doesn't fail counts.
+// The verdict on a loop without PRINT: the first try that doesn't fail counts, where each with private
+// scalars is made once more, with those alone that are sure.
 fn judge_tries(
     alloc: Global,
     program: &Program,
@@ -107,45 +122,153 @@ fn judge_tries(
     let tries = tries_of(alloc, nest)?;
     let mut reasons = Vec::new(alloc);
     for &tried in tries.as_slice() {
-        let cut = cut_of_try(alloc, program, number, tried)?;
-        match judge_cut(alloc, program, cut, findings)? {
-            Verdict::Refuted(certificates) => {
-                return Ok(Verdict::Refuted(Dealt {
-                    tried,
-                    certificates,
-                }));
-            }
+        let privates = tried.privates(alloc, nest)?;
+        match judge_try(alloc, program, number, tried, privates, findings)? {
+            Verdict::Refuted(dealt) => return Ok(Verdict::Refuted(dealt)),
             Verdict::Kept(cause) => reasons.push(LoopReason {
                 number,
                 tried,
                 bar: Bar::Meeting(cause),
             })?,
         }
+        if let Some(dealt) = judge_sure(alloc, program, nest, tried, findings)? {
+            return Ok(Verdict::Refuted(dealt));
+        }
     }
     Ok(Verdict::Kept(reasons))
 }
 
-// What is known of two trips of the loops that a cut deals out.
-fn judge_cut(
+// The same by a try that fails, with those of its private scalars alone that are sure; none where it
+// fails too, or where this is that try or an earlier one.
+fn judge_sure(
     alloc: Global,
     program: &Program,
-    cut: Cut,
+    nest: &Nest,
+    tried: Tried,
     findings: &mut Findings,
-) -> Result<Judged, AllocError>
+) -> Result<Option<Dealt>, AllocError>
     requires formed { IsWellFormed (tree_of program.now) }
     requires limits { IsWithinLimits (tree_of program.now) }
-    requires tried { IsTriedCut (tree_of program.now) cut }
-    ensures { IfOk result (IsVerdict (cut_asked (tree_of program.now) cut)) }
+    requires body { body_among nest.now.number (tree_of program.now).items
+        ≡ Some (nest_body nest.now) }
+    requires made { IsMadeOf tried (tried_privates tried (nest_body nest.now))
+        (nest_body nest.now) }
+    ensures { IfOk result (IsSureVerdict (tree_of program.now) nest.now.number tried) }
 {
+    let all = tried.privates(alloc, nest)?;
+    if all.as_slice().is_empty() {
+        return Ok(None);
+    }
+    let sure = sure_scalars(alloc, program, nest, findings)?;
+    let is_doall = tried == Tried::Private && sure.is_empty();
+    if is_doall || sure.as_slice() == all.as_slice() {
+        return Ok(None);
+    }
+    let sure = Listed::from_vec(sure);
+    match judge_try(alloc, program, nest.number, tried, sure, findings)? {
+        Verdict::Refuted(dealt) => Ok(Some(dealt)),
+        Verdict::Kept(_) => Ok(None),
+    }
+}
+
+// Of the scalars that may be private in a loop the first 16 that are sure.
+fn sure_scalars(
+    alloc: Global,
+    program: &Program,
+    nest: &Nest,
+    findings: &mut Findings,
+) -> Result<Vec<u32>, AllocError>
+    requires formed { IsWellFormed (tree_of program.now) }
+    requires limits { IsWithinLimits (tree_of program.now) }
+    requires body { body_among nest.now.number (tree_of program.now).items
+        ≡ Some (nest_body nest.now) }
+    requires silent { loop_prints (tree_of program.now) nest.now.number ≡ false }
+    ensures { IfOk result (λ sure. AreSure (tree_of program.now) nest.now.number sure.items) }
+{
+    let mut sure = Vec::new(alloc);
+    for place in 0..program.variables.len() {
+        let scalar = place as u32 + 1;
+        if sure.len() < MOST_OWN
+            && is_private(&nest.items, scalar)
+            && is_sure(alloc, program, nest.number, scalar, findings)?
+        {
+            sure.push(scalar)?;
+        }
+    }
+    Ok(sure)
+}
+
+// Whether a scalar that may be private in a loop, by its number from 1, is sure: each system of its
+// path is refuted.
+fn is_sure(
+    alloc: Global,
+    program: &Program,
+    number: u32,
+    scalar: u32,
+    findings: &mut Findings,
+) -> Result<bool, AllocError>
+    requires formed { IsWellFormed (tree_of program.now) }
+    requires limits { IsWithinLimits (tree_of program.now) }
+    requires some { 1 ≤ number }
+    requires made { IsMadeOf Private (scalar ∷ []) (body_of (tree_of program.now) number) }
+    ensures { IfOk result (IsSettled (path_asked (tree_of program.now) number scalar)) }
+{
+    let mut own = Vec::new(alloc);
+    own.push(scalar)?;
+    let own = Listed::from_vec(own);
+    let cut = cut_alone(alloc, program, number, Tried::Private, own)?;
     let phases = phases(alloc, program, &cut)?;
     let plan = serial(alloc, program, cut)?;
     let plan = &plan;
-    judge_trips(
-        alloc,
-        Problem { program, plan },
-        phases.as_slice(),
-        findings,
-    )
+    let problem = Problem { program, plan };
+    match judge_paths(alloc, problem, phases.as_slice(), findings)? {
+        Verdict::Refuted(_certificates) => Ok(true),
+        Verdict::Kept(_cause) => Ok(false),
+    }
+}
+
+// What is known of a loop, by its number from 1, that alone is dealt out by a try, with these private
+// scalars: of its systems of two trips, and then of those of their paths.
+fn judge_try(
+    alloc: Global,
+    program: &Program,
+    number: u32,
+    tried: Tried,
+    privates: Privates,
+    findings: &mut Findings,
+) -> Result<Verdict<Dealt, Cause>, AllocError>
+    requires formed { IsWellFormed (tree_of program.now) }
+    requires limits { IsWithinLimits (tree_of program.now) }
+    requires some { 1 ≤ number }
+    requires made { IsMadeOf tried privates (body_of (tree_of program.now) number) }
+    ensures { IfOk result (IsDealtVerdict (tree_of program.now) number tried privates) }
+{
+    let own = copied(alloc, &privates)?;
+    let cut = cut_alone(alloc, program, number, tried, own)?;
+    let phases = phases(alloc, program, &cut)?;
+    let plan = serial(alloc, program, cut)?;
+    let plan = &plan;
+    let problem = Problem { program, plan };
+    let trips = match judge_trips(alloc, problem, phases.as_slice(), findings)? {
+        Verdict::Refuted(trips) => trips,
+        Verdict::Kept(cause) => return Ok(Verdict::Kept(cause)),
+    };
+    match judge_paths(alloc, problem, phases.as_slice(), findings)? {
+        Verdict::Refuted(paths) => Ok(Verdict::Refuted(Dealt {
+            tried,
+            privates,
+            trips,
+            paths,
+        })),
+        Verdict::Kept(cause) => Ok(Verdict::Kept(cause)),
+    }
+}
+
+// The same private scalars.
+fn copied(alloc: Global, privates: &Privates) -> Result<Privates, AllocError>
+    ensures { IfOk result (λ own. own ≡ privates.now) }
+{
+    Ok(Listed::from_vec(Vec::from_slice(alloc, privates.as_slice())?))
 }
 
 // A plan with this cut in which processor 0 does all.
@@ -175,6 +298,23 @@ pub(crate) fn dealt_loops(
         })?;
     }
     Ok(tries)
+}
+
+/// Of each loop, which private scalars it has then.
+pub(crate) fn dealt_privates(
+    alloc: Global,
+    verdicts: &[LoopVerdict],
+) -> Result<Vec<Privates>, AllocError>
+    ensures { IfOk result (λ lists. lists.items ≡ map own_in verdicts.now) }
+{
+    let mut lists = Vec::new(alloc);
+    for verdict in verdicts {
+        lists.push(match verdict {
+            Verdict::Refuted(dealt) => copied(alloc, &dealt.privates)?,
+            Verdict::Kept(_) => Listed::new(alloc),
+        })?;
+    }
+    Ok(lists)
 }
 
 // Whether a loop with this mark is Outer or Single.
@@ -245,18 +385,37 @@ pub(crate) fn loop_reasons(
     Ok(reasons)
 }
 
+impl LoopCertificates {
+    /// The ones, and then the others.
+    pub(crate) fn into_all(self) -> Result<Vec<Certificate>, AllocError>
+        ensures { IfOk result (λ all. all.items ≡ self.trips.items ++ self.paths.items) }
+    {
+        let LoopCertificates {
+            mut trips,
+            mut paths,
+        } = self;
+        trips.append(&mut paths)?;
+        Ok(trips)
+    }
+}
+
 // The certificates of a loop with this verdict, behind others, where its mark says that it is dealt
 // out.
 fn push_certificates(
-    certificates: &mut Vec<Certificate>,
+    certificates: &mut LoopCertificates,
     mark: Mark,
     verdict: LoopVerdict,
 ) -> Result<(), AllocError>
-    ensures { (tree : Tree) (number : ℕ) → IsLoopVerdict tree number verdict
+    ensures trips { (tree : Tree) (number : ℕ) → IsLoopVerdict tree number verdict
         → OnOk result
         (HasMoreCertificates
-        (marked_asked tree number mark (tried_in verdict)) certificates.old.items
-        certificates.new.items) }
+        (marked_asked tree number mark (tried_in verdict) (own_in verdict))
+        certificates.old.trips.items certificates.new.trips.items) }
+    ensures paths { (tree : Tree) (number : ℕ) → IsLoopVerdict tree number verdict
+        → OnOk result
+        (HasMoreCertificates
+        (marked_paths_asked tree number mark (tried_in verdict) (own_in verdict))
+        certificates.old.paths.items certificates.new.paths.items) }
 {
     if !mark.is_doall() {
         return Ok(());
@@ -264,30 +423,38 @@ fn push_certificates(
     match verdict {
         Verdict::Refuted(dealt) => {
             let Dealt {
-                certificates: mut more,
+                mut trips,
+                mut paths,
                 ..
             } = dealt;
-            certificates.append(&mut more)?;
+            certificates.trips.append(&mut trips)?;
+            certificates.paths.append(&mut paths)?;
             Ok(())
         }
         Verdict::Kept(_) => Ok(()),
     }
 }
 
-/// The certificates of two trips of the loops that these marks deal out, in the order of their
-/// phases.
-pub(crate) fn trip_certificates(
+/// The certificates of the loops that these marks deal out, in the order of their phases.
+pub(crate) fn loop_certificates(
     alloc: Global,
     marks: &[Mark],
     verdicts: Vec<LoopVerdict>,
-) -> Result<Vec<Certificate>, AllocError>
+) -> Result<LoopCertificates, AllocError>
     requires { length verdicts.items ≡ length marks.now }
-    ensures { (tree : Tree) → AreLoopVerdicts tree verdicts.items
+    ensures trips { (tree : Tree) → AreLoopVerdicts tree verdicts.items
         → IfOk result
-        (λ cs. AreRefuted (loops_asked tree (tried_at (map tried_in verdicts.items)) 1 marks.now)
-        cs.items) }
+        (λ cs. AreRefuted (loops_asked tree (tried_at (map tried_in verdicts.items))
+        (own_at (map own_in verdicts.items)) 1 marks.now) cs.trips.items) }
+    ensures paths { (tree : Tree) → AreLoopVerdicts tree verdicts.items
+        → IfOk result
+        (λ cs. AreRefuted (loops_paths_asked tree (tried_at (map tried_in verdicts.items))
+        (own_at (map own_in verdicts.items)) 1 marks.now) cs.paths.items) }
 {
-    let mut certificates = Vec::new(alloc);
+    let mut certificates = LoopCertificates {
+        trips: Vec::new(alloc),
+        paths: Vec::new(alloc),
+    };
     let mut place = 0;
     for verdict in verdicts {
         let mark = mark_in(marks, place);

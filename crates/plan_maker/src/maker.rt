@@ -8,14 +8,16 @@ ghost use Rattle.nest_tree.specs.WellFormed.{IsWellFormed};
 ghost use Rattle.sync_plan.specs.Barriers.{barrier_plan};
 ghost use Rattle.sync_plan.specs.Fit.{IsFit};
 ghost use Rattle.maker_anchors.specs.Anchors.{maker_anchors};
-ghost use Rattle.plan_maker.specs.Asked.{AreRefuted, all_trips_asked};
+ghost use Rattle.plan_maker.specs.Asked.{AreRefuted, all_paths_asked, all_trips_asked};
 ghost use Rattle.plan_maker.specs.Bars.{IsLoopReason, IsReasonedCut, all_attempts, open_loops};
-ghost use Rattle.plan_maker.specs.Cut.{cut_asked};
+ghost use Rattle.plan_maker.specs.Cut.{cut_asked, cut_paths_asked};
 ghost use Rattle.plan_maker.specs.Made.{IsBarrierPlan, IsMade, with_found};
 ghost use Rattle.plan_maker.specs.Weakest.{IsWeakest};
 
 use crate::findings::Findings;
-use crate::loops::{dealt_loops, judge_loops, loop_reasons, trip_certificates};
+use crate::loops::{
+    LoopCertificates, dealt_loops, dealt_privates, judge_loops, loop_certificates, loop_reasons,
+};
 use crate::numbers::read_plan;
 use crate::problem::Problem;
 use crate::reasons::{LoopReason, PhaseReason, Reasons};
@@ -23,7 +25,7 @@ use crate::search::Search;
 use comm_system::phases::phases;
 use farkas_cert::Certificate;
 use maker_anchors::anchors_of;
-use maker_marks::cut_of;
+use maker_marks::{DealtBy, cut_of};
 use nest_tree::{Listed, Program};
 use owner_partition::Cut;
 use std::alloc::{AllocError, Global};
@@ -46,7 +48,7 @@ pub fn make(alloc: Global, program: &Program, workers: u32) -> Result<(Plan, Rea
     ensures { IfOk result (λ made. IsMade (tree_of program.now) workers made.0 made.1) }
 {
     let mut findings = Findings::new(alloc)?;
-    let (cut, loops, trips) = make_cut(alloc, program, &mut findings)?;
+    let (cut, loops, certificates) = make_cut(alloc, program, &mut findings)?;
     let base = base_plan(alloc, program, cut, workers)?;
     let problem = Problem {
         program,
@@ -56,7 +58,7 @@ pub fn make(alloc: Global, program: &Program, workers: u32) -> Result<(Plan, Rea
         kinds,
         certificates,
         reasons,
-    } = find_weakest(alloc, problem, trips, findings)?;
+    } = find_weakest(alloc, problem, certificates, findings)?;
     let plan = with(base, kinds, certificates);
     read_plan(&plan);
     let reasons = Reasons {
@@ -79,6 +81,7 @@ pub fn make_barrier(alloc: Global, program: &Program, workers: u32) -> Result<Pl
     let (cut, _loops, certificates) = make_cut(alloc, program, &mut findings)?;
     let base = base_plan(alloc, program, cut, workers)?;
     let Plan { cut, anchors, .. } = base;
+    let certificates = certificates.into_all()?;
     let plan = all_barrier(alloc, cut, anchors.into_vec(), workers, certificates)?;
     read_plan(&plan);
     Ok(plan)
@@ -101,25 +104,32 @@ fn base_plan(alloc: Global, program: &Program, cut: Cut, workers: u32) -> Result
 }
 
 // Which loops are what, why those that are Outer or Single aren't dealt out, and the certificates of
-// two trips of those that are.
+// those that are.
 fn make_cut(
     alloc: Global,
     program: &Program,
     findings: &mut Findings,
-) -> Result<(Cut, Vec<LoopReason>, Vec<Certificate>), AllocError>
+) -> Result<(Cut, Vec<LoopReason>, LoopCertificates), AllocError>
     requires formed { IsWellFormed (tree_of program.now) }
     requires limits { IsWithinLimits (tree_of program.now) }
     ensures reasoned { IfOk result (λ made. IsReasonedCut (tree_of program.now) made.0) }
     ensures loops { IfOk result (λ made. AllZip (IsLoopReason (tree_of program.now))
         (all_attempts (tree_of program.now) (open_loops 1 made.0.marks)) made.1.items) }
-    ensures certificates { IfOk result
-        (λ made. AreRefuted (cut_asked (tree_of program.now) made.0) made.2.items) }
+    ensures trips { IfOk result
+        (λ made. AreRefuted (cut_asked (tree_of program.now) made.0) made.2.trips.items) }
+    ensures paths { IfOk result
+        (λ made. AreRefuted (cut_paths_asked (tree_of program.now) made.0) made.2.paths.items) }
 {
     let verdicts = judge_loops(alloc, program, findings)?;
     let tries = dealt_loops(alloc, verdicts.as_slice())?;
-    let cut = cut_of(alloc, program, tries.as_slice())?;
+    let privates = dealt_privates(alloc, verdicts.as_slice())?;
+    let dealt = DealtBy {
+        tries: tries.as_slice(),
+        privates: privates.as_slice(),
+    };
+    let cut = cut_of(alloc, program, dealt)?;
     let loops = loop_reasons(alloc, cut.as_slice(), verdicts.as_slice())?;
-    let certificates = trip_certificates(alloc, cut.as_slice(), verdicts)?;
+    let certificates = loop_certificates(alloc, cut.as_slice(), verdicts)?;
     Ok((cut, loops, certificates))
 }
 
@@ -138,24 +148,29 @@ fn with(plan: Plan, kinds: Vec<Kind>, certificates: Vec<Certificate>) -> Plan
     }
 }
 
-// The weakest kinds in front of the phases of a plan, behind certificates of two trips of them.
+// The weakest kinds in front of the phases of a plan, with certificates: behind those of two trips of
+// its loops, and in front of those of their private scalars' paths.
 fn find_weakest(
     alloc: Global,
     problem: Problem,
-    trips: Vec<Certificate>,
+    loops: LoopCertificates,
     findings: Findings,
 ) -> Result<Weakest, AllocError>
     requires formed { IsWellFormed (tree_of problem.program.now) }
     requires limits { IsWithinLimits (tree_of problem.program.now) }
     requires fits { IsFit (tree_of problem.program.now) problem.plan.now }
     requires trips { AreRefuted
-        (all_trips_asked (tree_of problem.program.now) problem.plan.now) trips.items }
+        (all_trips_asked (tree_of problem.program.now) problem.plan.now) loops.trips.items }
+    requires paths { AreRefuted
+        (all_paths_asked (tree_of problem.program.now) problem.plan.now) loops.paths.items }
     ensures { IfOk result (IsWeakest (tree_of problem.entry.program.now) problem.entry.plan.now) }
 {
     let phases = phases(alloc, problem.program, &problem.plan.cut)?;
     let mut search = Search::new(alloc, problem, phases.as_slice(), findings)?;
     let reasons = search.settle_all(alloc)?;
-    let (kinds, certificates) = search.finish(alloc, trips)?;
+    let LoopCertificates { trips, mut paths } = loops;
+    let (kinds, mut certificates) = search.finish(alloc, trips)?;
+    certificates.append(&mut paths)?;
     Ok(Weakest {
         kinds,
         certificates,

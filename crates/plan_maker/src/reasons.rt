@@ -9,7 +9,8 @@ use sync_plan::Kind;
 pub enum Bar {
     /// A PRINT stands in it.
     Print,
-    /// Two trips of it may access one element, one of them storing.
+    /// Two trips of it may access one element, one of them storing; or a loop round the first store of
+    /// a private scalar may make no trip.
     Meeting(Cause),
 }
 

@@ -31,7 +31,7 @@ use Rattle.plan_maker.specs.Bars.{IsReasonedCut}
 use Rattle.maker_marks.specs.Marks.{have_free, has_free, inner_of, marks_by, marks_in, marks_of}
 use Rattle.plan_maker.specs.Numbers as numbers
 use Rattle.maker_marks.specs.Privates.{none_in, none_of, privates_by, privates_in, privates_of}
-use Rattle.maker_marks.specs.Tries.{tried_mark, tried_privates}
+use Rattle.maker_marks.specs.Tries.{tried_mark}
 use Rattle.maker_marks.specs.declared.tries.Tried.{Tried}
 use Rattle.plan_text.proofs.Counts.{counts_of_fit}
 use Rattle.plan_text.proofs.Written.{zipped-length}
@@ -150,43 +150,43 @@ mutual
 without : (ms : List Mark) (vs : List (List ℕ)) → list_all has_none vs ≡ true → list_all may_have (zipped ms vs) ≡ true
 without ms vs h = each (λ (l : Mark × List ℕ). has_none l.1) may_have (λ l e. or_left (has_none l.1) (is_doall l.0) e) (zipped ms vs) (zipped_second has_none ms vs h)
 
-module _ (dealt : ℕ → Option Tried) where
-  closed_loop : (o : Option Tried) (body : Statements) (inside : List (List ℕ)) → is_some o ≡ false → list_all has_none inside ≡ true → list_all has_none (privates_by o body inside) ≡ true
-  closed_loop (Some t) body inside none h = absurd (let no : true ≡ false = none in cc)
-  closed_loop None body inside none h = h
+module _ (dealt : ℕ → Option Tried) (own : ℕ → List ℕ) where
+  closed_loop : (o : Option Tried) (vs : List ℕ) (body : Statements) (inside : List (List ℕ)) → is_some o ≡ false → list_all has_none inside ≡ true → list_all has_none (privates_by o vs body inside) ≡ true
+  closed_loop (Some t) vs body inside none h = absurd (let no : true ≡ false = none in cc)
+  closed_loop None vs body inside none h = h
 
   mutual
-    closed_in : (s : Statement) → has_free dealt s ≡ false → list_all has_none (privates_in dealt s) ≡ true
+    closed_in : (s : Statement) → has_free dealt s ≡ false → list_all has_none (privates_in dealt own s) ≡ true
     closed_in (do_loop head body) none =
         let parts = or_parts (is_some (dealt head.number)) (have_free dealt body) none in
-        closed_loop (dealt head.number) body (privates_of dealt body) parts.0 (closed_of body parts.1)
+        closed_loop (dealt head.number) (own head.number) body (privates_of dealt own body) parts.0 (closed_of body parts.1)
     closed_in (work w) none = refl
     closed_in (continue line) none = refl
 
-    closed_of : (ss : Statements) → have_free dealt ss ≡ false → list_all has_none (privates_of dealt ss) ≡ true
+    closed_of : (ss : Statements) → have_free dealt ss ≡ false → list_all has_none (privates_of dealt own ss) ≡ true
     closed_of done none = refl
     closed_of (next s rest) none =
         let parts = or_parts (has_free dealt s) (have_free dealt rest) none in
-        joined (privates_in dealt s) (privates_of dealt rest) (closed_in s parts.0) (closed_of rest parts.1)
+        joined (privates_in dealt own s) (privates_of dealt own rest) (closed_in s parts.0) (closed_of rest parts.1)
 
-  loop_may : (o : Option Tried) (free : Bool) (body : Statements) → (free ≡ false → list_all has_none (privates_of dealt body) ≡ true) → list_all may_have (zipped (marks_of dealt body) (privates_of dealt body)) ≡ true →
-      list_all may_have (zipped (marks_by o free body (marks_of dealt body)) (privates_by o body (privates_of dealt body))) ≡ true
-  loop_may (Some t) free body closed inside =
-      and_from (may_have (tried_mark t, tried_privates t body)) (list_all may_have (zipped (inner_of body) (none_of body)))
-      (or_right (has_none (tried_privates t body)) (is_doall (tried_mark t)) (tried_dealt t)) (without (inner_of body) (none_of body) (none_have body))
-  loop_may None true body closed inside = inside
-  loop_may None false body closed inside = without (inner_of body) (privates_of dealt body) (closed refl)
+  loop_may : (o : Option Tried) (vs : List ℕ) (free : Bool) (body : Statements) → (free ≡ false → list_all has_none (privates_of dealt own body) ≡ true) → list_all may_have (zipped (marks_of dealt body) (privates_of dealt own body)) ≡ true →
+      list_all may_have (zipped (marks_by o free body (marks_of dealt body)) (privates_by o vs body (privates_of dealt own body))) ≡ true
+  loop_may (Some t) vs free body closed inside =
+      and_from (may_have (tried_mark t, vs)) (list_all may_have (zipped (inner_of body) (none_of body)))
+      (or_right (has_none vs) (is_doall (tried_mark t)) (tried_dealt t)) (without (inner_of body) (none_of body) (none_have body))
+  loop_may None vs true body closed inside = inside
+  loop_may None vs false body closed inside = without (inner_of body) (privates_of dealt own body) (closed refl)
 
   mutual
-    may_in : (s : Statement) → list_all may_have (zipped (marks_in dealt s) (privates_in dealt s)) ≡ true
-    may_in (do_loop head body) = loop_may (dealt head.number) (have_free dealt body) body (closed_of body) (may_of body)
+    may_in : (s : Statement) → list_all may_have (zipped (marks_in dealt s) (privates_in dealt own s)) ≡ true
+    may_in (do_loop head body) = loop_may (dealt head.number) (own head.number) (have_free dealt body) body (closed_of body) (may_of body)
     may_in (work w) = refl
     may_in (continue line) = refl
 
-    may_of : (ss : Statements) → list_all may_have (zipped (marks_of dealt ss) (privates_of dealt ss)) ≡ true
+    may_of : (ss : Statements) → list_all may_have (zipped (marks_of dealt ss) (privates_of dealt own ss)) ≡ true
     may_of done = refl
     may_of (next s rest) =
-        zipped_joined may_have (marks_in dealt s) (marks_of dealt rest) (privates_in dealt s) (privates_of dealt rest) (marks_count_in dealt s ∙ sym (privates_count_in dealt s)) (may_in s) (may_of rest)
+        zipped_joined may_have (marks_in dealt s) (marks_of dealt rest) (privates_in dealt own s) (privates_of dealt own rest) (marks_count_in dealt s ∙ sym (privates_count_in dealt own s)) (may_in s) (may_of rest)
 
 -- ---- the version shows the loops
 
@@ -242,7 +242,7 @@ has_text tree plan formed version values fits reasoned shown =
     let constants = length tree.params in
     let parts = fit_parts tree plan fits in
     let counts = counts_of_fit tree plan formed values fits in
-    let may : list_all may_have (cut_loops plan.cut) ≡ true = subst (λ (cut : Cutting). list_all may_have (cut_loops cut) ≡ true) (sym reasoned.cut_is) (may_of reasoned.dealt tree.items) in
+    let may : list_all may_have (cut_loops plan.cut) ≡ true = subst (λ (cut : Cutting). list_all may_have (cut_loops cut) ≡ true) (sym reasoned.cut_is) (may_of reasoned.dealt reasoned.own tree.items) in
     let loops : list_all (is_loop_shown plan.version) (cut_loops plan.cut) ≡ true = ap (λ v. list_all (is_loop_shown v) (cut_loops plan.cut)) version ∙ all_loops plan.cut may shown.privates in
     let kinds = kinds_shown constants text plan.kinds parts.kinds parts.good_kinds shown.kinds in
     let anchors = anchors_shown constants plan.cut.marks text plan.anchors parts.anchors parts.good_anchors shown.anchors in

@@ -7,7 +7,7 @@ use Rattle.farkas_cert.specs.declared.certificate.Certificate.{Certificate}
 use Rattle.nest_tree.specs.Tree.{Tree}
 use Rattle.sync_plan.specs.declared.plan.Kind.{Kind}
 use Rattle.sync_plan.specs.declared.plan.Plan.{Plan}
-use Rattle.comm_system.specs.Obligations.{Slot, Task, numbered_from, slot_signature, slot_tasks, slots_of, tasks_of, trips_tasks}
+use Rattle.comm_system.specs.Obligations.{Slot, Task, numbered_from, paths_tasks, slot_signature, slot_tasks, slots_of, tasks_of, trips_tasks}
 use Rattle.comm_system.specs.References.{StaticPhase, phases_of}
 use Rattle.comm_system.specs.Signatures.{Signature, blocked, waits}
 use Rattle.comm_system.specs.declared.obligation.Obligation.{Obligation}
@@ -42,13 +42,38 @@ same_tasks tree plan kinds slot (waits left right producers) = refl
 same_trips : (tree : Tree) (plan : Plan) (kinds : List Kind) (s : StaticPhase) → trips_tasks tree (with_kinds plan kinds) s ≡ trips_tasks tree plan s
 same_trips tree plan kinds s = refl
 
+same_paths : (tree : Tree) (plan : Plan) (kinds : List Kind) (s : StaticPhase) → paths_tasks tree (with_kinds plan kinds) s ≡ paths_tasks tree plan s
+same_paths tree plan kinds s = refl
+
 -- those at a slot are among those of the plan with these kinds
 pub slot_there : (tree : Tree) (plan : Plan) (kinds : List Kind) (slot : Slot) (k : Task) → Contains (slots_in tree plan) slot → Contains (tasks_at tree plan kinds slot) k → Contains (tasks_of tree (with_kinds plan kinds)) k
 slot_there tree plan kinds slot k there c =
     let phases = phases_of tree plan.cut.marks in
     let tasks = λ (s : Slot). slot_tasks tree (with_kinds plan kinds) s (slot_signature plan.version kinds phases s) in
     let here = subst (λ ts. Contains ts k) (sym (same_tasks tree plan kinds slot (slot_signature plan.version kinds phases slot))) c in
-    Contains-append_right (flat_map (trips_tasks tree (with_kinds plan kinds)) phases) (flat_map tasks (slots_of phases)) k (in_flat_map tasks (slots_of phases) slot k there here)
+    let trips = flat_map (trips_tasks tree (with_kinds plan kinds)) phases in
+    let slots = flat_map tasks (slots_of phases) in
+    let paths = flat_map (paths_tasks tree (with_kinds plan kinds)) phases in
+    Contains-append_left (trips ++ slots) paths k (Contains-append_right trips slots k (in_flat_map tasks (slots_of phases) slot k there here))
+
+-- so has each of two trips of a phase of it, and each of the paths of its private scalars
+own_trips : (tree : Tree) (plan : Plan) (k : Task) (s : StaticPhase) → IsAccepted tree plan → Contains (phases_of tree plan.cut.marks) s → Contains (trips_tasks tree plan s) k → IsCertified k.system
+own_trips tree plan k s accepted there c =
+    let phases = phases_of tree plan.cut.marks in
+    let among = λ (x : Slot). slot_tasks tree plan x (slot_signature plan.version plan.kinds phases x) in
+    let trips = flat_map (trips_tasks tree plan) phases in
+    let slots = flat_map among (slots_of phases) in
+    let paths = flat_map (paths_tasks tree plan) phases in
+    own_certified tree plan k accepted (Contains-append_left (trips ++ slots) paths k (Contains-append_left trips slots k (in_flat_map (trips_tasks tree plan) phases s k there c)))
+
+own_paths : (tree : Tree) (plan : Plan) (k : Task) (s : StaticPhase) → IsAccepted tree plan → Contains (phases_of tree plan.cut.marks) s → Contains (paths_tasks tree plan s) k → IsCertified k.system
+own_paths tree plan k s accepted there c =
+    let phases = phases_of tree plan.cut.marks in
+    let among = λ (x : Slot). slot_tasks tree plan x (slot_signature plan.version plan.kinds phases x) in
+    let trips = flat_map (trips_tasks tree plan) phases in
+    let slots = flat_map among (slots_of phases) in
+    let paths = flat_map (paths_tasks tree plan) phases in
+    own_certified tree plan k accepted (Contains-append_right (trips ++ slots) paths k (in_flat_map (paths_tasks tree plan) phases s k there c))
 
 -- where a slot of an accepted plan sees the same as under the plan's own kinds, its systems have good certificates
 pub own_slot : (tree : Tree) (plan : Plan) (kinds : List Kind) (slot : Slot) (wanted : Wanted) → IsAccepted tree plan → Contains (slots_in tree plan) slot →
@@ -73,13 +98,19 @@ all_under tree plan kinds wanted accepted all o there sought =
     let phases = phases_of tree plan.cut.marks in
     let tasks = λ (s : Slot). slot_tasks tree (with_kinds plan kinds) s (slot_signature plan.version kinds phases s) in
     let k = task_of o in
-    elim (Contains-append_cases (flat_map (trips_tasks tree (with_kinds plan kinds)) phases) (flat_map tasks (slots_of phases)) k there) [
-      | inl trips ↦
-          let r = from_flat_map (trips_tasks tree (with_kinds plan kinds)) phases k trips in
-          let own = subst (λ ts. Contains ts k) (same_trips tree plan kinds r.0) r.2 in
-          let among = λ (s : Slot). slot_tasks tree plan s (slot_signature plan.version plan.kinds phases s) in
-          own_certified tree plan k accepted (Contains-append_left (flat_map (trips_tasks tree plan) phases) (flat_map among (slots_of phases)) k (in_flat_map (trips_tasks tree plan) phases r.0 k r.1 own))
-      | inr slots ↦
-          let r = from_flat_map tasks (slots_of phases) k slots in
-          all r.0 r.1 o (subst (λ ts. Contains ts k) (same_tasks tree plan kinds r.0 (slot_signature plan.version kinds phases r.0)) r.2) sought
+    let trips = flat_map (trips_tasks tree (with_kinds plan kinds)) phases in
+    let slots = flat_map tasks (slots_of phases) in
+    let paths = flat_map (paths_tasks tree (with_kinds plan kinds)) phases in
+    elim (Contains-append_cases (trips ++ slots) paths k there) [
+      | inl front ↦ elim (Contains-append_cases trips slots k front) [
+        | inl among ↦
+            let r = from_flat_map (trips_tasks tree (with_kinds plan kinds)) phases k among in
+            own_trips tree plan k r.0 accepted r.1 (subst (λ ts. Contains ts k) (same_trips tree plan kinds r.0) r.2)
+        | inr among ↦
+            let r = from_flat_map tasks (slots_of phases) k among in
+            all r.0 r.1 o (subst (λ ts. Contains ts k) (same_tasks tree plan kinds r.0 (slot_signature plan.version kinds phases r.0)) r.2) sought
+      ]
+      | inr among ↦
+          let r = from_flat_map (paths_tasks tree (with_kinds plan kinds)) phases k among in
+          own_paths tree plan k r.0 accepted r.1 (subst (λ ts. Contains ts k) (same_paths tree plan kinds r.0) r.2)
     ]

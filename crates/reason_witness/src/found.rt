@@ -14,7 +14,7 @@ ghost use Rattle.reason_witness.specs.declared.found.Finding.TheVariants.{Refute
 
 use crate::account::Reason;
 use crate::known::settled;
-use crate::meeting::{Meeting, meeting_of};
+use crate::meeting::{Witness, witness_of};
 use comm_system::Obligation;
 use comm_system::group::Group;
 use comm_system::groups::list_groups;
@@ -29,8 +29,8 @@ use sync_plan::Plan;
 /// What is found of an obligation.
 #[derive(Drop)]
 pub enum Finding {
-    /// A whole solution of its system, and the two iterations that it is.
-    Solved(Point, Meeting),
+    /// A whole solution of its system, and what it says.
+    Solved(Point, Witness),
     /// A certificate that it has none.
     Refuted,
     /// Neither, within the budget.
@@ -105,11 +105,12 @@ fn is_named(cause: &Cause, obligation: &Obligation) -> bool
 
 // Whether a group speaks of the lines, the variable and the level of a cause.
 fn may_be_named(cause: &Cause, group: &Group) -> bool {
-    let (level, a, b) = match &group.subject {
-        Subject::Trips(_, a, b) => (0, *a, *b),
-        Subject::Slot(slot, _, a, b) => (slot.level, *a, *b),
+    let (level, line, a, b) = match &group.subject {
+        Subject::Trips(_, a, b) => (0, a.line, *a, *b),
+        Subject::Slot(slot, _, a, b) => (slot.level, a.line, *a, *b),
+        Subject::ZeroTrip(inside) => (0, inside.nest().line, inside.store, inside.store),
     };
-    a.line == cause.lines.0
+    line == cause.lines.0
         && b.line == cause.lines.1
         && a.target.variable() == cause.variable
         && level == cause.level
@@ -155,8 +156,8 @@ impl Planned<'_> {
     {
         match settled(alloc, self.known, obligation) {
             Ok(Settled::Solved(point)) => {
-                let meeting = meeting_of(alloc, self.program, self.plan, group, point.as_slice())?;
-                Ok(Finding::Solved(point, meeting))
+                let witness = witness_of(alloc, self.program, self.plan, group, point.as_slice())?;
+                Ok(Finding::Solved(point, witness))
             }
             Ok(Settled::Refuted(_)) => Ok(Finding::Refuted),
             Ok(Settled::Unknown) => Ok(Finding::Unknown),

@@ -3,7 +3,7 @@
 //!
 //! - [`account`]: what is told of a plan, made, given or refused for an obligation: its reasons.
 //! - [`found`]: an obligation that is looked for, and what is found of it.
-//! - [`meeting`]: what a whole solution says of the two accesses.
+//! - [`meeting`]: what a whole solution says: two accesses that meet, or a loop without a trip.
 //! - `sought`, `asked`: of what reasons are looked for.
 //! - `candidates`: what is weaker than the wait in front of a phase.
 //! - `known`: whole solutions of earlier reasons, which may solve a system too.

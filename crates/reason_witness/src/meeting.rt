@@ -1,4 +1,4 @@
-// Two iterations that meet, as a whole solution has them.
+// What a whole solution says: two iterations that meet, or a loop that makes no trip.
 
 use comm_system::group::Group;
 use comm_system::reference::{Reference, Target};
@@ -30,6 +30,16 @@ pub struct Meeting {
     pub first: Touch,
     pub second: Touch,
     pub producers: Vec<i128>,
+}
+
+/// What a whole solution of an obligation's system says.
+#[derive(Drop)]
+pub enum Witness {
+    /// That two iterations meet.
+    Meeting(Meeting),
+    /// That a loop makes no trip where those outside it have these values: each by its number from 1,
+    /// from the outermost.
+    ZeroTrip(Vec<(u32, i128)>),
 }
 
 // Values of a system's unknowns, from number 1.
@@ -71,7 +81,15 @@ fn free_count(program: &Program, target: &Target) -> usize {
     }
 }
 
-impl Side<'_, '_> {
+impl<'s, 'a> Side<'s, 'a> {
+    // The first access of a system.
+    fn of_first(program: &Program, reference: &'s Reference<'a>) -> Self {
+        Side {
+            reference,
+            first: program.params.len().saturating_add(1),
+        }
+    }
+
     // The number of the unknown behind its own.
     fn behind(self, program: &Program) -> usize {
         self.free()
@@ -136,10 +154,15 @@ impl Values<'_> {
         Ok(found)
     }
 
-    // The loops round an access with their values.
-    fn loops(self, alloc: Global, side: Side) -> Result<Vec<(u32, i128)>, AllocError> {
+    // The first so many of the loops round an access, with their values.
+    fn loops(
+        self,
+        alloc: Global,
+        side: Side,
+        count: usize,
+    ) -> Result<Vec<(u32, i128)>, AllocError> {
         let mut found = Vec::new(alloc);
-        for (place, around) in side.reference.around.iter().enumerate() {
+        for (place, around) in side.reference.around.iter().take(count).enumerate() {
             let unknown = side.first.saturating_add(place.saturating_mul(2));
             found.push((around.nest.number, self.at(unknown)))?;
         }
@@ -157,28 +180,42 @@ impl Values<'_> {
             variable: side.reference.target.variable(),
             subscripts: self.subscripts(alloc, side)?,
             line: side.reference.line,
-            loops: self.loops(alloc, side)?,
+            loops: self.loops(alloc, side, side.reference.around.len())?,
         })
     }
 }
 
-/// What values of the unknowns say of the two accesses of a group of a plan's systems.
-pub(crate) fn meeting_of(
+/// What values of the unknowns say of a group of a plan's systems.
+pub(crate) fn witness_of(
     alloc: Global,
     program: &Program,
     plan: &Plan,
     group: &Group,
     values: &[i128],
-) -> Result<Meeting, AllocError> {
+) -> Result<Witness, AllocError> {
     let values = Values { program, values };
     let (a, b) = match &group.subject {
         Subject::Trips(_, a, b) => (*a, *b),
         Subject::Slot(_, _, a, b) => (*a, *b),
+        Subject::ZeroTrip(inside) => {
+            let side = Side::of_first(program, inside.store);
+            return Ok(Witness::ZeroTrip(values.loops(alloc, side, inside.outside)?));
+        }
     };
-    let first = Side {
-        reference: a,
-        first: program.params.len().saturating_add(1),
-    };
+    Ok(Witness::Meeting(meeting_of(alloc, values, plan, group, a, b)?))
+}
+
+// What they say of the two accesses of a group.
+fn meeting_of(
+    alloc: Global,
+    values: Values,
+    plan: &Plan,
+    group: &Group,
+    a: &Reference,
+    b: &Reference,
+) -> Result<Meeting, AllocError> {
+    let program = values.program;
+    let first = Side::of_first(program, a);
     let second = Side {
         reference: b,
         first: first.behind(program),

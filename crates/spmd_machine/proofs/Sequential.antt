@@ -41,7 +41,7 @@ module _ (style : Style) (tree : Tree) (plan : Plan) (formed : IsWellFormed tree
     pub finds : (p place : ℕ) (j : Job) → slice_get (timeline_by style tree plan) place ≡ Some (job j) → j.counts ≡ 1 → j.owner ≡ p → FindsSequential style tree plan s p place j
     finds p place j at counts owner =
         let m = machine_by style tree plan in
-        let x = instance_in style tree plan formed fits ranges place j at counts in
+        let x = instance_in style tree plan formed fits ranges ordered.stored place j at counts in
         let own = own_of tree plan x.execution.place in
         let front = memory_before tree (instances_in_front style tree plan place) in (
           x.execution,
@@ -51,12 +51,12 @@ module _ (style : Style) (tree : Tree) (plan : Plan) (formed : IsWellFormed tree
         )
 
     pub memory_at_end : IsEnded (machine_by style tree plan) s → take (cell_count tree) s.memory ≡ Model.last_memory tree
-    memory_at_end ended = ap (take (cell_count tree)) (ended_memory (machine_by style tree plan) s (sound_by style tree plan formed fits) sequential ended) ∙ shared_last style tree plan formed fits ranges
+    memory_at_end ended = ap (take (cell_count tree)) (ended_memory (machine_by style tree plan) s (sound_by style tree plan formed fits) sequential ended) ∙ shared_last style tree plan formed fits ranges ordered.stored
 
     pub front_of_output : (rest : List ℕ) × (s.output ++ rest ≡ output_of tree)
-    front_of_output = let (rest, is) = output_front (machine_by style tree plan) s (sound_by style tree plan formed fits) sequential in (rest, is ∙ output_by style tree plan formed fits ranges)
+    front_of_output = let (rest, is) = output_front (machine_by style tree plan) s (sound_by style tree plan formed fits) sequential in (rest, is ∙ output_by style tree plan formed fits ranges ordered.stored)
 
     pub output_at_end : IsEnded (machine_by style tree plan) s → s.output ≡ output_of tree
     output_at_end ended =
         let some : 0 < plan.workers = omega (arith, (fit_parts tree plan fits).some) in
-        ended_output (machine_by style tree plan) s some (sound_by style tree plan formed fits) sequential ended ∙ output_by style tree plan formed fits ranges
+        ended_output (machine_by style tree plan) s some (sound_by style tree plan formed fits) sequential ended ∙ output_by style tree plan formed fits ranges ordered.stored

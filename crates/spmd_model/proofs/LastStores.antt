@@ -1,12 +1,13 @@
 -- A private scalar's first store in each trip of its loop, and that of the last trip.
-use Rattle.std.proofs.Common.{◌≡◌, ℕ, ◌+◌, ◌-◌, ◌<◌, ◌≤◌, ℤ, pos, ◌+ℤ◌, ◌*ℤ◌, Bool, true, false, true≢false, ◌&&◌, ◌==◌, nat_lt, unsigned_abs, List, [], ◌∷◌, ◌++◌, length, take, Option, Some, None, if◌then◌else◌, refl, ap, sym, ◌∙◌, inl, inr, arith, length-append, int_eq, not}
-use Rattle.std.specs.Prelude.{is_none, slice_get, sum_by}
+use Rattle.std.proofs.Common.{◌≡◌, ℕ, ◌+◌, ◌-◌, ◌<◌, ◌≤◌, ℤ, pos, ◌+ℤ◌, ◌*ℤ◌, Bool, true, false, true≢false, ◌&&◌, ◌==◌, nat_lt, unsigned_abs, List, [], ◌∷◌, ◌++◌, length, take, Option, Some, None, if◌then◌else◌, refl, ap, sym, subst, ◌∙◌, inl, inr, arith, length-append, int_eq, not}
+use Rattle.std.specs.Prelude.{Contains, is_none, slice_get, sum_by}
 use Rattle.std.specs.List.{All, flat_map, list_all, list_any}
+use Rattle.std.specs.Option.{option_map_or}
 use Rattle.std.proofs.lemmas.Bool.{and_from, and_parts, cases_Bool, eq-eqb, ltb-true}
 use Rattle.std.proofs.lemmas.Bool.Decides.{Decides-int_eq}
 use Rattle.std.proofs.lemmas.Grind.{flat_map-append}
 use Rattle.std.proofs.lemmas.List.{append_assoc, get_or-set_other, get_or-set_same, take-append-le}
-use Rattle.std.proofs.lemmas.List.Elements.{All-append, All-cons, All-nil, All-weaker}
+use Rattle.std.proofs.lemmas.List.Elements.{All-append, All-cons, All-nil, All-weaker, Contains-append_right}
 use Rattle.std.proofs.lemmas.List.Sums.{sum_by-append}
 use Rattle.nest_tree.specs.declared.tree.Guard.{Guard}
 use Rattle.nest_tree.specs.Form.{Form, dot, form_value, is_form, is_small, numbered, rises_above}
@@ -16,16 +17,17 @@ use Rattle.nest_tree.proofs.Good.{good_loop}
 use Rattle.nest_model.specs.Instances.{Instance, head_trips, holds, instances_in, instances_of, is_executed, trips, with_loop, works_in, works_of, no_values}
 use Rattle.nest_model.specs.Visits.{Visit, stops_in, visits_in, visits_of}
 use Rattle.nest_walk.specs.Texts.{Placed, placed, placed_in, placed_of}
-use Rattle.own_scalars.specs.OwnScalars.{has_access, is_of, is_plain_statement, is_plain_store, is_private, loads, some_in, some_of}
+use Rattle.own_scalars.specs.OwnScalars.{has_access, is_of, is_plain_store, is_private, is_stored_first, loads, some_in, some_of}
 use Rattle.own_scalars.proofs.Stored.{neither}
 use Rattle.owner_partition.specs.Marks.{enters_outer}
 use Rattle.owner_partition.specs.Phases.{phase_instances, phases}
 use Rattle.owner_partition.proofs.Sites.{All-flat_map, all_at}
 use Rattle.sync_plan.specs.declared.plan.Plan.{Plan}
-use Rattle.sync_plan.specs.Conflicts.{first_work, is_last_store, is_last_trip, is_value, last_value, works_before}
+use Rattle.sync_plan.specs.Conflicts.{first_work, is_last_store, is_last_trip, is_value, last_value, works_before, works_before_in}
 use Rattle.sync_plan.specs.Own.{own_loop, own_loop_of, OwnLoop}
 use Rattle.sync_plan.specs.Shape.{static_phases}
-use Rattle.sync_plan.proofs.FitOwners.{named_low}
+use Rattle.sync_plan.specs.Stored.{path_runs, path_runs_in}
+use Rattle.sync_plan.proofs.FitOwners.{AgreeBelow, agree_among, form_agrees, named_low}
 use Rattle.sync_plan.proofs.Gets.{get-behind}
 use Rattle.sync_plan.proofs.PhasePlaces.{placed_count, visit_there}
 use Rattle.spmd_model.proofs.CellsThere.{every}
@@ -37,6 +39,11 @@ pub last_split : (vs : List ℤ) (x : ℤ) → last_value vs ≡ Some x → (fro
 last_split [] x e = let clash : None ≡ Some x = e in absurd (cc)
 last_split (v ∷ []) x e = let same : Some v ≡ Some x = e in let is : v ≡ x = cc in ([], ap (λ y. y ∷ []) is)
 last_split (v ∷ w ∷ ws) x e = let rest = last_split (w ∷ ws) x e in (v ∷ rest.0, ap (λ l. v ∷ l) rest.1)
+
+pub last_among : (vs : List ℤ) (x : ℤ) → last_value vs ≡ Some x → Contains vs x
+last_among vs x e =
+    let s = last_split vs x e in
+    subst (λ l. Contains l x) (sym s.1) (Contains-append_right s.0 (x ∷ []) x (0, omega arith, refl))
 
 pub last_there : (front : List ℤ) (x : ℤ) → last_value (front ++ x ∷ []) ≡ Some x
 last_there [] x = refl
@@ -73,6 +80,15 @@ trips_set scope around head params loops v good below some =
     let c = and_parts (names_only scope.constants around head.m1) (names_only scope.constants around head.m2) b.0 in
     ap (λ z. trips z (form_value head.m2 (with_loop loops head.number v) params) head.step) (form_set scope.constants head.number around head.m1 params loops v c.0 below some)
     ∙ ap (λ z. trips (form_value head.m1 loops params) z head.step) (form_set scope.constants head.number around head.m2 params loops v c.1 below some)
+
+-- nor on those of the loops inside
+trips_agree : (scope : Scope) (around : List ℕ) (head : Head) (params xs ys : List ℤ) → is_good_head scope around head ≡ true → All (λ k. k ≤ head.number) around → 1 ≤ head.number → AgreeBelow head.number xs ys → head_trips params head xs ≡ head_trips params head ys
+trips_agree scope around head params xs ys good below some agree =
+    let a = and_parts (names_only scope.constants around head.m1 && names_only scope.constants around head.m2 && nat_lt 0 (unsigned_abs head.step)) (is_small head.step) good in
+    let b = and_parts (names_only scope.constants around head.m1 && names_only scope.constants around head.m2) (nat_lt 0 (unsigned_abs head.step)) a.0 in
+    let c = and_parts (names_only scope.constants around head.m1) (names_only scope.constants around head.m2) b.0 in
+    ap (λ z. trips z (form_value head.m2 xs params) head.step) (form_agrees scope.constants head.number around head.m1 params xs ys some below c.0 agree)
+    ∙ ap (λ z. trips (form_value head.m1 ys params) z head.step) (form_agrees scope.constants head.number around head.m2 params xs ys some below c.1 agree)
 
 -- ---- the number of a phase's first piece of work
 
@@ -167,14 +183,13 @@ mutual
       let parts = neither (some_in test s) (some_of test rest) none in
       All-append (λ (i : Instance). test i.what ≡ false) (instances_of params s first loops) (instances_in params rest (first + works_in s) loops) (none_in params test s first loops parts.0) (none_among params test rest (first + works_in s) loops parts.1)
 
--- the instances of a loop's body in a trip: up to a store without comparison none has the scalar
-pub record StoresFirst (u first : ℕ) (body : Statements) (loops : List ℤ) (is : List Instance) : Type 0 where
+-- instances of which the first that has the scalar is this piece of work's, a store without comparison
+pub record StoresFirst (u number : ℕ) (is : List Instance) : Type 0 where
   pub before : List Instance
   pub store : Instance
   pub after : List Instance
   pub split : is ≡ before ++ store ∷ after
-  pub statement_is : store.statement ≡ first + works_before u body
-  pub loops_is : store.loops ≡ loops
+  pub statement_is : store.statement ≡ number
   pub plain : is_plain_store u store.what ≡ true
   pub away : All (λ (i : Instance). has_access u i.what ≡ false) before
 
@@ -186,38 +201,72 @@ plain_executed u (assign a) loops params plain = by a.guard (and_parts (is_of u 
     by (Some g) e = absurd (true≢false (sym e))
 plain_executed u (print p) loops params plain = absurd (true≢false (sym plain))
 
-pub stores_first : (params : List ℤ) (u : ℕ) (body : Statements) (first : ℕ) (loops : List ℤ) → is_private u body ≡ true → StoresFirst u first body loops (instances_in params body first loops)
-stores_first params u done first loops is = absurd (true≢false (sym is))
-stores_first params u (next s rest) first loops is = elim (cases_Bool (some_in (has_access u) s)) [
-  | inl held ↦ here s held (sym (ap (λ b. if b then is_plain_statement u s else is_private u rest) held) ∙ is)
-  | inr failed ↦ later failed (stores_first params u rest (first + works_in s) loops (sym (ap (λ b. if b then is_plain_statement u s else is_private u rest) failed) ∙ is))
-]
-  where
-    here : (s : Statement) → some_in (has_access u) s ≡ true → is_plain_statement u s ≡ true → StoresFirst u first (next s rest) loops (instances_in params (next s rest) first loops)
-    here (do_loop head body) held plain = absurd (true≢false (sym plain))
-    here (work w) held plain = record {
-      before = [];
-      store = record { statement = first; what = w; loops = loops };
-      after = instances_in params rest (first + 1) loops;
-      split = ap (λ b. (if b then record { statement = first; what = w; loops = loops } ∷ [] else []) ++ instances_in params rest (first + 1) loops) (plain_executed u w loops params plain);
-      statement_is = let none : works_before u (next (work w) rest) ≡ 0 = ap (λ b. if b then 0 else 1 + works_before u rest) held in omega (arith, none);
-      loops_is = refl;
-      plain = plain;
-      away = All-nil (λ (i : Instance). has_access u i.what ≡ false);
-    }
-    here (continue line) held plain = absurd (true≢false (sym plain))
-
-    later : some_in (has_access u) s ≡ false → StoresFirst u (first + works_in s) rest loops (instances_in params rest (first + works_in s) loops) → StoresFirst u first (next s rest) loops (instances_in params (next s rest) first loops)
-    later failed r = record {
-      before = instances_of params s first loops ++ r.before;
+stores_here : (params : List ℤ) (u : ℕ) (s : Statement) (rest : Statements) (first : ℕ) (loops : List ℤ) → some_in (has_access u) s ≡ true → StoresFirst u (first + works_before_in u s) (instances_of params s first loops) → StoresFirst u (first + works_before u (next s rest)) (instances_in params (next s rest) first loops)
+stores_here params u s rest first loops held r =
+    let later = instances_in params rest (first + works_in s) loops in
+    record {
+      before = r.before;
       store = r.store;
-      after = r.after;
-      split = ap (λ l. instances_of params s first loops ++ l) r.split ∙ sym (append_assoc (instances_of params s first loops) r.before (r.store ∷ r.after));
-      statement_is = let more : works_before u (next s rest) ≡ works_in s + works_before u rest = ap (λ b. if b then 0 else works_in s + works_before u rest) failed in omega (arith, r.statement_is, more);
-      loops_is = r.loops_is;
+      after = r.after ++ later;
+      split = ap (λ l. l ++ later) r.split ∙ append_assoc r.before (r.store ∷ r.after) later;
+      statement_is = let here : works_before u (next s rest) ≡ works_before_in u s = ap (λ b. if b then works_before_in u s else works_in s + works_before u rest) held in omega (arith, r.statement_is, here);
       plain = r.plain;
-      away = All-append (λ (i : Instance). has_access u i.what ≡ false) (instances_of params s first loops) r.before (none_in params (has_access u) s first loops failed) r.away;
+      away = r.away;
     }
+
+stores_later : (params : List ℤ) (u : ℕ) (s : Statement) (rest : Statements) (first : ℕ) (loops : List ℤ) → some_in (has_access u) s ≡ false → StoresFirst u (first + works_in s + works_before u rest) (instances_in params rest (first + works_in s) loops) →
+    StoresFirst u (first + works_before u (next s rest)) (instances_in params (next s rest) first loops)
+stores_later params u s rest first loops failed r = record {
+  before = instances_of params s first loops ++ r.before;
+  store = r.store;
+  after = r.after;
+  split = ap (λ l. instances_of params s first loops ++ l) r.split ∙ sym (append_assoc (instances_of params s first loops) r.before (r.store ∷ r.after));
+  statement_is = let more : works_before u (next s rest) ≡ works_in s + works_before u rest = ap (λ b. if b then works_before_in u s else works_in s + works_before u rest) failed in omega (arith, r.statement_is, more);
+  plain = r.plain;
+  away = All-append (λ (i : Instance). has_access u i.what ≡ false) (instances_of params s first loops) r.before (none_in params (has_access u) s first loops failed) r.away;
+}
+
+-- a loop on the path makes a first trip
+looped : (params : List ℤ) (u number : ℕ) (head : Head) (body : Statements) (first : ℕ) (loops : List ℤ) → ((x : ℤ) → path_runs params u body (with_loop loops head.number x) ≡ true → StoresFirst u number (instances_in params body first (with_loop loops head.number x))) →
+    (xs : List ℤ) → option_map_or (λ x. path_runs params u body (with_loop loops head.number x)) (slice_get xs 0) false ≡ true → StoresFirst u number (flat_map (λ x. instances_in params body first (with_loop loops head.number x)) xs)
+looped params u number head body first loops inner [] runs = absurd (true≢false (sym runs))
+looped params u number head body first loops inner (x ∷ xs) runs =
+    let r = inner x runs in
+    let later = flat_map (λ x. instances_in params body first (with_loop loops head.number x)) xs in
+    record {
+      before = r.before;
+      store = r.store;
+      after = r.after ++ later;
+      split = ap (λ l. l ++ later) r.split ∙ append_assoc r.before (r.store ∷ r.after) later;
+      statement_is = r.statement_is;
+      plain = r.plain;
+      away = r.away;
+    }
+
+mutual
+  stores_in : (params : List ℤ) (u : ℕ) (s : Statement) (first : ℕ) (loops : List ℤ) → is_stored_first u s ≡ true → path_runs_in params u s loops ≡ true → StoresFirst u (first + works_before_in u s) (instances_of params s first loops)
+  stores_in params u (do_loop head body) first loops is runs =
+      looped params u (first + works_before u body) head body first loops (λ x inside. stores_first params u body first (with_loop loops head.number x) is inside) (head_trips params head loops) runs
+  stores_in params u (work w) first loops is runs = record {
+    before = [];
+    store = record { statement = first; what = w; loops = loops };
+    after = [];
+    split = ap (λ b. if b then record { statement = first; what = w; loops = loops } ∷ [] else []) (plain_executed u w loops params is);
+    statement_is = omega arith;
+    plain = is;
+    away = All-nil (λ (i : Instance). has_access u i.what ≡ false);
+  }
+  stores_in params u (continue line) first loops is runs = absurd (true≢false (sym is))
+
+  -- a private scalar's first store in a loop's body, where each loop on its path makes a first trip
+  pub stores_first : (params : List ℤ) (u : ℕ) (body : Statements) (first : ℕ) (loops : List ℤ) → is_private u body ≡ true → path_runs params u body loops ≡ true → StoresFirst u (first + works_before u body) (instances_in params body first loops)
+  stores_first params u done first loops is runs = absurd (true≢false (sym is))
+  stores_first params u (next s rest) first loops is runs = elim (cases_Bool (some_in (has_access u) s)) [
+    | inl held ↦ stores_here params u s rest first loops held
+        (stores_in params u s first loops (sym (ap (λ b. if b then is_stored_first u s else is_private u rest) held) ∙ is) (sym (ap (λ b. if b then path_runs_in params u s loops else path_runs params u rest loops) held) ∙ runs))
+    | inr failed ↦ stores_later params u s rest first loops failed
+        (stores_first params u rest (first + works_in s) loops (sym (ap (λ b. if b then is_stored_first u s else is_private u rest) failed) ∙ is) (sym (ap (λ b. if b then path_runs_in params u s loops else path_runs params u rest loops) failed) ∙ runs))
+  ]
 
 -- ---- the one of the last trip
 
@@ -226,25 +275,26 @@ split_at before x after xs is =
     let none : length before + 0 ≡ length before = omega arith in
     ap (λ l. slice_get l (length before)) is ∙ ap (slice_get (before ++ x ∷ after)) (sym none) ∙ get-behind before (x ∷ after) 0
 
--- an instance of a phase is a private scalar's first store in its loop's last trip
-pub record IsLastStore (tree : Tree) (plan : Plan) (e : ℕ) (v : Visit) (u : ℕ) (loops : List ℤ) : Type 0 where
+-- an instance of a phase is a private scalar's first store in its loop's last trip, of the body with these values of the loops
+pub record IsLastStore (tree : Tree) (plan : Plan) (e : ℕ) (v : Visit) (u : ℕ) (body : Statements) (loops : List ℤ) : Type 0 where
   pub index : ℕ
   pub instance : Instance
   pub at : slice_get (phase_instances (param_values tree) v) index ≡ Some instance
-  pub loops_is : instance.loops ≡ loops
+  pub within : ℕ
+  pub trip : slice_get (instances_in (param_values tree) body v.first loops) within ≡ Some instance
   pub plain : is_plain_store u instance.what ≡ true
   pub last : is_last_store tree plan (record { phase = e; place = v.place; instance = instance }) u ≡ true
 
 pub last_store : (tree : Tree) (plan : Plan) (e k : ℕ) (v : Visit) (head : Head) (body : Statements) (u : ℕ) (value : ℤ) → IsWellFormed tree → slice_get (phases tree plan.cut.marks) k ≡ Some v → v.what ≡ do_loop head body →
-    own_loop tree plan v.place ≡ own_loop_of plan.cut v.what → is_private u body ≡ true → last_value (head_trips (param_values tree) head v.loops) ≡ Some value → IsLastStore tree plan e v u (with_loop v.loops head.number value)
-last_store tree plan e k v head body u value formed at what loop_is private last =
+    own_loop tree plan v.place ≡ own_loop_of plan.cut v.what → is_private u body ≡ true → path_runs (param_values tree) u body (with_loop v.loops head.number value) ≡ true → last_value (head_trips (param_values tree) head v.loops) ≡ Some value → IsLastStore tree plan e v u body (with_loop v.loops head.number value)
+last_store tree plan e k v head body u value formed at what loop_is private runs last =
     let params = param_values tree in
     let f = visit_there tree plan.cut.marks k v formed at in
     let good = good_loop (scope_of tree) f.there.around f.there.number head body (ap (is_good_statement (scope_of tree) f.there.around f.there.number) (sym what) ∙ f.there.good) in
     let inside : ℤ → List Instance = λ x. instances_in params body v.first (with_loop v.loops head.number x) in
     let trips = last_split (head_trips params head v.loops) value last in
     let loops = with_loop v.loops head.number value in
-    let s = stores_first params u body v.first loops private in
+    let s = stores_first params u body v.first loops private runs in
     let front = flat_map inside trips.0 in
     let all : phase_instances params v ≡ (front ++ s.before) ++ s.store ∷ (s.after ++ []) =
     ap (λ (x : Statement). instances_of params x v.first v.loops) what ∙ ap (flat_map inside) trips.1 ∙ flat_map-append inside trips.0 (value ∷ [])
@@ -258,9 +308,15 @@ last_store tree plan e k v head body u value formed at what loop_is private last
     let index : v.place - 1 ≡ f.k = omega (arith, f.place_is) in
     let static : slice_get (static_phases tree plan.cut.marks) (v.place - 1) ≡ Some (record { what = do_loop head body; around = f.there.around }) =
     ap (slice_get (static_phases tree plan.cut.marks)) index ∙ f.there.at ∙ ap (λ x. Some (record { what = x; around = f.there.around })) what in
+    let within = split_at s.before s.store s.after (instances_in params body v.first loops) s.split in
+    let agreed = all_at (λ (i : Instance). AgreeBelow (f.there.number + 1 - 1) i.loops loops) (instances_in params body v.first loops) (length s.before) s.store
+    (agree_among params (scope_of tree) (head.number ∷ f.there.around) (f.there.number + 1) body v.first loops good.inside (omega arith)) within in
+    let agree : AgreeBelow head.number s.store.loops loops = λ j lt. agreed j (omega (arith, lt, good.number)) in
+    let low_around = All-weaker (λ n. n < f.there.number) (λ n. n ≤ head.number) (λ n lt. omega (arith, lt, good.number)) f.there.around f.there.below in
+    let its_trips = trips_agree (scope_of tree) f.there.around head params s.store.loops loops good.bounds low_around low agree in
     let trip : is_last_trip params (slice_get (static_phases tree plan.cut.marks) (v.place - 1)) s.store.loops ≡ true =
-    ap (λ o. is_last_trip params o s.store.loops) static ∙ ap (λ l. is_value (last_value (head_trips params head l)) (numbered l head.number)) s.loops_is
-    ∙ ap (λ l. is_value (last_value l) (numbered loops head.number)) same_trips ∙ ap (λ o. is_value o (numbered loops head.number)) last ∙ ap (int_eq value) number_is ∙ same_value value in
+    ap (λ o. is_last_trip params o s.store.loops) static ∙ ap (λ l. is_value (last_value l) (numbered s.store.loops head.number)) (its_trips ∙ same_trips)
+    ∙ ap (λ o. is_value o (numbered s.store.loops head.number)) last ∙ ap (int_eq value) (agree (head.number - 1) (omega (arith, low)) ∙ number_is) ∙ same_value value in
     let body_is = ap (λ (l : OwnLoop). l.body) (loop_is ∙ ap (own_loop_of plan.cut) what) in
     let number : s.store.statement ≡ first_work tree plan v.place + works_before u (own_loop tree plan v.place).body =
     s.statement_is ∙ ap (λ n. n + works_before u body) (sym (first_work_is tree plan k v at)) ∙ ap (λ b. first_work tree plan v.place + works_before u b) (sym body_is) in
@@ -268,7 +324,8 @@ last_store tree plan e k v head body u value formed at what loop_is private last
       index = length (front ++ s.before);
       instance = s.store;
       at = split_at (front ++ s.before) s.store (s.after ++ []) (phase_instances params v) all;
-      loops_is = s.loops_is;
+      within = length s.before;
+      trip = within;
       plain = s.plain;
       last = and_from _ _ trip (eq-eqb s.store.statement (first_work tree plan v.place + works_before u (own_loop tree plan v.place).body) number);
     }

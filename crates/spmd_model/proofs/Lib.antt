@@ -32,6 +32,8 @@ pub mod MachinePlaces
 pub mod MachineSound
 pub mod MachineChains
 pub mod OwnTexts
+pub mod TripOwners
+pub mod LastOwners
 pub mod LastStores
 pub mod Stands
 pub mod InstanceJobs

@@ -21,6 +21,7 @@ use Rattle.owner_partition.proofs.Instances.{all_executed}
 use Rattle.sync_plan.specs.declared.plan.Plan.{Plan}
 use Rattle.sync_plan.specs.Fit.{IsFit}
 use Rattle.sync_plan.specs.Own.{Own, own_cell, own_loop, own_of}
+use Rattle.sync_plan.specs.Stored.{AreStoredFirst}
 use Rattle.sync_plan.proofs.Gets.{get-behind, get-front}
 use Rattle.spmd_model.specs.Closings.{closings_of, has_stored, keeping, keeping_of, last_owner, phase_owner, total_of, totalling, totalling_of}
 use Rattle.spmd_model.specs.OwnPhases.{IsGoodLoad, behind_job, own_job}
@@ -208,7 +209,7 @@ count_parts style tree plan e passed (v ∷ vs) (suc k) =
     let a = sum_by-append instances_in (moments_of (part_of style tree plan e passed v)) later in
     omega (arith, a, count_part style tree plan e passed v, count_parts style tree plan (suc e) (passed + signal_barriers style plan v) vs k)
 
-module _ (style : Style) (tree : Tree) (plan : Plan) (formed : IsWellFormed tree) (fits : IsFit tree plan) (ranges : IsInRange tree) where
+module _ (style : Style) (tree : Tree) (plan : Plan) (formed : IsWellFormed tree) (fits : IsFit tree plan) (ranges : IsInRange tree) (stored : AreStoredFirst tree plan) where
   -- at an instance of a phase, by its number there
   module _ (k n : ℕ) (v : Visit) (i : Instance) (at : slice_get (phases tree plan.cut.marks) k ≡ Some v) (there : slice_get (phase_instances (param_values tree) v) n ≡ Some i) where
     abbrev passed : ℕ
@@ -271,10 +272,10 @@ module _ (style : Style) (tree : Tree) (plan : Plan) (formed : IsWellFormed tree
         let first = replicate (cells_under tree plan) (pos 0) in
         let M = fold (memory_after tree) (first_memory tree) (instances_along params 1 (take k vs)) in
         let F = fold memory_behind first early in
-        let f = phases_follow style tree plan formed fits ranges 0 0 (take k vs) (first_memory tree) first (λ l w h. let same : 0 + l ≡ l = omega arith in ap (slice_get vs) same ∙ take_there vs k l w h) (at_start style tree plan formed fits ranges) in
+        let f = phases_follow style tree plan formed fits ranges stored 0 0 (take k vs) (first_memory tree) first (λ l w h. let same : 0 + l ≡ l = omega arith in ap (slice_get vs) same ∙ take_there vs k l w h) (at_start style tree plan formed fits ranges stored) in
         let split = split_there is n i there in
         let jobs = map plain before in
-        let all_good = subst (AreGoodJobs own (λ d. None)) (ap (map plain) split.1 ∙ map-append plain before (i ∷ split.0)) (phase_good tree plan k v formed fits ranges at (λ d. None)) in
+        let all_good = subst (AreGoodJobs own (λ d. None)) (ap (map plain) split.1 ∙ map-append plain before (i ∷ split.0)) (phase_good tree plan k v formed fits ranges at stored (λ d. None)) in
         let good = good_split own (λ d. None) jobs (plain i) (map plain split.0) all_good in
         let m = cell_value M in
         let g = cell_value F in

@@ -20,10 +20,9 @@ use Rattle.owner_partition.specs.Phases.{Execution, executions, executions_from,
 use Rattle.owner_partition.proofs.Instances.{all_executed}
 use Rattle.owner_partition.proofs.Sites.{all_at}
 use Rattle.sync_plan.specs.declared.plan.Plan.{Plan}
-use Rattle.sync_plan.specs.Conflicts.{owner_under}
 use Rattle.sync_plan.specs.Fit.{IsFit}
 use Rattle.sync_plan.specs.Own.{Own, own_of}
-use Rattle.sync_plan.proofs.FitOwners.{owners_below}
+use Rattle.sync_plan.specs.Stored.{AreStoredFirst}
 use Rattle.spmd_model.specs.Cells.{with_change}
 use Rattle.spmd_model.specs.Closings.{closings_of}
 use Rattle.spmd_model.specs.OwnPhases.{behind_job, own_job}
@@ -40,7 +39,7 @@ use Rattle.spmd_model.proofs.PhaseEnds.{idle_behind, shared_behind}
 use Rattle.spmd_model.proofs.PhaseJobs.{all_fine}
 use Rattle.spmd_model.proofs.PhaseMemory.{IsIdle}
 use Rattle.spmd_model.proofs.PlannedMemory.{behind_instance, job_behind}
-use Rattle.spmd_model.proofs.Stands.{execution_place, execution_there, in_phase, job_stands}
+use Rattle.spmd_model.proofs.Stands.{in_phase, job_owned}
 use Rattle.spmd_model.proofs.TripJobs.{IsFineIn, job_in_phase}
 
 -- ---- lists of jobs on lists of cells
@@ -132,14 +131,10 @@ module _ (tree : Tree) (plan : Plan) (k : ℕ) (v : Visit) (formed : IsWellForme
     where
       each : (n : ℕ) (j : Job) (c : ℕ) → slice_get jobs n ≡ Some j → j.store ≡ Some c → c < cells_under tree plan
       each n j c there stores =
-          let s = job_stands tree plan k v n j formed fits at there in
-          let x = in_phase (1 + k) v s.instance in
-          let execution = execution_there (param_values tree) 1 (phases tree plan.cut.marks) k s.index v s.instance at s.at in
-          let number = execution_place (param_values tree) (phases tree plan.cut.marks) k + s.index in
-          let worker = all_at (λ (y : Execution). owner_under tree plan y < plan.workers) (executions tree plan.cut.marks) number x (owners_below tree plan formed fits) execution in
+          let owned = job_owned tree plan k v formed fits at n j there in
           elim (cases_lt c (cell_count tree)) [
             | inl below ↦ omega (arith, below)
-            | inr past ↦ let own = (s.shows ranges).own c (inr stores) past in omega (arith, own.1, own.2, worker, s.owner)
+            | inr past ↦ let own = owned.own ranges c (inr stores) past in omega (arith, own.1, own.2, owned.worker)
           ]
 
   abbrev job_of_instance : Instance → Job
@@ -159,9 +154,9 @@ module _ (tree : Tree) (plan : Plan) (k : ℕ) (v : Visit) (formed : IsWellForme
       ap (λ l. fold job_behind l (map job_of_instance is)) (behind_instance tree plan memory (in_phase (1 + k) v i)) ∙ fold_plain (memory_after tree memory i) is
 
   -- memory behind a phase follows the program's behind its instances
-  pub phase_follows : (style : Style) (passed : ℕ) (memory with_own : List ℤ) → Follows tree plan memory with_own →
+  pub phase_follows : (stored : AreStoredFirst tree plan) (style : Style) (passed : ℕ) (memory with_own : List ℤ) → Follows tree plan memory with_own →
       Follows tree plan (fold (memory_after tree) memory (phase_instances (param_values tree) v)) (fold memory_behind with_own (moments_of (part_of style tree plan (1 + k) passed v)))
-  phase_follows style passed memory with_own f =
+  phase_follows stored style passed memory with_own f =
       let is = phase_instances (param_values tree) v in
       let own = own_of tree plan v.place in
       let m = cell_value memory in
@@ -179,8 +174,8 @@ module _ (tree : Tree) (plan : Plan) (k : ℕ) (v : Visit) (formed : IsWellForme
       record {
         size = ap length (sym (fold_plain memory is)) ∙ length_along memory plain ∙ f.size;
         own_size = ap length after ∙ length_along with_own jobs ∙ f.own_size;
-        shared = λ c lt. value c ∙ shared_behind tree plan k v formed fits ranges at m g f.shared f.idle c lt ∙ sym (has_plain c) ∙ ap (λ l. cell_value l c) (fold_plain memory is);
-        idle = λ p n le lt. value (cell_count tree + (32 * p + n)) ∙ idle_behind tree plan k v formed fits ranges at m g f.shared f.idle p n le lt;
+        shared = λ c lt. value c ∙ shared_behind tree plan k v formed fits ranges at stored m g f.shared f.idle c lt ∙ sym (has_plain c) ∙ ap (λ l. cell_value l c) (fold_plain memory is);
+        idle = λ p n le lt. value (cell_count tree + (32 * p + n)) ∙ idle_behind tree plan k v formed fits ranges at stored m g f.shared f.idle p n le lt;
       }
 
 -- ---- all phases
@@ -189,7 +184,7 @@ pub stripped : (e place : ℕ) (is : List Instance) → map (λ (x : Execution).
 stripped e place [] = refl
 stripped e place (i ∷ is) = ap (λ l. i ∷ l) (stripped e place is)
 
-module _ (style : Style) (tree : Tree) (plan : Plan) (formed : IsWellFormed tree) (fits : IsFit tree plan) (ranges : IsInRange tree) where
+module _ (style : Style) (tree : Tree) (plan : Plan) (formed : IsWellFormed tree) (fits : IsFit tree plan) (ranges : IsInRange tree) (stored : AreStoredFirst tree plan) where
   pub phases_follow : (k passed : ℕ) (vs : List Visit) (memory with_own : List ℤ) → ((n : ℕ) (w : Visit) → slice_get vs n ≡ Some w → slice_get (phases tree plan.cut.marks) (k + n) ≡ Some w) → Follows tree plan memory with_own →
       Follows tree plan (fold (memory_after tree) memory (map (λ (x : Execution). x.instance) (executions_from (param_values tree) (1 + k) vs))) (fold memory_behind with_own (flat_map moments_of (parts_from style tree plan (1 + k) passed vs)))
   phases_follow k passed [] memory with_own there f = f
@@ -203,7 +198,7 @@ module _ (style : Style) (tree : Tree) (plan : Plan) (formed : IsWellFormed tree
       let later = executions_from params (suc (1 + k)) vs in
       let part = moments_of (part_of style tree plan (1 + k) passed v) in
       let rest = flat_map moments_of (parts_from style tree plan (suc (1 + k)) (passed + signal_barriers style plan v) vs) in
-      let one = phase_follows tree plan k v formed fits ranges at style passed memory with_own f in
+      let one = phase_follows tree plan k v formed fits ranges at stored style passed memory with_own f in
       let all = phases_follow (suc k) (passed + signal_barriers style plan v) vs (fold (memory_after tree) memory is) (fold memory_behind with_own part)
       (λ n w at_w. let more : k + suc n ≡ suc k + n = omega arith in ap (slice_get (phases tree plan.cut.marks)) (sym more) ∙ there (suc n) w at_w) one in
       let moved = subst (λ e. Follows tree plan (fold (memory_after tree) (fold (memory_after tree) memory is) (map (λ (x : Execution). x.instance) (executions_from params e vs))) (fold memory_behind (fold memory_behind with_own part) (flat_map moments_of (parts_from style tree plan e (passed + signal_barriers style plan v) vs)))) (sym next) all in
@@ -240,7 +235,7 @@ same_cells (suc n) xs [] size long same = absurd (omega (arith, size))
 same_cells (suc n) [] (y ∷ ys) size long same = absurd (omega (arith, long))
 same_cells (suc n) (x ∷ xs) (y ∷ ys) size long same = ap (λ z. z ∷ take n xs) (same 0 (omega arith)) ∙ ap (λ l. y ∷ l) (same_cells n xs ys (omega (arith, size)) (omega (arith, long)) (λ c lt. same (suc c) (omega (arith, lt))))
 
-pub shared_last : (style : Style) (tree : Tree) (plan : Plan) → IsWellFormed tree → IsFit tree plan → IsInRange tree → take (cell_count tree) (last_memory (machine_by style tree plan)) ≡ Model.last_memory tree
-shared_last style tree plan formed fits ranges =
-    let f = last_follows style tree plan formed fits ranges in
+pub shared_last : (style : Style) (tree : Tree) (plan : Plan) → IsWellFormed tree → IsFit tree plan → IsInRange tree → AreStoredFirst tree plan → take (cell_count tree) (last_memory (machine_by style tree plan)) ≡ Model.last_memory tree
+shared_last style tree plan formed fits ranges stored =
+    let f = last_follows style tree plan formed fits ranges stored in
     same_cells (cell_count tree) (last_memory (machine_by style tree plan)) (Model.last_memory tree) f.size (omega (arith, f.own_size)) f.shared

@@ -17,7 +17,7 @@ use Rattle.sync_plan.specs.Conflicts.{ConflictUnder, owner_under}
 use Rattle.sync_plan.specs.Fit.{IsFit}
 use Rattle.sync_plan.specs.Ordered.{IsChain as IsPlanChain, IsOrdered as IsOrderedPlan, Hop as PlanHop}
 use Rattle.sync_plan.specs.Own.{is_cell_of, own_loop}
-use Rattle.sync_plan.proofs.FitOwners.{owners_below, printers}
+use Rattle.sync_plan.specs.Stored.{AreStoredFirst}
 use Rattle.sync_plan.proofs.Fits.{fit_parts}
 use Rattle.spmd_model.specs.Lawful.{IsLawful, acts_in_front}
 use Rattle.spmd_model.specs.Closings.{last_owner, phase_owner}
@@ -30,7 +30,7 @@ use Rattle.spmd_model.proofs.Lists.{one_element}
 use Rattle.spmd_model.proofs.OwnTexts.{not_both, own_in_phase}
 use Rattle.spmd_model.proofs.Parts.{part_rises, passed_before}
 use Rattle.spmd_model.proofs.RoundChains.{rounds_enough, posted_by_all}
-use Rattle.spmd_model.proofs.Stands.{Has, Shows, Sorts, an_instance, a_keeping, a_total, Stands, execution_place, execution_rises, execution_there, in_phase, job_stands}
+use Rattle.spmd_model.proofs.Stands.{Has, IsOwned, Shows, Sorts, an_instance, a_keeping, a_total, Stands, execution_place, execution_rises, execution_there, in_phase, job_owned, job_stands}
 use Rattle.spmd_model.proofs.MachineChains.{chain_by, jobs_at, jobs_end, last_phase, barrier_rounds}
 use Rattle.spmd_model.proofs.MachinePlaces.{IsJobIn, front_length, job_in, first_round}
 use Rattle.spmd_model.proofs.MachineSound.{awaited_on, numbers_rise}
@@ -43,10 +43,10 @@ pub record IsFor (style : Style) (tree : Tree) (plan : Plan) (t : ℕ) (j : Job)
   pub execution : slice_get (executions tree plan.cut.marks) number ≡ Some (in_phase (1 + at.number) at.visit stands.instance)
   pub number_is : number ≡ execution_place (param_values tree) (phases tree plan.cut.marks) at.number + stands.index
 
-pub stands_for : (style : Style) (tree : Tree) (plan : Plan) (t : ℕ) (j : Job) → IsWellFormed tree → IsFit tree plan → slice_get (timeline_by style tree plan) t ≡ Some (job j) → IsFor style tree plan t j
-stands_for style tree plan t j formed fits at =
+pub stands_for : (style : Style) (tree : Tree) (plan : Plan) (t : ℕ) (j : Job) → IsWellFormed tree → IsFit tree plan → AreStoredFirst tree plan → slice_get (timeline_by style tree plan) t ≡ Some (job j) → IsFor style tree plan t j
+stands_for style tree plan t j formed fits stored at =
     let i = job_in style tree plan t j at in
-    let s = job_stands tree plan i.number i.visit i.index j formed fits i.at i.is in
+    let s = job_stands tree plan i.number i.visit formed fits i.at stored i.index j i.is in
     record {
       at = i;
       stands = s;
@@ -55,28 +55,18 @@ stands_for style tree plan t j formed fits at =
       number_is = refl;
     }
 
--- its owner is a processor
-owner_below : (style : Style) (tree : Tree) (plan : Plan) (t : ℕ) (j : Job) → IsWellFormed tree → IsFit tree plan → IsFor style tree plan t j → j.owner < plan.workers
-owner_below style tree plan t j formed fits f =
-    let x = in_phase (1 + f.at.number) f.at.visit f.stands.instance in
-    let below = all_at (λ (y : Execution). owner_under tree plan y < plan.workers) (executions tree plan.cut.marks) f.number x (owners_below tree plan formed fits) f.execution in
-    omega (arith, f.stands.owner, below)
-
-printed_by : (style : Style) (tree : Tree) (plan : Plan) (t : ℕ) (j : Job) → IsWellFormed tree → IsFit tree plan → IsFor style tree plan t j → j.store ≡ None → j.owner ≡ 0
-printed_by style tree plan t j formed fits f none =
-    let x = in_phase (1 + f.at.number) f.at.visit f.stands.instance in
-    f.stands.owner ∙ by x (all_at (λ (y : Execution). (p : Printing) → y.instance.what ≡ print p → owner_under tree plan y ≡ 0) (executions tree plan.cut.marks) f.number x (printers tree plan formed fits) f.execution) x.instance.what refl (f.stands.printed none)
-  where
-    by : (x : Execution) → ((p : Printing) → x.instance.what ≡ print p → owner_under tree plan x ≡ 0) → (w : Work) → x.instance.what ≡ w → work_store tree x.instance.loops w ≡ None → owner_under tree plan x ≡ 0
-    by x h (assign a) is store = let clash : Some (access_cell tree x.instance.loops a.target) ≡ None = store in absurd (cc)
-    by x h (print p) is store = h p is
+-- a job's owner and cells, whether or not what is private is stored first
+pub owned_on : (style : Style) (tree : Tree) (plan : Plan) (t : ℕ) (j : Job) → IsWellFormed tree → IsFit tree plan → slice_get (timeline_by style tree plan) t ≡ Some (job j) → IsOwned tree plan j
+owned_on style tree plan t j formed fits at =
+    let i = job_in style tree plan t j at in
+    job_owned tree plan i.number i.visit formed fits i.at i.index j i.is
 
 pub sound_by : (style : Style) (tree : Tree) (plan : Plan) → IsWellFormed tree → IsFit tree plan → IsSound (machine_by style tree plan)
 sound_by style tree plan formed fits = record {
   rising = numbers_rise style tree plan;
   awaited = awaited_on style tree plan;
-  owned = λ t j at. owner_below style tree plan t j formed fits (stands_for style tree plan t j formed fits at);
-  printed = λ t j at none. printed_by style tree plan t j formed fits (stands_for style tree plan t j formed fits at) none;
+  owned = λ t j at. (owned_on style tree plan t j formed fits at).worker;
+  printed = λ t j at none. (owned_on style tree plan t j formed fits at).printed none;
 }
 
 -- ---- conflicts
@@ -150,7 +140,7 @@ module _ (style : Style) (tree : Tree) (plan : Plan) (formed : IsWellFormed tree
             ConflictUnder tree plan (in_phase (1 + k) v a.instance) (in_phase (1 + k) v b.instance) → q ≡ p
         leads a b q p is is' lt ne cf =
             let place = execution_place (param_values tree) (phases tree plan.cut.marks) k in
-            let chain = ordered (place + a.index) (place + b.index) (in_phase (1 + k) v a.instance) (in_phase (1 + k) v b.instance) (omega (arith, lt)) (execution_there (param_values tree) 1 (phases tree plan.cut.marks) k a.index v a.instance at a.at)
+            let chain = ordered.chained (place + a.index) (place + b.index) (in_phase (1 + k) v a.instance) (in_phase (1 + k) v b.instance) (omega (arith, lt)) (execution_there (param_values tree) 1 (phases tree plan.cut.marks) k a.index v a.instance at a.at)
             (execution_there (param_values tree) 1 (phases tree plan.cut.marks) k b.index v b.instance at b.at) cf (λ e. ne (is ∙ e ∙ sym is')) in
             is ∙ no_chain tree plan (phase_owner tree plan v a.instance.loops) (1 + k) chain.0 (phase_owner tree plan v b.instance.loops) chain.1 ∙ sym is'
 
@@ -158,7 +148,7 @@ module _ (style : Style) (tree : Tree) (plan : Plan) (formed : IsWellFormed tree
             ConflictUnder tree plan (in_phase (1 + k) v a.instance) (in_phase (1 + k) v b.instance) → q ≡ p
         leads' a b q p is is' lt ne cf =
             let place = execution_place (param_values tree) (phases tree plan.cut.marks) k in
-            let chain = ordered (place + a.index) (place + b.index) (in_phase (1 + k) v a.instance) (in_phase (1 + k) v b.instance) (omega (arith, lt)) (execution_there (param_values tree) 1 (phases tree plan.cut.marks) k a.index v a.instance at a.at)
+            let chain = ordered.chained (place + a.index) (place + b.index) (in_phase (1 + k) v a.instance) (in_phase (1 + k) v b.instance) (omega (arith, lt)) (execution_there (param_values tree) 1 (phases tree plan.cut.marks) k a.index v a.instance at a.at)
             (execution_there (param_values tree) 1 (phases tree plan.cut.marks) k b.index v b.instance at b.at) cf (λ e. ne (is ∙ e ∙ sym is')) in
             is ∙ no_chain tree plan (phase_owner tree plan v a.instance.loops) (1 + k) chain.0 (phase_owner tree plan v b.instance.loops) chain.1 ∙ sym is'
 
@@ -191,8 +181,8 @@ module _ (style : Style) (tree : Tree) (plan : Plan) (formed : IsWellFormed tree
 
   pub ordered_by : IsOrdered (machine_by style tree plan)
   ordered_by t u i j lt at at' conflict apart =
-      let x = stands_for style tree plan t i formed fits at in
-      let y = stands_for style tree plan u j formed fits at' in
+      let x = stands_for style tree plan t i formed fits ordered.stored at in
+      let y = stands_for style tree plan u j formed fits ordered.stored at' in
       let had = cell_had i j conflict in
       elim (cases_lt conflict.cell (cell_count tree)) [
         | inl below ↦ elim (cases_lt x.at.number y.at.number) [
@@ -233,10 +223,10 @@ module _ (style : Style) (tree : Tree) (plan : Plan) (formed : IsWellFormed tree
           } in
           let within = slice_get_within (phase_instances (param_values tree) x.at.visit) x.stands.index x.stands.instance x.stands.at in
           let rise = execution_rises (param_values tree) (phases tree plan.cut.marks) x.at.number y.at.number x.stands.index y.stands.index x.at.visit before x.at.at within in
-          let chain = ordered x.number y.number X Y (omega (arith, rise, x.number_is, y.number_is)) x.execution y.execution under (λ same. apart (x.stands.owner ∙ same ∙ sym y.stands.owner)) in
+          let chain = ordered.chained x.number y.number X Y (omega (arith, rise, x.number_is, y.number_is)) x.execution y.execution under (λ same. apart (x.stands.owner ∙ same ∙ sym y.stands.owner)) in
           let parts = fit_parts tree plan fits in
           let enough = rounds_enough plan.workers parts.some parts.few in
-          let worker : owner_under tree plan Y < plan.workers = let below_y = owner_below style tree plan u j formed fits y in omega (arith, below_y, y.stands.owner) in
+          let worker : owner_under tree plan Y < plan.workers = let below_y = (owned_on style tree plan u j formed fits at').worker in omega (arith, below_y, y.stands.owner) in
           let by = chain_by style tree plan enough (owner_under tree plan X) e t chain.0 (owner_under tree plan Y) f u (omega arith) worker chain.1
           (λ k next. let later = part_rises (parts_by style tree plan) (suc x.at.number) (k - 1) (omega (arith, next)) in omega (arith, later, x.at.before_end))
           (λ k v first le there. to y k v le there) lt in

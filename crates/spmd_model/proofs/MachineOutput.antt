@@ -17,6 +17,7 @@ use Rattle.owner_partition.proofs.Instances.{all_executed}
 use Rattle.sync_plan.specs.declared.plan.Plan.{Plan}
 use Rattle.sync_plan.specs.Fit.{IsFit}
 use Rattle.sync_plan.specs.Own.{Own, own_cell, own_of}
+use Rattle.sync_plan.specs.Stored.{AreStoredFirst}
 use Rattle.spmd_model.specs.Closings.{closings_of}
 use Rattle.spmd_model.specs.OwnPhases.{Come, behind_job, own_job}
 use Rattle.spmd_model.specs.Planned.{boundary_of}
@@ -127,9 +128,9 @@ module _ (tree : Tree) (plan : Plan) (k : ℕ) (v : Visit) (formed : IsWellForme
       (lines is (memory_after tree memory i) (job_behind with_own j') (behind_job m j) (behind_job f j') (last_behind own last j) (assigned_behind own assigned j) has_next has_own_next next good.3
       (subst (λ n. AreWithin n (map plain is)) size within.1) (subst (λ n. AreWithin n (map (λ x. own_job own (plain x)) is)) (sym (length_behind with_own j')) within_own.1))
 
-  pub phase_output : (style : Style) (passed : ℕ) (memory with_own : List ℤ) → Follows tree plan memory with_own →
+  pub phase_output : (stored : AreStoredFirst tree plan) (style : Style) (passed : ℕ) (memory with_own : List ℤ) → Follows tree plan memory with_own →
       output_along with_own (moments_of (part_of style tree plan (1 + k) passed v)) ≡ output_from tree memory (phase_instances (param_values tree) v)
-  phase_output style passed memory with_own f =
+  phase_output stored style passed memory with_own f =
       let is = phase_instances (param_values tree) v in
       let o = own_in_phase tree plan k v formed fits at in
       let front = boundaries_by style tree plan (1 + k) passed v in
@@ -145,13 +146,13 @@ module _ (tree : Tree) (plan : Plan) (k : ℕ) (v : Visit) (formed : IsWellForme
       ∙ ap (λ l. l ++ output_along (fold memory_behind with_own front) (map job (jobs ++ closings))) (front_silent style tree plan (1 + k) passed v with_own)
       ∙ ap (λ l. output_along l (map job (jobs ++ closings))) (fold_front style tree plan (1 + k) passed v with_own)
       ∙ ap (output_along with_own) (map-append job jobs closings) ∙ output-append with_own (map job jobs) (map job closings)
-      ∙ ap (λ l. output_along with_own (map job jobs) ++ l) (closings_silent (cell_count tree) behind closings (all_closings tree plan k v formed fits ranges at m g f.shared f.idle))
+      ∙ ap (λ l. output_along with_own (map job jobs) ++ l) (closings_silent (cell_count tree) behind closings (all_closings tree plan k v formed fits ranges at stored m g f.shared f.idle))
       ∙ append-nil (output_along with_own (map job jobs))
-      ∙ lines is memory with_own m g (λ c. None) (λ c p. false) (λ c. refl) (λ c. refl) come (phase_good tree plan k v formed fits ranges at (λ c. None)) within within_own
+      ∙ lines is memory with_own m g (λ c. None) (λ c p. false) (λ c. refl) (λ c. refl) come (phase_good tree plan k v formed fits ranges at stored (λ c. None)) within within_own
 
 -- ---- all phases
 
-module _ (style : Style) (tree : Tree) (plan : Plan) (formed : IsWellFormed tree) (fits : IsFit tree plan) (ranges : IsInRange tree) where
+module _ (style : Style) (tree : Tree) (plan : Plan) (formed : IsWellFormed tree) (fits : IsFit tree plan) (ranges : IsInRange tree) (stored : AreStoredFirst tree plan) where
   outputs : (k passed : ℕ) (vs : List Visit) (memory with_own : List ℤ) → ((n : ℕ) (w : Visit) → slice_get vs n ≡ Some w → slice_get (phases tree plan.cut.marks) (k + n) ≡ Some w) → Follows tree plan memory with_own →
       output_along with_own (flat_map moments_of (parts_from style tree plan (1 + k) passed vs)) ≡ output_from tree memory (map (λ (x : Execution). x.instance) (executions_from (param_values tree) (1 + k) vs))
   outputs k passed [] memory with_own there f = refl
@@ -165,17 +166,17 @@ module _ (style : Style) (tree : Tree) (plan : Plan) (formed : IsWellFormed tree
       let later = executions_from params (suc (1 + k)) vs in
       let part = moments_of (part_of style tree plan (1 + k) passed v) in
       let rest = flat_map moments_of (parts_from style tree plan (suc (1 + k)) (passed + signal_barriers style plan v) vs) in
-      let one = phase_follows tree plan k v formed fits ranges at style passed memory with_own f in
+      let one = phase_follows tree plan k v formed fits ranges at stored style passed memory with_own f in
       let all = outputs (suc k) (passed + signal_barriers style plan v) vs (fold (memory_after tree) memory is) (fold memory_behind with_own part)
       (λ n w at_w. let more : k + suc n ≡ suc k + n = omega arith in ap (slice_get (phases tree plan.cut.marks)) (sym more) ∙ there (suc n) w at_w) one in
       let moved = subst (λ e. output_along (fold memory_behind with_own part) (flat_map moments_of (parts_from style tree plan e (passed + signal_barriers style plan v) vs)) ≡ output_from tree (fold (memory_after tree) memory is) (map (λ (x : Execution). x.instance) (executions_from params e vs))) (sym next) all in
       let names = map-append (λ (x : Execution). x.instance) executed later ∙ ap (λ l. l ++ map (λ (x : Execution). x.instance) later) (stripped (1 + k) v.place is) in
       output-append with_own part rest
-      ∙ ap (λ l. l ++ output_along (fold memory_behind with_own part) rest) (phase_output tree plan k v formed fits ranges at style passed memory with_own f)
+      ∙ ap (λ l. l ++ output_along (fold memory_behind with_own part) rest) (phase_output tree plan k v formed fits ranges at stored style passed memory with_own f)
       ∙ ap (λ l. output_from tree memory is ++ l) moved
       ∙ sym (ap (output_from tree memory) names ∙ from-append tree memory is (map (λ (x : Execution). x.instance) later))
 
   pub output_by : whole_output (machine_by style tree plan) ≡ output_of tree
   output_by =
-      outputs 0 0 (phases tree plan.cut.marks) (first_memory tree) (replicate (cells_under tree plan) (pos 0)) (λ n w at. let same : 0 + n ≡ n = omega arith in ap (slice_get (phases tree plan.cut.marks)) same ∙ at) (at_start style tree plan formed fits ranges)
+      outputs 0 0 (phases tree plan.cut.marks) (first_memory tree) (replicate (cells_under tree plan) (pos 0)) (λ n w at. let same : 0 + n ≡ n = omega arith in ap (slice_get (phases tree plan.cut.marks)) same ∙ at) (at_start style tree plan formed fits ranges stored)
       ∙ ap (output_from tree (first_memory tree)) (all_executed tree plan.cut.marks)

@@ -27,43 +27,9 @@ use Rattle.sync_plan.specs.Fit.{IsFit}
 use Rattle.sync_plan.specs.Own.{OwnLoop, is_cell_of, own_loop, own_loop_at, own_loop_of, own_of, place_in}
 use Rattle.sync_plan.specs.Shape.{are_good_privates, do_rise, has_good_privates, has_good_sums, has_privates, has_sums, have_good_privates, have_good_sums, is_good_sum}
 use Rattle.sync_plan.proofs.Fits.{fit_parts}
+use Rattle.sync_plan.proofs.OwnLoops.{no_scalars, nothing_in, own_among, passes_at}
 use Rattle.sync_plan.proofs.PhasePlaces.{visit_there}
 use Rattle.spmd_model.proofs.PlannedOrder.{filtered}
-
--- ---- the loops of static phases have good own scalars
-
-module _ (version : Version) (cut : Cutting) (enters : ℕ → Bool) where
-  abbrev is_good_own : Placed → Bool
-  is_good_own p = has_good_sums version cut.marks p.what && has_good_privates version cut p.what
-
-  mutual
-    own_in : (around : List ℕ) (s : Statement) → has_good_sums version cut.marks s ≡ true → has_good_privates version cut s ≡ true → list_all (λ (p : Placed). has_good_sums version cut.marks p.what && has_good_privates version cut p.what) (placed_in enters around s) ≡ true
-    own_in around (do_loop head body) sums privates =
-        let mark = mark_of cut.marks head.number in
-        let vs = privates_of cut.privates head.number in
-        let s = and_parts (is_good_sum version mark body) (have_good_sums version cut.marks body) sums in
-        let p = and_parts (are_good_privates version mark body vs) (have_good_privates version cut body) privates in
-        elim (enters head.number) as (λ b. list_all (λ (p : Placed). has_good_sums version cut.marks p.what && has_good_privates version cut p.what) (if b then placed_of enters (head.number ∷ around) body else record { what = do_loop head body; around = around } ∷ []) ≡ true)
-        [ true ↦ own_among (head.number ∷ around) body s.1 p.1 | false ↦ and_from _ true (and_from _ _ sums privates) refl ]
-    own_in around (work w) sums privates = refl
-    own_in around (continue line) sums privates = refl
-
-    own_among : (around : List ℕ) (ss : Statements) → have_good_sums version cut.marks ss ≡ true → have_good_privates version cut ss ≡ true → list_all (λ (p : Placed). has_good_sums version cut.marks p.what && has_good_privates version cut p.what) (placed_of enters around ss) ≡ true
-    own_among around done sums privates = refl
-    own_among around (next s rest) sums privates =
-        let test = λ (p : Placed). has_good_sums version cut.marks p.what && has_good_privates version cut p.what in
-        let these = and_parts (has_good_sums version cut.marks s) (have_good_sums version cut.marks rest) sums in
-        let those = and_parts (has_good_privates version cut s) (have_good_privates version cut rest) privates in
-        list_all-append test (placed_in enters around s) (placed_of enters around rest)
-        ∙ and_from (list_all test (placed_in enters around s)) (list_all test (placed_of enters around rest)) (own_in around s these.0 those.0) (own_among around rest these.1 those.1)
-
-pub passes_at : {X : Type 0} (test : X → Bool) (xs : List X) (k : ℕ) (x : X) → list_all test xs ≡ true → slice_get xs k ≡ Some x → test x ≡ true
-passes_at test [] k x all at = let clash : None ≡ Some x = at in absurd (cc)
-passes_at test (y ∷ xs) zero x all at =
-    let same : Some y ≡ Some x = at in
-    let is : y ≡ x = cc in
-    ap test (sym is) ∙ (and_parts (test y) (list_all test xs) all).0
-passes_at test (y ∷ xs) (suc k) x all at = passes_at test xs k x (and_parts (test y) (list_all test xs) all).1 at
 
 pub passes_in : {X : Type 0} (test : X → Bool) (xs : List X) (x : X) → list_all test xs ≡ true → Contains xs x → test x ≡ true
 passes_in test [] x all (k, lt, e) = absurd (omega (arith, lt))
@@ -112,13 +78,6 @@ good_list false has dealt few rise all e =
     let b = and_parts (has && dealt && few) rise a.0 in
     let c = and_parts (has && dealt) few b.0 in
     inr (c.1, b.1, a.1)
-
-no_scalars : (vs : List ℕ) → (length vs == 0) ≡ true → vs ≡ []
-no_scalars [] e = refl
-no_scalars (v ∷ vs) e = absurd (cc (eqb-true (length (v ∷ vs)) 0 e))
-
-nothing_in : (u : ℕ) → Contains {X = ℕ} [] u → ⊥
-nothing_in u (k, lt, e) = omega (arith, lt)
 
 good_privates_are : (version : Version) (mark : Mark) (body : Statements) (vs : List ℕ) → are_good_privates version mark body vs ≡ true → (length vs ≤ 16) × Ascends 0 vs × ((u : ℕ) → Contains vs u → is_private u body ≡ true)
 good_privates_are version mark body vs good = elim (good_list (length vs == 0) (has_privates version) (is_doall mark) (nat_le (length vs) 16) (do_rise 0 vs) (list_all (λ v. is_private v body) vs) good) [

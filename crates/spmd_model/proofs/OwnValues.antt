@@ -25,7 +25,7 @@ use Rattle.spmd_model.proofs.ActLists.{act_of_moment, found, in_front-more}
 use Rattle.spmd_model.proofs.Lists.{contains_at, take-more}
 use Rattle.spmd_model.proofs.MomentActs.{IsChangeIn, IsLoadIn, tells}
 use Rattle.spmd_model.proofs.Registers.{stored_is}
-use Rattle.spmd_model.proofs.MachineOrder.{sound_by, stands_for}
+use Rattle.spmd_model.proofs.MachineOrder.{owned_on, sound_by}
 use Rattle.spmd_model.specs.Protocols.{held_along, held_by}
 use Rattle.spmd_model.proofs.PlanCells.{adds_there}
 
@@ -207,10 +207,10 @@ one_processor count p q k l lt lt' same = omega (arith, lt, lt', same)
 module _ (style : Style) (tree : Tree) (plan : Plan) (formed : IsWellFormed tree) (fits : IsFit tree plan) (ranges : IsInRange tree) where
   -- an own cell is its processor's
   own_is : (t c : ℕ) (j : Job) → slice_get (timeline_by style tree plan) t ≡ Some (job j) → Contains j.loads c → cell_count tree ≤ c → (k : ℕ) × (k < 32) × (c ≡ cell_count tree + (32 * j.owner + k))
-  own_is t c j at has past = ((stands_for style tree plan t j formed fits at).stands.shows ranges).own c (inl has) past
+  own_is t c j at has past = (owned_on style tree plan t j formed fits at).own ranges c (inl has) past
 
   stored_own : (t c : ℕ) (j : Job) → slice_get (timeline_by style tree plan) t ≡ Some (job j) → j.store ≡ Some c → cell_count tree ≤ c → (k : ℕ) × (k < 32) × (c ≡ cell_count tree + (32 * j.owner + k))
-  stored_own t c j at stores past = ((stands_for style tree plan t j formed fits at).stands.shows ranges).own c (inr stores) past
+  stored_own t c j at stores past = (owned_on style tree plan t j formed fits at).own ranges c (inr stores) past
 
   pub own_load : (p n place cell : ℕ) → cell_count tree ≤ cell → act_at (machine_by style tree plan) p n ≡ Some (load place cell) → loaded_at (machine_by style tree plan) p n ≡ held_along (act_at (machine_by style tree plan) p) (stored_at (machine_by style tree plan) p) cell n
   own_load p n place cell past e =

@@ -1,5 +1,5 @@
 -- Behind the closings of a phase.
-use Rattle.std.proofs.Common.{◌≡◌, ◌==◌, ℕ, zero, suc, ◌+◌, ◌*◌, ◌<◌, ◌≤◌, ◌⊎◌, ℤ, pos, Bool, true, false, ◌&&◌, List, [], ◌∷◌, ◌++◌, fold, map, Option, Some, None, refl, ap, sym, subst, ◌∙◌, inl, inr, arith}
+use Rattle.std.proofs.Common.{◌≡◌, ◌==◌, ℕ, zero, suc, ◌+◌, ◌*◌, ◌<◌, ◌≤◌, ◌⊎◌, ℤ, pos, Bool, true, false, ◌&&◌, List, [], ◌∷◌, ◌++◌, fold, length, map, Option, Some, None, refl, ap, sym, subst, ◌∙◌, inl, inr, arith}
 use Rattle.std.specs.Prelude.{Contains, slice_get}
 use Rattle.std.specs.List.{AllByRecursion, flat_map, list_any, range_with_len}
 use Rattle.std.specs.Option.{option_map}
@@ -18,8 +18,9 @@ use Rattle.owner_partition.proofs.Sites.{all_at}
 use Rattle.sync_plan.specs.declared.plan.Plan.{Plan}
 use Rattle.sync_plan.specs.Conflicts.{last_value}
 use Rattle.sync_plan.specs.Fit.{IsFit}
+use Rattle.sync_plan.specs.Stored.{AreStoredFirst}
 use Rattle.sync_plan.specs.Own.{Own, OwnLoop, at_slot, is_cell_of, own_cell, own_loop, own_loop_of, own_of}
-use Rattle.spmd_model.specs.Closings.{closings_of, has_stored, keeping, keeping_of, last_loops, last_owner, phase_owner, sets_to_zero, total_of, totalling, totalling_of}
+use Rattle.spmd_model.specs.Closings.{closings_of, has_stored, keeping, keeping_of, last_owner, phase_owner, sets_to_zero, total_of, totalling, totalling_of}
 use Rattle.spmd_model.specs.Lawful.{stores_to}
 use Rattle.spmd_model.specs.OwnPhases.{Come, behind_job, own_job, put}
 use Rattle.spmd_model.specs.Timelines.{Job}
@@ -29,7 +30,9 @@ use Rattle.spmd_model.proofs.InstanceJobs.{all_by}
 use Rattle.spmd_model.proofs.OwnPhases.{put_other}
 use Rattle.spmd_model.proofs.OwnRuns.{along, assigned_behind}
 use Rattle.spmd_model.proofs.OwnTexts.{AreOwnIn, Ascends, IsScalar, Slots, private_slot, sum_slot, cell_there, not_both, one_scalar, own_in_phase, private_is, slots, some_scalar, sum_is}
-use Rattle.spmd_model.proofs.PhaseJobs.{all_fine, last_kept, phase_good}
+use Rattle.spmd_model.proofs.LastOwners.{last_by, no_last}
+use Rattle.spmd_model.proofs.LastStores.{last_among, split_at}
+use Rattle.spmd_model.proofs.PhaseJobs.{first_stores, all_fine, last_kept, phase_good}
 use Rattle.spmd_model.proofs.PhaseMemory.{IsClosing, changes_shared, sets, IsIdle, at_first, idle_along, zero_set, zero_stays}
 use Rattle.spmd_model.proofs.Stands.{any_there, in_flat_map, in_map, scalar_below, slot_there}
 use Rattle.spmd_model.proofs.TripJobs.{IsFineIn, job_in_phase}
@@ -97,7 +100,7 @@ in_range_of a (suc n) p le lt = elim (cases_eq a p) [
 ]
 
 module _ (tree : Tree) (plan : Plan) (k : ℕ) (v : Visit) (formed : IsWellFormed tree) (fits : IsFit tree plan) (ranges : IsInRange tree) (at : slice_get (phases tree plan.cut.marks) k ≡ Some v)
-    (m f : ℕ → ℤ) (shared : (c : ℕ) → c < cell_count tree → f c ≡ m c) (idle : IsIdle tree f) where
+    (stored : AreStoredFirst tree plan) (m f : ℕ → ℤ) (shared : (c : ℕ) → c < cell_count tree → f c ≡ m c) (idle : IsIdle tree f) where
   abbrev o : AreOwnIn tree plan v
   o = own_in_phase tree plan k v formed fits at
 
@@ -121,7 +124,7 @@ module _ (tree : Tree) (plan : Plan) (k : ℕ) (v : Visit) (formed : IsWellForme
   assigned = fold (assigned_behind own) (λ c p. false) plain_jobs
 
   come : Come own behind_plain behind_own last assigned
-  come = along own (own_apart tree plan v o) m f (λ c. None) (λ c p. false) plain_jobs (at_first tree plan v o m f shared idle) (phase_good tree plan k v formed fits ranges at (λ c. None))
+  come = along own (own_apart tree plan v o) m f (λ c. None) (λ c p. false) plain_jobs (at_first tree plan v o m f shared idle) (phase_good tree plan k v formed fits ranges at stored (λ c. None))
 
   assigned_is : (c n p : ℕ) → own.slot c ≡ Some n → own.is_sum c ≡ true → assigned c p ≡ has_stored tree plan v c p
   assigned_is c n p slot sum =
@@ -204,11 +207,6 @@ module _ (tree : Tree) (plan : Plan) (k : ℕ) (v : Visit) (formed : IsWellForme
       by (continue line) what = without_private (ap (λ (l : OwnLoop). l.privates) ((own_in_phase tree plan k v formed fits at).loop_is ∙ ap (own_loop_of plan.cut) what))
       by (do_loop head body) what = by_value (last_value (head_trips (param_values tree) head v.loops)) refl
         where
-          last_is : (w : Option ℤ) → last_value (head_trips (param_values tree) head v.loops) ≡ w → last_owner tree plan v ≡ option_map (phase_owner tree plan v) (option_map (with_loop v.loops head.number) w)
-          last_is w is =
-              ap (λ (s : Statement). option_map (phase_owner tree plan v) (last_loops (param_values tree) s v.loops)) what
-              ∙ ap (λ x. option_map (phase_owner tree plan v) (option_map (with_loop v.loops head.number) x)) is
-
           no_trips : (xs : List ℤ) → last_value xs ≡ None → xs ≡ []
           no_trips [] e = refl
           no_trips (x ∷ xs) e = absurd (cc)
@@ -217,19 +215,13 @@ module _ (tree : Tree) (plan : Plan) (k : ℕ) (v : Visit) (formed : IsWellForme
           by_value None is =
               let empty : phase_instances (param_values tree) v ≡ [] =
               ap (λ (s : Statement). instances_of (param_values tree) s v.first v.loops) what ∙ ap (flat_map (λ x. instances_in (param_values tree) body v.first (with_loop v.loops head.number x))) (no_trips (head_trips (param_values tree) head v.loops) is) in
-              let kept_none = none_of_all (keeping_of tree plan v) (own_loop tree plan v.place).privates (λ s. ap (keeping own (first_cell tree s)) (last_is None is)) in
+              let kept_none = none_of_all (keeping_of tree plan v) (own_loop tree plan v.place).privates (λ s. ap (keeping own (first_cell tree s)) (no_last tree plan v head body what is)) in
               let has_none : (d p : ℕ) → has_stored tree plan v d p ≡ false = λ d p. ap (list_any (λ (i : Instance). phase_owner tree plan v i.loops == p && stores_to (store_of tree i) d)) empty in
               let sums_none = none_of_all (totalling_of tree plan v) (own_loop tree plan v.place).sums (λ s. none_of_all (total_of tree plan v s) (range_with_len 0 plan.workers) (λ p. ap (totalling own (first_cell tree s) p) (has_none (first_cell tree s) p))) in
               let no_closings : closings_of tree plan v ≡ [] = ap (λ l. l ++ flat_map (totalling_of tree plan v) (own_loop tree plan v.place).sums) kept_none ∙ sums_none in
               let job = job_in_phase tree plan (1 + k) v formed o in
               ap (λ l. fold behind_job behind_own l c) no_closings ∙ ap (λ l. fold (λ g j. behind_job g (own_job own j)) f (map job l) c) empty ∙ shared c lt ∙ sym (ap (λ l. fold behind_job m (map job l) c) empty)
-          by_value (Some value) is =
-              let q = phase_owner tree plan v (with_loop v.loops head.number value) in
-              let same : closings_of tree plan v ≡ flat_map (λ d. keeping own d (Some q)) private_cells ++ totals =
-              ap (λ w. flat_map (λ s. keeping own (first_cell tree s) w) (own_loop tree plan v.place).privates ++ flat_map (totalling_of tree plan v) (own_loop tree plan v.place).sums) (last_is (Some value) is)
-              ∙ ap (λ l. l ++ flat_map (totalling_of tree plan v) (own_loop tree plan v.place).sums) (flat_map-map (λ d. keeping own d (Some q)) (first_cell tree) (own_loop tree plan v.place).privates)
-              ∙ ap (λ l. flat_map (λ d. keeping own d (Some q)) private_cells ++ l) totals_are in
-              ap (λ l. fold behind_job behind_own l c) same ∙ closed q (λ d among. kept q d (in_map (first_cell tree) (own_loop tree plan v.place).privates d among) (λ u there. last_kept tree plan k v formed fits ranges at head body what (λ e. None) value u there is)) c lt
+          by_value (Some value) is = by_privates (own_loop tree plan v.place).privates refl
             where
               kept : (q d : ℕ) → (u : ℕ) × Contains (own_loop tree plan v.place).privates u × (d ≡ first_cell tree u) → ((u : ℕ) → Contains (own_loop tree plan v.place).privates u → last (first_cell tree u) ≡ Some q) → IsKept own own.slot last q d
               kept q d (u, there, same) stored =
@@ -240,6 +232,25 @@ module _ (tree : Tree) (plan : Plan) (k : ℕ) (v : Visit) (formed : IsWellForme
                   no_sum : is_cell_of tree (own_loop tree plan v.place).privates d ≡ true → (b : Bool) → is_cell_of tree (own_loop tree plan v.place).sums d ≡ b → is_cell_of tree (own_loop tree plan v.place).sums d ≡ false
                   no_sum cell false e = e
                   no_sum cell true e = absurd (not_both tree plan v o d cell e)
+
+              -- a private scalar is stored in the last trip
+              owner_is : (u : ℕ) → Contains (own_loop tree plan v.place).privates u → last_owner tree plan v ≡ Some (phase_owner tree plan v (with_loop v.loops head.number value))
+              owner_is u there =
+                  let f = first_stores tree plan k v formed fits ranges at stored head body what value (last_among (head_trips (param_values tree) head v.loops) value is) u there in
+                  last_by tree plan v head body what value (length f.1.before) f.1.store is (split_at f.1.before f.1.store f.1.after (instances_in (param_values tree) body v.first (with_loop v.loops head.number value)) f.1.split)
+
+              with_private : last_owner tree plan v ≡ Some (phase_owner tree plan v (with_loop v.loops head.number value)) → fold behind_job behind_own (closings_of tree plan v) c ≡ behind_plain c
+              with_private last_is =
+                  let q = phase_owner tree plan v (with_loop v.loops head.number value) in
+                  let same : closings_of tree plan v ≡ flat_map (λ d. keeping own d (Some q)) private_cells ++ totals =
+                  ap (λ w. flat_map (λ s. keeping own (first_cell tree s) w) (own_loop tree plan v.place).privates ++ flat_map (totalling_of tree plan v) (own_loop tree plan v.place).sums) last_is
+                  ∙ ap (λ l. l ++ flat_map (totalling_of tree plan v) (own_loop tree plan v.place).sums) (flat_map-map (λ d. keeping own d (Some q)) (first_cell tree) (own_loop tree plan v.place).privates)
+                  ∙ ap (λ l. flat_map (λ d. keeping own d (Some q)) private_cells ++ l) totals_are in
+                  ap (λ l. fold behind_job behind_own l c) same ∙ closed q (λ d among. kept q d (in_map (first_cell tree) (own_loop tree plan v.place).privates d among) (λ u there. last_kept tree plan k v formed fits ranges at stored head body what (λ e. None) value u there is)) c lt
+
+              by_privates : (us : List ℕ) → (own_loop tree plan v.place).privates ≡ us → fold behind_job behind_own (closings_of tree plan v) c ≡ behind_plain c
+              by_privates [] privates = without_private privates
+              by_privates (u ∷ us) privates = with_private (owner_is u (subst (λ l. Contains l u) (sym privates) (0, omega arith, refl)))
 
   -- ---- own cells of sum scalars
 
@@ -270,7 +281,7 @@ module _ (tree : Tree) (plan : Plan) (k : ℕ) (v : Visit) (formed : IsWellForme
   idle_behind p n le lt = elim (some_or_none (own_loop tree plan v.place).sums (λ u. (own.slot (first_cell tree u) ≡ Some n) × (assigned (first_cell tree u) p ≡ true)) (λ u. own.slot (first_cell tree u) ≡ Some n → assigned (first_cell tree u) p ≡ false) decide) [
     | inl found ↦ cleared found.0 found.1 found.2.0 found.2.1
     | inr none ↦ zero_stays (cell_count tree) behind_own (closings_of tree plan v) (cell_count tree + (32 * p + n)) all_closings (omega arith)
-        (idle_along tree plan v o f (λ c. None) (λ c p. false) plain_jobs (λ q l le' lt' unassigned. idle q l le' lt') (phase_good tree plan k v formed fits ranges at (λ c. None)) p n le lt (λ c slot. unassigned none c slot (slots tree plan v o c n slot)))
+        (idle_along tree plan v o f (λ c. None) (λ c p. false) plain_jobs (λ q l le' lt' unassigned. idle q l le' lt') (phase_good tree plan k v formed fits ranges at stored (λ c. None)) p n le lt (λ c slot. unassigned none c slot (slots tree plan v o c n slot)))
   ]
     where
       decide : (u : ℕ) → ((own.slot (first_cell tree u) ≡ Some n) × (assigned (first_cell tree u) p ≡ true)) ⊎ (own.slot (first_cell tree u) ≡ Some n → assigned (first_cell tree u) p ≡ false)

@@ -14,21 +14,24 @@ use Rattle.nest_model.specs.Instances.{Instance, head_trips, instances_in, insta
 use Rattle.nest_model.specs.Ranges.{IsInRange}
 use Rattle.nest_model.specs.Visits.{Visit}
 use Rattle.own_scalars.specs.OwnScalars.{is_other, is_private, is_sum, some_in, some_of, stores}
+use Rattle.owner_partition.specs.Cuts.{privates_of}
 use Rattle.owner_partition.specs.Phases.{Execution, executions, phase_instances, phases}
 use Rattle.owner_partition.proofs.Sites.{all_at}
 use Rattle.sync_plan.specs.declared.plan.Plan.{Plan}
-use Rattle.sync_plan.specs.Conflicts.{last_value, owner_under}
+use Rattle.sync_plan.specs.Conflicts.{last_value, owner_under, works_before}
 use Rattle.sync_plan.specs.Fit.{IsFit}
 use Rattle.sync_plan.specs.Own.{OwnLoop, own_loop, own_loop_of, own_of}
+use Rattle.sync_plan.specs.Stored.{AreStoredFirst}
 use Rattle.sync_plan.proofs.FitOwners.{owners_below}
 use Rattle.spmd_model.specs.Closings.{phase_owner}
 use Rattle.spmd_model.specs.Trips.{last_behind}
 use Rattle.spmd_model.proofs.CellsThere.{IsGoodWork, execution_inside, good_of}
-use Rattle.spmd_model.proofs.LastStores.{StoresFirst, last_split, none_in, stores_first}
+use Rattle.spmd_model.proofs.LastStores.{StoresFirst, last_among, last_split, none_in, stores_first}
 use Rattle.spmd_model.proofs.OwnRuns.{AreGoodJobs, good_behind}
 use Rattle.spmd_model.proofs.OwnTexts.{AreOwnIn, cell_there, own_in_phase, private_is, sum_is}
 use Rattle.spmd_model.proofs.Stands.{execution_place, execution_there, in_phase, slot_there}
-use Rattle.spmd_model.proofs.TripJobs.{IsFineIn, back_all, front_all, job_in_phase, not_sum, one_owner, trip, trip_good}
+use Rattle.spmd_model.proofs.TripJobs.{IsFineIn, back_all, front_all, job_in_phase, not_sum, trip, trip_good}
+use Rattle.spmd_model.proofs.TripOwners.{one_owner}
 use Rattle.spmd_model.proofs.Trips.{behind_trip}
 
 all_from : {X : Type 0} (P : X → Type 0) (xs : List X) → ((k : ℕ) (x : X) → slice_get xs k ≡ Some x → P x) → All P xs
@@ -63,24 +66,23 @@ module _ (tree : Tree) (plan : Plan) (k : ℕ) (v : Visit) (formed : IsWellForme
       })
 
   -- the trips of a loop, from any state on
-  module _ (head : Head) (body : Statements) (what : v.what ≡ do_loop head body) where
-    abbrev inside : ℤ → List Instance
-    inside x = instances_in (param_values tree) body v.first (with_loop v.loops head.number x)
+  module _ (stored : AreStoredFirst tree plan) (head : Head) (body : Statements) (what : v.what ≡ do_loop head body) where
+    pub first_stores : (x : ℤ) → Contains (head_trips (param_values tree) head v.loops) x → (u : ℕ) → Contains (own_loop tree plan v.place).privates u → (n : ℕ) × StoresFirst u n (instances_in (param_values tree) body v.first (with_loop v.loops head.number x))
+    first_stores x there u among =
+        let o = own_in_phase tree plan k v formed fits at in
+        let private : is_private u body ≡ true = ap (λ (s : Statement). is_private u (own_loop_of plan.cut s).body) (sym what) ∙ (private_is tree plan v o u among).0 in
+        let mine : Contains (privates_of plan.cut.privates head.number) u = subst (λ (l : OwnLoop). Contains l.privates u) (o.loop_is ∙ ap (own_loop_of plan.cut) what) among in
+        (v.first + works_before u body, stores_first (param_values tree) u body v.first (with_loop v.loops head.number x) private (stored k v head body x u at what there mine))
 
-    first_stores : (x : ℤ) (u : ℕ) → Contains (own_loop tree plan v.place).privates u → (n : ℕ) × (b : Statements) × (loops : List ℤ) × StoresFirst u n b loops (instances_in (param_values tree) body v.first (with_loop v.loops head.number x))
-    first_stores x u among =
-        let private : is_private u body ≡ true = ap (λ (s : Statement). is_private u (own_loop_of plan.cut s).body) (sym what) ∙ (private_is tree plan v (own_in_phase tree plan k v formed fits at) u among).0 in
-        (v.first, body, with_loop v.loops head.number x, stores_first (param_values tree) u body v.first (with_loop v.loops head.number x) private)
-
-    trips_good : (xs : List ℤ) (last : ℕ → Option ℕ) → All (IsFineIn tree plan v) (flat_map (λ x. instances_in (param_values tree) body v.first (with_loop v.loops head.number x)) xs) →
+    trips_good : (xs : List ℤ) (last : ℕ → Option ℕ) → ((x : ℤ) → Contains xs x → Contains (head_trips (param_values tree) head v.loops) x) → All (IsFineIn tree plan v) (flat_map (λ x. instances_in (param_values tree) body v.first (with_loop v.loops head.number x)) xs) →
         AreGoodJobs (own_of tree plan v.place) last (map (job_in_phase tree plan (1 + k) v formed (own_in_phase tree plan k v formed fits at)) (flat_map (λ x. instances_in (param_values tree) body v.first (with_loop v.loops head.number x)) xs))
-    trips_good [] last fine = tt
-    trips_good (x ∷ xs) last fine =
+    trips_good [] last there fine = tt
+    trips_good (x ∷ xs) last there fine =
         let o = own_in_phase tree plan k v formed fits at in
         let job = job_in_phase tree plan (1 + k) v formed o in
         let f : ℤ → List Instance = λ y. instances_in (param_values tree) body v.first (with_loop v.loops head.number y) in
-        let here = trip_good tree plan (1 + k) v formed o (f x) (phase_owner tree plan v (with_loop v.loops head.number x)) (one_owner tree plan k v head body x formed fits at what) (front_all (IsFineIn tree plan v) (f x) (flat_map f xs) fine) (first_stores x) last in
-        let later = trips_good xs (fold (last_behind (own_of tree plan v.place)) last (map job (f x))) (back_all (IsFineIn tree plan v) (f x) (flat_map f xs) fine) in
+        let here = trip_good tree plan (1 + k) v formed o (f x) (phase_owner tree plan v (with_loop v.loops head.number x)) (one_owner tree plan k v head body x formed fits at what) (front_all (IsFineIn tree plan v) (f x) (flat_map f xs) fine) (first_stores x (there x (0, omega arith, refl))) last in
+        let later = trips_good xs (fold (last_behind (own_of tree plan v.place)) last (map job (f x))) (λ y (n, lt, is). there y (suc n, omega (arith, lt), is)) (back_all (IsFineIn tree plan v) (f x) (flat_map f xs) fine) in
         subst (AreGoodJobs (own_of tree plan v.place) last) (sym (map-append job (f x) (flat_map f xs))) (good_behind (own_of tree plan v.place) last (map job (f x)) (map job (flat_map f xs)) here later)
 
     -- behind the last of them
@@ -97,8 +99,9 @@ module _ (tree : Tree) (plan : Plan) (k : ℕ) (v : Visit) (formed : IsWellForme
         ap (λ (s : Statement). instances_of (param_values tree) s v.first v.loops) what ∙ ap (flat_map f) split.1 ∙ flat_map-append f split.0 (value ∷ []) ∙ ap (λ l. flat_map f split.0 ++ l) (append-nil (f value)) in
         let fine = back_all (IsFineIn tree plan v) (flat_map f split.0) (f value) (subst (All (IsFineIn tree plan v)) all all_fine) in
         let s = slot_there tree plan v o (first_cell tree u) (inl (cell_there tree (own_loop tree plan v.place).privates u among)) in
-        let t = trip tree plan (1 + k) v formed o (f value) p (one_owner tree plan k v head body value formed fits at what) fine (first_stores value) u among in
-        let plain = not_sum tree plan (1 + k) v formed o (f value) p (one_owner tree plan k v head body value formed fits at what) fine (first_stores value) u among in
+        let here = first_stores value (last_among (head_trips (param_values tree) head v.loops) value is) in
+        let t = trip tree plan (1 + k) v formed o (f value) p (one_owner tree plan k v head body value formed fits at what) fine here u among in
+        let plain = not_sum tree plan (1 + k) v formed o (f value) p (one_owner tree plan k v head body value formed fits at what) fine here u among in
         ap (λ is. fold (last_behind own) last (map job is) (first_cell tree u)) all
         ∙ ap (λ js. fold (last_behind own) last js (first_cell tree u)) (map-append job (flat_map f split.0) (f value))
         ∙ ap (λ l. l (first_cell tree u)) (fold-append (last_behind own) last (map job (flat_map f split.0)) (map job (f value)))
@@ -114,8 +117,8 @@ module _ (tree : Tree) (plan : Plan) (k : ℕ) (v : Visit) (formed : IsWellForme
         nobody : (u : ℕ) → Contains {X = ℕ} [] u → ⊥
         nobody u (n, lt, e) = omega (arith, lt)
 
-  pub phase_good : (last : ℕ → Option ℕ) → AreGoodJobs (own_of tree plan v.place) last (map (job_in_phase tree plan (1 + k) v formed (own_in_phase tree plan k v formed fits at)) (phase_instances (param_values tree) v))
-  phase_good last = by v.what refl
+  pub phase_good : AreStoredFirst tree plan → (last : ℕ → Option ℕ) → AreGoodJobs (own_of tree plan v.place) last (map (job_in_phase tree plan (1 + k) v formed (own_in_phase tree plan k v formed fits at)) (phase_instances (param_values tree) v))
+  phase_good stored last = by v.what refl
     where
       o : AreOwnIn tree plan v
       o = own_in_phase tree plan k v formed fits at
@@ -124,7 +127,7 @@ module _ (tree : Tree) (plan : Plan) (k : ℕ) (v : Visit) (formed : IsWellForme
       by (do_loop head body) what =
           let is = ap (λ (s : Statement). instances_of (param_values tree) s v.first v.loops) what in
           subst (λ l. AreGoodJobs (own_of tree plan v.place) last (map (job_in_phase tree plan (1 + k) v formed (own_in_phase tree plan k v formed fits at)) l)) (sym is)
-          (trips_good head body what (head_trips (param_values tree) head v.loops) last (subst (All (IsFineIn tree plan v)) is all_fine))
+          (trips_good stored head body what (head_trips (param_values tree) head v.loops) last (λ x there. there) (subst (All (IsFineIn tree plan v)) is all_fine))
       by (work w) what =
           let none = ap (λ (l : OwnLoop). l.privates) (o.loop_is ∙ ap (own_loop_of plan.cut) what) in
           single_good (phase_owner tree plan v v.loops) none last (subst (λ (s : Statement). All (λ (i : Instance). phase_owner tree plan v i.loops ≡ phase_owner tree plan v v.loops) (instances_of (param_values tree) s v.first v.loops)) (sym what) (one w))

@@ -18,6 +18,7 @@ use Rattle.owner_partition.specs.Phases.{phase_instances}
 use Rattle.sync_plan.specs.declared.plan.Plan.{Plan}
 use Rattle.sync_plan.specs.Fit.{IsFit}
 use Rattle.sync_plan.specs.Own.{OwnLoop, at_slot, is_cell_of, own_cell, own_loop, own_of, place_in}
+use Rattle.sync_plan.specs.Stored.{AreStoredFirst}
 use Rattle.sync_plan.proofs.Gets.{get-behind, get-front}
 use Rattle.spmd_model.specs.Timelines.{Job, load, add, job, act_at}
 use Rattle.spmd_model.specs.Closings.{closings_of, has_stored, keeping, keeping_of, last_owner, moves_to, sets_to_zero, total_of, totalling, totalling_of}
@@ -145,9 +146,9 @@ no_sum tree own c none = elim (cases_Bool (is_cell_of tree own.sums c)) [
     some (Some b) k h = let clash : Some b ≡ None = h in cc
 
 -- a load of a cell that all share is of an instance, and gives what the program's memory has in front of it
-pub load_there : (style : Style) (tree : Tree) (plan : Plan) (p n place cell : ℕ) → IsWellFormed tree → IsFit tree plan → IsInRange tree → cell < cell_count tree → act_at (machine_by style tree plan) p n ≡ Some (load place cell) →
+pub load_there : (style : Style) (tree : Tree) (plan : Plan) (p n place cell : ℕ) → IsWellFormed tree → IsFit tree plan → IsInRange tree → AreStoredFirst tree plan → cell < cell_count tree → act_at (machine_by style tree plan) p n ≡ Some (load place cell) →
     (i : Instance) × (slice_get (instances tree) (instances_in_front style tree plan place) ≡ Some i) × Contains (loads_of tree i) cell × (loaded_at (machine_by style tree plan) p n ≡ cell_value (memory_before tree (instances_in_front style tree plan place)) cell)
-load_there style tree plan p n place cell formed fits ranges below e =
+load_there style tree plan p n place cell formed fits ranges stored below e =
     let f = found (machine_by style tree plan) p n (load place cell) e in
     let l : IsLoadIn p f.place f.index place cell f.moment = tells p f.place f.index f.moment (load place cell) f.is in
     let at : slice_get (timeline_by style tree plan) place ≡ Some (job l.job_is) = ap (slice_get (timeline_by style tree plan)) l.place ∙ f.at ∙ ap Some l.moment in
@@ -156,7 +157,7 @@ load_there style tree plan p n place cell formed fits ranges below e =
     by : (j : Job) → Contains j.loads cell → slice_get (timeline_by style tree plan) place ≡ Some (job j) → Sorts tree j →
         (i : Instance) × (slice_get (instances tree) (instances_in_front style tree plan place) ≡ Some i) × Contains (loads_of tree i) cell × (loaded_at (machine_by style tree plan) p n ≡ cell_value (memory_before tree (instances_in_front style tree plan place)) cell)
     by j has at (a_closing c) = absurd (let past = c.loads cell has in omega (arith, past, below))
-    by j has at (an_instance counts plain) = shared (instance_in style tree plan formed fits ranges place j at counts)
+    by j has at (an_instance counts plain) = shared (instance_in style tree plan formed fits ranges stored place j at counts)
       where
         shared : IsInstanceIn style tree plan place j →
             (i : Instance) × (slice_get (instances tree) (instances_in_front style tree plan place) ≡ Some i) × Contains (loads_of tree i) cell × (loaded_at (machine_by style tree plan) p n ≡ cell_value (memory_before tree (instances_in_front style tree plan place)) cell)

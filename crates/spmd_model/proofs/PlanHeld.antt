@@ -34,6 +34,6 @@ laws_by style tree plan formed limits ranges fits ordered =
       added = λ p n place cell e. add_there style tree plan p n place cell formed fits e;
       all = all_by style tree plan;
       arrive = arrive_few (machine_by style tree plan) (gathers tree plan) (2 ^ 40) (let few = timeline_few style tree plan in let all = phases_few tree plan formed limits in omega (arith, few, all));
-      ends = shared_last style tree plan formed fits ranges;
-      prints = output_by style tree plan formed fits ranges;
+      ends = shared_last style tree plan formed fits ranges ordered.stored;
+      prints = output_by style tree plan formed fits ranges ordered.stored;
     })

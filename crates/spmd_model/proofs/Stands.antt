@@ -8,30 +8,35 @@ use Rattle.std.proofs.lemmas.List.{length-map}
 use Rattle.std.proofs.lemmas.List.Elements.{All-contains, Contains-append_cases, Contains-append_left, Contains-append_right}
 use Rattle.std.proofs.lemmas.Option.{slice_get-map, slice_get_within}
 use Rattle.nest_tree.specs.Layout.{bounds_of, cell_count, element_count, first_cell, element_place}
-use Rattle.nest_tree.specs.Tree.{Work, assign, print, Statement, do_loop, work, continue, Tree, param_values}
+use Rattle.nest_tree.specs.Tree.{Printing, Work, assign, print, Head, Statement, Statements, do_loop, work, continue, Tree, param_values}
 use Rattle.nest_tree.specs.WellFormed.{IsWellFormed}
 use Rattle.nest_model.specs.Accesses.{access_cell, cells_of, loads_of, store_of, subscript_values, work_store}
-use Rattle.nest_model.specs.Instances.{Instance, head_trips, with_loop}
+use Rattle.nest_model.specs.Instances.{Instance, head_trips, instances_in, with_loop}
 use Rattle.nest_model.specs.Ranges.{IsInRange}
 use Rattle.nest_model.specs.Visits.{Visit}
 use Rattle.nest_walk.proofs.CellPlaces.{cells_below}
 use Rattle.own_scalars.specs.OwnScalars.{is_of, is_plain_store, is_private, loads}
-use Rattle.owner_partition.specs.Phases.{Execution, executions_from, phase_instances, phases}
+use Rattle.owner_partition.specs.Cuts.{privates_of}
+use Rattle.owner_partition.specs.Phases.{Execution, executions, executions_from, phase_instances, phases}
 use Rattle.owner_partition.proofs.Sites.{all_at}
 use Rattle.sync_plan.specs.declared.plan.Plan.{Plan}
-use Rattle.sync_plan.specs.Conflicts.{is_last_store, last_value, seen_by, seen_cells, seen_loads, seen_store, seen_stored}
+use Rattle.sync_plan.specs.Conflicts.{is_last_store, last_value, owner_under, seen_by, seen_cells, seen_loads, seen_store, seen_stored}
 use Rattle.sync_plan.specs.Fit.{IsFit}
 use Rattle.sync_plan.specs.Own.{Own, OwnLoop, at_slot, is_cell_of, own_cell, own_loop, own_loop_of, own_of}
+use Rattle.sync_plan.specs.Stored.{AreStoredFirst}
+use Rattle.sync_plan.proofs.FitOwners.{owners_below, printers, trip_owner}
 use Rattle.sync_plan.proofs.Gets.{get-behind, get-front}
-use Rattle.spmd_model.specs.Closings.{closings_of, has_stored, keeping, keeping_of, last_loops, last_owner, moves_to, phase_owner, sets_to_zero, total_of, totalling, totalling_of}
+use Rattle.spmd_model.specs.Closings.{closings_of, has_stored, keeping, keeping_of, last_owner, moves_to, phase_owner, sets_to_zero, total_of, totalling, totalling_of}
 use Rattle.spmd_model.specs.Lawful.{stores_to}
 use Rattle.spmd_model.specs.Ordered.{Needs}
 use Rattle.spmd_model.specs.Machines.{instance_jobs, job_under}
 use Rattle.spmd_model.specs.Timelines.{Job}
 use Rattle.spmd_model.proofs.CellsThere.{IsGoodWork, cells_there, execution_inside, good_of}
-use Rattle.spmd_model.proofs.LastStores.{last_store}
+use Rattle.spmd_model.proofs.LastOwners.{last_of, no_loop}
+use Rattle.spmd_model.proofs.LastStores.{last_among, last_store}
 use Rattle.spmd_model.proofs.Lists.{contains_at}
 use Rattle.spmd_model.proofs.OwnTexts.{AreOwnIn, IsScalar, Slots, private_slot, sum_slot, cell_there, no_slot, not_both, one_scalar, own_in_phase, private_is, slots, sum_is}
+use Rattle.spmd_model.proofs.TripOwners.{one_owner}
 
 -- ---- lists
 
@@ -360,8 +365,8 @@ module _ (tree : Tree) (plan : Plan) (e k : ℕ) (v : Visit) (formed : IsWellFor
           ap (seen_stored tree plan X) (plain_store tree u i.loops i.what scalar plain) ∙ ap (seen_by tree plan X c) f.3
           ∙ ap (λ w. if is_last_store tree plan X w then Some c else None) same ∙ ap (λ b. if b then Some c else None) is_last
 
-  keeping_stands : (u q : ℕ) → Contains (own_loop tree plan v.place).privates u → last_owner tree plan v ≡ Some q → Stands tree plan e v (moves_to false q (own_cell (own_of tree plan v.place) q (first_cell tree u)) (first_cell tree u))
-  keeping_stands u q among last = by v.what refl
+  keeping_stands : IsFit tree plan → AreStoredFirst tree plan → (u q : ℕ) → Contains (own_loop tree plan v.place).privates u → last_owner tree plan v ≡ Some q → Stands tree plan e v (moves_to false q (own_cell (own_of tree plan v.place) q (first_cell tree u)) (first_cell tree u))
+  keeping_stands fits stored u q among last = by v.what refl
     where
       no_private : (s : Statement) → v.what ≡ s → (own_loop_of plan.cut s).privates ≡ [] → ⊥
       no_private s what none = let a = subst (λ l. Contains l u) (ap (λ (l : OwnLoop). l.privates) (o.loop_is ∙ ap (own_loop_of plan.cut) what) ∙ none) among in omega (arith, a.1)
@@ -369,27 +374,23 @@ module _ (tree : Tree) (plan : Plan) (e k : ℕ) (v : Visit) (formed : IsWellFor
       by : (s : Statement) → v.what ≡ s → Stands tree plan e v (moves_to false q (own_cell (own_of tree plan v.place) q (first_cell tree u)) (first_cell tree u))
       by (work w) what = absurd (no_private (work w) what refl)
       by (continue line) what = absurd (no_private (continue line) what refl)
-      by (do_loop head body) what = by_value (last_value (head_trips (param_values tree) head v.loops)) refl
-        where
-          owner_is : (w : Option ℤ) → last_value (head_trips (param_values tree) head v.loops) ≡ w → option_map (phase_owner tree plan v) (option_map (with_loop v.loops head.number) w) ≡ Some q
-          owner_is w is =
-              ap (λ x. option_map (phase_owner tree plan v) (option_map (with_loop v.loops head.number) x)) (sym is)
-              ∙ sym (ap (λ (s : Statement). option_map (phase_owner tree plan v) (last_loops (param_values tree) s v.loops)) what) ∙ last
-
-          by_value : (w : Option ℤ) → last_value (head_trips (param_values tree) head v.loops) ≡ w → Stands tree plan e v (moves_to false q (own_cell (own_of tree plan v.place) q (first_cell tree u)) (first_cell tree u))
-          by_value None is = let clash : None ≡ Some q = owner_is None is in absurd (cc)
-          by_value (Some value) is =
-              let owner : phase_owner tree plan v (with_loop v.loops head.number value) ≡ q = some_is _ q (owner_is (Some value) is) in
-              let private : is_private u body ≡ true = ap (λ (s : Statement). is_private u (own_loop_of plan.cut s).body) (sym what) ∙ (private_is tree plan v o u among).0 in
-              let s = last_store tree plan e k v head body u value formed at what o.loop_is private is in
-              record {
-                index = s.index;
-                instance = s.instance;
-                at = s.at;
-                owner = sym owner ∙ ap (phase_owner tree plan v) (sym s.loops_is);
-                printed = λ none. absurd (stores_some (first_cell tree u) none);
-                shows = λ ranges. keeping_shows u q among last s.instance s.plain s.last;
-              }
+      by (do_loop head body) what =
+          let l = last_of tree plan v head body what q last in
+          let params = param_values tree in
+          let loops = with_loop v.loops head.number l.value in
+          let private : is_private u body ≡ true = ap (λ (s : Statement). is_private u (own_loop_of plan.cut s).body) (sym what) ∙ (private_is tree plan v o u among).0 in
+          let mine : Contains (privates_of plan.cut.privates head.number) u = subst (λ (l : OwnLoop). Contains l.privates u) (o.loop_is ∙ ap (own_loop_of plan.cut) what) among in
+          let runs = stored k v head body l.value u at what (last_among (head_trips params head v.loops) l.value l.last) mine in
+          let s = last_store tree plan e k v head body u l.value formed at what o.loop_is private runs l.last in
+          let one = all_at (λ (i : Instance). phase_owner tree plan v i.loops ≡ phase_owner tree plan v loops) (instances_in params body v.first loops) s.within s.instance (one_owner tree plan k v head body l.value formed fits at what) s.trip in
+          record {
+            index = s.index;
+            instance = s.instance;
+            at = s.at;
+            owner = sym l.owner ∙ sym one;
+            printed = λ none. absurd (stores_some (first_cell tree u) none);
+            shows = λ ranges. keeping_shows u q among last s.instance s.plain s.last;
+          }
 
   -- of a processor's total
   module _ (u q : ℕ) (among : Contains (own_loop tree plan v.place).sums u) (has : has_stored tree plan v (first_cell tree u) q ≡ true) where
@@ -464,14 +465,14 @@ module _ (tree : Tree) (plan : Plan) (e k : ℕ) (v : Visit) (formed : IsWellFor
   nothing : (j : Job) → Contains {X = Job} [] j → ⊥
   nothing j (n, lt, is) = omega (arith, lt)
 
-  in_keeping : (u : ℕ) (j : Job) → Contains (own_loop tree plan v.place).privates u → Contains (keeping_of tree plan v u) j → Stands tree plan e v j
-  in_keeping u j among there = by (last_owner tree plan v) refl there
+  in_keeping : IsFit tree plan → AreStoredFirst tree plan → (u : ℕ) (j : Job) → Contains (own_loop tree plan v.place).privates u → Contains (keeping_of tree plan v u) j → Stands tree plan e v j
+  in_keeping fits stored u j among there = by (last_owner tree plan v) refl there
     where
       by : (w : Option ℕ) → last_owner tree plan v ≡ w → Contains (keeping (own_of tree plan v.place) (first_cell tree u) w) j → Stands tree plan e v j
       by None is h = absurd (nothing j h)
-      by (Some q) is h = subst (Stands tree plan e v) (sym (one_of (moves_to false q (own_cell (own_of tree plan v.place) q (first_cell tree u)) (first_cell tree u)) j h)) (keeping_stands u q among is)
+      by (Some q) is h = subst (Stands tree plan e v) (sym (one_of (moves_to false q (own_cell (own_of tree plan v.place) q (first_cell tree u)) (first_cell tree u)) j h)) (keeping_stands fits stored u q among is)
 
-  in_total : (u q : ℕ) (j : Job) → Contains (own_loop tree plan v.place).sums u → Contains (total_of tree plan v u q) j → Stands tree plan e v j
+  pub in_total : (u q : ℕ) (j : Job) → Contains (own_loop tree plan v.place).sums u → Contains (total_of tree plan v u q) j → Stands tree plan e v j
   in_total u q j among there = by (has_stored tree plan v (first_cell tree u) q) refl there
     where
       by : (b : Bool) → has_stored tree plan v (first_cell tree u) q ≡ b → Contains (totalling (own_of tree plan v.place) (first_cell tree u) q b) j → Stands tree plan e v j
@@ -479,9 +480,9 @@ module _ (tree : Tree) (plan : Plan) (e k : ℕ) (v : Visit) (formed : IsWellFor
       by true is (zero, lt, same) = subst (Stands tree plan e v) same (total_stands u q among is)
       by true is (suc n, lt, same) = subst (Stands tree plan e v) (sym (one_of (sets_to_zero q (own_cell (own_of tree plan v.place) q (first_cell tree u))) j (n, omega (arith, lt), same))) (zero_stands u q among is)
 
-  pub closing_stands : (j : Job) → Contains (closings_of tree plan v) j → Stands tree plan e v j
-  closing_stands j among = elim (Contains-append_cases (flat_map (keeping_of tree plan v) (own_loop tree plan v.place).privates) (flat_map (totalling_of tree plan v) (own_loop tree plan v.place).sums) j among) [
-    | inl kept ↦ let f = in_flat_map (keeping_of tree plan v) (own_loop tree plan v.place).privates j kept in in_keeping f.0 j f.1 f.2
+  closing_stands : IsFit tree plan → AreStoredFirst tree plan → (j : Job) → Contains (closings_of tree plan v) j → Stands tree plan e v j
+  closing_stands fits stored j among = elim (Contains-append_cases (flat_map (keeping_of tree plan v) (own_loop tree plan v.place).privates) (flat_map (totalling_of tree plan v) (own_loop tree plan v.place).sums) j among) [
+    | inl kept ↦ let f = in_flat_map (keeping_of tree plan v) (own_loop tree plan v.place).privates j kept in in_keeping fits stored f.0 j f.1 f.2
     | inr summed ↦
         let f = in_flat_map (totalling_of tree plan v) (own_loop tree plan v.place).sums j summed in
         let g = in_flat_map (total_of tree plan v f.0) (range_with_len 0 plan.workers) j f.2 in
@@ -490,42 +491,110 @@ module _ (tree : Tree) (plan : Plan) (e k : ℕ) (v : Visit) (formed : IsWellFor
 
 -- ---- each job of a phase
 
-pub job_stands : (tree : Tree) (plan : Plan) (k : ℕ) (v : Visit) (n : ℕ) (j : Job) → IsWellFormed tree → IsFit tree plan → slice_get (phases tree plan.cut.marks) k ≡ Some v →
-    slice_get (instance_jobs tree plan (1 + k) v ++ closings_of tree plan v) n ≡ Some j → Stands tree plan (1 + k) v j
-job_stands tree plan k v n j formed fits at is =
-    elim (cases_lt n (length jobs)) [
-      | inl inside ↦ by_instance (slice_get (phase_instances (param_values tree) v) n) refl (sym (slice_get-map f (phase_instances (param_values tree) v) n) ∙ sym (get-front jobs closings n inside) ∙ is)
-      | inr past ↦
-          let more : length jobs + (n - length jobs) ≡ n = omega (arith, past) in
-          closing_stands tree plan (1 + k) k v formed at o j (contains_at closings (n - length jobs) j (sym (ap (slice_get (jobs ++ closings)) (sym more) ∙ get-behind jobs closings (n - length jobs)) ∙ is))
-    ]
-  where
-    f : Instance → Job
-    f i = job_under tree plan (record { phase = 1 + k; place = v.place; instance = i })
+-- a job's owner is a processor, and processor 0 where it prints; what isn't shared is one of its owner's cells
+pub record IsOwned (tree : Tree) (plan : Plan) (j : Job) : Type 0 where
+  pub worker : j.owner < plan.workers
+  pub printed : j.store ≡ None → j.owner ≡ 0
+  pub own : IsInRange tree → (c : ℕ) → Has j c → cell_count tree ≤ c → (n : ℕ) × (n < 32) × (c ≡ cell_count tree + (32 * j.owner + n))
 
-    jobs : List Job
-    jobs = instance_jobs tree plan (1 + k) v
+module _ (tree : Tree) (plan : Plan) (k : ℕ) (v : Visit) (formed : IsWellFormed tree) (fits : IsFit tree plan) (at : slice_get (phases tree plan.cut.marks) k ≡ Some v) where
+  instance_stands : (n : ℕ) (i : Instance) → slice_get (phase_instances (param_values tree) v) n ≡ Some i → Stands tree plan (1 + k) v (job_under tree plan (record { phase = 1 + k; place = v.place; instance = i }))
+  instance_stands n i there = record {
+    index = n;
+    instance = i;
+    at = there;
+    owner = refl;
+    printed = none_stored (own_cell (own_of tree plan v.place) (phase_owner tree plan v i.loops)) (store_of tree i);
+    shows = λ ranges.
+        let o = own_in_phase tree plan k v formed fits at in
+        let vs = phases tree plan.cut.marks in
+        let good = all_at (IsGoodWork tree) (phase_instances (param_values tree) v) n i (good_of tree (param_values tree) v.what o.around o.number v.first v.loops o.good) there in
+        let inside = execution_inside tree plan.cut.marks (execution_place (param_values tree) vs k + n) (record { phase = 1 + k; place = v.place; instance = i }) ranges (execution_there (param_values tree) 1 vs k n v i at there) in
+        instance_shows tree plan (1 + k) v o i (cells_there tree i formed good inside);
+  }
 
-    closings : List Job
-    closings = closings_of tree plan v
+  -- what holds of each instance's job and of each closing holds of each job of the phase
+  each_job : (P : Job → Type 0) → ((n : ℕ) (i : Instance) → slice_get (phase_instances (param_values tree) v) n ≡ Some i → P (job_under tree plan (record { phase = 1 + k; place = v.place; instance = i }))) → ((j : Job) → Contains (closings_of tree plan v) j → P j) →
+      (n : ℕ) (j : Job) → slice_get (instance_jobs tree plan (1 + k) v ++ closings_of tree plan v) n ≡ Some j → P j
+  each_job P instances closed n j is = elim (cases_lt n (length jobs)) [
+    | inl inside ↦ by_instance (slice_get (phase_instances (param_values tree) v) n) refl (sym (slice_get-map f (phase_instances (param_values tree) v) n) ∙ sym (get-front jobs closings n inside) ∙ is)
+    | inr past ↦
+        let more : length jobs + (n - length jobs) ≡ n = omega (arith, past) in
+        closed j (contains_at closings (n - length jobs) j (sym (ap (slice_get (jobs ++ closings)) (sym more) ∙ get-behind jobs closings (n - length jobs)) ∙ is))
+  ]
+    where
+      f : Instance → Job
+      f i = job_under tree plan (record { phase = 1 + k; place = v.place; instance = i })
 
-    o : AreOwnIn tree plan v
-    o = own_in_phase tree plan k v formed fits at
+      jobs : List Job
+      jobs = instance_jobs tree plan (1 + k) v
 
-    instance_stands : (i : Instance) → slice_get (phase_instances (param_values tree) v) n ≡ Some i → Stands tree plan (1 + k) v (job_under tree plan (record { phase = 1 + k; place = v.place; instance = i }))
-    instance_stands i there = record {
-      index = n;
-      instance = i;
-      at = there;
-      owner = refl;
-      printed = none_stored (own_cell (own_of tree plan v.place) (phase_owner tree plan v i.loops)) (store_of tree i);
-      shows = λ ranges.
-          let vs = phases tree plan.cut.marks in
-          let good = all_at (IsGoodWork tree) (phase_instances (param_values tree) v) n i (good_of tree (param_values tree) v.what o.around o.number v.first v.loops o.good) there in
-          let inside = execution_inside tree plan.cut.marks (execution_place (param_values tree) vs k + n) (record { phase = 1 + k; place = v.place; instance = i }) ranges (execution_there (param_values tree) 1 vs k n v i at there) in
-          instance_shows tree plan (1 + k) v o i (cells_there tree i formed good inside);
-    }
+      closings : List Job
+      closings = closings_of tree plan v
 
-    by_instance : (w : Option Instance) → slice_get (phase_instances (param_values tree) v) n ≡ w → option_map f w ≡ Some j → Stands tree plan (1 + k) v j
-    by_instance None there same = let clash : None ≡ Some j = same in absurd (cc)
-    by_instance (Some i) there same = let equal : Some (f i) ≡ Some j = same in let is_j : f i ≡ j = cc in subst (Stands tree plan (1 + k) v) is_j (instance_stands i there)
+      by_instance : (w : Option Instance) → slice_get (phase_instances (param_values tree) v) n ≡ w → option_map f w ≡ Some j → P j
+      by_instance None there same = let clash : None ≡ Some j = same in absurd (cc)
+      by_instance (Some i) there same = let equal : Some (f i) ≡ Some j = same in let is_j : f i ≡ j = cc in subst P is_j (instances n i there)
+
+  pub job_stands : AreStoredFirst tree plan → (n : ℕ) (j : Job) → slice_get (instance_jobs tree plan (1 + k) v ++ closings_of tree plan v) n ≡ Some j → Stands tree plan (1 + k) v j
+  job_stands stored = each_job (Stands tree plan (1 + k) v) instance_stands (closing_stands tree plan (1 + k) k v formed at (own_in_phase tree plan k v formed fits at) fits stored)
+
+  -- ---- what holds though a loop on the path of a private scalar make no trip
+
+  owned_by : (j : Job) → Stands tree plan (1 + k) v j → IsOwned tree plan j
+  owned_by j s = record {
+    worker = let below = all_at (λ (y : Execution). owner_under tree plan y < plan.workers) (executions tree plan.cut.marks) number x (owners_below tree plan formed fits) execution in omega (arith, s.owner, below);
+    printed = λ none. s.owner ∙ by s.instance.what refl (s.printed none);
+    own = λ ranges. (s.shows ranges).own;
+  }
+    where
+      x : Execution
+      x = in_phase (1 + k) v s.instance
+
+      number : ℕ
+      number = execution_place (param_values tree) (phases tree plan.cut.marks) k + s.index
+
+      execution : slice_get (executions tree plan.cut.marks) number ≡ Some x
+      execution = execution_there (param_values tree) 1 (phases tree plan.cut.marks) k s.index v s.instance at s.at
+
+      by : (w : Work) → s.instance.what ≡ w → work_store tree s.instance.loops w ≡ None → owner_under tree plan x ≡ 0
+      by (assign a) is store = let clash : Some (access_cell tree s.instance.loops a.target) ≡ None = store in absurd (cc)
+      by (print p) is store = all_at (λ (y : Execution). (p : Printing) → y.instance.what ≡ print p → owner_under tree plan y ≡ 0) (executions tree plan.cut.marks) number x (printers tree plan formed fits) execution p is
+
+  last_worker : (q : ℕ) → last_owner tree plan v ≡ Some q → q < plan.workers
+  last_worker q last = by v.what refl
+    where
+      by : (s : Statement) → v.what ≡ s → q < plan.workers
+      by (work w) what = let clash : None ≡ Some q = sym (no_loop tree plan v (work w) what refl) ∙ last in absurd (cc)
+      by (continue line) what = let clash : None ≡ Some q = sym (no_loop tree plan v (continue line) what refl) ∙ last in absurd (cc)
+      by (do_loop head body) what =
+          let l = last_of tree plan v head body what q last in
+          let below = trip_owner tree plan k v head body l.value formed fits at what (last_among (head_trips (param_values tree) head v.loops) l.value l.last) in
+          omega (arith, l.owner, below)
+
+  keeping_owned : (u : ℕ) (j : Job) → Contains (own_loop tree plan v.place).privates u → Contains (keeping_of tree plan v u) j → IsOwned tree plan j
+  keeping_owned u j among there = by (last_owner tree plan v) refl there
+    where
+      by : (w : Option ℕ) → last_owner tree plan v ≡ w → Contains (keeping (own_of tree plan v.place) (first_cell tree u) w) j → IsOwned tree plan j
+      by None is (n, lt, e) = absurd (omega (arith, lt))
+      by (Some q) is h =
+          let o = own_in_phase tree plan k v formed fits at in
+          let c = first_cell tree u in
+          let own = own_one_is tree plan v o q c (inl (cell_there tree (own_loop tree plan v.place).privates u among)) in
+          subst (IsOwned tree plan) (sym (one_of (moves_to false q (own_cell (own_of tree plan v.place) q c) c) j h)) (record {
+            worker = last_worker q is;
+            printed = λ none. absurd (stores_some c none);
+            own = λ ranges. moves_own tree plan (1 + k) k v formed at o false q c own.0 (scalar_below tree u (private_is tree plan v o u among).1) own.1 own.2;
+          })
+
+  closing_owned : (j : Job) → Contains (closings_of tree plan v) j → IsOwned tree plan j
+  closing_owned j among = elim (Contains-append_cases (flat_map (keeping_of tree plan v) (own_loop tree plan v.place).privates) (flat_map (totalling_of tree plan v) (own_loop tree plan v.place).sums) j among) [
+    | inl kept ↦ let f = in_flat_map (keeping_of tree plan v) (own_loop tree plan v.place).privates j kept in keeping_owned f.0 j f.1 f.2
+    | inr summed ↦
+        let f = in_flat_map (totalling_of tree plan v) (own_loop tree plan v.place).sums j summed in
+        let g = in_flat_map (total_of tree plan v f.0) (range_with_len 0 plan.workers) j f.2 in
+        owned_by j (in_total tree plan (1 + k) k v formed at (own_in_phase tree plan k v formed fits at) f.0 g.0 j f.1 g.2)
+  ]
+
+  pub job_owned : (n : ℕ) (j : Job) → slice_get (instance_jobs tree plan (1 + k) v ++ closings_of tree plan v) n ≡ Some j → IsOwned tree plan j
+  job_owned = each_job (IsOwned tree plan) (λ n i there. owned_by (job_under tree plan (in_phase (1 + k) v i)) (instance_stands n i there)) closing_owned

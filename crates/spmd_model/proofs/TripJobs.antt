@@ -40,81 +40,6 @@ use Rattle.spmd_model.proofs.OwnTexts.{AreOwnIn, IsScalar, cell_there, not_both,
 use Rattle.spmd_model.proofs.Stands.{plain_store, slot_there}
 use Rattle.spmd_model.proofs.Trips.{before_load}
 
--- ---- inside a trip the loops round it keep their values
-
--- two lists of values have the first so many in common
-abbrev pub AgreeBelow : ℕ → List ℤ → List ℤ → Type 0
-AgreeBelow n xs ys = (k : ℕ) → k < n → get_or xs k (pos 0) ≡ get_or ys k (pos 0)
-
-mutual
-  agree_of : (params : List ℤ) (scope : Scope) (around : List ℕ) (number : ℕ) (s : Statement) (first : ℕ) (loops : List ℤ) → is_good_statement scope around number s ≡ true → 1 ≤ number →
-      All (λ (i : Instance). AgreeBelow (number - 1) i.loops loops) (instances_of params s first loops)
-  agree_of params scope around number (do_loop head body) first loops good low =
-      let g = good_loop scope around number head body good in
-      let P = λ (i : Instance). AgreeBelow (number - 1) i.loops loops in
-      let inside : ℤ → List Instance = λ v. instances_in params body first (with_loop loops head.number v) in
-      All-flat_map P inside (head_trips params head loops) (every (λ v. All P (inside v)) (λ v.
-      All-weaker (λ (i : Instance). AgreeBelow (number + 1 - 1) i.loops (with_loop loops head.number v)) P
-      (λ i agree k lt'. agree k (omega (arith, lt', low)) ∙ get_or-set_other loops (head.number - 1) k v (pos 0) (λ e. absurd (omega (arith, e, lt', g.number)))) (inside v)
-      (agree_in params scope (head.number ∷ around) (number + 1) body first (with_loop loops head.number v) g.inside (omega arith))) (head_trips params head loops))
-  agree_of params scope around number (work w) first loops good low =
-      let P = λ (i : Instance). AgreeBelow (number - 1) i.loops loops in
-      let here : Instance = record { statement = first; what = w; loops = loops } in
-      elim (is_executed w loops params) as (λ b. All P (if b then here ∷ [] else [])) [ true ↦ All-cons P here [] (λ k lt. refl) (All-nil P) | false ↦ All-nil P ]
-  agree_of params scope around number (continue line) first loops good low = All-nil (λ (i : Instance). AgreeBelow (number - 1) i.loops loops)
-
-  agree_in : (params : List ℤ) (scope : Scope) (around : List ℕ) (number : ℕ) (ss : Statements) (first : ℕ) (loops : List ℤ) → are_good_statements scope around number ss ≡ true → 1 ≤ number →
-      All (λ (i : Instance). AgreeBelow (number - 1) i.loops loops) (instances_in params ss first loops)
-  agree_in params scope around number done first loops good low = All-nil (λ (i : Instance). AgreeBelow (number - 1) i.loops loops)
-  agree_in params scope around number (next s rest) first loops good low =
-      let both = and_parts (is_good_statement scope around number s) (are_good_statements scope around (number + loops_in s) rest) good in
-      let P = λ (i : Instance). AgreeBelow (number - 1) i.loops loops in
-      All-append P (instances_of params s first loops) (instances_in params rest (first + works_in s) loops) (agree_of params scope around number s first loops both.0 low)
-      (All-weaker (λ (i : Instance). AgreeBelow (number + loops_in s - 1) i.loops loops) P (λ i agree k lt. agree k (omega (arith, lt))) (instances_in params rest (first + works_in s) loops) (agree_in params scope around (number + loops_in s) rest (first + works_in s) loops both.1 (omega (arith, low))))
-
--- a form that names lower loops alone has the same value
-dot_agrees : (pairs : List (ℕ × ℤ)) (n : ℕ) (around : List ℕ) (xs ys : List ℤ) → 1 ≤ n → All (λ k. k ≤ n) around → list_all (λ (p : ℕ × ℤ). list_any (λ l. l == p.0) around) pairs ≡ true → AgreeBelow n xs ys → dot pairs xs ≡ dot pairs ys
-dot_agrees [] n around xs ys some low named agree = refl
-dot_agrees (p ∷ pairs) n around xs ys some low named agree =
-    let parts = and_parts (list_any (λ l. l == p.0) around) (list_all (λ (q : ℕ × ℤ). list_any (λ l. l == q.0) around) pairs) named in
-    let here = agree (p.0 - 1) (omega (arith, named_low n around p.0 low parts.0, some)) in
-    ap (λ z. p.1 *ℤ z +ℤ dot pairs xs) here ∙ ap (λ z. p.1 *ℤ numbered ys p.0 +ℤ z) (dot_agrees pairs n around xs ys some low parts.1 agree)
-
-form_agrees : (constants n : ℕ) (around : List ℕ) (f : Form) (params xs ys : List ℤ) → 1 ≤ n → All (λ k. k ≤ n) around → names_only constants around f ≡ true → AgreeBelow n xs ys → form_value f xs params ≡ form_value f ys params
-form_agrees constants n around f params xs ys some low named agree =
-    let all = list_all (λ (p : ℕ × ℤ). list_any (λ l. l == p.0) around) f.loops in
-    let last = and_parts (is_form f && all) (list_all (λ (p : ℕ × ℤ). is_number_of constants p.0) f.params) named in
-    ap (λ z. f.constant +ℤ z +ℤ dot f.params params) (dot_agrees f.loops n around xs ys some low (and_parts (is_form f) all last.0).1 agree)
-
--- the loops that an anchor may name have numbers up to the loop's own
-own_low : (number : ℕ) (around : List ℕ) (b : Bool) (n : ℕ) → n ≡ number → All (λ k. k < number) around → All (λ k. k ≤ number) (if b then n ∷ around else around)
-own_low number around true n is below = All-cons (λ k. k ≤ number) n around (omega (arith, is)) (All-weaker (λ k. k < number) (λ k. k ≤ number) (λ k lt. omega (arith, lt)) around below)
-own_low number around false n is below = All-weaker (λ k. k < number) (λ k. k ≤ number) (λ k lt. omega (arith, lt)) around below
-
--- ---- so all instances of a trip have one owner
-
-pub one_owner : (tree : Tree) (plan : Plan) (k : ℕ) (v : Visit) (head : Head) (body : Statements) (x : ℤ) → IsWellFormed tree → IsFit tree plan → slice_get (phases tree plan.cut.marks) k ≡ Some v → v.what ≡ do_loop head body →
-    All (λ (i : Instance). phase_owner tree plan v i.loops ≡ phase_owner tree plan v (with_loop v.loops head.number x)) (instances_in (param_values tree) body v.first (with_loop v.loops head.number x))
-one_owner tree plan k v head body x formed fits at what =
-    let params = param_values tree in
-    let f = visit_there tree plan.cut.marks k v formed at in
-    let parts = fit_parts tree plan fits in
-    let a = anchored tree plan formed fits k v at in
-    let index : v.place - 1 ≡ f.k = omega (arith, f.place_is) in
-    let number = f.there.number in
-    let around = f.there.around in
-    let static : slice_get (static_phases tree plan.cut.marks) f.k ≡ Some (record { what = do_loop head body; around = around }) = f.there.at ∙ ap (λ y. Some (record { what = y; around = around })) what in
-    let good = good_loop (scope_of tree) around number head body (ap (is_good_statement (scope_of tree) around number) (sym what) ∙ f.there.good) in
-    let good_anchor = good_each (length tree.params) plan.cut.marks (static_phases tree plan.cut.marks) plan.anchors f.k (record { what = do_loop head body; around = around }) a.0 parts.good_anchors static (ap (slice_get plan.anchors) (sym index) ∙ a.1) in
-    let names = (and_parts (names_only (length tree.params) (own_loops plan.cut.marks (do_loop head body) around) a.0.form) (has_places a.0.dist) good_anchor).0 in
-    let low = own_low number around (is_doall (mark_of plan.cut.marks head.number)) head.number good.number f.there.below in
-    let loops = with_loop v.loops head.number x in
-    All-weaker (λ (i : Instance). AgreeBelow (number + 1 - 1) i.loops loops) (λ (i : Instance). phase_owner tree plan v i.loops ≡ phase_owner tree plan v loops)
-    (λ i agree.
-    let value = form_agrees (length tree.params) number (own_loops plan.cut.marks (do_loop head body) around) a.0.form params i.loops loops f.there.low low names (λ j lt. agree j (omega (arith, lt))) in
-    ap (λ o. owner_by o plan.workers i.loops params) a.1 ∙ ap (λ z. count_of (dealt a.0.dist plan.workers z)) value ∙ sym (ap (λ o. owner_by o plan.workers loops params) a.1))
-    (instances_in params body v.first loops) (agree_in params (scope_of tree) (head.number ∷ around) (number + 1) body v.first loops good.inside (omega arith))
-
 -- ---- a trip
 
 by_recursion : {X Y : Type 0} (P : X → Type 0) (Q : Y → Type 0) (f : X → Y) (xs : List X) → ((x : X) → P x → Q (f x)) → All P xs → AllByRecursion Q (map f xs)
@@ -142,7 +67,7 @@ module _ (tree : Tree) (plan : Plan) (e : ℕ) (v : Visit) (formed : IsWellForme
 
   -- a list of instances of one owner, where each private scalar is stored first
   module _ (is : List Instance) (p : ℕ) (owners : All (λ (i : Instance). phase_owner tree plan v i.loops ≡ p) is) (fine : All (IsFineIn tree plan v) is)
-      (first : (u : ℕ) → Contains (own_loop tree plan v.place).privates u → (n : ℕ) × (body : Statements) × (loops : List ℤ) × StoresFirst u n body loops is) where
+      (first : (u : ℕ) → Contains (own_loop tree plan v.place).privates u → (n : ℕ) × StoresFirst u n is) where
     no_loads : (u : ℕ) → IsScalar tree u → (i : Instance) → IsFineIn tree plan v i → list_any (is_of u) (loads_in_work i.what) ≡ false → Contains (loads_of tree i) (first_cell tree u) → ⊥
     no_loads u scalar i f none among = true≢false (sym (load_is tree formed f.good.around i.loops u scalar i.what f.good.good f.inside among) ∙ none)
 
@@ -168,7 +93,7 @@ module _ (tree : Tree) (plan : Plan) (e : ℕ) (v : Visit) (formed : IsWellForme
 
     pub trip : (u : ℕ) → Contains (own_loop tree plan v.place).privates u → IsTrip (own_of tree plan v.place) (first_cell tree u) p (map job_in_phase is)
     trip u among =
-        let s = (first u among).3 in
+        let s = (first u among).1 in
         let scalar = (private_is tree plan v o u among).1 in
         let split_fine = subst (All (IsFineIn tree plan v)) s.split fine in
         let store_fine = All-head (IsFineIn tree plan v) s.store s.after (back_all (IsFineIn tree plan v) s.before (s.store ∷ s.after) split_fine) in

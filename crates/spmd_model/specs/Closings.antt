@@ -1,11 +1,11 @@
 -- Behind the instances of a phase with own scalars: a private scalar's last value is stored to the cell that all share, and each total to a sum scalar's is added to it.
-use Rattle.std.specs.Prelude.{ℕ, ◌-◌, ◌==◌, ◌&&◌, ℤ, pos, Bool, true, false, List, [], ◌∷◌, ◌++◌, Option, Some, None, slice_get, slice_index_or}
+use Rattle.std.specs.Prelude.{ℕ, ◌-◌, ◌==◌, ◌&&◌, ℤ, pos, Bool, true, false, List, [], ◌∷◌, ◌++◌, Option, Some, None, is_none, slice_get, slice_index_or, if◌then◌else◌}
 use Rattle.std.specs.List.{flat_map, list_any, range_with_len}
 use Rattle.std.specs.Option.{option_map}
 use Rattle.nest_tree.specs.Layout.{first_cell}
-use Rattle.nest_tree.specs.Tree.{Statement, do_loop, work, continue, Tree, param_values}
+use Rattle.nest_tree.specs.Tree.{Statement, Statements, do_loop, work, continue, Tree, param_values}
 use Rattle.nest_model.specs.Accesses.{store_of}
-use Rattle.nest_model.specs.Instances.{Instance, head_trips, with_loop}
+use Rattle.nest_model.specs.Instances.{Instance, head_trips, instances_in, with_loop}
 use Rattle.nest_model.specs.Visits.{Visit}
 use Rattle.owner_partition.specs.Owners.{owner_by}
 use Rattle.owner_partition.specs.Phases.{phase_instances}
@@ -44,14 +44,19 @@ totalling o c p true = moves_to true p (own_cell o p c) c ∷ sets_to_zero p (ow
 abbrev pub phase_owner : Tree → Plan → Visit → List ℤ → ℕ
 phase_owner tree plan v loops = owner_by (slice_get plan.anchors (v.place - 1)) plan.workers loops (param_values tree)
 
--- the values of the loops in the last trip of a phase's loop, where it makes one
-abbrev pub last_loops : List ℤ → Statement → List ℤ → Option (List ℤ)
-last_loops params (do_loop head body) loops = option_map (with_loop loops head.number) (last_value (head_trips params head loops))
-last_loops params (work w) loops = None
-last_loops params (continue line) loops = None
+-- values of the loops round a loop's body, where something is executed in it
+abbrev pub executed_at : List ℤ → Statements → ℕ → Option (List ℤ) → Option (List ℤ)
+executed_at params body first None = None
+executed_at params body first (Some loops) = if is_none (slice_get (instances_in params body first loops) 0) then None else Some loops
+
+-- the values of the loops in the last trip of a phase's loop, where it makes one and something is executed in that
+abbrev pub last_loops : List ℤ → Statement → ℕ → List ℤ → Option (List ℤ)
+last_loops params (do_loop head body) first loops = executed_at params body first (option_map (with_loop loops head.number) (last_value (head_trips params head loops)))
+last_loops params (work w) first loops = None
+last_loops params (continue line) first loops = None
 
 abbrev pub last_owner : Tree → Plan → Visit → Option ℕ
-last_owner tree plan v = option_map (phase_owner tree plan v) (last_loops (param_values tree) v.what v.loops)
+last_owner tree plan v = option_map (phase_owner tree plan v) (last_loops (param_values tree) v.what v.first v.loops)
 
 -- an instance of a phase that a processor owns stores to this cell of those that all share
 abbrev pub has_stored : Tree → Plan → Visit → ℕ → ℕ → Bool

@@ -9,6 +9,7 @@ ghost use Rattle.nest_model.specs.Memory as Memory;
 ghost use Rattle.nest_model.specs.Memory.{cell_value, memory_before, output_of};
 ghost use Rattle.sync_plan.specs.Fit.{IsFit};
 ghost use Rattle.sync_plan.specs.Ordered.{IsOrdered as IsOrderedPlan};
+ghost use Rattle.sync_plan.specs.Stored.{AreStoredFirst};
 ghost use Rattle.sync_plan.specs.declared.plan.Plan.{Plan};
 ghost use Rattle.owner_partition.specs.Phases.{Execution, phases};
 ghost use Rattle.spmd_model.specs.Deeds.{can_do, deed_of, deeds_from, did};
@@ -190,10 +191,11 @@ pub fn stored_values()
 /// of the phase, then each instance that it owns, then its closings. Where no loop has own scalars,
 /// and barriers are passed by counters, these are the deeds of the boundary and of the program's
 /// own instances alone. Nobody is behind the last round of a barrier by signals unless all others
-/// are behind their first signal in it. Of a program in range, the cells that all share have its
-/// last memory behind all, and the output is its own; a job that counts as an instance is the one
-/// whose number is that of the instances in front, and each of its loads, but of a sum scalar of
-/// its phase, gives what the program's memory has there in front of it.
+/// are behind their first signal in it. Of a program in range, where the plan has each private
+/// scalar stored first in each trip of its loop, the cells that all share have its last memory
+/// behind all, and the output is its own; a job that counts as an instance is the one whose number
+/// is that of the instances in front, and each of its loads, but of a sum scalar of its phase,
+/// gives what the program's memory has there in front of it.
 pub fn timelines_in_styles()
     ensures sound { (style : Style) → (tree : Tree) → (plan : Plan) → IsWellFormed tree
         → IsFit tree plan → IsSound (machine_by style tree plan) }
@@ -215,13 +217,13 @@ pub fn timelines_in_styles()
         plan) k + rounds_of plan.workers) ≤ at p → acts_in_front (machine_by style tree plan) q
         (part_place (parts_by style tree plan) k) < at q }
     ensures last { (style : Style) → (tree : Tree) → (plan : Plan) → IsWellFormed tree
-        → IsFit tree plan → IsInRange tree → take (cell_count tree)
+        → IsFit tree plan → IsInRange tree → AreStoredFirst tree plan → take (cell_count tree)
         (last_memory (machine_by style tree plan)) ≡ Memory.last_memory tree }
     ensures output { (style : Style) → (tree : Tree) → (plan : Plan) → IsWellFormed tree
-        → IsFit tree plan → IsInRange tree
+        → IsFit tree plan → IsInRange tree → AreStoredFirst tree plan
         → whole_output (machine_by style tree plan) ≡ output_of tree }
     ensures instance { (style : Style) → (tree : Tree) → (plan : Plan) → (place : ℕ) → (j : Job)
-        → IsWellFormed tree → IsFit tree plan → IsInRange tree
+        → IsWellFormed tree → IsFit tree plan → IsInRange tree → AreStoredFirst tree plan
         → slice_get (timeline_by style tree plan) place ≡ Some (job j) → j.counts ≡ 1
         → (x : Execution) × (j ≡ job_under tree plan x) × (slice_get (instances tree)
         (instances_in_front style tree plan place) ≡ Some x.instance) × ((c : ℕ)

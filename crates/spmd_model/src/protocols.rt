@@ -13,6 +13,7 @@ ghost use Rattle.owner_partition.specs.Phases.{phases};
 ghost use Rattle.sync_plan.specs.Boundaries.{gathers};
 ghost use Rattle.sync_plan.specs.Fit.{IsFit};
 ghost use Rattle.sync_plan.specs.Ordered.{IsOrdered};
+ghost use Rattle.sync_plan.specs.Stored.{AreStoredFirst};
 ghost use Rattle.sync_plan.specs.declared.plan.Plan.{Plan};
 ghost use Rattle.spmd_model.specs.Deeds.{Deed, adding, deed_of, printing, storing};
 ghost use Rattle.spmd_model.specs.Lawful.{Moves};
@@ -62,11 +63,13 @@ pub fn values_in_styles()
         × (deed_of (machine_by style tree plan) a ≡ d) }
 {}
 
-/// A load of a cell that all share is of an instance of the program, numbered by how many stand in
-/// front of it, and gives, in the sequential program, what memory in front of that instance has.
+/// Under a plan that has each private scalar stored first in each trip of its loop, a load of a cell
+/// that all share is of an instance of the program, numbered by how many stand in front of it, and
+/// gives, in the sequential program, what memory in front of that instance has.
 pub fn loads_in_styles()
     ensures { (style : Style) → (tree : Tree) → (plan : Plan) → (p n place cell : ℕ)
-        → IsWellFormed tree → IsFit tree plan → IsInRange tree → cell < cell_count tree
+        → IsWellFormed tree → IsFit tree plan → IsInRange tree → AreStoredFirst tree plan
+        → cell < cell_count tree
         → act_at (protocol_by style tree plan) p n ≡ Some (load place cell)
         → (i : Instance)
         × (slice_get (instances tree) (instances_in_front style tree plan place) ≡ Some i)

@@ -21,6 +21,7 @@ use Rattle.owner_partition.specs.Marks.{enters_outer, is_sum_mark, marked}
 use Rattle.owner_partition.specs.declared.cut.Mark.{Mark}
 use Rattle.owner_partition.specs.Phases.{phases}
 use Rattle.nest_walk.proofs.Walks.{few_statements}
+use Rattle.sync_plan.proofs.OwnLoops.{passes_at}
 use Rattle.sync_plan.specs.Fit.{IsFit}
 use Rattle.sync_plan.specs.Own.{OwnLoop, own_loop, own_loop_at, own_loop_of}
 use Rattle.sync_plan.specs.Shape.{static_phases}
@@ -33,7 +34,7 @@ use Rattle.spmd_model.specs.Machines.{is_by_signals}
 use Rattle.spmd_model.specs.MachineDeeds.{HasNoOwn}
 use Rattle.spmd_model.specs.declared.style.Style.{Style}
 use Rattle.spmd_model.specs.declared.style.Style.TheVariants.{Arrive, Dissemination}
-use Rattle.spmd_model.proofs.OwnTexts.{own_in_phase, passes_at, private_is, sum_is}
+use Rattle.spmd_model.proofs.OwnTexts.{own_in_phase, private_is, sum_is}
 use Rattle.styled_turns.specs.StyledTurns.{Standing, behind, ends_loop, ends_phase, has_own, has_signals_at, is_watched, mark_first, mark_place, no_phase}
 use Rattle.styled_turns.specs.StyledLeft.{IsOwnPlace, IsPlaced}
 use Rattle.styled_turns.proofs.ClosingMarks.{behind_length, behind_one, is_at, marks}

@@ -18,7 +18,6 @@ use Rattle.nest_model.specs.Visits.{Visit, stops_in, visits_in, visits_of}
 use Rattle.nest_walk.specs.Walkable.{are_above, are_walkable, is_small_at, is_small_head, is_walkable}
 use Rattle.nest_walk.proofs.Steps.{small_wrapped}
 use Rattle.nest_walk.proofs.Walks.{walkable}
-use Rattle.own_scalars.specs.OwnScalars.{is_private}
 use Rattle.owner_partition.specs.Marks.{enters_outer}
 use Rattle.owner_partition.specs.Owners.{anchor_owner, owner_by}
 use Rattle.owner_partition.specs.Phases.{phase_instances, phases}
@@ -28,16 +27,18 @@ use Rattle.sync_plan.specs.Fit.{IsFit}
 use Rattle.sync_plan.specs.Own.{OwnLoop, own_loop, own_loop_of}
 use Rattle.sync_plan.specs.Shape.{static_phases}
 use Rattle.sync_plan.specs.declared.plan.Plan.{Plan}
-use Rattle.sync_plan.proofs.FitOwners.{agree_in, named_low}
+use Rattle.sync_plan.proofs.FitOwners.{agree_among, named_low}
 use Rattle.sync_plan.proofs.PhasePlaces.{visit_there}
 use Rattle.sync_plan.proofs.ProcessorSets.{range_split}
 use Rattle.own_cells.specs.FinalTrips.{is_past}
-use Rattle.spmd_model.specs.Closings.{last_loops, last_owner, phase_owner}
+use Rattle.spmd_model.specs.Closings.{last_owner, phase_owner}
 use Rattle.spmd_model.specs.Deeds.{owned_by}
 use Rattle.spmd_model.proofs.Deeds.{anchored}
-use Rattle.spmd_model.proofs.LastStores.{last_there, stores_first}
-use Rattle.spmd_model.proofs.OwnTexts.{own_in_phase, private_is}
-use Rattle.spmd_model.proofs.TripJobs.{one_owner}
+use Rattle.spmd_model.proofs.LastOwners.{last_by, last_of, no_last}
+use Rattle.spmd_model.proofs.LastStores.{last_there}
+use Rattle.spmd_model.proofs.OwnTexts.{own_in_phase}
+use Rattle.spmd_model.proofs.Stands.{any_there}
+use Rattle.spmd_model.proofs.TripOwners.{one_owner}
 use Rattle.styled_turns.specs.StyledTurns.{ends_phase}
 use Rattle.styled_turns.proofs.ClosingMarks.{or_none}
 use Rattle.styled_turns.proofs.LastTrips.{not_past, past_last}
@@ -58,16 +59,6 @@ none_from f a zero none = refl
 none_from f a (suc n) none =
     let here : f a ≡ false = ap f (omega arith) ∙ none 0 (omega arith) in
     ap (λ b. b || list_any f (range_with_len (a + 1) n)) here ∙ none_from f (a + 1) n (λ j lt. ap f (omega arith) ∙ none (suc j) (omega (arith, lt)))
-
--- a test that doesn't look at the elements
-any_alike : {X : Type 0} (b : Bool) (xs : List X) → list_any (λ x. b) xs ≡ true → b ≡ true
-any_alike true xs h = refl
-any_alike false [] h = h
-any_alike false (x ∷ xs) h = any_alike false xs h
-
-some_alike : {X : Type 0} (before : List X) (x : X) (after xs : List X) → xs ≡ before ++ x ∷ after → list_any (λ y. true) xs ≡ true
-some_alike [] x after xs is = ap (list_any (λ y. true)) is
-some_alike (z ∷ before) x after xs is = ap (list_any (λ y. true)) is
 
 both_all : {X : Type 0} (P Q : X → Type 0) (xs : List X) → All P xs → All Q xs → All (λ x. P x × Q x) xs
 both_all P Q xs ps qs = λ k d lt. (ps k d lt, qs k d lt)
@@ -138,16 +129,6 @@ small_last tree plan k v head body formed limits at what =
 
 -- ---- an instance of a trip ends the phase where that trip is the last one
 
-body_agrees : (params : List ℤ) (scope : Scope) (around : List ℕ) (number : ℕ) (ss : Statements) (first : ℕ) (loops : List ℤ) → are_good_statements scope around number ss ≡ true → 1 ≤ number →
-    All (λ (i : Instance). (k : ℕ) → k < number - 1 → get_or i.loops k (pos 0) ≡ get_or loops k (pos 0)) (instances_in params ss first loops)
-body_agrees params scope around number done first loops good low = All-nil (λ (i : Instance). (k : ℕ) → k < number - 1 → get_or i.loops k (pos 0) ≡ get_or loops k (pos 0))
-body_agrees params scope around number (next s rest) first loops good low =
-    let both = and_parts (is_good_statement scope around number s) (are_good_statements scope around (number + loops_in s) rest) good in
-    let P = λ (i : Instance). (k : ℕ) → k < number - 1 → get_or i.loops k (pos 0) ≡ get_or loops k (pos 0) in
-    All-append P (instances_of params s first loops) (instances_in params rest (first + works_in s) loops) (agree_in params scope around number s first loops both.0 low)
-    (All-weaker (λ (i : Instance). (k : ℕ) → k < number + loops_in s - 1 → get_or i.loops k (pos 0) ≡ get_or loops k (pos 0)) P (λ i agree k lt. agree k (omega (arith, lt))) (instances_in params rest (first + works_in s) loops)
-    (body_agrees params scope around (number + loops_in s) rest (first + works_in s) loops both.1 (omega (arith, low))))
-
 module _ (tree : Tree) (plan : Plan) (p k : ℕ) (v : Visit) (head : Head) (body : Statements) (formed : IsWellFormed tree) (fits : IsFit tree plan) (limits : IsWithinLimits tree) (at : slice_get (phases tree plan.cut.marks) k ≡ Some v) (what : v.what ≡ do_loop head body) where
   abbrev params : List ℤ
   params = param_values tree
@@ -188,7 +169,7 @@ module _ (tree : Tree) (plan : Plan) (p k : ℕ) (v : Visit) (head : Head) (body
       (λ j lt. agree j (omega (arith, lt)) ∙ get_or-set_other v.loops (head.number - 1) j x (pos 0) (λ e. absurd (omega (arith, e, lt, good.number)))) in
       ap (λ o. ends_phase params o i.loops) static ∙ ap (λ z. is_past z head.step (wrapped (form_value head.m2 i.loops params))) same_value ∙ ap (λ z. is_past x head.step (wrapped z)) same_form
       ∙ ap (is_past x head.step) (small_last tree plan k v head body formed limits at what))
-      (inside x) (body_agrees params (scope_of tree) (head.number ∷ around) (number + 1) body v.first loops good.inside (omega arith))
+      (inside x) (agree_among params (scope_of tree) (head.number ∷ around) (number + 1) body v.first loops good.inside (omega arith))
 
   abbrev mine : Instance → Bool
   mine i = (phase_owner tree plan v i.loops == p) && ends i
@@ -235,45 +216,49 @@ module _ (tree : Tree) (plan : Plan) (p k : ℕ) (v : Visit) (head : Head) (body
       ∙ ap (λ o. list_any (λ (i : Instance). (owner_by o plan.workers i.loops params == p) && ends i) (phase_instances params v)) (sym a.1)
       ∙ ap (list_any mine) all ∙ any_flat mine inside (head_trips params head v.loops) ∙ any_map (λ x. list_any mine (inside x)) trip (range_with_len 0 count)
 
+  split_off : (n : ℕ) → range_with_len 0 (suc n) ≡ range_with_len 0 n ++ n ∷ []
+  split_off n =
+      let one : suc n ≡ n + 1 = omega arith in
+      let index : 0 + n ≡ n = omega arith in
+      ap (range_with_len 0) one ∙ range_split 0 n 1 ∙ ap (λ a. range_with_len 0 n ++ a ∷ []) index
+
   abbrev Keeps : Bool → Type 0
   Keeps b = (b ≡ true → last_owner tree plan v ≡ Some p) × (last_owner tree plan v ≡ Some p → b ≡ true)
 
-  owner_of_last : last_owner tree plan v ≡ option_map (λ x. owner x) (last_value (map trip (range_with_len 0 count)))
-  owner_of_last = ap (λ s. option_map (phase_owner tree plan v) (last_loops params s v.loops)) what ∙ by (last_value (map trip (range_with_len 0 count)))
-    where
-      by : (o : Option ℤ) → option_map (phase_owner tree plan v) (option_map (with_loop v.loops head.number) o) ≡ option_map (λ x. owner x) o
-      by None = refl
-      by (Some x) = refl
-
-  keeps_by : (u n : ℕ) → Contains (own_loop tree plan v.place).privates u → count ≡ n → Keeps (list_any (λ m. list_any mine (inside (trip m))) (range_with_len 0 n))
-  keeps_by u zero among is =
-      let none : last_owner tree plan v ≡ None = owner_of_last ∙ ap (λ n. option_map (λ x. owner x) (last_value (map trip (range_with_len 0 n)))) is in
-      (λ h. absurd (true≢false (sym h)), λ h. absurd (let clash : Some p ≡ None = sym h ∙ none in cc))
-  keeps_by u (suc n) among is =
-      let x = trip n in
-      let one : suc n ≡ n + 1 = omega arith in
-      let index : 0 + n ≡ n = omega arith in
-      let split : range_with_len 0 (suc n) ≡ range_with_len 0 n ++ n ∷ [] = ap (range_with_len 0) one ∙ range_split 0 n 1 ∙ ap (λ a. range_with_len 0 n ++ a ∷ []) index in
-      let last : last_owner tree plan v ≡ Some (owner x) =
-      owner_of_last ∙ ap (λ m. option_map (λ y. owner y) (last_value (map trip (range_with_len 0 m)))) is ∙ ap (λ l. option_map (λ y. owner y) (last_value (map trip l))) split
-      ∙ ap (λ l. option_map (λ y. owner y) (last_value l)) (map_last (range_with_len 0 n)) ∙ ap (option_map (λ y. owner y)) (last_there (map trip (range_with_len 0 n)) x) in
-      let early = none_from (λ m. list_any mine (inside (trip m))) 0 n (λ j lt. let index : 0 + j ≡ j = omega arith in ap (λ m. list_any mine (inside (trip m))) index ∙ none_earlier (trip j)
-      (not_past (form_value head.m1 v.loops params) (form_value head.m2 v.loops params) head.step j (omega (arith, is, lt)) moves)) in
-      let here : past x ≡ true = past_last (form_value head.m1 v.loops params) (form_value head.m2 v.loops params) head.step n (omega (arith, is)) moves in
-      let only : list_any (λ m. list_any mine (inside (trip m))) (range_with_len 0 (suc n)) ≡ list_any (λ (i : Instance). (owner x == p) && past x) (inside x) =
-      ap (list_any (λ m. list_any mine (inside (trip m)))) split ∙ list_any-append (λ m. list_any mine (inside (trip m))) (range_with_len 0 n) (n ∷ []) ∙ ap (λ b. b || (list_any mine (inside x) || false)) early ∙ or_none (list_any mine (inside x)) ∙ trip_has x in (
-        λ h. last ∙ ap Some (eqb-true (owner x) p (and_parts (owner x == p) (past x) (any_alike ((owner x == p) && past x) (inside x) (sym only ∙ h))).0),
-        λ h.
-            let same : Some (owner x) ≡ Some p = sym last ∙ h in
-            let is_p : owner x ≡ p = cc in
-            let private : is_private u body ≡ true = ap (λ (s : Statement). is_private u (own_loop_of plan.cut s).body) (sym what) ∙ (private_is tree plan v (own_in_phase tree plan k v formed fits at) u among).0 in
-            let s = stores_first params u body v.first (with_loop v.loops head.number x) private in
-            only ∙ ap (λ b. list_any (λ (i : Instance). b && past x) (inside x)) (eq-eqb (owner x) p is_p) ∙ ap (λ b. list_any (λ (i : Instance). b) (inside x)) here ∙ some_alike s.before s.store s.after (inside x) s.split,
-      )
+  -- the last of so many trips
+  last_trip : (n : ℕ) → count ≡ suc n → last_value (head_trips params head v.loops) ≡ Some (trip n)
+  last_trip n is = ap (λ m. last_value (map trip (range_with_len 0 m))) is ∙ ap (λ l. last_value (map trip l)) (split_off n) ∙ ap last_value (map_last (range_with_len 0 n)) ∙ last_there (map trip (range_with_len 0 n)) (trip n)
     where
       map_last : (ms : List ℕ) → map trip (ms ++ n ∷ []) ≡ map trip ms ++ trip n ∷ []
       map_last [] = refl
       map_last (m ∷ ms) = ap (λ l. trip m ∷ l) (map_last ms)
+
+  keeps_by : (n : ℕ) → count ≡ n → Keeps (list_any (λ m. list_any mine (inside (trip m))) (range_with_len 0 n))
+  keeps_by zero is =
+      let none : last_owner tree plan v ≡ None = no_last tree plan v head body what (ap (λ n. last_value (map trip (range_with_len 0 n))) is) in
+      (λ h. absurd (true≢false (sym h)), λ h. absurd (let clash : Some p ≡ None = sym h ∙ none in cc))
+  keeps_by (suc n) is =
+      let x = trip n in
+      let early = none_from (λ m. list_any mine (inside (trip m))) 0 n (λ j lt. let index : 0 + j ≡ j = omega arith in ap (λ m. list_any mine (inside (trip m))) index ∙ none_earlier (trip j)
+      (not_past (form_value head.m1 v.loops params) (form_value head.m2 v.loops params) head.step j (omega (arith, is, lt)) moves)) in
+      let here : past x ≡ true = past_last (form_value head.m1 v.loops params) (form_value head.m2 v.loops params) head.step n (omega (arith, is)) moves in
+      let only : list_any (λ m. list_any mine (inside (trip m))) (range_with_len 0 (suc n)) ≡ list_any (λ (i : Instance). (owner x == p) && past x) (inside x) =
+      ap (list_any (λ m. list_any mine (inside (trip m)))) (split_off n) ∙ list_any-append (λ m. list_any mine (inside (trip m))) (range_with_len 0 n) (n ∷ []) ∙ ap (λ b. b || (list_any mine (inside x) || false)) early ∙ or_none (list_any mine (inside x)) ∙ trip_has x in (
+        λ h.
+            let some = any_there (λ (i : Instance). (owner x == p) && past x) (inside x) (sym only ∙ h) in
+            last_by tree plan v head body what x some.0 some.1 (last_trip n is) some.2 ∙ ap Some (eqb-true (owner x) p (and_parts (owner x == p) (past x) some.3).0),
+        λ h.
+            let l = last_of tree plan v head body what p h in
+            let same : Some l.value ≡ Some x = sym l.last ∙ last_trip n is in
+            let value : l.value ≡ x = cc in
+            let is_p : owner x ≡ p = ap owner (sym value) ∙ l.owner in
+            let there : slice_get (inside x) 0 ≡ Some l.instance = ap (λ y. slice_get (inside y) 0) (sym value) ∙ l.at in
+            only ∙ ap (λ b. list_any (λ (i : Instance). b && past x) (inside x)) (eq-eqb (owner x) p is_p) ∙ ap (λ b. list_any (λ (i : Instance). b) (inside x)) here ∙ some_first (inside x) l.instance there,
+      )
+    where
+      some_first : (is : List Instance) (i : Instance) → slice_get is 0 ≡ Some i → list_any (λ (j : Instance). true) is ≡ true
+      some_first [] i at = let clash : None ≡ Some i = at in absurd (cc)
+      some_first (j ∷ is) i at = refl
 
 module _ (tree : Tree) (plan : Plan) (p k : ℕ) (v : Visit) (formed : IsWellFormed tree) (fits : IsFit tree plan) (limits : IsWithinLimits tree) (at : slice_get (phases tree plan.cut.marks) k ≡ Some v) where
   abbrev has_last : Bool
@@ -293,7 +278,7 @@ module _ (tree : Tree) (plan : Plan) (p k : ℕ) (v : Visit) (formed : IsWellFor
       by : (s : Statement) → v.what ≡ s → (has_last ≡ true → last_owner tree plan v ≡ Some p) × (last_owner tree plan v ≡ Some p → has_last ≡ true)
       by (do_loop head body) what =
           let is = keeps_is tree plan p k v head body formed fits limits at what in
-          let both = keeps_by tree plan p k v head body formed fits limits at what u (count tree plan p k v head body formed fits limits at what) among refl in
+          let both = keeps_by tree plan p k v head body formed fits limits at what (count tree plan p k v head body formed fits limits at what) refl in
           (λ h. both.0 (sym is ∙ h), λ h. is ∙ both.1 h)
       by (work w) what = absurd (nobody (work w) u what among refl)
       by (continue line) what = absurd (nobody (continue line) u what among refl)

@@ -1,5 +1,5 @@
 -- A plan of barriers that fits and has no Doall loop is ordered.
-use Rattle.std.proofs.Common.{◌≡◌, ◌≢◌, ◌==◌, ◌||◌, ◌&&◌, not, ℕ, zero, suc, ◌+◌, ◌-◌, ◌<◌, ◌≤◌, ℤ, pos, ◌+ℤ◌, ◌*ℤ◌, nat_lt, Bool, true, false, true≢false, cond, List, [], ◌∷◌, ◌++◌, length, map, get_or, Option, Some, None, if◌then◌else◌, refl, ap, sym, subst, ◌∙◌, inl, inr, arith}
+use Rattle.std.proofs.Common.{◌≡◌, ◌≢◌, ◌==◌, ◌||◌, ◌&&◌, not, ℕ, zero, suc, ◌+◌, ◌-◌, ◌<◌, ◌≤◌, ℤ, pos, ◌+ℤ◌, ◌*ℤ◌, nat_le, nat_lt, Bool, true, false, true≢false, cond, List, [], ◌∷◌, ◌++◌, length, map, get_or, Option, Some, None, if◌then◌else◌, refl, ap, sym, subst, ◌∙◌, inl, inr, arith}
 use Rattle.std.specs.Prelude.{slice_get}
 use Rattle.std.specs.List.{All, Contains, filter, list_all, list_any, range_with_len}
 use Rattle.std.proofs.lemmas.Bool.{and_parts, cases_Bool, cases_eq, cases_lt, eqb-true, ltb-true}
@@ -8,13 +8,15 @@ use Rattle.std.proofs.lemmas.Option.{slice_get-get_or, slice_get_within}
 use Rattle.nest_tree.specs.Form.{Form, dot, form_value, is_form, is_small, numbered, rises_above}
 use Rattle.nest_tree.specs.Layout.{count_of}
 use Rattle.nest_tree.specs.Limits.{no_ends}
-use Rattle.nest_tree.specs.Tree.{Statement, do_loop, work, continue, Tree, param_values}
+use Rattle.nest_tree.specs.Tree.{Head, Statement, Statements, do_loop, work, continue, Tree, param_values}
 use Rattle.nest_tree.specs.WellFormed.{IsWellFormed, is_number_of, names_only, scope_of}
 use Rattle.nest_model.specs.Instances.{Instance}
 use Rattle.nest_model.specs.Visits.{Visit, stops_of}
-use Rattle.nest_walk.specs.Texts.{placed}
+use Rattle.nest_walk.specs.Texts.{Placed, placed}
+use Rattle.own_scalars.specs.OwnScalars.{is_private}
 use Rattle.owner_partition.specs.declared.anchor.Anchor.{Anchor}
 use Rattle.owner_partition.specs.declared.cut.Mark.{Mark}
+use Rattle.owner_partition.specs.Cuts.{privates_of}
 use Rattle.owner_partition.specs.Marks.{enters_outer}
 use Rattle.owner_partition.specs.Owners.{anchor_owner, dealt, owner_by}
 use Rattle.owner_partition.specs.Phases.{Execution, executions, executions_from, phase_instances, phases}
@@ -23,14 +25,16 @@ use Rattle.owner_partition.proofs.Sites.{all_at}
 use Rattle.sync_plan.specs.declared.plan.Kind.{Kind}
 use Rattle.sync_plan.specs.declared.plan.Kind.TheVariants.{Barrier}
 use Rattle.sync_plan.specs.declared.plan.Plan.{Plan}
+use Rattle.sync_plan.specs.declared.plan.Version.{Version}
 use Rattle.sync_plan.specs.Fit.{IsFit}
-use Rattle.sync_plan.specs.Ordered.{Hop, IsOrdered, awaited_in_front, awaited_in, owner_under}
-use Rattle.sync_plan.specs.Shape.{has_places, is_doall, is_good_anchor, mark_of, marked, own_loops, static_phases}
+use Rattle.sync_plan.specs.Ordered.{AreChained, Hop, IsOrdered, awaited_in_front, awaited_in, owner_under}
+use Rattle.sync_plan.specs.Shape.{are_good_privates, do_rise, has_good_privates, has_good_sums, has_places, has_privates, have_good_privates, is_doall, is_good_anchor, mark_of, marked, own_loops, static_phases}
 use Rattle.sync_plan.specs.Waits.{awaited_behind, does_wait_at}
 use Rattle.sync_plan.proofs.Fits.{FitParts, fit_parts}
 use Rattle.sync_plan.proofs.FitOwners.{agree_in, good_each, owners_below}
 use Rattle.sync_plan.proofs.Gets.{get-behind, get-front}
-use Rattle.sync_plan.proofs.PhasePlaces.{IsThereFrom, all_there}
+use Rattle.sync_plan.proofs.OwnLoops.{no_scalars, nothing_in, own_among, passes_at}
+use Rattle.sync_plan.proofs.PhasePlaces.{IsThereFrom, all_there, visit_there}
 
 -- ---- where an execution stands
 
@@ -131,12 +135,15 @@ form_same constants n around f params xs ys low named agree =
     let rising = (and_parts (is_small f.constant) (rises_above 0 f.loops) (and_parts (is_small f.constant && rises_above 0 f.loops) (rises_above 0 f.params) first.0).0).1 in
     ap (λ z. f.constant +ℤ z +ℤ dot f.params params) (dot_same f.loops n xs ys (pairs_above 0 f.loops rising) (pairs_below n around f.loops low first.1) agree)
 
-no_doall : (marks : List Mark) (s : Statement) (around : List ℕ) → All (λ m. is_doall m ≡ false) marks → own_loops marks s around ≡ around
-no_doall marks (do_loop head body) around none = ap (λ b. if b then head.number ∷ around else around) (none_here (slice_get marks (head.number - 1)) refl)
+none_doall : (marks : List Mark) (n : ℕ) → All (λ m. is_doall m ≡ false) marks → is_doall (mark_of marks n) ≡ false
+none_doall marks n none = none_here (slice_get marks (n - 1)) refl
   where
-    none_here : (o : Option Mark) → slice_get marks (head.number - 1) ≡ o → is_doall (mark_of marks head.number) ≡ false
+    none_here : (o : Option Mark) → slice_get marks (n - 1) ≡ o → is_doall (mark_of marks n) ≡ false
     none_here None e = ap (λ o. is_doall (marked o)) e
-    none_here (Some m) e = ap (λ o. is_doall (marked o)) e ∙ all_at (λ m. is_doall m ≡ false) marks (head.number - 1) m none e
+    none_here (Some m) e = ap (λ o. is_doall (marked o)) e ∙ all_at (λ m. is_doall m ≡ false) marks (n - 1) m none e
+
+no_doall : (marks : List Mark) (s : Statement) (around : List ℕ) → All (λ m. is_doall m ≡ false) marks → own_loops marks s around ≡ around
+no_doall marks (do_loop head body) around none = ap (λ b. if b then head.number ∷ around else around) (none_doall marks head.number none)
 no_doall marks (work w) around none = refl
 no_doall marks (continue line) around none = refl
 
@@ -180,8 +187,8 @@ not_equal a b ne = elim (cases_Bool (a == b)) [
   | inr other ↦ other
 ]
 
-pub barriers_order : (tree : Tree) (plan : Plan) → IsWellFormed tree → IsFit tree plan → All (λ k. k ≡ Barrier) plan.kinds → All (λ m. is_doall m ≡ false) plan.cut.marks → IsOrdered tree plan
-barriers_order tree plan formed fits barriers none j k x y lt at at' conflict apart =
+barriers_chain : (tree : Tree) (plan : Plan) → IsWellFormed tree → IsFit tree plan → All (λ k. k ≡ Barrier) plan.kinds → All (λ m. is_doall m ≡ false) plan.cut.marks → AreChained tree plan
+barriers_chain tree plan formed fits barriers none j k x y lt at at' conflict apart =
     let params = param_values tree in
     let vs = phases tree plan.cut.marks in
     let parts = fit_parts tree plan fits in
@@ -228,3 +235,35 @@ barriers_order tree plan formed fits barriers none j k x y lt at at' conflict ap
         let kind_at : slice_get plan.kinds (v.place - 1) ≡ Some Barrier = slice_get-get_or plan.kinds (v.place - 1) Barrier inside ∙ ap Some (All-get_or (λ (z : Kind). z ≡ Barrier) plan.kinds (v.place - 1) Barrier inside barriers) in
         let differ : does_wait_at Barrier 0 p q ≡ true = ap (λ b. not b && true) (not_equal p q (λ e. apart (sym e))) in
         subst (λ o. Contains (awaited_in tree plan p o) q) (sym at_phase) (subst (λ o. Contains (awaited_behind o plan.workers v.loops (param_values tree) p) q) (sym kind_at) (in_filter (does_wait_at Barrier 0 p) 0 plan.workers q (omega arith) (omega (arith, below)) differ))
+
+-- ---- without a Doall loop nothing is private
+
+no_privates : (version : Version) (mark : Mark) (body : Statements) (vs : List ℕ) → is_doall mark ≡ false → are_good_privates version mark body vs ≡ true → vs ≡ []
+no_privates version mark body vs none good =
+    no_scalars vs (by (length vs == 0) (is_doall mark) (has_privates version) (nat_le (length vs) 16) (do_rise 0 vs) (list_all (λ v. is_private v body) vs) none good)
+  where
+    by : (b dealt has few rise all : Bool) → dealt ≡ false → (b || (has && dealt && few && rise && all)) ≡ true → b ≡ true
+    by true dealt has few rise all none e = refl
+    by false dealt has few rise all none e =
+        let a = and_parts (has && dealt && few && rise) all e in
+        let b = and_parts (has && dealt && few) rise a.0 in
+        let c = and_parts (has && dealt) few b.0 in
+        absurd (true≢false (sym (and_parts has dealt c.0).1 ∙ none))
+
+nothing_private : (tree : Tree) (plan : Plan) (k : ℕ) (v : Visit) (head : Head) (body : Statements) → IsWellFormed tree → IsFit tree plan → All (λ m. is_doall m ≡ false) plan.cut.marks → slice_get (phases tree plan.cut.marks) k ≡ Some v → v.what ≡ do_loop head body →
+    privates_of plan.cut.privates head.number ≡ []
+nothing_private tree plan k v head body formed fits none at what =
+    let f = visit_there tree plan.cut.marks k v formed at in
+    let parts = fit_parts tree plan fits in
+    let all = own_among plan.version plan.cut (enters_outer plan.cut.marks) [] tree.items parts.good_sums parts.good_privates in
+    let both = passes_at (λ (p : Placed). has_good_sums plan.version plan.cut.marks p.what && has_good_privates plan.version plan.cut p.what) (placed tree (enters_outer plan.cut.marks)) f.k (record { what = v.what; around = f.there.around }) all f.there.at in
+    let good : has_good_privates plan.version plan.cut (do_loop head body) ≡ true = sym (ap (has_good_privates plan.version plan.cut) what) ∙ (and_parts (has_good_sums plan.version plan.cut.marks v.what) (has_good_privates plan.version plan.cut v.what) both).1 in
+    let mark = mark_of plan.cut.marks head.number in
+    let vs = privates_of plan.cut.privates head.number in
+    no_privates plan.version mark body vs (none_doall plan.cut.marks head.number none) (and_parts (are_good_privates plan.version mark body vs) (have_good_privates plan.version plan.cut body) good).0
+
+pub barriers_order : (tree : Tree) (plan : Plan) → IsWellFormed tree → IsFit tree plan → All (λ k. k ≡ Barrier) plan.kinds → All (λ m. is_doall m ≡ false) plan.cut.marks → IsOrdered tree plan
+barriers_order tree plan formed fits barriers none = record {
+  chained = barriers_chain tree plan formed fits barriers none;
+  stored = λ k v head body x u at what among private. absurd (nothing_in u (subst (λ vs. Contains vs u) (nothing_private tree plan k v head body formed fits none at what) private));
+}

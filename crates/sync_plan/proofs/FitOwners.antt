@@ -1,13 +1,13 @@
 -- Under a plan that fits, owners are processors, and processor 0 owns each PRINT.
 use Rattle.std.proofs.Common.{◌≡◌, ◌==◌, ◌||◌, ◌&&◌, not, ℕ, zero, suc, ◌+◌, ◌-◌, ◌*◌, ◌<◌, ◌≤◌, ℤ, pos, negsuc, ◌≤ℤ◌, ◌+ℤ◌, ◌*ℤ◌, int_le, int_lt, Bool, true, false, true≢false, List, [], ◌∷◌, ◌++◌, length, map, get_or, Option, Some, None, if◌then◌else◌, refl, ap, sym, subst, ◌∙◌, inl, inr, arith}
-use Rattle.std.specs.Prelude.{slice_get}
+use Rattle.std.specs.Prelude.{Contains, slice_get}
 use Rattle.std.specs.List.{All, list_all, list_any}
 use Rattle.std.proofs.Math.Nat.{div-lt_iff_lt-mul}
 use Rattle.std.proofs.lemmas.Bool.{and_parts, cases_Bool, eqb-true, or_parts}
 use Rattle.std.proofs.lemmas.Bool.Decides.{Decides-int_eq}
 use Rattle.std.proofs.lemmas.Int.{ints}
 use Rattle.std.proofs.lemmas.List.{get_or-set_other}
-use Rattle.std.proofs.lemmas.List.Elements.{All-append, All-cons, All-from_get_or, All-head, All-map, All-nil, All-tail, All-weaker}
+use Rattle.std.proofs.lemmas.List.Elements.{All-append, All-cons, All-contains, All-from_get_or, All-head, All-map, All-nil, All-tail, All-weaker}
 use Rattle.nest_tree.specs.Form.{Form, dot, form_value, is_form, numbered}
 use Rattle.nest_tree.specs.Intervals.{ends_of, form_interval, head_interval, with_ends}
 use Rattle.nest_tree.specs.Layout.{count_of}
@@ -38,7 +38,7 @@ use Rattle.sync_plan.specs.Fit.{IsFit, has_print, have_print, is_dealt, is_zero_
 use Rattle.sync_plan.specs.Ordered.{owner_under}
 use Rattle.sync_plan.specs.Shape.{are_good_anchors, has_places, is_doall, is_good_anchor, mark_of, own_loops, static_phases}
 use Rattle.sync_plan.proofs.Fits.{FitParts, fit_parts}
-use Rattle.sync_plan.proofs.PhasePlaces.{AreBelow, IsThereFrom, all_there, all_trips_are, own_ends}
+use Rattle.sync_plan.proofs.PhasePlaces.{AreBelow, IsThereFrom, all_there, all_trips_are, own_ends, visit_there}
 
 -- ---- what stands at a value within the blocks of so many workers is one of theirs
 
@@ -85,7 +85,7 @@ placed_owner params workers phase a ends loops some h none =
 -- ---- inside a trip the loops round it keep their values
 
 -- two lists of values have the first so many in common
-abbrev AgreeBelow : ℕ → List ℤ → List ℤ → Type 0
+abbrev pub AgreeBelow : ℕ → List ℤ → List ℤ → Type 0
 AgreeBelow n xs ys = (k : ℕ) → k < n → get_or xs k (pos 0) ≡ get_or ys k (pos 0)
 
 mutual
@@ -105,7 +105,7 @@ mutual
       elim (is_executed w loops params) as (λ b. All P (if b then here ∷ [] else [])) [ true ↦ All-cons P here [] (λ k lt. refl) (All-nil P) | false ↦ All-nil P ]
   agree_in params scope around number (continue line) first loops good low = All-nil (λ (i : Instance). AgreeBelow (number - 1) i.loops loops)
 
-  agree_among : (params : List ℤ) (scope : Scope) (around : List ℕ) (number : ℕ) (ss : Statements) (first : ℕ) (loops : List ℤ) → are_good_statements scope around number ss ≡ true → 1 ≤ number →
+  pub agree_among : (params : List ℤ) (scope : Scope) (around : List ℕ) (number : ℕ) (ss : Statements) (first : ℕ) (loops : List ℤ) → are_good_statements scope around number ss ≡ true → 1 ≤ number →
       All (λ (i : Instance). AgreeBelow (number - 1) i.loops loops) (instances_in params ss first loops)
   agree_among params scope around number done first loops good low = All-nil (λ (i : Instance). AgreeBelow (number - 1) i.loops loops)
   agree_among params scope around number (next s rest) first loops good low =
@@ -134,7 +134,7 @@ pairs_low n around (p ∷ pairs) low h =
     let parts = and_parts (list_any (λ l. l == p.0) around) (list_all (λ (q : ℕ × ℤ). list_any (λ l. l == q.0) around) pairs) h in
     All-cons (λ (q : ℕ × ℤ). q.0 ≤ n) p pairs (named_low n around p.0 low parts.0) (pairs_low n around pairs low parts.1)
 
-form_agrees : (constants n : ℕ) (around : List ℕ) (f : Form) (params xs ys : List ℤ) → 1 ≤ n → All (λ k. k ≤ n) around → names_only constants around f ≡ true → AgreeBelow n xs ys → form_value f xs params ≡ form_value f ys params
+pub form_agrees : (constants n : ℕ) (around : List ℕ) (f : Form) (params xs ys : List ℤ) → 1 ≤ n → All (λ k. k ≤ n) around → names_only constants around f ≡ true → AgreeBelow n xs ys → form_value f xs params ≡ form_value f ys params
 form_agrees constants n around f params xs ys some low named agree =
     let all = list_all (λ (p : ℕ × ℤ). list_any (λ l. l == p.0) around) f.loops in
     let last = and_parts (is_form f && all) (list_all (λ (p : ℕ × ℤ). is_number_of constants p.0) f.params) named in
@@ -192,25 +192,32 @@ own_low marks number around (do_loop head body) below at =
 own_low marks number around (work w) below at = All-weaker (λ k. k < number) (λ k. k ≤ number) (λ k lt. omega (arith, lt)) around below
 own_low marks number around (continue line) below at = All-weaker (λ k. k < number) (λ k. k ≤ number) (λ k lt. omega (arith, lt)) around below
 
--- the anchor of a phase names one worker for each of its instances
+-- the anchor of a phase names a worker for each trip of its loop
+trips_owned : (params : List ℤ) (scope : Scope) (workers phase number : ℕ) (head : Head) (body : Statements) (loops : List ℤ) (around : List ℕ) (ends : List (ℤ × ℤ)) (a : Anchor) → 1 ≤ workers → IsInEnds ends loops → is_good_statement scope around number (do_loop head body) ≡ true →
+    1 ≤ number → number + loops_in (do_loop head body) ≤ suc (length loops) → misplaced_within params workers phase a (own_ends params ends (do_loop head body)) ≡ None → All (λ v. anchor_owner a workers (with_loop loops head.number v) params < workers) (head_trips params head loops)
+trips_owned params scope workers phase number head body loops around ends a some h good low count placed_is =
+    let t = good_trips params ends loops scope around number head body h (good_loop scope around number head body good) low count in
+    let interval = head_interval params ends head in
+    all_trips_are (λ v. anchor_owner a workers (with_loop loops head.number v) params < workers) params loops head (λ n lt.
+    let v = form_value head.m1 loops params +ℤ (pos n *ℤ head.step) in
+    placed_owner params workers phase a (with_ends ends head.number interval) (with_loop loops head.number v) some (in_ends-step ends loops head.number interval v h t.number (t.between n lt)) placed_is)
+
+-- and for each of its instances
 owned_in : (params : List ℤ) (constants : ℕ) (scope : Scope) (marks : List Mark) (workers phase first number : ℕ) (s : Statement) (loops : List ℤ) (around : List ℕ) (ends : List (ℤ × ℤ)) (a : Anchor) → 1 ≤ workers → IsInEnds ends loops →
     is_good_statement scope around number s ≡ true → AreBelow number around → 1 ≤ number → number + loops_in s ≤ suc (length loops) → misplaced_within params workers phase a (own_ends params ends s) ≡ None → is_good_anchor constants (own_loops marks s around) a ≡ true →
     All (λ (i : Instance). anchor_owner a workers i.loops params < workers) (instances_of params s first loops)
 owned_in params constants scope marks workers phase first number (do_loop head body) loops around ends a some h good below low count placed_is named =
     let g = good_loop scope around number head body good in
-    let t = good_trips params ends loops scope around number head body h g low count in
-    let interval = head_interval params ends head in
     let P = λ (i : Instance). anchor_owner a workers i.loops params < workers in
+    let inside = λ (v : ℤ). instances_in params body first (with_loop loops head.number v) in
     let names = (and_parts (names_only constants (own_loops marks (do_loop head body) around) a.form) (has_places a.dist) named).0 in
     let lower = own_low marks number around (do_loop head body) below (λ head' body' same. head_is head' body' same g.number) in
-    All-flat_map P (λ v. instances_in params body first (with_loop loops head.number v)) (head_trips params head loops) (all_trips_are (λ v. All P (instances_in params body first (with_loop loops head.number v))) params loops head (λ n lt.
-    let v = form_value head.m1 loops params +ℤ (pos n *ℤ head.step) in
+    All-flat_map P inside (head_trips params head loops) (All-weaker (λ v. anchor_owner a workers (with_loop loops head.number v) params < workers) (λ v. All P (inside v)) (λ v owner.
     let next_loops = with_loop loops head.number v in
-    let inside = in_ends-step ends loops head.number interval v h t.number (t.between n lt) in
-    let owner = placed_owner params workers phase a (with_ends ends head.number interval) next_loops some inside placed_is in
     All-weaker (λ (i : Instance). AgreeBelow (number + 1 - 1) i.loops next_loops) P
     (λ i agree. subst (λ z. count_of (dealt a.dist workers z) < workers) (sym (form_agrees constants number (own_loops marks (do_loop head body) around) a.form params i.loops next_loops low lower names (λ k lt'. agree k (omega (arith, lt'))))) owner)
-    (instances_in params body first next_loops) (agree_among params scope (head.number ∷ around) (number + 1) body first next_loops g.inside (omega arith))))
+    (inside v) (agree_among params scope (head.number ∷ around) (number + 1) body first next_loops g.inside (omega arith))) (head_trips params head loops)
+    (trips_owned params scope workers phase number head body loops around ends a some h good low count placed_is))
   where
     head_is : (head' : Head) (body' : Statements) → do_loop head body ≡ do_loop head' body' → head.number ≡ number → head'.number ≡ number
     head_is head' body' same is = let equal : head ≡ head' = cc in ap (λ (x : Head). x.number) (sym equal) ∙ is
@@ -219,6 +226,17 @@ owned_in params constants scope marks workers phase first number (work w) loops 
     let here : Instance = record { statement = first; what = w; loops = loops } in
     elim (is_executed w loops params) as (λ b. All P (if b then here ∷ [] else [])) [ true ↦ All-cons P here [] (placed_owner params workers phase a ends loops some h placed_is) (All-nil P) | false ↦ All-nil P ]
 owned_in params constants scope marks workers phase first number (continue line) loops around ends a some h good below low count placed_is named = All-nil (λ (i : Instance). anchor_owner a workers i.loops params < workers)
+
+-- the anchor of a phase is placed within the intervals of the loops there
+abbrev IsThereIn : Tree → Plan → Visit → Type 0
+IsThereIn tree plan v = IsThereFrom (param_values tree) (scope_of tree) 1 (stops_of (enters_outer plan.cut.marks) tree.items) (placed tree (enters_outer plan.cut.marks)) (ends_among (param_values tree) (enters_outer plan.cut.marks) no_ends tree.items) v
+
+placed_at : (tree : Tree) (plan : Plan) → FitParts tree plan → (v : Visit) (f : IsThereIn tree plan v) (a : Anchor) → slice_get plan.anchors (v.place - 1) ≡ Some a → misplaced_within (param_values tree) plan.workers (1 + f.k) a (own_ends (param_values tree) f.there.ends v.what) ≡ None
+placed_at tree plan parts v f a at =
+    let index : v.place - 1 ≡ f.k = omega (arith, f.place_is) in
+    let anchor_at : slice_get plan.anchors f.k ≡ Some a = ap (slice_get plan.anchors) (sym index) ∙ at in
+    let back : 1 + f.k - 1 ≡ f.k = omega arith in
+    ap (misplaced_at (param_values tree) plan.workers (1 + f.k) a) (sym (ap (phase_ends tree plan.cut.marks) back ∙ f.there.ends_are)) ∙ placed_each tree plan.cut.marks plan.workers 1 plan.anchors (kind_anchors 1 plan.kinds) f.k a parts.placed anchor_at
 
 pub owners_below : (tree : Tree) (plan : Plan) → IsWellFormed tree → IsFit tree plan → All (λ x. owner_under tree plan x < plan.workers) (executions tree plan.cut.marks)
 owners_below tree plan formed fits =
@@ -236,12 +254,30 @@ owners_below tree plan formed fits =
         let t = f.there in
         let index : v.place - 1 ≡ f.k = omega (arith, f.place_is) in
         let anchor_at : slice_get plan.anchors f.k ≡ Some a = ap (slice_get plan.anchors) (sym index) ∙ at in
-        let placed_is = placed_each tree plan.cut.marks plan.workers 1 plan.anchors (kind_anchors 1 plan.kinds) f.k a parts.placed anchor_at in
-        let back : 1 + f.k - 1 ≡ f.k = omega arith in
-        let within : misplaced_within (param_values tree) plan.workers (1 + f.k) a (own_ends (param_values tree) t.ends v.what) ≡ None =
-        ap (misplaced_at (param_values tree) plan.workers (1 + f.k) a) (sym (ap (phase_ends tree plan.cut.marks) back ∙ t.ends_are)) ∙ placed_is in
+        let within = placed_at tree plan parts v f a at in
         owned_in (param_values tree) (length tree.params) (scope_of tree) plan.cut.marks plan.workers (1 + f.k) v.first t.number v.what v.loops t.around t.ends a parts.some t.inside t.good t.below t.low t.count within
         (good_each (length tree.params) plan.cut.marks (static_phases tree plan.cut.marks) plan.anchors f.k (record { what = v.what; around = t.around }) a parts.good_anchors t.at anchor_at)
+
+-- each trip of a phase's loop has one of the processors as its owner, though nothing be executed in it
+pub trip_owner : (tree : Tree) (plan : Plan) (k : ℕ) (v : Visit) (head : Head) (body : Statements) (x : ℤ) → IsWellFormed tree → IsFit tree plan → slice_get (phases tree plan.cut.marks) k ≡ Some v → v.what ≡ do_loop head body → Contains (head_trips (param_values tree) head v.loops) x →
+    owner_by (slice_get plan.anchors (v.place - 1)) plan.workers (with_loop v.loops head.number x) (param_values tree) < plan.workers
+trip_owner tree plan k v head body x formed fits at what among = by (slice_get plan.anchors (v.place - 1)) refl
+  where
+    parts : FitParts tree plan
+    parts = fit_parts tree plan fits
+
+    f : IsThereIn tree plan v
+    f = visit_there tree plan.cut.marks k v formed at
+
+    by : (o : Option Anchor) → slice_get plan.anchors (v.place - 1) ≡ o → owner_by o plan.workers (with_loop v.loops head.number x) (param_values tree) < plan.workers
+    by None at = omega (arith, parts.some)
+    by (Some a) at =
+        let t = f.there in
+        let good : is_good_statement (scope_of tree) t.around t.number (do_loop head body) ≡ true = ap (is_good_statement (scope_of tree) t.around t.number) (sym what) ∙ t.good in
+        let count : t.number + loops_in (do_loop head body) ≤ suc (length v.loops) = subst (λ s. t.number + loops_in s ≤ suc (length v.loops)) what t.count in
+        let within = ap (λ s. misplaced_within (param_values tree) plan.workers (1 + f.k) a (own_ends (param_values tree) t.ends s)) (sym what) ∙ placed_at tree plan parts v f a at in
+        All-contains (λ z. anchor_owner a plan.workers (with_loop v.loops head.number z) (param_values tree) < plan.workers) (head_trips (param_values tree) head v.loops) x
+        (trips_owned (param_values tree) (scope_of tree) plan.workers (1 + f.k) t.number head body v.loops t.around t.ends a parts.some t.inside good t.low count within) among
 
 -- ---- PRINTs
 

@@ -5,5 +5,6 @@ pub mod Fits
 pub mod Gets
 pub mod PhasePlaces
 pub mod FitOwners
+pub mod OwnLoops
 pub mod BarrierOrder
 pub mod OwnVersions

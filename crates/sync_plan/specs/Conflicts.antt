@@ -26,10 +26,16 @@ loads_under tree plan x = map (own_cell (own_of tree plan x.place) (owner_under 
 abbrev pub store_under : Tree → Plan → Execution → Option ℕ
 store_under tree plan x = option_map (own_cell (own_of tree plan x.place) (owner_under tree plan x)) (store_of tree x.instance)
 
--- how many pieces of work stand in front of the first access of a scalar in a loop's body
-abbrev pub works_before : ℕ → Statements → ℕ
-works_before v done = 0
-works_before v (next s rest) = if some_in (has_access v) s then 0 else works_in s + works_before v rest
+-- how many pieces of work stand in front of the first access of a scalar in a statement, and in a loop's body
+abbrev mutual
+  pub works_before_in : ℕ → Statement → ℕ
+  works_before_in v (do_loop head body) = works_before v body
+  works_before_in v (work w) = 0
+  works_before_in v (continue line) = 0
+
+  pub works_before : ℕ → Statements → ℕ
+  works_before v done = 0
+  works_before v (next s rest) = if some_in (has_access v) s then works_before_in v s else works_in s + works_before v rest
 
 -- the number, from 1, of the first piece of work of a static phase: the phases in front of it have all those in front
 abbrev pub first_work : Tree → Plan → ℕ → ℕ

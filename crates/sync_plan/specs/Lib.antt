@@ -3,6 +3,7 @@ pub mod ProcessorSets
 pub mod Waits
 pub mod Own
 pub mod Conflicts
+pub mod Stored
 pub mod WorkedStores
 pub mod Ordered
 pub mod Shape

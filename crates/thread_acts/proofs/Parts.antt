@@ -1,5 +1,6 @@
 -- What the code does in a phase is what the processor does there under the plan.
-use Rattle.std.proofs.Common.{◌≡◌, ◌≢◌, ℕ, ◌+◌, ◌*◌, ◌≤◌, ◌==◌, ◌&&◌, ℤ, pos, Bool, true, false, List, [], ◌++◌, length, map, Option, Some, if◌then◌else◌, refl, ap, ap₂, sym, ◌∙◌}
+use Rattle.std.proofs.Common.{◌≡◌, ◌≢◌, ℕ, ◌+◌, ◌*◌, ◌≤◌, ◌==◌, ◌&&◌, ℤ, pos, Bool, true, false, List, [], ◌∷◌, ◌++◌, length, map, Option, Some, if◌then◌else◌, refl, ap, ap₂, sym, ◌∙◌, arith}
+use Rattle.std.specs.Prelude.{Contains}
 use Rattle.std.specs.List.{flat_map, list_any}
 use Rattle.std.specs.Option.{option_map, option_or}
 use Rattle.std.proofs.lemmas.Bool.{le-leb}
@@ -11,6 +12,7 @@ use Rattle.nest_model.specs.Instances.{Instance, head_trips, instances_in, insta
 use Rattle.nest_model.specs.Visits.{Visit}
 use Rattle.own_scalars.specs.OwnScalars.{sum_scalars}
 use Rattle.owner_partition.specs.declared.anchor.Anchor.{Anchor}
+use Rattle.owner_partition.specs.Cuts.{Cutting, privates_of}
 use Rattle.owner_partition.specs.Marks.{is_sum_mark, mark_of}
 use Rattle.owner_partition.specs.OwnInstances.{own_values}
 use Rattle.owner_partition.specs.Owners.{anchor_owner, own_instances, owner_by}
@@ -36,6 +38,13 @@ few_sums : (b : Bool) (vs : List ℕ) → length (if b then vs else []) ≤ 16 �
 few_sums true vs few = ap (λ (b : Bool). if b then vs else []) (le-leb (length vs) 16 few)
 few_sums false vs few = refl
 
+-- a loop with private scalars executes something in its last trip, if it makes one
+abbrev pub RunsLast : List ℤ → Cutting → Statement → ℕ → List ℤ → Type 0
+RunsLast params cut (do_loop head body) first loops =
+    (u : ℕ) → Contains (privates_of cut.privates head.number) u → last_loops params (do_loop head body) first loops ≡ option_map (with_loop loops head.number) (last_value (head_trips params head loops))
+RunsLast params cut (work w) first loops = Unit {0}
+RunsLast params cut (continue line) first loops = Unit {0}
+
 module _ (table : Table) (tree : Tree) (plan : Plan) (p : ℕ) (turnings : AreTurnings plan.workers table) where
   abbrev t : Thread
   t = thread_of tree plan p
@@ -60,7 +69,7 @@ module _ (table : Table) (tree : Tree) (plan : Plan) (p : ℕ) (turnings : AreTu
   abbrev pub part_by : Option Anchor → OwnLoop → Visit → List Deed
   part_by o l v =
       flat_map (own_deeds tree (own_from l) p) (owned_by tree o plan.workers p v)
-      ++ (flat_map (λ s. kept_by (own_from l) (first_cell tree s) p (option_map (λ ls. owner_by o plan.workers ls params) (last_loops params v.what v.loops))) l.privates
+      ++ (flat_map (λ s. kept_by (own_from l) (first_cell tree s) p (option_map (λ ls. owner_by o plan.workers ls params) (last_loops params v.what v.first v.loops))) l.privates
       ++ flat_map (λ s. totalled_by (own_from l) (first_cell tree s) p (stored_by o v (first_cell tree s))) l.sums)
 
   -- two lists of instances that differ in the numbers of their statements alone
@@ -70,6 +79,11 @@ module _ (table : Table) (tree : Tree) (plan : Plan) (p : ℕ) (turnings : AreTu
   same_stores : (c : ℕ) (xs ys : List Instance) → map blind xs ≡ map blind ys → list_any (λ i. stores_to (store_of tree i) c) xs ≡ list_any (λ i. stores_to (store_of tree i) c) ys
   same_stores c xs ys same =
       sym (any_blind (λ i. stores_to (store_of tree i) c) (λ i. refl) xs) ∙ ap (list_any (λ i. stores_to (store_of tree i) c)) same ∙ any_blind (λ i. stores_to (store_of tree i) c) (λ i. refl) ys
+
+  -- what is kept of private scalars, if there are some
+  same_kept : (own : Own) (x y : Option ℕ) (scalars : List ℕ) → ((u : ℕ) → Contains scalars u → x ≡ y) → flat_map (λ s. kept_by own (first_cell tree s) p x) scalars ≡ flat_map (λ s. kept_by own (first_cell tree s) p y) scalars
+  same_kept own x y [] same = refl
+  same_kept own x y (u ∷ us) same = ap (λ o. flat_map (λ s. kept_by own (first_cell tree s) p o) (u ∷ us)) (same u (0, omega arith, refl))
 
   module _ (a : Anchor) where
     -- a loop's own trips
@@ -86,14 +100,14 @@ module _ (table : Table) (tree : Tree) (plan : Plan) (p : ℕ) (turnings : AreTu
     work_part true s first loops = blind_of params s 1 first loops
     work_part false s first loops = refl
 
-    -- behind a loop's trips
-    closings_part : (head : Head) (body : Statements) (place first : ℕ) (loops : List ℤ) (l : OwnLoop) (finding : Finding) → head.step ≢ pos 0 →
+    -- behind a loop's trips, of which the last executes something where there are private scalars
+    closings_part : (head : Head) (body : Statements) (place first : ℕ) (loops : List ℤ) (l : OwnLoop) (finding : Finding) → head.step ≢ pos 0 → ((u : ℕ) → Contains l.privates u → last_loops params (do_loop head body) first loops ≡ option_map (with_loop loops head.number) (last_value (head_trips params head loops))) →
         let v : Visit = record { place = place; first = first; what = do_loop head body; loops = loops } in
         map blind (instances_found t (trips_of a finding head body l.privates l.sums) loops) ≡ map blind (own_instances params a plan.workers p v) →
         share_closings t (trips_of a finding head body l.privates l.sums) loops
-        ≡ flat_map (λ s. kept_by (own_from l) (first_cell tree s) p (option_map (λ ls. anchor_owner a plan.workers ls params) (last_loops params (do_loop head body) loops))) l.privates
+        ≡ flat_map (λ s. kept_by (own_from l) (first_cell tree s) p (option_map (λ ls. anchor_owner a plan.workers ls params) (last_loops params (do_loop head body) first loops))) l.privates
         ++ flat_map (λ s. totalled_by (own_from l) (first_cell tree s) p (stored_by (Some a) v (first_cell tree s))) l.sums
-    closings_part head body place first loops l finding moves same =
+    closings_part head body place first loops l finding moves runs same =
         let v : Visit = record { place = place; first = first; what = do_loop head body; loops = loops } in
         let share = trips_of a finding head body l.privates l.sums in
         let m1 = form_value head.m1 loops params in
@@ -101,13 +115,15 @@ module _ (table : Table) (tree : Tree) (plan : Plan) (p : ℕ) (turnings : AreTu
         let stored : (c : ℕ) → has_assigned t share loops c ≡ stored_by (Some a) v c = λ c.
         same_stores c (instances_found t share loops) (own_instances params a plan.workers p v) same
         ∙ any_filter (λ (i : Instance). anchor_owner a plan.workers i.loops params == p) (λ i. stores_to (store_of tree i) c) (phase_instances params v) in
-        ap₂ (λ (x y : List Deed). x ++ y) (privates_right t a (own_from l) head loops (last_value (head_trips params head loops)) l.privates (has_trips m1 m2 head.step) refl (last_is m1 m2 head.step moves (has_trips m1 m2 head.step) refl))
+        ap₂ (λ (x y : List Deed). x ++ y) (privates_right t a (own_from l) head loops (last_value (head_trips params head loops)) l.privates (has_trips m1 m2 head.step) refl (last_is m1 m2 head.step moves (has_trips m1 m2 head.step) refl)
+        ∙ same_kept (own_from l) (option_map (λ ls. anchor_owner a plan.workers ls params) (option_map (with_loop loops head.number) (last_value (head_trips params head loops)))) (option_map (λ ls. anchor_owner a plan.workers ls params) (last_loops params (do_loop head body) first loops)) l.privates
+        (λ u among. ap (option_map (λ ls. anchor_owner a plan.workers ls params)) (sym (runs u among))))
         (flat_same (λ s. totalled_by (own_from l) (first_cell tree s) p (has_assigned t share loops (first_cell tree s))) (λ s. totalled_by (own_from l) (first_cell tree s) p (stored_by (Some a) v (first_cell tree s)))
         (λ s. ap (totalled_by (own_from l) (first_cell tree s) p) (stored (first_cell tree s))) l.sums)
 
-    pub share_right : (s : Statement) (place first : ℕ) (loops : List ℤ) → length (own_loop_of plan.cut s).sums ≤ 16 → CanOwn params a plan.workers p s loops →
+    pub share_right : (s : Statement) (place first : ℕ) (loops : List ℤ) → length (own_loop_of plan.cut s).sums ≤ 16 → CanOwn params a plan.workers p s loops → RunsLast params plan.cut s first loops →
         share_deeds t (share_by table plan (Some a) s) loops ≡ part_by (Some a) (own_loop_of plan.cut s) (record { place = place; first = first; what = s; loops = loops })
-    share_right (do_loop head body) place first loops few can =
+    share_right (do_loop head body) place first loops few can runs =
         let v : Visit = record { place = place; first = first; what = do_loop head body; loops = loops } in
         let finding = finding_by table plan.workers a head in
         let l = own_loop_of plan.cut (do_loop head body) in
@@ -116,10 +132,10 @@ module _ (table : Table) (tree : Tree) (plan : Plan) (p : ℕ) (turnings : AreTu
         let same = trips_part head body place first loops l.privates l.sums can in
         ap (λ sums. share_deeds t (trips_of a finding head body l.privates sums) loops) (few_sums (is_sum_mark (mark_of plan.cut.marks head.number)) (sum_scalars body) few)
         ∙ ap₂ (λ (x y : List Deed). x ++ y) (same_deeds (own_from l) (instances_found t (trips_of a finding head body l.privates l.sums) loops) (own_instances params a plan.workers p v) same)
-        (closings_part head body place first loops l finding moves same)
-    share_right (work w) place first loops few can =
+        (closings_part head body place first loops l finding moves runs same)
+    share_right (work w) place first loops few can runs =
         let v : Visit = record { place = place; first = first; what = work w; loops = loops } in
         let b = is_named t a loops in
         ap (λ ds. ds ++ []) (same_deeds (own_for t [] []) (instances_found t (work_of a w) loops) (own_instances params a plan.workers p v)
         (work_part b (work w) first loops ∙ ap (map blind) (sym (own_of_work params a plan.workers p can w first loops))))
-    share_right (continue line) place first loops few can = refl
+    share_right (continue line) place first loops few can runs = refl

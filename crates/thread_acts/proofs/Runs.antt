@@ -17,6 +17,7 @@ use Rattle.spmd_model.specs.declared.style.Style.TheVariants.{Arrive}
 use Rattle.nest_tree.specs.Tree.{Tree}
 use Rattle.nest_tree.specs.WellFormed.{IsWellFormed}
 use Rattle.sync_plan.specs.Fit.{IsFit}
+use Rattle.sync_plan.specs.Stored.{AreStoredFirst}
 use Rattle.sync_plan.specs.declared.plan.Plan.{Plan}
 use Rattle.thread_code.specs.Closed.{AreTurnings}
 use Rattle.thread_code.specs.Code.{Table, codes_of}
@@ -55,15 +56,15 @@ all_below workers order below (n ∷ ns) = All-cons (λ p. p < workers) (order n
 pub order_below : (workers n : ℕ) (order : ℕ → ℕ) → IsFair workers order → All (λ p. p < workers) (first_of order n)
 order_below workers n order fair = all_below workers order fair.below (range_with_len 0 n)
 
-module _ (table : Table) (tree : Tree) (plan : Plan) (turnings : AreTurnings plan.workers table) (formed : IsWellFormed tree) (fits : IsFit tree plan) where
+module _ (table : Table) (tree : Tree) (plan : Plan) (turnings : AreTurnings plan.workers table) (formed : IsWellFormed tree) (fits : IsFit tree plan) (stored : AreStoredFirst tree plan) where
   abbrev m : Machine
   m = machine_by Arrive tree plan
 
   pub same_run : (schedule : List ℕ) → All (λ p. p < plan.workers) schedule → threads_run tree plan (codes_of table tree plan) schedule ≡ run_of m schedule
-  same_run schedule all = run_is m (threads_of tree plan (codes_of table tree plan)) (λ p below. code_acts table tree plan p turnings formed fits below) schedule (first_state m) all
+  same_run schedule all = run_is m (threads_of tree plan (codes_of table tree plan)) (λ p below. code_acts table tree plan p turnings formed fits stored below) schedule (first_state m) all
 
   same_length : (p : ℕ) → p < plan.workers → length (code_deeds tree plan p (codes_of table tree plan)) ≡ length (acts_of m p)
-  same_length p below = long m (threads_of tree plan (codes_of table tree plan)) (λ p below. code_acts table tree plan p turnings formed fits below) p below
+  same_length p below = long m (threads_of tree plan (codes_of table tree plan)) (λ p below. code_acts table tree plan p turnings formed fits stored below) p below
 
   -- all are done where the machine has ended
   pub ended_of : (schedule : List ℕ) → All (λ p. p < plan.workers) schedule → AreDone tree plan (codes_of table tree plan) (threads_run tree plan (codes_of table tree plan) schedule) → IsEnded m (run_of m schedule)
@@ -76,7 +77,7 @@ module _ (table : Table) (tree : Tree) (plan : Plan) (turnings : AreTurnings pla
       next_deed (threads_of tree plan (codes_of table tree plan)) (threads_run tree plan (codes_of table tree plan) schedule) p ≡ option_map (deed_of m) (next_act m (run_of m schedule) p)
   same_next schedule p all below =
       ap (λ s. next_deed (threads_of tree plan (codes_of table tree plan)) s p) (same_run schedule all)
-      ∙ next_is m (threads_of tree plan (codes_of table tree plan)) (λ p below. code_acts table tree plan p turnings formed fits below) (run_of m schedule) p below
+      ∙ next_is m (threads_of tree plan (codes_of table tree plan)) (λ p below. code_acts table tree plan p turnings formed fits stored below) (run_of m schedule) p below
 
   -- where the machine can go on, so can they
   pub goes_of : (schedule : List ℕ) → All (λ p. p < plan.workers) schedule → CanGo m (run_of m schedule) → CanGoOn tree plan (codes_of table tree plan) (threads_run tree plan (codes_of table tree plan) schedule)

@@ -12,6 +12,7 @@ ghost use Rattle.nest_model.specs.Memory.{last_memory, output_of};
 ghost use Rattle.nest_model.specs.Ranges.{IsInRange};
 ghost use Rattle.plan_checker.specs.Accepted.{IsAccepted};
 ghost use Rattle.sync_plan.specs.Fit.{IsFit};
+ghost use Rattle.sync_plan.specs.Stored.{AreStoredFirst};
 ghost use Rattle.sync_plan.specs.declared.plan.Plan.{Plan};
 ghost use Rattle.spmd_model.specs.Deeds.{deed_of};
 ghost use Rattle.spmd_model.specs.Fair.{IsFair, first_of};
@@ -26,31 +27,33 @@ ghost use Rattle.thread_acts.specs.ThreadRuns.{AreDone, CanGoOn, next_deed, thre
 
 use accepted_runs::accepted_plans_run_in_styles;
 
-/// What the code of a program under a plan that fits it does on a processor is, deed by deed, what
-/// the processor's acts do along the plan's timeline: the posts and awaits of each boundary, each
-/// instance that it owns with own cells for the own scalars, and the closings behind them.
+/// What the code of a program does on a processor, under a plan that fits it and has each private
+/// scalar stored first in each trip of its loop, is, deed by deed, what the processor's acts do
+/// along the plan's timeline: the posts and awaits of each boundary, each instance that it owns with
+/// own cells for the own scalars, and the closings behind them.
 pub fn threads_do_their_acts()
     ensures { (table : Table) (tree : Tree) (plan : Plan) (p : ℕ)
-        → AreTurnings plan.workers table → IsWellFormed tree → IsFit tree plan → p < plan.workers
+        → AreTurnings plan.workers table → IsWellFormed tree → IsFit tree plan
+        → AreStoredFirst tree plan → p < plan.workers
         → code_deeds tree plan p (codes_of table tree plan)
         ≡ map (deed_of (machine_by Arrive tree plan)) (acts_of (machine_by Arrive tree plan) p) }
 {}
 
-/// Threads that go through their deeds by the code of a program, in whatever order they come to a
-/// step, are in the state of the machine behind the same order, and the next deed of each is what
-/// the machine's next act does. So under an accepted plan of a well-formed program whose subscripts
+/// Threads that go through their deeds by the code of a program under such a plan, in whatever order
+/// they come to a step, are in the state of the machine behind the same order, and the next deed of
+/// each is what the machine's next act does. So under an accepted plan of a well-formed program whose subscripts
 /// are in range, the output is at all times a front of the sequential one, and where all are done
 /// the cells that all share and the output are the sequential program's; until then some
 /// processor's next deed is possible; and in a fair order all are done behind some number of steps.
 pub fn threads_run_as_the_machine()
     ensures run { (table : Table) (tree : Tree) (plan : Plan) (schedule : List ℕ)
         → AreTurnings plan.workers table → IsWellFormed tree → IsFit tree plan
-        → All (λ p. p < plan.workers) schedule
+        → AreStoredFirst tree plan → All (λ p. p < plan.workers) schedule
         → threads_run tree plan (codes_of table tree plan) schedule
         ≡ run_of (machine_by Arrive tree plan) schedule }
     ensures next { (table : Table) (tree : Tree) (plan : Plan) (schedule : List ℕ) (p : ℕ)
         → AreTurnings plan.workers table → IsWellFormed tree → IsFit tree plan
-        → All (λ q. q < plan.workers) schedule → p < plan.workers
+        → AreStoredFirst tree plan → All (λ q. q < plan.workers) schedule → p < plan.workers
         → next_deed (threads_of tree plan (codes_of table tree plan)) (threads_run tree plan
         (codes_of table tree plan) schedule) p ≡ option_map (deed_of (machine_by Arrive tree plan))
         (next_act (machine_by Arrive tree plan) (run_of (machine_by Arrive tree plan) schedule)

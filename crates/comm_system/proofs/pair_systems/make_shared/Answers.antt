@@ -36,8 +36,8 @@ returns-clause-shared c =
     let first = ap (map placed_seen) c.as_slice.ensures.value ∙ owners in
     let second = ap (map placed_seen) c.as_slice-2.ensures.value ∙ owners in
     record {
-      system = shared_system tree plan slot producers pair n (map placed_seen c.as_slice-2.result.now) (order_seen c.in_ok-order.order) (c.is_private_in.result, c.is_private_in-2.result) c.empty-system.result c.push_pair.new.system c.push_owners.new.system c.owners_unknowns.result
-          are second c.in_ok-order.ensures.order (ap₂ (λ x y. (x, y)) c.is_private_in.ensures c.is_private_in-2.ensures) (c.owners_unknowns.ensures.unknowns ∙ ap owners_unknowns first) c.empty-system.ensures c.in_ok-push_pair.ensures c.in_ok-owners.ensures.rows;
+      system = shared_system tree plan slot producers pair n (map placed_seen c.as_slice-2.result.now) (order_seen c.in_ok-order.order) (c.last_in.result, c.last_in-2.result) c.empty-system.result c.push_pair.new.system c.push_owners.new.system c.owners_unknowns.result
+          are second c.in_ok-order.ensures.order (ap₂ (λ x y. (x, y)) c.last_in.ensures c.last_in-2.ensures) (c.owners_unknowns.ensures.unknowns ∙ ap owners_unknowns first) c.empty-system.ensures c.in_ok-push_pair.ensures c.in_ok-owners.ensures.rows;
       owners = c.in_ok-owners.ensures.numbers ∙ shared_numbers tree plan slot producers pair n (map placed_seen c.as_slice-2.result.now) are second;
       owned =
           let count = c.owners_unknowns.ensures.unknowns ∙ ap owners_unknowns first in

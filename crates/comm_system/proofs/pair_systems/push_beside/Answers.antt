@@ -1,5 +1,5 @@
-use Rattle.std.proofs.Common.{◌≡◌, ◌+◌, ◌++◌, ◌∷◌, [], drop, get_or, map, negsuc, ap, sym, ◌∙◌}
-use Rattle.comm_system.specs.OwnerRows.{beside, sign_of}
+use Rattle.std.proofs.Common.{◌+◌, ◌++◌, ◌∷◌, [], drop, get_or, map, negsuc, ap, sym, ◌∙◌}
+use Rattle.comm_system.specs.OwnerRows.{beside}
 use Rattle.comm_system.specs.PairRows.{apart}
 use Rattle.comm_system.specs.PieceViews.{direction_seen}
 use Rattle.comm_system.proofs.Growings.{apart-named, behind-more, behind-none, has-at, has-grown}

@@ -1,4 +1,4 @@
-use Rattle.std.proofs.Common.{ℕ, pos, ap, ◌∙◌}
+use Rattle.std.proofs.Common.{pos, ap, ◌∙◌}
 use Rattle.farkas_cert.specs.Inequalities.{Inequalities}
 use Rattle.conflict_rules.specs.References.{variable_of}
 use Rattle.comm_system.specs.Seen.{pair_of}

@@ -1,11 +1,14 @@
-use Rattle.std.proofs.Common.{◌≡◌, ap, sym, ◌∙◌, subst}
+use Rattle.std.proofs.Common.{◌≡◌, [], ◌∷◌, ◌++◌, ap, sym, ◌∙◌, subst}
 use Rattle.std.specs.Prelude.{IfOk}
 use Rattle.nest_tree.specs.Prints.{have_print}
 use Rattle.nest_tree.specs.View.{statements_from, tree_of}
 use Rattle.plan_maker.specs.Bars.{loop_prints}
 use Rattle.plan_maker.specs.Loops.{IsLoopVerdict}
 use Rattle.maker_marks.specs.Tries.{body_among, nest_body}
-use Rattle.plan_maker.proofs.Attempts.{body_there}
+use Rattle.maker_marks.specs.declared.tries.Tried.TheVariants.{Doall}
+use Rattle.plan_maker.specs.declared.reasons.Bar.TheVariants.{Print}
+use Rattle.plan_maker.specs.declared.reasons.LoopReason.{LoopReason}
+use Rattle.plan_maker.proofs.Attempts.{body_there, print_bars}
 use Rattle.plan_maker.proofs.loops.judge_loop.Goals as goal
 use Rattle.plan_maker.proofs.loops.judge_loop.Goals.{After-have_print}
 
@@ -27,3 +30,9 @@ judge_tries-requires-clause-silent c =
 
 pub returns-then-not-have_print : goal.returns-then-not-have_print
 returns-then-not-have_print c = subst (λ n. IfOk c.judge_tries.result (IsLoopVerdict (tree_of c.args.program.now) n)) c.nest_of-nest.ensures.number c.judge_tries.ensures
+
+pub returns : goal.returns
+returns c =
+    let a = (goal.at.returns c).After-have_print in
+    let reason : LoopReason = record { number = c.args.number; tried = Doall; bar = Print } in
+    print_bars (tree_of c.args.program.now) c.args.number _ (prints-as a ∙ c.if-not-have_print.false) (c.in_ok-push.ensures.items ∙ ap (λ xs. xs ++ reason ∷ []) c.new-reasons.ensures.items)

@@ -28,4 +28,4 @@ pub returns-clause-output : goal.returns-clause-output
 returns-clause-output c = output_by
 
 pub returns-clause-instance : goal.returns-clause-instance
-returns-clause-instance c style tree plan place j formed fits ranges at counts = let x = instance_in style tree plan formed fits ranges place j at counts in (x.execution, x.is, x.at, x.gives)
+returns-clause-instance c style tree plan place j formed fits ranges stored at counts = let x = instance_in style tree plan formed fits ranges stored place j at counts in (x.execution, x.is, x.at, x.gives)

@@ -39,7 +39,7 @@ returns c =
           let v = c.args.seat.now in
           let run : IsRunnable (tree_given v.home.given) (plan_given v.home.given) = subst (λ (h : Home). IsRunnable (tree_given h.given) (plan_given h.given)) (c.self.view_is ∙ sym c.requires.own) c.self.invariant.runnable in
           let below = subst (λ (x : CellView). c.args.cell < (protocol_at x.home).cells) c.seat.view_is (load_inside k (its_laws k c.self.invariant.laws) c.requires.next.0 c.args.cell (its_next k (load c.requires.next.0 c.args.cell) c.requires.next.1)) in
-          let of = c.loads_in_styles.ensures (style_given v.home.given) (tree_given v.home.given) (plan_given v.home.given) v.processor v.position place c.args.cell run.formed run.fits run.ranges below next in
+          let of = c.loads_in_styles.ensures (style_given v.home.given) (tree_given v.home.given) (plan_given v.home.given) v.processor v.position place c.args.cell run.formed run.fits run.ranges run.ordered.stored below next in
           (of.0, of.1, of.2, value ∙ of.3);
       goes = gone_here k c.load.ensures.0 (ap (λ (x : View × List (ℕ × ℕ)). x.0) c.load.ensures.2.0);
     }
