@@ -1,6 +1,6 @@
 -- A run of a schedule under an accepted plan, in either style.
 use Rattle.std.proofs.Common.{◌≡◌, ℕ, ◌<◌, ◌++◌, List, Some, ◌∙◌, ap, arith, subst}
-use Rattle.std.specs.Prelude.{All, Contains, Bool, false, slice_get, take, ◌⊎◌}
+use Rattle.std.specs.Prelude.{All, Contains, false, slice_get, take, ◌⊎◌}
 use Rattle.nest_tree.specs.Layout.{cell_count}
 use Rattle.nest_tree.specs.Tree.{Tree}
 use Rattle.nest_tree.specs.WellFormed.{IsWellFormed}

@@ -13,7 +13,8 @@ use std::sync::ledger::Ledger;
 #[inline(always)]
 fn small_exact_quotient(number: i64, divisor: i64) -> Option<i128>
     requires { pos 1 ≤ℤ divisor }
-    ensures { result ≡ (if int_eq (int_rem number divisor) (pos 0) then Some (int_div number divisor) else None) }
+    ensures { result ≡ (if int_eq (int_rem number divisor) (pos 0) then Some
+        (int_div number divisor) else None) }
 {
     if number % divisor == 0 {
         Some(i128::from(number / divisor))
@@ -25,7 +26,8 @@ fn small_exact_quotient(number: i64, divisor: i64) -> Option<i128>
 // The quotient of any two numbers, if nothing remains.
 fn wide_exact_quotient(number: i128, divisor: i128) -> Option<i128>
     requires { pos 1 ≤ℤ divisor }
-    ensures { result ≡ (if int_eq (int_rem number divisor) (pos 0) then Some (int_div number divisor) else None) }
+    ensures { result ≡ (if int_eq (int_rem number divisor) (pos 0) then Some
+        (int_div number divisor) else None) }
 {
     let rest = number % divisor;
     if rest == 0 {
@@ -40,7 +42,8 @@ fn wide_exact_quotient(number: i128, divisor: i128) -> Option<i128>
 #[tactic(auto, using(crate::proofs::ByOne::exact_by_one))]
 fn exact_quotient<L: Ledger>(number: i128, divisor: i128, steps: &mut Steps<L>) -> Option<i128>
     requires { pos 1 ≤ℤ divisor }
-    ensures quotient { result ≡ (if int_eq (int_rem number divisor) (pos 0) then Some (int_div number divisor) else None) }
+    ensures quotient { result ≡ (if int_eq (int_rem number divisor) (pos 0) then Some
+        (int_div number divisor) else None) }
     ensures counted { steps.new ≡ steps.old + 1 }
 {
     steps.tick();

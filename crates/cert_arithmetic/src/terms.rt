@@ -32,7 +32,8 @@ pub fn with_product<L: Ledger>(
     entry: i128,
     steps: &mut Steps<L>,
 ) -> Option<i128>
-    ensures sum { let product = multiplier *ℤ entry in result ≡ (if narrow product && narrow (sum +ℤ product) then Some (sum +ℤ product) else None) }
+    ensures sum { let product = multiplier *ℤ entry in result ≡ (if narrow product
+        && narrow (sum +ℤ product) then Some (sum +ℤ product) else None) }
     ensures counted { steps.new ≡ steps.old + 1 }
 {
     steps.tick();

@@ -78,7 +78,8 @@ fn block_ends(alloc: Global, q: u32, placed: Placed, block: u32) -> Result<Const
         ≡ record {
           terms = with_sign Plus
               (terms_of placed.entry.first
-              (heads_of placed.entry.around.now) placed.entry.anchor.now.form) ++ (q, neg_ℤ (pos block))
+              (heads_of placed.entry.around.now) placed.entry.anchor.now.form)
+              ++ (q, neg_ℤ (pos block))
               ∷ [];
           bound = pos block -ℤ pos 1 -ℤ placed.entry.anchor.now.form.constant;
         }) }

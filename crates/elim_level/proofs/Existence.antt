@@ -1,12 +1,8 @@
 -- Greatest common divisors, and the multipliers and divisors that come of them.
-use Rattle.std.proofs.Common.{◌≡◌, ℕ, zero, suc, ◌/◌, ◌%◌, ◌≤◌, ◌<◌, max, ℤ, pos, negsuc, neg_ℤ, ◌+ℤ◌, ◌*ℤ◌, ◌≤ℤ◌, ◌<ℤ◌, int_div, unsigned_abs, ⊎_elim, inl, inr, List, map, length, get_or, refl, ap, sym, ◌∙◌, subst, arith}
-use Rattle.std.specs.Int.{IsGcd, int_div_euclid}
-use Rattle.std.specs.List.{All, Contains}
-use Rattle.std.proofs.Math.Nat.{one-dvd, mul-div_cancel'}
-use Rattle.std.proofs.lemmas.Int.{ints}
+use Rattle.std.proofs.Common.{◌≡◌, ℕ, zero, suc, ◌/◌, ◌%◌, ◌≤◌, ◌<◌, max, ℤ, pos, ◌<ℤ◌, unsigned_abs, List, get_or, refl, sym, subst, arith}
+use Rattle.std.specs.Int.{IsGcd}
+use Rattle.std.proofs.Math.Nat.{one-dvd}
 use Rattle.std.proofs.lemmas.Nat.Gcd.{IsGcd-from_zero, IsGcd-from_mod}
-use Rattle.std.proofs.lemmas.List.Elements.{All-contains, Contains-get_or}
-use Rattle.std.proofs.Math.IntN.{*ℤ_comm, *ℤ-zero, pos-*ℤ-pos}
 use Rattle.farkas_cert.specs.declared.system.Row.{Row}
 use Rattle.elim_rows.specs.Reduction.{DividesEach}
 use Rattle.elim_rows.specs.Pairs.{coef_of, IsPair}

@@ -1,10 +1,6 @@
 -- There is one reduced form of a row, and one pair of least multipliers.
-use Rattle.std.proofs.Common.{◌≡◌, ℕ, suc, ◌/◌, max, ℤ, pos, ◌<ℤ◌, unsigned_abs, slice_index, ⊎_elim, inl, inr, List, get_or, ap, sym, ◌∙◌, subst, arith}
-use Rattle.std.specs.List.{All, AllPairs, Contains}
-use Rattle.std.proofs.lemmas.Int.{ints}
+use Rattle.std.proofs.Common.{◌≡◌, ℕ, ◌/◌, max, ℤ, pos, unsigned_abs, ap, sym, ◌∙◌}
 use Rattle.std.proofs.lemmas.Nat.Gcd.{dvd_antisymm, same_from_IsGcd}
-use Rattle.std.proofs.lemmas.List.{get_or_default}
-use Rattle.std.proofs.lemmas.List.Elements.{All-contains}
 use Rattle.farkas_cert.specs.declared.system.Row.{Row}
 use Rattle.elim_rows.specs.Reduction.{IsReduced, divided}
 use Rattle.elim_rows.specs.Pairs.{coef_of, IsPair}

@@ -1,6 +1,6 @@
 -- Lists of rows that hold a level.
-use Rattle.std.specs.Prelude.{pos, ◌≤ℤ◌, ◌<ℤ◌, List, [], ◌∷◌, ◌++◌, ◌⊎◌, ◌≡◌}
-use Rattle.std.specs.List.{All, AllPairs, Contains}
+use Rattle.std.specs.Prelude.{pos, ◌<ℤ◌, List, ◌≡◌}
+use Rattle.std.specs.List.{All, AllPairs}
 use Rattle.farkas_cert.specs.declared.system.Row.{Row}
 use Rattle.elim_rows.specs.Reduction.{IsReduced}
 use Rattle.elim_rows.specs.Candidates.{IsEmpty, Covers}

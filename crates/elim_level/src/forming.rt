@@ -40,13 +40,19 @@ pub struct BySign {
 fn place(split: &mut BySign, held: Held, link: Link, variable: u32) -> Result<(), AllocError>
     requires from_one { 1 ≤ variable }
     requires known { variable ≤ length held.row.coefs }
-    requires table { IsTable (rows_among split.old.apart.rows.items) split.old.apart.chains.links.items split.old.apart.chains.latest.items }
+    requires table { IsTable (rows_among split.old.apart.rows.items)
+        split.old.apart.chains.links.items split.old.apart.chains.latest.items }
     requires hash { link.hash ≡ hash_by held.row.coefs }
-    requires distinct { All (λ r. r.coefs ≡ held.row.coefs → ⊥) (rows_among split.old.apart.rows.items) }
-    ensures table { OnOk result (IsTable (rows_among split.new.apart.rows.items) split.new.apart.chains.links.items split.new.apart.chains.latest.items) }
-    ensures apart { OnOk result (split.new.apart.rows.items ≡ split.old.apart.rows.items ++ map candidate_of (filter (λ h. int_eq (coef variable h.row) (pos 0)) (held ∷ []))) }
-    ensures uppers { OnOk result (split.new.uppers.items ≡ split.old.uppers.items ++ filter (λ h. int_lt (pos 0) (coef variable h.row)) (held ∷ [])) }
-    ensures lowers { OnOk result (split.new.lowers.items ≡ split.old.lowers.items ++ filter (λ h. int_lt (coef variable h.row) (pos 0)) (held ∷ [])) }
+    requires distinct { All (λ r. r.coefs ≡ held.row.coefs
+        → ⊥) (rows_among split.old.apart.rows.items) }
+    ensures table { OnOk result (IsTable (rows_among split.new.apart.rows.items)
+        split.new.apart.chains.links.items split.new.apart.chains.latest.items) }
+    ensures apart { OnOk result (split.new.apart.rows.items ≡ split.old.apart.rows.items
+        ++ map candidate_of (filter (λ h. int_eq (coef variable h.row) (pos 0)) (held ∷ []))) }
+    ensures uppers { OnOk result (split.new.uppers.items ≡ split.old.uppers.items
+        ++ filter (λ h. int_lt (pos 0) (coef variable h.row)) (held ∷ [])) }
+    ensures lowers { OnOk result (split.new.lowers.items ≡ split.old.lowers.items
+        ++ filter (λ h. int_lt (coef variable h.row) (pos 0)) (held ∷ [])) }
 {
     let coef = coef_of(&held.row, variable);
     if coef == 0 {
@@ -79,9 +85,12 @@ pub fn split_by_sign(
     requires from_one { 1 ≤ variable }
     requires known { All (λ h. variable ≤ length h.row.coefs) level.items }
     requires table { IsTable (rows_of level.items) chains.now.links.items chains.now.latest.items }
-    ensures table { IfOk result (λ split. IsTable (rows_among split.apart.rows.items) split.apart.chains.links.items split.apart.chains.latest.items) }
-    ensures apart { IfOk result (λ split. split.apart.rows.items ≡ map candidate_of (apart_of variable level.items)) }
-    ensures split { IfOk result (λ split. IsSplit variable level.items split.uppers.items split.lowers.items) }
+    ensures table { IfOk result (λ split. IsTable (rows_among split.apart.rows.items)
+        split.apart.chains.links.items split.apart.chains.latest.items) }
+    ensures apart { IfOk result (λ split. split.apart.rows.items
+        ≡ map candidate_of (apart_of variable level.items)) }
+    ensures split { IfOk result (λ split. IsSplit variable level.items split.uppers.items
+        split.lowers.items) }
 {
     let mut split = BySign {
         apart: Table::new(alloc, places_after(level.len()), level.len())?,
@@ -106,7 +115,8 @@ fn paired(
 ) -> Result<(i128, Origin), AllocError>
     requires opposed { IsOpposed variable upper.now.row lower.now.row }
     requires narrow { IsNarrowPair variable upper.now.row lower.now.row }
-    ensures made { IfOk result (λ p. IsMade variable upper.now lower.now (candidate_with coefs.new.items p.0 p.1)) }
+    ensures made { IfOk result (λ p. IsMade variable upper.now lower.now
+        (candidate_with coefs.new.items p.0 p.1)) }
     ensures narrow { OnOk result (All (λ a. IsTrue (narrow a)) coefs.new.items) }
 {
     let (m, n) = multipliers_of(&upper.row, &lower.row, variable);
@@ -130,11 +140,14 @@ fn join_pair(
     lower: &Held,
     variable: u32,
 ) -> Result<(), AllocError>
-    requires table { IsTable (rows_among table.old.rows.items) table.old.chains.links.items table.old.chains.latest.items }
+    requires table { IsTable (rows_among table.old.rows.items) table.old.chains.links.items
+        table.old.chains.latest.items }
     requires opposed { IsOpposed variable upper.now.row lower.now.row }
     requires narrow { IsNarrowPair variable upper.now.row lower.now.row }
-    ensures table { OnOk result (IsTable (rows_among table.new.rows.items) table.new.chains.links.items table.new.chains.latest.items) }
-    ensures joined { OnOk result (IsJoined variable upper.now (lower.now ∷ []) table.old.rows.items table.new.rows.items) }
+    ensures table { OnOk result (IsTable (rows_among table.new.rows.items)
+        table.new.chains.links.items table.new.chains.latest.items) }
+    ensures joined { OnOk result (IsJoined variable upper.now (lower.now ∷ []) table.old.rows.items
+        table.new.rows.items) }
 {
     let (bound, origin) = paired(upper, lower, variable, coefs)?;
     table.put(alloc, coefs.as_slice(), bound, origin)?;
@@ -151,11 +164,14 @@ fn join_pairs(
     lowers: &[Held],
     variable: u32,
 ) -> Result<bool, AllocError>
-    requires table { IsTable (rows_among table.old.rows.items) table.old.chains.links.items table.old.chains.latest.items }
+    requires table { IsTable (rows_among table.old.rows.items) table.old.chains.links.items
+        table.old.chains.latest.items }
     requires opposed { All (λ l. IsOpposed variable upper.now.row l.row) lowers.now }
     requires narrow { All (λ l. IsNarrowPair variable upper.now.row l.row) lowers.now }
-    ensures table { OnOk result (IsTable (rows_among table.new.rows.items) table.new.chains.links.items table.new.chains.latest.items) }
-    ensures joined { IfOk result (λ whole. MatchBool whole (IsJoined variable upper.now lowers.now table.old.rows.items table.new.rows.items)
+    ensures table { OnOk result (IsTable (rows_among table.new.rows.items)
+        table.new.chains.links.items table.new.chains.latest.items) }
+    ensures joined { IfOk result (λ whole. MatchBool whole (IsJoined variable upper.now lowers.now
+        table.old.rows.items table.new.rows.items)
         (HasApart 20000 (IsJoint variable upper.now lowers.now table.old.rows.items))) }
 {
     for lower in lowers {
@@ -184,11 +200,15 @@ pub fn join_all(
     lowers: &[Held],
     variable: u32,
 ) -> Result<bool, AllocError>
-    requires table { IsTable (rows_among table.old.rows.items) table.old.chains.links.items table.old.chains.latest.items }
+    requires table { IsTable (rows_among table.old.rows.items) table.old.chains.links.items
+        table.old.chains.latest.items }
     requires opposed { All (λ u. All (λ l. IsOpposed variable u.row l.row) lowers.now) uppers.now }
-    requires narrow { All (λ u. All (λ l. IsNarrowPair variable u.row l.row) lowers.now) uppers.now }
-    ensures table { OnOk result (IsTable (rows_among table.new.rows.items) table.new.chains.links.items table.new.chains.latest.items) }
-    ensures joined { IfOk result (λ whole. (apart : List HeldRow) → IsGathered variable apart [] lowers.now table.old.rows.items →
+    requires narrow { All (λ u. All (λ l. IsNarrowPair variable u.row l.row) lowers.now)
+        uppers.now }
+    ensures table { OnOk result (IsTable (rows_among table.new.rows.items)
+        table.new.chains.links.items table.new.chains.latest.items) }
+    ensures joined { IfOk result (λ whole. (apart : List HeldRow)
+        → IsGathered variable apart [] lowers.now table.old.rows.items →
         MatchBool whole (IsGathered variable apart uppers.now lowers.now table.new.rows.items) (HasApart 20000 (IsSource variable apart uppers.now lowers.now))) }
 {
     let mut coefs = Vec::with_capacity(alloc, width_of(uppers))?;

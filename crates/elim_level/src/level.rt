@@ -96,11 +96,16 @@ pub fn put_given(
     row: &Row,
     number: u64,
 ) -> Result<(), AllocError>
-    requires table { IsTable (rows_among table.old.rows.items) table.old.chains.links.items table.old.chains.latest.items }
+    requires table { IsTable (rows_among table.old.rows.items) table.old.chains.links.items
+        table.old.chains.latest.items }
     requires narrow { All (λ a. IsTrue (narrow a)) row.now.coefs }
-    ensures table { OnOk result (IsTable (rows_among table.new.rows.items) table.new.chains.links.items table.new.chains.latest.items) }
-    ensures put { OnOk result ((candidate : CandidateOf) × IsPut table.old.rows.items candidate table.new.rows.items × IsReduced row.now candidate.row
-        × ((system : Inequalities) (log : List Steps) → IsSuited system.vars row.now → IsNumber (all_rows system log) number row.now → IsFounded system log candidate)) }
+    ensures table { OnOk result (IsTable (rows_among table.new.rows.items)
+        table.new.chains.links.items table.new.chains.latest.items) }
+    ensures put { OnOk result ((candidate : CandidateOf)
+        × IsPut table.old.rows.items candidate table.new.rows.items
+        × IsReduced row.now candidate.row
+        × ((system : Inequalities) (log : List Steps) → IsSuited system.vars row.now
+        → IsNumber (all_rows system log) number row.now → IsFounded system log candidate)) }
 {
     coefs.clear();
     coefs.extend_from_slice(row.coefs.as_slice())?;
@@ -122,7 +127,8 @@ fn number_of(
 ) -> Result<u64, AllocError>
     requires log { IsLog system.now log.old.items }
     requires founded { IsFounded system.now log.old.items candidate.now }
-    ensures number { IfOk result (λ number. IsNumber (all_rows system.now log.new.items) number candidate.now.row) }
+    ensures number { IfOk result (λ number. IsNumber (all_rows system.now log.new.items) number
+        candidate.now.row) }
     ensures continued { OnOk result (IsContinued log.old.items log.new.items) }
     ensures log { OnOk result (IsLog system.now log.new.items) }
 {
@@ -162,7 +168,8 @@ pub fn numbered(
 fn given_rows(alloc: Global, system: &System) -> Result<Table, AllocError>
     requires { AreNarrow system.now.rows }
     ensures given { IfOk result (λ table. AreGiven system.now system.now.rows table.rows.items) }
-    ensures table { IfOk result (λ table. IsTable (rows_among table.rows.items) table.chains.links.items table.chains.latest.items) }
+    ensures table { IfOk result (λ table. IsTable (rows_among table.rows.items)
+        table.chains.links.items table.chains.latest.items) }
 {
     let count = system.rows().len();
     let mut table = Table::new(alloc, places_for(count), count)?;
@@ -181,8 +188,10 @@ pub fn first_level(
 ) -> Result<HeldRows, AllocError>
     requires fresh { log.old.items ≡ [] }
     requires narrow { AreNarrow system.now.rows }
-    ensures formed { IfOk result (λ level. IsFormed (λ r. Contains system.now.rows r) (rows_of level.rows.items)) }
-    ensures table { IfOk result (λ level. IsTable (rows_of level.rows.items) level.chains.links.items level.chains.latest.items) }
+    ensures formed { IfOk result (λ level. IsFormed (λ r. Contains system.now.rows r)
+        (rows_of level.rows.items)) }
+    ensures table { IfOk result (λ level. IsTable (rows_of level.rows.items)
+        level.chains.links.items level.chains.latest.items) }
     ensures log { OnOk result (IsLog system.now log.new.items) }
     ensures held { IfOk result (λ level. All (IsHeld system.now log.new.items) level.rows.items) }
 {
@@ -203,8 +212,10 @@ pub fn next_level(
     requires log { IsLog system.now log.old.items }
     requires held { All (IsHeld system.now log.old.items) level.rows.items }
     requires useful { All (λ h. IsUseful h.row) level.rows.items }
-    requires table { IsTable (rows_of level.rows.items) level.chains.links.items level.chains.latest.items }
-    ensures next { IfOk result (λ f. IsNext system.now variable (rows_of level.rows.items) log.new.items f) }
+    requires table { IsTable (rows_of level.rows.items) level.chains.links.items
+        level.chains.latest.items }
+    ensures next { IfOk result (λ f. IsNext system.now variable (rows_of level.rows.items)
+        log.new.items f) }
     ensures log { OnOk result (IsLog system.now log.new.items) }
 {
     let HeldRows { rows, chains } = level;

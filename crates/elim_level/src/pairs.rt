@@ -80,7 +80,8 @@ pub fn multipliers_of(upper: &Row, lower: &Row, variable: u32) -> (i128, i128)
 // Whether the pair's least combination is nowhere wide.
 fn is_narrow_pair(upper: &Row, lower: &Row, variable: u32) -> bool
     requires { IsOpposed variable upper.now lower.now }
-    ensures { MatchBool result (IsNarrowPair variable upper.now lower.now) (IsTooWide variable upper.now lower.now) }
+    ensures { MatchBool result (IsNarrowPair variable upper.now lower.now)
+        (IsTooWide variable upper.now lower.now) }
 {
     let (m, n) = multipliers_of(upper, lower, variable);
     is_narrow_combination(m, upper, n, lower)
@@ -112,7 +113,8 @@ struct Sizes {
 // Whether the sizes alone show that the upper row is wide with none of the lower ones.
 fn is_small(upper: &Row, lowers: Sizes, variable: u32) -> bool
     requires { (1 ≤ variable) × (variable ≤ length upper.now.coefs) }
-    ensures { IsTrue result → (lower : Row) → IsWithin lowers.entry lower → unsigned_abs (coef variable lower) ≤ lowers.coef → IsNarrowPair variable upper.now lower }
+    ensures { IsTrue result → (lower : Row) → IsWithin lowers.entry lower
+        → unsigned_abs (coef variable lower) ≤ lowers.coef → IsNarrowPair variable upper.now lower }
 {
     has_half_product(lowers.coef, largest_in(upper))
         && has_half_product(coef_of(upper, variable).unsigned_abs(), lowers.entry)
@@ -129,8 +131,10 @@ pub fn wide_pair<'a>(
     requires uppers_known { All (λ h. variable ≤ length h.row.coefs) uppers.now }
     requires lowers_known { All (λ h. variable ≤ length h.row.coefs) lowers.now }
     requires opposed { All (λ u. All (λ l. IsOpposed variable u.row l.row) lowers.now) uppers.now }
-    ensures { MatchOption result (All (λ u. All (λ l. IsNarrowPair variable u.row l.row) lowers.now) uppers.now)
-        (λ p. Contains uppers.now p.0.now × Contains lowers.now p.1.now × IsTooWide variable p.0.now.row p.1.now.row) }
+    ensures { MatchOption result (All (λ u. All (λ l. IsNarrowPair variable u.row l.row) lowers.now)
+        uppers.now)
+        (λ p. Contains uppers.now p.0.now × Contains lowers.now p.1.now
+        × IsTooWide variable p.0.now.row p.1.now.row) }
 {
     let sizes = Sizes {
         coef: largest_coef(lowers, variable),

@@ -1,24 +1,18 @@
 -- The combination of two rows, entry by entry.
-use Rattle.std.proofs.Common.{◌≡◌, ℕ, zero, suc, ◌+◌, ◌≤◌, ◌<◌, ℤ, pos, negsuc, ◌+ℤ◌, ◌*ℤ◌, Bool, true, false, ◌&&◌, if◌then◌else◌, ◌⊎◌, ⊎_elim, ◌<ℤ◌, ◌/◌, unsigned_abs, Option, Some, None, IsTrue, FitsSigned, List, [], ◌∷◌, length, get_or, drop, add-one, refl, sym, ◌∙◌, arith, ◌-◌, ◌%◌, neg_ℤ, ◌≤ℤ◌, int_div, int_rem, ◌++◌, map, ap, subst, length-append, max, slice_index, replicate}
-use Rattle.std.specs.Int.{IsGcd, w128, int_div_euclid}
+use Rattle.std.proofs.Common.{◌≡◌, ℕ, zero, suc, ◌+◌, ◌≤◌, ◌<◌, ℤ, pos, negsuc, ◌+ℤ◌, ◌*ℤ◌, Bool, true, false, ◌&&◌, if◌then◌else◌, ◌⊎◌, ⊎_elim, ◌<ℤ◌, ◌/◌, unsigned_abs, Option, Some, None, IsTrue, FitsSigned, List, [], ◌∷◌, length, get_or, drop, add-one, refl, sym, ◌∙◌, arith, ◌-◌}
+use Rattle.std.specs.Int.{IsGcd, w128}
 use Rattle.std.specs.Option.{is_some}
-use Rattle.std.proofs.Math.Nat.{eq-zero_of_zero-dvd, div-le_self, mul-div_cancel'}
+use Rattle.std.proofs.Math.Nat.{eq-zero_of_zero-dvd, div-le_self}
 use Rattle.std.proofs.Math.Seq.{drop-cons}
-use Rattle.std.proofs.Math.IntN.{+ℤ_idl, +ℤ_idr, *ℤ_comm, *ℤ-zero, pos-*ℤ-pos}
+use Rattle.std.proofs.Math.IntN.{+ℤ_idl, *ℤ-zero}
 use Rattle.std.proofs.lemmas.Int.{ints}
-use Rattle.std.proofs.lemmas.List.{drop_all, get_or_append_left, length-map, get_or_default, length-replicate}
+use Rattle.std.proofs.lemmas.List.{drop_all}
 use Rattle.std.proofs.lemmas.Option.{cond_some}
 use Rattle.std.proofs.lemmas.Bool.{cases_lt}
 use Rattle.std.proofs.lemmas.Bool.Decides.{nat_tests}
 use Rattle.farkas_cert.specs.declared.system.Row.{Row}
 use Rattle.farkas_cert.specs.Combination.{entry_at, is_narrow, stays_narrow}
 use Rattle.elim_rows.specs.Pairs.{combined}
-use Rattle.std.specs.List.{All, range_with_len, Contains}
-use Rattle.std.proofs.lemmas.List.FromFn.{fill_by_all, length-range_with_len, get_or-range_with_len}
-use Rattle.std.proofs.lemmas.List.Elements.{All-head, All-tail, All-cons, All-nil, Contains-get_or}
-use Rattle.std.proofs.lemmas.Nat.Gcd.{mod-eq-zero_of_dvd}
-use Rattle.std.specs.List.Sorted.{IsPermutation}
-use Rattle.std.proofs.lemmas.List.Sorted.{Contains-permutation}
 
 -- the entries from k on
 pub combined-drop : (m n : ℤ) (xs ys : List ℤ) (k : ℕ) (d : ℤ) → k < length xs → length ys ≡ length xs → combined m (drop k xs) n (drop k ys) ≡ (m *ℤ get_or xs k d +ℤ n *ℤ get_or ys k d) ∷ combined m (drop (k + 1) xs) n (drop (k + 1) ys)

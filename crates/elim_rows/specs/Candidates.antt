@@ -1,8 +1,7 @@
 -- Rows of candidates: which say something, and what they cover.
-use Rattle.std.specs.Prelude.{ℕ, zero, suc, ◌<◌, ℤ, pos, ◌≤ℤ◌, ◌<ℤ◌, List, length, slice_index, ◌⊎◌, ◌≡◌, ◌≤◌, int_lt, unsigned_abs, IsTrue, [], map, ◌∷◌, ◌++◌, option_to_list}
-use Rattle.std.specs.List.{All, AllPairs, Contains, filter}
+use Rattle.std.specs.Prelude.{◌<◌, pos, ◌≤ℤ◌, ◌<ℤ◌, List, ◌⊎◌, ◌≡◌, ◌≤◌, [], map, ◌∷◌, ◌++◌}
+use Rattle.std.specs.List.{All, Contains}
 use Rattle.farkas_cert.specs.declared.system.Row.{Row}
-use Rattle.std.specs.Ordering.{int_eq}
 use Rattle.elim_rows.specs.declared.candidate.Candidate.{Candidate}
 
 -- only zero coefficients

@@ -59,7 +59,8 @@ impl Chains {
     pub fn new(alloc: Global, places: usize, room: usize) -> Result<Self, AllocError>
         requires { 0 < places }
         ensures none { IfOk result (λ chains. chains.links.items ≡ []) }
-        ensures chained { IfOk result (λ chains. AreChained chains.links.items chains.latest.items) }
+        ensures chained { IfOk result (λ chains. AreChained chains.links.items
+            chains.latest.items) }
     {
         Ok(Chains {
             links: Vec::with_capacity(alloc, room)?,
@@ -71,7 +72,8 @@ impl Chains {
     #[inline(always)]
     pub fn last(&self, hash: u128) -> usize
         requires { AreChained self.now.links.items self.now.latest.items }
-        ensures { IsNewest self.now.links.items (length self.now.latest.items) (place (length self.now.latest.items) hash) (length self.now.links.items) result }
+        ensures { IsNewest self.now.links.items (length self.now.latest.items)
+            (place (length self.now.latest.items) hash) (length self.now.links.items) result }
     {
         self.latest[place_of(hash, self.latest.len())]
     }
@@ -80,7 +82,8 @@ impl Chains {
     #[inline(always)]
     pub fn push(&mut self, hash: u128) -> Result<(), AllocError>
         requires { AreChained self.old.links.items self.old.latest.items }
-        ensures pushed { OnOk result ((earlier : ℕ) × (self.new.links.items ≡ self.old.links.items ++ link_of hash earlier ∷ [])) }
+        ensures pushed { OnOk result ((earlier : ℕ) × (self.new.links.items ≡ self.old.links.items
+            ++ link_of hash earlier ∷ [])) }
         ensures chained { OnOk result (AreChained self.new.links.items self.new.latest.items) }
     {
         let place = place_of(hash, self.latest.len());

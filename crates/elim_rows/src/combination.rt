@@ -14,7 +14,8 @@ use std::alloc::AllocError;
 
 // m * a + n * b, if both products and their sum are at most 2 ^ 126 in size.
 fn weighted_sum(m: i128, a: i128, n: i128, b: i128) -> Option<i128>
-    ensures { let p = m *ℤ a in let q = n *ℤ b in result ≡ (if narrow p && narrow q && narrow (p +ℤ q) then Some (p +ℤ q) else None) }
+    ensures { let p = m *ℤ a in let q = n *ℤ b in result ≡ (if narrow p && narrow q
+        && narrow (p +ℤ q) then Some (p +ℤ q) else None) }
 {
     narrow_sum(narrow_product(m, a)?, narrow_product(n, b)?)
 }
@@ -25,7 +26,8 @@ pub fn multipliers(upper: i128, lower: i128) -> (i128, i128)
     requires below { lower <ℤ pos 0 }
     requires upper_narrow { IsTrue (narrow upper) }
     requires lower_narrow { IsTrue (narrow lower) }
-    ensures { (g : ℕ) × IsGcd (unsigned_abs upper) (unsigned_abs lower) g × (result.0 ≡ pos (unsigned_abs lower / g)) × (result.1 ≡ pos (unsigned_abs upper / g)) }
+    ensures { (g : ℕ) × IsGcd (unsigned_abs upper) (unsigned_abs lower) g
+        × (result.0 ≡ pos (unsigned_abs lower / g)) × (result.1 ≡ pos (unsigned_abs upper / g)) }
 {
     let above = upper.unsigned_abs();
     let below = lower.unsigned_abs();
@@ -80,7 +82,8 @@ pub fn combine(
 ) -> Result<i128, AllocError>
     requires same { length lower.now.coefs ≡ length upper.now.coefs }
     requires narrow { IsNarrow (length upper.now.coefs) m upper.now n lower.now }
-    ensures { IfOk result (λ bound. (record { coefs = coefs.new.items; bound = bound }) ≡ combination_of m upper.now n lower.now) }
+    ensures { IfOk result (λ bound. (record { coefs = coefs.new.items; bound = bound })
+        ≡ combination_of m upper.now n lower.now) }
 {
     let others = lower.coefs.as_slice();
     coefs.clear();

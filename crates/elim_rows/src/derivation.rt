@@ -20,7 +20,8 @@ pub fn derive(
     derivation: Derivation,
 ) -> Result<u64, AllocError>
     ensures log { OnOk result (log.new.items ≡ log.old.items ++ derivation ∷ []) }
-    ensures number { IfOk result (λ number. number ≡ length system.now.rows + length log.new.items) }
+    ensures number { IfOk result (λ number. number ≡ length system.now.rows + length
+        log.new.items) }
 {
     log.push(derivation)?;
     Ok((system.rows().len() + log.len()) as u64)

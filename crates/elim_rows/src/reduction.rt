@@ -147,7 +147,12 @@ fn divide_all(numbers: &mut Vec<i128>, divisor: i128)
 #[inline(always)]
 pub fn reduce(coefs: &mut Vec<i128>, bound: i128) -> (i128, i128)
     requires { All (λ a. IsTrue (narrow a)) coefs.old.items }
-    ensures { (g : ℕ) × (result.1 ≡ pos (max g 1)) × IsReducedBy g (record { coefs = coefs.old.items; bound = bound }) (record { coefs = coefs.new.items; bound = result.0 }) }
+    ensures { (g : ℕ) × (result.1 ≡ pos (max g 1)) × IsReducedBy g
+        (record { coefs = coefs.old.items; bound = bound }) (record {
+          coefs = coefs.new.items;
+          bound
+              = result.0;
+        }) }
 {
     let divisor = common_divisor(coefs.as_slice());
     if divisor <= 1 {

@@ -53,7 +53,8 @@ impl Table {
     pub fn new(alloc: Global, places: usize, room: usize) -> Result<Self, AllocError>
         requires { 0 < places }
         ensures none { IfOk result (λ table. table.rows.items ≡ []) }
-        ensures table { IfOk result (λ table. IsTable (rows_among table.rows.items) table.chains.links.items table.chains.latest.items) }
+        ensures table { IfOk result (λ table. IsTable (rows_among table.rows.items)
+            table.chains.links.items table.chains.latest.items) }
     {
         Ok(Table {
             rows: Vec::with_capacity(alloc, room)?,
@@ -63,10 +64,13 @@ impl Table {
 
     // The number, from 0, of the row with these coefficients, whose hash is given.
     fn find(&self, coefs: &[i128], hash: u128) -> Option<usize>
-        requires table { IsTable (rows_among self.now.rows.items) self.now.chains.links.items self.now.chains.latest.items }
+        requires table { IsTable (rows_among self.now.rows.items) self.now.chains.links.items
+            self.now.chains.latest.items }
         requires hash { hash ≡ hash_by coefs.now }
-        ensures { MatchOption result (All (λ r. r.coefs ≡ coefs.now → ⊥) (rows_among self.now.rows.items))
-            (λ k. (k < length self.now.rows.items) × ((slice_index_or (rows_among self.now.rows.items) k no_row).coefs ≡ coefs.now)) }
+        ensures { MatchOption result (All (λ r. r.coefs ≡ coefs.now
+            → ⊥) (rows_among self.now.rows.items))
+            (λ k. (k < length self.now.rows.items) × ((slice_index_or
+            (rows_among self.now.rows.items) k no_row).coefs ≡ coefs.now)) }
     {
         let mut end = self.chains.last(hash);
         while end > 0 {
@@ -82,10 +86,13 @@ impl Table {
     /// One more row, whose coefficients no other has. An error says that memory ran out.
     #[inline(always)]
     pub fn push(&mut self, candidate: Candidate, hash: u128) -> Result<(), AllocError>
-        requires table { IsTable (rows_among self.old.rows.items) self.old.chains.links.items self.old.chains.latest.items }
+        requires table { IsTable (rows_among self.old.rows.items) self.old.chains.links.items
+            self.old.chains.latest.items }
         requires hash { hash ≡ hash_by candidate.row.coefs }
-        requires apart { All (λ r. r.coefs ≡ candidate.row.coefs → ⊥) (rows_among self.old.rows.items) }
-        ensures table { OnOk result (IsTable (rows_among self.new.rows.items) self.new.chains.links.items self.new.chains.latest.items) }
+        requires apart { All (λ r. r.coefs ≡ candidate.row.coefs
+            → ⊥) (rows_among self.old.rows.items) }
+        ensures table { OnOk result (IsTable (rows_among self.new.rows.items)
+            self.new.chains.links.items self.new.chains.latest.items) }
         ensures pushed { OnOk result (self.new.rows.items ≡ self.old.rows.items ++ candidate ∷ []) }
     {
         self.chains.push(hash)?;
@@ -116,10 +123,13 @@ impl Table {
         bound: i128,
         origin: Origin,
     ) -> Result<(), AllocError>
-        requires table { IsTable (rows_among self.old.rows.items) self.old.chains.links.items self.old.chains.latest.items }
+        requires table { IsTable (rows_among self.old.rows.items) self.old.chains.links.items
+            self.old.chains.latest.items }
         requires narrow { All (λ a. IsTrue (narrow a)) coefs.now }
-        ensures table { OnOk result (IsTable (rows_among self.new.rows.items) self.new.chains.links.items self.new.chains.latest.items) }
-        ensures put { OnOk result (IsPut self.old.rows.items (candidate_with coefs.now bound origin) self.new.rows.items) }
+        ensures table { OnOk result (IsTable (rows_among self.new.rows.items)
+            self.new.chains.links.items self.new.chains.latest.items) }
+        ensures put { OnOk result (IsPut self.old.rows.items (candidate_with coefs.now bound origin)
+            self.new.rows.items) }
     {
         if is_idle(coefs, bound) {
             return Ok(());

@@ -13,7 +13,10 @@ pub fn one_form()
 
 /// A text that has a form has no fault, and any other has one.
 pub fn form_or_fault()
-    ensures either { (text : List ℕ) → ((f : StatementForm) × HasForm text f) ⊎ ((fault : TextFault) × IsRefused text fault) }
-    ensures not_both { (text : List ℕ) (f : StatementForm) (fault : TextFault) → HasForm text f → IsRefused text fault → ⊥ }
-    ensures one_fault { (text : List ℕ) (a b : TextFault) → IsRefused text a → IsRefused text b → a ≡ b }
+    ensures either { (text : List ℕ) → ((f : StatementForm) × HasForm text f) ⊎ ((fault : TextFault)
+        × IsRefused text fault) }
+    ensures not_both { (text : List ℕ) (f : StatementForm) (fault : TextFault) → HasForm text f
+        → IsRefused text fault → ⊥ }
+    ensures one_fault { (text : List ℕ) (a b : TextFault) → IsRefused text a → IsRefused text b → a
+        ≡ b }
 {}

@@ -27,7 +27,8 @@ impl Model for Number {
 
     ghost view = { λ n. digits_of n.digits n.value };
 
-    ghost invariant = { λ n. (decimal (digits_of n.digits n.value) ≡ n.value) × (n.value ≤ 9223372036854775807) };
+    ghost invariant = { λ n. (decimal (digits_of n.digits n.value) ≡ n.value)
+        × (n.value ≤ 9223372036854775807) };
 }
 
 impl Number {

@@ -27,7 +27,8 @@ pub struct Place {
 /// An operand behind what waits for it.
 #[tactic(auto, unfolding(crate::specs::Reading::combined))]
 fn combined(alloc: Global, pending: Pending, e: Expression) -> Result<Expression, Fault>
-    ensures combined { IfOk result (λ r. expression_of r ≡ reading.combined (pending_of pending) (expression_of e)) }
+    ensures combined { IfOk result (λ r. expression_of r
+        ≡ reading.combined (pending_of pending) (expression_of e)) }
     ensures err { FailsForMemory result }
 {
     match pending {
@@ -68,7 +69,8 @@ fn operand_value(operand: Operand) -> Result<Expression, Fault>
 /// The term that an operand ends.
 #[tactic(auto, unfolding(crate::specs::Reading::term_value))]
 fn term_value(alloc: Global, product: Pending, operand: Operand) -> Result<Expression, Fault>
-    ensures { Gives expression_of result (reading.term_value (pending_of product) (operand_of operand)) }
+    ensures { Gives expression_of result (reading.term_value (pending_of product)
+        (operand_of operand)) }
 {
     let factor = operand_value(operand)?;
     combined(alloc, product, factor)
@@ -82,7 +84,8 @@ fn sum_value(
     product: Pending,
     operand: Operand,
 ) -> Result<Expression, Fault>
-    ensures { Gives expression_of result (reading.sum_value (pending_of sum) (pending_of product) (operand_of operand)) }
+    ensures { Gives expression_of result (reading.sum_value (pending_of sum) (pending_of product)
+        (operand_of operand)) }
 {
     let term = term_value(alloc, product, operand)?;
     combined(alloc, sum, term)
@@ -108,7 +111,8 @@ fn item_value(
     product: Pending,
     operand: Operand,
 ) -> Result<Item, Fault>
-    ensures { Gives item_of result (reading.item_value (pending_of sum) (pending_of product) (operand_of operand)) }
+    ensures { Gives item_of result (reading.item_value (pending_of sum) (pending_of product)
+        (operand_of operand)) }
 {
     match operand {
         Operand::Declarator(declarator) => {
@@ -155,7 +159,8 @@ fn pending_sum(
     operand: Operand,
     sign: Sign,
 ) -> Result<Pending, Fault>
-    ensures { Gives pending_of result (reading.pending_sum (pending_of sum) (pending_of product) (operand_of operand) sign) }
+    ensures { Gives pending_of result (reading.pending_sum (pending_of sum) (pending_of product)
+        (operand_of operand) sign) }
 {
     if is_missing(&operand) {
         if is_nothing(&sum) && is_nothing(&product) {
@@ -181,7 +186,8 @@ fn opened(alloc: Global, outside: &Opener, name: Vec<u8>) -> Opener
 /// What a parenthesis behind an operand opens.
 #[tactic(auto, unfolding(crate::specs::Reading::opener_at))]
 fn opener_at(alloc: Global, outside: &Opener, operand: Operand) -> Result<Opener, Fault>
-    ensures { Gives opener_of result (reading.opener_at (opener_of outside.now) (operand_of operand)) }
+    ensures { Gives opener_of result (reading.opener_at (opener_of outside.now)
+        (operand_of operand)) }
 {
     match operand {
         Operand::Missing => Ok(Opener::Group),
@@ -212,7 +218,8 @@ fn bounds_behind(
     e: Expression,
     byte: u8,
 ) -> Result<Opener, Fault>
-    ensures { Gives opener_of result (reading.bounds_behind name.items (map bound_of front.items) (optional_of lower) (expression_of e) byte) }
+    ensures { Gives opener_of result (reading.bounds_behind name.items (map bound_of front.items)
+        (optional_of lower) (expression_of e) byte) }
 {
     if byte == b',' {
         front.push(Bound { lower, upper: e })?;
@@ -234,7 +241,8 @@ fn opener_behind(
     operand: Operand,
     byte: u8,
 ) -> Result<Opener, Fault>
-    ensures { Gives opener_of result (reading.opener_behind (opener_of opener) (pending_of sum) (pending_of product) (operand_of operand) byte) }
+    ensures { Gives opener_of result (reading.opener_behind (opener_of opener) (pending_of sum)
+        (pending_of product) (operand_of operand) byte) }
 {
     match opener {
         Opener::Pieces(declares, mut front, separator) => {
@@ -264,7 +272,8 @@ fn opener_behind(
 /// The operand behind the parenthesis that ends a level in which this expression stands last.
 #[tactic(auto, unfolding(crate::specs::Reading::enclosed))]
 fn enclosed(alloc: Global, opener: Opener, e: Expression) -> Result<Operand, Fault>
-    ensures enclosed { IfOk result (λ o. operand_of o ≡ reading.enclosed (opener_of opener) (expression_of e)) }
+    ensures enclosed { IfOk result (λ o. operand_of o ≡ reading.enclosed (opener_of opener)
+        (expression_of e)) }
     ensures err { FailsForMemory result }
 {
     match opener {
@@ -305,7 +314,8 @@ fn add_step(
     operand: Operand,
     sign: Sign,
 ) -> Result<Operand, Fault>
-    ensures { Gives (state_of place.new) result (reading.add_step (state_of place.old operand) sign) }
+    ensures { Gives (state_of place.new) result (reading.add_step (state_of place.old operand)
+        sign) }
 {
     let sum = mem::replace(&mut place.level.sum, Pending::Nothing);
     let product = mem::replace(&mut place.level.product, Pending::Nothing);
@@ -321,7 +331,8 @@ fn multiply_step(
     operand: Operand,
     operator: Operator,
 ) -> Result<Operand, Fault>
-    ensures { Gives (state_of place.new) result (reading.multiply_step (state_of place.old operand) operator) }
+    ensures { Gives (state_of place.new) result (reading.multiply_step (state_of place.old operand)
+        operator) }
 {
     let product = mem::replace(&mut place.level.product, Pending::Nothing);
     let left = term_value(alloc, product, operand)?;
@@ -348,7 +359,8 @@ fn separate_step(
     operand: Operand,
     byte: u8,
 ) -> Result<Operand, Fault>
-    ensures { Gives (state_of place.new) result (reading.separate_step (state_of place.old operand) byte) }
+    ensures { Gives (state_of place.new) result (reading.separate_step (state_of place.old operand)
+        byte) }
 {
     let Level {
         opener,
@@ -363,7 +375,8 @@ fn separate_step(
 /// Leaves the innermost level, which this operand ends.
 #[tactic(auto, unfolding(crate::specs::Reading::left_to))]
 fn leave(place: &mut Place, operand: Operand) -> Result<Operand, Fault>
-    ensures { Gives (state_of place.new) result (reading.left_to (levels_of place.old.outer.items) (operand_of operand)) }
+    ensures { Gives (state_of place.new) result (reading.left_to (levels_of place.old.outer.items)
+        (operand_of operand)) }
 {
     match place.outer.pop() {
         Some(level) => {
@@ -416,7 +429,8 @@ fn symbol_step(
     operand: Operand,
     byte: u8,
 ) -> Result<Operand, Fault>
-    ensures { Gives (state_of place.new) result (reading.symbol_step (state_of place.old operand) byte) }
+    ensures { Gives (state_of place.new) result (reading.symbol_step (state_of place.old operand)
+        byte) }
 {
     match byte {
         b'+' => add_step(alloc, place, operand, Sign::Plus),
@@ -457,7 +471,8 @@ fn plain_step(
     operand: Operand,
     byte: u8,
 ) -> Result<Operand, Fault>
-    ensures { Gives (state_of place.new) result (reading.plain_step (state_of place.old operand) byte) }
+    ensures { Gives (state_of place.new) result (reading.plain_step (state_of place.old operand)
+        byte) }
 {
     if is_capital_or_digit(byte) {
         letter_at(alloc, operand, byte)
@@ -496,7 +511,8 @@ fn step(alloc: Global, place: &mut Place, operand: Operand, byte: u8) -> Result<
 /// The pieces at the end of a text.
 #[tactic(auto, unfolding(crate::specs::Reading::finished, crate::specs::Reading::ended))]
 fn finished(alloc: Global, place: Place, operand: Operand) -> Result<Vec<Piece>, Fault>
-    ensures { Gives (λ ps. map piece_of ps.items) result (reading.finished (state_of place operand)) }
+    ensures { Gives (λ ps. map piece_of ps.items) result
+        (reading.finished (state_of place operand)) }
 {
     let Place { outer, level } = place;
     let Level {

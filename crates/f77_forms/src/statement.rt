@@ -45,7 +45,8 @@ fn target_from(alloc: Global, e: Expression) -> Result<Target, Fault>
 /// The item of the next piece, which stands behind this separator.
 #[tactic(auto, unfolding(crate::specs::Statements::item_next))]
 fn item_next(pieces: &mut IntoIter<Piece>, separator: u8) -> Result<Item, Fault>
-    ensures { Gives (λ i. (item_of i, map piece_of (into_iter_items pieces.new))) result (statements.item_next separator (map piece_of (into_iter_items pieces.old))) }
+    ensures { Gives (λ i. (item_of i, map piece_of (into_iter_items pieces.new))) result
+        (statements.item_next separator (map piece_of (into_iter_items pieces.old))) }
 {
     match pieces.next() {
         Some(piece) => {
@@ -70,7 +71,8 @@ fn value_in(item: Item) -> Result<Expression, Fault>
 
 #[tactic(auto, unfolding(crate::specs::Statements::value_next))]
 fn value_next(pieces: &mut IntoIter<Piece>, separator: u8) -> Result<Expression, Fault>
-    ensures { Gives (λ e. (expression_of e, map piece_of (into_iter_items pieces.new))) result (statements.value_next separator (map piece_of (into_iter_items pieces.old))) }
+    ensures { Gives (λ e. (expression_of e, map piece_of (into_iter_items pieces.new))) result
+        (statements.value_next separator (map piece_of (into_iter_items pieces.old))) }
 {
     let item = item_next(pieces, separator)?;
     value_in(item)
@@ -78,7 +80,8 @@ fn value_next(pieces: &mut IntoIter<Piece>, separator: u8) -> Result<Expression,
 
 #[tactic(auto, unfolding(crate::specs::Statements::name_next))]
 fn name_next(pieces: &mut IntoIter<Piece>, separator: u8) -> Result<Vec<u8>, Fault>
-    ensures { Gives (λ n. (n.items, map piece_of (into_iter_items pieces.new))) result (statements.name_next separator (map piece_of (into_iter_items pieces.old))) }
+    ensures { Gives (λ n. (n.items, map piece_of (into_iter_items pieces.new))) result
+        (statements.name_next separator (map piece_of (into_iter_items pieces.old))) }
 {
     let e = value_next(pieces, separator)?;
     name_of(e)
@@ -109,7 +112,8 @@ fn compare_from(name: &[u8]) -> Result<Compare, Fault>
 
 #[tactic(auto, unfolding(crate::specs::Statements::compare_next))]
 fn compare_next(pieces: &mut IntoIter<Piece>) -> Result<Compare, Fault>
-    ensures { Gives (λ c. (c, map piece_of (into_iter_items pieces.new))) result (statements.compare_next (map piece_of (into_iter_items pieces.old))) }
+    ensures { Gives (λ c. (c, map piece_of (into_iter_items pieces.new))) result
+        (statements.compare_next (map piece_of (into_iter_items pieces.old))) }
 {
     let name = name_next(pieces, b'.')?;
     compare_from(name.as_slice())
@@ -121,7 +125,8 @@ fn assignment_next(
     pieces: &mut IntoIter<Piece>,
     separator: u8,
 ) -> Result<Assignment, Fault>
-    ensures { Gives (λ a. (assignment_of a, map piece_of (into_iter_items pieces.new))) result (statements.assignment_next separator (map piece_of (into_iter_items pieces.old))) }
+    ensures { Gives (λ a. (assignment_of a, map piece_of (into_iter_items pieces.new))) result
+        (statements.assignment_next separator (map piece_of (into_iter_items pieces.old))) }
 {
     let left = value_next(pieces, separator)?;
     let target = target_from(alloc, left)?;
@@ -131,7 +136,8 @@ fn assignment_next(
 
 #[tactic(auto, unfolding(crate::specs::Statements::comparison_next))]
 fn comparison_next(pieces: &mut IntoIter<Piece>) -> Result<Comparison, Fault>
-    ensures { Gives (λ c. (comparison_of c, map piece_of (into_iter_items pieces.new))) result (statements.comparison_next (map piece_of (into_iter_items pieces.old))) }
+    ensures { Gives (λ c. (comparison_of c, map piece_of (into_iter_items pieces.new))) result
+        (statements.comparison_next (map piece_of (into_iter_items pieces.old))) }
 {
     let left = value_next(pieces, b',')?;
     let compare = compare_next(pieces)?;
@@ -146,7 +152,8 @@ fn comparison_next(pieces: &mut IntoIter<Piece>) -> Result<Comparison, Fault>
 /// The step of a DO, behind a comma, or none.
 #[tactic(auto, unfolding(crate::specs::Statements::step_next))]
 fn step_next(pieces: &mut IntoIter<Piece>) -> Result<Option<Expression>, Fault>
-    ensures { Gives (λ s. (optional_of s, map piece_of (into_iter_items pieces.new))) result (statements.step_next (map piece_of (into_iter_items pieces.old))) }
+    ensures { Gives (λ s. (optional_of s, map piece_of (into_iter_items pieces.new))) result
+        (statements.step_next (map piece_of (into_iter_items pieces.old))) }
 {
     if pieces.len() == 0 {
         return Ok(None);
@@ -158,7 +165,8 @@ fn step_next(pieces: &mut IntoIter<Piece>) -> Result<Option<Expression>, Fault>
 /// A statement of which no piece is left.
 #[tactic(auto, unfolding(crate::specs::Statements::all_taken))]
 fn all_taken(statement: Statement, pieces: &IntoIter<Piece>) -> Result<Statement, Fault>
-    ensures { Gives statement_of result (statements.all_taken (statement_of statement) (map piece_of (into_iter_items pieces.now))) }
+    ensures { Gives statement_of result (statements.all_taken (statement_of statement)
+        (map piece_of (into_iter_items pieces.now))) }
 {
     if pieces.len() == 0 {
         Ok(statement)
@@ -188,7 +196,8 @@ fn declarator_next(
     bounded: bool,
     pieces: &mut IntoIter<Piece>,
 ) -> Result<Declarator, Fault>
-    ensures { Gives (λ d. (declarator_of d, map piece_of (into_iter_items pieces.new))) result (statements.declarator_next bounded (map piece_of (into_iter_items pieces.old))) }
+    ensures { Gives (λ d. (declarator_of d, map piece_of (into_iter_items pieces.new))) result
+        (statements.declarator_next bounded (map piece_of (into_iter_items pieces.old))) }
 {
     let item = item_next(pieces, b',')?;
     let declarator = declarator_in(alloc, item)?;
@@ -204,7 +213,9 @@ fn declarators_from(
     bounded: bool,
     mut pieces: IntoIter<Piece>,
 ) -> Result<Vec<Declarator>, Fault>
-    ensures { Gives (λ ds. map declarator_of ds.items) result (statements.listed (statements.declarator_next bounded) (map piece_of (into_iter_items pieces))) }
+    ensures { Gives (λ ds. map declarator_of ds.items) result
+        (statements.listed (statements.declarator_next bounded)
+        (map piece_of (into_iter_items pieces))) }
 {
     let mut declarators = Vec::new(alloc);
     while pieces.len() > 0 {
@@ -225,7 +236,8 @@ fn printed_in(item: Item) -> Result<Printed, Fault>
 
 #[tactic(auto, unfolding(crate::specs::Statements::printed_next))]
 fn printed_next(pieces: &mut IntoIter<Piece>) -> Result<Printed, Fault>
-    ensures { Gives (λ p. (printed_of p, map piece_of (into_iter_items pieces.new))) result (statements.printed_next (map piece_of (into_iter_items pieces.old))) }
+    ensures { Gives (λ p. (printed_of p, map piece_of (into_iter_items pieces.new))) result
+        (statements.printed_next (map piece_of (into_iter_items pieces.old))) }
 {
     let item = item_next(pieces, b',')?;
     printed_in(item)
@@ -233,7 +245,8 @@ fn printed_next(pieces: &mut IntoIter<Piece>) -> Result<Printed, Fault>
 
 /// The items of a PRINT that these pieces are.
 fn printed_from(alloc: Global, mut pieces: IntoIter<Piece>) -> Result<Vec<Printed>, Fault>
-    ensures { Gives (λ items. map printed_of items.items) result (statements.listed statements.printed_next (map piece_of (into_iter_items pieces))) }
+    ensures { Gives (λ items. map printed_of items.items) result
+        (statements.listed statements.printed_next (map piece_of (into_iter_items pieces))) }
 {
     let mut items = Vec::new(alloc);
     while pieces.len() > 0 {
@@ -245,7 +258,8 @@ fn printed_from(alloc: Global, mut pieces: IntoIter<Piece>) -> Result<Vec<Printe
 
 #[tactic(auto, unfolding(crate::specs::Statements::definition_next))]
 fn definition_next(pieces: &mut IntoIter<Piece>) -> Result<Definition, Fault>
-    ensures { Gives (λ d. (definition_of d, map piece_of (into_iter_items pieces.new))) result (statements.definition_next (map piece_of (into_iter_items pieces.old))) }
+    ensures { Gives (λ d. (definition_of d, map piece_of (into_iter_items pieces.new))) result
+        (statements.definition_next (map piece_of (into_iter_items pieces.old))) }
 {
     let name = name_next(pieces, b',')?;
     let value = value_next(pieces, b'=')?;
@@ -254,7 +268,8 @@ fn definition_next(pieces: &mut IntoIter<Piece>) -> Result<Definition, Fault>
 
 /// The definitions of a PARAMETER statement that these pieces are.
 fn definitions_from(alloc: Global, mut pieces: IntoIter<Piece>) -> Result<Vec<Definition>, Fault>
-    ensures { Gives (λ ds. map definition_of ds.items) result (statements.listed statements.definition_next (map piece_of (into_iter_items pieces))) }
+    ensures { Gives (λ ds. map definition_of ds.items) result
+        (statements.listed statements.definition_next (map piece_of (into_iter_items pieces))) }
 {
     let mut definitions = Vec::new(alloc);
     while pieces.len() > 0 {
@@ -279,7 +294,8 @@ fn program(alloc: Global, name: &[u8]) -> Result<Statement, Fault>
 /// The declarators of an INTEGER or DIMENSION statement.
 #[tactic(auto, unfolding(crate::specs::Statements::declarators_at))]
 fn declarators(alloc: Global, bounded: bool, text: &[u8]) -> Result<Vec<Declarator>, Fault>
-    ensures { Gives (λ ds. map declarator_of ds.items) result (statements.declarators_at bounded text.now) }
+    ensures { Gives (λ ds. map declarator_of ds.items) result (statements.declarators_at bounded
+        text.now) }
 {
     let listed = pieces(alloc, true, text)?;
     declarators_from(alloc, bounded, listed.into_iter())

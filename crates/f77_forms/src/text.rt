@@ -39,7 +39,8 @@ pub fn read_statement(alloc: Global, text: &[u8]) -> Result<Statement, TextFault
     // A text that has a form is read as it.
     ensures only { (f : StatementForm) → HasForm text.now f → IsReadAs f result }
     // What is refused has no form, and this fault.
-    ensures refused { (fault : TextFault) → result ≡ Err fault → fault ≢ TextFault.NoMemory → IsRefused text.now fault }
+    ensures refused { (fault : TextFault) → result ≡ Err fault → fault ≢ TextFault.NoMemory
+        → IsRefused text.now fault }
     // A text without form is refused with its fault.
     ensures refuses { (fault : TextFault) → IsRefused text.now fault → IsRefusedAs fault result }
 {

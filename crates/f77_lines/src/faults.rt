@@ -53,7 +53,8 @@ pub fn length_to_end(bytes: &[u8]) -> Result<usize, LineRefusal>
     requires { length bytes.now ≤ MOST_BYTES }
     ensures size { IfOk result (λ n. n ≡ size_to_end (lines_of bytes.now)) }
     ensures within { IfOk result (λ n. n ≤ length bytes.now) }
-    ensures fault { MatchResult result (λ _. first_line_fault bytes.now ≡ None) (λ fault. first_line_fault bytes.now ≡ Some fault) }
+    ensures fault { MatchResult result (λ _. first_line_fault bytes.now
+        ≡ None) (λ fault. first_line_fault bytes.now ≡ Some fault) }
 {
     let mut rest = bytes;
     let mut number = 1;

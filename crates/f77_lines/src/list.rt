@@ -22,7 +22,8 @@ pub fn statements(alloc: Global, bytes: &[u8]) -> Result<(Vec<Line>, usize), Lin
     ensures within { IfOk result (λ r. r.1 ≤ length bytes.now) }
     // Bytes with a fault are refused with the first, and others for want of memory alone.
     ensures refused { IfErr result (Refuses bytes.now) }
-    ensures first_fault { (fault : LineRefusal) → first_line_fault bytes.now ≡ Some fault → result ≡ Err fault }
+    ensures first_fault { (fault : LineRefusal) → first_line_fault bytes.now ≡ Some fault → result
+        ≡ Err fault }
 {
     let rest = length_to_end(bytes)?;
     let lines = entries(alloc, bytes)?;
@@ -68,7 +69,8 @@ fn ending(alloc: Global, number: u32, columns: &[u8]) -> Result<Line, AllocError
 
 /// The statement that an initial line begins.
 fn statement(alloc: Global, number: u32, columns: &[u8], behind: &[u8]) -> Result<Line, AllocError>
-    ensures { IfOk result (λ line. entry_of line ≡ spec.statement number (spec.label_of columns.now) (text_of (body_of columns.now ++ spec.continued (lines_of behind.now)))) }
+    ensures { IfOk result (λ line. entry_of line ≡ spec.statement number (spec.label_of columns.now)
+        (text_of (body_of columns.now ++ spec.continued (lines_of behind.now)))) }
 {
     Ok(Line::Statement {
         line: number,
@@ -86,7 +88,8 @@ fn label_of(columns: &[u8]) -> u32
 
 /// The directive of a line.
 fn directive(alloc: Global, number: u32, columns: &[u8]) -> Result<Line, AllocError>
-    ensures { IfOk result (λ line. entry_of line ≡ spec.directive number (squeezed (drop 6 columns.now))) }
+    ensures { IfOk result (λ line. entry_of line ≡ spec.directive number
+        (squeezed (drop 6 columns.now))) }
 {
     Ok(Line::Directive {
         line: number,

@@ -34,7 +34,8 @@ impl Text {
 
     /// Appends what a character counts as.
     fn push(&mut self, c: u8) -> Result<(), AllocError>
-        ensures characters { OnOk result (self.new.characters.items ≡ self.old.characters.items ++ spec.counted self.old.quoted c) }
+        ensures characters { OnOk result (self.new.characters.items ≡ self.old.characters.items
+            ++ spec.counted self.old.quoted c) }
         ensures quoted { OnOk result (self.new.quoted ≡ spec.quoted_after self.old.quoted c) }
     {
         if self.quoted {
@@ -49,8 +50,10 @@ impl Text {
     }
 
     fn push_all(&mut self, characters: &[u8]) -> Result<(), AllocError>
-        ensures characters { OnOk result (self.new.characters.items ≡ self.old.characters.items ++ spec.text_from self.old.quoted characters.now) }
-        ensures quoted { OnOk result (self.new.quoted ≡ quoted_behind self.old.quoted characters.now) }
+        ensures characters { OnOk result (self.new.characters.items ≡ self.old.characters.items
+            ++ spec.text_from self.old.quoted characters.now) }
+        ensures quoted { OnOk result (self.new.quoted ≡ quoted_behind self.old.quoted
+            characters.now) }
     {
         for c in characters {
             self.push(*c)?;
@@ -62,7 +65,8 @@ impl Text {
     #[tactic(auto, using(crate::proofs::Characters::filling))]
     fn fill(&mut self, count: usize) -> Result<(), AllocError>
         requires { count ≤ BODY_COLUMNS }
-        ensures characters { OnOk result (self.new.characters.items ≡ self.old.characters.items ++ spec.text_from self.old.quoted (replicate count 32)) }
+        ensures characters { OnOk result (self.new.characters.items ≡ self.old.characters.items
+            ++ spec.text_from self.old.quoted (replicate count 32)) }
         ensures quoted { OnOk result (self.new.quoted ≡ self.old.quoted) }
     {
         if self.quoted {
@@ -75,8 +79,10 @@ impl Text {
     /// Appends columns 7 to 72 of a line.
     #[tactic(auto, using(crate::proofs::Characters::filling))]
     fn push_line(&mut self, columns: &[u8]) -> Result<(), AllocError>
-        ensures characters { OnOk result (self.new.characters.items ≡ self.old.characters.items ++ spec.text_from self.old.quoted (rows.body_of columns.now)) }
-        ensures quoted { OnOk result (self.new.quoted ≡ quoted_behind self.old.quoted (rows.body_of columns.now)) }
+        ensures characters { OnOk result (self.new.characters.items ≡ self.old.characters.items
+            ++ spec.text_from self.old.quoted (rows.body_of columns.now)) }
+        ensures quoted { OnOk result (self.new.quoted ≡ quoted_behind self.old.quoted
+            (rows.body_of columns.now)) }
     {
         let body = body_of(columns);
         self.push_all(body)?;
@@ -89,7 +95,8 @@ impl Text {
 /// that line.
 #[tactic(auto, using(crate::proofs::Cuts::continuing, crate::proofs::Characters::filling))]
 pub fn statement_text(alloc: Global, columns: &[u8], behind: &[u8]) -> Result<Vec<u8>, AllocError>
-    ensures { IfOk result (λ text. text.items ≡ spec.text_of (rows.body_of columns.now ++ continued (rows.lines_of behind.now))) }
+    ensures { IfOk result (λ text. text.items ≡ spec.text_of (rows.body_of columns.now
+        ++ continued (rows.lines_of behind.now))) }
 {
     let mut text = Text::new(alloc);
     text.push_line(columns)?;

@@ -16,7 +16,7 @@ use Rattle.f77_scene.specs.Reading.{fault_of_form, first_past}
 use Rattle.f77_scene.specs.Scene.{Scene, Given}
 use Rattle.f77_scene.specs.Statements.{Spot, optional, spots_in, declarators_in, loops_in}
 use Rattle.f77_scene.specs.Tests as tests
-use Rattle.f77_scene.specs.Tests.{somewhere, divides_badly, is_declaration, affine_in, steps_in}
+use Rattle.f77_scene.specs.Tests.{is_declaration, affine_in, steps_in}
 use Rattle.f77_program.specs.declared.measure.Measure.{Measure}
 use Rattle.f77_program.specs.declared.reach.Reach.{Reach}
 use Rattle.f77_program.specs.declared.reach.Reach.TheVariants.{NotAffine}

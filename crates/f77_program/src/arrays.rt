@@ -64,7 +64,11 @@ impl Arrays {
         name: &[u8],
         bounds: Vec<(i64, i64)>,
     ) -> Result<(), AllocError>
-        ensures ok { OnOk result (self.new ≡ self.old ++ record { name = name.now; bounds = bounds.items } ∷ []) }
+        ensures ok { OnOk result (self.new ≡ self.old ++ record {
+          name = name.now;
+          bounds =
+              bounds.items;
+        } ∷ []) }
         ensures err { OnErr result (self.new ≡ self.old) }
     {
         self.bounds.push(bounds)?;

@@ -71,7 +71,8 @@ impl Constants {
 
     /// One more constant. Where memory runs out nothing has changed.
     pub fn push(&mut self, alloc: Global, name: &[u8], value: i64) -> Result<(), AllocError>
-        ensures ok { OnOk result (self.new ≡ self.old ++ record { name = name.now; value = value } ∷ []) }
+        ensures ok { OnOk result (self.new ≡ self.old ++ record { name = name.now; value = value }
+            ∷ []) }
         ensures err { OnErr result (self.new ≡ self.old) }
     {
         self.values.push(value)?;
@@ -103,7 +104,8 @@ fn parameters_of(
     values: &[i64],
 ) -> Result<Vec<Parameter>, AllocError>
     requires { length names.now ≡ length values.now }
-    ensures { IfOk result (λ ps. map view.constant_of ps.items ≡ known.constants_from (numbered.texts_of names.now) values.now) }
+    ensures { IfOk result (λ ps. map view.constant_of ps.items
+        ≡ known.constants_from (numbered.texts_of names.now) values.now) }
 {
     let mut parameters = Vec::new(alloc);
     for (place, name) in names.iter().enumerate() {

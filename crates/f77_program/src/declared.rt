@@ -20,7 +20,8 @@ pub fn declares_again(
     known: &Known,
     statement: &Statement,
 ) -> Result<bool, AllocError>
-    ensures { IfOk result (λ again. again ≡ tests.declares_again known.now (view.statement_of statement.now)) }
+    ensures { IfOk result (λ again. again ≡ tests.declares_again known.now
+        (view.statement_of statement.now)) }
 {
     match statement {
         Statement::Integer(declarators) => {
@@ -46,7 +47,9 @@ fn declares_arrays_again(
     known: &Known,
     declarators: &[Declarator],
 ) -> Result<bool, AllocError>
-    ensures { IfOk result (λ again. again ≡ scene.comes_again (spec.base_of known.now false) (statements.declarator_names (statements.bounded (map view.declarator_of declarators.now)))) }
+    ensures { IfOk result (λ again. again ≡ scene.comes_again (spec.base_of known.now false)
+        (statements.declarator_names (statements.bounded (map view.declarator_of
+        declarators.now)))) }
 {
     let names = declarator_names(alloc, true, declarators)?;
     let again = comes_again(alloc, known, false, &names)?;
@@ -61,7 +64,8 @@ fn comes_again(
     integer: bool,
     names: &[&[u8]],
 ) -> Result<bool, AllocError>
-    ensures { IfOk result (λ again. again ≡ scene.comes_again (spec.base_of known.now integer) (names_view names.now)) }
+    ensures { IfOk result (λ again. again ≡ scene.comes_again (spec.base_of known.now integer)
+        (names_view names.now)) }
 {
     let mut front = Names::new(alloc);
     for name in names {
@@ -89,7 +93,8 @@ pub fn declarator_names<'a>(
     bounded: bool,
     declarators: &'a [Declarator],
 ) -> Result<Vec<&'a [u8]>, AllocError>
-    ensures { IfOk result (λ names. names_view names.items ≡ spec.names_declared bounded (map view.declarator_of declarators.now)) }
+    ensures { IfOk result (λ names. names_view names.items
+        ≡ spec.names_declared bounded (map view.declarator_of declarators.now)) }
 {
     let mut names = Vec::new(alloc);
     for declarator in declarators {
@@ -104,7 +109,8 @@ fn definition_names<'a>(
     alloc: Global,
     definitions: &'a [Definition],
 ) -> Result<Vec<&'a [u8]>, AllocError>
-    ensures { IfOk result (λ names. names_view names.items ≡ map (λ d. d.name) (map view.definition_of definitions.now)) }
+    ensures { IfOk result (λ names. names_view names.items
+        ≡ map (λ d. d.name) (map view.definition_of definitions.now)) }
 {
     let mut names = Vec::new(alloc);
     for definition in definitions {

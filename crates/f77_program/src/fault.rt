@@ -19,7 +19,8 @@ use crate::tested::Tested;
 
 /// The first fault of names.
 pub fn first_named(tested: &Tested, survey: &Survey, declares: bool) -> Option<Fault>
-    ensures { option_map fault_of result ≡ first_of (spec.named_tests declares tested.now (survey_view survey.now)) }
+    ensures { option_map fault_of result ≡ first_of (spec.named_tests declares tested.now
+        (survey_view survey.now)) }
 {
     if tested.misplaced || survey.marks.lone_call {
         return Some(Fault::Syntax);
@@ -68,7 +69,8 @@ pub fn first_formed(
     reach: Reach,
     step: Option<&Measure>,
 ) -> Option<Fault>
-    ensures { option_map fault_of result ≡ first_of (spec.formed_tests tested.now (survey_view survey.now) reach (option_copied step.entry)) }
+    ensures { option_map fault_of result ≡ first_of (spec.formed_tests tested.now
+        (survey_view survey.now) reach (option_copied step.entry)) }
 {
     if has_bad_divisor(&survey.measures) {
         return Some(Fault::BadDivisor);
@@ -120,7 +122,8 @@ pub fn first_limit(
 ) -> Option<i64>
     requires count { count < 2 ^ 62 }
     requires loops { spec.IsFew loops }
-    ensures { result ≡ numbers.first_of (spec.limit_numbers tested.now count loops reach (option_copied step.entry)) }
+    ensures { result ≡ numbers.first_of (spec.limit_numbers tested.now count loops reach
+        (option_copied step.entry)) }
 {
     if count >= MOST_STATEMENTS {
         return Some(count as i64 + 1);

@@ -46,8 +46,11 @@ pub fn fault_in(
 ) -> Result<Option<Fault>, AllocError>
     requires count { known.old.count < 2 ^ 62 }
     requires depth { length known.old.opened < 2 ^ 62 }
-    ensures fault { IfOk result (λ o. option_map fault_of o ≡ fault_of_form (given_of whole.now) known.old behind label (view.statement_of statement.now)) }
-    ensures known { OnOk result (known.new ≡ spec.evaluated (given_of whole.now) known.old (view.statement_of statement.now)) }
+    ensures fault { IfOk result (λ o. option_map fault_of o
+        ≡ fault_of_form (given_of whole.now) known.old behind label
+        (view.statement_of statement.now)) }
+    ensures known { OnOk result (known.new ≡ spec.evaluated (given_of whole.now) known.old
+        (view.statement_of statement.now)) }
 {
     let count = known.count();
     let depth = known.depth();
@@ -67,7 +70,12 @@ fn first_fault(
 ) -> Option<Fault>
     requires count { count < 2 ^ 62 }
     requires depth { depth < 2 ^ 62 }
-    ensures { (given : Given) (s : Scene) (behind label : ℕ) → tested.now ≡ spec.tested_of given s behind label (view.statement_of statement.now) → surveys.survey_view survey.now ≡ surveys.survey_of (statements.spots_in given s (view.statement_of statement.now)) → count ≡ s.count → depth ≡ length s.opened → option_map fault_of result ≡ fault_of_form given s behind label (view.statement_of statement.now) }
+    ensures { (given : Given) (s : Scene) (behind label : ℕ) → tested.now
+        ≡ spec.tested_of given s behind label (view.statement_of statement.now)
+        → surveys.survey_view survey.now ≡ surveys.survey_of (statements.spots_in given s
+        (view.statement_of statement.now)) → count ≡ s.count → depth ≡ length s.opened
+        → option_map fault_of result ≡ fault_of_form given s behind label
+        (view.statement_of statement.now) }
 {
     if let Some(fault) = first_named(tested, survey, is_declaration(statement)) {
         return Some(fault);
@@ -86,7 +94,8 @@ fn first_fault(
 /// How many loops are open round a DO statement.
 fn loops_round(statement: &Statement, depth: usize) -> Option<usize>
     requires { depth < 2 ^ 62 }
-    ensures loops { faults.loop_numbers result ≡ flat_map (λ d. limits.counted 6 (depth + 1)) (statements.loops_in (view.statement_of statement.now)) }
+    ensures loops { faults.loop_numbers result ≡ flat_map (λ d. limits.counted 6 (depth + 1))
+        (statements.loops_in (view.statement_of statement.now)) }
     ensures few { faults.IsFew result }
 {
     match statement {
@@ -114,8 +123,10 @@ pub fn tests_of(
     statement: &Statement,
     pieces: &[Piece],
 ) -> Result<Tested, AllocError>
-    requires { piece_forms.pieces_view pieces.now ≡ piece_forms.pieces_in (view.statement_of statement.now) }
-    ensures { IfOk result (λ t. t ≡ spec.tested_of (given_of whole.now) known.now behind label (view.statement_of statement.now)) }
+    requires { piece_forms.pieces_view pieces.now ≡ piece_forms.pieces_in
+        (view.statement_of statement.now) }
+    ensures { IfOk result (λ t. t ≡ spec.tested_of (given_of whole.now) known.now behind label
+        (view.statement_of statement.now)) }
 {
     let names = names_in(alloc, known, pieces)?;
     Ok(Tested {
@@ -132,7 +143,8 @@ pub fn tests_of(
 }
 
 fn has_bad_loop(alloc: Global, known: &Known, statement: &Statement) -> Result<bool, AllocError>
-    ensures { IfOk result (λ bad. bad ≡ list_any (tests.is_bad_loop known.now) (statements.loops_in (view.statement_of statement.now))) }
+    ensures { IfOk result (λ bad. bad ≡ list_any (tests.is_bad_loop known.now) (statements.loops_in
+        (view.statement_of statement.now))) }
 {
     match statement {
         Statement::Do(statement) => {
@@ -149,7 +161,9 @@ fn declared_past(
     known: &Known,
     statement: &Statement,
 ) -> Result<Option<i64>, AllocError>
-    ensures { IfOk result (λ past. past ≡ numbers.first_of (flat_map (limits.declarator_past known.now) (statements.declarators_in (view.statement_of statement.now)))) }
+    ensures { IfOk result (λ past. past ≡ numbers.first_of
+        (flat_map (limits.declarator_past known.now) (statements.declarators_in
+        (view.statement_of statement.now)))) }
 {
     match statement {
         Statement::Integer(declarators) => {
@@ -173,9 +187,13 @@ pub fn evaluate(
     statement: &Statement,
     pieces: &[Piece],
 ) -> Result<Survey, AllocError>
-    requires { piece_forms.pieces_view pieces.now ≡ piece_forms.pieces_in (view.statement_of statement.now) }
-    ensures survey { IfOk result (λ survey. surveys.survey_view survey ≡ surveys.survey_of (statements.spots_in (given_of whole.now) known.old (view.statement_of statement.now))) }
-    ensures known { OnOk result (known.new ≡ spec.evaluated (given_of whole.now) known.old (view.statement_of statement.now)) }
+    requires { piece_forms.pieces_view pieces.now ≡ piece_forms.pieces_in
+        (view.statement_of statement.now) }
+    ensures survey { IfOk result (λ survey. surveys.survey_view survey
+        ≡ surveys.survey_of (statements.spots_in (given_of whole.now) known.old
+        (view.statement_of statement.now))) }
+    ensures known { OnOk result (known.new ≡ spec.evaluated (given_of whole.now) known.old
+        (view.statement_of statement.now)) }
 {
     match statement {
         Statement::Parameter(definitions) => {
@@ -196,8 +214,11 @@ fn evaluate_here(
     statement: &Statement,
     pieces: &[Piece],
 ) -> Result<Survey, AllocError>
-    requires { piece_forms.pieces_view pieces.now ≡ piece_forms.pieces_in (view.statement_of statement.now) }
-    ensures { IfOk result (λ survey. surveys.survey_view survey ≡ surveys.survey_of (map (λ e. (known.now, e)) (statements.expressions_in known.now (view.statement_of statement.now)))) }
+    requires { piece_forms.pieces_view pieces.now ≡ piece_forms.pieces_in
+        (view.statement_of statement.now) }
+    ensures { IfOk result (λ survey. surveys.survey_view survey
+        ≡ surveys.survey_of (map (λ e. (known.now, e)) (statements.expressions_in known.now
+        (view.statement_of statement.now)))) }
 {
     let expressions = expressions_in(alloc, known, is_print(statement), pieces)?;
     let survey = survey_at(alloc, known, &expressions)?;

@@ -33,7 +33,22 @@ impl Model for Known {
 
     ghost Value = { Scene };
 
-    ghost view = { λ k. record { count = length k.labels.items; executes = k.executes; labels = k.labels.items; names = k.names; integers = k.integers; constants = k.constants; arrays = k.arrays; scalars = k.scalars; loop_variables = k.loop_variables; loops = k.loops; opened = map open_of k.opened.items } };
+    ghost view = { λ k. record {
+      count = length k.labels.items;
+      executes = k.executes;
+      labels =
+          k.labels.items;
+      names = k.names;
+      integers = k.integers;
+      constants = k.constants;
+      arrays =
+          k.arrays;
+      scalars = k.scalars;
+      loop_variables = k.loop_variables;
+      loops = k.loops;
+      opened =
+          map open_of k.opened.items;
+    } };
 }
 
 impl Known {
@@ -143,7 +158,10 @@ impl Known {
 
     /// One more named constant.
     pub fn define(&mut self, alloc: Global, name: &[u8], value: i64) -> Result<(), AllocError>
-        ensures { OnOk result (self.new ≡ record self.old { constants = self.old.constants ++ record { name = name.now; value = value } ∷ [] }) }
+        ensures { OnOk result (self.new ≡ record self.old {
+          constants = self.old.constants
+              ++ record { name = name.now; value = value } ∷ [];
+        }) }
     {
         self.constants.push(alloc, name, value)?;
         Ok(())
@@ -216,7 +234,12 @@ impl Known {
 
     /// The statement is counted with its label, and these names are known.
     pub fn note(&mut self, alloc: Global, label: u32, names: &[&[u8]]) -> Result<(), AllocError>
-        ensures { OnOk result (self.new ≡ record self.old { count = self.old.count + 1; labels = self.old.labels ++ label ∷ []; names = with_names self.old.names (names_view names.now) }) }
+        ensures { OnOk result (self.new ≡ record self.old {
+          count = self.old.count + 1;
+          labels =
+              self.old.labels ++ label ∷ [];
+          names = with_names self.old.names (names_view names.now);
+        }) }
     {
         self.labels.push(label)?;
         self.names.add_all(alloc, names)?;
@@ -225,7 +248,10 @@ impl Known {
 
     /// These are names of INTEGER statements.
     pub fn declare_integers(&mut self, alloc: Global, names: &[&[u8]]) -> Result<(), AllocError>
-        ensures { OnOk result (self.new ≡ record self.old { integers = self.old.integers ++ names_view names.now }) }
+        ensures { OnOk result (self.new ≡ record self.old {
+          integers = self.old.integers
+              ++ names_view names.now;
+        }) }
     {
         self.integers.push_all(alloc, names)?;
         Ok(())
@@ -238,7 +264,10 @@ impl Known {
         name: &[u8],
         bounds: Vec<(i64, i64)>,
     ) -> Result<(), AllocError>
-        ensures { OnOk result (self.new ≡ record self.old { arrays = self.old.arrays ++ record { name = name.now; bounds = bounds.items } ∷ [] }) }
+        ensures { OnOk result (self.new ≡ record self.old {
+          arrays = self.old.arrays
+              ++ record { name = name.now; bounds = bounds.items } ∷ [];
+        }) }
     {
         self.arrays.push(alloc, name, bounds)?;
         Ok(())
@@ -247,7 +276,15 @@ impl Known {
     /// Behind a DO statement with this variable and this label its loop is open.
     pub fn open(&mut self, alloc: Global, variable: &[u8], label: u64) -> Result<(), AllocError>
         requires { self.old.loops < 2 ^ 31 }
-        ensures { OnOk result (self.new ≡ record self.old { executes = true; loop_variables = self.old.loop_variables ++ variable.now ∷ []; loops = self.old.loops + 1; opened = record { variable = variable.now; label = label; number = self.old.loops + 1 } ∷ self.old.opened }) }
+        ensures { OnOk result (self.new ≡ record self.old {
+          executes = true;
+          loop_variables =
+              self.old.loop_variables ++ variable.now ∷ [];
+          loops = self.old.loops + 1;
+          opened =
+              record { variable = variable.now; label = label; number = self.old.loops + 1 }
+              ∷ self.old.opened;
+        }) }
     {
         self.loop_variables.push(alloc, variable)?;
         let opened = Opened {
@@ -269,7 +306,12 @@ impl Known {
         label: u32,
         scalars: &[&[u8]],
     ) -> Result<(), AllocError>
-        ensures { OnOk result (self.new ≡ record self.old { executes = true; scalars = with_names self.old.scalars (names_view scalars.now); opened = left_open label self.old.opened }) }
+        ensures { OnOk result (self.new ≡ record self.old {
+          executes = true;
+          scalars = with_names
+              self.old.scalars (names_view scalars.now);
+          opened = left_open label self.old.opened;
+        }) }
     {
         self.scalars.add_all(alloc, scalars)?;
         self.executes = true;

@@ -9,5 +9,6 @@ ghost use Rattle.f77_program.specs.Passed.{passed};
 
 /// What `fault_in` and then `pass_statement` know is what the definitions know behind a statement.
 pub fn passed_is_behind()
-    ensures { (given : Given) (s : Scene) (label : ℕ) (f : StatementForm) → passed (evaluated given s f) label f ≡ behind given s label f }
+    ensures { (given : Given) (s : Scene) (label : ℕ) (f : StatementForm)
+        → passed (evaluated given s f) label f ≡ behind given s label f }
 {}

@@ -59,7 +59,8 @@ fn declarator_past(
     known: &Known,
     declarator: &Declarator,
 ) -> Result<Option<i64>, AllocError>
-    ensures { IfOk result (λ o. o ≡ first_of (limits.declarator_past known.now (view.declarator_of declarator.now))) }
+    ensures { IfOk result (λ o. o ≡ first_of (limits.declarator_past known.now (view.declarator_of
+        declarator.now))) }
 {
     if declarator.bounds.len() > 3 {
         return Ok(Some(declarator.bounds.len() as i64));
@@ -79,7 +80,8 @@ pub fn declarators_past(
     known: &Known,
     declarators: &[Declarator],
 ) -> Result<Option<i64>, AllocError>
-    ensures { IfOk result (λ o. o ≡ first_of (flat_map (limits.declarator_past known.now) (map view.declarator_of declarators.now))) }
+    ensures { IfOk result (λ o. o ≡ first_of (flat_map (limits.declarator_past known.now)
+        (map view.declarator_of declarators.now))) }
 {
     for declarator in declarators {
         if let Some(number) = declarator_past(alloc, known, declarator)? {

@@ -118,7 +118,11 @@ fn multiple(alloc: Global, factor: i64, a: &Affine) -> Result<Linear, AllocError
 fn limited(constant: i64, loops: Pairs, params: Pairs) -> Linear
     requires loops { Ascends 0 loops }
     requires params { Ascends 0 params }
-    ensures { result ≡ linear.limited (record { constant = constant; loops = loops; params = params }) }
+    ensures { result ≡ linear.limited (record {
+      constant = constant;
+      loops = loops;
+      params = params;
+    }) }
 {
     if !is_small(constant) {
         return Linear::Past(constant);

@@ -138,14 +138,16 @@ fn is_bad_division(operator: Operator, divisor: &Measure) -> bool
 
 /// Whether it is MIN or MAX of constants.
 fn is_constant_call(known: &Known, name: &[u8], arguments: &[Measure]) -> bool
-    ensures { result ≡ (is_function known.now name.now && list_all (λ (m : Measure). m.constant) arguments.now) }
+    ensures { result ≡ (is_function known.now name.now && list_all (λ (m : Measure). m.constant)
+        arguments.now) }
 {
     known.is_function(name) && are_constant(arguments)
 }
 
 /// Whether the variable of a loop is its name or stands in its arguments.
 fn is_looped_call(known: &Known, name: &[u8], arguments: &[Measure]) -> bool
-    ensures { result ≡ ((not (is_function known.now name.now) && is_open known.now name.now) || list_any (λ (m : Measure). m.looped) arguments.now) }
+    ensures { result ≡ ((not (is_function known.now name.now) && is_open known.now name.now) ||
+        list_any (λ (m : Measure). m.looped) arguments.now) }
 {
     (!known.is_function(name) && known.is_open(name)) || is_any_looped(arguments)
 }
@@ -257,8 +259,11 @@ pub fn apply(
     part: &Expression,
     stack: &mut Vec<Measure>,
 ) -> Result<(), AllocError>
-    requires { (front : List Measure) × (stack.old.items ≡ front ++ reverse (map (measure_of known.now) (operands_of (expression_of part.now)))) }
-    ensures { OnOk result ((front : List Measure) → stack.old.items ≡ front ++ reverse (map (measure_of known.now) (operands_of (expression_of part.now))) → stack.new.items ≡ front ++ measure_of known.now (expression_of part.now) ∷ []) }
+    requires { (front : List Measure) × (stack.old.items ≡ front
+        ++ reverse (map (measure_of known.now) (operands_of (expression_of part.now)))) }
+    ensures { OnOk result ((front : List Measure) → stack.old.items ≡ front
+        ++ reverse (map (measure_of known.now) (operands_of (expression_of part.now)))
+        → stack.new.items ≡ front ++ measure_of known.now (expression_of part.now) ∷ []) }
 {
     match part {
         Expression::Number(number) => push(stack, of_number(alloc, number)),
@@ -287,7 +292,8 @@ pub fn apply(
 /// first, so that the operands of each have been gone over in front of it.
 pub fn measure(alloc: Global, known: &Known, parts: &[&Expression]) -> Result<Measure, AllocError>
     requires { (e : ExpressionForm) × (forms_of parts.now ≡ parts_of e) }
-    ensures { IfOk result (λ m. (e : ExpressionForm) → forms_of parts.now ≡ parts_of e → m ≡ measure_of known.now e) }
+    ensures { IfOk result (λ m. (e : ExpressionForm) → forms_of parts.now ≡ parts_of e → m
+        ≡ measure_of known.now e) }
 {
     let mut stack = Vec::new(alloc);
     for place in (0..parts.len()).rev() {

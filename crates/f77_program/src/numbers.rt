@@ -49,8 +49,11 @@ impl Numbers {
 
     /// Gives a name this number where it has none. Where memory runs out nothing has changed.
     pub fn put(&mut self, alloc: Global, name: &[u8], number: u32) -> Result<(), AllocError>
-        ensures there { OnOk result ((other : List ℕ) → number_under self.new other ≡ option_or (number_under self.old other) (if bytes_eq other name.now then Some number else None)) }
-        ensures unchanged { OnErr result ((other : List ℕ) → number_under self.new other ≡ number_under self.old other) }
+        ensures there { OnOk result ((other : List ℕ) → number_under self.new other
+            ≡ option_or (number_under self.old other) (if bytes_eq other name.now then Some number
+            else None)) }
+        ensures unchanged { OnErr result ((other : List ℕ) → number_under self.new other
+            ≡ number_under self.old other) }
     {
         if is_short(name) {
             put_short(&mut self.short, key_of(name), number)
@@ -87,8 +90,11 @@ fn key_of(name: &[u8]) -> u128
 
 // Gives a key this number where it has none. Where memory runs out nothing has changed.
 fn put_short(numbers: &mut BTreeMap<u128, u32>, key: u128, number: u32) -> Result<(), AllocError>
-    ensures there { OnOk result ((other : ℕ) → get nat_cmp numbers.new other ≡ option_or (get nat_cmp numbers.old other) (if is_eq (nat_cmp key other) then Some number else None)) }
-    ensures unchanged { OnErr result ((other : ℕ) → get nat_cmp numbers.new other ≡ get nat_cmp numbers.old other) }
+    ensures there { OnOk result ((other : ℕ) → get nat_cmp numbers.new other
+        ≡ option_or (get nat_cmp numbers.old other) (if is_eq (nat_cmp key other) then Some number
+        else None)) }
+    ensures unchanged { OnErr result ((other : ℕ) → get nat_cmp numbers.new other
+        ≡ get nat_cmp numbers.old other) }
 {
     if let Some(first) = numbers.insert(key, number)? {
         put_back(numbers, key, first);
@@ -99,7 +105,8 @@ fn put_short(numbers: &mut BTreeMap<u128, u32>, key: u128, number: u32) -> Resul
 // Gives a key another number than it has, which takes no memory.
 fn put_back(numbers: &mut BTreeMap<u128, u32>, key: u128, number: u32)
     requires { is_some (get nat_cmp numbers.old key) ≡ true }
-    ensures { (other : ℕ) → get nat_cmp numbers.new other ≡ (if is_eq (nat_cmp key other) then Some number else get nat_cmp numbers.old other) }
+    ensures { (other : ℕ) → get nat_cmp numbers.new other
+        ≡ (if is_eq (nat_cmp key other) then Some number else get nat_cmp numbers.old other) }
 {
     match numbers.insert(key, number) {
         Ok(_) => {}
@@ -115,8 +122,11 @@ fn put_other(
     name: &[u8],
     number: u32,
 ) -> Result<(), AllocError>
-    ensures there { OnOk result ((other : List ℕ) → number_apart numbers.new other ≡ option_or (number_apart numbers.old other) (if bytes_eq other name.now then Some number else None)) }
-    ensures unchanged { OnErr result ((other : List ℕ) → number_apart numbers.new other ≡ number_apart numbers.old other) }
+    ensures there { OnOk result ((other : List ℕ) → number_apart numbers.new other
+        ≡ option_or (number_apart numbers.old other) (if bytes_eq other name.now then Some number
+        else None)) }
+    ensures unchanged { OnErr result ((other : List ℕ) → number_apart numbers.new other
+        ≡ number_apart numbers.old other) }
 {
     if numbers.contains_key(name) {
         return Ok(());

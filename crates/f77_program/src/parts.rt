@@ -28,7 +28,8 @@ fn push_operands<'a>(
     waiting: &mut Vec<&'a Expression>,
     part: &'a Expression,
 ) -> Result<(), AllocError>
-    ensures { OnOk result (forms_of waiting.new.items ≡ forms_of waiting.old.items ++ reverse (operands_of (expression_of part.now))) }
+    ensures { OnOk result (forms_of waiting.new.items ≡ forms_of waiting.old.items
+        ++ reverse (operands_of (expression_of part.now))) }
 {
     match part {
         Expression::Number(_) | Expression::Name(_) => {}
@@ -47,7 +48,8 @@ fn push_last_first<'a>(
     waiting: &mut Vec<&'a Expression>,
     arguments: &'a [Expression],
 ) -> Result<(), AllocError>
-    ensures { OnOk result (forms_of waiting.new.items ≡ forms_of waiting.old.items ++ reverse (map expression_of arguments.now)) }
+    ensures { OnOk result (forms_of waiting.new.items ≡ forms_of waiting.old.items
+        ++ reverse (map expression_of arguments.now)) }
 {
     for place in (0..arguments.len()).rev() {
         waiting.push(&arguments[place])?;

@@ -35,7 +35,8 @@ pub fn pass_statement(
     statement: &Statement,
 ) -> Result<(), AllocError>
     requires { known.old.loops < 2 ^ 31 }
-    ensures { OnOk result (known.new ≡ spec.passed known.old label (view.statement_of statement.now)) }
+    ensures { OnOk result (known.new ≡ spec.passed known.old label
+        (view.statement_of statement.now)) }
 {
     enter(alloc, known, label, statement)?;
     let names = statement_names(alloc, known, statement)?;
@@ -52,7 +53,8 @@ pub fn advance(
     statement: &Statement,
 ) -> Result<(), AllocError>
     requires { known.old.loops < 2 ^ 31 }
-    ensures { OnOk result (known.new ≡ behind.behind (given_of whole.now) known.old label (view.statement_of statement.now)) }
+    ensures { OnOk result (known.new ≡ behind.behind (given_of whole.now) known.old label
+        (view.statement_of statement.now)) }
 {
     define_constants(alloc, whole, known, statement)?;
     pass_statement(alloc, known, label, statement)?;
@@ -66,7 +68,8 @@ fn define_constants(
     known: &mut Known,
     statement: &Statement,
 ) -> Result<(), AllocError>
-    ensures { OnOk result (known.new ≡ evaluated (given_of whole.now) known.old (view.statement_of statement.now)) }
+    ensures { OnOk result (known.new ≡ evaluated (given_of whole.now) known.old
+        (view.statement_of statement.now)) }
 {
     if let Statement::Parameter(definitions) = statement {
         let _ = define(alloc, whole, known, definitions.as_slice())?;
@@ -81,7 +84,8 @@ fn enter(
     statement: &Statement,
 ) -> Result<(), AllocError>
     requires { known.old.loops < 2 ^ 31 }
-    ensures { OnOk result (known.new ≡ spec.entered known.old label (view.statement_of statement.now)) }
+    ensures { OnOk result (known.new ≡ spec.entered known.old label
+        (view.statement_of statement.now)) }
 {
     match statement {
         Statement::Program(_) => Ok(()),
@@ -117,7 +121,8 @@ fn execute(
     label: u32,
     statement: &Statement,
 ) -> Result<(), AllocError>
-    ensures { OnOk result (known.new ≡ behind.behind_work known.old label (view.statement_of statement.now)) }
+    ensures { OnOk result (known.new ≡ behind.behind_work known.old label
+        (view.statement_of statement.now)) }
 {
     let names = statement_names(alloc, known, statement)?;
     let scalars = scalars_among(alloc, known, &names)?;
@@ -131,7 +136,8 @@ fn statement_names<'a>(
     known: &Known,
     statement: &'a Statement,
 ) -> Result<Vec<&'a [u8]>, AllocError>
-    ensures { IfOk result (λ names. names_view names.items ≡ statements.names_of known.now (view.statement_of statement.now)) }
+    ensures { IfOk result (λ names. names_view names.items
+        ≡ statements.names_of known.now (view.statement_of statement.now)) }
 {
     let pieces = pieces_in(alloc, statement)?;
     let names = names_in(alloc, known, &pieces)?;
@@ -144,7 +150,8 @@ fn scalars_among<'a>(
     known: &Known,
     names: &[&'a [u8]],
 ) -> Result<Vec<&'a [u8]>, AllocError>
-    ensures { IfOk result (λ scalars. names_view scalars.items ≡ spec.scalars_among known.now (names_view names.now)) }
+    ensures { IfOk result (λ scalars. names_view scalars.items
+        ≡ spec.scalars_among known.now (names_view names.now)) }
 {
     let mut scalars = Vec::new(alloc);
     for name in names {
@@ -161,7 +168,8 @@ fn arrays_of<'a>(
     known: &Known,
     declarators: &'a [Declarator],
 ) -> Result<Vec<Declared<'a>>, AllocError>
-    ensures { IfOk result (λ arrays. map spec.array_of arrays.items ≡ behind.arrays_of known.now (map view.declarator_of declarators.now)) }
+    ensures { IfOk result (λ arrays. map spec.array_of arrays.items
+        ≡ behind.arrays_of known.now (map view.declarator_of declarators.now)) }
 {
     let mut arrays = Vec::new(alloc);
     for declarator in declarators {
@@ -181,7 +189,8 @@ fn bounds_among(
     known: &Known,
     bounds: &[Bound],
 ) -> Result<Vec<(i64, i64)>, AllocError>
-    ensures { IfOk result (λ values. values.items ≡ map (limits.bounds_of known.now) (map view.bound_of bounds.now)) }
+    ensures { IfOk result (λ values. values.items ≡ map (limits.bounds_of known.now)
+        (map view.bound_of bounds.now)) }
 {
     let mut values = Vec::new(alloc);
     for bound in bounds {
@@ -191,7 +200,10 @@ fn bounds_among(
 }
 
 fn declare(alloc: Global, known: &mut Known, arrays: Vec<Declared>) -> Result<(), AllocError>
-    ensures { OnOk result (known.new ≡ record known.old { arrays = known.old.arrays ++ map spec.array_of arrays.entry.items }) }
+    ensures { OnOk result (known.new ≡ record known.old {
+      arrays = known.old.arrays
+          ++ map spec.array_of arrays.entry.items;
+    }) }
 {
     for array in arrays {
         known.declare_array(alloc, array.name, array.bounds)?;

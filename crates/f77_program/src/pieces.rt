@@ -34,7 +34,8 @@ impl Drop for Piece<'_> {
 
 /// The pieces of a statement, in the order of the text.
 pub fn pieces_in<'a>(alloc: Global, statement: &'a Statement) -> Result<Vec<Piece<'a>>, AllocError>
-    ensures { IfOk result (λ pieces. pieces_view pieces.items ≡ spec.pieces_in (view.statement_of statement.now)) }
+    ensures { IfOk result (λ pieces. pieces_view pieces.items
+        ≡ spec.pieces_in (view.statement_of statement.now)) }
 {
     let mut pieces = Vec::new(alloc);
     match statement {
@@ -59,7 +60,8 @@ fn push_declarators<'a>(
     pieces: &mut Vec<Piece<'a>>,
     declarators: &'a [Declarator],
 ) -> Result<(), AllocError>
-    ensures { OnOk result (pieces_view pieces.new.items ≡ pieces_view pieces.old.items ++ flat_map spec.declarator_pieces (map view.declarator_of declarators.now)) }
+    ensures { OnOk result (pieces_view pieces.new.items ≡ pieces_view pieces.old.items
+        ++ flat_map spec.declarator_pieces (map view.declarator_of declarators.now)) }
 {
     for declarator in declarators {
         pieces.push(Piece::Name(declarator.name.as_slice()))?;
@@ -69,7 +71,8 @@ fn push_declarators<'a>(
 }
 
 fn push_bounds<'a>(pieces: &mut Vec<Piece<'a>>, bounds: &'a [Bound]) -> Result<(), AllocError>
-    ensures { OnOk result (pieces_view pieces.new.items ≡ pieces_view pieces.old.items ++ flat_map spec.bound_pieces (map view.bound_of bounds.now)) }
+    ensures { OnOk result (pieces_view pieces.new.items ≡ pieces_view pieces.old.items
+        ++ flat_map spec.bound_pieces (map view.bound_of bounds.now)) }
 {
     for bound in bounds {
         if let Some(lower) = &bound.lower {
@@ -84,7 +87,8 @@ fn push_definitions<'a>(
     pieces: &mut Vec<Piece<'a>>,
     definitions: &'a [Definition],
 ) -> Result<(), AllocError>
-    ensures { OnOk result (pieces_view pieces.new.items ≡ pieces_view pieces.old.items ++ flat_map spec.definition_pieces (map view.definition_of definitions.now)) }
+    ensures { OnOk result (pieces_view pieces.new.items ≡ pieces_view pieces.old.items
+        ++ flat_map spec.definition_pieces (map view.definition_of definitions.now)) }
 {
     for definition in definitions {
         pieces.push(Piece::Name(definition.name.as_slice()))?;
@@ -94,7 +98,8 @@ fn push_definitions<'a>(
 }
 
 fn push_do<'a>(pieces: &mut Vec<Piece<'a>>, statement: &'a DoStatement) -> Result<(), AllocError>
-    ensures { OnOk result (pieces_view pieces.new.items ≡ pieces_view pieces.old.items ++ spec.do_pieces (view.do_of statement.now)) }
+    ensures { OnOk result (pieces_view pieces.new.items ≡ pieces_view pieces.old.items
+        ++ spec.do_pieces (view.do_of statement.now)) }
 {
     pieces.push(Piece::Name(statement.variable.as_slice()))?;
     pieces.push(Piece::Expression(&statement.first))?;
@@ -109,7 +114,8 @@ fn push_assignment<'a>(
     pieces: &mut Vec<Piece<'a>>,
     assignment: &'a Assignment,
 ) -> Result<(), AllocError>
-    ensures { OnOk result (pieces_view pieces.new.items ≡ pieces_view pieces.old.items ++ spec.assignment_pieces (view.assignment_of assignment.now)) }
+    ensures { OnOk result (pieces_view pieces.new.items ≡ pieces_view pieces.old.items
+        ++ spec.assignment_pieces (view.assignment_of assignment.now)) }
 {
     pieces.push(Piece::Name(assignment.target.name.as_slice()))?;
     push_expressions(pieces, assignment.target.arguments.as_slice())?;
@@ -121,7 +127,8 @@ fn push_expressions<'a>(
     pieces: &mut Vec<Piece<'a>>,
     expressions: &'a [Expression],
 ) -> Result<(), AllocError>
-    ensures { OnOk result (pieces_view pieces.new.items ≡ pieces_view pieces.old.items ++ map spec.expressed (map expression_of expressions.now)) }
+    ensures { OnOk result (pieces_view pieces.new.items ≡ pieces_view pieces.old.items
+        ++ map spec.expressed (map expression_of expressions.now)) }
 {
     for e in expressions {
         pieces.push(Piece::Expression(e))?;
@@ -130,7 +137,8 @@ fn push_expressions<'a>(
 }
 
 fn push_items<'a>(pieces: &mut Vec<Piece<'a>>, items: &'a [Printed]) -> Result<(), AllocError>
-    ensures { OnOk result (pieces_view pieces.new.items ≡ pieces_view pieces.old.items ++ flat_map spec.item_pieces (map view.printed_of items.now)) }
+    ensures { OnOk result (pieces_view pieces.new.items ≡ pieces_view pieces.old.items
+        ++ flat_map spec.item_pieces (map view.printed_of items.now)) }
 {
     for item in items {
         if let Printed::Value(e) = item {
@@ -146,7 +154,8 @@ pub fn names_in<'a>(
     known: &Known,
     pieces: &[Piece<'a>],
 ) -> Result<Vec<&'a [u8]>, AllocError>
-    ensures { IfOk result (λ names. spec.names_view names.items ≡ flat_map (spec.piece_names known.now) (pieces_view pieces.now)) }
+    ensures { IfOk result (λ names. spec.names_view names.items
+        ≡ flat_map (spec.piece_names known.now) (pieces_view pieces.now)) }
 {
     let mut names = Vec::new(alloc);
     for piece in pieces {
@@ -164,7 +173,8 @@ fn push_names<'a>(
     e: &'a Expression,
     names: &mut Vec<&'a [u8]>,
 ) -> Result<(), AllocError>
-    ensures { OnOk result (spec.names_view names.new.items ≡ spec.names_view names.old.items ++ expressions.names_in known.now (expression_of e.now)) }
+    ensures { OnOk result (spec.names_view names.new.items ≡ spec.names_view names.old.items
+        ++ expressions.names_in known.now (expression_of e.now)) }
 {
     let parts = parts_of(alloc, e)?;
     for part in &parts {
@@ -178,7 +188,8 @@ fn push_name<'a>(
     part: &'a Expression,
     names: &mut Vec<&'a [u8]>,
 ) -> Result<(), AllocError>
-    ensures { OnOk result (spec.names_view names.new.items ≡ spec.names_view names.old.items ++ expressions.name_in known.now (expression_of part.now)) }
+    ensures { OnOk result (spec.names_view names.new.items ≡ spec.names_view names.old.items
+        ++ expressions.name_in known.now (expression_of part.now)) }
 {
     match part {
         Expression::Name(name) => names.push(name.as_slice())?,
@@ -199,7 +210,8 @@ pub fn expressions_in<'a>(
     printed: bool,
     pieces: &[Piece<'a>],
 ) -> Result<Vec<&'a Expression>, AllocError>
-    ensures { IfOk result (λ es. forms_of es.items ≡ flat_map (spec.piece_expressions known.now printed) (pieces_view pieces.now)) }
+    ensures { IfOk result (λ es. forms_of es.items ≡ flat_map (spec.piece_expressions known.now
+        printed) (pieces_view pieces.now)) }
 {
     let mut expressions = Vec::new(alloc);
     for piece in pieces {

@@ -19,7 +19,9 @@ use f77_forms::Statement;
 /// What the expressions of a statement are that have to be affine, where its expressions come to
 /// these.
 pub fn reach_in(statement: &Statement, measures: &[Measure]) -> Reach
-    ensures { (given : Given) (s : Scene) → measures.now ≡ measures_of (spots_in given s (view.statement_of statement.now)) → result ≡ reach_of s (tests.affine_in s (view.statement_of statement.now)) }
+    ensures { (given : Given) (s : Scene) → measures.now
+        ≡ measures_of (spots_in given s (view.statement_of statement.now)) → result
+        ≡ reach_of s (tests.affine_in s (view.statement_of statement.now)) }
 {
     let (affine, others) = measures.split_at(affine_count(statement).min(measures.len()));
     match statement {
@@ -33,7 +35,8 @@ pub fn reach_in(statement: &Statement, measures: &[Measure]) -> Reach
 
 /// Of expressions that have to be affine, and of the subscripts in others.
 fn with_subscripts(affine: &[Measure], others: &[Measure]) -> Reach
-    ensures { result ≡ also (measures.linear_reaches affine.now) (measures.inner_reaches others.now) }
+    ensures { result ≡ also (measures.linear_reaches affine.now) (measures.inner_reaches
+        others.now) }
 {
     linear_reaches(affine).also(inner_reaches(others))
 }
@@ -52,7 +55,11 @@ fn affine_count(statement: &Statement) -> usize
 
 /// The step of a DO statement, if it has one.
 pub fn step_in<'a>(statement: &Statement, measures: &'a [Measure]) -> Option<&'a Measure>
-    ensures { (given : Given) (s : Scene) → measures.now ≡ measures_of (spots_in given s (view.statement_of statement.now)) → MatchOption result (tests.steps_in (view.statement_of statement.now) ≡ []) (λ m. map (measure_of s) (tests.steps_in (view.statement_of statement.now)) ≡ m.now ∷ []) }
+    ensures { (given : Given) (s : Scene) → measures.now
+        ≡ measures_of (spots_in given s (view.statement_of statement.now))
+        → MatchOption result (tests.steps_in (view.statement_of statement.now)
+        ≡ []) (λ m. map (measure_of s) (tests.steps_in (view.statement_of statement.now)) ≡ m.now
+        ∷ []) }
 {
     match statement {
         Statement::Do(_) => measures.get(2),

@@ -7,7 +7,8 @@ use std::alloc::AllocError;
 /// What lies on top of the stack.
 pub fn popped<T>(stack: &mut Vec<T>) -> T
     requires { 0 < length stack.old.items }
-    ensures { (front : List T) (x : T) → stack.old.items ≡ front ++ x ∷ [] → (stack.new.items ≡ front) × (result ≡ x) }
+    ensures { (front : List T) (x : T) → stack.old.items ≡ front ++ x ∷ []
+        → (stack.new.items ≡ front) × (result ≡ x) }
 {
     stack.pop().unwrap()
 }
@@ -15,8 +16,10 @@ pub fn popped<T>(stack: &mut Vec<T>) -> T
 /// So many things from the top of the stack, the topmost first.
 pub fn taken<T: Drop>(stack: &mut Vec<T>, count: usize) -> Result<Vec<T>, AllocError>
     requires { count ≤ length stack.old.items }
-    ensures left { OnOk result ((front xs : List T) → stack.old.items ≡ front ++ reverse xs → length xs ≡ count → stack.new.items ≡ front) }
-    ensures top { IfOk result (λ v. (front xs : List T) → stack.old.items ≡ front ++ reverse xs → length xs ≡ count → v.items ≡ xs) }
+    ensures left { OnOk result ((front xs : List T) → stack.old.items ≡ front ++ reverse xs
+        → length xs ≡ count → stack.new.items ≡ front) }
+    ensures top { IfOk result (λ v. (front xs : List T) → stack.old.items ≡ front ++ reverse xs
+        → length xs ≡ count → v.items ≡ xs) }
 {
     let mut top = stack.split_off(stack.len() - count)?;
     top.reverse();

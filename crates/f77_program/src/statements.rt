@@ -37,7 +37,9 @@ pub fn is_in_order(known: &Known, behind: usize, statement: &Statement) -> bool
 
 /// What a statement stores to.
 pub fn target_in(statement: &Statement) -> Option<&Target>
-    ensures { MatchOption result (statements.targets_in (view.statement_of statement.now) ≡ []) (λ t. statements.targets_in (view.statement_of statement.now) ≡ view.target_of t.now ∷ []) }
+    ensures { MatchOption result (statements.targets_in (view.statement_of statement.now)
+        ≡ []) (λ t. statements.targets_in (view.statement_of statement.now) ≡ view.target_of t.now
+        ∷ []) }
 {
     match statement {
         Statement::Assign(assignment) | Statement::If(_, assignment) => Some(&assignment.target),
@@ -47,7 +49,8 @@ pub fn target_in(statement: &Statement) -> Option<&Target>
 
 /// Whether a statement stores to a named constant, or to a name with parentheses that is no array.
 pub fn has_bad_target(known: &Known, statement: &Statement) -> bool
-    ensures { result ≡ list_any (tests.is_bad_target known.now) (statements.targets_in (view.statement_of statement.now)) }
+    ensures { result ≡ list_any (tests.is_bad_target known.now) (statements.targets_in
+        (view.statement_of statement.now)) }
 {
     match target_in(statement) {
         Some(target) => is_bad_target(known, target),
@@ -62,14 +65,16 @@ fn is_bad_target(known: &Known, target: &Target) -> bool
 }
 
 fn has_arguments(target: &Target) -> bool
-    ensures { result ≡ nat_lt 0 (length (expressions.list_of (view.target_of target.now).arguments)) }
+    ensures { result ≡ nat_lt 0 (length (expressions.list_of
+        (view.target_of target.now).arguments)) }
 {
     !target.arguments.is_empty()
 }
 
 /// Whether a statement stores to the variable of a loop.
 pub fn stores_to_loop_variable(known: &Known, statement: &Statement) -> bool
-    ensures { result ≡ list_any (λ t. is_among known.now.loop_variables t.name) (statements.targets_in (view.statement_of statement.now)) }
+    ensures { result ≡ list_any (λ t. is_among known.now.loop_variables t.name)
+        (statements.targets_in (view.statement_of statement.now)) }
 {
     match target_in(statement) {
         Some(target) => known.is_loop_variable(&target.name),
@@ -79,7 +84,8 @@ pub fn stores_to_loop_variable(known: &Known, statement: &Statement) -> bool
 
 /// Whether a statement stores to an array with too many or too few subscripts.
 pub fn has_badly_subscripted_target(known: &Known, statement: &Statement) -> bool
-    ensures { result ≡ list_any (λ t. tests.is_bad_rank known.now t.name t.arguments) (statements.targets_in (view.statement_of statement.now)) }
+    ensures { result ≡ list_any (λ t. tests.is_bad_rank known.now t.name t.arguments)
+        (statements.targets_in (view.statement_of statement.now)) }
 {
     match target_in(statement) {
         Some(target) => is_badly_subscripted(known, target),
@@ -88,14 +94,16 @@ pub fn has_badly_subscripted_target(known: &Known, statement: &Statement) -> boo
 }
 
 fn is_badly_subscripted(known: &Known, target: &Target) -> bool
-    ensures { result ≡ tests.is_bad_rank known.now (view.target_of target.now).name (view.target_of target.now).arguments }
+    ensures { result ≡ tests.is_bad_rank known.now (view.target_of target.now).name
+        (view.target_of target.now).arguments }
 {
     is_bad_rank(known, &target.name, target.arguments.len())
 }
 
 /// Whether a name is of a variable that is not INTEGER, where INTEGER statements have these names.
 pub fn has_other_type(integers: &Names, names: &[&[u8]]) -> bool
-    ensures { result ≡ list_any (λ n. not (tests.begins_i_to_n n || is_among integers.now n)) (names_view names.now) }
+    ensures { result ≡ list_any (λ n. not (tests.begins_i_to_n n || is_among integers.now n))
+        (names_view names.now) }
 {
     for name in names {
         if !(begins_i_to_n(name) || integers.contains(name)) {
@@ -188,7 +196,8 @@ pub fn is_bad_loop(
 
 /// Whether this name stands alone somewhere in an expression.
 fn reads(alloc: Global, name: &[u8], e: &Expression) -> Result<bool, AllocError>
-    ensures { IfOk result (λ found. found ≡ list_any (tests.is_named name.now) (expressions.parts_of (expression_of e.now))) }
+    ensures { IfOk result (λ found. found ≡ list_any (tests.is_named name.now) (expressions.parts_of
+        (expression_of e.now))) }
 {
     let parts = parts_of(alloc, e)?;
     Ok(is_among(name, &parts))

@@ -36,7 +36,8 @@ fn next_pair<'a>(
 ) -> Option<((u32, i64), &'a [(u32, i64)], &'a [(u32, i64)])>
     requires left { IsTrue (rises_above 0 left.now) }
     requires right { IsTrue (rises_above 0 right.now) }
-    ensures { MatchOption result ((left.now ≡ []) × (right.now ≡ [])) (λ next. IsNextPair left.now right.now next.0 next.1.now next.2.now) }
+    ensures { MatchOption result ((left.now ≡ []) × (right.now ≡ [])) (λ next. IsNextPair left.now
+        right.now next.0 next.1.now next.2.now) }
 {
     let Some((first, lefts)) = left.split_first() else {
         return match right.split_first() {

@@ -40,7 +40,9 @@ impl Survey {
 
     /// Of one expression more.
     pub fn add(&mut self, alloc: Global, known: &Known, e: &Expression) -> Result<(), AllocError>
-        ensures { (spots : List statements.Spot) → spec.survey_view self.old ≡ spec.survey_of spots → OnOk result (spec.survey_view self.new ≡ spec.survey_of (spots ++ (known.now, expression_of e.now) ∷ [])) }
+        ensures { (spots : List statements.Spot) → spec.survey_view self.old ≡ spec.survey_of spots
+            → OnOk result (spec.survey_view self.new ≡ spec.survey_of (spots
+            ++ (known.now, expression_of e.now) ∷ [])) }
     {
         let parts = parts_of(alloc, e)?;
         let measure = measure(alloc, known, parts.as_slice())?;
@@ -56,7 +58,8 @@ pub fn survey_at(
     known: &Known,
     expressions: &[&Expression],
 ) -> Result<Survey, AllocError>
-    ensures { IfOk result (λ survey. spec.survey_view survey ≡ spec.survey_of (map (λ e. (known.now, e)) (forms_of expressions.now))) }
+    ensures { IfOk result (λ survey. spec.survey_view survey
+        ≡ spec.survey_of (map (λ e. (known.now, e)) (forms_of expressions.now))) }
 {
     let mut survey = Survey::new(alloc);
     for e in expressions {
@@ -73,8 +76,11 @@ pub fn define(
     known: &mut Known,
     definitions: &[Definition],
 ) -> Result<Survey, AllocError>
-    ensures survey { IfOk result (λ survey. spec.survey_view survey ≡ spec.survey_of (statements.definition_spots (given_of whole.now) known.old (map definition_of definitions.now))) }
-    ensures known { OnOk result (known.new ≡ statements.with_constants (given_of whole.now) known.old (map definition_of definitions.now)) }
+    ensures survey { IfOk result (λ survey. spec.survey_view survey
+        ≡ spec.survey_of (statements.definition_spots (given_of whole.now) known.old
+        (map definition_of definitions.now))) }
+    ensures known { OnOk result (known.new ≡ statements.with_constants (given_of whole.now)
+        known.old (map definition_of definitions.now)) }
 {
     let mut survey = Survey::new(alloc);
     for definition in definitions {

@@ -6,7 +6,7 @@ use Rattle.nest_tree.specs.declared.tree.Guard.{Guard}
 use Rattle.nest_tree.specs.declared.tree.Compare.{Compare}
 use Rattle.nest_tree.specs.declared.tree.Compare.TheVariants as tree_compare
 use Rattle.nest_tree.specs.Tree as tree
-use Rattle.nest_tree.specs.Tree.{Expression, Expressions, Printed, Assignment, Head, Statement, Statements}
+use Rattle.nest_tree.specs.Tree.{Expression, Expressions, Printed, Head, Statement, Statements}
 use Rattle.f77_forms.specs.declared.form.Sign.{Sign}
 use Rattle.f77_forms.specs.declared.form.Sign.TheVariants.{Plus, Minus}
 use Rattle.f77_forms.specs.declared.form.Operator.TheVariants.{Add, Subtract, Multiply, Divide}

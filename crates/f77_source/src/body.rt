@@ -67,8 +67,10 @@ impl Body {
     ) -> Result<(), AllocError>
         requires few { length variables.now < 4294967295 }
         requires loops { known.now.loops < 2 ^ 31 }
-        requires affine { reach_of known.now (affine_in known.now (forms.statement_of statement.now)) ≡ Within }
-        ensures { OnOk result (body_of self.new ≡ body_behind variables.now known.now line label (forms.statement_of statement.now) (body_of self.old)) }
+        requires affine { reach_of known.now (affine_in known.now
+            (forms.statement_of statement.now)) ≡ Within }
+        ensures { OnOk result (body_of self.new ≡ body_behind variables.now known.now line label
+            (forms.statement_of statement.now) (body_of self.old)) }
     {
         match statement {
             Statement::Program(_) => Ok(()),
@@ -92,8 +94,10 @@ impl Body {
         statement: &DoStatement,
     ) -> Result<(), AllocError>
         requires loops { known.now.loops < 2 ^ 31 }
-        requires affine { reach_of known.now (forms.expression_of statement.now.first ∷ forms.expression_of statement.now.last ∷ []) ≡ Within }
-        ensures { OnOk result (body_of self.new ≡ trees.body_behind_do known.now line (forms.do_of statement.now) (body_of self.old)) }
+        requires affine { reach_of known.now (forms.expression_of statement.now.first
+            ∷ forms.expression_of statement.now.last ∷ []) ≡ Within }
+        ensures { OnOk result (body_of self.new ≡ trees.body_behind_do known.now line
+            (forms.do_of statement.now) (body_of self.old)) }
     {
         let m1 = form_of(alloc, known, &statement.first)?;
         let m2 = form_of(alloc, known, &statement.last)?;
@@ -114,7 +118,8 @@ impl Body {
 
     /// The open loops of this label end here, the innermost first.
     fn close(&mut self, label: u32) -> Result<(), AllocError>
-        ensures { OnOk result (body_of self.new ≡ trees.closed label (body_of self.old).begun (body_of self.old).items) }
+        ensures { OnOk result (body_of self.new ≡ trees.closed label (body_of self.old).begun
+            (body_of self.old).items) }
     {
         while ends_first(label, &self.begun) {
             let begun = self.begun.remove(0);
@@ -126,7 +131,8 @@ impl Body {
     /// This loop ends here.
     fn end(&mut self, begun: Begun) -> Result<(), AllocError>
         ensures loops { OnOk result (self.new.begun ≡ self.old.begun) }
-        ensures items { OnOk result (map statement_of self.new.items.items ≡ spec.ended (spec.begun_of begun) (map statement_of self.old.items.items)) }
+        ensures items { OnOk result (map statement_of self.new.items.items
+            ≡ spec.ended (spec.begun_of begun) (map statement_of self.old.items.items)) }
     {
         let Begun {
             label: _,

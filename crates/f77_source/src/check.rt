@@ -16,10 +16,13 @@ use std::alloc::Global;
 
 /// What is known behind the last statement, or the first fault.
 pub fn check(alloc: Global, whole: &Whole, sources: &[Source]) -> Result<Known, Refusal>
-    ensures known { IfOk result (λ known. known ≡ reading.scene_from (given_of whole.now) first_scene (map source_of sources.now)) }
+    ensures known { IfOk result (λ known. known ≡ reading.scene_from (given_of whole.now)
+        first_scene (map source_of sources.now)) }
     ensures within { IfOk result KeepsLimits }
-    ensures faultless { OnOk result (reading.fault_from (given_of whole.now) first_scene (map source_of sources.now) ≡ None) }
-    ensures refused { IfErr result (Refuses (reading.fault_from (given_of whole.now) first_scene (map source_of sources.now))) }
+    ensures faultless { OnOk result (reading.fault_from (given_of whole.now) first_scene
+        (map source_of sources.now) ≡ None) }
+    ensures refused { IfErr result (Refuses (reading.fault_from (given_of whole.now) first_scene
+        (map source_of sources.now))) }
 {
     let mut known = Known::new(alloc);
     for (place, source) in sources.iter().enumerate() {
@@ -38,10 +41,14 @@ fn pass(
     source: &Source,
 ) -> Result<(), Refusal>
     requires { KeepsLimits known.old }
-    ensures known { OnOk result (known.new ≡ reading.scene_with (given_of whole.now) known.old source.now.label (reading_view source.now.reading)) }
+    ensures known { OnOk result (known.new ≡ reading.scene_with (given_of whole.now) known.old
+        source.now.label (reading_view source.now.reading)) }
     ensures within { OnOk result (KeepsLimits known.new) }
-    ensures faultless { OnOk result (reading.fault_with (given_of whole.now) known.old behind source.now.label (reading_view source.now.reading) ≡ None) }
-    ensures refused { IfErr result (Refuses (reading.at_line source.now.line (reading.fault_with (given_of whole.now) known.old behind source.now.label (reading_view source.now.reading)))) }
+    ensures faultless { OnOk result (reading.fault_with (given_of whole.now) known.old behind
+        source.now.label (reading_view source.now.reading) ≡ None) }
+    ensures refused { IfErr result (Refuses (reading.at_line source.now.line
+        (reading.fault_with (given_of whole.now) known.old behind source.now.label
+        (reading_view source.now.reading)))) }
 {
     let statement = match &source.reading {
         Ok(statement) => statement,

@@ -33,7 +33,8 @@ pub fn forms_of(
     expressions: &[Expression],
 ) -> Result<Listed<Affine>, AllocError>
     requires { reach_of known.now (map expression_of expressions.now) ≡ Within }
-    ensures { IfOk result (λ fs. fs ≡ map (affine.form_of known.now) (map expression_of expressions.now)) }
+    ensures { IfOk result (λ fs. fs ≡ map (affine.form_of known.now)
+        (map expression_of expressions.now)) }
 {
     let mut forms = Listed::new(alloc);
     for e in expressions {

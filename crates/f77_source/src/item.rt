@@ -28,8 +28,10 @@ pub fn push_item(
     items: &mut Vec<Item>,
 ) -> Result<(), AllocError>
     requires few { length variables.now < 4294967295 }
-    requires affine { reach_of known.now (affine_in known.now (forms.statement_of statement.now)) ≡ Within }
-    ensures { OnOk result (map statement_of items.new.items ≡ map statement_of items.old.items ++ trees.statement_tree variables.now known.now line (forms.statement_of statement.now)) }
+    requires affine { reach_of known.now (affine_in known.now (forms.statement_of statement.now))
+        ≡ Within }
+    ensures { OnOk result (map statement_of items.new.items ≡ map statement_of items.old.items
+        ++ trees.statement_tree variables.now known.now line (forms.statement_of statement.now)) }
 {
     match statement {
         Statement::Assign(a) => {
@@ -58,8 +60,10 @@ fn assignment(
     a: &Assignment,
 ) -> Result<Item, AllocError>
     requires few { length variables.now < 4294967295 }
-    requires affine { reach_of known.now (list_of (forms.target_of a.now.target).arguments ++ subscripts_in known.now (forms.expression_of a.now.value)) ≡ Within }
-    ensures { IfOk result (λ item. statement_of item ≡ trees.assignment_tree variables.now known.now line guard (forms.assignment_of a.now)) }
+    requires affine { reach_of known.now (list_of (forms.target_of a.now.target).arguments
+        ++ subscripts_in known.now (forms.expression_of a.now.value)) ≡ Within }
+    ensures { IfOk result (λ item. statement_of item ≡ trees.assignment_tree variables.now known.now
+        line guard (forms.assignment_of a.now)) }
 {
     let subscripts = forms_of(alloc, known, &a.target.arguments)?;
     let target = access(variables, &a.target.name, subscripts);
@@ -101,8 +105,10 @@ fn printed_in(
     printed: &[Printed],
 ) -> Result<Vec<PrintItem>, AllocError>
     requires few { length variables.now < 4294967295 }
-    requires affine { reach_of known.now (flat_map (spec.item_subscripts known.now) (map forms.printed_of printed.now)) ≡ Within }
-    ensures { IfOk result (λ items. map printed_of items.items ≡ map (trees.item_tree variables.now known.now) (map forms.printed_of printed.now)) }
+    requires affine { reach_of known.now (flat_map (spec.item_subscripts known.now)
+        (map forms.printed_of printed.now)) ≡ Within }
+    ensures { IfOk result (λ items. map printed_of items.items
+        ≡ map (trees.item_tree variables.now known.now) (map forms.printed_of printed.now)) }
 {
     let mut items = Vec::new(alloc);
     for item in printed {
@@ -118,8 +124,10 @@ fn printed_item(
     item: &Printed,
 ) -> Result<PrintItem, AllocError>
     requires few { length variables.now < 4294967295 }
-    requires affine { reach_of known.now (spec.item_subscripts known.now (forms.printed_of item.now)) ≡ Within }
-    ensures { IfOk result (λ i. printed_of i ≡ trees.item_tree variables.now known.now (forms.printed_of item.now)) }
+    requires affine { reach_of known.now (spec.item_subscripts known.now
+        (forms.printed_of item.now)) ≡ Within }
+    ensures { IfOk result (λ i. printed_of i ≡ trees.item_tree variables.now known.now
+        (forms.printed_of item.now)) }
 {
     match item {
         Printed::Text(characters) => {
@@ -137,8 +145,10 @@ fn printed_value(
     e: &Expression,
 ) -> Result<PrintItem, AllocError>
     requires few { length variables.now < 4294967295 }
-    requires affine { reach_of known.now (subscripts_in known.now (forms.expression_of e.now)) ≡ Within }
-    ensures { IfOk result (λ i. printed_of i ≡ trees.value_tree variables.now known.now (forms.expression_of e.now)) }
+    requires affine { reach_of known.now (subscripts_in known.now (forms.expression_of e.now))
+        ≡ Within }
+    ensures { IfOk result (λ i. printed_of i ≡ trees.value_tree variables.now known.now
+        (forms.expression_of e.now)) }
 {
     match e {
         Expression::Name(name) if known.is_array(name) => {

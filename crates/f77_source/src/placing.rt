@@ -67,7 +67,8 @@ fn directive_number(
     dimensions: u32,
     placing: Placing,
 ) -> Result<Option<u32>, AllocError>
-    ensures { IfOk result (λ number. number ≡ spec.directive_number texts.now name.now dimensions placing) }
+    ensures { IfOk result (λ number. number ≡ spec.directive_number texts.now name.now dimensions
+        placing) }
 {
     if placing.0 > dimensions {
         return Ok(None);
@@ -94,7 +95,8 @@ fn directive_text(
     dimensions: u32,
     placing: Placing,
 ) -> Result<Vec<u8>, AllocError>
-    ensures { IfOk result (λ text. text.items ≡ directives.directive_text name.now dimensions placing) }
+    ensures { IfOk result (λ text. text.items ≡ directives.directive_text name.now dimensions
+        placing) }
 {
     let items = items_text(alloc, dimensions, placing)?;
     let mut text = Vec::from_slice(alloc, name)?;

@@ -31,21 +31,28 @@ use std::alloc::{AllocError, Global};
 /// first setting that names no PARAMETER. Want of memory may come in place of any answer.
 pub fn read_program(alloc: Global, lines: &[Line], settings: &[Setting]) -> Result<Program, Refusal>
     // What is read is the program of what is listed, which has no fault.
-    ensures program { IfOk result (λ p. answers.IsProgram (map entry_of lines.now) (map setting_of settings.now) (tree_of p)) }
+    ensures program { IfOk result (λ p. answers.IsProgram (map entry_of lines.now)
+        (map setting_of settings.now) (tree_of p)) }
     // A refusal names its first fault, or is want of memory.
-    ensures refused { IfErr result (answers.Refuses (reading.first_fault_in (map entry_of lines.now) (map setting_of settings.now))) }
+    ensures refused { IfErr result (answers.Refuses (reading.first_fault_in (map entry_of lines.now)
+        (map setting_of settings.now))) }
     // The same of the bytes that list it: what is read is their program.
-    ensures reads { (bytes : List ℕ) (rest : ℕ) → Lists bytes (map entry_of lines.now) rest → IfOk result (λ p. reading.Reads bytes (map setting_of settings.now) (tree_of p)) }
+    ensures reads { (bytes : List ℕ) (rest : ℕ) → Lists bytes (map entry_of lines.now) rest
+        → IfOk result (λ p. reading.Reads bytes (map setting_of settings.now) (tree_of p)) }
     // And that program is well formed, as calls on programs ask.
-    ensures formed { (bytes : List ℕ) (rest : ℕ) → Lists bytes (map entry_of lines.now) rest → IfOk result (λ p. IsWellFormed (tree_of p)) }
-    ensures first_fault { (bytes : List ℕ) (rest : ℕ) → Lists bytes (map entry_of lines.now) rest → IfErr result (answers.Refuses (reading.first_fault bytes (map setting_of settings.now))) }
+    ensures formed { (bytes : List ℕ) (rest : ℕ) → Lists bytes (map entry_of lines.now) rest
+        → IfOk result (λ p. IsWellFormed (tree_of p)) }
+    ensures first_fault { (bytes : List ℕ) (rest : ℕ) → Lists bytes (map entry_of lines.now) rest
+        → IfErr result (answers.Refuses (reading.first_fault bytes (map setting_of settings.now))) }
 {
     read(alloc, lines, settings)
 }
 
 fn read(alloc: Global, lines: &[Line], settings: &[Setting]) -> Result<Program, Refusal>
-    ensures program { IfOk result (λ p. answers.IsProgram (map entry_of lines.now) (map setting_of settings.now) (tree_of p)) }
-    ensures refused { IfErr result (answers.Refuses (reading.first_fault_in (map entry_of lines.now) (map setting_of settings.now))) }
+    ensures program { IfOk result (λ p. answers.IsProgram (map entry_of lines.now)
+        (map setting_of settings.now) (tree_of p)) }
+    ensures refused { IfErr result (answers.Refuses (reading.first_fault_in (map entry_of lines.now)
+        (map setting_of settings.now))) }
     ensures values { OnOk result (IsTrue (are_values (map setting_of settings.now))) }
 {
     let sources = sources_in(alloc, lines)?;
@@ -60,7 +67,8 @@ fn read(alloc: Global, lines: &[Line], settings: &[Setting]) -> Result<Program, 
 
 /// The first of settings, by its number from 1, that names no named constant.
 fn bad_setting(known: &Known, settings: &[Setting]) -> Option<usize>
-    ensures { option_map scene.bad_setting result ≡ reading.bad_setting_from 1 (constant_names known.now) (map setting_of settings.now) }
+    ensures { option_map scene.bad_setting result ≡ reading.bad_setting_from 1
+        (constant_names known.now) (map setting_of settings.now) }
 {
     for (place, setting) in settings.iter().enumerate() {
         if !known.is_constant(setting.name.as_slice()) {
@@ -78,10 +86,14 @@ fn assemble(
     known: &Known,
     sources: &[Source],
 ) -> Result<Program, AllocError>
-    requires faultless { reading.fault_from (given_of whole.now) first_scene (map source_of sources.now) ≡ None }
-    requires known { known.now ≡ reading.scene_from (given_of whole.now) first_scene (map source_of sources.now) }
+    requires faultless { reading.fault_from (given_of whole.now) first_scene
+        (map source_of sources.now) ≡ None }
+    requires known { known.now ≡ reading.scene_from (given_of whole.now) first_scene
+        (map source_of sources.now) }
     requires within { KeepsLimits known.now }
-    ensures { IfOk result (λ p. tree_of p ≡ reading.tree_from (reading.directives_of (map entry_of lines.now)) known.now (reading.body_from (reading.variables_of known.now) (given_of whole.now) first_scene (map source_of sources.now) first_body)) }
+    ensures { IfOk result (λ p. tree_of p ≡ reading.tree_from (reading.directives_of
+        (map entry_of lines.now)) known.now (reading.body_from (reading.variables_of known.now)
+        (given_of whole.now) first_scene (map source_of sources.now) first_body)) }
 {
     let variables = variables_of(alloc, known)?;
     let items = items_of(alloc, whole, &variables, sources)?;

@@ -33,7 +33,8 @@ pub struct Source {
 
 /// The statements that are listed.
 pub fn sources_in(alloc: Global, lines: &[Line]) -> Result<Vec<Source>, AllocError>
-    ensures { IfOk result (λ sources. map spec.source_of sources.items ≡ reading.statements_in (map entry_of lines.now)) }
+    ensures { IfOk result (λ sources. map spec.source_of sources.items
+        ≡ reading.statements_in (map entry_of lines.now)) }
 {
     let mut sources = Vec::new(alloc);
     for line in lines {
@@ -44,7 +45,8 @@ pub fn sources_in(alloc: Global, lines: &[Line]) -> Result<Vec<Source>, AllocErr
 
 /// The statement that is listed here, if it is one.
 fn push_source(alloc: Global, sources: &mut Vec<Source>, line: &Line) -> Result<(), AllocError>
-    ensures { OnOk result (map spec.source_of sources.new.items ≡ map spec.source_of sources.old.items ++ reading.statements_in (entry_of line.now ∷ [])) }
+    ensures { OnOk result (map spec.source_of sources.new.items
+        ≡ map spec.source_of sources.old.items ++ reading.statements_in (entry_of line.now ∷ [])) }
 {
     match line {
         Line::Statement { line, label, text } => {
@@ -80,7 +82,8 @@ pub fn whole_of(
     sources: &[Source],
     settings: &[Setting],
 ) -> Result<Whole, AllocError>
-    ensures given { IfOk result (λ whole. given_of whole ≡ reading.given_with (map spec.source_of sources.now) (map spec.setting_of settings.now)) }
+    ensures given { IfOk result (λ whole. given_of whole
+        ≡ reading.given_with (map spec.source_of sources.now) (map spec.setting_of settings.now)) }
     ensures values { OnOk result (IsTrue (spec.are_values (map spec.setting_of settings.now))) }
 {
     let integers = integers_among(alloc, sources)?;
@@ -90,7 +93,8 @@ pub fn whole_of(
 
 /// The settings, the last one first.
 fn last_first(alloc: Global, settings: &[Setting]) -> Result<Constants, AllocError>
-    ensures settings { IfOk result (λ constants. settings_of constants ≡ map spec.setting_of settings.now) }
+    ensures settings { IfOk result (λ constants. settings_of constants
+        ≡ map spec.setting_of settings.now) }
     ensures values { OnOk result (IsTrue (spec.are_values (map spec.setting_of settings.now))) }
 {
     let mut constants = Constants::new(alloc);
@@ -103,7 +107,8 @@ fn last_first(alloc: Global, settings: &[Setting]) -> Result<Constants, AllocErr
 
 /// The names in INTEGER statements.
 fn integers_among(alloc: Global, sources: &[Source]) -> Result<Names, AllocError>
-    ensures { IfOk result (λ names. names ≡ reading.integers_among (map spec.source_of sources.now)) }
+    ensures { IfOk result (λ names. names ≡ reading.integers_among
+        (map spec.source_of sources.now)) }
 {
     let mut names = Names::new(alloc);
     for source in sources {
@@ -114,7 +119,8 @@ fn integers_among(alloc: Global, sources: &[Source]) -> Result<Names, AllocError
 
 /// The names in a statement, if it is an INTEGER statement.
 fn push_integers(alloc: Global, names: &mut Names, source: &Source) -> Result<(), AllocError>
-    ensures { OnOk result (names.new ≡ names.old ++ reading.integers_with (spec.reading_view source.now.reading)) }
+    ensures { OnOk result (names.new ≡ names.old ++ reading.integers_with
+        (spec.reading_view source.now.reading)) }
 {
     match &source.reading {
         Ok(Statement::Integer(declarators)) => push_declared(alloc, names, declarators.as_slice()),
@@ -127,7 +133,8 @@ fn push_declared(
     names: &mut Names,
     declarators: &[Declarator],
 ) -> Result<(), AllocError>
-    ensures { OnOk result (names.new ≡ names.old ++ statements.declarator_names (map view.declarator_of declarators.now)) }
+    ensures { OnOk result (names.new ≡ names.old ++ statements.declarator_names
+        (map view.declarator_of declarators.now)) }
 {
     for declarator in declarators {
         names.push(alloc, declarator.name.as_slice())?;

@@ -32,8 +32,10 @@ pub fn tree_of(
     e: &forms::Expression,
 ) -> Result<Expr, AllocError>
     requires few { length variables.now < 4294967295 }
-    requires affine { reach_of known.now (subscripts_in known.now (forms.expression_of e.now)) ≡ Within }
-    ensures { IfOk result (λ tree. expression_of tree ≡ scene.tree_of variables.now known.now (forms.expression_of e.now)) }
+    requires affine { reach_of known.now (subscripts_in known.now (forms.expression_of e.now))
+        ≡ Within }
+    ensures { IfOk result (λ tree. expression_of tree ≡ scene.tree_of variables.now known.now
+        (forms.expression_of e.now)) }
 {
     let parts = parts_of(alloc, e)?;
     let mut measures = Vec::new(alloc);
@@ -57,10 +59,17 @@ fn grow(
     trees: &mut Vec<Expr>,
 ) -> Result<(), AllocError>
     requires few { length variables.now < 4294967295 }
-    requires measures { (front : List Measure) × (measures.now ≡ front ++ reverse (map (measure_of known.now) (operands_of (forms.expression_of part.now)))) }
-    requires trees { (front : List Expression) × (map expression_of trees.old.items ≡ front ++ reverse (map (scene.tree_of variables.now known.now) (operands_of (forms.expression_of part.now)))) }
-    requires affine { reach_of known.now (subscripts_at known.now (forms.expression_of part.now)) ≡ Within }
-    ensures { OnOk result ((front : List Expression) → map expression_of trees.old.items ≡ front ++ reverse (map (scene.tree_of variables.now known.now) (operands_of (forms.expression_of part.now))) → map expression_of trees.new.items ≡ front ++ scene.tree_of variables.now known.now (forms.expression_of part.now) ∷ []) }
+    requires measures { (front : List Measure) × (measures.now ≡ front
+        ++ reverse (map (measure_of known.now) (operands_of (forms.expression_of part.now)))) }
+    requires trees { (front : List Expression) × (map expression_of trees.old.items ≡ front
+        ++ reverse (map (scene.tree_of variables.now known.now)
+        (operands_of (forms.expression_of part.now)))) }
+    requires affine { reach_of known.now (subscripts_at known.now (forms.expression_of part.now))
+        ≡ Within }
+    ensures { OnOk result ((front : List Expression) → map expression_of trees.old.items ≡ front
+        ++ reverse (map (scene.tree_of variables.now known.now)
+        (operands_of (forms.expression_of part.now))) → map expression_of trees.new.items ≡ front
+        ++ scene.tree_of variables.now known.now (forms.expression_of part.now) ∷ []) }
 {
     match part {
         forms::Expression::Number(number) => push(trees, Expr::Number(number.value() as i64)),
@@ -88,7 +97,8 @@ fn grow(
 /// The value of the second of two operands, which lies below the first.
 fn second_value(measures: &[Measure]) -> i64
     requires { 2 ≤ length measures.now }
-    ensures { (front : List Measure) (a b : Measure) → measures.now ≡ front ++ b ∷ a ∷ [] → result ≡ b.value }
+    ensures { (front : List Measure) (a b : Measure) → measures.now ≡ front ++ b ∷ a ∷ [] → result
+        ≡ b.value }
 {
     measures[measures.len() - 2].value
 }
@@ -110,7 +120,11 @@ fn name_tree(alloc: Global, known: &Known, variables: &Names, name: &[u8]) -> Ex
 /// A scalar, or an element of an array.
 pub fn access(variables: &Names, name: &[u8], subscripts: Listed<Affine>) -> Access
     requires { length variables.now < 4294967295 }
-    ensures { result ≡ record { variable = number_among variables.now name.now; subscripts = subscripts } }
+    ensures { result ≡ record {
+      variable = number_among variables.now name.now;
+      subscripts =
+          subscripts;
+    } }
 {
     Access {
         variable: variable_number(variables, name),
@@ -139,8 +153,10 @@ fn call_tree(
     subscripts: &[Measure],
 ) -> Result<Expr, AllocError>
     requires few { length variables.now < 4294967295 }
-    requires affine { is_array known.now name.now ≡ true → linear_reaches (reverse subscripts.now) ≡ Within }
-    ensures { IfOk result (λ tree. expression_of tree ≡ spec.call_tree variables.now known.now name.now operands.items (reverse subscripts.now)) }
+    requires affine { is_array known.now name.now ≡ true → linear_reaches (reverse subscripts.now)
+        ≡ Within }
+    ensures { IfOk result (λ tree. expression_of tree ≡ spec.call_tree variables.now known.now
+        name.now operands.items (reverse subscripts.now)) }
 {
     if known.is_array(name) {
         let subscripts = forms_in(alloc, subscripts)?;
@@ -171,7 +187,8 @@ fn binary_tree(
     right: Expr,
     divisor: i64,
 ) -> Result<Expr, AllocError>
-    ensures { IfOk result (λ tree. expression_of tree ≡ spec.binary_tree operator (expression_of left) (expression_of right) divisor) }
+    ensures { IfOk result (λ tree. expression_of tree ≡ spec.binary_tree operator
+        (expression_of left) (expression_of right) divisor) }
 {
     let left = Box::new(alloc, left)?;
     match operator {

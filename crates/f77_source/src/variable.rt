@@ -38,7 +38,8 @@ pub fn declarations(
     names: &Names,
 ) -> Result<Vec<Variable>, AllocError>
     requires { KeepsLimits known.now }
-    ensures { IfOk result (λ variables. map declaration_of variables.items ≡ map (reading.declaration (reverse directives.now) known.now) names.now) }
+    ensures { IfOk result (λ variables. map declaration_of variables.items
+        ≡ map (reading.declaration (reverse directives.now) known.now) names.now) }
 {
     let mut variables = Vec::new(alloc);
     for name in names.as_slice() {
@@ -54,7 +55,8 @@ fn declaration(
     name: &[u8],
 ) -> Result<Variable, AllocError>
     requires { KeepsLimits known.now }
-    ensures { IfOk result (λ variable. declaration_of variable ≡ reading.declaration (reverse directives.now) known.now name.now) }
+    ensures { IfOk result (λ variable. declaration_of variable
+        ≡ reading.declaration (reverse directives.now) known.now name.now) }
 {
     if known.is_array(name) {
         return array(alloc, known, directives, name);
@@ -75,7 +77,8 @@ fn array(
     name: &[u8],
 ) -> Result<Variable, AllocError>
     requires { KeepsLimits known.now }
-    ensures { IfOk result (λ variable. declaration_of variable ≡ spec.array (reverse directives.now) known.now name.now) }
+    ensures { IfOk result (λ variable. declaration_of variable
+        ≡ spec.array (reverse directives.now) known.now name.now) }
 {
     let (axis, spread) = placing_of(alloc, directives, name, dimensions(known, name))?;
     Ok(Variable {

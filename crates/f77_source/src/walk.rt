@@ -24,8 +24,11 @@ pub fn items_of(
     sources: &[Source],
 ) -> Result<Vec<Item>, AllocError>
     requires few { length variables.now < 4294967295 }
-    requires faultless { reading.fault_from (given_of whole.now) first_scene (map source_of sources.now) ≡ None }
-    ensures { IfOk result (λ items. map statement_of items.items ≡ (reading.body_from variables.now (given_of whole.now) first_scene (map source_of sources.now) first_body).items) }
+    requires faultless { reading.fault_from (given_of whole.now) first_scene
+        (map source_of sources.now) ≡ None }
+    ensures { IfOk result (λ items. map statement_of items.items
+        ≡ (reading.body_from variables.now (given_of whole.now) first_scene
+        (map source_of sources.now) first_body).items) }
 {
     let mut known = Known::new(alloc);
     let mut body = Body::new(alloc);
@@ -46,9 +49,12 @@ fn add_source(
 ) -> Result<(), AllocError>
     requires few { length variables.now < 4294967295 }
     requires within { KeepsLimits known.old }
-    requires faultless { (behind : ℕ) × (reading.fault_with (given_of whole.now) known.old behind source.now.label (reading_view source.now.reading) ≡ None) }
-    ensures known { OnOk result (known.new ≡ reading.scene_with (given_of whole.now) known.old source.now.label (reading_view source.now.reading)) }
-    ensures body { OnOk result (body_of body.new ≡ reading.body_with variables.now known.old source.now.line source.now.label (reading_view source.now.reading) (body_of body.old)) }
+    requires faultless { (behind : ℕ) × (reading.fault_with (given_of whole.now) known.old behind
+        source.now.label (reading_view source.now.reading) ≡ None) }
+    ensures known { OnOk result (known.new ≡ reading.scene_with (given_of whole.now) known.old
+        source.now.label (reading_view source.now.reading)) }
+    ensures body { OnOk result (body_of body.new ≡ reading.body_with variables.now known.old
+        source.now.line source.now.label (reading_view source.now.reading) (body_of body.old)) }
 {
     if let Ok(statement) = &source.reading {
         body.add(

@@ -62,7 +62,9 @@ fn sum_at<L: Ledger>(
     steps: &mut Steps<L>,
 ) -> Option<i128>
     requires { bad_row (length system.now.rows + length made.now) terms.now ≡ false }
-    ensures sum { let products = products_at system.now.vars (system.now.rows ++ made.now) terms.now k in result ≡ (if stays_narrow (pos 0) products then Some (total products) else None) }
+    ensures sum { let products = products_at system.now.vars (system.now.rows
+        ++ made.now) terms.now k in result ≡ (if stays_narrow (pos 0) products then Some
+        (total products) else None) }
     ensures units { RoseWithin (length terms.now) steps.old steps.new }
     ensures all { IsSome result → steps.new ≡ steps.old + length terms.now }
 {
@@ -86,11 +88,17 @@ fn summed<L: Ledger>(
 ) -> Result<Row, CertRefusal>
     requires { bad_row (length system.now.rows + length made.now) terms.now ≡ false }
 
-    ensures narrow { OnOk result (first_wide system.now.vars (system.now.rows ++ made.now) terms.now (range_with_len 0 (system.now.vars + 1)) ≡ None) }
-    ensures coefs { IfOk result (λ row. row.coefs ≡ map (sum_of system.now.vars (system.now.rows ++ made.now) terms.now) (range_with_len 0 system.now.vars)) }
-    ensures bound { IfOk result (λ row. row.bound ≡ sum_of system.now.vars (system.now.rows ++ made.now) terms.now system.now.vars) }
+    ensures narrow { OnOk result (first_wide system.now.vars (system.now.rows
+        ++ made.now) terms.now (range_with_len 0 (system.now.vars + 1)) ≡ None) }
+    ensures coefs { IfOk result (λ row. row.coefs ≡ map (sum_of system.now.vars (system.now.rows
+        ++ made.now) terms.now) (range_with_len 0 system.now.vars)) }
+    ensures bound { IfOk result (λ row. row.bound ≡ sum_of system.now.vars (system.now.rows
+        ++ made.now) terms.now system.now.vars) }
     ensures full { IfOk result (λ row. length row.coefs ≡ system.now.vars) }
-    ensures wide { IfErr result (λ e. e ≢ CertRefusal.NoMemory → (k : ℕ) × (first_wide system.now.vars (system.now.rows ++ made.now) terms.now (range_with_len 0 (system.now.vars + 1)) ≡ Some k) × (e ≡ CertRefusal.Wide number (k + 1))) }
+    ensures wide { IfErr result (λ e. e ≢ CertRefusal.NoMemory → (k : ℕ)
+        × (first_wide system.now.vars (system.now.rows ++ made.now) terms.now
+        (range_with_len 0 (system.now.vars + 1)) ≡ Some k)
+        × (e ≡ CertRefusal.Wide number (k + 1))) }
 
     ensures units { RoseWithin (length terms.now * (system.now.vars + 1)) steps.old steps.new }
     ensures all { OnOk result (steps.new ≡ steps.old + length terms.now * (system.now.vars + 1)) }
@@ -113,7 +121,8 @@ fn summed<L: Ledger>(
 fn divided<L: Ledger>(mut row: Row, divisor: i128, steps: &mut Steps<L>) -> Option<Row>
     ensures coefs { IfSome result (λ made. made.coefs ≡ map (λ a. int_div a divisor) row.coefs) }
     ensures bound { IfSome result (λ made. made.bound ≡ int_div_euclid row.bound divisor) }
-    ensures divides { IsSome result ↔ ((pos 0 <ℤ divisor) × (list_all (λ a. int_eq (int_rem a divisor) (pos 0)) row.coefs ≡ true)) }
+    ensures divides { IsSome result ↔ ((pos 0 <ℤ divisor)
+        × (list_all (λ a. int_eq (int_rem a divisor) (pos 0)) row.coefs ≡ true)) }
     ensures units { RoseWithin (length row.coefs + 1) steps.old steps.new }
     ensures all { IsSome result → steps.new ≡ steps.old + length row.coefs + 1 }
 {
@@ -133,9 +142,12 @@ fn check_step<L: Ledger>(
     step: &Step,
     steps: &mut Steps<L>,
 ) -> Result<Row, CertRefusal>
-    ensures good { OnOk result (step_fault system.now.vars (system.now.rows ++ made.now) number step.now ≡ None) }
-    ensures made { IfOk result (λ row. row ≡ made_row system.now.vars (system.now.rows ++ made.now) step.now) }
-    ensures refused { IfErr result (λ e. e ≢ CertRefusal.NoMemory → step_fault system.now.vars (system.now.rows ++ made.now) number step.now ≡ Some e) }
+    ensures good { OnOk result (step_fault system.now.vars (system.now.rows
+        ++ made.now) number step.now ≡ None) }
+    ensures made { IfOk result (λ row. row ≡ made_row system.now.vars (system.now.rows
+        ++ made.now) step.now) }
+    ensures refused { IfErr result (λ e. e ≢ CertRefusal.NoMemory
+        → step_fault system.now.vars (system.now.rows ++ made.now) number step.now ≡ Some e) }
     ensures units { RoseWithin (most_units system.now.vars (step.now ∷ [])) steps.old steps.new }
     ensures all { OnOk result (steps.new ≡ steps.old + most_units system.now.vars (step.now ∷ [])) }
 {
@@ -169,8 +181,10 @@ fn is_contradiction(row: &Row) -> bool
 
 // The last row is a contradiction.
 fn check_last(system: &System, made: &[Row]) -> Result<(), CertRefusal>
-    ensures good { let rows = system.now.rows ++ made.now in OnOk result (last_fault (length rows) (slice_get rows (length rows - 1)) ≡ None) }
-    ensures refused { let rows = system.now.rows ++ made.now in IfErr result (λ e. last_fault (length rows) (slice_get rows (length rows - 1)) ≡ Some e) }
+    ensures good { let rows = system.now.rows ++ made.now in OnOk result (last_fault (length rows)
+        (slice_get rows (length rows - 1)) ≡ None) }
+    ensures refused { let rows = system.now.rows ++ made.now in IfErr result
+        (λ e. last_fault (length rows) (slice_get rows (length rows - 1)) ≡ Some e) }
 {
     let count = row_count(system, made) as u64;
     if count != 0 && is_contradiction(row_at(system, made, count)) {
@@ -188,10 +202,15 @@ fn check_steps<L: Ledger>(
     certificate: &Certificate,
     steps: &mut Steps<L>,
 ) -> Result<Vec<Row>, CertRefusal>
-    ensures good { IfOk result (λ made. let rows = system.now.rows ++ made.items in first_fault system.now certificate.now ≡ last_fault (length rows) (slice_get rows (length rows - 1))) }
-    ensures refused { IfErr result (λ e. e ≢ CertRefusal.NoMemory → first_fault system.now certificate.now ≡ Some e) }
-    ensures units { RoseWithin (most_units system.now.vars certificate.now.steps) steps.old steps.new }
-    ensures all { OnOk result (steps.new ≡ steps.old + most_units system.now.vars certificate.now.steps) }
+    ensures good { IfOk result (λ made. let rows = system.now.rows
+        ++ made.items in first_fault system.now certificate.now
+        ≡ last_fault (length rows) (slice_get rows (length rows - 1))) }
+    ensures refused { IfErr result (λ e. e ≢ CertRefusal.NoMemory
+        → first_fault system.now certificate.now ≡ Some e) }
+    ensures units { RoseWithin (most_units system.now.vars certificate.now.steps) steps.old
+        steps.new }
+    ensures all { OnOk result (steps.new ≡ steps.old + most_units system.now.vars
+        certificate.now.steps) }
 {
     let taken = certificate.steps.as_slice();
     let uses = Uses::new(alloc, system.rows().len(), taken)?;
@@ -229,10 +248,13 @@ pub fn check_cert_counted<L: Ledger>(
     // A good certificate is refused for want of memory alone, and another one with its first fault.
     ensures taken { IsGood system.now certificate.now → IsOkUnless result CertRefusal.NoMemory }
     ensures no_fault { OnOk result (first_fault system.now certificate.now ≡ None) }
-    ensures refused { IfErr result (λ e. e ≢ CertRefusal.NoMemory → first_fault system.now certificate.now ≡ Some e) }
+    ensures refused { IfErr result (λ e. e ≢ CertRefusal.NoMemory
+        → first_fault system.now certificate.now ≡ Some e) }
 
-    ensures units { RoseWithin (most_units system.now.vars certificate.now.steps) steps.old steps.new }
-    ensures all { OnOk result (steps.new ≡ steps.old + most_units system.now.vars certificate.now.steps) }
+    ensures units { RoseWithin (most_units system.now.vars certificate.now.steps) steps.old
+        steps.new }
+    ensures all { OnOk result (steps.new ≡ steps.old + most_units system.now.vars
+        certificate.now.steps) }
 {
     let made = check_steps(alloc, system, certificate, steps)?;
     check_last(system, made.as_slice())
@@ -252,7 +274,8 @@ fn check_with<L: Ledger>(
     ensures no_solution { OnOk result (HasNoWholeSolution system.now) }
     ensures taken { IsGood system.now certificate.now → IsOkUnless result CertRefusal.NoMemory }
     ensures no_fault { OnOk result (first_fault system.now certificate.now ≡ None) }
-    ensures refused { IfErr result (λ e. e ≢ CertRefusal.NoMemory → first_fault system.now certificate.now ≡ Some e) }
+    ensures refused { IfErr result (λ e. e ≢ CertRefusal.NoMemory
+        → first_fault system.now certificate.now ≡ Some e) }
 {
     check_cert_counted(alloc, system, certificate, &mut Steps::<L>::new(blank))
 }
@@ -268,7 +291,8 @@ pub fn check_cert(
     ensures no_solution { OnOk result (HasNoWholeSolution system.now) }
     ensures taken { IsGood system.now certificate.now → IsOkUnless result CertRefusal.NoMemory }
     ensures no_fault { OnOk result (first_fault system.now certificate.now ≡ None) }
-    ensures refused { IfErr result (λ e. e ≢ CertRefusal.NoMemory → first_fault system.now certificate.now ≡ Some e) }
+    ensures refused { IfErr result (λ e. e ≢ CertRefusal.NoMemory
+        → first_fault system.now certificate.now ≡ Some e) }
 {
     check_with::<Brand>(alloc, system, certificate, Blank::new(1))
 }

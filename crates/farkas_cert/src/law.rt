@@ -10,5 +10,6 @@ ghost use Rattle.farkas_cert.specs.Good.{IsGood};
 /// run.
 #[tactic(auto, using(crate::proofs::Exclusion::good_excludes))]
 pub fn good_certificates_exclude_whole_solutions()
-    ensures { (system : Inequalities) (certificate : Certificate) (x : List ℤ) → IsGood system certificate → IsWholeSolution system x → ⊥ }
+    ensures { (system : Inequalities) (certificate : Certificate) (x : List ℤ)
+        → IsGood system certificate → IsWholeSolution system x → ⊥ }
 {}

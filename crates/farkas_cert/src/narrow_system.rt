@@ -55,7 +55,11 @@ impl NarrowSystem {
     pub fn push(&mut self, row: Row) -> Result<(), AllocError>
         requires full { length row.coefs ≡ self.old.vars }
         requires narrow { IsNarrowRow row }
-        ensures ok { OnOk result (self.new ≡ record { vars = self.old.vars; rows = self.old.rows ++ row ∷ [] }) }
+        ensures ok { OnOk result (self.new ≡ record {
+          vars = self.old.vars;
+          rows = self.old.rows
+              ++ row ∷ [];
+        }) }
         ensures err { OnErr result (self.new ≡ self.old) }
     {
         self.system.push(row)

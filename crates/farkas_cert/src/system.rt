@@ -237,7 +237,11 @@ impl System {
     /// One more row at the end. Where memory runs out nothing has changed.
     pub fn push(&mut self, row: Row) -> Result<(), AllocError>
         requires { length row.coefs ≡ self.old.vars }
-        ensures ok { OnOk result (self.new ≡ record { vars = self.old.vars; rows = self.old.rows ++ row ∷ [] }) }
+        ensures ok { OnOk result (self.new ≡ record {
+          vars = self.old.vars;
+          rows = self.old.rows
+              ++ row ∷ [];
+        }) }
         ensures err { OnErr result (self.new ≡ self.old) }
     {
         self.rows.push(row)

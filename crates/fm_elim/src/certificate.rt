@@ -29,7 +29,8 @@ fn mark(needed: &mut [bool], derivation: &Derivation)
 fn needed_rows(alloc: Global, given: usize, log: &[Derivation]) -> Result<Vec<bool>, AllocError>
     requires fits { given + length log.now < 2 ^ 64 }
     requires some { 0 < length log.now }
-    requires named { (k : ℕ) (d : DerivationOf) → k < length log.now → All (λ t. (1 ≤ t.0) × (t.0 ≤ given + k)) (step_of (slice_index_or log.now k d)).terms }
+    requires named { (k : ℕ) (d : DerivationOf) → k < length log.now → All (λ t. (1 ≤ t.0)
+        × (t.0 ≤ given + k)) (step_of (slice_index_or log.now k d)).terms }
     ensures { IfOk result (λ needed. AreNeeded given log.now 0 needed.items) }
 {
     let mut needed = vec![in alloc; false; given + log.len()]?;
@@ -45,7 +46,8 @@ fn needed_rows(alloc: Global, given: usize, log: &[Derivation]) -> Result<Vec<bo
 // The given rows keep their numbers.
 fn own_numbers(alloc: Global, given: usize) -> Result<Vec<u64>, AllocError>
     ensures count { IfOk result (λ numbers. length numbers.items ≡ given) }
-    ensures own { IfOk result (λ numbers. (k : ℕ) → k < given → slice_index numbers.items k ≡ k + 1) }
+    ensures own { IfOk result (λ numbers. (k : ℕ) → k < given → slice_index numbers.items k
+        ≡ k + 1) }
 {
     let mut numbers = Vec::with_capacity(alloc, given)?;
     for index in 0..given {
@@ -82,8 +84,11 @@ fn needed_steps(
     requires some { 0 < length log.now }
     requires needed { AreNeeded (length system.now.rows) log.now 0 needed.now }
     ensures good { IfOk result (λ steps. AreGoodSteps system.now.vars system.now.rows steps.items) }
-    ensures last { IfOk result (λ steps. let rows = rows_after system.now.vars system.now.rows steps.items in (0 < length rows) × (row_at rows (length rows) ≡ row_at (all_rows system.now log.now) (length system.now.rows + length log.now))) }
-    ensures lean { IfOk result (λ steps. (c : CertificateOf) → c.steps ≡ steps.items → IsLean system.now c) }
+    ensures last { IfOk result (λ steps. let rows = rows_after system.now.vars system.now.rows
+        steps.items in (0 < length rows) × (row_at rows (length rows)
+        ≡ row_at (all_rows system.now log.now) (length system.now.rows + length log.now))) }
+    ensures lean { IfOk result (λ steps. (c : CertificateOf) → c.steps ≡ steps.items
+        → IsLean system.now c) }
 {
     let given = system.rows().len();
     let mut numbers = own_numbers(alloc, given)?;
@@ -100,9 +105,12 @@ fn needed_steps(
 
 // The steps that end with this given row, a contradiction: none if it is the last row.
 fn steps_to_given(alloc: Global, system: &System, number: u64) -> Result<Vec<Step>, AllocError>
-    requires { (row : RowOf) × IsNumber system.now.rows number row × IsSuited system.now.vars row × IsContradiction row }
-    ensures good { IfOk result (λ steps. (c : CertificateOf) → c.steps ≡ steps.items → IsGood system.now c) }
-    ensures lean { IfOk result (λ steps. (c : CertificateOf) → c.steps ≡ steps.items → IsLean system.now c) }
+    requires { (row : RowOf) × IsNumber system.now.rows number row × IsSuited system.now.vars row
+        × IsContradiction row }
+    ensures good { IfOk result (λ steps. (c : CertificateOf) → c.steps ≡ steps.items
+        → IsGood system.now c) }
+    ensures lean { IfOk result (λ steps. (c : CertificateOf) → c.steps ≡ steps.items
+        → IsLean system.now c) }
 {
     let mut steps = Vec::new(alloc);
     if (number as usize) < system.rows().len() {
@@ -128,7 +136,8 @@ pub fn certificate_of(
     number: u64,
 ) -> Result<Certificate, AllocError>
     requires log { IsLog system.now log.now }
-    requires number { (row : RowOf) × IsNumber (all_rows system.now log.now) number row × IsSuited system.now.vars row × IsContradiction row }
+    requires number { (row : RowOf) × IsNumber (all_rows system.now log.now) number row
+        × IsSuited system.now.vars row × IsContradiction row }
     ensures good { IfOk result (λ certificate. IsGood system.now certificate) }
     ensures lean { IfOk result (λ certificate. IsLean system.now certificate) }
 {

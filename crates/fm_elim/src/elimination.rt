@@ -184,9 +184,12 @@ impl<'a> Level<'a> {
         requires level { IsLevel self }
         ensures decided { IfOk result (IsDecided (system_of self.entry) (order_of self.entry)) }
         ensures lean { IfOk result (λ a. IfInfeasible a (λ c. IsLean (system_of self.entry) c)) }
-        ensures before_wide { IfOk result (λ a. IfWide a (λ k upper lower. IsFreeOfClashes (IsDerived (system_of self.entry) (order_of self.entry) (k - 1)))) }
-        ensures before_many { IfOk result (λ a. IfMany a (λ k count. IsFreeOfClashes (IsDerived (system_of self.entry) (order_of self.entry) (k - 1)))) }
-        ensures before_work { IfOk result (λ a. IfWork a (λ k pairs. IsFreeOfClashes (IsDerived (system_of self.entry) (order_of self.entry) (k - 1)))) }
+        ensures before_wide { IfOk result (λ a. IfWide a (λ k upper lower. IsFreeOfClashes
+            (IsDerived (system_of self.entry) (order_of self.entry) (k - 1)))) }
+        ensures before_many { IfOk result (λ a. IfMany a (λ k count. IsFreeOfClashes
+            (IsDerived (system_of self.entry) (order_of self.entry) (k - 1)))) }
+        ensures before_work { IfOk result (λ a. IfWork a (λ k pairs. IsFreeOfClashes
+            (IsDerived (system_of self.entry) (order_of self.entry) (k - 1)))) }
     {
         let mut level = self;
         loop {
@@ -217,9 +220,12 @@ pub fn decide(alloc: Global, system: &System, order: &[u32]) -> Result<Answer, N
     requires narrow { AreNarrow system.now.rows }
     ensures decided { IfOk result (IsDecided system.now order.now) }
     ensures lean { IfOk result (λ a. IfInfeasible a (λ c. IsLean system.now c)) }
-    ensures before_wide { IfOk result (λ a. IfWide a (λ k upper lower. IsFreeOfClashes (IsDerived system.now order.now (k - 1)))) }
-    ensures before_many { IfOk result (λ a. IfMany a (λ k count. IsFreeOfClashes (IsDerived system.now order.now (k - 1)))) }
-    ensures before_work { IfOk result (λ a. IfWork a (λ k pairs. IsFreeOfClashes (IsDerived system.now order.now (k - 1)))) }
+    ensures before_wide { IfOk result (λ a. IfWide a (λ k upper lower. IsFreeOfClashes
+        (IsDerived system.now order.now (k - 1)))) }
+    ensures before_many { IfOk result (λ a. IfMany a (λ k count. IsFreeOfClashes
+        (IsDerived system.now order.now (k - 1)))) }
+    ensures before_work { IfOk result (λ a. IfWork a (λ k pairs. IsFreeOfClashes
+        (IsDerived system.now order.now (k - 1)))) }
 {
     Level::start(alloc, system, order)?.answer(alloc)
 }

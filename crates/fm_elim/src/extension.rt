@@ -54,8 +54,10 @@ pub fn moved_log(
     more: u64,
     log: &[Derivation],
 ) -> Result<Vec<Derivation>, AllocError>
-    requires { (k : ℕ) (d : DerivationOf) → k < length log.now → All (λ t. moved_by given more t.0 < 2 ^ 64) (step_of (slice_index_or log.now k d)).terms }
-    ensures { IfOk result (λ new. map step_of new.items ≡ map (renamed (moved_by given more)) (map step_of log.now)) }
+    requires { (k : ℕ) (d : DerivationOf) → k < length log.now
+        → All (λ t. moved_by given more t.0 < 2 ^ 64) (step_of (slice_index_or log.now k d)).terms }
+    ensures { IfOk result (λ new. map step_of new.items
+        ≡ map (renamed (moved_by given more)) (map step_of log.now)) }
 {
     let mut new = Vec::with_capacity(alloc, log.len())?;
     for derivation in log {
@@ -76,9 +78,12 @@ pub fn extended_rows(
     requires given { given ≤ length whole.now.rows }
     requires narrow { AreNarrow whole.now.rows }
     requires log { IsLog whole.now log.old.items }
-    requires held { All (λ h. IsHeld whole.now log.old.items (moved_held given (length whole.now.rows - given) h)) rows.now.rows.items }
-    ensures formed { IfOk result (λ level. IsFormed (λ r. Contains (rows_of rows.now.rows.items) r ⊎ Contains (drop given whole.now.rows) r) (rows_of level.rows.items)) }
-    ensures table { IfOk result (λ level. IsTable (rows_of level.rows.items) level.chains.links.items level.chains.latest.items) }
+    requires held { All (λ h. IsHeld whole.now log.old.items
+        (moved_held given (length whole.now.rows - given) h)) rows.now.rows.items }
+    ensures formed { IfOk result (λ level. IsFormed (λ r. Contains (rows_of rows.now.rows.items) r
+        ⊎ Contains (drop given whole.now.rows) r) (rows_of level.rows.items)) }
+    ensures table { IfOk result (λ level. IsTable (rows_of level.rows.items)
+        level.chains.links.items level.chains.latest.items) }
     ensures log { OnOk result (IsLog whole.now log.new.items) }
     ensures held { IfOk result (λ level. All (IsHeld whole.now log.new.items) level.rows.items) }
 {

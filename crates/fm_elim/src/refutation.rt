@@ -28,7 +28,8 @@ fn is_contradiction(row: &Row) -> bool
 // The number of a row without coefficients, which has a bound below 0.
 fn contradiction(level: &[Held]) -> Option<u64>
     requires { All (λ h. IsEmpty h.row → h.row.bound <ℤ pos 0) level.now }
-    ensures { MatchOption result (All (λ h. IsEmpty h.row → ⊥) level.now) (λ number. (h : HeldRow) × Contains level.now h × IsEmpty h.row × (h.number ≡ number)) }
+    ensures { MatchOption result (All (λ h. IsEmpty h.row → ⊥) level.now) (λ number. (h : HeldRow)
+        × Contains level.now h × IsEmpty h.row × (h.number ≡ number)) }
 {
     for held in level {
         if is_contradiction(&held.row) {
@@ -75,11 +76,17 @@ fn are_clashing(upper: &Row, lower: &Row) -> bool
 // The number, from 0, of a row with which the row of this number clashes.
 fn opponent(level: &HeldRows, number: usize) -> Option<usize>
     requires number { number < length level.now.rows.items }
-    requires full { (h : HeldRow) (o : HeldRow) → Contains level.now.rows.items h → Contains level.now.rows.items o → length h.row.coefs ≡ length o.row.coefs }
+    requires full { (h : HeldRow) (o : HeldRow) → Contains level.now.rows.items h
+        → Contains level.now.rows.items o → length h.row.coefs ≡ length o.row.coefs }
     requires narrow { All (λ h. All (λ a. IsTrue (narrow a)) h.row.coefs) level.now.rows.items }
-    requires table { IsTable (rows_of level.now.rows.items) level.now.chains.links.items level.now.chains.latest.items }
-    ensures { MatchOption result (All (λ r. AreClashing (slice_index_or (rows_of level.now.rows.items) number no_row) r → ⊥) (rows_of level.now.rows.items))
-        (λ k. (k < length level.now.rows.items) × AreClashing (slice_index_or (rows_of level.now.rows.items) number no_row) (slice_index_or (rows_of level.now.rows.items) k no_row)) }
+    requires table { IsTable (rows_of level.now.rows.items) level.now.chains.links.items
+        level.now.chains.latest.items }
+    ensures { MatchOption result (All (λ r. AreClashing
+        (slice_index_or (rows_of level.now.rows.items) number no_row) r
+        → ⊥) (rows_of level.now.rows.items))
+        (λ k. (k < length level.now.rows.items) × AreClashing
+        (slice_index_or (rows_of level.now.rows.items) number no_row)
+        (slice_index_or (rows_of level.now.rows.items) k no_row)) }
 {
     let hash = level.chains.links[number].hash.wrapping_neg();
     let row = &level.rows[number].row;
@@ -96,11 +103,16 @@ fn opponent(level: &HeldRows, number: usize) -> Option<usize>
 
 // Two rows that are each other's opposites but for the bound, and whose bounds add to less than 0.
 fn clash(level: &HeldRows) -> Option<(u64, u64)>
-    requires full { (h : HeldRow) (o : HeldRow) → Contains level.now.rows.items h → Contains level.now.rows.items o → length h.row.coefs ≡ length o.row.coefs }
+    requires full { (h : HeldRow) (o : HeldRow) → Contains level.now.rows.items h
+        → Contains level.now.rows.items o → length h.row.coefs ≡ length o.row.coefs }
     requires narrow { All (λ h. All (λ a. IsTrue (narrow a)) h.row.coefs) level.now.rows.items }
-    requires table { IsTable (rows_of level.now.rows.items) level.now.chains.links.items level.now.chains.latest.items }
-    ensures found { IfSome result (λ p. (upper : HeldRow) × (lower : HeldRow) × Contains level.now.rows.items upper × Contains level.now.rows.items lower × (upper.number ≡ p.0) × (lower.number ≡ p.1) × AreClashing upper.row lower.row) }
-    ensures none { IfNone result (IsFreeOfClashes (λ r. Contains (rows_of level.now.rows.items) r)) }
+    requires table { IsTable (rows_of level.now.rows.items) level.now.chains.links.items
+        level.now.chains.latest.items }
+    ensures found { IfSome result (λ p. (upper : HeldRow) × (lower : HeldRow)
+        × Contains level.now.rows.items upper × Contains level.now.rows.items lower
+        × (upper.number ≡ p.0) × (lower.number ≡ p.1) × AreClashing upper.row lower.row) }
+    ensures none { IfNone result (IsFreeOfClashes (λ r. Contains (rows_of level.now.rows.items)
+        r)) }
 {
     for number in 0..level.rows.len() {
         if let Some(other) = opponent(level, number) {
@@ -121,11 +133,14 @@ pub fn refutation(
     requires log { IsLog system.now log.old.items }
     requires held { All (IsHeld system.now log.old.items) level.now.rows.items }
     requires useful { All (λ h. IsEmpty h.row → h.row.bound <ℤ pos 0) level.now.rows.items }
-    requires table { IsTable (rows_of level.now.rows.items) level.now.chains.links.items level.now.chains.latest.items }
+    requires table { IsTable (rows_of level.now.rows.items) level.now.chains.links.items
+        level.now.chains.latest.items }
     ensures good { IfOk result (λ o. IfSome o (λ c. IsGood system.now c)) }
     ensures lean { IfOk result (λ o. IfSome o (λ c. IsLean system.now c)) }
-    ensures clear { IfOk result (λ o. IfNone o (All (λ h. IsEmpty h.row → ⊥) level.now.rows.items)) }
-    ensures apart { IfOk result (λ o. IfNone o (IsFreeOfClashes (λ r. Contains (rows_of level.now.rows.items) r))) }
+    ensures clear { IfOk result (λ o. IfNone o (All (λ h. IsEmpty h.row
+        → ⊥) level.now.rows.items)) }
+    ensures apart { IfOk result (λ o. IfNone o (IsFreeOfClashes
+        (λ r. Contains (rows_of level.now.rows.items) r))) }
     ensures log { IfOk result (λ o. IfNone o (log.new.items ≡ log.old.items)) }
 {
     if let Some(number) = contradiction(level.rows.as_slice()) {

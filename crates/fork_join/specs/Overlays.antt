@@ -1,5 +1,5 @@
 -- Stores laid over memory.
-use Rattle.std.specs.Prelude.{ℕ, ◌≡◌, ◌<◌, ◌==◌, ℤ, Bool, true, false, List, fold, get_or, length, map, slice_set, sum_by}
+use Rattle.std.specs.Prelude.{ℕ, ◌≡◌, ◌==◌, ℤ, Bool, true, false, List, fold, get_or, length, map, slice_set, sum_by}
 use Rattle.std.specs.List.{flat_map, list_any, range_with_len}
 use Rattle.nest_model.specs.Memory.{cell_value}
 

@@ -120,8 +120,10 @@ fn all_to_the_end<R: Threads + Sync>(
         count,
         &|_: usize, worker: &mut CachePadded<Worker>|
             requires own { (padded_value worker.now).seat.home ≡ cells.now }
-            ensures home { (padded_value worker.exit.now).seat.home ≡ (padded_value worker.entry.now).seat.home }
-            ensures processor { (padded_value worker.exit.now).seat.processor ≡ (padded_value worker.entry.now).seat.processor }
+            ensures home { (padded_value worker.exit.now).seat.home
+                ≡ (padded_value worker.entry.now).seat.home }
+            ensures processor { (padded_value worker.exit.now).seat.processor
+                ≡ (padded_value worker.entry.now).seat.processor }
         { to_the_end(cells, worker) },
     );
 }

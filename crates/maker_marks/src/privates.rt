@@ -66,7 +66,8 @@ pub(crate) fn push_privates(
     dealt: DealtBy,
     items: &[Item],
 ) -> Result<(), AllocError>
-    ensures { OnOk result (lists.new.items ≡ lists.old.items ++ privates_of (tried_at dealt.entry.tries.now) (own_at dealt.entry.privates.now)
+    ensures { OnOk result (lists.new.items ≡ lists.old.items
+        ++ privates_of (tried_at dealt.entry.tries.now) (own_at dealt.entry.privates.now)
         (statements_from items.now)) }
 {
     for item in items {
@@ -82,7 +83,8 @@ fn push_privates_in(
     dealt: DealtBy,
     item: &Item,
 ) -> Result<(), AllocError>
-    ensures { OnOk result (lists.new.items ≡ lists.old.items ++ privates_in (tried_at dealt.entry.tries.now) (own_at dealt.entry.privates.now)
+    ensures { OnOk result (lists.new.items ≡ lists.old.items
+        ++ privates_in (tried_at dealt.entry.tries.now) (own_at dealt.entry.privates.now)
         (statement_of item.now)) }
 {
     match item {

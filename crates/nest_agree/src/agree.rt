@@ -48,7 +48,8 @@ fn have_same_kinds(f: &Program, g: &Program) -> bool
 }
 
 fn have_same_wholes(f: &Program, g: &Program) -> bool
-    ensures { result ≡ list_all (same_bounds (tree_of f.now).variables (tree_of g.now).variables) (printed_whole (tree_of f.now).items) }
+    ensures { result ≡ list_all (same_bounds (tree_of f.now).variables (tree_of g.now).variables)
+        (printed_whole (tree_of f.now).items) }
 {
     have_same_bounds(&f.items, &f.variables, &g.variables)
 }
@@ -83,7 +84,8 @@ fn same_kind(v: &Variable, w: &Variable) -> bool
 }
 
 fn same_kinds(a: &[Variable], b: &[Variable]) -> bool
-    ensures { result ≡ same_list (λ v w. same_kind (declaration_of v) (declaration_of w)) a.now b.now }
+    ensures { result ≡ same_list (λ v w. same_kind (declaration_of v) (declaration_of w)) a.now
+        b.now }
 {
     for (place, variable) in a.iter().enumerate() {
         if place >= b.len() || !same_kind(variable, &b[place]) {
@@ -113,7 +115,8 @@ fn same_bounds(f: &[Variable], g: &[Variable], number: u32) -> bool
 
 // Whether the arrays that these items of a PRINT print whole have the same bounds.
 fn same_wholes(items: &[PrintItem], f: &[Variable], g: &[Variable]) -> bool
-    ensures { result ≡ list_all (same_bounds (map declaration_of f.now) (map declaration_of g.now)) (flat_map whole_in (map printed_of items.now)) }
+    ensures { result ≡ list_all (same_bounds (map declaration_of f.now) (map declaration_of g.now))
+        (flat_map whole_in (map printed_of items.now)) }
 {
     for item in items {
         if !same_whole(item, f, g) {
@@ -124,7 +127,8 @@ fn same_wholes(items: &[PrintItem], f: &[Variable], g: &[Variable]) -> bool
 }
 
 fn same_whole(item: &PrintItem, f: &[Variable], g: &[Variable]) -> bool
-    ensures { result ≡ list_all (same_bounds (map declaration_of f.now) (map declaration_of g.now)) (whole_in (printed_of item.now)) }
+    ensures { result ≡ list_all (same_bounds (map declaration_of f.now) (map declaration_of g.now))
+        (whole_in (printed_of item.now)) }
 {
     match item {
         PrintItem::Whole(number) => same_bounds(f, g, *number),
@@ -135,7 +139,8 @@ fn same_whole(item: &PrintItem, f: &[Variable], g: &[Variable]) -> bool
 // Whether the arrays that these statements print whole have the same bounds.
 #[cycle(bounds)]
 fn have_same_bounds(items: &[Item], f: &[Variable], g: &[Variable]) -> bool
-    ensures { result ≡ list_all (same_bounds (map declaration_of f.now) (map declaration_of g.now)) (printed_whole (statements_from items.now)) }
+    ensures { result ≡ list_all (same_bounds (map declaration_of f.now) (map declaration_of g.now))
+        (printed_whole (statements_from items.now)) }
 {
     for item in items {
         if !has_same_bounds(item, f, g) {
@@ -147,7 +152,8 @@ fn have_same_bounds(items: &[Item], f: &[Variable], g: &[Variable]) -> bool
 
 #[cycle(bounds)]
 fn has_same_bounds(item: &Item, f: &[Variable], g: &[Variable]) -> bool
-    ensures { result ≡ list_all (same_bounds (map declaration_of f.now) (map declaration_of g.now)) (printed_in (statement_of item.now)) }
+    ensures { result ≡ list_all (same_bounds (map declaration_of f.now) (map declaration_of g.now))
+        (printed_in (statement_of item.now)) }
 {
     match item {
         Item::Loop(nest) => have_same_bounds(&nest.items, f, g),

@@ -64,7 +64,8 @@ fn index(e: &Expr) -> u32
 
 // What it loads, where it is a load.
 fn access(e: &Expr) -> Option<&Access>
-    ensures { MatchOption result (access_of (expression_of e.now) ≡ None) (λ a. access_of (expression_of e.now) ≡ Some a.now) }
+    ensures { MatchOption result (access_of (expression_of e.now)
+        ≡ None) (λ a. access_of (expression_of e.now) ≡ Some a.now) }
 {
     match e {
         Expr::Load(access) => Some(access),

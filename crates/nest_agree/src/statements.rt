@@ -58,7 +58,8 @@ fn same_head(a: &Nest, b: &Nest) -> bool
 /// Whether statements are equal, one by one.
 #[cycle(same)]
 pub(crate) fn same_statements(a: &[Item], b: &[Item]) -> bool
-    ensures { result ≡ same_list (λ s t. same_statement (statement_of s) (statement_of t)) a.now b.now }
+    ensures { result ≡ same_list (λ s t. same_statement (statement_of s) (statement_of t)) a.now
+        b.now }
 {
     for (place, item) in a.iter().enumerate() {
         if place >= b.len() || !same_statement(item, &b[place]) {

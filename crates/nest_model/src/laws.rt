@@ -15,8 +15,10 @@ ghost use Rattle.nest_model.specs.Visits.{visits};
 /// A well-formed program has at most as many instances as it has work, and a walk of it,
 /// whichever loops it enters, at most as many stops.
 pub fn no_more_stops_than_work()
-    ensures stops { (tree : Tree) → (enters : ℕ → Bool) → IsWellFormed tree → length (visits tree enters) ≤ work_estimate tree }
-    ensures instances { (tree : Tree) → IsWellFormed tree → length (instances tree) ≤ work_estimate tree }
+    ensures stops { (tree : Tree) → (enters : ℕ → Bool) → IsWellFormed tree
+        → length (visits tree enters) ≤ work_estimate tree }
+    ensures instances { (tree : Tree) → IsWellFormed tree
+        → length (instances tree) ≤ work_estimate tree }
 {}
 
 /// A program within its limits has at most 2^40 of work and at most 1,048,576 cells.
@@ -28,12 +30,15 @@ pub fn limits_bound_work_and_cells()
 /// At each stop of a walk of a well-formed program, whichever loops it enters, the value of each
 /// loop round the stop lies in the interval that the bounds give the loop inside those round it.
 pub fn values_lie_in_intervals()
-    ensures { (tree : Tree) → (enters : ℕ → Bool) → IsWellFormed tree → IsTrue (list_all (is_in_its_ends (stop_ends tree enters)) (visits tree enters)) }
+    ensures { (tree : Tree) → (enters : ℕ → Bool) → IsWellFormed tree
+        → IsTrue (list_all (is_in_its_ends (stop_ends tree enters)) (visits tree enters)) }
 {}
 
 /// In a well-formed program within its limits, wherever a walk stops, whichever loops it enters,
 /// the values of the statement's forms are within plus or minus 2147483647, and so is every value
 /// that a loop's DO variable takes there.
 pub fn computed_numbers_are_small()
-    ensures { (tree : Tree) → (enters : ℕ → Bool) → IsWellFormed tree → IsWithinLimits tree → IsTrue (list_all (λ v. list_all is_small (computed_at (param_values tree) v)) (visits tree enters)) }
+    ensures { (tree : Tree) → (enters : ℕ → Bool) → IsWellFormed tree → IsWithinLimits tree
+        → IsTrue (list_all (λ v. list_all is_small (computed_at (param_values tree) v))
+        (visits tree enters)) }
 {}

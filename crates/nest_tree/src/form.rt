@@ -81,7 +81,12 @@ impl Model for Affine {
 
     ghost view = { λ a. record { constant = a.constant; loops = a.loops; params = a.params } };
 
-    ghost invariant = { λ a. IsForm (record { constant = a.constant; loops = a.loops; params = a.params }) };
+    ghost invariant = { λ a. IsForm (record {
+      constant = a.constant;
+      loops = a.loops;
+      params =
+          a.params;
+    }) };
 }
 
 impl Affine {

@@ -63,7 +63,8 @@ impl Layout<'_> {
         requires low { 1 ≤ variable }
         requires high { variable ≤ length (laid_out self.now).variables }
         requires as_many { length subscripts.now ≡ length (bounds_of (laid_out self.now) variable) }
-        requires inside { IsTrue (are_inside (bounds_of (laid_out self.now) variable) subscripts.now) }
+        requires inside { IsTrue (are_inside (bounds_of (laid_out self.now) variable)
+            subscripts.now) }
         ensures cell { result ≡ cell_of (laid_out self.now) variable subscripts.now }
         ensures below { result < cell_count (laid_out self.now) }
     {

@@ -102,8 +102,10 @@ fn small_interval(
     constants: &[Parameter],
 ) -> Result<(i64, i64), i128>
     requires { IsTrue (is_given form.now (length ends.now) (length constants.now)) }
-    ensures wide { result_err result ≡ wide_end (form_interval form.now ends.now (map (λ p. p.value) constants.now)) }
-    ensures interval { IfOk result (λ i. i ≡ form_interval form.now ends.now (map (λ p. p.value) constants.now)) }
+    ensures wide { result_err result ≡ wide_end (form_interval form.now ends.now
+        (map (λ p. p.value) constants.now)) }
+    ensures interval { IfOk result (λ i. i ≡ form_interval form.now ends.now
+        (map (λ p. p.value) constants.now)) }
 {
     let (low, high) = form.interval_among(ends, constants);
     Ok((small(low)?, small(high)?))
@@ -135,8 +137,10 @@ fn check_forms(forms: &[Affine], ends: &[(i64, i64)], constants: &[Parameter]) -
 // The first wide end of what an expression loads.
 #[cycle(loads)]
 fn check_loads(e: &Expr, ends: &[(i64, i64)], constants: &[Parameter]) -> Result<(), i128>
-    requires { IsTrue (are_loads_given (length ends.now) (length constants.now) (loads_in (expression_of e.now))) }
-    ensures { result_err result ≡ wide_loads (map (λ p. p.value) constants.now) ends.now (loads_in (expression_of e.now)) }
+    requires { IsTrue (are_loads_given (length ends.now) (length constants.now)
+        (loads_in (expression_of e.now))) }
+    ensures { result_err result ≡ wide_loads (map (λ p. p.value) constants.now) ends.now
+        (loads_in (expression_of e.now)) }
 {
     match e {
         Expr::Number(_) | Expr::LoopValue(_) | Expr::Param(_) => Ok(()),
@@ -158,8 +162,10 @@ fn check_all_loads(
     ends: &[(i64, i64)],
     constants: &[Parameter],
 ) -> Result<(), i128>
-    requires { IsTrue (are_loads_given (length ends.now) (length constants.now) (loads_among (expressions_from arguments.now))) }
-    ensures { result_err result ≡ wide_loads (map (λ p. p.value) constants.now) ends.now (loads_among (expressions_from arguments.now)) }
+    requires { IsTrue (are_loads_given (length ends.now) (length constants.now)
+        (loads_among (expressions_from arguments.now))) }
+    ensures { result_err result ≡ wide_loads (map (λ p. p.value) constants.now) ends.now
+        (loads_among (expressions_from arguments.now)) }
 {
     for argument in arguments {
         check_loads(argument, ends, constants)?;
@@ -174,7 +180,8 @@ fn check_guard(
     constants: &[Parameter],
 ) -> Result<(), i128>
     requires { IsTrue (are_given (length ends.now) (length constants.now) (guard_forms guard.now)) }
-    ensures { result_err result ≡ wide_forms (map (λ p. p.value) constants.now) ends.now (guard_forms guard.now) }
+    ensures { result_err result ≡ wide_forms (map (λ p. p.value) constants.now) ends.now
+        (guard_forms guard.now) }
 {
     if let Some(guard) = guard {
         small_interval(&guard.left, ends, constants)?;
@@ -191,8 +198,11 @@ fn check_assignment(
     ends: &[(i64, i64)],
     constants: &[Parameter],
 ) -> Result<(), i128>
-    requires { IsTrue (are_given (length ends.now) (length constants.now) (guard_forms guard.now ++ target.now.subscripts ++ subscript_forms (loads_in (expression_of value.now)))) }
-    ensures { result_err result ≡ wide_forms (map (λ p. p.value) constants.now) ends.now (guard_forms guard.now ++ target.now.subscripts ++ subscript_forms (loads_in (expression_of value.now))) }
+    requires { IsTrue (are_given (length ends.now) (length constants.now) (guard_forms guard.now
+        ++ target.now.subscripts ++ subscript_forms (loads_in (expression_of value.now)))) }
+    ensures { result_err result ≡ wide_forms (map (λ p. p.value) constants.now) ends.now
+        (guard_forms guard.now ++ target.now.subscripts
+        ++ subscript_forms (loads_in (expression_of value.now))) }
 {
     check_guard(guard, ends, constants)?;
     check_forms(target.subscripts.as_slice(), ends, constants)?;
@@ -205,8 +215,10 @@ fn check_printed(
     ends: &[(i64, i64)],
     constants: &[Parameter],
 ) -> Result<(), i128>
-    requires { IsTrue (are_loads_given (length ends.now) (length constants.now) (flat_map loads_in_item (map printed_of items.now))) }
-    ensures { result_err result ≡ wide_loads (map (λ p. p.value) constants.now) ends.now (flat_map loads_in_item (map printed_of items.now)) }
+    requires { IsTrue (are_loads_given (length ends.now) (length constants.now)
+        (flat_map loads_in_item (map printed_of items.now))) }
+    ensures { result_err result ≡ wide_loads (map (λ p. p.value) constants.now) ends.now
+        (flat_map loads_in_item (map printed_of items.now)) }
 {
     for item in items {
         check_item(item, ends, constants)?;
@@ -216,8 +228,10 @@ fn check_printed(
 
 // The first wide end of what an item of a PRINT loads.
 fn check_item(item: &PrintItem, ends: &[(i64, i64)], constants: &[Parameter]) -> Result<(), i128>
-    requires { IsTrue (are_loads_given (length ends.now) (length constants.now) (loads_in_item (printed_of item.now))) }
-    ensures { result_err result ≡ wide_loads (map (λ p. p.value) constants.now) ends.now (loads_in_item (printed_of item.now)) }
+    requires { IsTrue (are_loads_given (length ends.now) (length constants.now)
+        (loads_in_item (printed_of item.now))) }
+    ensures { result_err result ≡ wide_loads (map (λ p. p.value) constants.now) ends.now
+        (loads_in_item (printed_of item.now)) }
 {
     match item {
         PrintItem::Value(e) => check_loads(e, ends, constants),
@@ -242,10 +256,13 @@ fn statements_work(
     constants: &[Parameter],
     width: u128,
 ) -> Result<u128, Limit>
-    requires given { IsTrue (are_all_given (length ends.old) (length constants.now) (statements_from items.now)) }
+    requires given { IsTrue (are_all_given (length ends.old) (length constants.now)
+        (statements_from items.now)) }
     requires width { width ≤ 2 ^ 64 }
-    ensures wide { result_err result ≡ wide_of (map (λ p. p.value) constants.now) ends.old (statements_from items.now) }
-    ensures work { IfOk result (λ w. w ≡ capped (work_of (map (λ p. p.value) constants.now) ends.old width (statements_from items.now))) }
+    ensures wide { result_err result ≡ wide_of (map (λ p. p.value) constants.now) ends.old
+        (statements_from items.now) }
+    ensures work { IfOk result (λ w. w ≡ capped (work_of (map (λ p. p.value) constants.now) ends.old
+        width (statements_from items.now))) }
     ensures kept { IfOk result (λ _. ends.new ≡ ends.old) }
 {
     let mut work = 0;
@@ -263,10 +280,13 @@ fn item_work(
     constants: &[Parameter],
     width: u128,
 ) -> Result<u128, Limit>
-    requires given { IsTrue (is_all_given (length ends.old) (length constants.now) (statement_of item.now)) }
+    requires given { IsTrue (is_all_given (length ends.old) (length constants.now)
+        (statement_of item.now)) }
     requires width { width ≤ 2 ^ 64 }
-    ensures wide { result_err result ≡ wide_in (map (λ p. p.value) constants.now) ends.old (statement_of item.now) }
-    ensures work { IfOk result (λ w. w ≡ capped (work_in (map (λ p. p.value) constants.now) ends.old width (statement_of item.now))) }
+    ensures wide { result_err result ≡ wide_in (map (λ p. p.value) constants.now) ends.old
+        (statement_of item.now) }
+    ensures work { IfOk result (λ w. w ≡ capped (work_in (map (λ p. p.value) constants.now) ends.old
+        width (statement_of item.now))) }
     ensures kept { IfOk result (λ _. ends.new ≡ ends.old) }
 {
     match item {
@@ -294,10 +314,13 @@ fn nest_work(
     constants: &[Parameter],
     width: u128,
 ) -> Result<u128, Limit>
-    requires given { IsTrue (is_all_given (length ends.old) (length constants.now) (loop_of nest.now)) }
+    requires given { IsTrue (is_all_given (length ends.old) (length constants.now)
+        (loop_of nest.now)) }
     requires width { width ≤ 2 ^ 64 }
-    ensures wide { result_err result ≡ wide_in (map (λ p. p.value) constants.now) ends.old (loop_of nest.now) }
-    ensures work { IfOk result (λ w. w ≡ capped (work_in (map (λ p. p.value) constants.now) ends.old width (loop_of nest.now))) }
+    ensures wide { result_err result ≡ wide_in (map (λ p. p.value) constants.now) ends.old
+        (loop_of nest.now) }
+    ensures work { IfOk result (λ w. w ≡ capped (work_in (map (λ p. p.value) constants.now) ends.old
+        width (loop_of nest.now))) }
     ensures kept { IfOk result (λ _. ends.new ≡ ends.old) }
 {
     let interval = nest.interval(ends, constants)?;
@@ -321,9 +344,13 @@ impl Nest {
         ends: &[(i64, i64)],
         constants: &[Parameter],
     ) -> Result<(i64, i64), Limit>
-        requires { IsTrue (are_given (length ends.now) (length constants.now) ((head_of self.now).m1 ∷ (head_of self.now).m2 ∷ [])) }
-        ensures wide { result_err result ≡ wide_at (head_of self.now).line (wide_forms (map (λ p. p.value) constants.now) ends.now ((head_of self.now).m1 ∷ (head_of self.now).m2 ∷ [])) }
-        ensures interval { IfOk result (λ i. i ≡ head_interval (map (λ p. p.value) constants.now) ends.now (head_of self.now)) }
+        requires { IsTrue (are_given (length ends.now) (length constants.now) ((head_of self.now).m1
+            ∷ (head_of self.now).m2 ∷ [])) }
+        ensures wide { result_err result ≡ wide_at (head_of self.now).line
+            (wide_forms (map (λ p. p.value) constants.now) ends.now ((head_of self.now).m1
+            ∷ (head_of self.now).m2 ∷ [])) }
+        ensures interval { IfOk result (λ i. i ≡ head_interval (map (λ p. p.value) constants.now)
+            ends.now (head_of self.now)) }
         ensures low { IfOk result (λ i. IsTrue (is_small i.0)) }
         ensures high { IfOk result (λ i. IsTrue (is_small i.1)) }
     {

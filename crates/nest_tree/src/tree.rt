@@ -104,8 +104,10 @@ impl Guard {
     /// Whether the comparison holds where the loops and the named constants, by number from 1,
     /// have these values. Each side's value is within plus or minus 2147483647.
     pub fn holds(&self, loops: &[i64], params: &[i64]) -> bool
-        requires left_given { IsTrue (is_given self.now.left (length loops.now) (length params.now)) }
-        requires right_given { IsTrue (is_given self.now.right (length loops.now) (length params.now)) }
+        requires left_given { IsTrue (is_given self.now.left (length loops.now)
+            (length params.now)) }
+        requires right_given { IsTrue (is_given self.now.right (length loops.now)
+            (length params.now)) }
         requires left_small { IsTrue (is_small (form_value self.now.left loops.now params.now)) }
         requires right_small { IsTrue (is_small (form_value self.now.right loops.now params.now)) }
         ensures { result ≡ holds (Some self.now) loops.now params.now }

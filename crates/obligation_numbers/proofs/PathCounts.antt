@@ -23,7 +23,6 @@ use Rattle.comm_system.specs.References.{Reference, StaticPhase, phases_of, refe
 use Rattle.comm_system.proofs.FirstStores.{first_store, path_among, path_in, store_first, stored_rank}
 use Rattle.comm_system.proofs.GoodReferences.{AllIn, among_phases, stored_good}
 use Rattle.comm_system.proofs.Lists.{all_split}
-use Rattle.obligation_numbers.specs.Counts.{path_count}
 use Rattle.obligation_numbers.proofs.Counted.{ArePathsCounted}
 use Rattle.obligation_numbers.proofs.StoredFirst.{good_among, good_parts, shape_privates}
 

@@ -1,12 +1,11 @@
 -- The private scalars of a phase rise, and the first access of each is a store.
-use Rattle.std.proofs.Common.{◌≡◌, ℕ, ◌&&◌, ◌||◌, ◌==◌, not, nat_le, Bool, true, false, true≢false, None, List, [], ◌∷◌, ◌++◌, append_assoc, length, map, if◌then◌else◌, refl, ap, sym, ◌∙◌, subst, inl, inr, arith}
+use Rattle.std.proofs.Common.{◌≡◌, ℕ, ◌&&◌, ◌||◌, ◌==◌, not, nat_le, Bool, true, false, true≢false, None, List, [], ◌∷◌, ◌++◌, length, if◌then◌else◌, refl, ap, sym, ◌∙◌, subst, inl, inr, arith}
 use Rattle.std.specs.Prelude.{is_none}
 use Rattle.std.specs.List.{AllByRecursion, flat_map, list_all}
 use Rattle.std.proofs.lemmas.Bool.{and_parts, cases_Bool, eqb-true}
-use Rattle.std.proofs.lemmas.Grind.{flat_map-append}
 use Rattle.nest_tree.specs.Tree.{Head, Work, assign, print, Statement, Statements, do_loop, work, continue, done, next, Tree}
 use Rattle.nest_tree.specs.WellFormed.{IsWellFormed, Scope, loops_of, scope_of}
-use Rattle.nest_walk.specs.Tables.{element, loaded_in_work}
+use Rattle.nest_walk.specs.Tables.{element}
 use Rattle.nest_rows.specs.Nested.{Nested, nested_among, nested_in}
 use Rattle.nest_rows.proofs.GoodNesting.{IsGoodNested, works_good}
 use Rattle.nest_rows.proofs.Nesting.{all-append}

@@ -1,5 +1,5 @@
 -- What a certificate comes to by what is left of a system.
-use Rattle.std.proofs.Common.{◌≡◌, ℕ, ◌-◌, List, Some, None, slice_get, ap, sym, ◌∙◌, subst}
+use Rattle.std.proofs.Common.{◌≡◌, ◌-◌, List, Some, None, slice_get, ap, sym, ◌∙◌, subst}
 use Rattle.std.specs.Option.{option_map}
 use Rattle.farkas_cert.specs.declared.certificate.Certificate.{Certificate}
 use Rattle.farkas_cert.specs.declared.certificate.CertRefusal.{CertRefusal}

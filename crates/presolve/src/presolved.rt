@@ -37,9 +37,17 @@ impl Model for Presolved {
 
     ghost Value = { Presolution };
 
-    ghost view = { λ p. record { vars = p.vars; count = p.count; columns = p.columns.items; numbers = p.numbers.items; system = p.system } };
+    ghost view = { λ p. record {
+      vars = p.vars;
+      count = p.count;
+      columns = p.columns.items;
+      numbers
+          = p.numbers.items;
+      system = p.system;
+    } };
 
-    ghost invariant = { λ p. AreNarrow p.system.rows × (length p.numbers.items ≡ length p.system.rows) × (length p.numbers.items ≤ p.count) × (p.count < 2 ^ 63) };
+    ghost invariant = { λ p. AreNarrow p.system.rows × (length p.numbers.items
+        ≡ length p.system.rows) × (length p.numbers.items ≤ p.count) × (p.count < 2 ^ 63) };
 }
 
 impl Presolved {
@@ -64,7 +72,14 @@ impl Presolved {
         requires rows { length numbers.items ≡ length system.rows }
         requires within { length numbers.items ≤ count }
         requires room { count < 2 ^ 63 }
-        ensures { result ≡ record { vars = vars; count = count; columns = columns.items; numbers = numbers.items; system = system } }
+        ensures { result ≡ record {
+          vars = vars;
+          count = count;
+          columns = columns.items;
+          numbers =
+              numbers.items;
+          system = system;
+        } }
     {
         Presolved {
             vars,
@@ -136,7 +151,8 @@ impl Presolved {
         alloc: Global,
         certificate: Certificate,
     ) -> Result<Certificate, AllocError>
-        ensures { (whole : Inequalities) → IsPresolved whole self.now → IsGood self.now.system certificate → IfOk result (IsGood whole) }
+        ensures { (whole : Inequalities) → IsPresolved whole self.now
+            → IsGood self.now.system certificate → IfOk result (IsGood whole) }
     {
         whole_certificate(alloc, self.count, self.numbers.as_slice(), &certificate)
     }
@@ -144,7 +160,8 @@ impl Presolved {
     /// What a certificate of the whole system comes to: its first fault there, if it has one, unless
     /// it names a row that is left out.
     pub fn check(&self, alloc: Global, certificate: &Certificate) -> Result<Checked, AllocError>
-        ensures { (whole : Inequalities) → IsPresolved whole self.now → IfOk result (IsAnswer whole self.now certificate.now) }
+        ensures { (whole : Inequalities) → IsPresolved whole self.now
+            → IfOk result (IsAnswer whole self.now certificate.now) }
     {
         match kept_certificate(alloc, self.count, self.numbers.as_slice(), certificate) {
             Ok(kept) => self.check_kept(alloc, &kept),

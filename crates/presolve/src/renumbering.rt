@@ -60,7 +60,8 @@ fn whole_terms(
     terms: &[(u64, i128)],
 ) -> Result<Vec<(u64, i128)>, AllocError>
     requires { count < 2 ^ 63 }
-    ensures { IfOk result (λ made. made.items ≡ renamed_terms (number_in_64 count numbers.now) terms.now) }
+    ensures { IfOk result (λ made. made.items ≡ renamed_terms (number_in_64 count numbers.now)
+        terms.now) }
 {
     let mut made = Vec::with_capacity(alloc, terms.len())?;
     for term in terms {
@@ -77,7 +78,8 @@ pub(crate) fn whole_certificate(
     certificate: &Certificate,
 ) -> Result<Certificate, AllocError>
     requires { count < 2 ^ 63 }
-    ensures made { IfOk result (λ made. made ≡ renamed (number_in_64 count numbers.now) certificate.now) }
+    ensures made { IfOk result (λ made. made ≡ renamed (number_in_64 count numbers.now)
+        certificate.now) }
     ensures few { length certificate.now.steps < 2 ^ 63 }
 {
     let given = certificate.steps.as_slice();
@@ -98,8 +100,11 @@ pub(crate) fn whole_certificate(
 // system or a made one; None where it is left out.
 fn kept_number(count: u64, numbers: &[u64], number: u64) -> Option<u64>
     requires { length numbers.now ≤ count }
-    ensures kept { AreRising 1 (count + 1) numbers.now → IfSome result (λ k. (k ≡ number_kept count numbers.now number) × NamesKept count numbers.now ((number, pos 0) ∷ [])) }
-    ensures left { AreRising 1 (count + 1) numbers.now → IfNone result (IsLeftOut count numbers.now number) }
+    ensures kept { AreRising 1 (count + 1) numbers.now → IfSome result (λ k. (k
+        ≡ number_kept count numbers.now number) × NamesKept count numbers.now ((number, pos 0)
+        ∷ [])) }
+    ensures left { AreRising 1 (count + 1) numbers.now → IfNone result (IsLeftOut count numbers.now
+        number) }
 {
     if number == 0 {
         return Some(0);
@@ -120,8 +125,11 @@ fn kept_terms(
     terms: &[(u64, i128)],
 ) -> Result<Vec<(u64, i128)>, Stop>
     requires { length numbers.now ≤ count }
-    ensures kept { AreRising 1 (count + 1) numbers.now → IfOk result (λ made. (made.items ≡ renamed_terms (number_kept count numbers.now) terms.now) × NamesKept count numbers.now terms.now) }
-    ensures left { AreRising 1 (count + 1) numbers.now → IfErr result (StopsOver (λ r. terms_name r terms.now) count numbers.now) }
+    ensures kept { AreRising 1 (count + 1) numbers.now → IfOk result (λ made. (made.items
+        ≡ renamed_terms (number_kept count numbers.now) terms.now)
+        × NamesKept count numbers.now terms.now) }
+    ensures left { AreRising 1 (count + 1) numbers.now → IfErr result
+        (StopsOver (λ r. terms_name r terms.now) count numbers.now) }
 {
     let mut made = Vec::with_capacity(alloc, terms.len())?;
     for term in terms {
@@ -141,8 +149,11 @@ pub(crate) fn kept_certificate(
     certificate: &Certificate,
 ) -> Result<Certificate, Stop>
     requires { length numbers.now ≤ count }
-    ensures kept { AreRising 1 (count + 1) numbers.now → IfOk result (λ made. (made ≡ renamed (number_kept count numbers.now) certificate.now) × StepsNameKept count numbers.now certificate.now.steps) }
-    ensures left { AreRising 1 (count + 1) numbers.now → IfErr result (StopsOver (λ r. steps_name r certificate.now.steps) count numbers.now) }
+    ensures kept { AreRising 1 (count + 1) numbers.now → IfOk result (λ made. (made
+        ≡ renamed (number_kept count numbers.now) certificate.now)
+        × StepsNameKept count numbers.now certificate.now.steps) }
+    ensures left { AreRising 1 (count + 1) numbers.now → IfErr result
+        (StopsOver (λ r. steps_name r certificate.now.steps) count numbers.now) }
     ensures few { length certificate.now.steps < 2 ^ 63 }
 {
     let given = certificate.steps.as_slice();

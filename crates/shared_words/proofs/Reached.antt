@@ -1,5 +1,5 @@
 -- Lawful places are come to by some schedule: of the processors that are behind their places, one can go on.
-use Rattle.std.proofs.Common.{◌≡◌, ◌≢◌, ℕ, zero, suc, ◌+◌, ◌-◌, ◌<◌, ◌≤◌, ◌⊎◌, ℤ, pos, nat_le, List, [], ◌∷◌, ◌++◌, fold, length, map, replicate, get_or, Option, Some, None, refl, ap, sym, subst, ◌∙◌, inl, inr, ⊎_elim, arith, if◌then◌else◌, zero-add, Bool, ◌&&◌}
+use Rattle.std.proofs.Common.{◌≡◌, ℕ, zero, suc, ◌+◌, ◌-◌, ◌<◌, ◌≤◌, ◌⊎◌, ℤ, pos, nat_le, List, [], ◌∷◌, ◌++◌, map, replicate, get_or, Option, Some, None, refl, ap, sym, subst, ◌∙◌, inl, inr, ⊎_elim, arith, if◌then◌else◌, zero-add, Bool, ◌&&◌}
 use Rattle.std.specs.Prelude.{All, slice_get}
 use Rattle.std.specs.List.{range_with_len}
 use Rattle.std.proofs.lemmas.Bool.{cases_eq, cases_lt}
@@ -7,13 +7,12 @@ use Rattle.std.proofs.lemmas.List.{ext_get_or}
 use Rattle.std.proofs.lemmas.List.Elements.{All-append, All-cons, All-nil}
 use Rattle.std.proofs.lemmas.List.Sums.{fold-append}
 use Rattle.std.proofs.lemmas.Option.{slice_get-get_or}
-use Rattle.nest_model.specs.Memory.{cell_value}
 use Rattle.spmd_model.specs.Cells.{changed}
 use Rattle.spmd_model.specs.Timelines.{Act, post, await, load, store, add, print, Job, Machine, Moment, Word, counter, signal, boundary, job, act_at, acts_of}
 use Rattle.spmd_model.specs.States.{State, first_state, run_of, stepped}
 use Rattle.spmd_model.specs.Sequential.{registers_at, stored_at, value_at}
 use Rattle.spmd_model.specs.Ordered.{IsOrdered, IsSound}
-use Rattle.spmd_model.specs.Lawful.{IsLawful, Moves, acts_in_front, counter_at, is_done, last_value_from, last_value_where, printed_at, stores_to}
+use Rattle.spmd_model.specs.Lawful.{IsLawful, acts_in_front, counter_at, is_done, last_value_from, last_value_where, printed_at, stores_to}
 use Rattle.spmd_model.specs.Reached.{IsPossibleAt, memory_by, state_at}
 use Rattle.spmd_model.proofs.ActLaws as law
 use Rattle.spmd_model.proofs.ActLists.{act_of_moment, found}

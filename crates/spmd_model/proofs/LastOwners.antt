@@ -2,7 +2,7 @@
 use Rattle.std.proofs.Common.{◌≡◌, ℕ, ℤ, List, [], ◌∷◌, Option, Some, None, if◌then◌else◌, refl, ap, sym, ◌∙◌, is_none}
 use Rattle.std.specs.Prelude.{slice_get}
 use Rattle.std.specs.Option.{option_map}
-use Rattle.nest_tree.specs.Tree.{Head, Statement, Statements, do_loop, work, continue, Tree, param_values}
+use Rattle.nest_tree.specs.Tree.{Head, Statement, Statements, do_loop, Tree, param_values}
 use Rattle.nest_model.specs.Instances.{Instance, head_trips, instances_in, with_loop}
 use Rattle.nest_model.specs.Visits.{Visit}
 use Rattle.sync_plan.specs.declared.plan.Plan.{Plan}

@@ -12,13 +12,12 @@ use Rattle.nest_tree.specs.Tree.{Tree, param_values}
 use Rattle.nest_tree.specs.WellFormed.{IsWellFormed}
 use Rattle.nest_model.specs.Accesses.{cells_of, loads_of, store_of}
 use Rattle.nest_model.specs.Instances.{Instance}
-use Rattle.nest_model.specs.Memory.{assigned_value, cell_value, first_memory, line_of, loaded_in, memory_after, output_from, output_of}
+use Rattle.nest_model.specs.Memory.{cell_value, first_memory, memory_after}
 use Rattle.nest_model.specs.Memory as Model
 use Rattle.nest_model.specs.Ranges.{IsInRange}
 use Rattle.nest_model.specs.Visits.{Visit}
-use Rattle.owner_partition.specs.Phases.{Execution, executions, executions_from, phase_instances, phases}
+use Rattle.owner_partition.specs.Phases.{Execution, executions_from, phase_instances, phases}
 use Rattle.owner_partition.proofs.Instances.{all_executed}
-use Rattle.owner_partition.proofs.Sites.{all_at}
 use Rattle.sync_plan.specs.declared.plan.Plan.{Plan}
 use Rattle.sync_plan.specs.Fit.{IsFit}
 use Rattle.sync_plan.specs.Own.{Own, own_of}

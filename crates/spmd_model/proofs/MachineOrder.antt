@@ -1,17 +1,15 @@
 -- A plan that fits has a sound timeline in either style, and an ordered plan of a program in range an ordered one.
-use Rattle.std.proofs.Common.{◌≡◌, ◌≢◌, ℕ, suc, ◌+◌, ◌-◌, ◌*◌, ◌<◌, ◌≤◌, ◌⊎◌, true, false, true≢false, List, [], ◌∷◌, Some, None, refl, ap, sym, subst, ◌∙◌, inl, inr, arith, ℤ}
+use Rattle.std.proofs.Common.{◌≡◌, ◌≢◌, ℕ, suc, ◌+◌, ◌-◌, ◌*◌, ◌<◌, ◌≤◌, ◌⊎◌, true, false, true≢false, List, [], ◌∷◌, Some, refl, ap, sym, subst, ◌∙◌, inl, inr, arith, ℤ}
 use Rattle.std.specs.Prelude.{slice_get}
 use Rattle.std.proofs.lemmas.Bool.{cases_eq, cases_lt}
 use Rattle.std.proofs.lemmas.Option.{slice_get_within}
 use Rattle.nest_tree.specs.Layout.{cell_count}
-use Rattle.nest_tree.specs.Tree.{Tree, param_values, Printing, print, Work, assign}
+use Rattle.nest_tree.specs.Tree.{Tree, param_values}
 use Rattle.nest_tree.specs.WellFormed.{IsWellFormed}
-use Rattle.nest_model.specs.Accesses.{access_cell, work_store}
 use Rattle.nest_model.specs.Instances.{Instance}
 use Rattle.nest_model.specs.Ranges.{IsInRange}
 use Rattle.nest_model.specs.Visits.{Visit}
-use Rattle.owner_partition.specs.Phases.{Execution, executions, phase_instances, phases}
-use Rattle.owner_partition.proofs.Sites.{all_at}
+use Rattle.owner_partition.specs.Phases.{executions, phase_instances, phases}
 use Rattle.sync_plan.specs.declared.plan.Plan.{Plan}
 use Rattle.sync_plan.specs.Conflicts.{ConflictUnder, owner_under}
 use Rattle.sync_plan.specs.Fit.{IsFit}

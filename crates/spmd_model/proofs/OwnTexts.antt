@@ -3,8 +3,7 @@ use Rattle.std.proofs.Common.{◌≡◌, ℕ, zero, suc, ◌+◌, ◌-◌, ◌<�
 use Rattle.std.specs.Prelude.{Contains, if◌then◌else◌, position, slice_get}
 use Rattle.std.specs.List.{filter, list_all, list_any, position_or_len, range_with_len}
 use Rattle.std.specs.Option.{option_map, option_or}
-use Rattle.std.proofs.lemmas.Bool.{and_from, and_parts, cases_Bool, eq-eqb, eqb-true, leb-true, lt-ltb, ltb-true}
-use Rattle.std.proofs.lemmas.List.Folds.{list_all-append}
+use Rattle.std.proofs.lemmas.Bool.{and_parts, cases_Bool, eq-eqb, eqb-true, leb-true, lt-ltb, ltb-true}
 use Rattle.std.proofs.lemmas.List.Quantifiers.{position-Some}
 use Rattle.nest_tree.specs.declared.tree.Access.{Access}
 use Rattle.nest_tree.specs.Layout.{bounds_at, bounds_of, cells_in, element_count, first_cell}
@@ -12,7 +11,7 @@ use Rattle.nest_tree.specs.Tree.{Declaration, assign, print, Statement, Statemen
 use Rattle.nest_tree.specs.WellFormed.{IsWellFormed, are_good_statements, is_good_access, is_good_expression, is_good_guard, is_good_statement, loops_in, scope_of}
 use Rattle.nest_tree.proofs.Good.{good_loop}
 use Rattle.nest_model.specs.Visits.{Visit}
-use Rattle.nest_walk.specs.Texts.{Placed, placed, placed_in, placed_of}
+use Rattle.nest_walk.specs.Texts.{Placed, placed}
 use Rattle.nest_walk.proofs.GoodAccesses.{good_access-there}
 use Rattle.own_scalars.specs.OwnScalars.{is_of, is_private, is_sum, last_stored, some_in, some_of, stores, sum_scalars, is_other}
 use Rattle.own_scalars.proofs.OwnLaws.{sum_private}

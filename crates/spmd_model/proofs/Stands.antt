@@ -8,7 +8,7 @@ use Rattle.std.proofs.lemmas.List.{length-map}
 use Rattle.std.proofs.lemmas.List.Elements.{All-contains, Contains-append_cases, Contains-append_left, Contains-append_right}
 use Rattle.std.proofs.lemmas.Option.{slice_get-map, slice_get_within}
 use Rattle.nest_tree.specs.Layout.{bounds_of, cell_count, element_count, first_cell, element_place}
-use Rattle.nest_tree.specs.Tree.{Printing, Work, assign, print, Head, Statement, Statements, do_loop, work, continue, Tree, param_values}
+use Rattle.nest_tree.specs.Tree.{Printing, Work, assign, print, Statement, do_loop, work, continue, Tree, param_values}
 use Rattle.nest_tree.specs.WellFormed.{IsWellFormed}
 use Rattle.nest_model.specs.Accesses.{access_cell, cells_of, loads_of, store_of, subscript_values, work_store}
 use Rattle.nest_model.specs.Instances.{Instance, head_trips, instances_in, with_loop}
@@ -20,7 +20,7 @@ use Rattle.owner_partition.specs.Cuts.{privates_of}
 use Rattle.owner_partition.specs.Phases.{Execution, executions, executions_from, phase_instances, phases}
 use Rattle.owner_partition.proofs.Sites.{all_at}
 use Rattle.sync_plan.specs.declared.plan.Plan.{Plan}
-use Rattle.sync_plan.specs.Conflicts.{is_last_store, last_value, owner_under, seen_by, seen_cells, seen_loads, seen_store, seen_stored}
+use Rattle.sync_plan.specs.Conflicts.{is_last_store, owner_under, seen_by, seen_cells, seen_loads, seen_store, seen_stored}
 use Rattle.sync_plan.specs.Fit.{IsFit}
 use Rattle.sync_plan.specs.Own.{Own, OwnLoop, at_slot, is_cell_of, own_cell, own_loop, own_loop_of, own_of}
 use Rattle.sync_plan.specs.Stored.{AreStoredFirst}

@@ -1,38 +1,27 @@
 -- The instances of a phase as jobs: in each trip all are one processor's, and each private scalar that is loaded was stored by it before; so all are good.
-use Rattle.std.proofs.Common.{◌≡◌, ℕ, ◌+◌, ◌-◌, ◌<◌, ◌≤◌, ℤ, pos, ◌+ℤ◌, ◌*ℤ◌, Bool, true, false, true≢false, ◌&&◌, ◌||◌, ◌==◌, not, List, [], ◌∷◌, ◌++◌, fold, get_or, length, map, Option, Some, if◌then◌else◌, refl, ap, sym, subst, ◌∙◌, inl, inr, arith, append_assoc, is_none}
-use Rattle.std.specs.Prelude.{Contains, slice_get}
-use Rattle.std.specs.List.{All, AllByRecursion, list_all, list_any}
+use Rattle.std.proofs.Common.{◌≡◌, ℕ, ◌+◌, ◌-◌, ◌<◌, Bool, true, false, true≢false, ◌&&◌, ◌||◌, not, List, [], ◌∷◌, ◌++◌, fold, map, Option, Some, refl, ap, sym, subst, ◌∙◌, inl, inr, append_assoc, is_none}
+use Rattle.std.specs.Prelude.{Contains}
+use Rattle.std.specs.List.{All, AllByRecursion, list_any}
 use Rattle.std.proofs.lemmas.Bool.{and_parts, cases_Bool}
-use Rattle.std.proofs.lemmas.List.{get_or-set_other, map-append}
-use Rattle.std.proofs.lemmas.List.Elements.{All-append, All-cons, All-head, All-nil, All-tail, All-weaker}
+use Rattle.std.proofs.lemmas.List.{map-append}
+use Rattle.std.proofs.lemmas.List.Elements.{All-cons, All-head, All-nil, All-tail}
 use Rattle.std.proofs.lemmas.List.Sums.{fold-append}
-use Rattle.nest_tree.specs.Form.{Form, dot, form_value, is_form, numbered}
-use Rattle.nest_tree.specs.Layout.{first_cell, count_of}
+use Rattle.nest_tree.specs.Layout.{first_cell}
 use Rattle.nest_tree.specs.Loads.{loads_in_work}
-use Rattle.nest_tree.specs.Tree.{Work, assign, print, Head, Statement, Statements, do_loop, work, continue, done, next, Tree, param_values}
-use Rattle.nest_tree.specs.WellFormed.{IsWellFormed, Scope, are_good_statements, is_good_statement, is_number_of, loops_in, names_only, scope_of}
-use Rattle.nest_tree.proofs.Good.{good_loop}
+use Rattle.nest_tree.specs.Tree.{Work, assign, print, Tree}
+use Rattle.nest_tree.specs.WellFormed.{IsWellFormed}
 use Rattle.nest_model.specs.Accesses.{loads_of}
-use Rattle.nest_model.specs.Instances.{Instance, head_trips, instances_in, instances_of, is_executed, with_loop, works_in}
+use Rattle.nest_model.specs.Instances.{Instance}
 use Rattle.nest_model.specs.Ranges.{is_instance_inside}
 use Rattle.nest_model.specs.Visits.{Visit}
 use Rattle.own_scalars.specs.OwnScalars.{has_access, is_of, is_other, is_plain_store, loads, stores}
-use Rattle.owner_partition.specs.Owners.{dealt, has_places, owner_by}
-use Rattle.owner_partition.specs.Phases.{phases}
-use Rattle.owner_partition.proofs.Sites.{All-flat_map}
 use Rattle.sync_plan.specs.declared.plan.Plan.{Plan}
-use Rattle.sync_plan.specs.Fit.{IsFit}
 use Rattle.sync_plan.specs.Own.{is_cell_of, own_loop, own_of}
-use Rattle.sync_plan.specs.Shape.{is_doall, mark_of, own_loops, static_phases}
-use Rattle.sync_plan.proofs.FitOwners.{good_each, named_low}
-use Rattle.sync_plan.proofs.Fits.{fit_parts}
-use Rattle.sync_plan.proofs.PhasePlaces.{visit_there}
 use Rattle.spmd_model.specs.Closings.{phase_owner}
 use Rattle.spmd_model.specs.Planned.{job_of}
 use Rattle.spmd_model.specs.Timelines.{Job}
 use Rattle.spmd_model.specs.Trips.{IsAway, IsTrip, last_behind}
-use Rattle.spmd_model.proofs.CellsThere.{IsGoodWork, every}
-use Rattle.spmd_model.proofs.Deeds.{anchored}
+use Rattle.spmd_model.proofs.CellsThere.{IsGoodWork}
 use Rattle.spmd_model.proofs.InstanceJobs.{good_job, load_is, store_is}
 use Rattle.spmd_model.proofs.LastStores.{StoresFirst}
 use Rattle.spmd_model.proofs.OwnRuns.{AreGoodJobs}

@@ -102,7 +102,8 @@ pub fn own_cells_follow()
         → Bool) (j : Job) (c k : ℕ) → AreApart o → Come o m f last assigned
         → AllByRecursion (IsGoodLoad o last j.owner) j.loads → j.adds ≡ false → j.store ≡ Some c
         → c < o.shared → o.slot c ≡ Some k → o.is_sum c ≡ false
-        → Come o (behind_job m j) (behind_job f (own_job o j)) (put last c (Some j.owner)) assigned }
+        → Come o (behind_job m j) (behind_job f (own_job o j)) (put last c (Some j.owner))
+        assigned }
     ensures sum { (o : Own) (m f : ℕ → ℤ) (last : ℕ → Option ℕ) (assigned : ℕ → ℕ
         → Bool) (j : Job) (c k : ℕ) → AreApart o → Come o m f last assigned
         → (s : IsSumJob o j c k) → j.adds ≡ false → j.owner < o.workers

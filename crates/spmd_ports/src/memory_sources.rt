@@ -73,7 +73,8 @@ impl Source for MemSource {
         ensures failed { OnErr result (self.new ≡ failed self.old) }
         ensures count { IfOk result (λ n. n ≡ given self.old (length into.old)) }
         ensures given { IfOk result (λ n. self.new ≡ read_on self.old n) }
-        ensures end { IfOk result (λ n. n ≡ 0 → 0 < length into.new → IsAtEnd (Some self.new.left)) }
+        ensures end { IfOk result (λ n. n ≡ 0 → 0 < length into.new
+            → IsAtEnd (Some self.new.left)) }
         ensures bytes { IfOk result (λ n. into.new ≡ take n self.old.left ++ drop n into.old) }
         ensures fault_keeps_slice { OnErr result (into.new ≡ into.old) }
     {

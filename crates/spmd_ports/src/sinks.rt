@@ -36,12 +36,14 @@ pub trait Sink {
         // 0 bytes taken of a nonempty piece raise the other count, and nothing else does.
         ensures empty_is_counted { IfOk result (λ n. n ≡ 0 → 0 < length from.now →
             Rose (empties self.old) (empties self.new)) }
-        ensures bytes_are_no_empty { IfOk result (λ n. 0 < n → empties self.new ≡ empties self.old) }
+        ensures bytes_are_no_empty { IfOk result (λ n. 0 < n → empties self.new
+            ≡ empties self.old) }
         ensures nothing_is_no_empty { length from.now ≡ 0 → empties self.new ≡ empties self.old }
         ensures fault_is_no_empty { OnErr result (empties self.new ≡ empties self.old) }
         ensures empties_never_fall { empties self.old ≤ empties self.new }
 
         // The bytes taken are the front of the piece, and stand behind what was written.
-        ensures appended { IfOk result (λ n. Appends (written self.old) (written self.new) (take n from.now)) }
+        ensures appended { IfOk result (λ n. Appends (written self.old) (written self.new)
+            (take n from.now)) }
         ensures fault_writes_nothing { OnErr result (Keeps (written self.old) (written self.new)) };
 }

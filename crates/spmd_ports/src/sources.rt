@@ -32,7 +32,8 @@ pub trait Source {
         ensures never_falls { faults self.old ≤ faults self.new }
 
         // The bytes given are the front of what was left, and the end is where nothing is.
-        ensures front { IfOk result (λ n. Consumes (left self.old) (left self.new) (take n into.new)) }
+        ensures front { IfOk result (λ n. Consumes (left self.old) (left self.new)
+            (take n into.new)) }
         ensures end { IfOk result (λ n. n ≡ 0 → 0 < length into.new → IsAtEnd (left self.new)) }
         ensures fault_takes_nothing { OnErr result (Keeps (left self.old) (left self.new)) };
 }

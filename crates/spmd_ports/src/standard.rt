@@ -88,7 +88,9 @@ impl Sink for StdSink {
 
     fn write(&mut self, from: &[u8]) -> Result<usize, Failed>
         ensures within { IfOk result (λ n. n ≤ length from.now) }
-        ensures fault { OnErr result (self.new ≡ record self.old { faults = raised self.old.faults }) }
+        ensures fault { OnErr result (self.new ≡ record self.old {
+          faults = raised self.old.faults;
+        }) }
         ensures taken { IfOk result (λ n. self.new ≡ answered self.old n (length from.now)) }
     {
         match self.output.write(from) {

@@ -35,12 +35,15 @@ impl From<AllocError> for ReadTrouble {
 /// All bytes of a source, up to its end. Of a source that is too long exactly 4,194,305 bytes are
 /// taken.
 pub fn read_all<S: Source>(alloc: Global, source: &mut S) -> Result<Vec<u8>, ReadTrouble>
-    ensures read { IfOk result (λ bytes. Consumes (S.left source.old) (S.left source.new) bytes.items) }
+    ensures read { IfOk result (λ bytes. Consumes (S.left source.old) (S.left source.new)
+        bytes.items) }
     ensures end { OnOk result (IsAtEnd (S.left source.new)) }
     ensures short { IfOk result (λ bytes. length bytes.items ≤ MOST_BYTES) }
-    ensures fault { result ≡ Err ReadTrouble.Fault → Rose (S.faults source.old) (S.faults source.new) }
+    ensures fault { result ≡ Err ReadTrouble.Fault → Rose (S.faults source.old)
+        (S.faults source.new) }
     ensures no_fault { S.faults source.old < S.faults source.new → result ≡ Err ReadTrouble.Fault }
-    ensures long { result ≡ Err ReadTrouble.TooLong → TakesBytes (S.left source.old) (S.left source.new) (MOST_BYTES + 1) }
+    ensures long { result ≡ Err ReadTrouble.TooLong → TakesBytes (S.left source.old)
+        (S.left source.new) (MOST_BYTES + 1) }
 {
     let mut bytes: Vec<u8> = Vec::new(alloc);
     let mut chunk = [0u8; CHUNK];

@@ -13,7 +13,8 @@ use spmd_ports::{Failed, Sink};
 pub fn write_all<K: Sink>(sink: &mut K, text: &[u8]) -> Result<(), Failed>
     ensures written { OnOk result (Appends (K.written sink.old) (K.written sink.new) text.now) }
     ensures part { OnErr result (WritesPart (K.written sink.old) (K.written sink.new) text.now) }
-    ensures fault { OnErr result (RoseOneOf (K.faults sink.old) (K.faults sink.new) (K.empties sink.old) (K.empties sink.new)) }
+    ensures fault { OnErr result (RoseOneOf (K.faults sink.old) (K.faults sink.new)
+        (K.empties sink.old) (K.empties sink.new)) }
     ensures no_fault { OnOk result (K.faults sink.new ≡ K.faults sink.old) }
     ensures no_empty { OnOk result (K.empties sink.new ≡ K.empties sink.old) }
 {

@@ -1,4 +1,4 @@
-use Rattle.std.proofs.Common.{map, ap, sym, ◌∙◌}
+use Rattle.std.proofs.Common.{ap, sym, ◌∙◌}
 use Rattle.std.specs.Prelude.{sum_by}
 use Rattle.std.specs.Io.Iter.{u64_saturate}
 use Rattle.nest_tree.specs.View.{statement_of, statements_from}

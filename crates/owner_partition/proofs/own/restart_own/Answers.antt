@@ -4,7 +4,7 @@ use Rattle.std.proofs.lemmas.Bool.{and_from}
 use Rattle.std.proofs.lemmas.List.Elements.{All-contains_itself, All-filter}
 use Rattle.nest_tree.specs.Form.{is_small, reach_within}
 use Rattle.nest_tree.specs.Tree.{Tree, assign, do_loop, param_values, print}
-use Rattle.nest_tree.specs.View.{expression_of, printed_of, statement_of, statements_from, tree_of}
+use Rattle.nest_tree.specs.View.{expression_of, printed_of, statement_of, statements_from}
 use Rattle.nest_model.specs.Instances.{Instance, head_trips, instances_in, instances_of, with_loop}
 use Rattle.nest_walk.specs.Cursors.{loops_in, visit_at}
 use Rattle.nest_walk.specs.Frames.{head_of}

@@ -1,13 +1,10 @@
-use Rattle.std.proofs.Common.{◌≡◌, IfOk, Option, Some, None, refl, ap, map, sym, ◌∙◌, subst}
+use Rattle.std.proofs.Common.{◌≡◌, IfOk, Option, Some, None, refl, ap, sym, ◌∙◌, subst}
 use Rattle.std.specs.Option.{option_or}
 use Rattle.std.specs.Prelude.{IfSome}
 use Rattle.nest_tree.specs.View.{tree_of}
-use Rattle.conflict_rules.specs.SideViews.{producer_seen}
-use Rattle.comm_system.specs.GroupViews.{group_seen}
-use Rattle.comm_system.specs.Obligations.{numbered, numbered_from, pair_tasks, trips_task}
+use Rattle.comm_system.specs.Obligations.{numbered, trips_task}
 use Rattle.comm_system.specs.PhaseViews.{phase_seen}
 use Rattle.comm_system.specs.Seen.{pair_of}
-use Rattle.comm_system.specs.SlotViews.{slot_seen}
 use Rattle.comm_system.specs.SubjectViews.{subject_seen}
 use Rattle.comm_system.specs.Subjects.{Group, Subject}
 use Rattle.comm_system.specs.SystemViews.{about, obligations_seen}

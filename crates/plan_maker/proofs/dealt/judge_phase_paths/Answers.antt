@@ -1,4 +1,4 @@
-use Rattle.std.proofs.Common.{◌≡◌, ℕ, ◌≤◌, rules, [], map, ap, sym, ◌∙◌, subst, refl}
+use Rattle.std.proofs.Common.{ℕ, ◌≤◌, rules, [], map, ap, sym, ◌∙◌, subst, refl}
 use Rattle.std.specs.Prelude.{IfOk}
 use Rattle.std.specs.List.{flat_map}
 use Rattle.nest_tree.specs.View.{tree_of}

@@ -1,11 +1,8 @@
-use Rattle.std.proofs.Common.{List, ap, sym, ◌∙◌, subst}
+use Rattle.std.proofs.Common.{sym, subst}
 use Rattle.farkas_cert.specs.Inequalities.{Inequalities}
-use Rattle.farkas_cert.specs.declared.certificate.Certificate.{Certificate}
 use Rattle.plan_maker.specs.Askable.{IsAskable}
 use Rattle.plan_maker.specs.Found.{IsFound}
 use Rattle.plan_maker.specs.Orders.{elimination_order}
-use Rattle.plan_maker.specs.declared.cause.Word.{Word}
-use Rattle.plan_maker.specs.declared.verdict.Verdict.{Verdict}
 use Rattle.plan_maker.specs.declared.verdict.Verdict.TheVariants.{Kept}
 use Rattle.plan_maker.proofs.Judgements.{kept_so, refuted_so}
 use Rattle.plan_maker.proofs.judge.judge_one.Goals as goal

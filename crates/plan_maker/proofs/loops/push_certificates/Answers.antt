@@ -1,7 +1,5 @@
-use Rattle.std.proofs.Common.{◌≡◌, List, [], if◌then◌else◌, refl, ap, sym, ◌∙◌, subst}
-use Rattle.nest_tree.specs.Tree.{Tree}
-use Rattle.owner_partition.specs.Cuts.{Cutting}
-use Rattle.plan_maker.specs.Asked.{AreRefuted, Asked}
+use Rattle.std.proofs.Common.{[], if◌then◌else◌, refl, ap, sym, ◌∙◌, subst}
+use Rattle.plan_maker.specs.Asked.{AreRefuted}
 use Rattle.plan_maker.specs.Cut.{cut_asked, cut_paths_asked}
 use Rattle.plan_maker.specs.Loops.{IsLoopVerdict, LoopVerdict, own_in, tried_asked, tried_in}
 use Rattle.plan_maker.proofs.LoopTrips.{none_asked}

@@ -1,4 +1,4 @@
-use Rattle.std.proofs.Common.{◌≡◌, ◌++◌, ◌∷◌, [], true, ℕ, ℤ, Bool, List, length, length-set, set, ap, ◌∙◌, sym, subst, w64, FitsSigned, to_z, of_z, arith, rules}
+use Rattle.std.proofs.Common.{◌++◌, ◌∷◌, [], true, ℤ, Bool, List, length, length-set, set, ap, ◌∙◌, sym, subst, w64, FitsSigned, to_z, of_z, arith, rules}
 use Rattle.std.proofs.lemmas.Int.{to_z-of_z}
 use Rattle.fork_join.specs.Overlays.{AreMarked, laid_in, stores_to, stretched}
 use Rattle.fork_join.specs.StoreLists.{entries_of}

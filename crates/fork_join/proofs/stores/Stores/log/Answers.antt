@@ -1,4 +1,4 @@
-use Rattle.std.proofs.Common.{◌≡◌, ◌+◌, ◌-◌, ◌<◌, ◌≤◌, ◌^◌, ◌++◌, ◌∷◌, [], suc, ℕ, List, length, length-append, length-set, set, ap, ◌∙◌, sym, arith, rules}
+use Rattle.std.proofs.Common.{◌≡◌, ◌+◌, ◌-◌, ◌<◌, ◌^◌, ◌++◌, ◌∷◌, [], suc, ℕ, List, length, length-append, length-set, set, ap, ◌∙◌, sym, arith, rules}
 use Rattle.fork_join.specs.Overlays.{stretched}
 use Rattle.fork_join.proofs.Laying.{stretch_least, stretched_grown}
 use Rattle.fork_join.proofs.stores.Stores.log.Goals as goal

@@ -1,4 +1,4 @@
-use Rattle.std.proofs.Common.{◌≡◌, length, ap, refl, subst}
+use Rattle.std.proofs.Common.{◌≡◌, length, refl, subst}
 use Rattle.std.proofs.lemmas.List.{length-take-le}
 use Rattle.presolve.specs.Presolution.{IsPresolved, Presolution, first_kept}
 use Rattle.nest_systems.specs.Growing.{Growing}

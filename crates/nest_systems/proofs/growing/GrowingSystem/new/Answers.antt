@@ -1,8 +1,8 @@
-use Rattle.std.proofs.Common.{◌≡◌, ℕ, ◌+◌, ◌<◌, ◌≤◌, ◌^◌, List, [], IsTrue, length, ap, sym, ◌∙◌, subst, arith}
+use Rattle.std.proofs.Common.{IsTrue, length, ap, sym, ◌∙◌, subst, arith}
 use Rattle.std.specs.List.{All}
 use Rattle.std.proofs.lemmas.List.Elements.{All-nil}
 use Rattle.farkas_cert.specs.Inequalities.{Inequalities}
-use Rattle.presolve.specs.Presolution.{IsPresolved, first_kept}
+use Rattle.presolve.specs.Presolution.{IsPresolved}
 use Rattle.nest_rows.specs.declared.constraint.Constraint.{Constraint}
 use Rattle.nest_rows.specs.Constraints.{is_tame}
 use Rattle.nest_systems.specs.Growing.{with_constraints}

@@ -1,4 +1,4 @@
-use Rattle.std.proofs.Common.{◌≡◌, ap, sym, subst, ◌∙◌, IsTrue}
+use Rattle.std.proofs.Common.{sym, subst, IsTrue}
 use Rattle.std.specs.List.{list_all}
 use Rattle.nest_tree.specs.WellFormed.{is_number_of, loops_of}
 use Rattle.nest_walk.specs.Cursors.{is_reached, rounds_in, tree_in}
