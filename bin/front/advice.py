@@ -132,9 +132,9 @@ def serial_warnings(program, plan, ask, ends):
     asked = 0
     for loop in program.loops:
         mark = plan.mark(loop)
-        name = serial_scalar(program, loop)
         tries = plan.loop_reasons.get(loop.number, [])
         last = (tries[-1][3] or "PRINT") if tries else None
+        name = serial_scalar(program, loop, last)
         if not name or not (mark == "SINGLE" or (mark == "OUTER" and last == name)):
             continue
         kept = "on one processor" if mark == "SINGLE" else "from being dealt out"
@@ -201,14 +201,15 @@ def asker(program, words):
     return ask
 
 
-def serial_scalar(program, loop):
-    """The first scalar that a loop stores, and that is neither private in it nor a sum."""
+def serial_scalar(program, loop, last):
+    """The first scalar that a loop stores, and that is neither private in it nor a sum; a loop inside
+    that stores it first may make no trip where it is what the last try fails by."""
     for action in program.actions:
         name = action.target
         if loop not in action.loops or not name or action.subscripts or name in program.arrays:
             continue
         uses = uses_of(program, loop, name)
-        is_private = is_plain_store(name, uses[0]) and uses[0].loops[-1] is loop
+        is_private = is_plain_store(name, uses[0]) and (uses[0].loops[-1] is loop or name != last)
         if not is_private and not all(is_sum(name, it) for it in uses):
             return name
     return None
@@ -223,7 +224,7 @@ def why_kept(program, loop, name):
     """Why a scalar is neither private in a loop nor a sum."""
     uses = uses_of(program, loop, name)
     if is_plain_store(name, uses[0]):
-        return f"a loop inside stores it first; with {name} = 0 in front of that loop each trip has its own"
+        return f"a loop inside stores it first, and may make no trip; with {name} = 0 in front of that loop each trip has its own"
     if uses[0].target == name and not is_read(name, uses[0]):
         return "where the IF does not hold a trip needs what another one stored"
     if all(it.target == name and re.match(r"(MAX|MIN)\(", it.value) for it in uses):
@@ -291,7 +292,7 @@ def summary(program, plan):
 
 def why_alone(program, plan, loop):
     tries = plan.loop_reasons.get(loop.number)
-    reason = serial_scalar(program, loop) or (tries and (tries[-1][3] or "PRINT"))
+    reason = serial_scalar(program, loop, tries and tries[-1][3]) or (tries and (tries[-1][3] or "PRINT"))
     if not reason:
         return ""
     return " (a PRINT)" if reason == "PRINT" else f" ({reason})"
