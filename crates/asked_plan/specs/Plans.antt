@@ -1,5 +1,5 @@
 -- The plan of a program that is asked for, and why there is none.
-use Rattle.std.specs.Prelude.{ℕ, ℤ, ◌≡◌, ◌≢◌, ◌==◌, ⊤, Bool, true, false, List, Option, Some, if◌then◌else◌}
+use Rattle.std.specs.Prelude.{ℕ, ℤ, ◌≡◌, ◌==◌, ⊤, Bool, true, false, List, Option, Some, None, if◌then◌else◌}
 use Rattle.command_words.specs.declared.request.PlanChoice.{PlanChoice}
 use Rattle.command_words.specs.declared.request.PlanChoice.TheVariants.{Barrier, Given, Made}
 use Rattle.f77_scene.specs.Scene.{Name}
@@ -13,13 +13,11 @@ use Rattle.plan_checker.specs.declared.refusal.PlanRefusal.{PlanRefusal}
 use Rattle.plan_checker.specs.declared.refusal.PlanRefusal.TheVariants.{Shape}
 use Rattle.plan_maker.specs.Made.{IsBarrierPlan, IsMade}
 use Rattle.plan_maker.specs.declared.reasons.Reasons.{Reasons}
-use Rattle.plan_text.specs.Refused.{RefusesText}
-use Rattle.plan_text.specs.declared.syntax.PlanSyntax.TheVariants as syntaxes
 use Rattle.plan_input.specs.Sources.{HasProgramWith, behind_end}
 use Rattle.plan_input.specs.Stops as sources
-use Rattle.plan_input.specs.Stops.{IsPlanStop, IsTextOf}
+use Rattle.plan_input.specs.Stops.{IsPlanStop, IsPlanStopBy, IsTextOf}
 use Rattle.plan_input.specs.declared.stop.Stop.{Stop}
-use Rattle.plan_input.specs.declared.stop.Stop.TheVariants.{Misfit, NoMemory, Syntax}
+use Rattle.plan_input.specs.declared.stop.Stop.TheVariants.{NoMemory}
 
 -- only comments may stand behind END, where no plan does
 abbrev pub stands_alone : PlanChoice → Bool
@@ -27,17 +25,22 @@ stands_alone Made = true
 stands_alone Barrier = true
 stands_alone Given = false
 
--- The bytes are the text of this plan, which has so many workers and is accepted for the program.
-pub record IsTaken (workers : ℕ) (tree : Tree) (bytes : List ℕ) (plan : Plan) : Type 0 where
+-- the plan has the workers that are asked for, where a number is
+abbrev pub HasWorkers : Option ℕ → Plan → Type 0
+HasWorkers None plan = ⊤
+HasWorkers (Some workers) plan = plan.workers ≡ workers
+
+-- The bytes are the text of this plan, which has the workers that are asked for and is accepted for the program.
+pub record IsTaken (asked : Option ℕ) (tree : Tree) (bytes : List ℕ) (plan : Plan) : Type 0 where
   pub text : IsTextOf plan bytes
-  pub workers_are : plan.workers ≡ workers
+  pub workers_are : HasWorkers asked plan
   pub accepted : IsAccepted tree plan
 
 -- The plan that is asked for, for so many workers: one that is made, for some reasons; one with its cut, its anchors and barriers; or the one whose text these bytes, those behind END, are.
 abbrev pub IsPlanFor : PlanChoice → ℕ → Tree → List ℕ → Plan → Type 0
 IsPlanFor Made workers tree bytes plan = (reasons : Reasons) × IsMade tree workers plan reasons
 IsPlanFor Barrier workers tree bytes plan = IsBarrierPlan tree workers plan
-IsPlanFor Given workers tree bytes plan = IsTaken workers tree bytes plan
+IsPlanFor Given workers tree bytes plan = IsTaken (Some workers) tree bytes plan
 
 -- The bytes begin with a source whose program is this one, all of whose subscripts are in range, and this is the plan that is asked for.
 pub record IsPlanned (workers : ℕ) (choice : PlanChoice) (bytes : List ℕ) (settings : List (Name × ℤ)) (tree : Tree) (plan : Plan) : Type 0 where
@@ -47,21 +50,19 @@ pub record IsPlanned (workers : ℕ) (choice : PlanChoice) (bytes : List ℕ) (s
   pub plan_is : IsPlanFor choice workers tree (behind_end bytes) plan
 
 -- the first reason against a plan: other workers than are asked for, or else its first failure for the program
-abbrev pub first_reason : ℕ → Tree → Plan → Option PlanRefusal
-first_reason workers tree plan = if plan.workers == workers then first_failure tree plan else Some (Shape 1)
+abbrev pub first_reason : Option ℕ → Tree → Plan → Option PlanRefusal
+first_reason None tree plan = first_failure tree plan
+first_reason (Some workers) tree plan = if plan.workers == workers then first_failure tree plan else Some (Shape 1)
 
--- Bytes are no plan for so many workers: their first line that no plan's text has, or else the first reason against the plan whose text they are. Memory may run out in place of each.
-abbrev pub IsRefused : ℕ → Tree → List ℕ → Stop → Type 0
-IsRefused workers tree bytes (Syntax syntax) = (syntax ≢ syntaxes.NoMemory) × RefusesText bytes syntax
-IsRefused workers tree bytes (Misfit refusal) = (plan : Plan) × IsTextOf plan bytes × (first_reason workers tree plan ≡ Some refusal)
-IsRefused workers tree bytes NoMemory = ⊤
-IsRefused workers tree bytes _ = ⊥
+-- Bytes are refused as a plan that is to be accepted for a program, with the workers that are asked for: their first line that no plan's text has, or else the first reason against the plan whose text they are. Memory may run out in place of each.
+abbrev pub IsRefused : Option ℕ → Tree → List ℕ → Stop → Type 0
+IsRefused asked tree = IsPlanStopBy (first_reason asked tree)
 
 -- There is no plan: where one is made since memory ran out, else since the one that is given is refused.
 abbrev pub IsPlanStopFor : PlanChoice → ℕ → Tree → List ℕ → Stop → Type 0
 IsPlanStopFor Made workers tree bytes stop = stop ≡ NoMemory
 IsPlanStopFor Barrier workers tree bytes stop = stop ≡ NoMemory
-IsPlanStopFor Given workers tree bytes stop = IsRefused workers tree bytes stop
+IsPlanStopFor Given workers tree bytes stop = IsRefused (Some workers) tree bytes stop
 
 -- There is no plan that is asked for: for the source, or else for the plan.
 pub data IsStop (workers : ℕ) (choice : PlanChoice) (bytes : List ℕ) (settings : List (Name × ℤ)) (stop : Stop) : Type 0 where

@@ -4,4 +4,4 @@
 
 pub mod planned;
 
-pub use planned::{Asked, Planned, plan_behind, plan_program};
+pub use planned::{Asked, Planned, given_plan, plan_behind, plan_for, plan_program};

@@ -1,14 +1,15 @@
 // A program and the plan of it that is asked for.
 
-ghost use Rattle.std.specs.Prelude.{◌≡◌, ◌≤◌, IfErr, IfOk, length, map};
+ghost use Rattle.std.specs.Prelude.{◌≡◌, ◌≢◌, ◌≤◌, Some, IfErr, IfOk, OnOk, length, map};
 ghost use Rattle.f77_source.specs.Sources.{setting_of};
 ghost use Rattle.nest_tree.specs.Limits.{IsWithinLimits};
 ghost use Rattle.nest_tree.specs.View.{tree_of};
 ghost use Rattle.nest_tree.specs.WellFormed.{IsWellFormed};
 ghost use Rattle.plan_checker.specs.Accepted.{IsAccepted};
+ghost use Rattle.plan_checker.specs.declared.refusal.PlanRefusal.TheVariants as reasons;
 ghost use Rattle.plan_text.specs.PlanText.{HasCounts};
 ghost use Rattle.sync_plan.specs.Fit.{IsFit};
-ghost use Rattle.asked_plan.specs.Plans.{IsBehind, IsPlanFor, IsPlanned, IsPlanStopFor, IsRefused, IsStop, IsStopBehind, IsTaken, stands_alone};
+ghost use Rattle.asked_plan.specs.Plans.{HasWorkers, IsBehind, IsPlanFor, IsPlanned, IsPlanStopFor, IsRefused, IsStop, IsStopBehind, IsTaken, first_reason, stands_alone};
 
 use command_words::PlanChoice;
 use f77_lines::MOST_BYTES;
@@ -92,9 +93,10 @@ fn stands_alone(choice: PlanChoice) -> bool
     }
 }
 
-// The plan of a program that is asked for: the one that is made, the one with barriers, or the one
-// whose text these bytes are.
-fn plan_for<R: Threads + Sync>(
+/// The plan of a program that is asked for: the one that is made, the one with barriers, or the one
+/// whose text these bytes are. The error is the first reason why there is none, or that memory ran
+/// out.
+pub fn plan_for<R: Threads + Sync>(
     rt: &R,
     alloc: Global,
     program: &Program,
@@ -120,28 +122,48 @@ fn plan_for<R: Threads + Sync>(
             Ok(plan)
         }
         PlanChoice::Barrier => Ok(make_barrier(alloc, program, asked.workers)?),
-        PlanChoice::Given => given_plan(rt, alloc, program, asked.workers, bytes),
+        PlanChoice::Given => given_plan(rt, alloc, program, bytes, Some(asked.workers)),
     }
 }
 
-// The plan whose text the bytes are, where it has so many workers and is accepted.
-fn given_plan<R: Threads + Sync>(
+/// The plan whose text the bytes are, where it has the workers that are asked for and is accepted.
+/// `asked` is a number of workers, or none where a plan may have any. The error is the first reason
+/// why there is none, or that memory ran out.
+pub fn given_plan<R: Threads + Sync>(
     rt: &R,
     alloc: Global,
     program: &Program,
-    workers: u32,
     bytes: &[u8],
+    asked: Option<u32>,
 ) -> Result<Plan, Stop>
     requires short { length bytes.now ≤ MOST_BYTES }
     requires formed { IsWellFormed (tree_of program.now) }
     requires limits { IsWithinLimits (tree_of program.now) }
-    ensures taken { IfOk result (IsTaken workers (tree_of program.now) bytes.now) }
-    ensures refused { IfErr result (IsRefused workers (tree_of program.now) bytes.now) }
+    ensures taken { IfOk result (IsTaken asked (tree_of program.now) bytes.now) }
+    ensures refused { IfErr result (IsRefused asked (tree_of program.now) bytes.now) }
 {
     let plan = read_plan(alloc, bytes)?;
-    if plan.workers != workers {
-        return Err(Stop::Misfit(PlanRefusal::Shape(1)));
-    }
-    check(rt, alloc, program, &plan)?;
+    check_asked(rt, alloc, program, &plan, asked)?;
     Ok(plan)
+}
+
+// Whether a plan has the workers that are asked for and is accepted; else the first reason why not.
+fn check_asked<R: Threads + Sync>(
+    rt: &R,
+    alloc: Global,
+    program: &Program,
+    plan: &Plan,
+    asked: Option<u32>,
+) -> Result<(), PlanRefusal>
+    requires formed { IsWellFormed (tree_of program.now) }
+    requires limits { IsWithinLimits (tree_of program.now) }
+    ensures workers { OnOk result (HasWorkers asked plan.now) }
+    ensures accepted { OnOk result (IsAccepted (tree_of program.now) plan.now) }
+    ensures refused { IfErr result (λ reason. reason ≢ reasons.NoMemory
+        → first_reason asked (tree_of program.now) plan.now ≡ Some reason) }
+{
+    match asked {
+        Some(workers) if workers != plan.workers => Err(PlanRefusal::Shape(1)),
+        _ => check(rt, alloc, program, plan),
+    }
 }

@@ -2,27 +2,42 @@
 use Rattle.std.specs.Prelude.{ℕ, Bool, true, false}
 use Rattle.f77_program.specs.declared.refusal.Refusal.{Refusal}
 use Rattle.f77_program.specs.declared.refusal.Refusal.TheVariants as refusals
+use Rattle.plan_input.specs.declared.status.Status.{Status}
+use Rattle.plan_input.specs.declared.status.Status.TheVariants as statuses
 use Rattle.plan_input.specs.declared.stop.Stop.{Stop}
-use Rattle.plan_input.specs.declared.stop.Stop.TheVariants.{BadWords, Limit, Line, Misfit, NoMemory, Range, ReadFault, Statement, Syntax, TooLong, WriteFault}
+use Rattle.plan_input.specs.declared.stop.Stop.TheVariants.{BadSweep, BadWords, Limit, Line, Misfit, NoMemory, Range, ReadFault, Statement, Syntax, TooLong, WriteFault}
+
+-- the number of a status, with which the process ends
+abbrev pub code_of : Status → ℕ
+code_of statuses.Done = 0
+code_of statuses.SourceRefused = 1
+code_of statuses.BadWords = 2
+code_of statuses.ReadFault = 3
+code_of statuses.WriteFault = 4
+code_of statuses.NoMemory = 5
+code_of statuses.PlanRefused = 6
+code_of statuses.TooLong = 7
 
 -- of a refusal of a statement, or of a setting
-abbrev pub statement_code : Refusal → ℕ
-statement_code (refusals.BadSetting index) = 2
-statement_code _ = 1
+abbrev pub statement_status : Refusal → Status
+statement_status (refusals.Statement fault line) = statuses.SourceRefused
+statement_status (refusals.BadSetting index) = statuses.BadWords
+statement_status refusals.NoMemory = statuses.SourceRefused
 
--- the number with which the process ends where it stops so
-abbrev pub code_of : Stop → ℕ
-code_of (Line refusal) = 1
-code_of (Statement refusal) = statement_code refusal
-code_of (Limit limit) = 1
-code_of (Range outside) = 1
-code_of BadWords = 2
-code_of ReadFault = 3
-code_of WriteFault = 4
-code_of NoMemory = 5
-code_of (Syntax refusal) = 6
-code_of (Misfit refusal) = 6
-code_of TooLong = 7
+-- the status with which the process ends where it stops so
+abbrev pub status_of : Stop → Status
+status_of (Line refusal) = statuses.SourceRefused
+status_of (Statement refusal) = statement_status refusal
+status_of (Limit limit) = statuses.SourceRefused
+status_of (Range outside) = statuses.SourceRefused
+status_of BadWords = statuses.BadWords
+status_of BadSweep = statuses.BadWords
+status_of ReadFault = statuses.ReadFault
+status_of WriteFault = statuses.WriteFault
+status_of NoMemory = statuses.NoMemory
+status_of (Syntax refusal) = statuses.PlanRefused
+status_of (Misfit refusal) = statuses.PlanRefused
+status_of TooLong = statuses.TooLong
 
 -- a line on standard output tells it: all but a failed read or write, and want of memory
 abbrev pub is_told : Stop → Bool
@@ -31,6 +46,7 @@ is_told (Statement refusal) = true
 is_told (Limit limit) = true
 is_told (Range outside) = true
 is_told BadWords = true
+is_told BadSweep = true
 is_told ReadFault = false
 is_told WriteFault = false
 is_told NoMemory = false

@@ -5,12 +5,13 @@ use Rattle.f77_program.specs.Refusals as statements
 use Rattle.nest_tree.specs.LimitText.{text_of_limit}
 use Rattle.plan_checker.specs.RefusalText as plans
 use Rattle.plan_input.specs.declared.stop.Stop.{Stop}
-use Rattle.plan_input.specs.declared.stop.Stop.TheVariants.{BadWords, Limit, Line, Misfit, NoMemory, Range, ReadFault, Statement, Syntax, TooLong, WriteFault}
+use Rattle.plan_input.specs.declared.stop.Stop.TheVariants.{BadSweep, BadWords, Limit, Line, Misfit, NoMemory, Range, ReadFault, Statement, Syntax, TooLong, WriteFault}
 use Rattle.plan_text.specs.SyntaxText.{text_of_syntax}
 use Rattle.range_check.specs.OutsideText.{text_of_outside}
 
 abbrev pub text_of_stop : Stop → List ℕ
 text_of_stop BadWords = codes "WORDS 0"
+text_of_stop BadSweep = codes "WORDS SWEEP"
 text_of_stop TooLong = codes "TOO LONG"
 text_of_stop (Line refusal) = lines.text_of_refusal refusal
 text_of_stop (Statement refusal) = statements.text_of_refusal refusal

@@ -1,64 +1,115 @@
 -- When a source stops the work, and when what stands behind it.
-use Rattle.std.specs.Prelude.{ℕ, ℤ, ◌≡◌, ◌≢◌, ◌⊎◌, ⊤, Bool, true, List, [], Option, Some, None}
+use Rattle.std.specs.Prelude.{ℕ, ℤ, ◌≡◌, ◌≢◌, ◌⊎◌, Bool, true, false, List, [], Option, Some, None}
+use Rattle.std.specs.Option.{option_map, option_or}
 use Rattle.f77_lines.specs.Columns.{lines_of}
 use Rattle.f77_lines.specs.Listing as listing
-use Rattle.f77_lines.specs.declared.refusal.LineRefusal.TheVariants as line_refusals
-use Rattle.f77_scene.specs.Reading.{Reads, first_fault}
+use Rattle.f77_lines.specs.Statements.{Entry}
+use Rattle.f77_lines.specs.declared.refusal.LineRefusal.TheVariants.{AfterEnd}
+use Rattle.f77_scene.specs.Fault as scene
+use Rattle.f77_scene.specs.Reading.{first_fault_in, program_in}
 use Rattle.f77_scene.specs.Scene.{Name}
+use Rattle.f77_program.specs.declared.refusal.Fault.{Fault}
+use Rattle.f77_program.specs.declared.refusal.Fault.TheVariants as faults
 use Rattle.f77_program.specs.declared.refusal.Refusal.TheVariants as refusals
-use Rattle.f77_source.specs.Answers.{Refuses}
 use Rattle.nest_tree.specs.Limits.{first_limit}
 use Rattle.nest_tree.specs.Tree.{Tree}
 use Rattle.sync_plan.specs.declared.plan.Plan.{Plan}
 use Rattle.plan_text.specs.PlanText.{HasText, plan_text}
-use Rattle.plan_text.specs.Refused.{RefusesText}
+use Rattle.plan_text.specs.Refused.{IsFirstAlien}
 use Rattle.plan_text.specs.declared.syntax.PlanSyntax.TheVariants as syntaxes
 use Rattle.plan_checker.specs.Refusals.{first_refusal}
+use Rattle.plan_checker.specs.declared.refusal.PlanRefusal.{PlanRefusal}
 use Rattle.plan_input.specs.declared.stop.Stop.{Stop}
-use Rattle.range_check.specs.Outside.{outside_of}
-use Rattle.range_check.specs.declared.outside.OutOfRange.{OutOfRange}
-use Rattle.plan_input.specs.Sources.{HasProgramWith}
 use Rattle.plan_input.specs.declared.stop.Stop.TheVariants.{Limit, Line, Misfit, NoMemory, Range, Statement, Syntax}
+use Rattle.range_check.specs.Outside.{outside_of}
 
 -- A refusal is told as this stop: want of memory as such, and each other one as its own.
 abbrev pub IsToldAs : {Refusal : Type 0} → Refusal → (Refusal → Stop) → Refusal → Stop → Type 0
 IsToldAs no_memory own refusal stop = ((refusal ≡ no_memory) × (stop ≡ NoMemory)) ⊎ ((refusal ≢ no_memory) × (stop ≡ own refusal))
 
--- The stop of a source that begins these bytes, with these settings: its first fault by line, or else its first fault of a statement or the first setting that names no constant, or else the first limit that its program passes. Memory may run out in place of each.
-abbrev pub IsStopWith : List (Name × ℤ) → List ℕ → Stop → Type 0
-IsStopWith settings bytes (Line refusal) = (refusal ≢ line_refusals.NoMemory) × listing.Refuses bytes refusal
-IsStopWith settings bytes (Statement refusal) = (refusal ≢ refusals.NoMemory) × Refuses (first_fault bytes settings) refusal
-IsStopWith settings bytes (Limit limit) = (tree : Tree) × Reads bytes settings tree × (first_limit tree ≡ Some limit)
-IsStopWith settings bytes NoMemory = ⊤
-IsStopWith settings bytes _ = ⊥
+-- A stop is this first one, unless memory ran out, which it may in place of any answer.
+abbrev pub IsFirst : Option Stop → Stop → Type 0
+IsFirst first stop = stop ≢ NoMemory → first ≡ Some stop
 
--- The same without settings.
-abbrev pub IsSourceStop : List ℕ → Stop → Type 0
-IsSourceStop bytes stop = IsStopWith [] bytes stop
+-- ---- a source
+
+-- a fault of a statement, as a refusal names it
+abbrev pub named : scene.Fault → Fault
+named scene.not_in_profile = faults.NotInProfile
+named scene.literal_too_large = faults.LiteralTooLarge
+named scene.syntax = faults.Syntax
+named scene.unknown = faults.Unknown
+named scene.not_integer = faults.NotInteger
+named scene.loop_variable = faults.LoopVariable
+named scene.rank = faults.Rank
+named scene.bad_divisor = faults.BadDivisor
+named scene.not_affine = faults.NotAffine
+named scene.zero_step = faults.ZeroStep
+named scene.do_label = faults.DoLabel
+named (scene.past_limit number) = faults.Count number
+
+-- the stop of a fault of a source, or of its settings
+abbrev pub stop_of_fault : scene.Refusal → Stop
+stop_of_fault (scene.bad_line refusal) = Line refusal
+stop_of_fault (scene.bad_statement fault line) = Statement (refusals.Statement (named fault) line)
+stop_of_fault (scene.bad_setting index) = Statement (refusals.BadSetting index)
 
 -- the first line behind END that is no comment
 abbrev pub first_behind_end : List ℕ → Option ℕ
 first_behind_end bytes = listing.first_behind bytes (listing.size_to_end (lines_of bytes))
 
+-- the same where only comments may stand behind END, and else none
+abbrev pub first_stray : Bool → List ℕ → Option ℕ
+first_stray true bytes = first_behind_end bytes
+first_stray false bytes = None
+
+-- the first stop of a source's lines: their first fault, or else the first line behind END that is no comment, where only comments may stand there
+abbrev pub stop_of_lines : Bool → List ℕ → Option Stop
+stop_of_lines alone bytes = option_or (option_map Line (listing.first_line_fault bytes)) (option_map (λ n. Line (AfterEnd n)) (first_stray alone bytes))
+
+-- the first stop of what is listed: the first fault of a statement, or else the first setting that names no constant, or else the first limit that its program passes
+abbrev pub stop_of_listed : List Entry → List (Name × ℤ) → Option Stop
+stop_of_listed entries settings = option_or (option_map stop_of_fault (first_fault_in entries settings)) (option_map Limit (first_limit (program_in entries settings)))
+
+-- the first stop of a source with settings, whatever stands behind END and wherever its subscripts lie
+abbrev pub first_source_stop : List ℕ → List (Name × ℤ) → Option Stop
+first_source_stop bytes settings = option_or (stop_of_lines false bytes) (stop_of_listed (listing.entries_of bytes) settings)
+
+-- the first stop of a source with settings that is to be run: of its lines, where only comments may stand behind END of those there too; or else of what they list; or else its first subscript out of range
+abbrev pub first_stop : Bool → List ℕ → List (Name × ℤ) → Option Stop
+first_stop alone bytes settings =
+    option_or (stop_of_lines alone bytes)
+    (option_or (stop_of_listed (listing.entries_of bytes) settings)
+    (option_map Range (outside_of (program_in (listing.entries_of bytes) settings))))
+
+-- The stop of a source without settings, whatever stands behind END and wherever its subscripts lie.
+abbrev pub IsSourceStop : List ℕ → Stop → Type 0
+IsSourceStop bytes stop = IsFirst (first_source_stop bytes []) stop
+
+-- The stop of a source with settings that is to be run.
+abbrev pub IsStop : Bool → List ℕ → List (Name × ℤ) → Stop → Type 0
+IsStop alone bytes settings stop = IsFirst (first_stop alone bytes settings) stop
+
 -- Where only comments may stand behind END, and the lines have no fault, only comments do.
 abbrev pub IsClear : Bool → List ℕ → Type 0
 IsClear alone bytes = alone ≡ true → listing.first_line_fault bytes ≡ None → first_behind_end bytes ≡ None
 
--- The stop of a source that begins these bytes, with settings, and is to be run: that of its lines; or else of the first line behind END that is no comment, where only comments may stand there; or else that of its statements, settings and limits; or else of the first subscript out of range. Memory may run out in place of each.
-pub data IsStop (alone : Bool) (bytes : List ℕ) (settings : List (Name × ℤ)) (stop : Stop) : Type 0 where
-  memory : (is : stop ≡ NoMemory) → IsStop alone bytes settings stop
-  source : (clear : IsClear alone bytes) (is : IsStopWith settings bytes stop) → IsStop alone bytes settings stop
-  behind : (only : alone ≡ true) (faultless : listing.first_line_fault bytes ≡ None) (n : ℕ) (is : first_behind_end bytes ≡ Some n) (told : stop ≡ Line (line_refusals.AfterEnd n)) → IsStop alone bytes settings stop
-  outside : (clear : IsClear alone bytes) (tree : Tree) (has : HasProgramWith settings bytes tree) (out : OutOfRange) (is : outside_of tree ≡ Some out) (told : stop ≡ Range out) → IsStop alone bytes settings stop
+-- ---- a plan behind it
 
 -- The bytes are the text of this plan.
 pub record IsTextOf (plan : Plan) (bytes : List ℕ) : Type 0 where
   pub shown : HasText plan
   pub bytes_are : bytes ≡ plan_text plan
 
--- The stop of bytes as a plan for a program: their first line that no plan's text has, or else the first reason why the plan whose text they are doesn't fit. Memory may run out in place of each.
+-- Bytes are refused as a plan, by the first reason against a plan: with their first line that no plan's text has, or with the first reason against the plan whose text they are.
+pub data IsRefusedBy (reason_of : Plan → Option PlanRefusal) (bytes : List ℕ) (stop : Stop) : Type 0 where
+  no_text : (number : ℕ) (first : IsFirstAlien bytes number) (is : stop ≡ Syntax (syntaxes.Line number)) → IsRefusedBy reason_of bytes stop
+  unfit : (plan : Plan) (text : IsTextOf plan bytes) (reason : PlanRefusal) (first : reason_of plan ≡ Some reason) (is : stop ≡ Misfit reason) → IsRefusedBy reason_of bytes stop
+
+-- The same, unless memory ran out.
+abbrev pub IsPlanStopBy : (Plan → Option PlanRefusal) → List ℕ → Stop → Type 0
+IsPlanStopBy reason_of bytes stop = stop ≢ NoMemory → IsRefusedBy reason_of bytes stop
+
+-- The same by the first reason why a plan doesn't fit a program.
 abbrev pub IsPlanStop : Tree → List ℕ → Stop → Type 0
-IsPlanStop tree bytes (Syntax refusal) = (refusal ≢ syntaxes.NoMemory) × RefusesText bytes refusal
-IsPlanStop tree bytes (Misfit refusal) = (plan : Plan) × IsTextOf plan bytes × (first_refusal tree plan ≡ Some refusal)
-IsPlanStop tree bytes NoMemory = ⊤
-IsPlanStop tree bytes _ = ⊥
+IsPlanStop tree = IsPlanStopBy (first_refusal tree)

@@ -3,7 +3,9 @@
 #![tactic(auto)]
 
 mod reading;
+mod status;
 mod stop;
 
 pub use reading::{read_fitting, read_inside, read_source};
-pub use stop::{Stop, code_of_write};
+pub use status::{Status, status_of_write};
+pub use stop::Stop;

@@ -1,9 +1,10 @@
 // A program and a plan that fits it, read from bytes.
 
-ghost use Rattle.std.specs.Prelude.{◌≡◌, ◌≤◌, ℕ, ℤ, List, [], IfErr, IfOk, None, OnOk, length, map};
+ghost use Rattle.std.specs.Prelude.{◌≡◌, ◌≤◌, ℕ, List, [], IfErr, IfOk, None, OnOk, length, map};
 ghost use Rattle.f77_lines.specs.Columns as columns;
 ghost use Rattle.f77_lines.specs.Listing.{Lists, entry_of, size_to_end};
 ghost use Rattle.f77_scene.specs.Reading.{Reads};
+ghost use Rattle.f77_source.specs.Answers as answers;
 ghost use Rattle.f77_source.specs.Sources.{setting_of};
 ghost use Rattle.nest_model.specs.Ranges.{IsInRange};
 ghost use Rattle.nest_tree.specs.Limits.{IsWithinLimits};
@@ -12,7 +13,7 @@ ghost use Rattle.nest_tree.specs.WellFormed.{IsWellFormed};
 ghost use Rattle.sync_plan.specs.Fit.{IsFit};
 ghost use Rattle.sync_plan.specs.Shape.{wrong_field};
 ghost use Rattle.plan_input.specs.Sources.{HasProgramWith};
-ghost use Rattle.plan_input.specs.Stops.{IsClear, IsPlanStop, IsSourceStop, IsStop, IsStopWith, IsTextOf};
+ghost use Rattle.plan_input.specs.Stops.{IsClear, IsFirst, IsPlanStop, IsSourceStop, IsStop, IsTextOf, first_stop, first_stray, stop_of_lines, stop_of_listed};
 
 use crate::stop::Stop;
 use f77_lines::{Line, LineRefusal, MOST_BYTES, first_behind, statements};
@@ -35,7 +36,7 @@ pub fn read_source(alloc: Global, bytes: &[u8]) -> Result<(Program, usize), Stop
     ensures limits { IfOk result (λ read. IsWithinLimits (tree_of read.0)) }
     ensures refused { IfErr result (IsSourceStop bytes.now) }
 {
-    let (lines, rest) = statements(alloc, bytes)?;
+    let (lines, rest) = lines_of(alloc, bytes, false)?;
     let program = program_of(alloc, &lines, &[])?;
     Ok((program, rest))
 }
@@ -43,13 +44,12 @@ pub fn read_source(alloc: Global, bytes: &[u8]) -> Result<(Program, usize), Stop
 // The program of what is listed, within its limits.
 fn program_of(alloc: Global, lines: &[Line], settings: &[Setting]) -> Result<Program, Stop>
     requires { (bytes : List ℕ) × (rest : ℕ) × Lists bytes (map entry_of lines.now) rest }
-    ensures program { (bytes : List ℕ) (rest : ℕ) → Lists bytes (map entry_of lines.now) rest
-        → IfOk result (λ p. Reads bytes (map setting_of settings.now) (tree_of p)) }
-    ensures formed { (bytes : List ℕ) (rest : ℕ) → Lists bytes (map entry_of lines.now) rest
-        → IfOk result (λ p. IsWellFormed (tree_of p)) }
+    ensures program { IfOk result (λ p. answers.IsProgram (map entry_of lines.now)
+        (map setting_of settings.now) (tree_of p)) }
+    ensures formed { IfOk result (λ p. IsWellFormed (tree_of p)) }
     ensures limits { IfOk result (λ p. IsWithinLimits (tree_of p)) }
-    ensures refused { (bytes : List ℕ) (rest : ℕ) → Lists bytes (map entry_of lines.now) rest
-        → IfErr result (IsStopWith (map setting_of settings.now) bytes) }
+    ensures refused { IfErr result (IsFirst (stop_of_listed (map entry_of lines.now)
+        (map setting_of settings.now))) }
 {
     let program = read_program(alloc, lines, settings)?;
     match program_limits(&program) {
@@ -72,6 +72,7 @@ pub fn read_inside(
         (tree_of read.0)) }
     ensures inside { IfOk result (λ read. IsInRange (tree_of read.0)) }
     ensures clear { OnOk result (IsClear alone bytes.now) }
+    ensures none { OnOk result (first_stop alone bytes.now (map setting_of settings.now) ≡ None) }
     ensures rest { IfOk result (λ read. read.1 ≡ size_to_end (columns.lines_of bytes.now)) }
     ensures within { IfOk result (λ read. read.1 ≤ length bytes.now) }
     ensures formed { IfOk result (λ read. IsWellFormed (tree_of read.0)) }
@@ -91,17 +92,29 @@ fn lines_of(alloc: Global, bytes: &[u8], alone: bool) -> Result<(Vec<Line>, usiz
     requires { length bytes.now ≤ MOST_BYTES }
     ensures lists { IfOk result (λ read. Lists bytes.now (map entry_of read.0.items) read.1) }
     ensures within { IfOk result (λ read. read.1 ≤ length bytes.now) }
-    ensures clear { OnOk result (IsClear alone bytes.now) }
-    ensures refused { (settings : List (List ℕ × ℤ))
-        → IfErr result (IsStop alone bytes.now settings) }
+    ensures none { OnOk result (stop_of_lines alone bytes.now ≡ None) }
+    ensures refused { IfErr result (IsFirst (stop_of_lines alone bytes.now)) }
 {
     let (lines, rest) = statements(alloc, bytes)?;
-    if alone {
-        if let Some(line) = first_behind(bytes, rest) {
-            return Err(Stop::Line(LineRefusal::AfterEnd(line)));
-        }
+    match first_stray(bytes, rest, alone) {
+        None => Ok((lines, rest)),
+        Some(line) => Err(Stop::Line(LineRefusal::AfterEnd(line))),
     }
-    Ok((lines, rest))
+}
+
+// The first line behind END, at the place `rest`, that is no comment, where `alone` says that only
+// comments may stand there.
+fn first_stray(bytes: &[u8], rest: usize, alone: bool) -> Option<u32>
+    requires short { length bytes.now ≤ MOST_BYTES }
+    requires within { rest ≤ length bytes.now }
+    requires behind { rest ≡ size_to_end (columns.lines_of bytes.now) }
+    ensures { result ≡ first_stray alone bytes.now }
+{
+    if alone {
+        first_behind(bytes, rest)
+    } else {
+        None
+    }
 }
 
 /// The plan whose text the bytes are, where it fits the program. The error is the first reason why

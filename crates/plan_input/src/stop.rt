@@ -1,15 +1,16 @@
 // Why there is no program or no plan, and how the process ends then.
 
-ghost use Rattle.std.specs.Prelude.{◌≡◌, ◌⊎◌, OnErr, OnOk, Some};
+ghost use Rattle.std.specs.Prelude.{◌≡◌, ◌⊎◌, Some};
 ghost use Rattle.f77_lines.specs.declared.refusal.LineRefusal.TheVariants as line_refusals;
 ghost use Rattle.f77_program.specs.declared.refusal.Refusal.TheVariants as refusals;
 ghost use Rattle.plan_checker.specs.declared.refusal.PlanRefusal.TheVariants as misfits;
 ghost use Rattle.plan_text.specs.declared.syntax.PlanSyntax.TheVariants as syntaxes;
-ghost use Rattle.plan_input.specs.Statuses.{code_of, is_told};
+ghost use Rattle.plan_input.specs.Statuses.{is_told, status_of};
 ghost use Rattle.plan_input.specs.StopText.{text_of_stop};
 ghost use Rattle.plan_input.specs.Stops.{IsToldAs};
 ghost use Rattle.plan_input.specs.declared.stop.Stop.TheVariants as stops;
 
+use crate::status::Status;
 use f77_lines::LineRefusal;
 use f77_program::Refusal;
 use plan_checker::PlanRefusal;
@@ -24,6 +25,8 @@ use std::{fmt, io};
 pub enum Stop {
     /// There are other words than the process takes.
     BadWords,
+    /// The words are those, but for a sweep, which has not its form or names no named constant.
+    BadSweep,
     /// The input is too long.
     TooLong,
     /// The source is refused by its lines.
@@ -46,19 +49,6 @@ pub enum Stop {
     NoMemory,
 }
 
-/// The status of the process where a write went so: this one where it went well, else that of a
-/// fault of writing or of want of memory.
-pub fn code_of_write(written: io::Result<()>, code: u8) -> u8
-    ensures ok { OnOk written (result ≡ code) }
-    ensures err { OnErr written ((result ≡ code_of stops.NoMemory)
-        ⊎ (result ≡ code_of stops.WriteFault)) }
-{
-    match written {
-        Ok(()) => code,
-        Err(error) => Stop::from_fault(error, Stop::WriteFault).code(),
-    }
-}
-
 impl Stop {
     /// What a fault of the outside is: want of memory, or else this stop.
     pub fn from_fault(error: io::Error, other: Stop) -> Stop
@@ -71,18 +61,21 @@ impl Stop {
         }
     }
 
-    /// The status of the process.
-    pub fn code(self) -> u8
-        ensures { result ≡ code_of self }
+    /// How the process ends.
+    pub fn status(self) -> Status
+        ensures { result ≡ status_of self }
     {
         match self {
-            Stop::Statement(Refusal::BadSetting(_)) | Stop::BadWords => 2,
-            Stop::Line(_) | Stop::Statement(_) | Stop::Limit(_) | Stop::Range(_) => 1,
-            Stop::ReadFault => 3,
-            Stop::WriteFault => 4,
-            Stop::NoMemory => 5,
-            Stop::Syntax(_) | Stop::Misfit(_) => 6,
-            Stop::TooLong => 7,
+            Stop::Statement(Refusal::BadSetting(_)) => Status::BadWords,
+            Stop::BadWords | Stop::BadSweep => Status::BadWords,
+            Stop::Line(_) | Stop::Statement(_) | Stop::Limit(_) | Stop::Range(_) => {
+                Status::SourceRefused
+            }
+            Stop::ReadFault => Status::ReadFault,
+            Stop::WriteFault => Status::WriteFault,
+            Stop::NoMemory => Status::NoMemory,
+            Stop::Syntax(_) | Stop::Misfit(_) => Status::PlanRefused,
+            Stop::TooLong => Status::TooLong,
         }
     }
 
@@ -93,7 +86,7 @@ impl Stop {
         match self {
             Stop::Line(_) | Stop::Statement(_) | Stop::Limit(_) | Stop::Range(_) => true,
             Stop::Syntax(_) | Stop::Misfit(_) => true,
-            Stop::BadWords | Stop::TooLong => true,
+            Stop::BadWords | Stop::BadSweep | Stop::TooLong => true,
             Stop::ReadFault | Stop::WriteFault | Stop::NoMemory => false,
         }
     }
@@ -106,6 +99,7 @@ impl fmt::Display for Stop {
     fn fmt<W: fmt::Write>(&self, f: &mut fmt::Formatter<W>) -> fmt::Result {
         match self {
             Stop::BadWords => write!(f, "WORDS 0"),
+            Stop::BadSweep => write!(f, "WORDS SWEEP"),
             Stop::TooLong => write!(f, "TOO LONG"),
             Stop::Line(refusal) => write!(f, "{refusal}"),
             Stop::Statement(refusal) => write!(f, "{refusal}"),

@@ -7,7 +7,6 @@ use Rattle.f77_scene.specs.Scene.{Name}
 use Rattle.nest_tree.specs.Tree.{Tree}
 use Rattle.plan_checker.specs.declared.refusal.PlanRefusal.{PlanRefusal}
 use Rattle.plan_checker.specs.declared.refusal.PlanRefusal.TheVariants as misfits
-use Rattle.plan_input.specs.Stops as sources
 use Rattle.plan_input.specs.Stops.{IsToldAs}
 use Rattle.plan_input.specs.declared.stop.Stop.{Stop}
 use Rattle.plan_input.specs.declared.stop.Stop.TheVariants as stops
@@ -30,5 +29,5 @@ untold_plan subject bytes settings tree plan refusal stop has is told = elim tol
 ]
 
 pub stopped_by_memory : (subject : Subject) (bytes : List ℕ) (settings : List (Name × ℤ)) → IsStopFor subject bytes settings stops.NoMemory
-stopped_by_memory Behind bytes settings = plans.IsStopBehind.source (sources.IsStop.memory refl)
-stopped_by_memory (For workers choice) bytes settings = plans.IsStop.source (sources.IsStop.memory refl)
+stopped_by_memory Behind bytes settings = plans.IsStopBehind.source (λ memoryful. absurd (memoryful refl))
+stopped_by_memory (For workers choice) bytes settings = plans.IsStop.source (λ memoryful. absurd (memoryful refl))

@@ -34,7 +34,7 @@ use explain_plan::Form;
 use f77_lines::MOST_BYTES;
 use f77_program::Refusal;
 use f77_source::Setting;
-use plan_input::{Stop, code_of_write};
+use plan_input::{Status, Stop, status_of_write};
 use plan_words::{PlanRequest, read_plan_words};
 use std::alloc::{AllocError, Global};
 use std::io::{Read, Write};
@@ -47,12 +47,12 @@ fn main(rt: HostRuntime) -> ExitCode {
         Ok(words) => told(&rt, rt.alloc(), &words, rt.stdin()),
         Err(error) => Err(Stop::from_fault(error, Stop::BadWords)),
     };
-    let code = match text {
-        Ok(text) => code_of_write(rt.stdout().write_all(&text), 0),
-        Err(stop) if stop.is_told() => code_of_write(println!(rt; "{stop}"), stop.code()),
-        Err(stop) => stop.code(),
+    let status = match text {
+        Ok(text) => status_of_write(rt.stdout().write_all(&text), Status::Done),
+        Err(stop) if stop.is_told() => status_of_write(println!(rt; "{stop}"), stop.status()),
+        Err(stop) => stop.status(),
     };
-    ExitCode::from(code)
+    ExitCode::from(status.code())
 }
 
 // The words behind the program's name.

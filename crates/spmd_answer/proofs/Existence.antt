@@ -1,7 +1,7 @@
 -- It is not so that nothing is due for a request.
 use Rattle.std.proofs.Common.{◌≡◌, ◌∙◌, ◌==◌, ◌≤◌, ◌+◌, ℕ, suc, zero, ℤ, Bool, true, false, true≢false, ap, sym, refl, List, [], ◌∷◌, ◌++◌, append_assoc, append-nil, length, Option, None, Some, codes, if◌then◌else◌, arith, eqb-true}
-use Rattle.std.specs.Fmt.{decimal}
 use Rattle.std.proofs.lemmas.List.{length-append}
+use Rattle.asked_plan.specs.Plans.{IsTaken, first_reason}
 use Rattle.nest_tree.specs.Tree.{Tree}
 use Rattle.nest_model.specs.Memory.{output_of}
 use Rattle.f77_lines.specs.Listing.{entries_of}
@@ -13,16 +13,20 @@ use Rattle.sync_plan.specs.declared.plan.Plan.{Plan}
 use Rattle.sync_plan.specs.declared.plan.Version.TheVariants.{One}
 use Rattle.plan_text.specs.PlanText.{HasText, IsPlanText, plan_lines, plan_text, text_of}
 use Rattle.plan_text.specs.Refused.{IsFirstAlien, Opens}
+use Rattle.plan_text.specs.declared.syntax.PlanSyntax.TheVariants as syntaxes
 use Rattle.plan_checker.specs.Failures.{first_failure}
-use Rattle.plan_checker.specs.RefusalText.{text_of_refusal}
 use Rattle.plan_checker.specs.declared.refusal.PlanRefusal.{PlanRefusal}
 use Rattle.plan_checker.specs.declared.refusal.PlanRefusal.TheVariants.{Shape}
 use Rattle.plan_checker.specs.Proved.{first_unproved}
 use Rattle.plan_checker.proofs.Certified.{accepted_where_none, proved_where_none}
+use Rattle.plan_input.specs.Sources.{behind_end}
+use Rattle.plan_input.specs.StopText.{text_of_stop}
+use Rattle.plan_input.specs.Stops.{IsTextOf, no_text, unfit}
+use Rattle.plan_input.specs.declared.stop.Stop.TheVariants.{Misfit, Syntax}
 use Rattle.command_words.specs.Wanted.{Wanted, sequential, verify, swept, planned, run, bench}
 use Rattle.command_words.specs.declared.request.PlanChoice.TheVariants.{Made, Barrier, Given}
-use Rattle.spmd_answer.specs.Due.{Due, IsDueOf, IsDueOn, IsFirstOr, Readings, readings, settings_for, swept_text, behind_end, behind_of, done, due_of_refusal, line, makes_plan, plan_refused, unaccepted, written}
-use Rattle.spmd_answer.specs.Given.{IsProvedPlan, IsRefusedBy, IsRefusedPlan, IsTakenPlan, IsUnprovedPlan, first_reason, no_text, unfit}
+use Rattle.spmd_answer.specs.Due.{Due, IsDueOf, IsDueOn, IsFirstOr, Readings, readings, settings_for, swept_text, behind_of, done, due_of_refusal, line, makes_plan, plan_refused, unaccepted, written}
+use Rattle.spmd_answer.specs.Given.{IsProvedPlan, IsRefusedPlan, IsRefusedWith, IsUnprovedPlan}
 
 -- ---- bytes are a plan's text or have a first line that no plan's text has
 
@@ -74,30 +78,29 @@ same_workers : (b : Bool) (plan : Plan) (workers : ℕ) (o : Option PlanRefusal)
 same_workers true plan workers o is none = (eqb-true plan.workers workers is, none)
 same_workers false plan workers o is none = absurd (cc)
 
-taken_where_none : (asked : Option ℕ) (tree : Tree) (bytes : List ℕ) (plan : Plan) → HasText plan → bytes ≡ plan_text plan → first_reason asked tree plan ≡ None → IsTakenPlan asked tree bytes plan
-taken_where_none None tree bytes plan shown is none = record { shown = shown; bytes_are = is; workers_are = tt; accepted = accepted_where_none tree plan none }
-taken_where_none (Some workers) tree bytes plan shown is none =
+taken_where_none : (asked : Option ℕ) (tree : Tree) (bytes : List ℕ) (plan : Plan) → IsTextOf plan bytes → first_reason asked tree plan ≡ None → IsTaken asked tree bytes plan
+taken_where_none None tree bytes plan text none = record { text = text; workers_are = tt; accepted = accepted_where_none tree plan none }
+taken_where_none (Some workers) tree bytes plan text none =
     let both = same_workers (plan.workers == workers) plan workers (first_failure tree plan) refl none in
-    record { shown = shown; bytes_are = is; workers_are = both.0; accepted = accepted_where_none tree plan both.1 }
+    record { text = text; workers_are = both.0; accepted = accepted_where_none tree plan both.1 }
 
 -- bytes are refused as a plan, or are the text of one against which there is no reason
-refused_or_fine : (reason_of : Plan → Option PlanRefusal) (bytes : List ℕ) → ((text : List ℕ) → IsRefusedBy reason_of bytes text → ⊥) → ((plan : Plan) → HasText plan → bytes ≡ plan_text plan → reason_of plan ≡ None → ⊥) → ⊥
+refused_or_fine : (reason_of : Plan → Option PlanRefusal) (bytes : List ℕ) → ((text : List ℕ) → IsRefusedWith reason_of bytes text → ⊥) → ((plan : Plan) → IsTextOf plan bytes → reason_of plan ≡ None → ⊥) → ⊥
 refused_or_fine reason_of bytes unrefused unfine =
-    read_or_alien bytes (λ text. by_reason text.0 text.1 text.2 (reason_of text.0) refl)
-    (λ n alien. unrefused (codes "PLAN SYNTAX " ++ decimal n) (no_text n alien refl))
+    read_or_alien bytes (λ text. by_reason text.0 (record { shown = text.1; bytes_are = text.2 }) (reason_of text.0) refl)
+    (λ n alien. unrefused (text_of_stop (Syntax (syntaxes.Line n))) (record { stop = Syntax (syntaxes.Line n); is = no_text n alien refl; text_is = refl }))
   where
-    by_reason : (plan : Plan) → HasText plan → bytes ≡ plan_text plan → (o : Option PlanRefusal) → reason_of plan ≡ o → ⊥
-    by_reason plan shown is None first = unfine plan shown is first
-    by_reason plan shown is (Some reason) first = unrefused (text_of_refusal reason) (unfit plan shown is reason first refl)
+    by_reason : (plan : Plan) → IsTextOf plan bytes → (o : Option PlanRefusal) → reason_of plan ≡ o → ⊥
+    by_reason plan text None first = unfine plan text first
+    by_reason plan text (Some reason) first = unrefused (text_of_stop (Misfit reason)) (record { stop = Misfit reason; is = unfit plan text reason first refl; text_is = refl })
 
-refused_or_taken : (asked : Option ℕ) (tree : Tree) (bytes : List ℕ) → ((text : List ℕ) → IsRefusedPlan asked tree bytes text → ⊥) → ((plan : Plan) → IsTakenPlan asked tree bytes plan → ⊥) → ⊥
+refused_or_taken : (asked : Option ℕ) (tree : Tree) (bytes : List ℕ) → ((text : List ℕ) → IsRefusedPlan asked tree bytes text → ⊥) → ((plan : Plan) → IsTaken asked tree bytes plan → ⊥) → ⊥
 refused_or_taken asked tree bytes unrefused untaken =
-    refused_or_fine (first_reason asked tree) bytes unrefused (λ plan shown is none. untaken plan (taken_where_none asked tree bytes plan shown is none))
+    refused_or_fine (first_reason asked tree) bytes unrefused (λ plan text none. untaken plan (taken_where_none asked tree bytes plan text none))
 
 refused_or_proved : (tree : Tree) (bytes : List ℕ) → ((text : List ℕ) → IsUnprovedPlan tree bytes text → ⊥) → ((plan : Plan) → IsProvedPlan tree bytes plan → ⊥) → ⊥
 refused_or_proved tree bytes unrefused unproved =
-    refused_or_fine (first_unproved tree) bytes unrefused
-    (λ plan shown is none. unproved plan (record { shown = shown; bytes_are = is; proved = proved_where_none tree plan none }))
+    refused_or_fine (first_unproved tree) bytes unrefused (λ plan text none. unproved plan (record { text = text; proved = proved_where_none tree plan none }))
 
 -- ---- due for a request
 

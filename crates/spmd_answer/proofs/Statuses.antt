@@ -1,26 +1,25 @@
 -- What is due for a request has one of four statuses.
 use Rattle.std.proofs.Common.{◌≡◌, ◌∙◌, ◌==◌, ◌-◌, if◌then◌else◌, ℕ, Bool, true, false, ap, sym, refl, List, Option, None, Some}
 use Rattle.std.specs.Prelude.{ℤ, IfSome}
-use Rattle.std.specs.Option.{option_map, option_or}
-use Rattle.nest_tree.specs.Limits.{first_limit}
+use Rattle.std.specs.Option.{option_map}
 use Rattle.nest_tree.specs.Tree.{Tree}
-use Rattle.f77_lines.specs.Columns.{lines_of}
-use Rattle.f77_lines.specs.Listing.{entries_of, first_behind, first_line_fault, size_to_end}
-use Rattle.f77_lines.specs.RefusalText.{text_of_refusal}
-use Rattle.f77_lines.specs.declared.refusal.LineRefusal.TheVariants.{AfterEnd}
+use Rattle.f77_lines.specs.Listing.{entries_of}
+use Rattle.f77_program.specs.declared.refusal.Refusal.TheVariants.{BadSetting}
 use Rattle.f77_scene.specs.Fault.{Refusal, bad_line, bad_setting, bad_statement}
 use Rattle.f77_scene.specs.Reading.{first_fault_in, program_in}
 use Rattle.f77_scene.specs.Scene.{Name}
-use Rattle.nest_tree.specs.LimitText.{text_of_limit}
-use Rattle.range_check.specs.Outside.{outside_of}
-use Rattle.range_check.specs.OutsideText.{text_of_outside}
 use Rattle.command_words.specs.Wanted.{Wanted}
+use Rattle.plan_input.proofs.Firsts.{first_some}
+use Rattle.plan_input.specs.Sources.{behind_end}
+use Rattle.plan_input.specs.Stops.{first_stop, stop_of_fault}
+use Rattle.plan_input.specs.declared.status.Status.{Status}
+use Rattle.plan_input.specs.declared.status.Status.TheVariants.{Done, SourceRefused, BadWords, ReadFault, WriteFault, NoMemory, PlanRefused, TooLong}
+use Rattle.plan_input.specs.declared.stop.Stop.{Stop}
+use Rattle.plan_input.specs.declared.stop.Stop.TheVariants.{BadSweep, Statement}
 use Rattle.spmd_answer.specs.declared.source.Behind.{Behind}
 use Rattle.spmd_answer.specs.declared.source.Behind.TheVariants.{Comments, PlanText, SweptPlan}
-use Rattle.spmd_answer.specs.Due.{Due, IsDueOf, IsDueOn, IsFirstOr, behind_end, behind_of, due_of_fault, due_of_name, Readings, readings, settings_for, wrong_setting, wrong_sweep, due_of_lines, due_of_refusal, due_of_rest, due_of_tree, refused, unaccepted, written}
+use Rattle.spmd_answer.specs.Due.{Due, IsDueOf, IsDueOn, IsFirstOr, behind_of, Readings, due_for, due_of_refusal, due_of_stop, is_alone, readings, setting_stop, settings_for, unaccepted, written}
 use Rattle.spmd_answer.specs.Statuses.{is_due}
-use Rattle.spmd_answer.specs.declared.status.Status.{Status}
-use Rattle.spmd_answer.specs.declared.status.Status.TheVariants.{Done, SourceRefused, BadWords, ReadFault, WriteFault, NoMemory, PlanRefused, TooLong}
 
 -- 1 and 2
 refuses : Status → Bool
@@ -49,57 +48,35 @@ refuses-done : refuses Done ≡ true → ⊥
 unfolding refuses
 refuses-done h = cc
 
-mapped : {A : Type 0} (o : Option A) (f : A → Due) → ((a : A) → IsRefusal (f a)) → IfSome (option_map f o) IsRefusal
-mapped None f due = tt
-mapped (Some a) f due = due a
+either_stop : (b : Bool) (s t : Stop) → IsRefusal (due_for s) → IsRefusal (due_for t) → IsRefusal (due_for (if b then s else t))
+either_stop true s t one other = one
+either_stop false s t one other = other
 
-either : (o p : Option Due) → IfSome o IsRefusal → IfSome p IsRefusal → IfSome (option_or o p) IsRefusal
-either None p one other = other
-either (Some a) p one other = one
-
-either_one : (b : Bool) (a c : Due) → IsRefusal a → IsRefusal c → IsRefusal (if b then a else c)
-either_one true a c one other = one
-either_one false a c one other = other
-
-of_name : (behind : Behind) (index : ℕ) → IsRefusal (due_of_name behind index)
+of_setting : (behind : Behind) (index : ℕ) → IsRefusal (due_for (setting_stop behind index))
 unfolding refuses
-of_name Comments index = refl
-of_name PlanText index = refl
-of_name SweptPlan index = either_one (index == 1) wrong_sweep (wrong_setting (index - 1)) refl refl
+of_setting Comments index = refl
+of_setting PlanText index = refl
+of_setting SweptPlan index = either_stop (index == 1) BadSweep (Statement (BadSetting (index - 1))) refl refl
 
-of_fault : (behind : Behind) (r : Refusal) → IsRefusal (due_of_fault behind r)
+of_fault : (behind : Behind) (r : Refusal) → IsRefusal (due_of_stop behind (stop_of_fault r))
 unfolding refuses
 of_fault behind (bad_line refusal) = refl
 of_fault behind (bad_statement fault n) = refl
-of_fault behind (bad_setting index) = of_name behind index
+of_fault behind (bad_setting index) = of_setting behind index
 
-of_tree : (tree : Tree) → IfSome (due_of_tree tree) IsRefusal
-unfolding refuses
-of_tree tree =
-    either (option_map (λ l. refused (text_of_limit l)) (first_limit tree)) (option_map (λ o. refused (text_of_outside o)) (outside_of tree))
-    (mapped (first_limit tree) (λ l. refused (text_of_limit l)) (λ l. refl)) (mapped (outside_of tree) (λ o. refused (text_of_outside o)) (λ o. refl))
+of_faults : (behind : Behind) (o : Option Refusal) → IfSome o (λ r. IsRefusal (due_of_stop behind (stop_of_fault r)))
+of_faults behind None = tt
+of_faults behind (Some r) = of_fault behind r
 
-of_rest : (behind : Behind) (bytes : List ℕ) → IfSome (due_of_rest behind bytes) IsRefusal
-unfolding refuses
-of_rest Comments bytes =
-    let rest = first_behind bytes (size_to_end (lines_of bytes)) in
-    mapped rest (λ n. refused (text_of_refusal (AfterEnd n))) (λ n. refl)
-of_rest PlanText bytes = tt
-of_rest SweptPlan bytes = tt
-
-of_lines : (behind : Behind) (bytes : List ℕ) → IfSome (due_of_lines behind bytes) IsRefusal
-unfolding refuses
-of_lines behind bytes =
-    let fault = first_line_fault bytes in
-    either (option_map (λ r. refused (text_of_refusal r)) fault) (due_of_rest behind bytes)
-    (mapped fault (λ r. refused (text_of_refusal r)) (λ r. refl)) (of_rest behind bytes)
+mapped_some : (behind : Behind) (o : Option Stop) → IfSome o (λ s. IsRefusal (due_of_stop behind s)) → IfSome (option_map (due_of_stop behind) o) IsRefusal
+mapped_some behind None h = tt
+mapped_some behind (Some s) h = h
 
 of_refusal : (behind : Behind) (bytes : List ℕ) (settings : List (Name × ℤ)) → IfSome (due_of_refusal behind bytes settings) IsRefusal
+unfolding refuses
 of_refusal behind bytes settings =
-    let fault = first_fault_in (entries_of bytes) settings in
-    let tree = due_of_tree (program_in (entries_of bytes) settings) in
-    either (due_of_lines behind bytes) (option_or (option_map (due_of_fault behind) fault) tree) (of_lines behind bytes)
-    (either (option_map (due_of_fault behind) fault) tree (mapped fault (due_of_fault behind) (of_fault behind)) (of_tree (program_in (entries_of bytes) settings)))
+    mapped_some behind (first_stop (is_alone behind) bytes settings)
+    (first_some (λ s. IsRefusal (due_of_stop behind s)) (is_alone behind) bytes settings (λ r. refl) (of_faults behind (first_fault_in (entries_of bytes) settings)) (λ l. refl) (λ o. refl))
 
 -- a source that is refused isn't done
 pub refused_or_done : (behind : Behind) (bytes : List ℕ) (settings : List (Name × ℤ)) (d : Due) → due_of_refusal behind bytes settings ≡ Some d → d.status ≡ Done → ⊥

@@ -1,30 +1,35 @@
 -- One status with one text is due for a request.
-use Rattle.std.proofs.Common.{◌≡◌, ◌≢◌, ◌∙◌, ◌==◌, ℕ, ℤ, true, false, true≢false, ap, sym, subst, refl, List, [], ◌++◌, append-nil, Option, None, Some, codes}
-use Rattle.std.specs.Fmt.{decimal}
+use Rattle.std.proofs.Common.{◌≡◌, ◌≢◌, ◌∙◌, ◌==◌, ℕ, ℤ, true, false, true≢false, ap, sym, subst, refl, List, [], ◌++◌, append-nil, Option, None, Some}
 use Rattle.std.proofs.lemmas.Bool.Decides.{nat_tests}
 use Rattle.std.proofs.Common.{arith}
+use Rattle.asked_plan.specs.Plans.{HasWorkers, IsTaken, first_reason}
 use Rattle.nest_tree.specs.Tree.{Tree}
 use Rattle.nest_model.specs.Memory.{output_of}
 use Rattle.f77_lines.specs.Listing.{entries_of}
 use Rattle.f77_scene.specs.Reading.{program_in}
 use Rattle.f77_scene.specs.Scene.{Name}
 use Rattle.sync_plan.specs.declared.plan.Plan.{Plan}
-use Rattle.plan_text.specs.PlanText.{HasText, plan_text}
+use Rattle.plan_text.specs.PlanText.{plan_text}
+use Rattle.plan_text.specs.declared.syntax.PlanSyntax.TheVariants as syntaxes
 use Rattle.plan_text.proofs.PlanLaws.{one_alien, text_front}
 use Rattle.plan_checker.specs.Accepted.{IsAccepted}
-use Rattle.plan_checker.specs.RefusalText.{text_of_refusal}
 use Rattle.plan_checker.specs.declared.refusal.PlanRefusal.{PlanRefusal}
 use Rattle.plan_checker.specs.Proved.{first_unproved}
 use Rattle.plan_checker.proofs.Certified.{none_where_accepted, none_where_proved}
+use Rattle.plan_input.specs.Sources.{behind_end}
+use Rattle.plan_input.specs.StopText.{text_of_stop}
+use Rattle.plan_input.specs.Stops.{IsRefusedBy, IsTextOf, no_text, unfit}
+use Rattle.plan_input.specs.declared.status.Status.TheVariants.{Done}
+use Rattle.plan_input.specs.declared.stop.Stop.{Stop}
+use Rattle.plan_input.specs.declared.stop.Stop.TheVariants.{Misfit, Syntax}
 use Rattle.command_words.specs.Wanted.{Wanted, sequential, verify, swept, planned, run, bench}
 use Rattle.command_words.specs.declared.request.PlanChoice.TheVariants.{Made, Barrier, Given}
-use Rattle.spmd_answer.specs.Due.{Due, IsDueOf, IsDueOn, IsFirstOr, IsRefusalFor, IsTextFor, Readings, readings, settings_for, swept_text, behind_end, behind_of, done, due_of_refusal, makes_plan, plan_refused, unaccepted, written}
-use Rattle.spmd_answer.specs.declared.status.Status.TheVariants.{Done}
-use Rattle.spmd_answer.specs.Given.{HasWorkers, IsProvedPlan, IsRefusedBy, IsRefusedPlan, IsTakenPlan, IsUnprovedPlan, first_reason, no_text, unfit}
+use Rattle.spmd_answer.specs.Due.{Due, IsDueOf, IsDueOn, IsFirstOr, IsRefusalFor, IsTextFor, Readings, readings, settings_for, swept_text, behind_of, done, due_of_refusal, makes_plan, plan_refused, unaccepted, written}
+use Rattle.spmd_answer.specs.Given.{IsProvedPlan, IsRefusedPlan, IsRefusedWith, IsUnprovedPlan}
 
 -- two plans with one text are one
-one_plan : (x y : Plan) (bytes : List ℕ) → HasText x → HasText y → bytes ≡ plan_text x → bytes ≡ plan_text y → x ≡ y
-one_plan x y bytes hx hy p q = text_front x y [] hx hy (sym p ∙ q ∙ sym (append-nil (plan_text y)))
+one_plan : (x y : Plan) (bytes : List ℕ) → IsTextOf x bytes → IsTextOf y bytes → x ≡ y
+one_plan x y bytes p q = text_front x y [] p.shown q.shown (sym p.bytes_are ∙ q.bytes_are ∙ sym (append-nil (plan_text y)))
 
 one_some : {A : Type 0} (o : Option A) (a b : A) → o ≡ Some a → o ≡ Some b → a ≡ b
 one_some o a b p q = cc
@@ -37,43 +42,46 @@ no_reason : (asked : Option ℕ) (tree : Tree) (plan : Plan) → HasWorkers aske
 no_reason None tree plan workers accepted = none_where_accepted tree plan accepted
 no_reason (Some n) tree plan workers accepted = rw (eqb-refl n plan.workers workers) (none_where_accepted tree plan accepted)
 
-one_reason : (reason_of : Plan → Option PlanRefusal) (bytes s t : List ℕ) → IsRefusedBy reason_of bytes s → IsRefusedBy reason_of bytes t → s ≡ t
-one_reason reason_of bytes s t (no_text m u p) (no_text n v q) = p ∙ ap (λ k. codes "PLAN SYNTAX " ++ decimal k) (one_alien bytes m n u v) ∙ sym q
-one_reason reason_of bytes s t (no_text m u p) (unfit y hy by r first q) = absurd (u.no_text (y, hy, by))
-one_reason reason_of bytes s t (unfit x hx bx r first p) (no_text n v q) = absurd (v.no_text (x, hx, bx))
-one_reason reason_of bytes s t (unfit x hx bx r first p) (unfit y hy by r' first' q) =
-    let same = one_plan x y bytes hx hy bx by in
+one_stop : (reason_of : Plan → Option PlanRefusal) (bytes : List ℕ) (s t : Stop) → IsRefusedBy reason_of bytes s → IsRefusedBy reason_of bytes t → s ≡ t
+one_stop reason_of bytes s t (no_text m u p) (no_text n v q) = p ∙ ap (λ k. Syntax (syntaxes.Line k)) (one_alien bytes m n u v) ∙ sym q
+one_stop reason_of bytes s t (no_text m u p) (unfit y text r first q) = absurd (u.no_text (y, text.shown, text.bytes_are))
+one_stop reason_of bytes s t (unfit x text r first p) (no_text n v q) = absurd (v.no_text (x, text.shown, text.bytes_are))
+one_stop reason_of bytes s t (unfit x text r first p) (unfit y text' r' first' q) =
+    let same = one_plan x y bytes text text' in
     let reasons : r ≡ r' = one_some (reason_of y) r r' (ap reason_of (sym same) ∙ first) first' in
-    p ∙ ap text_of_refusal reasons ∙ sym q
+    p ∙ ap Misfit reasons ∙ sym q
+
+one_reason : (reason_of : Plan → Option PlanRefusal) (bytes s t : List ℕ) → IsRefusedWith reason_of bytes s → IsRefusedWith reason_of bytes t → s ≡ t
+one_reason reason_of bytes s t p q = p.text_is ∙ ap text_of_stop (one_stop reason_of bytes p.stop q.stop p.is q.is) ∙ sym q.text_is
 
 -- bytes that are refused as a plan are the text of none against which there is no reason
-refused_or_fine : (reason_of : Plan → Option PlanRefusal) (bytes s : List ℕ) (plan : Plan) → IsRefusedBy reason_of bytes s → HasText plan → bytes ≡ plan_text plan → reason_of plan ≡ None → ⊥
-refused_or_fine reason_of bytes s plan (no_text m u p) shown is none = u.no_text (plan, shown, is)
-refused_or_fine reason_of bytes s plan (unfit x hx bx r first p) shown is none =
-    let same = one_plan x plan bytes hx shown bx is in
+refused_or_fine : (reason_of : Plan → Option PlanRefusal) (bytes : List ℕ) (s : Stop) (plan : Plan) → IsRefusedBy reason_of bytes s → IsTextOf plan bytes → reason_of plan ≡ None → ⊥
+refused_or_fine reason_of bytes s plan (no_text m u p) text none = u.no_text (plan, text.shown, text.bytes_are)
+refused_or_fine reason_of bytes s plan (unfit x other r first p) text none =
+    let same = one_plan x plan bytes other text in
     let both : None ≡ Some r = sym none ∙ ap reason_of (sym same) ∙ first in
     cc
 
-pub refused_or_taken : (asked : Option ℕ) (tree : Tree) (bytes s : List ℕ) (plan : Plan) → IsRefusedPlan asked tree bytes s → IsTakenPlan asked tree bytes plan → ⊥
+pub refused_or_taken : (asked : Option ℕ) (tree : Tree) (bytes s : List ℕ) (plan : Plan) → IsRefusedPlan asked tree bytes s → IsTaken asked tree bytes plan → ⊥
 refused_or_taken asked tree bytes s plan refused is =
-    refused_or_fine (first_reason asked tree) bytes s plan refused is.shown is.bytes_are (no_reason asked tree plan is.workers_are is.accepted)
+    refused_or_fine (first_reason asked tree) bytes refused.stop plan refused.is is.text (no_reason asked tree plan is.workers_are is.accepted)
 
 pub refused_or_proved : (tree : Tree) (bytes s : List ℕ) (plan : Plan) → IsUnprovedPlan tree bytes s → IsProvedPlan tree bytes plan → ⊥
 refused_or_proved tree bytes s plan refused is =
-    refused_or_fine (first_unproved tree) bytes s plan refused is.shown is.bytes_are (none_where_proved tree plan is.proved)
+    refused_or_fine (first_unproved tree) bytes refused.stop plan refused.is is.text (none_where_proved tree plan is.proved)
 
 -- one text is written, where no plan is made
 one_text : (wanted : Wanted) (tree : Tree) (at : Readings) (bytes s t : List ℕ) → makes_plan wanted ≡ false → IsTextFor wanted tree at bytes s → IsTextFor wanted tree at bytes t → s ≡ t
 one_text (sequential settings) tree at bytes s t fixed p q = p ∙ sym q
 one_text (verify settings) tree at bytes s t fixed (x, is, p) (y, is', q) = p ∙ sym q
 one_text (swept over settings) tree at bytes s t fixed (x, is, p) (y, is', q) =
-    p ∙ ap (λ plan. swept_text tree plan (at over) over) (one_plan x y bytes is.shown is'.shown is.bytes_are is'.bytes_are) ∙ sym q
+    p ∙ ap (λ plan. swept_text tree plan (at over) over) (one_plan x y bytes is.text is'.text) ∙ sym q
 one_text (planned workers settings) tree at bytes s t fixed p q = absurd (true≢false fixed)
 one_text (run workers Made by settings) tree at bytes s t fixed p q = absurd (true≢false fixed)
 one_text (run workers Barrier by settings) tree at bytes s t fixed p q = absurd (true≢false fixed)
 one_text (bench workers points sweeps) tree at bytes s t fixed p q = absurd (true≢false fixed)
 one_text (run workers Given by settings) tree at bytes s t fixed (x, (is, p)) (y, (is', q)) =
-    p ∙ ap (λ plan. plan_text plan ++ output_of tree) (one_plan x y bytes is.shown is'.shown is.bytes_are is'.bytes_are) ∙ sym q
+    p ∙ ap (λ plan. plan_text plan ++ output_of tree) (one_plan x y bytes is.text is'.text) ∙ sym q
 
 one_refusal : (wanted : Wanted) (tree : Tree) (bytes s t : List ℕ) → IsRefusalFor wanted tree bytes s → IsRefusalFor wanted tree bytes t → s ≡ t
 one_refusal (sequential settings) tree bytes s t p q = absurd p

@@ -1,27 +1,30 @@
 -- What is due for a request: the status and the text, from the request, its settings and the bytes of the source alone.
-use Rattle.std.specs.Prelude.{ℕ, ℤ, ◌≡◌, ◌==◌, ◌-◌, Bool, true, false, List, [], ◌∷◌, ◌++◌, drop, Option, Some, None, codes, if◌then◌else◌, zero, suc, pos, ◌+ℤ◌, ◌-ℤ◌}
-use Rattle.std.specs.Fmt.{decimal, signed_decimal}
-use Rattle.std.specs.Option.{option_map, option_or}
-use Rattle.nest_tree.specs.LimitText.{text_of_limit}
+use Rattle.std.specs.Prelude.{ℕ, ℤ, ◌≡◌, ◌==◌, ◌-◌, Bool, true, false, List, [], ◌∷◌, ◌++◌, Option, Some, None, codes, if◌then◌else◌, zero, suc, pos, ◌+ℤ◌, ◌-ℤ◌}
+use Rattle.std.specs.Fmt.{signed_decimal}
+use Rattle.std.specs.Option.{option_map}
+use Rattle.asked_plan.specs.Plans.{IsPlanFor, IsTaken}
 use Rattle.nest_tree.specs.Layout.{count_of as as_count}
-use Rattle.nest_tree.specs.Limits.{first_limit}
 use Rattle.nest_tree.specs.Tree.{Tree}
 use Rattle.nest_model.specs.Memory.{output_of}
-use Rattle.f77_lines.specs.Columns.{lines_of}
-use Rattle.f77_lines.specs.Listing.{entries_of, first_behind, first_line_fault, size_to_end}
-use Rattle.f77_lines.specs.RefusalText.{text_of_refusal}
-use Rattle.f77_lines.specs.declared.refusal.LineRefusal.TheVariants.{AfterEnd}
-use Rattle.f77_scene.specs.Fault.{Fault, Refusal, bad_line, bad_setting, bad_statement, bad_divisor, do_label, literal_too_large, loop_variable, not_affine, not_in_profile, not_integer, past_limit, rank, syntax, unknown, zero_step}
-use Rattle.f77_scene.specs.Reading.{first_fault_in, program_in}
+use Rattle.f77_lines.specs.Listing.{entries_of}
+use Rattle.f77_program.specs.declared.refusal.Refusal.{Refusal}
+use Rattle.f77_program.specs.declared.refusal.Refusal.TheVariants as refusals
+use Rattle.f77_program.specs.declared.refusal.Refusal.TheVariants.{BadSetting}
+use Rattle.f77_scene.specs.Reading.{program_in}
 use Rattle.f77_scene.specs.Scene.{Name}
-use Rattle.range_check.specs.Outside.{outside_of}
-use Rattle.range_check.specs.OutsideText.{text_of_outside}
 use Rattle.command_words.specs.Sweeps.{Sweep}
 use Rattle.command_words.specs.Wanted.{Wanted, sequential, verify, swept, planned, run, bench}
-use Rattle.command_words.specs.declared.request.PlanChoice.{PlanChoice}
 use Rattle.command_words.specs.declared.request.PlanChoice.TheVariants.{Made, Barrier, Given}
+use Rattle.plan_input.specs.Sources.{behind_end}
+use Rattle.plan_input.specs.Statuses.{status_of}
+use Rattle.plan_input.specs.StopText.{text_of_stop}
+use Rattle.plan_input.specs.Stops.{first_stop}
+use Rattle.plan_input.specs.declared.status.Status.{Status}
+use Rattle.plan_input.specs.declared.status.Status.TheVariants.{Done, PlanRefused}
+use Rattle.plan_input.specs.declared.stop.Stop.{Stop}
+use Rattle.plan_input.specs.declared.stop.Stop.TheVariants as stops
 use Rattle.plan_text.specs.PlanText.{plan_text}
-use Rattle.plan_maker.specs.Made.{IsBarrierPlan, IsMade}
+use Rattle.plan_maker.specs.Made.{IsMade}
 use Rattle.plan_maker.specs.declared.reasons.Reasons.{Reasons}
 use Rattle.reason_text.specs.ReasonText.{reason_text}
 use Rattle.plan_checker.specs.Proved.{first_unfit}
@@ -29,11 +32,9 @@ use Rattle.plan_checker.specs.RefusalText.{text_of_refusal as text_of_reason}
 use Rattle.plan_checker.specs.declared.refusal.PlanRefusal.{PlanRefusal}
 use Rattle.sync_plan.specs.declared.plan.Plan.{Plan}
 use Rattle.spmd_answer.specs.Bench.{bench_head}
-use Rattle.spmd_answer.specs.Given.{IsProvedPlan, IsRefusedPlan, IsTakenPlan, IsUnprovedPlan}
+use Rattle.spmd_answer.specs.Given.{IsProvedPlan, IsRefusedPlan, IsUnprovedPlan}
 use Rattle.spmd_answer.specs.declared.source.Behind.{Behind}
 use Rattle.spmd_answer.specs.declared.source.Behind.TheVariants.{Comments, PlanText, SweptPlan}
-use Rattle.spmd_answer.specs.declared.status.Status.{Status}
-use Rattle.spmd_answer.specs.declared.status.Status.TheVariants.{Done, SourceRefused, BadWords, PlanRefused}
 
 -- a status and the text that is due with it
 pub record Due : Type 0 where
@@ -44,10 +45,6 @@ pub record Due : Type 0 where
 abbrev pub line : List ℕ → List ℕ
 line text = text ++ 10 ∷ []
 
--- a source that is refused with this line
-abbrev pub refused : List ℕ → Due
-refused text = record { status = SourceRefused; text = line text }
-
 -- a plan that is refused with this line
 abbrev pub plan_refused : List ℕ → Due
 plan_refused text = record { status = PlanRefused; text = line text }
@@ -56,65 +53,48 @@ plan_refused text = record { status = PlanRefused; text = line text }
 abbrev pub done : List ℕ → Due
 done text = record { status = Done; text = text }
 
--- the number of a fault of a statement
-abbrev pub fault_number : Fault → ℕ
-fault_number syntax = 1
-fault_number not_in_profile = 2
-fault_number not_integer = 3
-fault_number unknown = 4
-fault_number rank = 5
-fault_number not_affine = 6
-fault_number zero_step = 7
-fault_number bad_divisor = 8
-fault_number do_label = 9
-fault_number loop_variable = 10
-fault_number literal_too_large = 11
-fault_number (past_limit number) = 12
+-- due with a stop: its status, and the line that tells it
+abbrev pub due_for : Stop → Due
+due_for stop = record { status = status_of stop; text = line (text_of_stop stop) }
 
-abbrev pub count_of : Fault → List ℕ
-count_of (past_limit number) = codes " COUNT " ++ signed_decimal number
-count_of _ = []
-
--- the words of a setting, by its number from 1, that isn't taken
+-- a setting, by its number from 1, that isn't taken
 abbrev pub wrong_setting : ℕ → Due
-wrong_setting index = record { status = BadWords; text = line (codes "WORDS " ++ decimal index) }
+wrong_setting index = due_for (stops.Statement (BadSetting index))
 
 -- a sweep that isn't taken
 abbrev pub wrong_sweep : Due
-wrong_sweep = record { status = BadWords; text = line (codes "WORDS SWEEP") }
+wrong_sweep = due_for stops.BadSweep
 
--- due with the name of a setting, by its number from 1, that no named constant has; a sweep's setting is the first
-abbrev pub due_of_name : Behind → ℕ → Due
-due_of_name Comments index = wrong_setting index
-due_of_name PlanText index = wrong_setting index
-due_of_name SweptPlan index = if index == 1 then wrong_sweep else wrong_setting (index - 1)
+-- a setting, by its number from 1, that no named constant has; a sweep's own is the first, and isn't counted among those of the words
+abbrev pub setting_stop : Behind → ℕ → Stop
+setting_stop Comments index = stops.Statement (BadSetting index)
+setting_stop PlanText index = stops.Statement (BadSetting index)
+setting_stop SweptPlan index = if index == 1 then stops.BadSweep else stops.Statement (BadSetting (index - 1))
 
--- due with a fault of the source, or of a setting's name
-abbrev pub due_of_fault : Behind → Refusal → Due
-due_of_fault behind (bad_line refusal) = refused (text_of_refusal refusal)
-due_of_fault behind (bad_statement fault n) = refused (codes "REFUSED F" ++ decimal (fault_number fault) ++ codes " LINE " ++ decimal n ++ count_of fault)
-due_of_fault behind (bad_setting index) = due_of_name behind index
+-- a refusal of a statement or of a setting, as it is told
+abbrev pub statement_stop : Behind → Refusal → Stop
+statement_stop behind (refusals.Statement fault line) = stops.Statement (refusals.Statement fault line)
+statement_stop behind (BadSetting index) = setting_stop behind index
+statement_stop behind refusals.NoMemory = stops.Statement refusals.NoMemory
 
--- due with the first limit that a program passes, or else with its first subscript out of range
-abbrev pub due_of_tree : Tree → Option Due
-due_of_tree tree = option_or (option_map (λ l. refused (text_of_limit l)) (first_limit tree)) (option_map (λ o. refused (text_of_outside o)) (outside_of tree))
+-- a stop of a source as it is told
+abbrev pub told_as : Behind → Stop → Stop
+told_as behind (stops.Statement refusal) = statement_stop behind refusal
+told_as behind stop = stop
 
--- due with the first line behind END that is no comment, where no plan may stand there
-abbrev pub due_of_rest : Behind → List ℕ → Option Due
-due_of_rest Comments bytes = option_map (λ n. refused (text_of_refusal (AfterEnd n))) (first_behind bytes (size_to_end (lines_of bytes)))
-due_of_rest PlanText bytes = None
-due_of_rest SweptPlan bytes = None
+-- due with a stop of a source
+abbrev pub due_of_stop : Behind → Stop → Due
+due_of_stop behind stop = due_for (told_as behind stop)
 
--- due with the first fault of a source's lines, or else with what may not stand behind END
-abbrev pub due_of_lines : Behind → List ℕ → Option Due
-due_of_lines behind bytes = option_or (option_map (λ r. refused (text_of_refusal r)) (first_line_fault bytes)) (due_of_rest behind bytes)
+-- only comments may stand behind END
+abbrev pub is_alone : Behind → Bool
+is_alone Comments = true
+is_alone PlanText = false
+is_alone SweptPlan = false
 
--- due with the first refusal of a source, where there is one: of its lines, of its statements, of the settings' names, of its limits, of its subscripts
+-- due with the first refusal of a source, where there is one: of its lines, of what stands behind END, of its statements, of the settings' names, of its limits, of its subscripts
 abbrev pub due_of_refusal : Behind → List ℕ → List (Name × ℤ) → Option Due
-due_of_refusal behind bytes settings =
-    option_or (due_of_lines behind bytes)
-    (option_or (option_map (due_of_fault behind) (first_fault_in (entries_of bytes) settings))
-    (due_of_tree (program_in (entries_of bytes) settings)))
+due_of_refusal behind bytes settings = option_map (due_of_stop behind) (first_stop (is_alone behind) bytes settings)
 
 -- what may stand behind the END line for a request
 abbrev pub behind_of : Wanted → Behind
@@ -146,10 +126,6 @@ is_run (swept s settings) = false
 is_run (planned workers settings) = false
 is_run (run workers choice by settings) = true
 is_run (bench workers points sweeps) = true
-
--- the bytes behind the line end of END
-abbrev pub behind_end : List ℕ → List ℕ
-behind_end bytes = drop (size_to_end (lines_of bytes)) bytes
 
 -- the settings with which a source is read where a sweep's constant has this value: its name is the first that is looked up, and its value the last, which counts
 abbrev pub settings_at : Sweep → List (Name × ℤ) → ℤ → List (Name × ℤ)
@@ -198,12 +174,6 @@ count_in s = as_count (s.high -ℤ s.low +ℤ pos 1)
 abbrev pub swept_text : Tree → Plan → (ℤ → Option Due × Tree) → Sweep → List ℕ
 swept_text proved plan at s = value_lines (λ value. reading_text proved plan (at value)) s.low (count_in s)
 
--- The plan by which a run goes, for so many workers: one that is made, for some reasons; one with its cut, its anchors and barriers; or the one that is given behind END.
-abbrev pub IsPlanFor : PlanChoice → ℕ → Tree → List ℕ → Plan → Type 0
-IsPlanFor Made workers tree bytes plan = (reasons : Reasons) × IsMade tree workers plan reasons
-IsPlanFor Barrier workers tree bytes plan = IsBarrierPlan tree workers plan
-IsPlanFor Given workers tree bytes plan = IsTakenPlan (Some workers) tree bytes plan
-
 -- What is written of a run by this plan, with these bytes behind the program's END line: of `run` the plan's text and then the sequential output; of `bench` the sizes, how many waits of each kind the plan has, and then the output.
 abbrev pub IsTextBy : Wanted → Tree → List ℕ → Plan → List ℕ → Type 0
 IsTextBy (sequential settings) tree bytes plan text = ⊥
@@ -216,7 +186,7 @@ IsTextBy (bench workers points sweeps) tree bytes plan text = IsPlanFor Made wor
 -- What is written for a request on a program, with these bytes behind its END line: of a sequential run the output; that the plan is accepted; of a sweep, whose source has these readings, a line for each value, by a plan that is proved on the program; of a plan that is made the plan's text and then that of its reasons; of a run what is written of it by some plan.
 abbrev pub IsTextFor : Wanted → Tree → Readings → List ℕ → List ℕ → Type 0
 IsTextFor (sequential settings) tree at bytes text = text ≡ output_of tree
-IsTextFor (verify settings) tree at bytes text = (plan : Plan) × IsTakenPlan None tree bytes plan × (text ≡ line (codes "ACCEPTED"))
+IsTextFor (verify settings) tree at bytes text = (plan : Plan) × IsTaken None tree bytes plan × (text ≡ line (codes "ACCEPTED"))
 IsTextFor (swept s settings) tree at bytes text = (plan : Plan) × IsProvedPlan tree bytes plan × (text ≡ swept_text tree plan (at s) s)
 IsTextFor (planned workers settings) tree at bytes text = (made : Plan) × (reasons : Reasons) × IsMade tree workers made reasons × (text ≡ plan_text made ++ reason_text tree reasons)
 IsTextFor (run workers choice by settings) tree at bytes text = (plan : Plan) × IsTextBy (run workers choice by settings) tree bytes plan text

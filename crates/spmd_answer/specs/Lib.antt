@@ -1,9 +1,8 @@
+pub mod Answers
 pub mod Bench
 pub mod Due
 pub mod Ends
-pub mod Faults
 pub mod Given
 pub mod Inputs
 pub mod Receipts
 pub mod Statuses
-pub mod Stops

@@ -12,10 +12,11 @@ use Rattle.spmd_model.specs.declared.style.Style.TheVariants.{Arrive}
 use Rattle.command_words.specs.Wanted.{Wanted, run}
 use Rattle.command_words.specs.declared.request.Engine.{Engine}
 use Rattle.command_words.specs.declared.request.Engine.TheVariants.{Spmd}
-use Rattle.spmd_answer.specs.Due.{Due, IsTextBy, behind_end, is_run, settings_for}
+use Rattle.plan_input.specs.Sources.{behind_end}
+use Rattle.spmd_answer.specs.Due.{Due, IsTextBy, is_run, settings_for}
 use Rattle.spmd_answer.specs.Ends.{HasEnded, engine_of, memory_in, run_in}
 use Rattle.spmd_answer.specs.declared.receipt.Receipt.{Receipt}
-use Rattle.spmd_answer.specs.declared.status.Status.TheVariants.{Done}
+use Rattle.plan_input.specs.declared.status.Status.TheVariants.{Done}
 
 -- The receipt is that of a run by this engine, of this program under this plan, which came to its end with the program's last memory.
 pub record IsLeftBy (engine : Engine) (tree : Tree) (plan : Plan) (r : Receipt) : Type 0 where

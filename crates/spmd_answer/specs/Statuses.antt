@@ -1,7 +1,7 @@
 -- The statuses of what is due for a request.
 use Rattle.std.specs.Prelude.{Bool, true, false}
-use Rattle.spmd_answer.specs.declared.status.Status.{Status}
-use Rattle.spmd_answer.specs.declared.status.Status.TheVariants.{Done, SourceRefused, BadWords, PlanRefused}
+use Rattle.plan_input.specs.declared.status.Status.{Status}
+use Rattle.plan_input.specs.declared.status.Status.TheVariants.{Done, SourceRefused, BadWords, PlanRefused}
 
 -- 0, 1, 2 and 6
 abbrev pub is_due : Status → Bool

@@ -6,28 +6,27 @@ ghost use Rattle.nest_tree.specs.Limits.{IsWithinLimits};
 ghost use Rattle.nest_tree.specs.View.{tree_of};
 ghost use Rattle.nest_tree.specs.WellFormed.{IsWellFormed};
 ghost use Rattle.nest_model.specs.Ranges.{IsInRange};
-ghost use Rattle.command_words.specs.Wanted.{IsCounted, bench, planned, run, sequential, verify, wanted};
+ghost use Rattle.command_words.specs.Wanted.{IsCounted, bench, planned, run as by_plan, sequential, verify, wanted};
 ghost use Rattle.f77_source.specs.Sources.{setting_of};
+ghost use Rattle.spmd_answer.specs.Answers.{due_in};
 ghost use Rattle.spmd_answer.specs.Due as due;
 ghost use Rattle.spmd_answer.specs.Due.{IsDueOf, IsDueOn, Readings};
 ghost use Rattle.spmd_answer.specs.Receipts.{HasReceipt, HasReceiptOf};
-ghost use Rattle.spmd_answer.specs.Stops.{due_in};
 ghost use Rattle.spmd_answer.specs.Inputs.{readings_of};
 
 use crate::bench::bench_run;
-use crate::given::given_plan;
+use crate::due::{Answer, done, refusal, told_as};
 use crate::host::Host;
-use crate::plan::plan_for;
-use crate::program::program_of;
 use crate::receipt::Receipt;
 use crate::run::{sequential_output, text_of_plan, text_of_run};
 use crate::source::behind_of;
-use crate::status::{Answer, Status, Stop};
 use crate::sweep::{Input, settings_for, swept};
+use asked_plan::{Asked, given_plan, plan_for};
 use command_words::{Bench, Request, Run};
 use f77_lines::MOST_BYTES;
 use f77_source::Setting;
 use nest_tree::Program;
+use plan_input::read_inside;
 use plan_maker::make;
 use spmd_ports::Gate;
 use std::alloc::{AllocError, Global};
@@ -51,7 +50,8 @@ pub fn answer_to<R: Threads + Sync, G: Gate + Sync>(
         (map setting_of settings.now) bytes.now (due_in r.0) r.1) }
 {
     let given = settings_for(host.alloc, request, settings)?;
-    match program_of(host.alloc, bytes, &given, behind_of(request)) {
+    let stands = behind_of(request);
+    match read_inside(host.alloc, bytes, &given, stands.is_alone()) {
         Ok(read) => {
             let behind = from_place(bytes, read.1);
             let input = Input {
@@ -61,7 +61,7 @@ pub fn answer_to<R: Threads + Sync, G: Gate + Sync>(
             };
             answer_on(host, request, &read.0, &input)
         }
-        Err(stop) => Ok((answer_in(stop)?, None)),
+        Err(stop) => Ok((refusal(host.alloc, told_as(stands, stop))?, None)),
     }
 }
 
@@ -73,16 +73,6 @@ fn from_place(bytes: &[u8], place: usize) -> &[u8]
 {
     let (_, rest) = bytes.split_at(place);
     rest
-}
-
-/// The answer with which something is refused. The error is that memory ran out.
-pub(crate) fn answer_in(stop: Stop) -> Result<Answer, AllocError>
-    ensures { IfOk result (λ answer. stop ≡ Stop.Refused answer) }
-{
-    match stop {
-        Stop::Refused(answer) => Ok(answer),
-        Stop::NoMemory => Err(AllocError),
-    }
 }
 
 /// What is due for a request on a program, which was read from this input, and the receipt of a run
@@ -109,7 +99,7 @@ pub fn answer_on<R: Threads + Sync, G: Gate + Sync>(
         Request::Verify(_) => verified(host.rt, host.alloc, program, input.behind),
         Request::Sweep(sweep, _) => Ok((swept(host, program, sweep, input)?, None)),
         Request::Plan(workers, _) => made_plan(host.alloc, program, *workers),
-        Request::Run(asked, _) => planned_run(host, program, input.behind, *asked),
+        Request::Run(run, _) => planned_run(host, program, input, *run),
         Request::Bench(bench) => benched(host, program, *bench),
     }
 }
@@ -118,28 +108,33 @@ pub fn answer_on<R: Threads + Sync, G: Gate + Sync>(
 fn planned_run<R: Threads + Sync, G: Gate + Sync>(
     host: &Host<'_, R, G>,
     program: &Program,
-    bytes: &[u8],
-    asked: Run,
+    input: &Input,
+    run: Run,
 ) -> Result<(Answer, Option<Receipt>), AllocError>
-    requires short { length bytes.now ≤ MOST_BYTES }
-    requires some { 1 ≤ asked.workers }
-    requires few { asked.workers ≤ 64 }
+    requires short { length input.now.behind.now ≤ MOST_BYTES }
+    requires some { 1 ≤ run.workers }
+    requires few { run.workers ≤ 64 }
     requires formed { IsWellFormed (tree_of program.now) }
     requires limits { IsWithinLimits (tree_of program.now) }
     requires ranges { IsInRange (tree_of program.now) }
     ensures due { (settings : List Text) (at : Readings)
-        → IfOk result (λ r. IsDueOn (run asked.workers asked.choice asked.engine settings)
-        (tree_of program.now) at bytes.now (due_in r.0)) }
+        → IfOk result (λ r. IsDueOn (by_plan run.workers run.choice run.engine settings)
+        (tree_of program.now) at input.now.behind.now (due_in r.0)) }
     ensures receipt { (settings : List Text)
-        → IfOk result (λ r. HasReceipt (run asked.workers asked.choice asked.engine settings)
-        (tree_of program.now) bytes.now (due_in r.0) r.1) }
+        → IfOk result (λ r. HasReceipt (by_plan run.workers run.choice run.engine settings)
+        (tree_of program.now) input.now.behind.now (due_in r.0) r.1) }
 {
-    match plan_for(host, program, bytes, asked) {
+    let asked = Asked {
+        workers: run.workers,
+        choice: run.choice,
+        settings: input.settings,
+    };
+    match plan_for(host.rt, host.alloc, program, &asked, input.behind) {
         Ok(plan) => {
-            let (text, receipt) = text_of_run(host, program, &plan, asked.engine)?;
+            let (text, receipt) = text_of_run(host, program, &plan, run.engine)?;
             Ok((done(text), Some(receipt)))
         }
-        Err(stop) => Ok((answer_in(stop)?, None)),
+        Err(stop) => Ok((refusal(host.alloc, stop)?, None)),
     }
 }
 
@@ -163,16 +158,6 @@ fn benched<R: Threads + Sync, G: Gate + Sync>(
 {
     let (text, receipt) = bench_run(host, program, sizes)?;
     Ok((done(text), Some(receipt)))
-}
-
-/// All was done, with this text.
-pub(crate) fn done(text: Vec<u8>) -> Answer
-    ensures { due_in result ≡ due.done text.items }
-{
-    Answer {
-        status: Status::Done,
-        text,
-    }
 }
 
 fn sequential_run(alloc: Global, program: &Program) -> Result<(Answer, Option<Receipt>), AllocError>
@@ -208,7 +193,7 @@ fn verified<R: Threads + Sync>(
 {
     match given_plan(rt, alloc, program, bytes, None) {
         Ok(_) => Ok((accepted(alloc)?, None)),
-        Err(stop) => Ok((answer_in(stop)?, None)),
+        Err(stop) => Ok((refusal(alloc, stop)?, None)),
     }
 }
 

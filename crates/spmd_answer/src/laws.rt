@@ -5,7 +5,7 @@ ghost use Rattle.command_words.specs.Wanted.{Wanted};
 ghost use Rattle.f77_scene.specs.Scene.{Name};
 ghost use Rattle.spmd_answer.specs.Due.{Due, IsDueOf, makes_plan};
 ghost use Rattle.spmd_answer.specs.Statuses.{is_due};
-ghost use Rattle.spmd_answer.specs.declared.status.Status.TheVariants.{Done};
+ghost use Rattle.plan_input.specs.declared.status.Status.TheVariants.{Done};
 
 /// What is due for a request has status 0, 1, 2 or 6.
 pub fn four_statuses_are_due()

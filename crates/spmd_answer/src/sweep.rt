@@ -9,23 +9,21 @@ ghost use Rattle.command_words.specs.Sweeps.{are_bounds, sweep_of};
 ghost use Rattle.command_words.specs.Wanted.{swept as wanted_sweep, wanted};
 ghost use Rattle.f77_source.specs.Sources.{setting_of};
 ghost use Rattle.plan_checker.specs.Proved.{first_unfit};
+ghost use Rattle.spmd_answer.specs.Answers.{due_in};
 ghost use Rattle.spmd_answer.specs.Due.{IsDueOn, count_in as values_in, fit_text as text_of_fit, reading_text as text_of_reading, settings_at as with_value, settings_for as all_settings, swept_text, value_line};
 ghost use Rattle.spmd_answer.specs.Inputs.{reading_with, readings_of};
-ghost use Rattle.spmd_answer.specs.Stops.{due_in};
 
-use crate::answer::{answer_in, done};
-use crate::given::plan_in;
+use crate::due::{Answer, done, refusal, told_as};
 use crate::host::Host;
-use crate::program::program_of;
-use crate::refusals::plan_answer;
 use crate::run::joined;
 use crate::source::Behind;
-use crate::status::{Answer, Stop};
 use command_words::{Request, Sweep};
 use f77_lines::MOST_BYTES;
 use f77_source::Setting;
 use nest_tree::Program;
-use plan_checker::{PlanRefusal, Proven, prove};
+use plan_checker::{Proven, prove};
+use plan_input::{Stop, read_inside};
+use plan_text::read_plan;
 use std::alloc::{AllocError, Global};
 use std::thread::Threads;
 
@@ -109,9 +107,9 @@ pub fn swept<R: Threads + Sync, G>(
         → IfOk result (λ a. IsDueOn (wanted_sweep (sweep_of sweep.now) settings)
         (tree_of program.now) (readings_of input.now) input.now.behind.now (due_in a)) }
 {
-    let plan = match plan_in(host.alloc, input.behind) {
+    let plan = match read_plan(host.alloc, input.behind) {
         Ok(plan) => plan,
-        Err(stop) => return answer_in(stop),
+        Err(syntax) => return refusal(host.alloc, Stop::from(syntax)),
     };
     match prove(host.rt, host.alloc, program, &plan) {
         Ok(proven) => {
@@ -122,8 +120,7 @@ pub fn swept<R: Threads + Sync, G>(
             };
             Ok(done(sweeping.lines(host.alloc)?))
         }
-        Err(PlanRefusal::NoMemory) => Err(AllocError),
-        Err(reason) => plan_answer(host.alloc, reason),
+        Err(reason) => refusal(host.alloc, Stop::from(reason)),
     }
 }
 
@@ -192,9 +189,9 @@ fn reading_text(
         ≡ text_of_reading (tree_of proven.now.program.now) proven.now.plan.now
         (reading_with settings.now bytes.now)) }
 {
-    match program_of(alloc, bytes, settings, Behind::SweptPlan) {
+    match read_inside(alloc, bytes, settings, false) {
         Ok((program, _)) => fit_text(alloc, proven, &program),
-        Err(stop) => Ok(answer_in(stop)?.text),
+        Err(stop) => Ok(refusal(alloc, told_as(Behind::SweptPlan, stop))?.text),
     }
 }
 
@@ -208,6 +205,6 @@ fn fit_text(alloc: Global, proven: &Proven, program: &Program) -> Result<Vec<u8>
 {
     match proven.fits(program) {
         Ok(()) => b"ACCEPTED\n".to_vec(alloc),
-        Err(reason) => Ok(plan_answer(alloc, reason)?.text),
+        Err(reason) => Ok(refusal(alloc, Stop::Misfit(reason))?.text),
     }
 }

@@ -13,9 +13,9 @@ use Rattle.spmd_answer.specs.Due as answer
 use Rattle.spmd_answer.specs.Due.{Due, wrong_setting}
 use Rattle.spmd_answer.specs.declared.receipt.Receipt.{Receipt}
 use Rattle.spmd_answer.specs.Receipts.{HasReceiptOf}
-use Rattle.spmd_answer.specs.Stops.{due_in}
-use Rattle.spmd_answer.specs.declared.status.Answer.{Answer}
-use Rattle.spmd_answer.specs.declared.status.Status.TheVariants.{Done}
+use Rattle.spmd_answer.specs.Answers.{due_in}
+use Rattle.spmd_answer.specs.declared.due.Answer.{Answer}
+use Rattle.plan_input.specs.declared.status.Status.TheVariants.{Done}
 use Rattle.spmd_answer.proofs.Benches.{bench_short}
 use Rattle.spmd_tool.specs.declared.answer.Trouble.{Trouble}
 use Rattle.spmd_tool.specs.Due.{HasReceiptFor, IsDueFor, asked, faulty, first_wrong, most_bytes, reads, settings_of, shown, source_for, too_long, wrong_words}

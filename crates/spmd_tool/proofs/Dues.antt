@@ -4,15 +4,19 @@ use Rattle.std.specs.Option.{option_or}
 use Rattle.std.proofs.lemmas.Bool.{cases_Bool}
 use Rattle.std.proofs.lemmas.Bool.Decides.{nat_tests}
 use Rattle.std.specs.List.{list_any}
-use Rattle.nest_tree.specs.Limits.{first_limit}
 use Rattle.nest_tree.specs.Tree.{Tree}
 use Rattle.nest_model.specs.Memory.{output_of}
-use Rattle.f77_lines.specs.Columns.{lines_of}
-use Rattle.f77_lines.specs.Listing.{entries_of, first_behind, first_line_fault, size_to_end}
+use Rattle.f77_lines.specs.Listing.{entries_of}
+use Rattle.f77_program.specs.declared.refusal.Refusal.TheVariants.{BadSetting}
 use Rattle.f77_scene.specs.Fault.{Fault, Refusal, bad_line, bad_setting, bad_statement}
-use Rattle.f77_scene.specs.Reading.{SourceStatement, at_line, fault_from, fault_with, first_fault_in, given_with, program_in, scene_with, statements_in}
+use Rattle.f77_scene.specs.Reading.{SourceStatement, at_line, fault_from, fault_with, first_fault_in, given_with, scene_with, statements_in}
 use Rattle.f77_scene.specs.Scene.{Given as SceneGiven, Name, Scene, first_scene}
-use Rattle.range_check.specs.Outside.{outside_of}
+use Rattle.plan_input.proofs.Firsts.{first_some}
+use Rattle.plan_input.specs.Sources.{behind_end}
+use Rattle.plan_input.specs.Statuses.{status_of}
+use Rattle.plan_input.specs.Stops.{first_stop, stop_of_fault}
+use Rattle.plan_input.specs.declared.stop.Stop.{Stop}
+use Rattle.plan_input.specs.declared.stop.Stop.TheVariants as stops
 use Rattle.clap.specs.Words.{Text, fault_of, subcommand_of}
 use Rattle.clap.specs.declared.error.kind.ErrorKind.{ErrorKind}
 use Rattle.command_words.specs.Rule.{tool_app}
@@ -20,11 +24,11 @@ use Rattle.command_words.specs.Settings.{settings_in}
 use Rattle.command_words.specs.Wanted.{Wanted, sequential, verify, swept, planned, run, bench, Takes, AreFaulty, asks_to_show, has_wrong_sweep, is_shown, wanted_by}
 use Rattle.command_words.specs.declared.request.PlanChoice.TheVariants.{Made, Barrier, Given}
 use Rattle.spmd_answer.specs.Due as answer
-use Rattle.spmd_answer.specs.Due.{Due, IsDueOn, IsFirstOr, IsRefusalFor, IsTextFor, Readings, due_of_name, wrong_sweep, behind_end, behind_of, done, due_of_fault, due_of_lines, due_of_refusal, due_of_rest, due_of_tree, line, makes_plan, plan_refused, unaccepted, written, wrong_setting}
+use Rattle.spmd_answer.specs.Due.{Due, IsDueOn, IsFirstOr, IsRefusalFor, IsTextFor, Readings, behind_of, done, due_for, due_of_refusal, due_of_stop, is_alone, line, makes_plan, setting_stop, plan_refused, unaccepted, written, wrong_setting}
 use Rattle.spmd_answer.specs.declared.source.Behind.{Behind}
 use Rattle.spmd_answer.specs.declared.source.Behind.TheVariants.{Comments, PlanText, SweptPlan}
-use Rattle.spmd_answer.specs.declared.status.Status.{Status}
-use Rattle.spmd_answer.specs.declared.status.Status.TheVariants.{Done, SourceRefused, BadWords, ReadFault, WriteFault, NoMemory, PlanRefused, TooLong}
+use Rattle.plan_input.specs.declared.status.Status.{Status}
+use Rattle.plan_input.specs.declared.status.Status.TheVariants.{Done, SourceRefused, BadWords, ReadFault, WriteFault, NoMemory, PlanRefused, TooLong}
 use Rattle.spmd_answer.proofs.Existence.{first_never, never_none}
 use Rattle.spmd_answer.proofs.Unique.{first_one, one_is_due, one_refused, refused_or_proved, refused_or_taken}
 use Rattle.spmd_answer.proofs.Unique as unique
@@ -52,32 +56,15 @@ shown_or_faulty words e f = let h : true ≡ false = sym e ∙ f.0 in cc
 
 -- ---- the statuses of what is due for a source
 
--- what holds of either
-or_some : (P : Due → Type 0) (a b : Option Due) → IfSome a P → IfSome b P → IfSome (option_or a b) P
-or_some P None b p q = q
-or_some P (Some d) b p q = p
-
-map_some : {A : Type 0} (P : Due → Type 0) (f : A → Due) (o : Option A) → IfSome o (λ x. P (f x)) → IfSome (option_map f o) P
-map_some P f None p = tt
-map_some P f (Some x) p = p
-
-each_some : {A : Type 0} (P : Due → Type 0) (f : A → Due) (o : Option A) → ((x : A) → P (f x)) → IfSome (option_map f o) P
-each_some P f None p = tt
-each_some P f (Some x) p = p x
-
--- what holds of what may not stand behind END
-rest_some : (P : Due → Type 0) (behind : Behind) (bytes : List ℕ) → ((text : List ℕ) → P (record { status = SourceRefused; text = text })) → IfSome (due_of_rest behind bytes) P
-rest_some P Comments bytes p = each_some P _ (first_behind bytes (size_to_end (lines_of bytes))) (λ n. p _)
-rest_some P PlanText bytes p = tt
-rest_some P SweptPlan bytes p = tt
+map_some : (P : Due → Type 0) (behind : Behind) (o : Option Stop) → IfSome o (λ s. P (due_of_stop behind s)) → IfSome (option_map (due_of_stop behind) o) P
+map_some P behind None p = tt
+map_some P behind (Some s) p = p
 
 -- what holds of each refusal of a source, by the statuses that it may have
-refusal_some : (P : Due → Type 0) (behind : Behind) (bytes : List ℕ) (settings : List (Name × ℤ)) → ((text : List ℕ) → P (record { status = SourceRefused; text = text })) → IfSome (first_fault_in (entries_of bytes) settings) (λ r. P (due_of_fault behind r)) → IfSome (due_of_refusal behind bytes settings) P
+refusal_some : (P : Due → Type 0) (behind : Behind) (bytes : List ℕ) (settings : List (Name × ℤ)) → ((text : List ℕ) → P (record { status = SourceRefused; text = text })) → IfSome (first_fault_in (entries_of bytes) settings) (λ r. P (due_of_stop behind (stop_of_fault r))) → IfSome (due_of_refusal behind bytes settings) P
 refusal_some P behind bytes settings p faults =
-    let lines : IfSome (due_of_lines behind bytes) P = or_some P _ _ (each_some P _ (first_line_fault bytes) (λ r. p _)) (rest_some P behind bytes p) in
-    let tree : Tree = program_in (entries_of bytes) settings in
-    let limits : IfSome (due_of_tree tree) P = or_some P _ _ (each_some P _ (first_limit tree) (λ l. p _)) (each_some P _ (outside_of tree) (λ o. p _)) in
-    or_some P _ _ lines (or_some P _ _ (map_some P (due_of_fault behind) (first_fault_in (entries_of bytes) settings) faults) limits)
+    map_some P behind (first_stop (is_alone behind) bytes settings)
+    (first_some (λ s. P (due_of_stop behind s)) (is_alone behind) bytes settings (λ r. p (due_of_stop behind (stops.Line r)).text) faults (λ l. p (due_of_stop behind (stops.Limit l)).text) (λ o. p (due_of_stop behind (stops.Range o)).text))
 
 refuses : Status → Bool
 refuses Done = false
@@ -89,23 +76,23 @@ refuses NoMemory = false
 refuses PlanRefused = false
 refuses TooLong = false
 
-either_status : (P : Status → Type 0) (b : Bool) (x y : Due) → P x.status → P y.status → P (if b then x else y).status
-either_status P true x y p q = p
-either_status P false x y p q = q
+either_status : (P : Status → Type 0) (b : Bool) (s t : Stop) → P (status_of s) → P (status_of t) → P (status_of (if b then s else t))
+either_status P true s t p q = p
+either_status P false s t p q = q
 
-name_refuses : (behind : Behind) (index : ℕ) → refuses (due_of_name behind index).status ≡ true
+setting_refuses : (behind : Behind) (index : ℕ) → refuses (due_for (setting_stop behind index)).status ≡ true
 unfolding refuses
-name_refuses Comments index = refl
-name_refuses PlanText index = refl
-name_refuses SweptPlan index = either_status (λ s. refuses s ≡ true) (index == 1) wrong_sweep (wrong_setting (index - 1)) refl refl
+setting_refuses Comments index = refl
+setting_refuses PlanText index = refl
+setting_refuses SweptPlan index = either_status (λ s. refuses s ≡ true) (index == 1) stops.BadSweep (stops.Statement (BadSetting (index - 1))) refl refl
 
-fault_refuses : (behind : Behind) (r : Refusal) → refuses (due_of_fault behind r).status ≡ true
+fault_refuses : (behind : Behind) (r : Refusal) → refuses (due_of_stop behind (stop_of_fault r)).status ≡ true
 unfolding refuses
 fault_refuses behind (bad_line refusal) = refl
 fault_refuses behind (bad_statement fault n) = refl
-fault_refuses behind (bad_setting index) = name_refuses behind index
+fault_refuses behind (bad_setting index) = setting_refuses behind index
 
-faults_refuse : (behind : Behind) (o : Option Refusal) → IfSome o (λ r. refuses (due_of_fault behind r).status ≡ true)
+faults_refuse : (behind : Behind) (o : Option Refusal) → IfSome o (λ r. refuses (due_of_stop behind (stop_of_fault r)).status ≡ true)
 faults_refuse behind None = tt
 faults_refuse behind (Some r) = fault_refuses behind r
 
@@ -131,7 +118,7 @@ at_some P (Some r) d p e = subst P (let same : r ≡ d = cc in same) p
 -- ---- without settings no status 2 is due
 
 abbrev IsSourceFault : Behind → Refusal → Type 0
-IsSourceFault behind r = (due_of_fault behind r).status ≡ SourceRefused
+IsSourceFault behind r = (due_of_stop behind (stop_of_fault r)).status ≡ SourceRefused
 
 at_line-source : (behind : Behind) (line : ℕ) (o : Option Fault) → IfSome (at_line line o) (IsSourceFault behind)
 at_line-source behind line None = tt
@@ -417,7 +404,7 @@ shown-due words bytes d asks due = one_status words bytes d (record { status = D
 
 -- wrong words have status 2
 wrong-status : (words : List Text) → (wrong_words words).status ≡ BadWords
-wrong-status words = either_status (λ s. s ≡ BadWords) (has_wrong_sweep words) wrong_sweep (wrong_setting 0) refl refl
+wrong-status words = either_status (λ s. s ≡ BadWords) (has_wrong_sweep words) stops.BadSweep stops.BadWords refl refl
 
 -- for wrong words status 2
 pub wrong-due : (words : List Text) (bytes : List ℕ) (d : Due) → AreWrong words → IsDue words bytes d → d.status ≡ BadWords

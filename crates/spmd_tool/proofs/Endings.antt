@@ -7,8 +7,8 @@ use Rattle.command_words.proofs.Counted.{taken_counted}
 use Rattle.spmd_answer.specs.Bench.{bench_source}
 use Rattle.spmd_answer.specs.Due.{Due, is_run}
 use Rattle.spmd_answer.specs.declared.receipt.Receipt.{Receipt}
-use Rattle.spmd_answer.specs.declared.status.Status.{Status}
-use Rattle.spmd_answer.specs.declared.status.Status.TheVariants.{Done, SourceRefused, BadWords, ReadFault, WriteFault, NoMemory, PlanRefused, TooLong}
+use Rattle.plan_input.specs.declared.status.Status.{Status}
+use Rattle.plan_input.specs.declared.status.Status.TheVariants.{Done, SourceRefused, BadWords, ReadFault, WriteFault, NoMemory, PlanRefused, TooLong}
 use Rattle.spmd_answer.proofs.Benches.{bench_short}
 use Rattle.bench_program.proofs.Unrefused.{never_refused}
 use Rattle.spmd_tool.specs.Due.{AreWrong, AskFor, IsDue, IsRunnable, IsUnplanned, ReadFor, asked, faulty, all_settings, is_said, reads, shown, source_for}

@@ -5,8 +5,8 @@ use Rattle.clap.specs.Words.{Text}
 use Rattle.command_words.specs.Wanted.{Takes, Wanted, asks_to_show, bench}
 use Rattle.spmd_answer.specs.Due.{Due, is_run}
 use Rattle.spmd_answer.specs.declared.receipt.Receipt.{Receipt}
-use Rattle.spmd_answer.specs.declared.status.Status.{Status}
-use Rattle.spmd_answer.specs.declared.status.Status.TheVariants.{Done, SourceRefused, BadWords, ReadFault, WriteFault, NoMemory, PlanRefused, TooLong}
+use Rattle.plan_input.specs.declared.status.Status.{Status}
+use Rattle.plan_input.specs.declared.status.Status.TheVariants.{Done, SourceRefused, BadWords, ReadFault, WriteFault, NoMemory, PlanRefused, TooLong}
 use Rattle.spmd_ports.specs.Counts.{Rose}
 use Rattle.whole_streams.specs.Streams.{NoneRose, RoseOneOf, TakesBytes, WhereTold}
 use Rattle.spmd_tool.specs.Due.{AreWrong, AskFor, IsDue, IsOrNoMemory, IsRunnable, IsUnplanned, ReadFor, all_settings, is_said, most_bytes, reads, source_for}

@@ -1,23 +1,26 @@
 -- What is due for a command: the status and the text, from its words and the bytes of the source alone.
-use Rattle.std.specs.Prelude.{ℕ, ℤ, ◌≡◌, ◌≤◌, ◌⊎◌, ⊤, Bool, true, false, List, [], length, codes, Option, Some, None, nat_lt, if◌then◌else◌}
+use Rattle.std.specs.Prelude.{ℕ, ℤ, ◌≡◌, ◌≤◌, ◌⊎◌, ⊤, Bool, true, false, List, [], length, Option, Some, None, nat_lt, if◌then◌else◌}
 use Rattle.std.specs.Option.{option_map, option_or}
 use Rattle.nest_tree.specs.Tree.{Tree}
 use Rattle.f77_lines.specs.Listing.{entries_of}
 use Rattle.f77_scene.specs.Reading.{program_in}
 use Rattle.f77_scene.specs.Scene.{Name}
 use Rattle.sync_plan.specs.declared.plan.Plan.{Plan}
+use Rattle.asked_plan.specs.Plans.{IsTaken}
+use Rattle.plan_input.specs.Sources.{behind_end}
+use Rattle.plan_input.specs.declared.stop.Stop.TheVariants as stops
 use Rattle.clap.specs.Words.{Text}
 use Rattle.command_words.specs.Settings.{first_fault_from, settings_in}
 use Rattle.command_words.specs.Wanted.{Wanted, sequential, verify, swept, planned, run, bench, Takes, AreFaulty, asks_to_show, has_wrong_sweep}
 use Rattle.command_words.specs.declared.request.PlanChoice.TheVariants.{Made, Barrier, Given}
 use Rattle.spmd_answer.specs.Bench.{bench_source}
 use Rattle.spmd_answer.specs.Due as answer
-use Rattle.spmd_answer.specs.Due.{Due, IsFirstOr, Readings, behind_end, behind_of, due_of_refusal, line, readings, settings_for, wrong_setting, wrong_sweep}
-use Rattle.spmd_answer.specs.Given.{IsProvedPlan, IsTakenPlan}
+use Rattle.spmd_answer.specs.Due.{Due, IsFirstOr, Readings, behind_of, due_for, due_of_refusal, readings, settings_for, wrong_setting}
+use Rattle.spmd_answer.specs.Given.{IsProvedPlan}
 use Rattle.spmd_answer.specs.declared.receipt.Receipt.{Receipt}
 use Rattle.spmd_answer.specs.Receipts.{HasReceipt}
-use Rattle.spmd_answer.specs.declared.status.Status.{Status}
-use Rattle.spmd_answer.specs.declared.status.Status.TheVariants.{Done, SourceRefused, BadWords, ReadFault, WriteFault, NoMemory, PlanRefused, TooLong}
+use Rattle.plan_input.specs.declared.status.Status.{Status}
+use Rattle.plan_input.specs.declared.status.Status.TheVariants.{Done, SourceRefused, BadWords, ReadFault, WriteFault, NoMemory, PlanRefused, TooLong}
 
 -- the most bytes of a source
 abbrev pub most_bytes : ℕ
@@ -52,11 +55,11 @@ source_for (bench workers points sweeps) bytes = bench_source points sweeps
 
 -- due with a source of too many bytes
 abbrev pub too_long : Due
-too_long = record { status = TooLong; text = line (codes "TOO LONG") }
+too_long = due_for stops.TooLong
 
 -- due with words that are none that is offered, for a sweep that has not its form, or for anything else
 abbrev pub wrong_words : List Text → Due
-wrong_words words = if has_wrong_sweep words then wrong_sweep else wrong_setting 0
+wrong_words words = due_for (if has_wrong_sweep words then stops.BadSweep else stops.BadWords)
 
 abbrev pub first_wrong : Wanted → Option ℕ
 first_wrong wanted = first_fault_from 1 (settings_of wanted)
@@ -108,13 +111,13 @@ readings_for wanted bytes = readings (settings_in (settings_of wanted)) bytes
 -- behind END stands the text of an accepted plan, with the workers that are asked for, or of one that is proved, where the request takes one from there
 abbrev pub HasPlan : Wanted → Tree → List ℕ → Type 0
 HasPlan (sequential settings) tree bytes = ⊤
-HasPlan (verify settings) tree bytes = (plan : Plan) × IsTakenPlan None tree bytes plan
+HasPlan (verify settings) tree bytes = (plan : Plan) × IsTaken None tree bytes plan
 HasPlan (swept s settings) tree bytes = (plan : Plan) × IsProvedPlan tree bytes plan
 HasPlan (planned workers settings) tree bytes = ⊤
 HasPlan (bench workers points sweeps) tree bytes = ⊤
 HasPlan (run workers Made by settings) tree bytes = ⊤
 HasPlan (run workers Barrier by settings) tree bytes = ⊤
-HasPlan (run workers Given by settings) tree bytes = (plan : Plan) × IsTakenPlan (Some workers) tree bytes plan
+HasPlan (run workers Given by settings) tree bytes = (plan : Plan) × IsTaken (Some workers) tree bytes plan
 
 -- There is the receipt of a run by a plan, where it writes what is due for a request from these bytes of its source, and else none.
 abbrev pub HasReceiptFor : Wanted → List ℕ → Due → Option Receipt → Type 0
@@ -146,14 +149,3 @@ is_said NoMemory = false
 -- the answer is this status, unless memory ran out
 abbrev pub IsOrNoMemory : Status → Status → Type 0
 IsOrNoMemory status answer = (answer ≡ status) ⊎ (answer ≡ NoMemory)
-
--- the number of a status, with which the process ends
-abbrev pub code_of : Status → ℕ
-code_of Done = 0
-code_of SourceRefused = 1
-code_of BadWords = 2
-code_of ReadFault = 3
-code_of WriteFault = 4
-code_of NoMemory = 5
-code_of PlanRefused = 6
-code_of TooLong = 7

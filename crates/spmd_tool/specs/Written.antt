@@ -3,10 +3,11 @@ use Rattle.std.specs.Prelude.{ℕ, ◌≡◌, List, Option, Some, None}
 use Rattle.std.specs.Io.KnownBytes.{Appends}
 use Rattle.clap.specs.Words.{Text}
 use Rattle.command_words.specs.Wanted.{Takes, Wanted}
-use Rattle.spmd_answer.specs.Due.{Due, IsRefusalFor, IsTextFor, behind_end, line}
+use Rattle.plan_input.specs.Sources.{behind_end}
+use Rattle.spmd_answer.specs.Due.{Due, IsRefusalFor, IsTextFor, line}
 use Rattle.spmd_answer.specs.declared.receipt.Receipt.{Receipt}
 use Rattle.spmd_answer.specs.Receipts.{IsReceiptOf}
-use Rattle.spmd_answer.specs.declared.status.Status.{Status}
+use Rattle.plan_input.specs.declared.status.Status.{Status}
 use Rattle.spmd_tool.specs.Due.{HasReceiptFor, IsDue, IsDueFor, IsRunnable, IsUnplanned, program_for, readings_for, source_for}
 use Rattle.whole_streams.specs.Streams.{AreTold, WritesPart}
 

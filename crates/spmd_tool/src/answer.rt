@@ -5,17 +5,17 @@ ghost use Rattle.std.specs.Io.KnownBytes.{IsAtEnd};
 ghost use Rattle.clap.specs.Walk.{texts};
 ghost use Rattle.command_words.specs.Wanted.{Wanted, wanted, IsCounted};
 ghost use Rattle.spmd_ports.specs.Counts.{Rose};
-ghost use Rattle.spmd_answer.specs.Due as due;
-ghost use Rattle.spmd_answer.specs.Stops.{due_in};
-ghost use Rattle.spmd_tool.specs.Due.{ReadFor, first_wrong, is_said, most_bytes, reads, settings_of, source_for, too_long as due_too_long};
+ghost use Rattle.spmd_answer.specs.Answers.{due_in};
+ghost use Rattle.spmd_tool.specs.Due.{ReadFor, first_wrong, is_said, most_bytes, reads, settings_of, source_for};
 ghost use Rattle.whole_streams.specs.Streams.{AreTold, TakesBytes};
 ghost use Rattle.spmd_tool.specs.Written.{IsAnswerFrom, IsAnswerOf};
 ghost use Rattle.spmd_tool.specs.declared.answer.Trouble.TheVariants as trouble;
 
 use clap::Error;
 use command_words::{Refused, Request, SettingFault, read_settings, read_words};
-use spmd_answer::refusals::{setting_answer, sweep_answer};
-use spmd_answer::{Answer, Host, Receipt, Status, answer_to, bench_source};
+use f77_program::Refusal;
+use plan_input::{Status, Stop};
+use spmd_answer::{Answer, Host, Receipt, answer_to, bench_source, refusal};
 use spmd_ports::{Gate, Source};
 use std::alloc::{AllocError, Global};
 use std::fmt::Write;
@@ -64,8 +64,8 @@ pub fn answer_in<R: Threads + Sync, S: Source, G: Gate + Sync>(
     match read_words(alloc, words) {
         Ok(request) => answer_for(host, &request, source),
         Err(Refused::Shown(error)) => Ok((shown(alloc, &error)?, None)),
-        Err(Refused::Faulty) => Ok((setting_answer(alloc, 0)?, None)),
-        Err(Refused::WrongSweep) => Ok((sweep_answer(alloc)?, None)),
+        Err(Refused::Faulty) => Ok((refusal(alloc, Stop::BadWords)?, None)),
+        Err(Refused::WrongSweep) => Ok((refusal(alloc, Stop::BadSweep)?, None)),
         Err(Refused::NoMemory) => Err(Trouble::NoMemory),
     }
 }
@@ -96,12 +96,15 @@ fn answer_for<R: Threads + Sync, S: Source, G: Gate + Sync>(
     let alloc = host.alloc;
     let settings = match read_settings(alloc, settings_in(request)) {
         Ok(settings) => settings,
-        Err(SettingFault::Word(index)) => return Ok((setting_answer(alloc, index)?, None)),
+        Err(SettingFault::Word(index)) => {
+            let stop = Stop::Statement(Refusal::BadSetting(index));
+            return Ok((refusal(alloc, stop)?, None));
+        }
         Err(SettingFault::NoMemory) => return Err(Trouble::NoMemory),
     };
     match source_of(alloc, request, source) {
         Ok(bytes) => Ok(answer_to(host, request, &settings, &bytes)?),
-        Err(ReadTrouble::TooLong) => Ok((too_long(alloc)?, None)),
+        Err(ReadTrouble::TooLong) => Ok((refusal(alloc, Stop::TooLong)?, None)),
         Err(ReadTrouble::Fault) => Err(Trouble::ReadFault),
         Err(ReadTrouble::NoMemory) => Err(Trouble::NoMemory),
     }
@@ -155,14 +158,5 @@ fn shown(alloc: Global, error: &Error) -> Result<Answer, AllocError>
     Ok(Answer {
         status: Status::Done,
         text: text.into_bytes(),
-    })
-}
-
-fn too_long(alloc: Global) -> Result<Answer, AllocError>
-    ensures { IfOk result (λ a. due_in a ≡ due_too_long) }
-{
-    Ok(Answer {
-        status: Status::TooLong,
-        text: b"TOO LONG\n".to_vec(alloc)?,
     })
 }

@@ -5,7 +5,7 @@ ghost use Rattle.clap.specs.Words.{Text};
 ghost use Rattle.command_words.specs.Wanted.{Takes, Wanted, asks_to_show};
 ghost use Rattle.spmd_answer.specs.Due.{Due, behind_of};
 ghost use Rattle.spmd_answer.specs.declared.source.Behind.TheVariants.{Comments};
-ghost use Rattle.spmd_answer.specs.declared.status.Status.TheVariants.{Done};
+ghost use Rattle.plan_input.specs.declared.status.Status.TheVariants.{Done};
 ghost use Rattle.spmd_tool.specs.Due.{IsDue, MakeNoPlan};
 
 /// For words and bytes one status is due; and one text with it where that isn't 0, or where no plan

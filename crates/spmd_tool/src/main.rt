@@ -8,14 +8,13 @@
 
 ghost use Rattle.std.specs.Prelude.{◌≡◌, map, string_bytes, IfOk};
 ghost use Rattle.clap.specs.Walk.{texts};
-ghost use Rattle.spmd_tool.specs.Due.{code_of};
 
 mod answer;
 mod laws;
 mod tool;
 
 use crate::tool::tool;
-use spmd_answer::Status;
+use plan_input::Status;
 use spmd_ports::{NoGate, StdSink, StdSource};
 use std::alloc::{AllocError, Global};
 use std::io::ErrorKind;
@@ -26,7 +25,7 @@ fn main(rt: HostRuntime) -> ExitCode {
     let words = match words_of(&rt) {
         Ok(words) => words,
         Err(e) if e.kind() == ErrorKind::OutOfMemory => {
-            return ExitCode::from(number_of(Status::NoMemory));
+            return ExitCode::from(Status::NoMemory.code());
         }
         // words that aren't text are none that the tool takes
         Err(_) => Vec::new(rt.alloc()),
@@ -40,7 +39,7 @@ fn main(rt: HostRuntime) -> ExitCode {
         }
         Err(_) => Status::NoMemory,
     };
-    ExitCode::from(number_of(status))
+    ExitCode::from(status.code())
 }
 
 // The words behind the program's name.
@@ -61,20 +60,4 @@ fn texts_of(alloc: Global, words: &[String]) -> Result<Vec<&str>, AllocError>
         refs.push(word.as_str())?;
     }
     Ok(refs)
-}
-
-// The number with which the process ends.
-fn number_of(status: Status) -> u8
-    ensures { result ≡ code_of status }
-{
-    match status {
-        Status::Done => 0,
-        Status::SourceRefused => 1,
-        Status::BadWords => 2,
-        Status::ReadFault => 3,
-        Status::WriteFault => 4,
-        Status::NoMemory => 5,
-        Status::PlanRefused => 6,
-        Status::TooLong => 7,
-    }
 }

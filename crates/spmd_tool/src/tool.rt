@@ -12,7 +12,8 @@ ghost use Rattle.whole_streams.specs.Streams.{TakesBytes, WhereTold, WritesPart,
 ghost use Rattle.spmd_tool.specs.Written.{WritesDue, WritesPartOfDue, WritesReceipt, WritesRefusal, WritesRun};
 
 use crate::answer::{Trouble, answer_in};
-use spmd_answer::{Host, Receipt, Status};
+use plan_input::Status;
+use spmd_answer::{Host, Receipt};
 use spmd_ports::{Failed, Gate, Sink, Source};
 use std::alloc::Global;
 use std::thread::Threads;

@@ -5,7 +5,7 @@ use Rattle.command_words.specs.Wanted.{wanted}
 use Rattle.command_words.specs.declared.request.Request.{Request}
 use Rattle.spmd_answer.specs.Due.{IsDueOn}
 use Rattle.spmd_answer.specs.Inputs.{readings_of}
-use Rattle.spmd_answer.specs.Stops.{due_in}
+use Rattle.spmd_answer.specs.Answers.{due_in}
 use Rattle.spmd_answer.proofs.answer.answer_on.Goals as goal
 
 pub returns-in_ok-swept-in-Sweep-clause-due : goal.returns-in_ok-swept-in-Sweep-clause-due

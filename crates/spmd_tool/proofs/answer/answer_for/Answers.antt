@@ -8,7 +8,7 @@ use Rattle.spmd_tool.proofs.answer.answer_for.Goals as goal
 pub returns-in-Err-Word-clause-due : goal.returns-in-Err-Word-clause-due
 returns-in-Err-Word-clause-due g c =
     wrong-of (wanted c.args.request.now) _ (texts c.settings_in.result.now) c.in-Err-Word.index _ c.settings_in.ensures
-    (rw c.in-Err-Word.field-0-is at c.in-Err-Word.ensures.refused) c.in_ok-setting_answer-in-Err-Word.ensures
+    (rw c.in-Err-Word.field-0-is at c.in-Err-Word.ensures.refused) c.in_ok-refusal-in-Err-Word.ensures.1
 
 pub returns-in-Ok-source_of-clause-due : goal.returns-in-Ok-source_of-clause-due
 returns-in-Ok-source_of-clause-due g c =
@@ -20,4 +20,4 @@ returns-in-Ok-source_of-clause-due g c =
 pub returns-in-Err-TooLong-clause-due : goal.returns-in-Err-TooLong-clause-due
 returns-in-Err-TooLong-clause-due g c =
     long-of (wanted c.args.request.now) _ _ (texts c.settings_in.result.now) _ c.settings_in.ensures c.in-Ok.ensures.read.0
-    (c.in-Err-TooLong.ensures.long (ap Err c.in-Err-TooLong.field-0-is)) c.in_ok-too_long-in-Err-TooLong.ensures
+    (c.in-Err-TooLong.ensures.long (ap Err c.in-Err-TooLong.field-0-is)) c.in_ok-refusal-in-Err-TooLong.ensures.1

@@ -1,7 +1,8 @@
 use Rattle.std.proofs.Common.{◌∙◌, ap, sym, if◌then◌else◌}
 use Rattle.clap.specs.Walk.{texts}
 use Rattle.command_words.specs.Wanted.{wanted}
-use Rattle.spmd_answer.specs.Due.{wrong_setting, wrong_sweep}
+use Rattle.plan_input.specs.declared.stop.Stop.TheVariants.{BadSweep, BadWords}
+use Rattle.spmd_answer.specs.Due.{due_for}
 use Rattle.spmd_tool.proofs.Answering.{from-asked, from-faulty, from-shown}
 use Rattle.spmd_tool.proofs.answer.answer_in.Goals as goal
 
@@ -13,12 +14,12 @@ pub returns-in_ok-shown-in-Err-Shown-clause-due : goal.returns-in_ok-shown-in-Er
 returns-in_ok-shown-in-Err-Shown-clause-due g c =
     from-shown (texts c.args.words.now) _ _ (rw c.in-Err-Shown.field-0-is at c.in-Err-Shown.ensures.refused) c.in_ok-shown-in-Err-Shown.ensures
 
-pub returns-in_ok-setting_answer-in-Err-Faulty-clause-due : goal.returns-in_ok-setting_answer-in-Err-Faulty-clause-due
-returns-in_ok-setting_answer-in-Err-Faulty-clause-due g c =
+pub returns-in_ok-refusal-in-Err-Faulty-clause-due : goal.returns-in_ok-refusal-in-Err-Faulty-clause-due
+returns-in_ok-refusal-in-Err-Faulty-clause-due g c =
     let refused = rw c.in-Err-Faulty.field-0-is at c.in-Err-Faulty.ensures.refused in
-    from-faulty (texts c.args.words.now) _ _ refused.0 (c.in_ok-setting_answer-in-Err-Faulty.ensures ∙ ap (λ b. if b then wrong_sweep else wrong_setting 0) (sym refused.1))
+    from-faulty (texts c.args.words.now) _ _ refused.0 (c.in_ok-refusal-in-Err-Faulty.ensures.1 ∙ ap (λ b. due_for (if b then BadSweep else BadWords)) (sym refused.1))
 
-pub returns-in_ok-sweep_answer-in-Err-WrongSweep-clause-due : goal.returns-in_ok-sweep_answer-in-Err-WrongSweep-clause-due
-returns-in_ok-sweep_answer-in-Err-WrongSweep-clause-due g c =
+pub returns-in_ok-refusal-in-Err-WrongSweep-clause-due : goal.returns-in_ok-refusal-in-Err-WrongSweep-clause-due
+returns-in_ok-refusal-in-Err-WrongSweep-clause-due g c =
     let refused = rw c.in-Err-WrongSweep.field-0-is at c.in-Err-WrongSweep.ensures.refused in
-    from-faulty (texts c.args.words.now) _ _ refused.0 (c.in_ok-sweep_answer-in-Err-WrongSweep.ensures ∙ ap (λ b. if b then wrong_sweep else wrong_setting 0) (sym refused.1))
+    from-faulty (texts c.args.words.now) _ _ refused.0 (c.in_ok-refusal-in-Err-WrongSweep.ensures.1 ∙ ap (λ b. due_for (if b then BadSweep else BadWords)) (sym refused.1))

@@ -1,8 +1,8 @@
 use Rattle.std.proofs.Common.{◌≡◌, inl, sym, subst, ◌⊎◌, ⊎_elim, ◌∙◌}
 use Rattle.clap.specs.Walk.{texts}
-use Rattle.spmd_answer.specs.Stops.{due_in}
-use Rattle.spmd_answer.specs.declared.status.Status.{Status}
-use Rattle.spmd_answer.specs.declared.status.Status.TheVariants.{Done, NoMemory, PlanRefused, SourceRefused, WriteFault}
+use Rattle.spmd_answer.specs.Answers.{due_in}
+use Rattle.plan_input.specs.declared.status.Status.{Status}
+use Rattle.plan_input.specs.declared.status.Status.TheVariants.{Done, NoMemory, PlanRefused, SourceRefused, WriteFault}
 use Rattle.spmd_tool.specs.Due.{IsOrNoMemory}
 use Rattle.whole_streams.specs.Streams.{WritesPart}
 use Rattle.spmd_tool.specs.Written.{WritesReceipt}
