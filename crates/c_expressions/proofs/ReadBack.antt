@@ -7,6 +7,8 @@ use Rattle.std.specs.Str.Parse.{digits_value}
 use Rattle.std.proofs.lemmas.Bool.{and_parts, le-leb, leb-true, lt-leb, ne_eqb}
 use Rattle.std.proofs.lemmas.Fmt.{decimal_by_steps, decimal_is_IsNumeral, decimal_nonempty}
 use Rattle.std.proofs.lemmas.List.Folds.{list_all-append}
+use Rattle.list_lemmas.proofs.Tests.{or_left_true}
+use Rattle.list_lemmas.proofs.Appending.{append_assoc_four, append_assoc_five}
 use Rattle.c_expressions.specs.CExpressions.{CExpression, constant, identifier, element, call, as_number, minus, times, plus, less, CArguments, only, first_of}
 use Rattle.c_expressions.specs.Grammar.{Rank, Reads, ReadsAll, in_parentheses, is_call, is_cast, is_constant, is_difference, is_digit, is_element, is_first, is_identifier, is_letter, is_minus, is_name, is_name_byte, is_only, is_postfix, is_product, is_sum, is_term, is_unary, is_variable, postfix, product, sum, unary}
 use Rattle.c_expressions.specs.Reader.{Bracket, Current, Level, Prefix, State, anywhere, arguments_of, at, atom, called, class_of, closed, fresh, is_type, nothing, of_word, other_class, plain, prefixed, product_with, read, round, run, sign, sum_with, taken_back, value_of, whole, word}
@@ -18,12 +20,6 @@ st outer level c = record { outer = outer; level = level; current = c; mode = pl
 
 abbrev lev : Option (CExpression × Bool) → Option CExpression → List Prefix → Level
 lev m q ps = record { sums = m; product = q; prefixes = ps }
-
-four : (a b c d : List ℕ) → ((a ++ b) ++ c) ++ d ≡ a ++ (b ++ (c ++ d))
-four a b c d = simp append_assoc
-
-five : (a b c d e : List ℕ) → (((a ++ b) ++ c) ++ d) ++ e ≡ a ++ (b ++ (c ++ (d ++ e)))
-five a b c d e = simp append_assoc
 
 -- ---- words
 
@@ -44,12 +40,9 @@ run_bytes (b ∷ w) outer level rest all some =
     let parts = and_parts (is_name_byte b) (list_all is_name_byte w) all in
     ap (λ k. run (w ++ rest) (anywhere k (st outer level nothing) b)) (class_of-word b parts.0) ∙ run_word w outer level (b ∷ []) rest parts.1
 
-or_left : (a b : Bool) → a ≡ true → (a || b) ≡ true
-or_left a b e = ap (λ x. x || b) e
-
 name_all : (name : List ℕ) → IsTrue (is_name name) → list_all is_name_byte name ≡ true
 name_all [] e = cc
-name_all (b ∷ w) e = let parts = and_parts (is_letter b) (list_all is_name_byte w) e in ap₂ (λ x y. x && y) (or_left (is_letter b) (is_digit b) parts.0) parts.1
+name_all (b ∷ w) e = let parts = and_parts (is_letter b) (list_all is_name_byte w) e in ap₂ (λ x y. x && y) (or_left_true (is_letter b) (is_digit b) parts.0) parts.1
 
 name_some : (name : List ℕ) → IsTrue (is_name name) → 0 < length name
 name_some [] e = cc
@@ -178,7 +171,7 @@ element_lands array t a good s = record {
   value = refl;
   other = refl;
   runs = λ outer level rest.
-      ap (λ x. run x (st outer level nothing)) (five array (codes "[") t (codes "]") rest)
+      ap (λ x. run x (st outer level nothing)) (append_assoc_five array (codes "[") t (codes "]") rest)
       ∙ run_name array outer level (codes "[" ++ (t ++ (codes "]" ++ rest))) good
       ∙ s.runs ((at array, level) ∷ outer) (codes "]" ++ rest)
       ∙ ap (λ x. run rest (closed ((at array, level) ∷ outer) x)) s.value;
@@ -190,7 +183,7 @@ call_lands function t arguments good s = record {
   value = refl;
   other = refl;
   runs = λ outer level rest.
-      ap (λ x. run x (st outer level nothing)) (five function (codes "(") t (codes ")") rest)
+      ap (λ x. run x (st outer level nothing)) (append_assoc_five function (codes "(") t (codes ")") rest)
       ∙ run_name function outer level (codes "(" ++ (t ++ (codes ")" ++ rest))) good
       ∙ s.runs outer function [] level (codes ")" ++ rest)
       ∙ ap (λ x. run rest (st outer level (whole (call function x)))) s.value;
@@ -237,7 +230,7 @@ product_lands t more a b p u = record {
   value = ap (times a) u.value;
   other = refl;
   runs = λ outer m rest.
-      ap (λ x. run x (st outer (lev m None []) nothing)) (four t (codes "*") more rest)
+      ap (λ x. run x (st outer (lev m None []) nothing)) (append_assoc_four t (codes "*") more rest)
       ∙ p.runs outer m (codes "*" ++ (more ++ rest))
       ∙ ap (λ x. run (more ++ rest) (st outer (lev m (Some x) []) nothing)) p.value
       ∙ u.runs outer m (Some a) [] rest
@@ -256,7 +249,7 @@ sum_lands t more a b s p = record {
   value = ap (plus a) p.value;
   other = refl;
   runs = λ outer rest.
-      ap (λ x. run x (st outer fresh nothing)) (four t (codes " + ") more rest)
+      ap (λ x. run x (st outer fresh nothing)) (append_assoc_four t (codes " + ") more rest)
       ∙ s.runs outer (codes " + " ++ (more ++ rest))
       ∙ ap (λ x. run (more ++ rest) (st outer (lev (Some (x, true)) None []) nothing)) s.value
       ∙ p.runs outer (Some (a, true)) rest;
@@ -271,7 +264,7 @@ difference_lands t more a b s p = record {
   value = ap (less a) p.value;
   other = refl;
   runs = λ outer rest.
-      ap (λ x. run x (st outer fresh nothing)) (four t (codes " - ") more rest)
+      ap (λ x. run x (st outer fresh nothing)) (append_assoc_four t (codes " - ") more rest)
       ∙ s.runs outer (codes " - " ++ (more ++ rest))
       ∙ ap (λ x. run (more ++ rest) (st outer (lev (Some (x, false)) None []) nothing)) s.value
       ∙ p.runs outer (Some (a, false)) rest;
@@ -301,7 +294,7 @@ first_lands t more a arguments s all = record {
   more = a ∷ all.more;
   value = ap (first_of a) all.value;
   runs = λ outer function before level rest.
-      ap (λ x. run x (st ((called function before, level) ∷ outer) fresh nothing)) (four t (codes ", ") more rest)
+      ap (λ x. run x (st ((called function before, level) ∷ outer) fresh nothing)) (append_assoc_four t (codes ", ") more rest)
       ∙ s.runs ((called function before, level) ∷ outer) (codes ", " ++ (more ++ rest))
       ∙ ap (λ x. run (more ++ rest) (st ((called function (before ++ x ∷ []), level) ∷ outer) fresh nothing)) s.value
       ∙ all.runs outer function (before ++ a ∷ []) level rest

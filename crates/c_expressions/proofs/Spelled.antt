@@ -1,23 +1,20 @@
 -- Names are spelled as names.
-use Rattle.std.proofs.Common.{◌≡◌, ℕ, zero, suc, ◌+◌, ◌-◌, ◌<◌, ◌/◌, ◌%◌, ◌==◌, Bool, true, false, ◌&&◌, ◌||◌, nat_le, IsTrue, List, [], ◌∷◌, map, refl, ap, ap₂, ◌∙◌, arith, Option, Some, None, slice_get, if◌then◌else◌}
+use Rattle.std.proofs.Common.{◌≡◌, ℕ, zero, suc, ◌+◌, ◌-◌, ◌<◌, ◌/◌, ◌%◌, ◌==◌, Bool, true, false, ◌&&◌, nat_le, IsTrue, List, [], ◌∷◌, map, refl, ap, ap₂, ◌∙◌, arith, Option, Some, None, slice_get, if◌then◌else◌}
 use Rattle.std.specs.Fmt.{decimal, digit_glyph, digits, digits_onto}
 use Rattle.std.specs.List.{list_all}
 use Rattle.std.proofs.lemmas.Bool.{le-leb, lt-ltb}
+use Rattle.list_lemmas.proofs.Tests.{or_right_true}
 use Rattle.nest_tree.specs.Tree.{Declaration, Tree}
 use Rattle.c_expressions.specs.Grammar.{is_digit, is_letter, is_name, is_name_byte, is_variable}
 use Rattle.c_expressions.specs.Names.{cleaned, loop_name, name_in, own_cell, shared_cell, term_name}
 use Rattle.c_expressions.specs.declared.sum.Term.{Term}
 use Rattle.c_expressions.specs.declared.sum.Term.TheVariants.{Loop, Last, Processor}
 
-or_right : (a b : Bool) → b ≡ true → (a || b) ≡ true
-or_right true b e = refl
-or_right false b e = e
-
 digit_byte : (d : ℕ) → d < 10 → is_name_byte (48 + d) ≡ true
 digit_byte d lt =
     let low : nat_le 48 (48 + d) ≡ true = le-leb 48 (48 + d) (omega arith) in
     let high : nat_le (48 + d) 57 ≡ true = le-leb (48 + d) 57 (omega arith) in
-    or_right (is_letter (48 + d)) (is_digit (48 + d)) (ap₂ (λ a b. a && b) low high)
+    or_right_true (is_letter (48 + d)) (is_digit (48 + d)) (ap₂ (λ a b. a && b) low high)
 
 glyph_byte : (d : ℕ) → d < 10 → is_name_byte (digit_glyph false d) ≡ true
 glyph_byte d lt = ap (λ b. is_name_byte (if b then 48 + d else 87 + d)) (lt-ltb d 10 lt) ∙ digit_byte d lt

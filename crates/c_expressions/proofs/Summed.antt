@@ -3,7 +3,7 @@ use Rattle.std.proofs.Common.{◌≡◌, ℕ, zero, suc, ◌+◌, ◌<◌, ℤ, 
 use Rattle.std.proofs.Math.Seq.{drop-cons}
 use Rattle.std.proofs.lemmas.Int.{ints, int_wrap-add_left, int_wrap-add_right, int_wrap-mul_left, int_wrap_fits}
 use Rattle.std.proofs.Math.IntN.{*ℤ_comm, *ℤ-zero}
-use Rattle.nest_walk.proofs.Products.{add-mul, mul-add, mul_assoc_ℤ}
+use Rattle.list_lemmas.proofs.Integers.{add-mul, mul-add, mul_assoc_ℤ}
 use Rattle.nest_tree.specs.Form.{Form, dot, numbered}
 use Rattle.nest_tree.specs.Values.{wrapped}
 use Rattle.c_expressions.specs.Names.{loop_name, term_name}
@@ -169,7 +169,7 @@ sums_same s f g e u = record {
 
 -- ---- pairs, from one on
 
-spread : (t c x r : ℤ) → t *ℤ (c *ℤ x +ℤ r) ≡ c *ℤ t *ℤ x +ℤ t *ℤ r
+pub spread : (t c x r : ℤ) → t *ℤ (c *ℤ x +ℤ r) ≡ c *ℤ t *ℤ x +ℤ t *ℤ r
 spread t c x r =
     let whole = mul-add t (c *ℤ x) r in
     let turned : t *ℤ (c *ℤ x) ≡ c *ℤ t *ℤ x = sym (mul_assoc_ℤ t c x) ∙ ap (λ y. y *ℤ x) (*ℤ_comm t c) in

@@ -1,7 +1,8 @@
 -- What is appended for a value, part by part.
-use Rattle.std.proofs.Common.{◌≡◌, ℕ, zero, suc, ◌+◌, ◌<◌, ℤ, pos, true, false, IsTrue, List, [], ◌∷◌, ◌++◌, codes, length, map, slice_get, slice_index_or, Some, None, get_or, take, refl, ap, sym, ◌∙◌, subst, arith, append_assoc, append-nil, take_all, ◌≤◌, add-one, if◌then◌else◌}
+use Rattle.std.proofs.Common.{◌≡◌, ℕ, zero, suc, ◌+◌, ◌<◌, ℤ, pos, true, false, IsTrue, List, [], ◌∷◌, ◌++◌, codes, length, map, slice_get, slice_index_or, Some, None, get_or, take, refl, ap, sym, ◌∙◌, subst, arith, append_assoc, append-nil, if◌then◌else◌}
 use Rattle.std.proofs.lemmas.Fmt.{decimal_digit}
 use Rattle.std.proofs.lemmas.List.{take_more}
+use Rattle.list_lemmas.proofs.Appending.{take-cons}
 use Rattle.nest_tree.specs.Form.{numbered}
 use Rattle.nest_tree.specs.Layout.{bounds_at, bounds_of}
 use Rattle.nest_tree.specs.Tree.{Expression, Expressions, number, loop_value, param, load, neg, add, sub, mul, div, least_of, greatest_of, one_more, Constant, Tree, param_values}
@@ -58,17 +59,14 @@ from_unary Factor old new a x = x
 
 -- ---- two operands
 
-joined : (old m n new x y z : List ℕ) → m ≡ old ++ x → n ≡ m ++ y → new ≡ n ++ z → new ≡ old ++ ((x ++ y) ++ z)
-joined old m n new x y z e f g = between old m n new x y z e f g
-
 sum_appends : (old m n new : List ℕ) (a b : CExpression) → Appends old m sum a → n ≡ m ++ codes " + " → Appends n new product b → Appends old new sum (plus a b)
-sum_appends old m n new a b x e y = record { text = (x.text ++ codes " + ") ++ y.text; appended = joined old m n new x.text (codes " + ") y.text x.appended e y.appended; reads = is_sum x.reads y.reads }
+sum_appends old m n new a b x e y = record { text = (x.text ++ codes " + ") ++ y.text; appended = between old m n new x.text (codes " + ") y.text x.appended e y.appended; reads = is_sum x.reads y.reads }
 
 difference_appends : (old m n new : List ℕ) (a b : CExpression) → Appends old m sum a → n ≡ m ++ codes " - " → Appends n new product b → Appends old new sum (less a b)
-difference_appends old m n new a b x e y = record { text = (x.text ++ codes " - ") ++ y.text; appended = joined old m n new x.text (codes " - ") y.text x.appended e y.appended; reads = is_difference x.reads y.reads }
+difference_appends old m n new a b x e y = record { text = (x.text ++ codes " - ") ++ y.text; appended = between old m n new x.text (codes " - ") y.text x.appended e y.appended; reads = is_difference x.reads y.reads }
 
 product_appends : (old m n new : List ℕ) (a b : CExpression) → Appends old m product a → n ≡ m ++ codes "*" → Appends n new unary b → Appends old new product (times a b)
-product_appends old m n new a b x e y = record { text = (x.text ++ codes "*") ++ y.text; appended = joined old m n new x.text (codes "*") y.text x.appended e y.appended; reads = is_product x.reads y.reads }
+product_appends old m n new a b x e y = record { text = (x.text ++ codes "*") ++ y.text; appended = between old m n new x.text (codes "*") y.text x.appended e y.appended; reads = is_product x.reads y.reads }
 
 zero_appends : (old m : List ℕ) → m ≡ old ++ codes "0 - " → (new : List ℕ) (b : CExpression) → Appends m new product b → Appends old new sum (less (constant 0) b)
 zero_appends old m e new b y = record {
@@ -107,20 +105,13 @@ expressions_from-more : (es : List Expr) (e : Expr) → expressions_from (es ++ 
 expressions_from-more [] e = refl
 expressions_from-more (x ∷ es) e = ap (one_more (expression_of x)) (expressions_from-more es e)
 
--- the first so many arguments
-taken : (xs rest : List Expr) (first : Expr) (i : ℕ) → xs ≡ first ∷ rest → take (i + 1) xs ≡ first ∷ take i rest
-taken xs rest first i is = ap (take (i + 1)) is ∙ ap (λ n. take n (first ∷ rest)) (add-one i)
-
 pub taken_first : (xs rest : List Expr) (first : Expr) → xs ≡ first ∷ rest → take 1 xs ≡ first ∷ []
 taken_first xs rest first is = ap (take 1) is
 
 pub taken_more : (xs rest : List Expr) (first e : Expr) (i : ℕ) → xs ≡ first ∷ rest → i < length rest → e ≡ get_or rest i e → take (i + 1) xs ++ e ∷ [] ≡ take (i + 1 + 1) xs
 taken_more xs rest first e i is lt at =
-    ap (λ ys. ys ++ e ∷ []) (taken xs rest first i is)
-    ∙ sym (taken xs rest first (i + 1) is ∙ ap (λ es. first ∷ es) (take_more rest i e lt ∙ ap (λ x. take i rest ++ x ∷ []) (sym at)))
-
-pub taken_all : (xs rest : List Expr) (first : Expr) (i : ℕ) → xs ≡ first ∷ rest → length rest ≤ i → take (i + 1) xs ≡ xs
-taken_all xs rest first i is le = taken xs rest first i is ∙ ap (λ es. first ∷ es) (take_all i rest le) ∙ sym is
+    ap (λ ys. ys ++ e ∷ []) (take-cons xs rest first i is)
+    ∙ sym (take-cons xs rest first (i + 1) is ∙ ap (λ es. first ∷ es) (take_more rest i e lt ∙ ap (λ x. take i rest ++ x ∷ []) (sym at)))
 
 -- the bounds of a variable, and the value of a named constant
 pub bounds_found : (vs : List Variable) (k : ℕ) (v : Variable) → slice_get vs k ≡ Some v → bounds_at (map declaration_of vs) k ≡ v.bounds.items

@@ -3,7 +3,7 @@ use Rattle.std.proofs.Common.{◌≡◌, ℕ, ◌+◌, ◌-◌, ◌*◌, ◌/◌
 use Rattle.std.specs.Int.{int_rem_euclid}
 use Rattle.std.proofs.Math.IntN.{*ℤ_comm}
 use Rattle.std.proofs.lemmas.Int.{ints}
-use Rattle.nest_walk.proofs.Products.{add-mul, mul_assoc_ℤ}
+use Rattle.list_lemmas.proofs.Integers.{add-mul, mul_assoc_ℤ}
 use Rattle.c_expressions.specs.Sums.{Adds, IsPlain, SumsUp, Values, terms_at, total}
 use Rattle.c_expressions.specs.declared.sum.Sum.{Sum}
 use Rattle.c_expressions.specs.declared.sum.Term.{Term}

@@ -5,8 +5,7 @@ use Rattle.std.specs.List.{All}
 use Rattle.std.proofs.Math.IntN.{*ℤ_comm, *ℤ-zero}
 use Rattle.std.proofs.Math.Seq.{drop-cons}
 use Rattle.std.proofs.lemmas.Int.{ints}
-use Rattle.nest_walk.proofs.Products.{mul-add, mul_assoc_ℤ}
-use Rattle.nest_tree.specs.Form.{Form, dot, numbered}
+use Rattle.nest_tree.specs.Form.{Form}
 use Rattle.nest_tree.specs.Tree.{Tree}
 use Rattle.owner_partition.specs.declared.anchor.Dist.TheVariants.{Block, Cyclic}
 use Rattle.owner_partition.specs.Owners.{dealt}
@@ -17,14 +16,9 @@ use Rattle.c_expressions.specs.Numbers.{literal_of}
 use Rattle.c_expressions.specs.Sums.{AppendsSum, IsPlain, SumsUp, Values, terms_at, total}
 use Rattle.c_expressions.specs.declared.sum.Sum.{Sum}
 use Rattle.c_expressions.specs.declared.sum.Term.{Term}
+use Rattle.c_expressions.proofs.Summed.{spread}
 use Rattle.c_statements.specs.Texts.{Written}
 use Rattle.c_owners.specs.Owners.{Alike, SpotOwner, SumsUpAlike, block_number, block_owner, loops_in, place_at, spot_at, term_in, turn_number, turn_owner}
-
-spread : (t c x r : ℤ) → t *ℤ (c *ℤ x +ℤ r) ≡ c *ℤ t *ℤ x +ℤ t *ℤ r
-spread t c x r =
-    let whole = mul-add t (c *ℤ x) r in
-    let turned : t *ℤ (c *ℤ x) ≡ c *ℤ t *ℤ x = sym (mul_assoc_ℤ t c x) ∙ ap (λ y. y *ℤ x) (*ℤ_comm t c) in
-    omega (arith, ints, whole, turned)
 
 pub loops_next : (last : Option ℕ) (v : Values) (pairs : List (ℕ × ℤ)) (i : ℕ) (d : ℕ × ℤ) (times : ℤ) → i < length pairs →
     times *ℤ loops_in last v (drop i pairs) ≡ ((get_or pairs i d).1 *ℤ times) *ℤ v (term_name (term_in last (get_or pairs i d).0)) +ℤ times *ℤ loops_in last v (drop (i + 1) pairs)
@@ -33,9 +27,6 @@ loops_next last v pairs i d times h = rw (add-one, drop-cons pairs i d h) (sprea
 pub loops_step : (last : Option ℕ) (v : Values) (pairs : List (ℕ × ℤ)) (i : ℕ) (d : ℕ × ℤ) → i < length pairs →
     loops_in last v (drop i pairs) ≡ (get_or pairs i d).1 *ℤ v (term_name (term_in last (get_or pairs i d).0)) +ℤ loops_in last v (drop (i + 1) pairs)
 loops_step last v pairs i d h = rw (add-one, drop-cons pairs i d h) refl
-
-pub dot_step : (pairs : List (ℕ × ℤ)) (values : List ℤ) (i : ℕ) (d : ℕ × ℤ) → i < length pairs → dot (drop i pairs) values ≡ (get_or pairs i d).1 *ℤ numbered values (get_or pairs i d).0 +ℤ dot (drop (i + 1) pairs) values
-dot_step pairs values i d h = rw (add-one, drop-cons pairs i d h) refl
 
 pub terms_step : (v : Values) (terms : List (Term × ℤ)) (i : ℕ) (d : Term × ℤ) → i < length terms → terms_at v (drop i terms) ≡ (get_or terms i d).1 *ℤ v (term_name (get_or terms i d).0) +ℤ terms_at v (drop (i + 1) terms)
 terms_step v terms i d h = rw (add-one, drop-cons terms i d h) refl

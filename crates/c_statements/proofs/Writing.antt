@@ -4,6 +4,7 @@ use Rattle.std.specs.Fmt.{decimal}
 use Rattle.std.specs.List.{flat_map}
 use Rattle.std.proofs.lemmas.List.{take_more, take_all}
 use Rattle.std.proofs.lemmas.List.Folds.{list_all-append}
+use Rattle.list_lemmas.proofs.Appending.{append_two}
 use Rattle.nest_tree.specs.Tree.{Expression, Tree}
 use Rattle.nest_tree.specs.View.{printed_of, statement_of, statements_from}
 use Rattle.nest_tree.specs.declared.tree.Access.{Access}
@@ -42,18 +43,11 @@ chosen_true {P = P} {old = old} {new = new} Q b e x = subst (λ c. Written (chos
 pub chosen_false : {Q : List ℕ → Type 0} {old new : List ℕ} (P : List ℕ → Type 0) (b : Bool) → b ≡ false → Written Q old new → Written (chosen b P Q) old new
 chosen_false {Q = Q} {old = old} {new = new} P b e x = subst (λ c. Written (chosen c P Q) old new) (sym e) x
 
--- texts one behind another
-pub two : (old m new a b : List ℕ) → m ≡ old ++ a → new ≡ m ++ b → new ≡ old ++ (a ++ b)
-two old m new a b e f = f ∙ ap (λ z. z ++ b) e ∙ regroup old a b
-  where
-    regroup : (a b c : List ℕ) → (a ++ b) ++ c ≡ a ++ (b ++ c)
-    regroup a b c = simp append_assoc
-
 pub three : (old m n new a b c : List ℕ) → m ≡ old ++ a → n ≡ m ++ b → new ≡ n ++ c → new ≡ old ++ (a ++ (b ++ c))
-three old m n new a b c e f g = two old m new a (b ++ c) e (two m n new b c f g)
+three old m n new a b c e f g = append_two old m new a (b ++ c) e (append_two m n new b c f g)
 
 pub four : (old m n o new a b c d : List ℕ) → m ≡ old ++ a → n ≡ m ++ b → o ≡ n ++ c → new ≡ o ++ d → new ≡ old ++ (a ++ (b ++ (c ++ d)))
-four old m n o new a b c d e f g h = two old m new a (b ++ (c ++ d)) e (three m n o new b c d f g h)
+four old m n o new a b c d e f g h = append_two old m new a (b ++ (c ++ d)) e (three m n o new b c d f g h)
 
 -- what is written for each of a list
 pub flat_more : (f : ℕ → List ℕ) (xs : List ℕ) (i d : ℕ) → i < length xs → flat_map f (take (i + 1) xs) ≡ flat_map f (take i xs) ++ f (get_or xs i d)

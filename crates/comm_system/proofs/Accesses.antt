@@ -6,6 +6,8 @@ use Rattle.std.proofs.lemmas.Bool.{and_parts, leb-true}
 use Rattle.std.proofs.lemmas.List.{length-map}
 use Rattle.std.proofs.lemmas.List.Elements.{Contains-append_cases, Contains-append_left, Contains-append_right}
 use Rattle.std.proofs.lemmas.List.Folds.{list_all-append}
+use Rattle.list_lemmas.proofs.Elements.{Contains-map, Contains-flat_map, Contains-filter}
+use Rattle.list_lemmas.proofs.Each.{all-contained, passes_at}
 use Rattle.nest_tree.specs.declared.tree.Access.{Access}
 use Rattle.nest_tree.specs.Guards.{holds}
 use Rattle.nest_tree.specs.Loads.{loads_in, loads_in_item}
@@ -20,7 +22,7 @@ use Rattle.nest_walk.specs.Tables.{Loaded, element, array, loaded_in_item, loade
 use Rattle.nest_rows.specs.Groups.{guard_of}
 use Rattle.nest_rows.specs.Nested.{Nested, nested_in}
 use Rattle.nest_rows.proofs.GoodNesting.{IsGoodNested, works_good}
-use Rattle.nest_rows.proofs.Nesting.{all-append, all-at, all-contained}
+use Rattle.nest_rows.proofs.Nesting.{all-append, all-at}
 use Rattle.owner_partition.specs.declared.cut.Mark.{Mark}
 use Rattle.owner_partition.specs.Marks.{enters_outer}
 use Rattle.owner_partition.specs.Phases.{Execution, executions, phase_instances, phases}
@@ -32,7 +34,7 @@ use Rattle.conflict_rules.specs.References.{Reference, StaticPhase, phases_of, r
 use Rattle.comm_system.proofs.Cells.{IsSound, IsSoundLoaded, Touches, load_touches, same_element_of, store_touches}
 use Rattle.comm_system.proofs.Contexts.{at_first}
 use Rattle.comm_system.proofs.GoodReferences.{AllIn, IsGoodLoaded, among_phases, loaded_good, stored_good}
-use Rattle.comm_system.proofs.Lists.{contains_cases, contains_nothing, in_filter, in_flat_map, in_map, mapped_get, passes_at}
+use Rattle.comm_system.proofs.Lists.{contains_cases, contains_nothing, mapped_get}
 use Rattle.comm_system.proofs.Places.{IsOf, IsPlaced, instance_placed}
 use Rattle.comm_system.proofs.StationFacts.{IsStation, each_in}
 use Rattle.comm_system.proofs.Stations.{Station, phases-text, stations_in, text_among, visit_in, visits-in}
@@ -106,7 +108,7 @@ module _ (tree : Tree) (phase : StaticPhase) (around : List Head) (i : Instance)
   here = record { what = i.what; around = around }
 
   in_references : (a : Reference) → Contains (references_in (record { what = i.what; around = around })) a → Contains (references_of phase) a
-  in_references a c = in_flat_map references_in (nested_in phase.outer phase.what) (record { what = i.what; around = around }) a nested c
+  in_references a c = Contains-flat_map references_in (nested_in phase.outer phase.what) (record { what = i.what; around = around }) a nested c
 
   pub load_access : Contains (loads_of tree i) cell → (a : Reference) × IsAccessAt tree phase around i cell a
   load_access c =
@@ -116,7 +118,7 @@ module _ (tree : Tree) (phase : StaticPhase) (around : List Head) (i : Instance)
         a,
         record {
           among = in_references a (Contains-append_left (map (reference_of (record { what = i.what; around = around }) false) (loaded_in_work i.what)) (map (λ x. reference_of (record { what = i.what; around = around }) true (element x)) (stores_in i.what)) a
-              (in_map (reference_of (record { what = i.what; around = around }) false) (loaded_in_work i.what) h.what h.among));
+              (Contains-map (reference_of (record { what = i.what; around = around }) false) (loaded_in_work i.what) h.what h.among));
           around_is = refl;
           executed = guard_holds i.what i.loops (param_values tree) executed;
           touches = h.touches;
@@ -131,13 +133,13 @@ module _ (tree : Tree) (phase : StaticPhase) (around : List Head) (i : Instance)
         a,
         record {
           among = in_references a (Contains-append_right (map (reference_of (record { what = i.what; around = around }) false) (loaded_in_work i.what)) (map (λ x. reference_of (record { what = i.what; around = around }) true (element x)) (stores_in i.what)) a
-              (in_map (λ x. reference_of (record { what = i.what; around = around }) true (element x)) (stores_in i.what) h.access h.among));
+              (Contains-map (λ x. reference_of (record { what = i.what; around = around }) true (element x)) (stores_in i.what) h.access h.among));
           around_is = refl;
           executed = guard_holds i.what i.loops (param_values tree) executed;
           touches = h.touches;
         },
         refl,
-        in_map (λ x. reference_of (record { what = i.what; around = around }) true (element x)) (stores_in i.what) h.access h.among,
+        Contains-map (λ x. reference_of (record { what = i.what; around = around }) true (element x)) (stores_in i.what) h.access h.among,
       )
 
   pub any_access : Contains (cells_of tree i) cell → (a : Reference) × IsAccessAt tree phase around i cell a
@@ -229,5 +231,5 @@ pair_with a b = record { first = a; second = b }
 
 pub pair_there : (firsts seconds : List Reference) (a b : Reference) → Contains firsts a → Contains seconds b → conflict a b ≡ true → Contains (pairs_among firsts seconds) (record { first = a; second = b })
 pair_there firsts seconds a b here there h =
-    in_flat_map (λ a. map (pair_with a) (filter (conflict a) seconds)) firsts a (record { first = a; second = b }) here
-    (in_map (pair_with a) (filter (conflict a) seconds) b (in_filter (conflict a) seconds b there h))
+    Contains-flat_map (λ a. map (pair_with a) (filter (conflict a) seconds)) firsts a (record { first = a; second = b }) here
+    (Contains-map (pair_with a) (filter (conflict a) seconds) b (Contains-filter (conflict a) seconds b there h))

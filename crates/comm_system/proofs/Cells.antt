@@ -1,6 +1,5 @@
 -- Which access of an instance touches a cell, and that one cell is one element of one variable.
 use Rattle.std.proofs.Common.{◌≡◌, ℕ, zero, suc, ◌+◌, ◌*◌, ◌-◌, ◌/◌, ◌%◌, ◌<◌, ◌≤◌, ℤ, pos, ◌+ℤ◌, ◌-ℤ◌, ◌≤ℤ◌, int_le, true, Some, None, List, [], ◌∷◌, ◌++◌, length, map, refl, ap, sym, ◌∙◌, subst, inl, inr, arith}
-use Rattle.std.specs.Prelude.{take}
 use Rattle.std.specs.List.{AllByRecursion, Contains, flat_map}
 use Rattle.std.proofs.Math.Nat.{mul-le-mul_left}
 use Rattle.std.proofs.lemmas.Bool.{and_parts, cases_eq, cases_lt}
@@ -10,10 +9,10 @@ use Rattle.std.proofs.lemmas.List.{append-nil, length-map}
 use Rattle.std.proofs.lemmas.List.Elements.{Contains-append_cases}
 use Rattle.nest_tree.specs.declared.tree.Access.{Access}
 use Rattle.nest_tree.specs.Form.{form_value}
-use Rattle.nest_tree.specs.Layout.{are_inside, bounds_at, bounds_of, cells_in, count_of, element_count, element_place, extent, first_cell, is_inside}
+use Rattle.nest_tree.specs.Layout.{are_inside, bounds_of, count_of, element_count, element_place, extent, first_cell, is_inside}
 use Rattle.nest_tree.specs.Loads.{loads_in}
-use Rattle.nest_tree.specs.Tree.{Declaration, Printed, value, whole, text, Work, assign, print, Tree, param_values}
-use Rattle.nest_tree.proofs.Places.{count_of-some}
+use Rattle.nest_tree.specs.Tree.{Printed, value, whole, text, Work, assign, print, Tree, param_values}
+use Rattle.nest_tree.proofs.Places.{count_of-some, same_variable}
 use Rattle.nest_walk.specs.Places.{IsThere}
 use Rattle.nest_walk.specs.Tables.{Loaded, element, array, loaded_in_item, loaded_in_work, stores_in}
 use Rattle.nest_model.specs.Accesses.{access_cell, item_loads, subscript_values, whole_cells, work_loads, work_store}
@@ -67,13 +66,6 @@ same_place (b ∷ bounds) (d ∷ ds) (x ∷ es) h k e =
     let two = count_of-some (x -ℤ b.0) (omega (arith, ints, k.0)) in
     let same : d ≡ x = omega (arith, ints, one, two, split.0) in
     ap (λ y. y ∷ ds) same ∙ ap (λ ys. x ∷ ys) (same_place bounds ds es h.2 k.2 split.1)
-
-same_variable : (vs : List Declaration) (i j p r : ℕ) → i < length vs → j < length vs → p < element_count (bounds_at vs i) → r < element_count (bounds_at vs j) → cells_in (take i vs) + p ≡ cells_in (take j vs) + r → i ≡ j
-same_variable [] i j p r lt lt' small small' e = absurd (omega (arith, lt))
-same_variable (v ∷ vs) zero zero p r lt lt' small small' e = refl
-same_variable (v ∷ vs) zero (suc j) p r lt lt' small small' e = absurd (omega (arith, small, e))
-same_variable (v ∷ vs) (suc i) zero p r lt lt' small small' e = absurd (omega (arith, small', e))
-same_variable (v ∷ vs) (suc i) (suc j) p r lt lt' small small' e = ap suc (same_variable vs i j p r (omega (arith, lt)) (omega (arith, lt')) small small' (omega (arith, e)))
 
 -- a cell is that of this element of this variable
 pub record IsElement (tree : Tree) (variable : ℕ) (ds : List ℤ) (cell : ℕ) : Type 0 where

@@ -5,6 +5,8 @@ use Rattle.std.specs.List.{AllByRecursion, Contains, list_any, range_with_len}
 use Rattle.std.proofs.Math.Bool.{or-true}
 use Rattle.std.proofs.lemmas.Bool.{cases_Bool, cases_eq}
 use Rattle.std.proofs.lemmas.List.Sums.{sum_by-cons}
+use Rattle.list_lemmas.proofs.Elements.{Contains-filter}
+use Rattle.list_lemmas.proofs.Ranges.{range_there}
 use Rattle.nest_tree.specs.Tree.{Tree, param_values}
 use Rattle.nest_model.specs.Visits.{Visit}
 use Rattle.owner_partition.specs.declared.anchor.Anchor.{Anchor}
@@ -17,7 +19,6 @@ use Rattle.sync_plan.specs.Ordered.{Hop, IsChain, awaited_in, awaited_in_front}
 use Rattle.sync_plan.specs.Waits.{awaited_behind, does_wait_at, kind_owner, waits_at}
 use Rattle.conflict_rules.specs.Boundaries.{Boundary}
 use Rattle.comm_system.specs.Signatures.{is_barrier, kind_at, left_waits, right_waits}
-use Rattle.comm_system.proofs.Lists.{in_filter, range_there}
 use Rattle.comm_system.proofs.StationOrder.{differ_test, equal_test}
 
 -- the kind in front of a phase; Nothing where there is none
@@ -52,7 +53,7 @@ module _ (tree : Tree) (plan : Plan) where
   hop_waits b h kind p q is less ne waits =
       let owner = kind_owner kind plan.workers h.visit.loops (param_values tree) in
       let wait : does_wait_at kind owner p q ≡ true = ap (λ t. not t && waits_at kind owner p q) (differ_test p q ne) ∙ waits in
-      let there = in_filter (does_wait_at kind owner p) (range_with_len 0 plan.workers) q (range_there 0 plan.workers q (omega arith) (omega (arith, less))) wait in
+      let there = Contains-filter (does_wait_at kind owner p) (range_with_len 0 plan.workers) q (range_there 0 plan.workers q (omega arith) (omega (arith, less))) wait in
       let kind_is : slice_get plan.kinds (h.visit.place - 1) ≡ Some kind = ap (λ n. slice_get plan.kinds (n - 1)) h.place_is ∙ is in
       subst (λ o. Contains (awaited_in tree plan p o) q) (sym h.at) (subst (λ o. Contains (awaited_behind o plan.workers h.visit.loops (param_values tree) p) q) (sym kind_is) there)
 

@@ -3,6 +3,7 @@ use Rattle.std.proofs.Common.{◌≡◌, ℕ, suc, ◌+◌, ◌-◌, ◌<◌, �
 use Rattle.std.specs.Prelude.{sum_by}
 use Rattle.std.specs.List.{AllByRecursion, Contains, flat_map, list_any, slice_get}
 use Rattle.std.proofs.lemmas.Bool.{cases_Bool, cases_eq, cases_lt}
+use Rattle.list_lemmas.proofs.Elements.{contains_at}
 use Rattle.nest_tree.specs.Form.{form_value, numbered}
 use Rattle.nest_tree.specs.Tree.{Head, Tree, param_values}
 use Rattle.nest_tree.specs.WellFormed.{loops_of, names_only, scope_of}
@@ -36,7 +37,7 @@ use Rattle.comm_system.proofs.Certain.{AreTwo, IsSided, between_of, outer, stop_
 use Rattle.comm_system.proofs.CertainLists.{AreCertain}
 use Rattle.comm_system.proofs.Chains.{IsBetween, barrier_chain, kind_of, left_chain, producer_chain, right_chain}
 use Rattle.comm_system.proofs.Holders.{form_keeps}
-use Rattle.comm_system.proofs.Lists.{all_dropped, get_contains}
+use Rattle.comm_system.proofs.Lists.{all_dropped}
 use Rattle.comm_system.proofs.Meets.{owners_meet}
 use Rattle.comm_system.proofs.Owners.{holder_of, kept_heads, producer_holds}
 use Rattle.comm_system.proofs.Places.{IsPlaced}
@@ -243,8 +244,8 @@ module _ (tree : Tree) (plan : Plan) (ex ey : ℕ) (sx sy : Station) (two : AreT
           let P = λ (piece : Piece). (k : ℕ) × Contains (tasks_of tree plan) (piece_task tree plan slot left right producers pair k piece) in
           let tasks = pieces_tasks tree plan slot left right producers pair there (open_signature e) among in
           let found = all_pieces P d first.owner os (subst (λ n. AllByRecursion P (pieces n)) (sym items.many) tasks) in
-          let here = get_contains (phases_of tree plan.cut.marks) (sx.visit.place - 1) (record { what = sx.visit.what; outer = sx.heads }) (phase_there tree plan.cut.marks two.formed ex sx two.first) in
-          let here' = get_contains (phases_of tree plan.cut.marks) (sy.visit.place - 1) (record { what = sy.visit.what; outer = sy.heads }) (phase_there tree plan.cut.marks two.formed ey sy two.second) in
+          let here = contains_at (phases_of tree plan.cut.marks) (sx.visit.place - 1) (record { what = sx.visit.what; outer = sx.heads }) (phase_there tree plan.cut.marks two.formed ex sx two.first) in
+          let here' = contains_at (phases_of tree plan.cut.marks) (sy.visit.place - 1) (record { what = sy.visit.what; outer = sy.heads }) (phase_there tree plan.cut.marks two.formed ey sy two.second) in
           let solved = owners_meet tree plan slot pair X Y left right producers first second items.holders (record { range = d; producers = sides_of first.owner os }) found.0 two.formed fits here here' among meet (is_first, (is_second, items.are)) range (lies_on_sides first.owner os beside) in
           none (piece_task tree plan slot left right producers pair found.0 (record { range = d; producers = sides_of first.owner os })) found.1 _ solved
 

@@ -6,6 +6,8 @@ use Rattle.std.proofs.lemmas.Bool.{and_from, and_parts, cases_Bool, eq-eqb, eqb-
 use Rattle.std.proofs.lemmas.Grind.{flat_map-append}
 use Rattle.std.proofs.lemmas.List.{append-nil}
 use Rattle.std.proofs.lemmas.List.Folds.{list_any-append}
+use Rattle.list_lemmas.proofs.Gets.{get-behind}
+use Rattle.list_lemmas.proofs.Each.{all_split}
 use Rattle.nest_tree.specs.declared.tree.Access.{Access}
 use Rattle.nest_tree.specs.Loads.{loads_in, loads_in_item, loads_in_work}
 use Rattle.nest_tree.specs.Tree.{Head, Printed, value, whole, text, Assignment, Work, assign, print, Statement, Statements, do_loop, work, continue, done, next}
@@ -18,11 +20,10 @@ use Rattle.nest_rows.proofs.Nesting.{all-append}
 use Rattle.own_scalars.specs.OwnScalars.{has_access, is_of, is_plain_store, is_private, is_stored_first, loads, some_in, some_of, stores}
 use Rattle.own_scalars.proofs.Stored.{neither}
 use Rattle.sync_plan.specs.Conflicts.{works_before, works_before_in}
-use Rattle.sync_plan.proofs.Gets.{get-behind}
 use Rattle.conflict_rules.specs.References.{Reference, reference_of, references_in, variable_of}
 use Rattle.comm_system.specs.Shown.{is_among, shown_among}
 use Rattle.comm_system.proofs.GoodReferences.{IsGoodLoaded, loaded_good, stored_good}
-use Rattle.comm_system.proofs.Lists.{all_split, contains_cases, contains_nothing}
+use Rattle.comm_system.proofs.Lists.{contains_cases, contains_nothing}
 use Rattle.comm_system.proofs.ShownLists.{shown_first}
 
 -- ---- where it stands in the text

@@ -6,31 +6,16 @@ use Rattle.std.proofs.Math.Seq.{take-append-add}
 use Rattle.std.proofs.lemmas.List.{take-append-le}
 use Rattle.std.proofs.lemmas.List.Sums.{sum_by-append}
 use Rattle.nest_tree.specs.Tree.{Head, Statement, Statements, do_loop, work, continue, done, next, Tree, param_values}
-use Rattle.nest_model.specs.Instances.{no_values, works_in, works_of}
+use Rattle.nest_model.specs.Instances.{no_values, works_in}
 use Rattle.nest_model.specs.Visits.{stops_in}
 use Rattle.nest_walk.specs.Texts.{Placed, placed, placed_in, placed_of}
 use Rattle.nest_rows.proofs.Nesting.{all-append, all-at, all-weaker}
 use Rattle.owner_partition.specs.Marks.{enters_outer}
 use Rattle.sync_plan.specs.declared.plan.Plan.{Plan}
 use Rattle.sync_plan.specs.Conflicts.{first_work}
-use Rattle.sync_plan.proofs.PhasePlaces.{placed_count}
+use Rattle.sync_plan.proofs.PhasePlaces.{placed_count, placed_works}
 use Rattle.comm_system.proofs.Lists.{all_in_range, all_mapped}
 use Rattle.comm_system.proofs.Stations.{Station, at_trip, push, stations_in, stations_of, trips_of}
-
-mutual
-  placed_works : (enters : ℕ → Bool) (around : List ℕ) (s : Statement) → sum_by (λ (p : Placed). works_in p.what) (placed_in enters around s) ≡ works_in s
-  placed_works enters around (do_loop head body) =
-      elim (enters head.number) as (λ b. sum_by (λ (p : Placed). works_in p.what) (if b then placed_of enters (head.number ∷ around) body else record { what = do_loop head body; around = around } ∷ []) ≡ works_in (do_loop head body))
-      [ true ↦ placed_works-all enters (head.number ∷ around) body | false ↦ omega arith ]
-  placed_works enters around (work w) = refl
-  placed_works enters around (continue line) = refl
-
-  placed_works-all : (enters : ℕ → Bool) (around : List ℕ) (ss : Statements) → sum_by (λ (p : Placed). works_in p.what) (placed_of enters around ss) ≡ works_of ss
-  placed_works-all enters around done = refl
-  placed_works-all enters around (next s rest) =
-      sum_by-append (λ (p : Placed). works_in p.what) (placed_in enters around s) (placed_of enters around rest)
-      ∙ ap (λ n. n + sum_by (λ (p : Placed). works_in p.what) (placed_of enters around rest)) (placed_works enters around s)
-      ∙ ap (λ n. works_in s + n) (placed_works-all enters around rest)
 
 -- a station is of the k-th phase of a text, and has as many pieces of work in front as the phases before that
 record IsBehind (text : List Placed) (place first : ℕ) (x : Station) : Type 0 where

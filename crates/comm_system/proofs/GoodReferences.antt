@@ -3,6 +3,7 @@ use Rattle.std.proofs.Common.{◌≡◌, ℕ, ◌&&◌, nat_lt, Bool, true, fals
 use Rattle.std.specs.List.{AllByRecursion, flat_map, list_all}
 use Rattle.std.proofs.lemmas.Bool.{and_from, and_parts}
 use Rattle.std.proofs.lemmas.List.{length-map}
+use Rattle.list_lemmas.proofs.Each.{all_split}
 use Rattle.nest_tree.specs.declared.tree.Access.{Access}
 use Rattle.nest_tree.specs.declared.tree.Guard.{Guard}
 use Rattle.nest_tree.specs.Form.{Form}
@@ -16,7 +17,6 @@ use Rattle.nest_rows.proofs.Dots.{numbers}
 use Rattle.nest_rows.proofs.GoodNesting.{AreAmong, IsGoodNested, form-among, works_good}
 use Rattle.nest_rows.proofs.Nesting.{all-append, all-weaker}
 use Rattle.conflict_rules.specs.References.{StaticPhase, phases_among, phases_in, reference_of, references_in, references_of}
-use Rattle.comm_system.proofs.Lists.{all_split}
 use Rattle.comm_system.proofs.Solved.{AreNamed, IsGoodReference}
 
 -- ---- what is loaded by a good piece of work is good

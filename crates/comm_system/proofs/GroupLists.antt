@@ -6,11 +6,11 @@ use Rattle.std.proofs.lemmas.Bool.{cases_Bool, leb-false, leb-true}
 use Rattle.std.proofs.lemmas.Grind.{flat_map-append}
 use Rattle.std.proofs.lemmas.List.{append-nil, same_from_push, take_all}
 use Rattle.std.proofs.lemmas.Option.{slice_get_past}
+use Rattle.list_lemmas.proofs.Gets.{get-front, get-behind}
 use Rattle.nest_tree.specs.Tree.{Tree}
 use Rattle.owner_partition.specs.declared.anchor.Anchor.{Anchor}
 use Rattle.sync_plan.specs.declared.plan.Plan.{Plan}
 use Rattle.sync_plan.specs.Fit.{is_dealt}
-use Rattle.sync_plan.proofs.Gets.{get-behind, get-front}
 use Rattle.conflict_rules.specs.Boundaries.{Side}
 use Rattle.conflict_rules.specs.Slots.{Slot}
 use Rattle.comm_system.specs.Obligations.{Task, numbered_from, obligations_of, pair_tasks, paths_tasks, piece_task, pieces_from, slot_signature, slot_tasks, slots_of, tasks_of, trips_task, trips_tasks, zero_trip_task}

@@ -7,6 +7,7 @@ use Rattle.std.proofs.lemmas.List.{append-nil}
 use Rattle.farkas_cert.specs.Inequalities.{Inequalities}
 use Rattle.presolve.specs.Columns.{AreRising, is_kept}
 use Rattle.presolve.specs.Presolution.{IsPresolved, Presolution}
+use Rattle.presolve.proofs.Columns.{not_before}
 use Rattle.owner_partition.specs.declared.anchor.Dist.{Dist}
 use Rattle.owner_partition.specs.declared.anchor.Dist.TheVariants.{Block, Cyclic}
 use Rattle.nest_rows.specs.declared.constraint.Constraint.{Constraint}
@@ -116,17 +117,11 @@ numbers-owned q ps n h = let within = numbers-within q ps n h in kept-range q (o
 behind-first : (j : ℕ) (columns : List ℕ) (k : ℕ) → j < k → is_kept (j ∷ columns) k ≡ true → is_kept columns k ≡ true
 behind-first j columns k lt h = sym (ap (λ b. b || is_kept columns k) (ne_eqb j k (λ e. omega (arith, e, lt)))) ∙ h
 
-not-before : (from vars : ℕ) (columns : List ℕ) (k : ℕ) → AreRising from vars columns → k < from → is_kept columns k ≡ false
-not-before from vars [] k rising lt = refl
-not-before from vars (j ∷ columns) k rising lt =
-    let low = rising.0 in
-    ap (λ b. b || is_kept columns k) (ne_eqb j k (λ e. omega (arith, e, low, lt))) ∙ not-before (j + 1) vars columns k rising.2 (omega (arith, lt, low))
-
 pub kept-count : (from low n vars : ℕ) (columns : List ℕ) → AreRising from vars columns → ((k : ℕ) → low ≤ k → k < low + n → is_kept columns k ≡ true) → n ≤ length columns
 kept-count from low zero vars columns rising all = omega arith
 kept-count from low (suc n) vars [] rising all = absurd (let no : false ≡ true = all low (omega arith) (omega arith) in false≢true no)
 kept-count from low (suc n) vars (j ∷ columns) rising all = elim (cases_lt low j) [
-  | inl before ↦ absurd (false≢true (sym (ap (λ b. b || is_kept columns low) (ne_eqb j low (λ e. omega (arith, e, before))) ∙ not-before (j + 1) vars columns low rising.2 (omega (arith, before))) ∙ all low (omega arith) (omega arith)))
+  | inl before ↦ absurd (false≢true (sym (ap (λ b. b || is_kept columns low) (ne_eqb j low (λ e. omega (arith, e, before))) ∙ not_before (j + 1) vars columns low rising.2 (omega (arith, before))) ∙ all low (omega arith) (omega arith)))
   | inr le ↦
       let more = kept-count (j + 1) (low + 1) n vars columns rising.2 (λ k above under. behind-first j columns k (omega (arith, le, above)) (all k (omega (arith, above)) (omega (arith, under)))) in
       omega (arith, more)

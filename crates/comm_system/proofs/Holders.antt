@@ -6,6 +6,7 @@ use Rattle.std.specs.Option.{option_map}
 use Rattle.std.proofs.Math.Nat.{div-lt_iff_lt-mul}
 use Rattle.std.proofs.lemmas.Bool.{and_parts, cases_Bool, eqb-true}
 use Rattle.std.proofs.lemmas.Int.{ints}
+use Rattle.list_lemmas.proofs.Each.{all_split}
 use Rattle.nest_tree.specs.Form.{Form, dot, form_value, is_form, numbered}
 use Rattle.nest_tree.specs.Intervals.{dot_ends, ends_of, form_interval, multiple, plus}
 use Rattle.nest_tree.specs.Layout.{count_of}
@@ -27,7 +28,6 @@ use Rattle.sync_plan.specs.declared.plan.Kind.TheVariants.{Producer}
 use Rattle.sync_plan.specs.Fit.{kind_anchors, numbered_anchors}
 use Rattle.sync_plan.specs.Kinds.{anchor_in}
 use Rattle.comm_system.specs.Meetings.{Holder, Holds}
-use Rattle.comm_system.proofs.Lists.{all_split}
 use Rattle.sync_plan.proofs.FitOwners.{none_empty}
 
 -- the round in which a processor has a place

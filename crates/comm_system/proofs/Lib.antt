@@ -40,6 +40,7 @@ pub mod PhaseCounts
 mod GroupSteps
 mod ShownLists
 pub mod FirstStores
+pub mod FirstAccesses
 mod LastTrips
 mod FirstWorks
 mod PrivateScalars

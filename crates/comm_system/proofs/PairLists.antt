@@ -3,10 +3,11 @@ use Rattle.std.proofs.Common.{◌≡◌, ℕ, Bool, true, false, cond, not, None
 use Rattle.std.specs.List.{AllByRecursion, Contains, filter, flat_map, list_all}
 use Rattle.std.proofs.lemmas.Bool.{and_parts}
 use Rattle.std.proofs.lemmas.List.{length-map}
+use Rattle.list_lemmas.proofs.Each.{all-contained}
 use Rattle.nest_tree.specs.Tree.{Constant, Tree, param_values}
 use Rattle.nest_tree.specs.WellFormed.{IsWellFormed, scope_of}
 use Rattle.nest_tree.proofs.FirstLimits.{neither}
-use Rattle.nest_rows.proofs.Nesting.{all-append, all-contained}
+use Rattle.nest_rows.proofs.Nesting.{all-append}
 use Rattle.owner_partition.specs.Placement.{unplaced}
 use Rattle.sync_plan.specs.declared.plan.Conditions.{Conditions}
 use Rattle.sync_plan.specs.declared.plan.Conditions.TheVariants.{Values, Rows}
@@ -41,7 +42,7 @@ firsts G (a ∷ xs) bs h k =
     all-append (λ (pair : Pair). G pair.first × G pair.second) here later (seconds G a (conflict a) bs h.0 k) (firsts G xs bs h.1 k)
 
 -- those that others see, and those of shared cells, are among the accesses
-shown_good : (G : Reference → Type 0) (privates taken : List ℕ) (rs : List Reference) → AllByRecursion G rs → AllByRecursion G (shown_among privates taken rs)
+pub shown_good : (G : Reference → Type 0) (privates taken : List ℕ) (rs : List Reference) → AllByRecursion G rs → AllByRecursion G (shown_among privates taken rs)
 shown_good G privates taken [] all = tt
 shown_good G privates taken (r ∷ rs) all = by (is_among privates (variable_of r.what)) (is_among taken (variable_of r.what)) (shown_good G privates taken rs all.1) (shown_good G privates (taken ++ variable_of r.what ∷ []) rs all.1)
   where

@@ -1,49 +1,51 @@
 -- Where each system of a plan that fits has no whole solution, each loop on a private scalar's path makes a first trip in each trip of its loop.
-use Rattle.std.proofs.Common.{◌≡◌, ℕ, zero, suc, ◌+◌, ◌*◌, ◌-◌, ◌<◌, ◌≤◌, ◌==◌, ℤ, pos, ◌+ℤ◌, ◌*ℤ◌, Bool, true, false, true≢false, cond, Some, List, [], ◌∷◌, ◌++◌, append_assoc, drop, length, length-append, map, take, if◌then◌else◌, refl, ap, ap₂, sym, ◌∙◌, subst, arith}
-use Rattle.std.specs.Prelude.{find, slice_get}
+use Rattle.std.proofs.Common.{◌≡◌, ℕ, zero, suc, ◌+◌, ◌*◌, ◌-◌, ◌<◌, ◌≤◌, ℤ, pos, ◌+ℤ◌, ◌*ℤ◌, Bool, true, false, Some, List, [], ◌∷◌, ◌++◌, append_assoc, drop, length, length-append, map, take, if◌then◌else◌, refl, ap, ap₂, sym, ◌∙◌, subst, arith}
+use Rattle.std.specs.Prelude.{slice_get}
 use Rattle.std.specs.List.{AllByRecursion, Contains, flat_map, range_with_len}
 use Rattle.std.specs.Option.{option_map_or}
 use Rattle.std.proofs.Math.Seq.{drop-append_seam, take-append_seam}
 use Rattle.std.proofs.lemmas.Bool.{and_parts}
 use Rattle.std.proofs.lemmas.List.{length-map}
 use Rattle.std.proofs.lemmas.List.Elements.{Contains-append_right}
+use Rattle.list_lemmas.proofs.Elements.{contains_at, Contains-map, Contains-flat_map}
+use Rattle.list_lemmas.proofs.Each.{all-contained}
+use Rattle.list_lemmas.proofs.Ranges.{range_there}
 use Rattle.farkas_cert.specs.Inequalities.{HasNoWholeSolution, Inequalities, IsWholeSolution}
 use Rattle.nest_tree.specs.Form.{form_value, is_small}
-use Rattle.nest_tree.specs.Tree.{Constant, Head, Work, assign, print, Statement, Statements, do_loop, work, continue, done, next, Tree, param_values}
+use Rattle.nest_tree.specs.Tree.{Constant, Head, Statement, Statements, do_loop, work, continue, done, next, Tree, param_values}
 use Rattle.nest_tree.specs.WellFormed.{IsWellFormed, Scope, loops_in, scope_of}
 use Rattle.nest_tree.proofs.Good.{good_loop}
 use Rattle.nest_model.specs.Instances.{head_trips, no_values, with_loop}
 use Rattle.nest_model.specs.Visits.{Visit}
-use Rattle.nest_walk.specs.Tables.{element}
 use Rattle.nest_rows.specs.Constraints.{system_of}
 use Rattle.nest_rows.specs.Groups.{loops_have}
-use Rattle.nest_rows.specs.Nested.{Nested, nested_among}
+use Rattle.nest_rows.specs.Nested.{nested_among}
 use Rattle.nest_rows.specs.Places.{laid}
 use Rattle.nest_rows.proofs.Dots.{numbers}
 use Rattle.nest_rows.proofs.GoodNesting.{IsGoodNested, works_good}
 use Rattle.nest_rows.proofs.GroupsMet.{is_head_among}
-use Rattle.nest_rows.proofs.Nesting.{all-at, all-contained}
-use Rattle.own_scalars.specs.OwnScalars.{has_access, is_plain_store, is_private, some_in}
+use Rattle.nest_rows.proofs.Nesting.{all-at}
+use Rattle.own_scalars.specs.OwnScalars.{has_access, is_private, some_in}
 use Rattle.owner_partition.specs.Cuts.{privates_of}
 use Rattle.owner_partition.specs.Marks.{enters_outer}
 use Rattle.sync_plan.specs.declared.plan.Plan.{Plan}
 use Rattle.sync_plan.specs.Fit.{IsFit}
 use Rattle.sync_plan.specs.Stored.{AreStoredFirst, path_runs, path_runs_in}
 use Rattle.sync_plan.proofs.BarrierOrder.{mapped}
-use Rattle.conflict_rules.specs.References.{Reference, StaticPhase, phases_of, reference_of, references_in, variable_of}
+use Rattle.conflict_rules.specs.References.{StaticPhase, phases_of}
 use Rattle.comm_system.specs.Obligations.{Task, paths_tasks, slot_signature, slot_tasks, slots_of, tasks_of, trips_tasks, zero_trip_task}
 use Rattle.comm_system.specs.PairRows.{conditions_have, first_of}
-use Rattle.comm_system.specs.Paths.{PathLoop, first_access, no_trip, path_of, path_to, paths_of}
+use Rattle.comm_system.specs.Paths.{PathLoop, no_trip, path_of, path_to, paths_of}
 use Rattle.comm_system.specs.Shown.{privates_in}
 use Rattle.comm_system.proofs.Accesses.{phase_there, station_known, visits_are}
 use Rattle.comm_system.proofs.Contexts.{AreInFront, IsInFront, behind, entered, front, heads_further}
-use Rattle.comm_system.proofs.FirstStores.{first_store, path_among, path_in, store_first}
+use Rattle.comm_system.proofs.FirstStores.{first_store, path_among, path_in}
 use Rattle.comm_system.proofs.GoodReferences.{AllIn, among_phases}
-use Rattle.comm_system.proofs.Lists.{all_split, get_contains, in_flat_map, in_map, range_there}
 use Rattle.comm_system.proofs.NoTrips.{none_solved}
 use Rattle.comm_system.proofs.PairLists.{fit_conditions}
-use Rattle.comm_system.proofs.PrivateScalars.{phase_private, private_scalar}
+use Rattle.comm_system.proofs.PrivateScalars.{phase_private}
 use Rattle.comm_system.proofs.Stations.{Station, at_trip, stations_in, trips_of, visit_in}
+use Rattle.comm_system.proofs.FirstAccesses.{IsStored, stored_there}
 
 -- ---- down a text beside the path
 
@@ -82,11 +84,6 @@ each_trip : (P : ℤ → Type 0) (f : ℕ → ℤ) (a n : ℕ) → ((k : ℕ) �
 each_trip P f a zero h = tt
 each_trip P f a (suc n) h = (h a (omega arith), each_trip P f (a + 1) n (λ k lt. h k (omega (arith, lt))))
 
--- the first that passes
-first_found : {X : Type 0} (p : X → Bool) (before : List X) (x : X) (after : List X) → AllByRecursion (λ y. p y ≡ false) before → p x ≡ true → find p (before ++ x ∷ after) ≡ Some x
-first_found p [] x after none is = ap (λ b. cond b (Some x) (find p after)) is
-first_found p (y ∷ before) x after none is = ap (λ b. cond b (Some y) (find p (before ++ x ∷ after))) none.0 ∙ first_found p before x after none.1 is
-
 -- ---- a private scalar of a phase
 
 module _ (tree : Tree) (plan : Plan) (formed : IsWellFormed tree) (fits : IsFit tree plan) (none : (task : Task) → Contains (tasks_of tree plan) task → HasNoWholeSolution task.system) (outer : List Head) (head : Head) (body : Statements) (k : ℕ)
@@ -107,29 +104,10 @@ module _ (tree : Tree) (plan : Plan) (formed : IsWellFormed tree) (fits : IsFit 
   private = all-contained (λ v. is_private v body ≡ true) (privates_of plan.cut.privates head.number) u (phase_private tree plan fits k phase at) among
 
   -- that store is its first access
-  pub record IsFirst : Type 0 where
-    pub store : Reference
-    pub around : store.around ≡ all
-    pub is : first_access phase u ≡ Some store
-
-  first : IsFirst
+  first : IsStored outer head body u
   first =
       let f = first_store u (outer ++ head ∷ []) body private in
-      by f.store f.plain f.before f.after f.away f.split
-    where
-      by : (w : Work) → is_plain_store u w ≡ true → (before after : List Nested) → AllByRecursion (λ (n : Nested). has_access u n.what ≡ false) before → nested_among (outer ++ head ∷ []) body ≡ before ++ record { what = w; around = all } ∷ after → IsFirst
-      by (print p) plain before after away split = absurd (true≢false (sym plain))
-      by (assign s) plain before after away split =
-          let n : Nested = record { what = assign s; around = all } in
-          let good = all_split (IsGoodNested (scope_of tree)) before (n ∷ after) (subst (AllByRecursion (IsGoodNested (scope_of tree))) split goods) in
-          let rank = (private_scalar tree u (outer ++ head ∷ []) body goods private).rank in
-          let f = store_first (scope_of tree) u rank before after s all good.0 good.1.0 away plain in
-          let store : Reference = reference_of n true (element s.target) in
-          record {
-            store = store;
-            around = refl;
-            is = ap (λ ns. find (λ (r : Reference). variable_of r.what == u) (flat_map references_in ns)) split ∙ ap (find (λ (r : Reference). variable_of r.what == u)) f.split ∙ first_found (λ (r : Reference). variable_of r.what == u) f.before store f.after f.away f.variable;
-          }
+      stored_there (scope_of tree) outer head body goods u f.store f.plain f.before f.after f.away f.split
 
   -- the system of a loop on its path
   abbrev system_at : List Head → List Head → Inequalities
@@ -154,12 +132,12 @@ module _ (tree : Tree) (plan : Plan) (formed : IsWellFormed tree) (fits : IsFit 
       let from : drop (length heads) f.store.around ≡ g ∷ inner = ap (drop (length heads)) around ∙ drop-append_seam heads (g ∷ inner) in
       let long : length f.store.around ≡ length heads + suc (length inner) = ap length around ∙ length-append heads (g ∷ inner) in
       let own_path : List PathLoop = map (λ i. record { store = f.store; outside = i }) (range_with_len (length outer + 1) (length f.store.around - (length outer + 1))) in
-      let on_path : Contains own_path p = in_map (λ i. record { store = f.store; outside = i }) (range_with_len (length outer + 1) (length f.store.around - (length outer + 1))) (length heads) (range_there (length outer + 1) (length f.store.around - (length outer + 1)) (length heads) few (omega (arith, long, few))) in
+      let on_path : Contains own_path p = Contains-map (λ i. record { store = f.store; outside = i }) (range_with_len (length outer + 1) (length f.store.around - (length outer + 1))) (length heads) (range_there (length outer + 1) (length f.store.around - (length outer + 1)) (length heads) few (omega (arith, long, few))) in
       let of_scalar : Contains (path_of phase u) p = subst (λ o. Contains (path_to phase o) p) (sym f.is) on_path in
-      let of_phase : Contains (paths_of plan.cut phase) p = in_flat_map (path_of phase) (privates_in plan.cut (do_loop head body)) u p among of_scalar in
+      let of_phase : Contains (paths_of plan.cut phase) p = Contains-flat_map (path_of phase) (privates_in plan.cut (do_loop head body)) u p among of_scalar in
       let task = zero_trip_task tree plan p in
       let all_phases = phases_of tree plan.cut.marks in
-      let in_phase : Contains (flat_map (paths_tasks tree plan) all_phases) task = in_flat_map (paths_tasks tree plan) all_phases phase task (get_contains all_phases k phase at) (in_map (zero_trip_task tree plan) (paths_of plan.cut phase) p of_phase) in
+      let in_phase : Contains (flat_map (paths_tasks tree plan) all_phases) task = Contains-flat_map (paths_tasks tree plan) all_phases phase task (contains_at all_phases k phase at) (Contains-map (zero_trip_task tree plan) (paths_of plan.cut phase) p of_phase) in
       let there = Contains-append_right (flat_map (trips_tasks tree plan) all_phases ++ flat_map (λ slot. slot_tasks tree plan slot (slot_signature plan.version plan.kinds all_phases slot)) (slots_of all_phases)) (flat_map (paths_tasks tree plan) all_phases) task in_phase in
       none task there (params ++ laid loops heads ns) (subst (λ x. IsWholeSolution x (params ++ laid loops heads ns)) (sym (ap₂ system_at outside from)) solved)
 

@@ -3,6 +3,8 @@ use Rattle.std.proofs.Common.{◌≡◌, ℕ, zero, suc, ◌+◌, ◌-◌, ◌<�
 use Rattle.std.specs.List.{AllByRecursion, Contains, flat_map, slice_get}
 use Rattle.std.proofs.lemmas.Bool.{cases_lt}
 use Rattle.std.proofs.lemmas.List.{map-append}
+use Rattle.list_lemmas.proofs.Gets.{get-front, get-behind}
+use Rattle.list_lemmas.proofs.Elements.{contains_at}
 use Rattle.nest_tree.specs.Form.{numbered}
 use Rattle.nest_tree.specs.Tree.{Head, Work, Statement, Statements, do_loop, work, continue, done, next}
 use Rattle.nest_tree.specs.WellFormed.{Scope, loops_in}
@@ -12,10 +14,9 @@ use Rattle.nest_walk.proofs.InstanceLists.{one_same}
 use Rattle.nest_rows.specs.Nested.{AreTrips, Nested, nested_among, nested_in}
 use Rattle.nest_rows.proofs.Nesting.{all-append, all-at, all-weaker, IsBefore, kept-number}
 use Rattle.owner_partition.specs.Phases.{Execution, executions_from, phase_instances}
-use Rattle.sync_plan.proofs.Gets.{get-behind, get-front}
 use Rattle.conflict_rules.specs.References.{StaticPhase, phases_among, phases_in}
 use Rattle.comm_system.proofs.Contexts.{IsInFront}
-use Rattle.comm_system.proofs.Lists.{all_in_range, all_mapped, get_contains, mapped_get}
+use Rattle.comm_system.proofs.Lists.{all_in_range, all_mapped, mapped_get}
 use Rattle.comm_system.proofs.StationFacts.{Deepens, IsStation, each_of, loops_after}
 use Rattle.comm_system.proofs.Stations.{Station, at_trip, phases_in-within, push, stations_in, stations_of, trips_of, text_of, visit_in, visits-of, within}
 use Rattle.comm_system.proofs.StationOrder.{Comes, comes_at, rises_of}
@@ -277,7 +278,7 @@ module _ (params : List ℤ) (scope : Scope) (heads : List Head) (ns : List ℕ)
               inner = s;
               executed = alone.2;
               number = stands;
-              nested = get_contains (nested_in heads v.what) (i.statement - v.first) (record { what = i.what; around = heads ++ s.heads }) stands;
+              nested = contains_at (nested_in heads v.what) (i.statement - v.first) (record { what = i.what; around = heads ++ s.heads }) stands;
               trips = subst (λ l. AreTrips params l (heads ++ s.heads) (ns ++ s.trips)) alone.1 known.context.trips;
               loops_are = sym alone.1 ∙ known.loops_are;
               starts_in = all-at (λ (x : Station). StartsIn params v.loops v.what x.heads x.trips) (stations_of params every v.what 1 v.first v.loops) k s (starts params v.loops v.what 1 v.first) at;

@@ -1,8 +1,10 @@
 -- The private scalars of a phase are scalars, first stored in each trip of its loop in an assignment without comparison.
-use Rattle.std.proofs.Common.{◌≡◌, ℕ, ◌≤◌, ◌⊎◌, ◌&&◌, ◌||◌, ◌==◌, not, nat_le, ℤ, Bool, true, false, true≢false, Some, List, [], ◌∷◌, ◌++◌, length, if◌then◌else◌, refl, ap, sym, ◌∙◌, subst, inl, inr, arith}
+use Rattle.std.proofs.Common.{◌≡◌, ℕ, ◌≤◌, ◌&&◌, ◌||◌, ◌==◌, not, nat_le, ℤ, Bool, true, false, true≢false, Some, List, [], ◌∷◌, ◌++◌, length, if◌then◌else◌, refl, ap, sym, ◌∙◌, subst, inl, inr, arith}
 use Rattle.std.specs.Prelude.{is_none, slice_get}
 use Rattle.std.specs.List.{AllByRecursion, list_all}
-use Rattle.std.proofs.lemmas.Bool.{and_parts, cases_Bool, eqb-true}
+use Rattle.std.proofs.lemmas.Bool.{and_parts, cases_Bool, eqb-true, or_cases}
+use Rattle.std.proofs.lemmas.List.{nil_from_length}
+use Rattle.list_lemmas.proofs.Each.{all_split}
 use Rattle.nest_tree.specs.Layout.{bounds_of, element_place, first_cell}
 use Rattle.nest_tree.specs.Tree.{Head, Work, assign, print, Statement, Statements, do_loop, work, continue, done, next, Tree}
 use Rattle.nest_tree.specs.WellFormed.{is_good_work, rank_of, scope_of}
@@ -25,7 +27,6 @@ use Rattle.comm_system.specs.Shown.{is_among}
 use Rattle.comm_system.proofs.Cells.{IsElement}
 use Rattle.comm_system.proofs.FirstStores.{first_store, path_among, stored_rank}
 use Rattle.comm_system.proofs.GoodReferences.{stored_good}
-use Rattle.comm_system.proofs.Lists.{all_split}
 
 -- ---- each may be private
 
@@ -83,10 +84,6 @@ pub record IsScalar (tree : Tree) (v : ℕ) : Type 0 where
   pub bounds : bounds_of tree v ≡ []
   pub rank : rank_of (scope_of tree) v ≡ 0
 
-nothing : {X : Type 0} (xs : List X) → length xs ≡ 0 → xs ≡ []
-nothing [] e = refl
-nothing (x ∷ xs) e = absurd (omega (arith, e))
-
 stored_scalar : (tree : Tree) (n : Nested) (v : ℕ) → IsGoodNested (scope_of tree) n → stores v n.what ≡ true → IsScalar tree v
 stored_scalar tree n v good stored = by n.what good.good stored
   where
@@ -101,7 +98,7 @@ stored_scalar tree n v good stored = by n.what good.good stored
         record {
           low = subst (λ u. 1 ≤ u) same there.low;
           high = subst (λ u. u ≤ length tree.variables) same there.high;
-          bounds = nothing (bounds_of tree v) (sym (ap (λ u. length (bounds_of tree u)) same) ∙ sym there.as_many ∙ none);
+          bounds = nil_from_length (bounds_of tree v) (sym (ap (λ u. length (bounds_of tree u)) same) ∙ sym there.as_many ∙ none);
           rank = (stored_rank (scope_of tree) good.loops v a.target access is).0;
         }
 
@@ -116,11 +113,6 @@ private_scalar tree v around body goods is =
     plain_stores (print p) plain = absurd (true≢false (sym plain))
     plain_stores (assign a) plain = (and_parts (is_of v a.target) (not (loads v a.value)) (and_parts (is_of v a.target && not (loads v a.value)) (is_none a.guard) plain).0).0
 
--- and so is what a text stores without subscripts
-either : (a b : Bool) → (a || b) ≡ true → (a ≡ true) ⊎ (b ≡ true)
-either true b e = inl refl
-either false b e = inr e
-
 mutual
   one_stored : (tree : Tree) (v : ℕ) (around : List Head) (s : Statement) → AllByRecursion (IsGoodNested (scope_of tree)) (nested_in around s) → some_in (stores v) s ≡ true → IsScalar tree v
   one_stored tree v around (do_loop head body) goods is = text_stored tree v (around ++ head ∷ []) body goods is
@@ -131,7 +123,7 @@ mutual
   text_stored tree v around done goods is = absurd (true≢false (sym is))
   text_stored tree v around (next s rest) goods is =
       let parts = all_split (IsGoodNested (scope_of tree)) (nested_in around s) (nested_among around rest) goods in
-      elim (either (some_in (stores v) s) (some_of (stores v) rest) is) [ inl here ↦ one_stored tree v around s parts.0 here | inr later ↦ text_stored tree v around rest parts.1 later ]
+      elim (or_cases (some_in (stores v) s) (some_of (stores v) rest) is) [ inl here ↦ one_stored tree v around s parts.0 here | inr later ↦ text_stored tree v around rest parts.1 later ]
 
 -- its cell
 pub scalar_cell : (tree : Tree) (v : ℕ) → IsScalar tree v → IsElement tree v [] (first_cell tree v)

@@ -3,6 +3,7 @@ use Rattle.std.proofs.Common.{◌≡◌, ℕ, suc, ◌+◌, ◌-◌, ◌<◌, �
 use Rattle.std.specs.List.{AllByRecursion, Contains, flat_map, slice_get}
 use Rattle.std.proofs.lemmas.Bool.{and_parts, cases_Bool, cases_eq, ltb-true}
 use Rattle.std.proofs.lemmas.List.Elements.{Contains-append_left}
+use Rattle.list_lemmas.proofs.Elements.{contains_at, Contains-map, Contains-flat_map, Contains-filter}
 use Rattle.nest_tree.specs.Form.{Form, form_value, is_small, numbered}
 use Rattle.nest_tree.specs.Layout.{count_of}
 use Rattle.nest_tree.specs.Tree.{Head, Statement, Statements, do_loop, work, continue, Tree, param_values}
@@ -36,7 +37,6 @@ use Rattle.comm_system.proofs.Contexts.{IsInFront, loop_number}
 use Rattle.comm_system.proofs.Different.{keeps}
 use Rattle.comm_system.proofs.Holders.{form_keeps}
 use Rattle.comm_system.proofs.LastTrips.{none_later}
-use Rattle.comm_system.proofs.Lists.{get_contains, in_filter, in_flat_map, in_map}
 use Rattle.comm_system.proofs.Meets.{trips_meet}
 use Rattle.comm_system.proofs.Ordered.{Conflicting, anchor_there, conflict_so, meeting, owner_is, same_further}
 use Rattle.comm_system.proofs.Owners.{anchor_named, around_among, as_many, outer_named, own_heads, there, visit_at}
@@ -133,17 +133,17 @@ module _ (tree : Tree) (plan : Plan) (formed : IsWellFormed tree) (fits : IsFit 
       let X = point_at i (s.trips ++ p.inner.trips) c.first.touches.free in
       let Y = point_at j (s.trips ++ q.inner.trips) c.second.touches.free in
       let meet = meeting tree plan.cut phase phase (s.heads ++ p.inner.heads) (s.heads ++ q.inner.heads) i j cell c (s.trips ++ p.inner.trips) (s.trips ++ q.inner.trips) (two_trips (length s.heads)) (None, None) p.trips q.trips same (λ e. early) tt tt in
-      let here = get_contains (phases_of tree plan.cut.marks) (s.visit.place - 1) phase (phase_there tree plan.cut.marks formed e s at) in
-      let first = in_filter (λ r. not (is_own_in plan.cut phase r)) (references_of phase) c.a c.first.among (ap not shared) in
+      let here = contains_at (phases_of tree plan.cut.marks) (s.visit.place - 1) phase (phase_there tree plan.cut.marks formed e s at) in
+      let first = Contains-filter (λ r. not (is_own_in plan.cut phase r)) (references_of phase) c.a c.first.among (ap not shared) in
       let among : Contains (pairs_within plan.cut phase) pair = pair_there (shared_of plan.cut phase) (references_of phase) c.a c.b first c.second.among (conflict_so tree plan.cut phase phase (s.heads ++ p.inner.heads) (s.heads ++ q.inner.heads) i j cell c) in
       let solved = trips_meet tree plan phase pair X Y formed fits here among meet in
-      let task = in_map (trips_task tree plan phase) (pairs_within plan.cut phase) pair among in
+      let task = Contains-map (trips_task tree plan phase) (pairs_within plan.cut phase) pair among in
       let task' : Contains (trips_tasks tree plan phase) (trips_task tree plan phase pair) = subst (λ b. Contains (if b then map (trips_task tree plan phase) (pairs_within plan.cut phase) else []) (trips_task tree plan phase pair)) (sym is) task in
       let all = phases_of tree plan.cut.marks in
       let slots = flat_map (λ (slot : Slot). slot_tasks tree plan slot (slot_signature plan.version plan.kinds all slot)) (slots_of all) in
       let trips = flat_map (trips_tasks tree plan) all in
       let there = Contains-append_left (trips ++ slots) (flat_map (paths_tasks tree plan) all) (trips_task tree plan phase pair)
-      (Contains-append_left trips slots (trips_task tree plan phase pair) (in_flat_map (trips_tasks tree plan) all phase (trips_task tree plan phase pair) here task')) in
+      (Contains-append_left trips slots (trips_task tree plan phase pair) (Contains-flat_map (trips_tasks tree plan) all phase (trips_task tree plan phase pair) here task')) in
       none (trips_task tree plan phase pair) there (values_of tree pair X Y []) solved
 
   -- no trip comes behind that of a private scalar's access

@@ -1,10 +1,12 @@
 -- What others see of an execution at a cell is an access of its phase that others see; a private scalar's is made in the last trip.
 use Rattle.std.proofs.Common.{◌≡◌, ℕ, ◌+◌, ◌-◌, ◌⊎◌, ◌&&◌, ◌||◌, ◌==◌, not, nat_lt, unsigned_abs, ℤ, ◌+ℤ◌, Bool, true, false, true≢false, cond, Option, Some, None, List, [], ◌∷◌, ◌++◌, append_assoc, length, map, if◌then◌else◌, refl, ap, sym, ◌∙◌, subst, inl, inr, arith}
 use Rattle.std.specs.Prelude.{find, slice_get}
-use Rattle.std.specs.List.{AllByRecursion, Contains, filter, flat_map, list_any}
+use Rattle.std.specs.List.{AllByRecursion, Contains, flat_map, list_any}
 use Rattle.std.specs.Option.{option_to_list}
 use Rattle.std.proofs.lemmas.Bool.{and_parts, cases_Bool, eq-eqb, eqb-true, ltb-true}
 use Rattle.std.proofs.lemmas.List.Elements.{Contains-append_cases}
+use Rattle.list_lemmas.proofs.Elements.{filter_has}
+use Rattle.list_lemmas.proofs.Each.{all_split}
 use Rattle.nest_tree.specs.Form.{form_value, numbered}
 use Rattle.nest_tree.specs.Layout.{first_cell}
 use Rattle.nest_tree.specs.Tree.{Head, Statement, Statements, do_loop, work, continue, Tree, param_values}
@@ -35,20 +37,12 @@ use Rattle.comm_system.proofs.FirstStores.{first_at, first_store, path_among, st
 use Rattle.comm_system.proofs.FirstWorks.{first_work_is}
 use Rattle.comm_system.proofs.GoodReferences.{AllIn, among_phases}
 use Rattle.comm_system.proofs.LastTrips.{last_past}
-use Rattle.comm_system.proofs.Lists.{all_split, contains_cases, contains_here, contains_later, contains_nothing}
+use Rattle.comm_system.proofs.Lists.{contains_cases, contains_nothing}
 use Rattle.comm_system.proofs.Owners.{index_is, there as there_at}
 use Rattle.comm_system.proofs.PrivateScalars.{ArePrivate, IsScalar, among_all, at_scalar_cell, phase_private, private_scalar, text_stored}
 use Rattle.comm_system.proofs.ShownLists.{shown_plain}
 
 -- ---- lists
-
-kept_there : {X : Type 0} (p : X → Bool) (xs : List X) (x : X) → Contains (filter p xs) x → Contains xs x × (p x ≡ true)
-kept_there p [] x c = absurd (contains_nothing x c)
-kept_there p (y ∷ xs) x c = by (λ d. let rest = kept_there p xs x d in (contains_later y x xs rest.0, rest.1)) (p y) refl c
-  where
-    by : (Contains (filter p xs) x → Contains (y ∷ xs) x × (p x ≡ true)) → (b : Bool) → p y ≡ b → Contains (cond b (y ∷ filter p xs) (filter p xs)) x → Contains (y ∷ xs) x × (p x ≡ true)
-    by later true e d = elim (contains_cases y x (filter p xs) d) [ inl same ↦ (subst (λ z. Contains (y ∷ xs) z) same (contains_here y xs), ap p (sym same) ∙ e) | inr rest ↦ later rest ]
-    by later false e d = later d
 
 none_found : (p : ℕ → Bool) (vs : List ℕ) → find p vs ≡ None → list_any p vs ≡ false
 none_found p [] e = refl
@@ -184,7 +178,7 @@ module _ (tree : Tree) (plan : Plan) (formed : IsWellFormed tree) (fits : IsFit 
 
   pub seen_load : (cell : ℕ) → Contains (seen_loads tree plan x) cell → (a : Reference) × IsAccessAt tree phase around x.instance cell a × IsSeen tree plan.cut phase around x.instance a
   seen_load cell c =
-      let k = kept_there (λ c. not (is_cell_of tree (own_loop tree plan x.place).privates c)) (loads_of tree x.instance) cell c in
+      let k = filter_has (λ c. not (is_cell_of tree (own_loop tree plan x.place).privates c)) (loads_of tree x.instance) cell c in
       let a = load_access tree phase around x.instance cell h.placed.nested (nested_good tree plan.cut.marks formed x e h) h.placed.executed h.inside k.0 in
       (a.0, a.1, plain_seen cell a.0 a.1 (unkept (is_cell_of tree (own_loop tree plan x.place).privates cell) k.1))
     where

@@ -3,6 +3,8 @@ use Rattle.std.proofs.Common.{◌≡◌, ℕ, zero, suc, ◌+◌, ◌-◌, ◌<�
 use Rattle.std.specs.List.{AllByRecursion, Contains, flat_map, range_with_len, slice_get}
 use Rattle.std.proofs.lemmas.Bool.{lt-ltb}
 use Rattle.std.proofs.lemmas.List.Elements.{Contains-append_left, Contains-append_right}
+use Rattle.list_lemmas.proofs.Elements.{Contains-map, Contains-flat_map}
+use Rattle.list_lemmas.proofs.Ranges.{range_there}
 use Rattle.nest_tree.specs.Tree.{Tree}
 use Rattle.nest_rows.proofs.Nesting.{all-weaker}
 use Rattle.owner_partition.specs.declared.anchor.Anchor.{Anchor}
@@ -15,7 +17,7 @@ use Rattle.comm_system.specs.OwnerRows.{Piece, pieces}
 use Rattle.comm_system.specs.Pairs.{Pair, pairs_of}
 use Rattle.conflict_rules.specs.References.{StaticPhase, phases_of}
 use Rattle.comm_system.specs.Signatures.{waits}
-use Rattle.comm_system.proofs.Lists.{contains_here, contains_later, in_flat_map, in_map, range_there}
+use Rattle.comm_system.proofs.Lists.{contains_here, contains_later}
 
 -- ---- levels and slots
 
@@ -52,7 +54,7 @@ pub slot_there : (phases : List StaticPhase) (s : ℕ) (first : StaticPhase) (t 
     Contains (slots_of phases) (record { s = s; first = first; t = t; second = second; level = level })
 slot_there phases s first t second level some some' at at' c =
     from_there phases 1 phases (t - 1) t second (slot_at s first t second level) (omega (arith, some')) at'
-    (before_there 1 phases (s - 1) s first t second (slot_at s first t second level) (omega (arith, some)) at (in_map (slot_at s first t second) (levels (common first.outer second.outer) s t) level c))
+    (before_there 1 phases (s - 1) s first t second (slot_at s first t second level) (omega (arith, some)) at (Contains-map (slot_at s first t second) (levels (common first.outer second.outer) s t) level c))
 
 -- ---- pieces
 
@@ -72,7 +74,7 @@ module _ (tree : Tree) (plan : Plan) where
       let paths = flat_map (paths_tasks tree plan) phases in
       let trips = flat_map (trips_tasks tree plan) phases in
       Contains-append_left (trips ++ slots) paths task
-      (Contains-append_right trips slots task (in_flat_map (λ slot. slot_tasks tree plan slot (slot_signature plan.version plan.kinds phases slot)) (slots_of phases) slot task there among))
+      (Contains-append_right trips slots task (Contains-flat_map (λ slot. slot_tasks tree plan slot (slot_signature plan.version plan.kinds phases slot)) (slots_of phases) slot task there among))
 
   -- each piece of a pair has its task
   pub pieces_tasks : (slot : Slot) (left right : ℕ) (producers : List (Anchor × Side)) (pair : Pair) → Contains (slots_of (phases_of tree plan.cut.marks)) slot → slot_signature plan.version plan.kinds (phases_of tree plan.cut.marks) slot ≡ waits left right producers → Contains (pairs_of plan.cut slot.first slot.second) pair →
@@ -83,6 +85,6 @@ module _ (tree : Tree) (plan : Plan) where
         h.0,
         slot_task slot (piece_task tree plan slot left right producers pair h.0 p) there
             (subst (λ sig. Contains (slot_tasks tree plan slot sig) (piece_task tree plan slot left right producers pair h.0 p)) (sym is)
-            (in_flat_map (pair_tasks tree plan slot left right producers) (pairs_of plan.cut slot.first slot.second) pair (piece_task tree plan slot left right producers pair h.0 p) among h.1)),
+            (Contains-flat_map (pair_tasks tree plan slot left right producers) (pairs_of plan.cut slot.first slot.second) pair (piece_task tree plan slot left right producers pair h.0 p) among h.1)),
       ))
       (pieces_there (piece_task tree plan slot left right producers pair) 1 (pieces (length producers)))

@@ -3,12 +3,12 @@ use Rattle.std.proofs.Common.{◌≡◌, ℕ, ◌+◌, ◌-◌, ◌<◌, ◌≤�
 use Rattle.std.specs.List.{AllByRecursion, flat_map, range_with_len, slice_get}
 use Rattle.std.proofs.lemmas.List.{append-nil}
 use Rattle.std.proofs.lemmas.Option.{slice_get_within}
+use Rattle.list_lemmas.proofs.Gets.{get-front, get-behind}
 use Rattle.nest_tree.specs.Tree.{Head, Statement, Statements, do_loop, work, continue, done, next}
 use Rattle.nest_tree.specs.WellFormed.{Scope, loops_in, loops_of}
 use Rattle.nest_model.specs.Instances.{works_in}
 use Rattle.nest_model.specs.Visits.{stops_in}
 use Rattle.nest_rows.proofs.Nesting.{all-append, all-weaker}
-use Rattle.sync_plan.proofs.Gets.{get-behind, get-front}
 use Rattle.conflict_rules.specs.References.{StaticPhase}
 use Rattle.comm_system.proofs.Contexts.{AreInFront, IsInFront, behind, entered, front, loop_number}
 use Rattle.comm_system.proofs.Lists.{all_in_range, all_mapped, mapped_get}

@@ -3,10 +3,10 @@ use Rattle.std.proofs.Common.{◌≡◌, ℕ, zero, suc, ◌+◌, ◌-◌, ◌<�
 use Rattle.std.specs.List.{flat_map, range_with_len, slice_get}
 use Rattle.std.proofs.lemmas.Bool.{cases_lt}
 use Rattle.std.proofs.lemmas.Option.{slice_get_within}
+use Rattle.list_lemmas.proofs.Gets.{get-front, get-behind}
 use Rattle.nest_tree.specs.Tree.{Head, Statement, Statements, do_loop, work, continue, done, next}
 use Rattle.nest_model.specs.Instances.{works_in}
 use Rattle.nest_model.specs.Visits.{stops_in}
-use Rattle.sync_plan.proofs.Gets.{get-behind, get-front}
 use Rattle.conflict_rules.specs.References.{StaticPhase}
 use Rattle.comm_system.proofs.Lists.{mapped_get}
 use Rattle.comm_system.proofs.Stations.{Station, at_trip, inside, push, stations_in, stations_of, text-length, text_among, text_of, trips_of}

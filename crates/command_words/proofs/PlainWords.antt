@@ -24,6 +24,7 @@ use Rattle.clap.specs.declared.parser.matches.ValueSource.TheVariants.{CommandLi
 use Rattle.clap.specs.Values.{reading_of}
 use Rattle.clap.specs.declared.builder.value_parser.ValueParser.TheVariants as vp
 use Rattle.clap.proofs.OnLiterals.{clap_on_literals}
+use Rattle.list_lemmas.proofs.Tests.{or_left_false}
 use Rattle.command_words.specs.Rule.{tool_app}
 use Rattle.command_words.specs.Wanted.{planned, run, bench, sequential, verify, verify_of, run_of, make_of, bench_of, wanted_by, workers_of, settings_of, size_of, is_numeral}
 use Rattle.clap.specs.Walk.{walk}
@@ -169,17 +170,13 @@ row_among : (a : Name) (os : List Given) → has_row (name_text a) (map row_for 
 row_among a [] = refl
 row_among a (o ∷ os) = ap (λ b. bytes_eq (name_text o.0) (name_text a) || b) (row_among a os)
 
-or_left : (a b : Bool) → (a || b) ≡ false → a ≡ false
-or_left true b e = e
-or_left false b e = refl
-
 or_rest : (a b : Bool) → (a || b) ≡ false → b ≡ false
 or_rest true b e = absurd (true≢false e)
 or_rest false b e = e
 
 at_none : (id : Text) (f : Row → List Row) (m : List Row) (rs : List Row) → has_row id rs ≡ false → at_row id f m rs ≡ rs ++ m
 at_none id f m [] h = refl
-at_none id f m (r ∷ rs) h = rw (or_left (bytes_eq r.id id) _ h) (ap (λ xs. r ∷ xs) (at_none id f m rs (or_rest (bytes_eq r.id id) _ h)))
+at_none id f m (r ∷ rs) h = rw (or_left_false (bytes_eq r.id id) _ h) (ap (λ xs. r ∷ xs) (at_none id f m rs (or_rest (bytes_eq r.id id) _ h)))
 
 -- a use of an option that has no row yet adds its row
 added : (a : Name) (v : Text) (R : List Row) → has_row (name_text a) R ≡ false

@@ -4,6 +4,7 @@ use Rattle.std.specs.List.{All, AllPairs, Contains}
 use Rattle.std.proofs.lemmas.List.{length-map, get_or-map}
 use Rattle.std.proofs.lemmas.List.Elements.{All-nil, All-map, Contains-get_or, All-cons, All-append, All-push, All-weaker, All-contains, All-contains_itself, All-take, Contains-push, Contains-append_left, Contains-append_right, Contains-push_cases}
 use lib.Signed.{≤ℤ_refl}
+use Rattle.list_lemmas.proofs.Elements.{Contains-map}
 use Rattle.farkas_cert.specs.declared.system.Row.{Row}
 use Rattle.elim_level.specs.declared.level.Held.{Held}
 use Rattle.elim_rows.specs.declared.candidate.Candidate.{Candidate}
@@ -13,7 +14,6 @@ use Rattle.elim_rows.specs.Candidates.{Covers, rows_among, IsUseful}
 use Rattle.elim_rows.specs.Table.{IsPut}
 use Rattle.elim_level.specs.Gathering.{IsPaired, IsMade, candidate_of, CoversPair, HasApart, IsJoint, IsJoined, IsSource, IsGathered}
 use Rattle.elim_level.proofs.Unique.{IsPair-unique}
-use Rattle.elim_rows.proofs.Covering.{Contains-map}
 
 pub HasApart-weaker : (limit : ℕ) (P Q : Candidate → Type 0) → ((c : Candidate) → P c → Q c) → HasApart limit P → HasApart limit Q
 HasApart-weaker limit P Q f h = record { kept = h.kept; many = h.many; all = All-weaker P Q f h.kept h.all; apart = h.apart }

@@ -3,6 +3,7 @@ use Rattle.std.proofs.Common.{◌≡◌, ℕ, ◌<◌, ℤ, pos, ◌<ℤ◌, ⊎
 use Rattle.std.specs.List.{All, AllPairs, Contains}
 use Rattle.std.proofs.lemmas.Bool.{false≢true}
 use Rattle.std.proofs.lemmas.List.Elements.{Contains-get_or, All-map, All-weaker, All-contains}
+use Rattle.list_lemmas.proofs.Elements.{Contains-map}
 use Rattle.farkas_cert.specs.declared.system.Row.{Row}
 use Rattle.farkas_cert.specs.Inequalities.{Inequalities}
 use Rattle.elim_rows.specs.declared.derivation.Derivation.{Derivation}
@@ -17,7 +18,7 @@ use Rattle.elim_level.specs.Logs.{IsFounded, IsHeld, rows_of}
 use Rattle.elim_level.specs.Next.{AreNowhereWide}
 use Rattle.elim_level.specs.Gathering.{apart_of, IsSplit, IsPaired, IsMade, candidate_of, CoversPair, HasApart, IsNarrowPair, IsTooWide, IsSource, IsGathered, IsSound, IsCovered}
 use Rattle.elim_level.proofs.Lowest.{IsReduced-lowest}
-use Rattle.elim_rows.proofs.Covering.{Contains-map, Contains-unmap}
+use Rattle.elim_rows.proofs.Covering.{Contains-unmap}
 use Rattle.elim_level.proofs.Gathered.{IsGathered-start, HasApart-weaker, apart_from_rows}
 use Rattle.elim_level.proofs.Least.{listed_raws, many_from}
 use Rattle.elim_level.proofs.Splitting.{apart_has, has_apart, uppers_have, has_upper, lowers_have, has_lower}

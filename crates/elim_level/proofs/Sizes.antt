@@ -1,11 +1,12 @@
 -- Pairs and their multipliers, and sizes that show that a pair is nowhere wide.
-use Rattle.std.proofs.Common.{◌≡◌, ℕ, ◌*◌, ◌/◌, ◌+◌, ◌≤◌, ◌^◌, ℤ, pos, negsuc, ◌+ℤ◌, ◌*ℤ◌, ◌<ℤ◌, unsigned_abs, nat_le, Bool, true, false, IsTrue, [], ◌∷◌, length, get_or, ap, sym, ◌∙◌, subst, arith}
+use Rattle.std.proofs.Common.{◌≡◌, ℕ, ◌*◌, ◌/◌, ◌+◌, ◌≤◌, ◌^◌, ℤ, pos, ◌+ℤ◌, ◌*ℤ◌, ◌<ℤ◌, unsigned_abs, nat_le, Bool, true, false, IsTrue, [], ◌∷◌, length, get_or, ap, sym, ◌∙◌, subst, arith}
 use Rattle.std.specs.Int.{IsGcd}
 use Rattle.std.specs.Bool.{MatchBool}
 use Rattle.std.proofs.Math.Nat.{mul-le-mul, le_trans}
-use Rattle.std.proofs.lemmas.Int.{ints, unsigned_abs-mul}
+use Rattle.std.proofs.lemmas.Int.{unsigned_abs-mul}
 use Rattle.std.proofs.lemmas.Bool.Decides.{nat_tests}
 use Rattle.std.proofs.lemmas.List.{get_or_past}
+use Rattle.list_lemmas.proofs.Integers.{size_sum}
 use Rattle.farkas_cert.specs.declared.system.Row.{Row}
 use Rattle.farkas_cert.specs.Combination.{entry_at, is_narrow, stays_narrow}
 use Rattle.elim_rows.specs.Pairs.{coef_of, IsPair, IsWide, IsNarrow}
@@ -36,13 +37,6 @@ narrow_pair_from v upper lower m n pair narrow = record {
 pub pair_answer : (v : ℕ) (upper lower : Row) (m n : ℤ) (b : Bool) → IsPair v upper lower m n → MatchBool b (IsNarrow (length upper.coefs) m upper n lower) (IsWide (length upper.coefs) m upper n lower) → MatchBool b (IsNarrowPair v upper lower) (IsTooWide v upper lower)
 pair_answer v upper lower m n true pair h = narrow_pair_from v upper lower m n pair h
 pair_answer v upper lower m n false pair h = (m, n, pair, h)
-
--- the size of a sum
-size_sum : (p q : ℤ) → unsigned_abs (p +ℤ q) ≤ unsigned_abs p + unsigned_abs q
-size_sum (pos a) (pos b) = omega (arith, ints)
-size_sum (pos a) (negsuc b) = omega (arith, ints)
-size_sum (negsuc a) (pos b) = omega (arith, ints)
-size_sum (negsuc a) (negsuc b) = omega (arith, ints)
 
 -- the entries of a row within a size
 entry_within : (vars size : ℕ) (row : Row) (k : ℕ) → IsWithin size row → k ≤ vars → unsigned_abs (entry_at vars row k) ≤ size

@@ -1,12 +1,13 @@
 -- The rows of a level by the sign of a variable's coefficient.
-use Rattle.std.proofs.Common.{◌≡◌, ℕ, zero, suc, ◌-◌, ◌≤◌, ◌<◌, ℤ, pos, ◌<ℤ◌, Bool, true, false, cond, List, [], ◌∷◌, ◌++◌, map, length, get_or, refl, ap, sym, ◌∙◌, subst, arith}
+use Rattle.std.proofs.Common.{◌≡◌, ℕ, ◌-◌, ◌≤◌, ◌<◌, ℤ, pos, ◌<ℤ◌, Bool, true, false, cond, List, [], ◌∷◌, ◌++◌, map, length, get_or, refl, sym, ◌∙◌, subst, arith}
 use Rattle.std.specs.Prelude.{int_lt}
 use Rattle.std.specs.Ordering.{int_eq}
-use Rattle.std.specs.List.{All, Contains, filter}
+use Rattle.std.specs.List.{All, Contains}
 use lib.Dec.{T}
 use Rattle.std.proofs.lemmas.Bool.Decides.{Decides-int_eq}
-use Rattle.std.proofs.lemmas.List.Elements.{All-filter, All-contains, All-contains_itself, Contains-get_or, Contains-append_right, filter_passes, All-push}
+use Rattle.std.proofs.lemmas.List.Elements.{All-contains, Contains-get_or, All-push}
 use Rattle.std.proofs.lemmas.List.{map-append, append-nil}
+use Rattle.list_lemmas.proofs.Elements.{Contains-filter, filter_has}
 use Rattle.farkas_cert.specs.declared.system.Row.{Row}
 use Rattle.farkas_cert.specs.Inequalities.{Inequalities}
 use Rattle.elim_rows.specs.declared.candidate.Candidate.{Candidate}
@@ -16,27 +17,6 @@ use Rattle.elim_rows.specs.Pairs.{coef_of}
 use Rattle.elim_level.specs.Logs.{IsHeld}
 use Rattle.elim_rows.specs.Candidates.{rows_among}
 use Rattle.elim_level.specs.Gathering.{IsOpposed, candidate_of, apart_of, IsSplit}
-
--- an element that passes is in the filtered list
-pub Contains-filter : {X : Type 0} (test : X → Bool) (xs : List X) (x : X) → Contains xs x → test x ≡ true → Contains (filter test xs) x
-Contains-filter {X} test xs x h pass = at xs h.0 h.1 h.2
-  where
-    first : (y : X) (ys : List X) → y ≡ x → Contains (cond (test y) (y ∷ filter test ys) (filter test ys)) x
-    first y ys e = subst (λ b. Contains (cond b (y ∷ filter test ys) (filter test ys)) x) (sym (ap test e ∙ pass)) (0, omega arith, e)
-
-    later : (b : Bool) (y : X) (ys : List X) → Contains ys x → Contains (cond b (y ∷ ys) ys) x
-    later true y ys there = Contains-append_right (y ∷ []) ys x there
-    later false y ys there = there
-
-    at : (ys : List X) (k : ℕ) → k < length ys → get_or ys k x ≡ x → Contains (filter test ys) x
-    at [] k lt e = absurd (omega arith)
-    at (y ∷ ys) zero lt e = first y ys e
-    at (y ∷ ys) (suc k) lt e = later (test y) y (filter test ys) (at ys k (omega arith) e)
-
--- what a filtered list has, passes and was in the list
-pub filter_has : {X : Type 0} (test : X → Bool) (xs : List X) (x : X) → Contains (filter test xs) x → Contains xs x × (test x ≡ true)
-filter_has {X} test xs x h =
-    (All-contains (Contains xs) (filter test xs) x (All-filter test (Contains xs) xs (All-contains_itself xs)) h, All-contains (λ y. test y ≡ true) (filter test xs) x (filter_passes test xs) h)
 
 -- what holds of the rows so far and of one more holds where that one was kept, or left out
 pub All-kept : (P : Row → Type 0) (old : List Candidate) (held : Held) (test : Bool) → All P (rows_among old) → P held.row → All P (rows_among (old ++ map candidate_of (cond test (held ∷ []) [])))

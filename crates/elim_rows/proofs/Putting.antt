@@ -5,6 +5,7 @@ use Rattle.std.proofs.lemmas.Int.{ints, by_lt_z}
 use Rattle.std.proofs.lemmas.List.{get_or_default, get_or-map, length-map, length-set, get_or-set_same, get_or-set_other}
 use Rattle.std.proofs.lemmas.List.Elements.{All-weaker, All-contains_itself, Contains-get_or}
 use lib.Signed.{≤ℤ_refl}
+use Rattle.list_lemmas.proofs.Elements.{Contains-map}
 use Rattle.farkas_cert.specs.declared.system.Row.{Row}
 use Rattle.farkas_cert.specs.Combination.{no_row}
 use Rattle.elim_rows.specs.declared.chains.Link.{Link}
@@ -14,7 +15,7 @@ use Rattle.elim_rows.specs.Chains.{hash_of}
 use Rattle.elim_rows.specs.Candidates.{Covers, IsAdded, IsUseful, rows_among}
 use Rattle.elim_rows.specs.Table.{IsTable, IsPut, IsLowered, candidate_with}
 use Rattle.elim_rows.proofs.Combined.{by_lt}
-use Rattle.elim_rows.proofs.Covering.{Contains-map, Contains-unmap, Covers-added, Covers-kept, All-added}
+use Rattle.elim_rows.proofs.Covering.{Contains-unmap, Covers-added, Covers-kept, All-added}
 
 -- rows with the same coefficients have the same table
 pub IsTable-alike : (rows more : List Row) (links : List Link) (latest : List ℕ) → length rows ≡ length more → ((k : ℕ) → k < length rows → (get_or rows k no_row).coefs ≡ (get_or more k no_row).coefs) → IsTable rows links latest → IsTable more links latest

@@ -5,6 +5,7 @@ use Rattle.std.specs.List.{list_all}
 use Rattle.std.specs.Str.{bytes_eq}
 use Rattle.std.proofs.lemmas.Bool.Decides.{nat_tests}
 use Rattle.std.proofs.Math.Seq.{take-append_seam, drop-append_seam}
+use Rattle.list_lemmas.proofs.Appending.{append_assoc_four, append_assoc_five}
 use Rattle.f77_forms.specs.declared.form.Compare.{Compare}
 use Rattle.f77_forms.specs.declared.form.Compare.TheVariants.{Lt, Le, Eq, Ge, Gt}
 use Rattle.f77_forms.specs.Characters.{is_digit, is_capital, is_capital_or_digit, is_name, is_number, decimal}
@@ -193,14 +194,8 @@ compare-named Eq = record { text = refl; again = refl; good = refl }
 compare-named Ge = record { text = refl; again = refl; good = refl }
 compare-named Gt = record { text = refl; again = refl; good = refl }
 
-five-regrouped : (a b c d e : List ℕ) → (((a ++ b) ++ c) ++ d) ++ e ≡ a ++ (b ++ (c ++ (d ++ e)))
-five-regrouped a b c d e = simp append_assoc
-
-four-regrouped : (a b c d : List ℕ) → ((a ++ b) ++ c) ++ d ≡ a ++ (b ++ (c ++ d))
-four-regrouped a b c d = simp append_assoc
-
 inside-text : (l n r a : List ℕ) → l ++ ((46 ∷ n) ++ ((46 ∷ r) ++ (41 ∷ a))) ≡ (((l ++ (46 ∷ n ++ 46 ∷ [])) ++ r) ++ codes ")") ++ a
-inside-text l n r a = ap (λ t. l ++ t) (sym (append_assoc (46 ∷ n) (46 ∷ []) (r ++ 41 ∷ a))) ∙ sym (five-regrouped l (46 ∷ n ++ 46 ∷ []) r (41 ∷ []) a)
+inside-text l n r a = ap (λ t. l ++ t) (sym (append_assoc (46 ∷ n) (46 ∷ []) (r ++ 41 ∷ a))) ∙ sym (append_assoc_five l (46 ∷ n ++ 46 ∷ []) r (41 ∷ []) a)
 
 dotted-text : (l n r a : List ℕ) → (44 ∷ l) ++ ((46 ∷ n) ++ ((46 ∷ r) ++ (41 ∷ a))) ≡ 44 ∷ ((((l ++ (46 ∷ n ++ 46 ∷ [])) ++ r) ++ codes ")") ++ a)
 dotted-text l n r a = ap (λ t. 44 ∷ t) (inside-text l n r a)
@@ -289,7 +284,7 @@ unfolding behind_do loop_text
 do-text d = do-spelled d.label (comma_text d.comma) d.variable (expression_text d.first) (expression_text d.last) (step_text d.step)
   where
     do-spelled : (l c v a b s : List ℕ) → (((((codes "DO" ++ l) ++ c) ++ v) ++ 61 ∷ a) ++ 44 ∷ b) ++ s ≡ codes "DO" ++ (l ++ (c ++ (v ++ ((61 ∷ a) ++ ((44 ∷ b) ++ s)))))
-    do-spelled l c v a b s = append_assoc (((((codes "DO" ++ l) ++ c) ++ v) ++ 61 ∷ a)) (44 ∷ b) s ∙ five-regrouped (codes "DO" ++ l) c v (61 ∷ a) ((44 ∷ b) ++ s) ∙ append_assoc (codes "DO") l (c ++ (v ++ ((61 ∷ a) ++ ((44 ∷ b) ++ s))))
+    do-spelled l c v a b s = append_assoc (((((codes "DO" ++ l) ++ c) ++ v) ++ 61 ∷ a)) (44 ∷ b) s ∙ append_assoc_five (codes "DO" ++ l) c v (61 ∷ a) ((44 ∷ b) ++ s) ∙ append_assoc (codes "DO") l (c ++ (v ++ ((61 ∷ a) ++ ((44 ∷ b) ++ s))))
 
 -- what stands behind a label: a comma, or a name's first letter
 record BehindLabel (comma : Bool) (text : List ℕ) : Type 0 where
@@ -353,8 +348,8 @@ if-no_assignment c a g =
     let more = (((compare_name c.compare ++ 46 ∷ []) ++ expression_text c.right) ++ codes ")") ++ assignment_text a in
     let spelled : (comparison_text c ++ codes ")") ++ assignment_text a ≡ expression_text c.left ++ 46 ∷ more =
     ap (λ t. (((expression_text c.left ++ t) ++ expression_text c.right) ++ codes ")") ++ assignment_text a) n.text
-    ∙ five-regrouped (expression_text c.left) (46 ∷ compare_name c.compare ++ 46 ∷ []) (expression_text c.right) (codes ")") (assignment_text a)
-    ∙ ap (λ t. expression_text c.left ++ t) (sym (four-regrouped (46 ∷ compare_name c.compare ++ 46 ∷ []) (expression_text c.right) (codes ")") (assignment_text a))) in
+    ∙ append_assoc_five (expression_text c.left) (46 ∷ compare_name c.compare ++ 46 ∷ []) (expression_text c.right) (codes ")") (assignment_text a)
+    ∙ ap (λ t. expression_text c.left ++ t) (sym (append_assoc_four (46 ∷ compare_name c.compare ++ 46 ∷ []) (expression_text c.right) (codes ")") (assignment_text a))) in
     let refused : run (start false) (73 ∷ 70 ∷ 40 ∷ ((comparison_text c ++ codes ")") ++ assignment_text a)) ≡ None =
     letters-read 73 (70 ∷ []) (40 ∷ ((comparison_text c ++ codes ")") ++ assignment_text a)) [] l refl refl
     ∙ call-read (codes "IF") [] l ((comparison_text c ++ codes ")") ++ assignment_text a) refl refl
@@ -466,7 +461,7 @@ assignment-head a g = by_target a.target.name a.target.arguments (and_parts (is_
   where
     by_target : (n : List ℕ) (all : ArgumentForms) → (is_name n && are_expressions all) ≡ true → Head (expression_text (target_expression (record { name = n; arguments = all })) ++ 61 ∷ expression_text a.value)
     by_target n no_more g = head-at n 61 (expression_text a.value) (and_parts (is_name n) true g).0 refl (omega arith)
-    by_target n (one_more e more) g = subst Head (sym (four-regrouped n (40 ∷ (expression_text e ++ arguments_text more)) (41 ∷ []) (61 ∷ expression_text a.value)))
+    by_target n (one_more e more) g = subst Head (sym (append_assoc_four n (40 ∷ (expression_text e ++ arguments_text more)) (41 ∷ []) (61 ∷ expression_text a.value)))
         (head-at n 40 ((expression_text e ++ arguments_text more) ++ ((41 ∷ []) ++ (61 ∷ expression_text a.value))) (and_parts (is_name n) (is_expression sum e && are_expressions more) g).0 refl (omega arith))
 
 not_true : (b : Bool) → (b ≡ true → ⊥) → b ≡ false

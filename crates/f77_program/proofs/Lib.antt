@@ -1,7 +1,6 @@
 pub mod Mapped
 pub mod Keyed
 pub mod Parted
-pub mod Quotients
 pub mod Summed
 pub mod Looked
 pub mod Limited

@@ -1,20 +1,10 @@
 -- Products and quotients of whole numbers.
-use Rattle.std.proofs.Common.{◌≡◌, ◌+◌, ◌*◌, ◌/◌, ◌≤◌, ◌<◌, ℤ, pos, negsuc, ◌+ℤ◌, ◌*ℤ◌, ◌≤ℤ◌, int_div, int_rem, ap, arith}
+use Rattle.std.proofs.Common.{◌≡◌, ◌+◌, ◌*◌, ◌/◌, ◌≤◌, ◌<◌, ℤ, pos, negsuc, ◌*ℤ◌, ◌≤ℤ◌, int_div, int_rem, arith}
 use Rattle.std.specs.Int.{int_div_euclid}
 use Rattle.std.proofs.Math.Nat.{mul-le-mul_left, le-div_iff_mul-le, div-lt_iff_lt-mul}
 use Rattle.std.proofs.Math.IntN.{*ℤ_comm}
 use Rattle.std.proofs.lemmas.Int.{ints, quot-rem}
-use borrow.Author.Differences.{up, down, product_is, sum_is_lem, le_out}
-
-pub add-mul : (a b c : ℤ) → (a +ℤ b) *ℤ c ≡ a *ℤ c +ℤ b *ℤ c
-add-mul a b c =
-    let e : up (a +ℤ b) * up c + down a * up c + down b * up c ≡ down (a +ℤ b) * up c + up a * up c + up b * up c = omega (arith, ap (λ n. n * up c) (sum_is_lem a b)) in
-    let f : up (a +ℤ b) * down c + down a * down c + down b * down c ≡ down (a +ℤ b) * down c + up a * down c + up b * down c = omega (arith, ap (λ n. n * down c) (sum_is_lem a b)) in
-    omega (arith, ints)
-
-pub mul_assoc_ℤ : (a b c : ℤ) → a *ℤ b *ℤ c ≡ a *ℤ (b *ℤ c)
-mul_assoc_ℤ a b c =
-    omega (arith, ints, ap (λ n. n * up c) (product_is a b).0, ap (λ n. n * up c) (product_is a b).1, ap (λ n. n * down c) (product_is a b).0, ap (λ n. n * down c) (product_is a b).1, ap (λ n. up a * n) (product_is b c).0, ap (λ n. up a * n) (product_is b c).1, ap (λ n. down a * n) (product_is b c).0, ap (λ n. down a * n) (product_is b c).1)
+use borrow.Author.Differences.{le_out}
 
 -- a multiplier of at least 0 keeps an order
 pub mul_le_ℤ : (m a b : ℤ) → pos 0 ≤ℤ m → a ≤ℤ b → (m *ℤ a) ≤ℤ (m *ℤ b)

@@ -2,12 +2,13 @@
 use Rattle.std.proofs.Common.{◌≡◌, ℕ, suc, ◌+◌, ◌-◌, ◌≤◌, ◌<◌, ℤ, pos, ◌+ℤ◌, ◌*ℤ◌, ◌≤ℤ◌, List, [], ◌∷◌, map, length, slice_index_or, refl, ap, sym, ◌∙◌, arith}
 use Rattle.std.specs.List.{All, range_with_len}
 use Rattle.std.proofs.lemmas.Int.{ints}
-use Rattle.std.proofs.Math.IntN.{*ℤ_comm, *ℤ-zero}
+use Rattle.std.proofs.Math.IntN.{*ℤ-zero}
 use Rattle.std.proofs.lemmas.Bool.Decides.{nat_tests}
+use Rattle.list_lemmas.proofs.Integers.{add-mul, mul-add, mul_assoc_ℤ}
 use Rattle.farkas_cert.specs.declared.system.Row.{Row}
 use Rattle.farkas_cert.specs.Inequalities.{left_side, Holds}
 use Rattle.farkas_cert.specs.Combination.{row_at, no_row, entry_at, sum_at}
-use Rattle.farkas_cert.proofs.Integers.{add-mul, mul_assoc_ℤ, mul_le_ℤ}
+use Rattle.farkas_cert.proofs.Integers.{mul_le_ℤ}
 
 -- f a * x + f (a + 1) * x' + ..
 abbrev pub weighted : (ℕ → ℤ) → ℕ → List ℤ → ℤ
@@ -38,9 +39,6 @@ weighted-zero f a (x ∷ xs) h =
 pub weighted-add : (f g : ℕ → ℤ) (a : ℕ) (xs : List ℤ) → weighted (λ k. f k +ℤ g k) a xs ≡ weighted f a xs +ℤ weighted g a xs
 weighted-add f g a [] = refl
 weighted-add f g a (x ∷ xs) = omega (arith, ints, add-mul (f a) (g a) x, weighted-add f g (a + 1) xs)
-
-pub mul-add : (a b c : ℤ) → a *ℤ (b +ℤ c) ≡ a *ℤ b +ℤ a *ℤ c
-mul-add a b c = *ℤ_comm a (b +ℤ c) ∙ add-mul b c a ∙ omega (arith, ints, *ℤ_comm a b, *ℤ_comm a c)
 
 pub weighted-mul : (m : ℤ) (f : ℕ → ℤ) (a : ℕ) (xs : List ℤ) → weighted (λ k. m *ℤ f k) a xs ≡ m *ℤ weighted f a xs
 weighted-mul m f a [] = sym (*ℤ-zero m)

@@ -4,6 +4,7 @@ use Rattle.std.specs.List.{AllZip}
 use Rattle.std.proofs.lemmas.Int.{ints, int_wrap_fits, int_wrap-add_left}
 use Rattle.std.proofs.lemmas.List.{reverse-append, length-reverse, length-map, set_at, get_or_at, take_more, take_more_set}
 use Rattle.std.proofs.Math.IntN.{zero-*ℤ}
+use Rattle.list_lemmas.proofs.Integers.{mul-add}
 use Rattle.nest_tree.specs.Layout.{count_of}
 use Rattle.nest_tree.specs.Values.{wrapped}
 use Rattle.nest_walk.specs.CellForms.{dot_by_depth, start_at, step_at}
@@ -13,7 +14,6 @@ use Rattle.nest_walk.specs.declared.cells.CellForm.{CellForm}
 use Rattle.nest_walk.specs.declared.table.LoadCells.{LoadCells}
 use Rattle.nest_walk.specs.declared.table.LoadCells.TheVariants.{Element, Array}
 use Rattle.nest_walk.proofs.Grown.{AllZip-append}
-use Rattle.nest_walk.proofs.Products.{mul-add}
 use Rattle.flat_code.specs.Lines.{IsLineOf, IsLoadLine, first_of_load}
 use Rattle.flat_code.specs.declared.lines.Line.{Line}
 

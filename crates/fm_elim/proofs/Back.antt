@@ -6,14 +6,14 @@ use Rattle.std.proofs.Math.Nat.{mul-div_cancel'}
 use Rattle.std.proofs.lemmas.Int.{ints}
 use Rattle.std.proofs.lemmas.List.Elements.{All-contains, Contains-get_or}
 use Rattle.std.proofs.Math.IntN.{*ℤ_comm, *ℤ-zero, pos-*ℤ-pos}
+use Rattle.list_lemmas.proofs.Integers.{add-mul, mul-add, mul_assoc_ℤ}
 use Rattle.farkas_cert.specs.declared.system.Row.{Row}
 use Rattle.farkas_cert.specs.Inequalities.{left_side as dot, AreFull}
 use Rattle.elim_rows.specs.Reduction.{IsReduced}
 use Rattle.elim_rows.specs.Pairs.{coef_of, IsPair, combination}
 use Rattle.elim_level.specs.Levels.{IsRaw}
 use Rattle.elim_rows.specs.Candidates.{Covers}
-use Rattle.farkas_cert.proofs.Integers.{add-mul, mul_assoc_ℤ, mul_le_ℤ}
-use Rattle.farkas_cert.proofs.Sums.{mul-add}
+use Rattle.farkas_cert.proofs.Integers.{mul_le_ℤ}
 use Rattle.fm_elim.proofs.Integers.{mul-neg, mul_swap}
 use Rattle.fm_elim.proofs.Values.{dot-zero, dot-quotients, floor_le, dot-combined}
 use Rattle.fm_elim.proofs.Removal.{slack, AllHold, IsSolvable, solvable}

@@ -9,12 +9,12 @@ use Rattle.std.proofs.lemmas.List.FromFn.{length-range_with_len, get_or-range_wi
 use Rattle.std.proofs.lemmas.List.Elements.{Contains-get_or}
 use Rattle.std.proofs.lemmas.List.Sorted.{Contains-permutation}
 use Rattle.std.proofs.Math.IntN.{*ℤ_comm, *ℤ-zero, pos-*ℤ-pos}
+use Rattle.list_lemmas.proofs.Integers.{mul_assoc_ℤ}
 use Rattle.farkas_cert.specs.declared.system.Row.{Row}
 use Rattle.elim_rows.specs.Reduction.{IsReduced}
 use Rattle.elim_rows.specs.Pairs.{coef_of, combined, combination, IsPair}
 use Rattle.elim_rows.specs.Candidates.{IsEmpty}
 use Rattle.elim_level.specs.Levels.{IsRaw, IsCombined}
-use Rattle.farkas_cert.proofs.Integers.{mul_assoc_ℤ}
 use Rattle.fm_elim.proofs.Integers.{mul_swap, mul-neg}
 use Rattle.elim_rows.proofs.Combined.{by_lt, combined-at}
 use Rattle.fm_elim.proofs.Removal.{IsSolvable}

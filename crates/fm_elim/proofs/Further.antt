@@ -6,6 +6,7 @@ use Rattle.std.proofs.lemmas.List.{length-map}
 use Rattle.std.proofs.lemmas.List.Elements.{All-head, All-tail, All-nil, All-cons, All-contains, All-weaker, Contains-append_left, Contains-append_right, Contains-append_cases}
 use Rattle.std.proofs.lemmas.List.Kept.{AllPairs-cons}
 use lib.Signed.{≤ℤ_refl}
+use Rattle.list_lemmas.proofs.Elements.{Contains-map}
 use Rattle.farkas_cert.specs.declared.system.Row.{Row}
 use Rattle.farkas_cert.specs.Inequalities.{Inequalities}
 use Rattle.elim_rows.specs.Reduction.{IsReduced}
@@ -20,7 +21,6 @@ use Rattle.fm_elim.proofs.AtMost.{at_most}
 use Rattle.elim_rows.proofs.Combined.{by_lt}
 use Rattle.elim_level.proofs.Lowest.{IsReduced-lowest}
 use Rattle.fm_elim.proofs.Columns.{zero_reduced}
-use Rattle.elim_rows.proofs.Covering.{Contains-map}
 use Rattle.elim_level.proofs.Unique.{IsReduced-unique}
 use Rattle.fm_elim.proofs.Exactness.{raw_of_other, kept_of_other, kept_from_formed, formed_has_kept}
 use Rattle.elim_level.proofs.Least.{Listed, listed_both, reduction_exists}

@@ -2,8 +2,8 @@
 use Rattle.std.proofs.Common.{◌≡◌, ℤ, pos, ◌+ℤ◌, ◌*ℤ◌, ◌≤ℤ◌, ◌<ℤ◌, neg_ℤ, ap, sym, ◌∙◌, arith}
 use Rattle.std.proofs.Math.IntN.{*ℤ_comm, *ℤ-zero, +ℤ_invr}
 use Rattle.std.proofs.lemmas.Int.{ints, by_lt_z}
-use Rattle.farkas_cert.proofs.Integers.{mul_assoc_ℤ, mul_le_ℤ}
-use Rattle.farkas_cert.proofs.Sums.{mul-add}
+use Rattle.list_lemmas.proofs.Integers.{mul-add, mul_assoc_ℤ}
+use Rattle.farkas_cert.proofs.Integers.{mul_le_ℤ}
 
 pub mul_swap : (a b c : ℤ) → a *ℤ (b *ℤ c) ≡ b *ℤ (a *ℤ c)
 mul_swap a b c = sym (mul_assoc_ℤ a b c) ∙ ap (λ z. z *ℤ c) (*ℤ_comm a b) ∙ mul_assoc_ℤ b a c

@@ -3,6 +3,7 @@ use Rattle.std.proofs.Common.{◌≡◌, ℕ, ◌+◌, ◌-◌, ◌<◌, ◌≤�
 use Rattle.std.specs.List.{All, AllPairs, Contains}
 use Rattle.std.proofs.lemmas.List.{take_all, take_more, map-append, length-drop}
 use Rattle.std.proofs.lemmas.List.Elements.{All-contains, Contains-get_or, Contains-append_left, Contains-append_right}
+use Rattle.list_lemmas.proofs.Elements.{Contains-map}
 use Rattle.farkas_cert.specs.declared.system.Row.{Row}
 use Rattle.farkas_cert.specs.Inequalities.{Inequalities}
 use Rattle.elim_rows.specs.declared.derivation.Derivation.{Derivation}
@@ -16,7 +17,6 @@ use Rattle.elim_rows.specs.Table.{IsPut, candidate_with}
 use Rattle.elim_level.specs.Logs.{step_of, all_rows, IsNumber, IsFounded, IsHeld, rows_of}
 use Rattle.elim_rows.specs.Candidates.{rows_among}
 use Rattle.elim_level.specs.Gathering.{IsCovered, AreTaken}
-use Rattle.elim_rows.proofs.Covering.{Contains-map}
 use Rattle.elim_level.proofs.Steps.{rows_after-begins, IsNumber-append}
 use Rattle.elim_level.proofs.Leveling.{formed_from}
 use Rattle.elim_level.proofs.Given.{given_number, AreTaken-more}

@@ -5,6 +5,7 @@ use Rattle.std.proofs.lemmas.List.{get_or_default, length-map}
 use Rattle.std.proofs.lemmas.List.FromFn.{length-range_with_len, get_or-range_with_len}
 use Rattle.std.proofs.lemmas.List.Elements.{All-contains, All-map, All-weaker, Contains-get_or}
 use Rattle.std.proofs.lemmas.List.Sorted.{Contains-permutation, length_permutation, IsPermutation-sym}
+use Rattle.list_lemmas.proofs.Elements.{Contains-map}
 use Rattle.farkas_cert.specs.declared.system.Row.{Row}
 use Rattle.farkas_cert.specs.Inequalities.{Inequalities, AreFull}
 use Rattle.elim_rows.specs.declared.derivation.Derivation.{Derivation}
@@ -20,7 +21,6 @@ use Rattle.fm_elim.specs.Answers.{NamesEachOnce, HasRationalSolution, IsWidePair
 use Rattle.elim_level.specs.Next.{AreNowhereWide, IsNextLevel}
 use Rattle.fm_elim.specs.Reached.{IsExact, IsReached}
 use Rattle.fm_elim.proofs.AtMost.{at_most}
-use Rattle.elim_rows.proofs.Covering.{Contains-map}
 use Rattle.elim_rows.proofs.Combined.{by_lt}
 use Rattle.fm_elim.proofs.Exactness.{IsExact-first, IsExact-next, raw_of_other, kept_of_other}
 use Rattle.fm_elim.proofs.Columns.{empty_from_rid, solvable_nothing}

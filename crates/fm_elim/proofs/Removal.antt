@@ -5,11 +5,11 @@ use Rattle.std.proofs.lemmas.Int.{ints, by_lt_z}
 use Rattle.std.proofs.lemmas.List.Elements.{All-cons, All-nil, All-weaker, Contains-get_or}
 use Rattle.std.proofs.Math.IntN.{*ℤ_comm, zero-*ℤ}
 use lib.Signed.{≤ℤ_refl}
+use Rattle.list_lemmas.proofs.Integers.{mul-add, mul_assoc_ℤ}
 use Rattle.farkas_cert.specs.declared.system.Row.{Row}
 use Rattle.farkas_cert.specs.Inequalities.{left_side as dot}
 use Rattle.elim_rows.specs.Pairs.{coef_of}
-use Rattle.farkas_cert.proofs.Integers.{mul_assoc_ℤ, mul_le_ℤ}
-use Rattle.farkas_cert.proofs.Sums.{mul-add}
+use Rattle.farkas_cert.proofs.Integers.{mul_le_ℤ}
 use Rattle.fm_elim.proofs.Integers.{mul-neg, mul_swap, mul_le_cancel}
 use Rattle.fm_elim.proofs.Values.{moved, dot-moved, length-moved}
 

@@ -7,11 +7,10 @@ use Rattle.std.proofs.lemmas.List.{length-map}
 use Rattle.std.proofs.lemmas.Nat.Gcd.{mod-eq-zero_of_dvd}
 use Rattle.std.proofs.lemmas.List.Elements.{All-head, All-tail}
 use Rattle.std.proofs.Math.IntN.{*ℤ_comm, *ℤ-zero, zero-*ℤ}
+use Rattle.list_lemmas.proofs.Integers.{add-mul, mul-add, mul_assoc_ℤ}
 use Rattle.farkas_cert.specs.Inequalities.{left_side as dot}
 use Rattle.elim_rows.specs.Reduction.{DividesEach}
 use Rattle.elim_rows.specs.Pairs.{combined}
-use Rattle.farkas_cert.proofs.Integers.{add-mul, mul_assoc_ℤ}
-use Rattle.farkas_cert.proofs.Sums.{mul-add}
 use Rattle.fm_elim.proofs.Integers.{mul_swap}
 
 -- all values times q, and t added to the one at place k

@@ -4,6 +4,7 @@ use Rattle.std.specs.Prelude.{int_lt}
 use Rattle.std.specs.List.{AllPairs, filter}
 use Rattle.std.proofs.lemmas.Int.{ints}
 use Rattle.std.proofs.lemmas.List.Kept.{AllPairs-filter}
+use Rattle.list_lemmas.proofs.Elements.{Contains-filter, filter_has}
 use Rattle.farkas_cert.specs.declared.system.Row.{Row}
 use Rattle.farkas_cert.specs.Inequalities.{Inequalities}
 use Rattle.elim_rows.specs.declared.derivation.Derivation.{Derivation}
@@ -13,7 +14,7 @@ use Rattle.elim_level.specs.declared.level.HeldRows.{HeldRows}
 use Rattle.elim_level.specs.Levels.{IsDerived, HasCount, HasPairs, IsWork}
 use Rattle.elim_level.specs.Logs.{rows_of}
 use Rattle.elim_level.specs.Gathering.{pair_count}
-use Rattle.elim_level.proofs.Splitting.{Contains-filter, filter_has, int_lt-true, true-int_lt}
+use Rattle.elim_level.proofs.Splitting.{int_lt-true, true-int_lt}
 use Rattle.fm_elim.specs.Reached.{IsExact, IsReached}
 use Rattle.fm_elim.proofs.Derived.{derived_lowest, derived_useful}
 use Rattle.fm_elim.proofs.Further.{AreAlike, AreWithout, derived_agree, derived_same, extended, pair_forth, with_back}

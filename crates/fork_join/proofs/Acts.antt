@@ -8,6 +8,7 @@ use Rattle.spmd_model.specs.Machines.{machine_by}
 use Rattle.spmd_model.specs.Timelines.{Act, Word, Machine, post, await, load, store, add, print}
 use Rattle.spmd_model.specs.Protocols.{act_at}
 use Rattle.spmd_model.specs.declared.style.Style.TheVariants.{Arrive}
+use Rattle.spmd_model.proofs.Deeds.{await_is}
 use Rattle.fork_join.specs.Joins.{IsSafe, all_deeds, protocol}
 
 posting_is : (m : Machine) (a : Act) (w : Word) (k : ℕ) → deed_of m a ≡ posting w k → a ≡ post w k
@@ -17,14 +18,6 @@ posting_is m (load place cell) w k is = let e : loading cell ≡ posting w k = i
 posting_is m (store place cell) w k is = absurd (cc)
 posting_is m (add place cell) w k is = absurd (cc)
 posting_is m (print place) w k is = absurd (cc)
-
-awaiting_is : (m : Machine) (a : Act) (w : Word) (q k : ℕ) → deed_of m a ≡ awaiting w q k → a ≡ await w q k
-awaiting_is m (post word number) w q k is = absurd (cc)
-awaiting_is m (await word on wanted) w q k is = let e : awaiting word on wanted ≡ awaiting w q k = is in cc
-awaiting_is m (load place cell) w q k is = absurd (cc)
-awaiting_is m (store place cell) w q k is = absurd (cc)
-awaiting_is m (add place cell) w q k is = absurd (cc)
-awaiting_is m (print place) w q k is = absurd (cc)
 
 loading_is : (m : Machine) (a : Act) (c : ℕ) → deed_of m a ≡ loading c → (place : ℕ) × (a ≡ load place c)
 loading_is m (post word number) c is = absurd (cc)
@@ -85,7 +78,7 @@ module _ (tree : Tree) (plan : Plan) (safe : IsSafe tree plan) (p n : ℕ) (belo
   post_there w k at = let a = done_by (posting w k) at in a.1 ∙ ap (λ x. Some x) (posting_is (machine_by Arrive tree plan) a.0 w k a.2)
 
   pub await_there : (w : Word) (q k : ℕ) → slice_get (all_deeds tree plan p) n ≡ Some (awaiting w q k) → act_at (protocol tree plan) p n ≡ Some (await w q k)
-  await_there w q k at = let a = done_by (awaiting w q k) at in a.1 ∙ ap (λ x. Some x) (awaiting_is (machine_by Arrive tree plan) a.0 w q k a.2)
+  await_there w q k at = let a = done_by (awaiting w q k) at in a.1 ∙ ap (λ x. Some x) (await_is (machine_by Arrive tree plan) a.0 w q k a.2)
 
   pub load_there : (c : ℕ) → slice_get (all_deeds tree plan p) n ≡ Some (loading c) → (place : ℕ) × (act_at (protocol tree plan) p n ≡ Some (load place c))
   load_there c at = let a = done_by (loading c) at in let is = loading_is (machine_by Arrive tree plan) a.0 c a.2 in (is.0, a.1 ∙ ap (λ x. Some x) is.1)

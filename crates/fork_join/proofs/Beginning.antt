@@ -12,6 +12,7 @@ use Rattle.spmd_model.specs.Timelines.{await, counter, post}
 use Rattle.spmd_turns.specs.Turns.{Turn, awaits, begins, boundary_turns, posts, turn_deeds, works}
 use Rattle.spmd_turns.specs.TurnsLeft.{turns_left}
 use Rattle.spmd_turns.specs.declared.progress.Progress.{Progress}
+use Rattle.spmd_turns.proofs.TurnDeeds.{bounded}
 use Rattle.styled_turns.specs.StyledTurns.{StyledTurn, styled_deeds}
 use Rattle.styled_turns.specs.StyledLeft.{PassesPlainly}
 use Rattle.styled_turns.specs.declared.turns.NextOrPhase.TheVariants as Coming
@@ -27,16 +28,12 @@ use Rattle.fork_join.proofs.Crossing.{begun_is, behind_is}
 use Rattle.fork_join.proofs.Holding.{holds_still}
 use Rattle.fork_join.proofs.Seeing.{next_get}
 use Rattle.fork_join.proofs.Shutting.{no_closing, plain_left, plain_none, rounds, shut_deeds, shut_is, shut_passed, shut_same}
-use Rattle.fork_join.proofs.Turning.{WaitsNext, begins_of, begun_runs, boundary_does, first_of, looked, no_work, phase_begins, phase_there, waited_runs, waiting_boundary}
+use Rattle.fork_join.proofs.Turning.{WaitsNext, begins_of, begun_runs, first_of, looked, no_work, phase_begins, phase_there, waited_runs, waiting_boundary, no_end}
 
 -- what stands first among posts and awaits in front of a beginning
 pub none_ahead : (bs rest : List Turn) (e f : ℕ) (ts : List Turn) → bs ++ begins e ∷ rest ≡ begins f ∷ ts → AreWaiting bs → bs ≡ []
 none_ahead [] rest e f ts is all = refl
 none_ahead (b ∷ bs) rest e f ts is all = absurd (subst IsWaiting (let k : b ≡ begins f = cc in k) all.0)
-
-no_nothing : (bs rest : List Turn) (e : ℕ) → bs ++ begins e ∷ rest ≡ [] → ⊥
-no_nothing [] rest e is = cc
-no_nothing (b ∷ bs) rest e is = cc
 
 same_first : (t s : Turn) (ts ss : List Turn) → t ∷ ts ≡ s ∷ ss → t ≡ s
 same_first t s ts ss is = cc
@@ -74,7 +71,7 @@ module _ (tree : Tree) (plan : Plan) (safe : IsSafe tree plan) (n p : ℕ) (belo
         stands = subst (λ (l : List Turn). Stands tree plan p l w) (phase_begins tree plan p n v.0 v.1 v.2) at.stands;
         none = at.none;
         shut = at.shut;
-        left = shut_deeds tree plan safe n p below w.turns r.program r.plan_is r.processor r.turns at.shut ∙ behind_is tree plan safe n v.0 v.1 v.2 p ∙ ap (λ l. l ++ deeds_begun tree plan n p) (sym (boundary_does tree (suc n - 1) does whom));
+        left = shut_deeds tree plan safe n p below w.turns r.program r.plan_is r.processor r.turns at.shut ∙ behind_is tree plan safe n v.0 v.1 v.2 p ∙ ap (λ l. l ++ deeds_begun tree plan n p) (sym (bounded tree (suc n - 1) does whom));
       }
 
   -- nothing but a post or an await comes next there, or the phase begins
@@ -87,7 +84,7 @@ module _ (tree : Tree) (plan : Plan) (safe : IsSafe tree plan) (n p : ℕ) (belo
   only_waits w (Close k) b comes other =
       let r = b.stands.runs in
       no_closing tree plan p (cursor_left w.turns) b.shut.standing w.turns.turns.place k comes.1.0.0 b.shut.none (sym (shut_is tree plan p w.turns r.program r.plan_is r.processor b.shut) ∙ comes.1.0.1)
-  only_waits w End b comes other = no_nothing b.ahead (turns_begun tree plan n p) (suc n) (sym b.stands.runs.turns ∙ plain_none w.turns comes.0 comes.2)
+  only_waits w End b comes other = no_end b.ahead (turns_begun tree plan n p) (suc n) (sym b.stands.runs.turns ∙ plain_none w.turns comes.0 comes.2)
 
   -- where none is left in front, all deeds in front of the phase are done
   pub begun_here : (w : Worker) (b : IsBeginning tree plan n p w) → b.ahead ≡ [] → w.done.done ≡ begun tree plan n p

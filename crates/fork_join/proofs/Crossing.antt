@@ -5,12 +5,12 @@ use Rattle.std.specs.List.{Contains, flat_map}
 use Rattle.std.proofs.Math.Seq.{drop-append_seam}
 use Rattle.std.proofs.lemmas.List.{length-map}
 use Rattle.std.proofs.lemmas.Bool.{cases_Bool, cases_eq, cases_lt, eq-eqb, lt-ltb, ltb-true, ne_eqb}
+use Rattle.list_lemmas.proofs.Gets.{get-behind}
 use Rattle.nest_tree.specs.Tree.{Tree}
 use Rattle.nest_model.specs.Visits.{Visit}
 use Rattle.owner_partition.specs.Phases.{phases}
 use Rattle.sync_plan.specs.declared.plan.Plan.{Plan}
 use Rattle.sync_plan.specs.Waits.{posts_at, waits_for}
-use Rattle.sync_plan.proofs.Gets.{get-behind}
 use Rattle.sync_plan.specs.Own.{own_of}
 use Rattle.spmd_model.specs.Deeds.{Deed, awaiting, boundary_deeds, owned_by, posting}
 use Rattle.spmd_model.specs.MachineDeeds.{closing_deeds, deeds_by, own_deeds, part_deeds}

@@ -226,9 +226,3 @@ pub stretch_least : (xs : List (ℕ × ℕ)) (k : ℕ) (d : ℕ × ℕ) → k < 
 stretch_least [] k d lt = absurd (omega arith)
 stretch_least (x ∷ xs) zero d lt = omega (arith, length-append (range_with_len x.0 x.1) (stretched xs), length-range_with_len x.0 x.1)
 stretch_least (x ∷ xs) (suc k) d lt = omega (arith, length-append (range_with_len x.0 x.1) (stretched xs), stretch_least xs k d (omega arith))
-
--- what stands at a place within, whatever stands for the others
-pub within_any : {X : Type 0} (xs : List X) (i : ℕ) (d e : X) → i < length xs → get_or xs i d ≡ get_or xs i e
-within_any [] i d e lt = absurd (omega arith)
-within_any (x ∷ xs) zero d e lt = refl
-within_any (x ∷ xs) (suc i) d e lt = within_any xs i d e (omega arith)

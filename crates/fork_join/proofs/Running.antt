@@ -1,10 +1,10 @@
 -- The phases of a run, one behind another.
 use mathlib.Core.Logic.{∥∥₁_elim, ∥∥₁_map}
-use Rattle.std.proofs.Common.{◌≡◌, ℕ, suc, ◌+◌, ◌<◌, ◌≤◌, ℤ, pos, List, [], ◌∷◌, ◌++◌, append-nil, drop, get_or, length, length-append, length-drop, length-set, replicate, set, Some, take, sym, ◌∙◌, ap, subst, inl, inr, arith}
+use Rattle.std.proofs.Common.{◌≡◌, ℕ, suc, ◌+◌, ◌<◌, ◌≤◌, ℤ, pos, List, [], ◌∷◌, ◌++◌, drop, get_or, length, length-drop, length-set, replicate, set, Some, sym, ◌∙◌, ap, subst, inl, inr, arith}
 use Rattle.std.specs.Prelude.{slice_get}
 use Rattle.std.proofs.Props.{props}
 use Rattle.std.proofs.lemmas.Bool.{cases_eq, cases_lt}
-use Rattle.std.proofs.lemmas.List.{drop_all, get_or-set_other, get_or-set_same, get_or_append_left, get_or_at, length-map, take_all}
+use Rattle.std.proofs.lemmas.List.{get_or-set_other, get_or-set_same, length-map}
 use Rattle.nest_tree.specs.Layout.{cell_count}
 use Rattle.nest_tree.specs.Tree.{Tree}
 use Rattle.nest_model.specs.Memory.{last_memory, output_of}
@@ -27,22 +27,6 @@ use Rattle.fork_join.specs.Joins.{Goes, IsSafe, all_deeds, begun, deeds_behind, 
 use Rattle.fork_join.specs.Overlays.{laid_in}
 use Rattle.fork_join.proofs.Crossing.{begun_none, cross, in_front_is, in_front_none, mixed_below, mixed_moves, mixed_past, put_moves, same_at}
 use Rattle.fork_join.proofs.Turning.{phase_there}
-
--- what is written through a slice of a whole list is that list then
-pub written_whole : {X : Type 0} (count : ℕ) (new items : List X) → count ≡ length items → length new ≡ length items → take count (new ++ drop (length new) items) ≡ new
-written_whole count new items all same =
-    ap (λ xs. take count (new ++ xs)) (drop_all (length new) items (omega (arith, same))) ∙ ap (take count) (append-nil new) ∙ take_all count new (omega (arith, all, same))
-
--- what holds of each of these and of one more holds of each of all
-pub pushed_all : {X : Type 0} (P : ℕ → X → Type 0) (xs ys : List X) (x : X) (n : ℕ) → length xs ≡ n → ys ≡ xs ++ x ∷ [] → ((p : ℕ) (d : X) → p < length xs → P p (get_or xs p d)) → P n x →
-    (p : ℕ) (d : X) → p < length ys → P p (get_or ys p d)
-pushed_all P xs ys x n len is all here p d lt =
-    let longer : p < length xs + 1 = omega (arith, ap length is, length-append xs (x ∷ [])) in
-    elim (cases_lt p (length xs)) [
-      | inl inside ↦ subst (P p) (sym (ap (λ l. get_or l p d) is ∙ get_or_append_left xs (x ∷ []) d p inside)) (all p d inside)
-      | inr past ↦ let last : length xs ≡ p = omega arith in let number : n ≡ p = omega arith in
-          subst (P p) (sym (ap (λ l. get_or l p d) is ∙ get_or_at xs x [] d p last)) (subst (λ (k : ℕ). P k x) number here)
-    ]
 
 same_size : (a b : ℕ) → IsProp (a ≡ b)
 same_size a b = Prim.hlevel props

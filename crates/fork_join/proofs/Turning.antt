@@ -10,7 +10,7 @@ use Rattle.nest_model.specs.Visits.{Visit}
 use Rattle.owner_partition.specs.Phases.{phases}
 use Rattle.sync_plan.specs.declared.plan.Plan.{Plan}
 use Rattle.sync_plan.specs.Waits.{posts_at, waits_for}
-use Rattle.spmd_model.specs.Deeds.{Deed, awaiting, boundary_deeds, owned_by, posting}
+use Rattle.spmd_model.specs.Deeds.{Deed, awaiting, owned_by, posting}
 use Rattle.spmd_model.specs.Timelines.{await, counter, post}
 use Rattle.spmd_model.specs.declared.style.Style.TheVariants.{Arrive}
 use Rattle.spmd_model.specs.PlanProtocols.{printed_by, registers_by}
@@ -60,15 +60,6 @@ no_work (b ∷ bs) rest e i ts is all = subst IsWaiting (let k : b ≡ works i =
 pub no_end : (bs rest : List Turn) (e : ℕ) → bs ++ begins e ∷ rest ≡ [] → ⊥
 no_end [] rest e is = cc
 no_end (b ∷ bs) rest e is = cc
-
--- what the turns at a boundary do
-waits_do : (tree : Tree) (k : ℕ) (qs : List ℕ) → flat_map (turn_deeds tree) (map (λ q. awaits q k) qs) ≡ map (λ q. awaiting counter q k) qs
-waits_do tree k [] = refl
-waits_do tree k (q ∷ qs) = ap (λ l. awaiting counter q k ∷ l) (waits_do tree k qs)
-
-pub boundary_does : (tree : Tree) (k : ℕ) (does : Bool) (qs : List ℕ) → flat_map (turn_deeds tree) (boundary_turns k does qs) ≡ boundary_deeds counter k does qs
-boundary_does tree k true qs = ap (λ l. posting counter k ∷ l) (waits_do tree k qs)
-boundary_does tree k false qs = waits_do tree k qs
 
 -- ---- a cursor that has looked, or gone on
 

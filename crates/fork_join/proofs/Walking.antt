@@ -9,6 +9,7 @@ use Rattle.std.proofs.lemmas.Bool.{and_from, and_parts, cases_eq}
 use Rattle.std.proofs.lemmas.List.{length-map, take-append-drop}
 use Rattle.std.proofs.lemmas.List.Elements.{All-cons, All-head, All-nil, All-tail}
 use Rattle.std.proofs.lemmas.List.Sums.{sum_by-append, sum_by-cons}
+use Rattle.list_lemmas.proofs.Gets.{get-behind}
 use Rattle.nest_tree.specs.Layout.{cell_count}
 use Rattle.nest_tree.specs.Tree.{Tree, Work, assign, print, Statement, do_loop, work, continue, param_values}
 use Rattle.nest_tree.specs.View.{statement_of, tree_of}
@@ -27,7 +28,6 @@ use Rattle.owner_partition.specs.Phases.{phases}
 use Rattle.sync_plan.specs.Own.{own_cell, own_of}
 use Rattle.sync_plan.specs.declared.plan.Plan.{Plan}
 use Rattle.sync_plan.specs.Waits.{posts_at, waits_for}
-use Rattle.sync_plan.proofs.Gets.{get-behind}
 use Rattle.spmd_model.specs.Deeds.{Deed, last_deed, loading, owned_by, printing}
 use Rattle.spmd_model.specs.MachineDeeds.{own_deeds}
 use Rattle.spmd_model.specs.declared.style.Style.TheVariants.{Arrive}

@@ -1,14 +1,16 @@
 -- The intervals of the loops at a static phase have small ends.
-use Rattle.std.proofs.Common.{◌≡◌, ℕ, zero, suc, ◌-◌, ◌≤◌, ℤ, Bool, true, false, not, nat_lt, List, [], ◌∷◌, Option, Some, None, if◌then◌else◌, get_or, set, refl, ap, sym, ◌∙◌, subst, arith}
-use Rattle.std.specs.Prelude.{pos, negsuc, int_le}
-use Rattle.std.proofs.lemmas.Bool.Decides.{nat_tests}
+use Rattle.std.proofs.Common.{◌≡◌, ℕ, zero, suc, ◌-◌, ℤ, Bool, true, false, nat_lt, List, [], ◌∷◌, Option, Some, None, if◌then◌else◌, get_or, set, refl, ap, sym, ◌∙◌, subst}
+use Rattle.std.specs.Prelude.{pos, int_le}
 use Rattle.nest_tree.specs.Form.{is_small}
 use Rattle.nest_tree.specs.Intervals.{ends_of, form_interval, head_interval, with_ends}
 use Rattle.nest_tree.specs.Limits.{IsWithinLimits, is_empty, no_ends, wide_at, wide_end, wide_forms, wide_in, wide_of}
 use Rattle.nest_tree.specs.Tree.{Head, Statement, Statements, do_loop, work, continue, done, next, Tree, param_values}
 use Rattle.nest_tree.specs.WellFormed.{is_value}
 use Rattle.nest_tree.proofs.FirstLimits.{kept, neither, no_ends-at}
+use Rattle.nest_tree.proofs.Good.{small-value}
 use Rattle.nest_model.specs.Visits.{stops_in}
+use Rattle.nest_model.proofs.Within.{choices}
+use Rattle.nest_model.proofs.Small.{no_line}
 use Rattle.owner_partition.specs.declared.cut.Mark.{Mark}
 use Rattle.owner_partition.specs.declared.placement.Placement.{Placement}
 use Rattle.owner_partition.specs.Marks.{enters_outer}
@@ -22,13 +24,8 @@ pub record IsNear (e : ℤ × ℤ) : Type 0 where
 AreNear : List (ℤ × ℤ) → Type 0
 AreNear ends = (n : ℕ) → IsNear (ends_of ends n)
 
-neither-wide : (a b : Bool) (low high : ℤ) → (if not a then Some low else if not b then Some high else None) ≡ None → (a ≡ true) × (b ≡ true)
-neither-wide true true low high h = (refl, refl)
-neither-wide true false low high h = absurd (cc)
-neither-wide false b low high h = absurd (cc)
-
 near-end : (e : ℤ × ℤ) → wide_end e ≡ None → IsNear e
-near-end (low, high) h = let both = neither-wide (is_small low) (is_small high) low high h in record { low = both.0; high = both.1 }
+near-end (low, high) h = let both = choices (is_small low) (is_small high) low high h in record { low = both.0; high = both.1 }
 
 near-head : (params : List ℤ) (ends : List (ℤ × ℤ)) (head : Head) → wide_forms params ends (head.m1 ∷ head.m2 ∷ []) ≡ None → IsNear (head_interval params ends head)
 near-head params ends head h =
@@ -50,10 +47,6 @@ near-set : (ends : List (ℤ × ℤ)) (n : ℕ) (e : ℤ × ℤ) → AreNear end
 unfolding AreNear
 near-set ends n e old new = λ k. set-keeps IsNear ends (n - 1) (k - 1) e (pos 0, pos 0) new (old k)
 
-not-wide : (line : ℕ) (o : Option ℤ) → wide_at line o ≡ None → o ≡ None
-not-wide line None h = refl
-not-wide line (Some end) h = absurd (cc)
-
 inside-or-here : (enters empty : Bool) (inside : List (ℤ × ℤ)) (later : Option (List (ℤ × ℤ))) (found : List (ℤ × ℤ)) (P : List (ℤ × ℤ) → Type 0) → P inside → (empty ≡ false → later ≡ Some found → P found) → (if enters then if empty then None else later else Some inside) ≡ Some found → P found
 inside-or-here false empty inside later found P here behind h = let same : inside ≡ found = cc in subst P same here
 inside-or-here true true inside later found P here behind h = absurd (cc)
@@ -70,7 +63,7 @@ module _ (params : List ℤ) (enters : ℕ → Bool) where
         let interval = head_interval params ends head in
         let inside = with_ends ends head.number interval in
         let parts = neither (wide_at head.line (wide_forms params ends (head.m1 ∷ head.m2 ∷ []))) (if is_empty interval then None else wide_of params inside body) narrow in
-        let here = near-set ends head.number interval near (near-head params ends head (not-wide head.line (wide_forms params ends (head.m1 ∷ head.m2 ∷ [])) parts.0)) in
+        let here = near-set ends head.number interval near (near-head params ends head (no_line head.line (wide_forms params ends (head.m1 ∷ head.m2 ∷ [])) parts.0)) in
         inside-or-here (enters head.number) (is_empty interval) inside (ends_among params enters inside body place) found AreNear here
         (λ some later. near-among inside found body place (sym (ap (λ b. if b then None else wide_of params inside body) some) ∙ parts.1) here later) at
     near-in ends found (work w) place narrow near at = let same : ends ≡ found = cc in subst AreNear same near
@@ -86,10 +79,6 @@ module _ (params : List ℤ) (enters : ℕ → Bool) where
 none-near : AreNear no_ends
 unfolding AreNear
 none-near n = subst IsNear (sym (no_ends-at (n - 1))) (record { low = refl; high = refl })
-
-small-value : (z : ℤ) → is_small z ≡ true → is_value z ≡ true
-small-value (pos n) h = let few : n ≤ 2147483647 = grind (arith, nat_tests) in let more : n ≤ 9223372036854775807 = omega (arith, few) in grind (arith, nat_tests)
-small-value (negsuc n) h = let few : suc n ≤ 2147483647 = grind (arith, nat_tests) in let more : n ≤ 9223372036854775807 = omega (arith, few) in grind (arith, nat_tests)
 
 -- the ends at which the value of a loop leaves blocks of no place are values
 pub record AreValues (p : Placement) : Type 0 where

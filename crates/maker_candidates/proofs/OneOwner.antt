@@ -1,38 +1,16 @@
 -- Anchors that say the same name one processor.
-use Rattle.std.proofs.Common.{◌≡◌, ℕ, ◌==◌, ℤ, pos, ◌+ℤ◌, Bool, true, false, ◌&&◌, List, [], ◌∷◌, length, Option, Some, None, if◌then◌else◌, refl, ap, sym, ◌∙◌, arith}
-use Rattle.std.specs.Bool.{Decides}
+use Rattle.std.proofs.Common.{◌≡◌, ℕ, ℤ, pos, ◌+ℤ◌, Bool, true, false, ◌&&◌, List, [], ◌∷◌, length, Option, Some, None, if◌then◌else◌, refl, ap, sym, ◌∙◌, arith}
 use Rattle.std.specs.Cmp.Lexicographic.{pointwise}
 use Rattle.std.specs.Ordering.{int_eq}
-use Rattle.std.proofs.lemmas.Bool.{and_from, and_parts}
-use Rattle.std.proofs.lemmas.Bool.Decides.{Decides-eqb, Decides-int_eq}
+use Rattle.std.proofs.lemmas.Bool.{and_parts}
+use Rattle.std.proofs.lemmas.Bool.Decides.{Decides-int_eq}
 use Rattle.std.proofs.lemmas.Int.{ints}
-use Rattle.std.proofs.lemmas.Slice.Eq.{slice_eq-Decides}
 use Rattle.nest_tree.specs.Form.{Form, dot, form_value, reach_within}
 use Rattle.nest_tree.specs.Layout.{count_of}
 use Rattle.owner_partition.specs.declared.anchor.Anchor.{Anchor}
-use Rattle.owner_partition.specs.declared.anchor.Dist.{Dist}
-use Rattle.owner_partition.specs.declared.anchor.Dist.TheVariants.{Block, Cyclic}
 use Rattle.owner_partition.specs.Owners.{anchor_owner, dealt, has_places, is_same_dist, is_same_pair}
+use Rattle.owner_partition.proofs.Anchors.{same_pairs, same_dist}
 use Rattle.maker_candidates.specs.Same.{fixed_value, is_same_deal, is_same_one, says_same}
-
-same_pair : (p q : ℕ × ℤ) → Decides (is_same_pair p q) (p ≡ q)
-same_pair p q = (
-  λ h.
-      let so = and_parts (p.0 == q.0) (int_eq p.1 q.1) h in
-      let number = (Decides-eqb p.0 q.0).0 so.0 in
-      let factor = (Decides-int_eq p.1 q.1).0 so.1 in
-      λ i. (number i, factor i),
-  λ e. and_from (p.0 == q.0) (int_eq p.1 q.1) ((Decides-eqb p.0 q.0).1 (ap (λ (r : ℕ × ℤ). r.0) e)) ((Decides-int_eq p.1 q.1).1 (ap (λ (r : ℕ × ℤ). r.1) e)),
-)
-
-same_pairs : (xs ys : List (ℕ × ℤ)) → Decides (pointwise is_same_pair xs ys) (xs ≡ ys)
-same_pairs xs ys = slice_eq-Decides same_pair xs ys (pointwise is_same_pair xs ys) refl
-
-same_dist : (a b : Dist) → is_same_dist a b ≡ true → a ≡ b
-same_dist (Block b) (Block c) h = ap (λ n. Block n) ((Decides-eqb b c).0 h)
-same_dist (Block b) Cyclic h = absurd (cc)
-same_dist Cyclic (Block c) h = absurd (cc)
-same_dist Cyclic Cyclic h = refl
 
 fixed_is : (values : List ℤ) (f : Form) (v : ℤ) → fixed_value values f ≡ Some v → f.constant +ℤ dot f.params values ≡ v
 fixed_is values f v e = by (reach_within (length values) f.params) e

@@ -3,3 +3,5 @@ pub mod Within
 pub mod Stops
 pub mod Small
 pub mod InEnds
+pub mod Outputs
+pub mod Visited

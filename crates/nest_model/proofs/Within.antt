@@ -94,7 +94,7 @@ pub record IsSmallInterval (interval : ℤ × ℤ) : Type 0 where
   pub low : is_small interval.0 ≡ true
   pub high : is_small interval.1 ≡ true
 
-choices : (a b : Bool) (x y : ℤ) → (if not a then Some x else if not b then Some y else None) ≡ None → (a ≡ true) × (b ≡ true)
+pub choices : (a b : Bool) (x y : ℤ) → (if not a then Some x else if not b then Some y else None) ≡ None → (a ≡ true) × (b ≡ true)
 choices true true x y h = (refl, refl)
 choices true false x y h = cc
 choices false b x y h = cc

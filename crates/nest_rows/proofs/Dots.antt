@@ -6,10 +6,10 @@ use Rattle.std.proofs.lemmas.Int.{ints}
 use Rattle.std.proofs.lemmas.List.{get_or_append_left}
 use Rattle.std.proofs.Math.IntN.{zero-*ℤ, +ℤ_invl}
 use Rattle.std.proofs.Math.Seq.{get_or-append_seam}
+use Rattle.list_lemmas.proofs.Integers.{add-mul}
 use Rattle.nest_tree.specs.Form.{Form, dot, form_value, is_form, numbered}
 use Rattle.nest_tree.specs.Tree.{Head}
 use Rattle.nest_tree.specs.WellFormed.{is_number_of, names_only}
-use Rattle.nest_walk.proofs.Products.{add-mul}
 use Rattle.nest_rows.specs.declared.constraint.Sign.{Sign}
 use Rattle.nest_rows.specs.declared.constraint.Sign.TheVariants.{Plus, Minus}
 use Rattle.nest_rows.specs.Places.{AreLaid, place_of, terms_of}

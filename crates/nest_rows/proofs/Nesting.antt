@@ -1,6 +1,6 @@
 -- Each instance is of a piece of work of the text, and the loops round it are at trips of theirs.
 use Rattle.std.proofs.Common.{◌≡◌, ℕ, zero, suc, ◌+◌, ◌-◌, ◌<◌, ◌≤◌, ◌&&◌, ◌==◌, nat_le, nat_lt, ℤ, pos, ◌+ℤ◌, ◌*ℤ◌, Bool, true, false, unsigned_abs, Some, None, List, [], ◌∷◌, ◌++◌, length, length-append, map, if◌then◌else◌, refl, ap, sym, ◌∙◌, subst, arith}
-use Rattle.std.specs.List.{AllByRecursion, Contains, flat_map, list_all, list_any, range_with_len, slice_get}
+use Rattle.std.specs.List.{AllByRecursion, flat_map, list_all, list_any, range_with_len, slice_get}
 use Rattle.std.proofs.lemmas.Bool.{and_from, and_parts, le-leb, leb-true, ltb-true}
 use Rattle.std.proofs.lemmas.List.{get_or-set_other, get_or-set_same, length-replicate, length-set}
 use Rattle.nest_tree.specs.Form.{Form, dot, form_value, is_form, is_small, numbered, reach_within, rises_above}
@@ -24,11 +24,6 @@ pub all-at : {X : Type 0} (P : X → Type 0) (xs : List X) (k : ℕ) (x : X) →
 all-at P [] k x h at = absurd (let no : None ≡ Some x = at in cc)
 all-at P (y ∷ xs) zero x h at = let same : y ≡ x = cc in subst P same h.0
 all-at P (y ∷ xs) (suc k) x h at = all-at P xs k x h.1 at
-
-pub all-contained : {X : Type 0} (P : X → Type 0) (xs : List X) (x : X) → AllByRecursion P xs → Contains xs x → P x
-all-contained P [] x h c = absurd (omega (arith, c.1))
-all-contained P (y ∷ xs) x h (zero, lt, is) = subst P is h.0
-all-contained P (y ∷ xs) x h (suc k, lt, is) = all-contained P xs x h.1 (k, omega (arith, lt), is)
 
 all-range : {X : Type 0} (P : X → Type 0) (f : ℤ → List X) (value : ℕ → ℤ) (a n : ℕ) → ((i : ℕ) → i < n → AllByRecursion P (f (value (a + i)))) → AllByRecursion P (flat_map f (map value (range_with_len a n)))
 all-range P f value a zero h = tt

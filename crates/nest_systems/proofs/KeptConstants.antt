@@ -5,6 +5,7 @@ use Rattle.std.specs.List.{All, Contains, flat_map, range_with_len}
 use Rattle.std.specs.List.Sorted.{IsStrictlyIncreasing}
 use Rattle.std.proofs.lemmas.Bool.{cases_eq, cases_lt, eq-eqb, eqb-true, false_from_ne_true, ne_eqb, false≢true, or_cases, or_left, or_parts, or_right, true_from_ne_false}
 use Rattle.std.proofs.lemmas.List.Elements.{All-head, All-push, All-tail}
+use Rattle.std.proofs.lemmas.List.{get_or_default}
 use Rattle.presolve.specs.Columns.{AreRising, is_kept}
 use Rattle.nest_rows.specs.declared.constraint.Constraint.{Constraint}
 use Rattle.nest_systems.specs.Kept.{HasTaken, IsConstant, NamesKept, unknowns_in}
@@ -65,12 +66,6 @@ taken-other constants u xs not = record {
   ];
 }
 
--- numbers that rise step by step
-same-default : (zs : List ℕ) (k d e : ℕ) → k < length zs → get_or zs k d ≡ get_or zs k e
-same-default [] k d e lt = absurd (omega arith)
-same-default (z ∷ zs) zero d e lt = refl
-same-default (z ∷ zs) (suc k) d e lt = same-default zs k d e (omega (arith, lt))
-
 above-first : (x : ℕ) (zs : List ℕ) → IsStrictlyIncreasing (x ∷ zs) → (k d : ℕ) → k < length zs → x + 1 ≤ get_or zs k d
 above-first x [] up k d lt = absurd (omega arith)
 above-first x (z ∷ zs) up zero d lt = let first = up 0 (omega arith) in omega (arith, first)
@@ -78,8 +73,8 @@ above-first x (z ∷ zs) up (suc k) d lt =
     let before = above-first x (z ∷ zs) up k d (omega (arith, lt)) in
     let behind : suc k + 1 ≡ suc (suc k) = omega arith in
     let step : get_or (z ∷ zs) k 0 < get_or (z ∷ zs) (suc k) 0 = subst (λ j. get_or (x ∷ z ∷ zs) (suc k) 0 < get_or (x ∷ z ∷ zs) j 0) behind (up (suc k) (omega (arith, lt))) in
-    let one = same-default (z ∷ zs) k d 0 (omega (arith, lt)) in
-    let two = same-default (z ∷ zs) (suc k) d 0 lt in
+    let one = get_or_default (z ∷ zs) k d 0 (omega (arith, lt)) in
+    let two = get_or_default (z ∷ zs) (suc k) d 0 lt in
     omega (arith, before, step, one, two)
 
 increasing-behind : (x : ℕ) (zs : List ℕ) → IsStrictlyIncreasing (x ∷ zs) → IsStrictlyIncreasing zs
@@ -197,7 +192,7 @@ all-named constants vars kept columns cs none named = λ i d lt k low out.
     names-each cs i d (k + 1) lt gone
 
 again : (zs : List ℕ) (k d : ℕ) → k < length zs → get_or zs k (get_or zs k d) ≡ get_or zs k d
-again zs k d lt = same-default zs k (get_or zs k d) d lt
+again zs k d lt = get_or_default zs k (get_or zs k d) d lt
 
 pub all-from-contained : (constants : ℕ) (xs ys : List ℕ) → ((n : ℕ) → Contains ys n → Contains xs n) → All (IsConstant constants) xs → All (λ n. (1 ≤ n) × (n < constants + 1)) ys
 all-from-contained constants xs ys within all = λ k d lt.

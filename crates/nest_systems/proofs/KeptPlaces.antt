@@ -6,21 +6,10 @@ use Rattle.std.proofs.lemmas.Bool.{cases_eq, eq-eqb, ne_eqb, or_parts}
 use Rattle.std.proofs.lemmas.List.FromFn.{get_or-map-range_with_len}
 use Rattle.farkas_cert.specs.declared.system.Row.{Row}
 use Rattle.presolve.specs.Columns.{AreRising, IsZeroOutside, is_kept, kept_row}
+use Rattle.presolve.proofs.Searching.{at_least}
 use Rattle.nest_rows.specs.declared.constraint.Constraint.{Constraint}
 use Rattle.nest_rows.specs.Constraints.{coefficient, row_of}
 use Rattle.nest_systems.specs.Kept.{NamesKept, number_among, row_over, unknowns_in}
-
-pub above : (from vars : ℕ) (columns : List ℕ) (i : ℕ) → AreRising from vars columns → i < length columns → from ≤ get_or columns i 0
-above from vars [] i rising lt = absurd (omega arith)
-above from vars (k ∷ columns) zero rising lt = rising.0
-above from vars (k ∷ columns) (suc i) rising lt = let more = above (k + 1) vars columns i rising.2 (omega (arith, lt)) in omega (arith, more, rising.0)
-
-pub rises : (from vars : ℕ) (columns : List ℕ) → AreRising from vars columns → (i j : ℕ) → i ≤ j → j < length columns → get_or columns i 0 ≤ get_or columns j 0
-rises from vars [] rising i j le lt = absurd (omega arith)
-rises from vars (k ∷ columns) rising zero zero le lt = omega arith
-rises from vars (k ∷ columns) rising zero (suc j) le lt = let more = above (k + 1) vars columns j rising.2 (omega (arith, lt)) in omega (arith, more)
-rises from vars (k ∷ columns) rising (suc i) zero le lt = absurd (omega (arith, le))
-rises from vars (k ∷ columns) rising (suc i) (suc j) le lt = rises (k + 1) vars columns rising.2 i j (omega (arith, le)) (omega (arith, lt))
 
 pub here : (xs : List ℕ) (i : ℕ) → i < length xs → get_or xs i 0 ≡ get_or xs i (get_or xs i 0)
 here [] i lt = absurd (omega arith)
@@ -38,7 +27,7 @@ pub number-at : (next from vars : ℕ) (columns : List ℕ) (n i : ℕ) → AreR
 number-at next from vars [] n i rising lt is = absurd (omega arith)
 number-at next from vars (k ∷ columns) n zero rising lt is = let e : next ≡ next + 0 = omega arith in first-number next k n columns is ∙ e
 number-at next from vars (k ∷ columns) n (suc i) rising lt is =
-    let more = above (k + 1) vars columns i rising.2 (omega (arith, lt)) in
+    let more = at_least (k + 1) vars columns i rising.2 (omega (arith, lt)) in
     let e : next + 1 + i ≡ next + suc i = omega arith in
     next-number next k n columns (λ same. omega (arith, same, is, more)) ∙ number-at (next + 1) (k + 1) vars columns n i rising.2 (omega (arith, lt)) is ∙ e
 

@@ -68,13 +68,6 @@ value-none values n old past =
 pub kept-vars : (cs : List Constraint) (ns : List ℕ) (old new : KeptRows) → HasKept cs ns old new → old.system.vars ≡ length old.columns.now → new.system.vars ≡ length new.columns.now
 kept-vars cs ns old new h vars = ap (λ (s : Inequalities). s.vars) h.system ∙ vars ∙ ap (λ cols. length cols.now) (sym h.columns)
 
-pub range-more : (from n : ℕ) → range_with_len from (n + 1) ≡ range_with_len from n ++ (from + n) ∷ []
-range-more from zero = let e : from ≡ from + 0 = omega arith in ap (λ k. k ∷ []) e
-range-more from (suc n) =
-    let e : suc n + 1 ≡ suc (n + 1) = omega arith in
-    let f : from + 1 + n ≡ from + suc n = omega arith in
-    ap (range_with_len from) e ∙ ap (λ xs. from ∷ xs) (range-more (from + 1) n ∙ ap (λ k. range_with_len (from + 1) n ++ k ∷ []) f)
-
 at-behind : {X : Type 0} (xs ys : List X) (i : ℕ) (d : X) → get_or (xs ++ ys) (length xs + i) d ≡ get_or ys i d
 at-behind [] ys i d = let e : 0 + i ≡ i = omega arith in ap (λ k. get_or ys k d) e
 at-behind (x ∷ xs) ys i d = let e : suc (length xs) + i ≡ suc (length xs + i) = omega arith in ap (λ k. get_or (x ∷ (xs ++ ys)) k d) e ∙ at-behind xs ys i d

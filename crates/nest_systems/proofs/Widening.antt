@@ -4,8 +4,9 @@ use Rattle.std.specs.Prelude.{◌==◌, ◌||◌, nat_le}
 use Rattle.std.specs.List.{All, flat_map, list_all, range_with_len}
 use Rattle.std.proofs.lemmas.Bool.{cases_Bool, eqb-true, false≢true, le-leb, ne_eqb, or_cases, or_left, or_parts}
 use Rattle.std.proofs.lemmas.List.{map-append}
-use Rattle.std.proofs.lemmas.List.Elements.{All-append, All-cons, All-head, All-nil, All-push, All-tail}
+use Rattle.std.proofs.lemmas.List.Elements.{All-append, All-head, All-nil, All-push}
 use Rattle.std.proofs.lemmas.List.FromFn.{length-map-range_with_len}
+use Rattle.list_lemmas.proofs.Each.{All-left, All-right}
 use Rattle.farkas_cert.specs.declared.system.Row.{Row}
 use Rattle.farkas_cert.specs.Inequalities.{Holds, Inequalities, IsWholeSolution, left_side}
 use Rattle.presolve.specs.Columns.{AreRising, is_kept, kept, kept_row, spread, with_columns}
@@ -27,14 +28,6 @@ use Rattle.nest_systems.proofs.KeptConstants.{kept-append, kept-places}
 use Rattle.nest_systems.proofs.KeptPlaces.{kept-same, zero-outside}
 
 -- ---- of lists
-
-all-left : {X : Type 0} (P : X → Type 0) (xs ys : List X) → All P (xs ++ ys) → All P xs
-all-left P [] ys h = All-nil P
-all-left P (x ∷ xs) ys h = All-cons P x xs (All-head P x (xs ++ ys) h) (all-left P xs ys (All-tail P x (xs ++ ys) h))
-
-all-right : {X : Type 0} (P : X → Type 0) (xs ys : List X) → All P (xs ++ ys) → All P ys
-all-right P [] ys h = h
-all-right P (x ∷ xs) ys h = all-right P xs ys (All-tail P x (xs ++ ys) h)
 
 -- ---- what is spread
 
@@ -72,8 +65,8 @@ holds-of P vars vs [] n h all = absurd (false≢true h)
 holds-of P vars vs (k ∷ ones) n h all =
     let split = subst (All P) (map-append (row_of vars) (value_of vs k) (flat_map (value_of vs) ones)) all in
     elim (or_cases (k == n) (is_kept ones n) h) [
-      | inl same ↦ subst (λ j. All P (map (row_of vars) (value_of vs j))) (eqb-true k n same) (all-left P (map (row_of vars) (value_of vs k)) (map (row_of vars) (flat_map (value_of vs) ones)) split)
-      | inr later ↦ holds-of P vars vs ones n later (all-right P (map (row_of vars) (value_of vs k)) (map (row_of vars) (flat_map (value_of vs) ones)) split)
+      | inl same ↦ subst (λ j. All P (map (row_of vars) (value_of vs j))) (eqb-true k n same) (All-left P (map (row_of vars) (value_of vs k)) (map (row_of vars) (flat_map (value_of vs) ones)) split)
+      | inr later ↦ holds-of P vars vs ones n later (All-right P (map (row_of vars) (value_of vs k)) (map (row_of vars) (flat_map (value_of vs) ones)) split)
     ]
 
 constants-hold : (P : Row → Type 0) (vars n : ℕ) (ws : List ℤ) → ((k : ℕ) → k < length ws → All P (map (row_of vars) (equal Plus (n + k) (get_or ws k (pos 0)) ∷ equal Minus (n + k) (get_or ws k (pos 0)) ∷ []))) → All P (map (row_of vars) (constants_have n ws))
@@ -134,7 +127,7 @@ module _ (constants vars : ℕ) (vs : List ℤ) (cs : List Constraint) (ones : L
         let turn : 1 + k ≡ k + 1 = omega arith in
         let at : 1 + k - 1 ≡ k = omega arith in
         let inside : nat_le (1 + k) (length vs) ≡ true = le-leb (1 + k) (length vs) (omega (arith, lt)) in
-        let found = holds-of StandsAt vars vs ones (1 + k) (ap (is_kept ones) turn ∙ there) (all-left StandsAt (map (row_of vars) (flat_map (value_of vs) ones)) (map (row_of vars) cs) of-left) in
+        let found = holds-of StandsAt vars vs ones (1 + k) (ap (is_kept ones) turn ∙ there) (All-left StandsAt (map (row_of vars) (flat_map (value_of vs) ones)) (map (row_of vars) cs) of-left) in
         let plain = subst (λ b. All StandsAt (map (row_of vars) (if b then equal Plus (1 + k) (get_or vs (1 + k - 1) (pos 0)) ∷ equal Minus (1 + k) (get_or vs (1 + k - 1) (pos 0)) ∷ [] else []))) inside found in
         subst (λ j. All StandsAt (map (row_of vars) (equal Plus (1 + k) (get_or vs j (pos 0)) ∷ equal Minus (1 + k) (get_or vs j (pos 0)) ∷ []))) at plain
     | inr out ↦
@@ -149,7 +142,7 @@ module _ (constants vars : ℕ) (vs : List ℤ) (cs : List Constraint) (ones : L
   found =
       let front : 0 + vars ≡ vars = omega arith in
       let back : kept p.columns ys ≡ xs = from-none ys p.columns ∙ spread_kept fill vars 0 vars p.columns xs front is.all.rising narrow.values in
-      let behind = all-right StandsAt (map (row_of vars) (flat_map (value_of vs) ones)) (map (row_of vars) cs) of-left in
+      let behind = All-right StandsAt (map (row_of vars) (flat_map (value_of vs) ones)) (map (row_of vars) cs) of-left in
       let all = All-append StandsAt (map (row_of vars) (constants_have 1 vs)) (map (row_of vars) cs) (constants-hold StandsAt vars 1 vs one) behind in
       (ys, back, record { values = whole.values; rows = subst (All StandsAt) (sym (map-append (row_of vars) (constants_have 1 vs) cs)) all })
 
@@ -161,8 +154,8 @@ widened constants vars vs cs ones p rising within few is columns-is left xs solu
 
 pub more-widened : (s : Inequalities) (cs : List Constraint) (c : Constraint) (row : Row) (p : Presolution) → IsPresolved (with_constraints cs s) p → Widens (with_constraints cs s) p → NamesKept s.vars p.columns c → row ≡ row_over p.columns c → Widens (with_constraints (cs ++ c ∷ []) s) (with_last row p)
 more-widened s cs c row p is widens named same xs solution =
-    let before : IsWholeSolution p.system xs = record { values = solution.values; rows = all-left (λ r. Holds r xs) p.system.rows (row ∷ []) solution.rows } in
-    let last : Holds row xs = All-head (λ r. Holds r xs) row [] (all-right (λ r. Holds r xs) p.system.rows (row ∷ []) solution.rows) in
+    let before : IsWholeSolution p.system xs = record { values = solution.values; rows = All-left (λ r. Holds r xs) p.system.rows (row ∷ []) solution.rows } in
+    let last : Holds row xs = All-head (λ r. Holds r xs) row [] (All-right (λ r. Holds r xs) p.system.rows (row ∷ []) solution.rows) in
     let (ys, back, whole) = widens xs before in
     let side = side_kept s.vars p.columns (row_of s.vars c) ys is.all.rising (length-map-range_with_len (coefficient c.terms) 1 s.vars) whole.values (zero-outside s.vars c p.columns named) in
     let row-is : kept_row p.columns (row_of s.vars c) ≡ row = kept-same s.vars c p.columns is.all.rising ∙ sym same in

@@ -1,5 +1,5 @@
 -- What a well-formed program names is there.
-use Rattle.std.proofs.Common.{◌≡◌, ℕ, ◌+◌, ◌≤◌, ◌<◌, ℤ, true, false, ◌&&◌, ◌||◌, ◌==◌, nat_lt, nat_le, unsigned_abs, List, [], ◌∷◌, ◌++◌, length, IsTrue, Option, Some, None, refl, ap, sym, ◌∙◌, arith}
+use Rattle.std.proofs.Common.{◌≡◌, ℕ, ◌+◌, ◌≤◌, ◌<◌, ℤ, true, false, ◌&&◌, ◌||◌, ◌==◌, nat_lt, nat_le, unsigned_abs, List, [], ◌∷◌, ◌++◌, length, IsTrue, Option, Some, None, refl, ap, sym, ◌∙◌, arith, pos, negsuc}
 use Rattle.std.specs.List.{flat_map, list_all, list_any}
 use Rattle.std.proofs.lemmas.Bool.{and_from, and_parts, eqb-true}
 use Rattle.std.proofs.lemmas.Bool.Decides.{nat_tests}
@@ -199,3 +199,8 @@ loops-few tree w = omega (arith, loops_of-few tree.items, (well_formed_parts tre
 pub all-given : (tree : Tree) (loops : ℕ) → IsWellFormed tree → loops_of tree.items ≤ loops → IsTrue (are_all_given loops (length tree.params) tree.items)
 all-given tree loops w h =
     statements-given loops (scope_of tree) [] 1 tree.items refl (omega arith) (omega (arith, h)) (well_formed_parts tree w).statements
+
+-- a small number is a value of the language
+pub small-value : (z : ℤ) → is_small z ≡ true → is_value z ≡ true
+small-value (pos n) h = grind (arith, nat_tests)
+small-value (negsuc n) h = grind (arith, nat_tests)

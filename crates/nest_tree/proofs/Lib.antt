@@ -1,4 +1,5 @@
 pub mod Sums
+pub mod Quotients
 pub mod Places
 pub mod Cells
 pub mod Rows

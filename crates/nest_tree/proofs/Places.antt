@@ -1,5 +1,5 @@
 -- The places of elements.
-use Rattle.std.proofs.Common.{◌≡◌, ℕ, suc, ◌+◌, ◌*◌, ◌^◌, ◌≤◌, ◌<◌, ℤ, pos, negsuc, ◌+ℤ◌, ◌-ℤ◌, ◌≤ℤ◌, List, [], ◌∷◌, length, get_or, add-one, drop, IsTrue, nat_le, unsigned_abs, refl, ap, ◌∙◌, arith}
+use Rattle.std.proofs.Common.{◌≡◌, ℕ, suc, ◌+◌, ◌*◌, ◌^◌, ◌≤◌, ◌<◌, ℤ, pos, negsuc, ◌+ℤ◌, ◌-ℤ◌, ◌≤ℤ◌, List, [], ◌∷◌, length, get_or, add-one, drop, IsTrue, nat_le, unsigned_abs, refl, ap, ◌∙◌, arith, zero, take}
 use Rattle.std.specs.List.{list_all}
 use Rattle.std.proofs.lemmas.Bool.Decides.{nat_tests}
 use Rattle.std.proofs.lemmas.Int.{ints}
@@ -7,7 +7,7 @@ use Rattle.std.proofs.lemmas.Bool.{and_parts}
 use Rattle.std.proofs.lemmas.Nat.{mul-add-lt, mul-le, pow-add}
 use Rattle.std.proofs.Math.Seq.{drop-cons}
 use Rattle.std.proofs.Math.Nat.{one-le-mul, le-mul_of_pos_right, mul-add, mul_assoc, mul_comm}
-use Rattle.nest_tree.specs.Layout.{count_of, extent, element_count, element_place, is_inside, are_inside}
+use Rattle.nest_tree.specs.Layout.{count_of, extent, element_count, element_place, is_inside, are_inside, bounds_at, cells_in}
 use Rattle.nest_tree.specs.declared.tree.Spread.{Spread}
 use Rattle.nest_tree.specs.Tree.{Declaration}
 use Rattle.nest_tree.specs.WellFormed.{is_good_declaration, is_good_dimension, is_good_placing, is_number_of}
@@ -132,3 +132,11 @@ pub good_declaration : (v : Declaration) → IsTrue (is_good_declaration v) → 
 good_declaration v h =
     let g = and_parts (list_all is_good_dimension v.bounds) (is_good_placing v.bounds v.axis v.spread) h in
     (g.0, few v.bounds v.axis v.spread g.1)
+
+-- cells of two variables are apart: where places in them are one cell, the variables are one
+pub same_variable : (vs : List Declaration) (i j p r : ℕ) → i < length vs → j < length vs → p < element_count (bounds_at vs i) → r < element_count (bounds_at vs j) → cells_in (take i vs) + p ≡ cells_in (take j vs) + r → i ≡ j
+same_variable [] i j p r lt lt' small small' e = absurd (omega (arith, lt))
+same_variable (v ∷ vs) zero zero p r lt lt' small small' e = refl
+same_variable (v ∷ vs) zero (suc j) p r lt lt' small small' e = absurd (omega (arith, small, e))
+same_variable (v ∷ vs) (suc i) zero p r lt lt' small small' e = absurd (omega (arith, small', e))
+same_variable (v ∷ vs) (suc i) (suc j) p r lt lt' small small' e = ap suc (same_variable vs i j p r (omega (arith, lt)) (omega (arith, lt')) small small' (omega (arith, e)))

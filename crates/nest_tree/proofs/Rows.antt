@@ -4,7 +4,7 @@ use Rattle.std.specs.List.{flat_map}
 use Rattle.std.proofs.lemmas.List.{drop_more}
 use Rattle.nest_tree.specs.declared.tree.PrintItem.{PrintItem}
 use Rattle.nest_tree.specs.Loads.{loads_in_item}
-use Rattle.nest_tree.specs.Tree.{one_more, least_of, greatest_of, do_loop, next}
+use Rattle.nest_tree.specs.Tree.{one_more, least_of, greatest_of, do_loop, next, Work, work}
 use Rattle.nest_tree.specs.View.{expression_of, expressions_of, expressions_from, printed_of, head_of, loop_of, statement_of, statements_of, statements_from}
 use Rattle.nest_tree.specs.declared.tree.Nest.{Nest}
 use Rattle.nest_tree.specs.declared.tree.Item.{Item, Loop, Loop', Row_of-Item, end_of-Item, more_of-Item, items-the_row-Item, items_hidden-the_row-Item-0}
@@ -59,3 +59,7 @@ pub statements_more : (items : List Item) (i : ℕ) (item : Item) → i < length
     statements_from (drop i items) ≡ next (statement_of item) (statements_from (drop (i + 1) items))
 statements_more items i item lt is =
     ap statements_from (drop_more items i item lt) ∙ ap (λ x. next (statement_of x) (statements_from (drop (i + 1) items))) (sym is)
+
+-- a statement of work is of one piece of work
+pub same_work : (w w' : Work) → work w ≡ work w' → w ≡ w'
+same_work w w' h = cc

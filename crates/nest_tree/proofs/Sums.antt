@@ -1,10 +1,11 @@
 -- Coefficients times values, from one pair on.
-use Rattle.std.proofs.Common.{◌≡◌, ℕ, zero, suc, ◌+◌, ◌*◌, ◌^◌, ◌≤◌, ◌<◌, ℤ, pos, ◌+ℤ◌, ◌*ℤ◌, List, [], ◌∷◌, length, get_or, drop, add-one, IsTrue, unsigned_abs, w64, w32, Fits, FitsSigned, negsuc, refl, ap, sym, ◌∙◌, arith}
+use Rattle.std.proofs.Common.{◌≡◌, ℕ, zero, suc, ◌+◌, ◌*◌, ◌^◌, ◌≤◌, ◌<◌, ℤ, ◌+ℤ◌, ◌*ℤ◌, List, [], ◌∷◌, length, get_or, drop, add-one, IsTrue, unsigned_abs, w64, w32, Fits, FitsSigned, refl, ap, sym, ◌∙◌, arith}
 use mir.Syntax.{w128}
 use Rattle.std.proofs.Math.Seq.{drop-cons}
 use Rattle.std.proofs.lemmas.Bool.Decides.{nat_tests}
 use Rattle.std.proofs.lemmas.Int.{ints, int_wrap-add_left, int_wrap_fits, fits_signed_from_abs}
 use Rattle.std.proofs.Math.IntN.{+ℤ_assoc}
+use Rattle.list_lemmas.proofs.Integers.{size_sum}
 use Rattle.nest_tree.specs.Form.{dot, is_small, numbered, reach_within, rises_above}
 use Rattle.nest_tree.specs.Intervals.{ends_of, plus, multiple, dot_ends}
 use Rattle.nest_tree.specs.Values.{wrapped}
@@ -43,12 +44,6 @@ wrapped_sum-step pairs values i d sum next h e =
     let product = (get_or pairs i d).1 *ℤ numbered values (get_or pairs i d).0 in
     let rest = dot (drop (i + 1) pairs) values in
     ap (λ z. wrapped (z +ℤ rest)) e ∙ int_wrap-add_left w64 (sum +ℤ product) rest ∙ ap wrapped (+ℤ_assoc sum product rest ∙ ap (λ z. sum +ℤ z) (sym (dot-drop pairs values i d h)))
-
-size_sum : (a b : ℤ) → unsigned_abs (a +ℤ b) ≤ unsigned_abs a + unsigned_abs b
-size_sum (pos a) (pos b) = omega (arith, ints)
-size_sum (pos a) (negsuc b) = omega (arith, ints)
-size_sum (negsuc a) (pos b) = omega (arith, ints)
-size_sum (negsuc a) (negsuc b) = omega (arith, ints)
 
 -- a sum of a start and of i terms, none past 2 ^ 94, with one term more: it stays near, since the term's number n has 32 bits
 pub record Nears (start sum : ℤ) (i : ℕ) : Type 0 where

@@ -2,10 +2,11 @@
 use Rattle.std.proofs.Common.{◌≡◌, ℕ, zero, suc, ◌==◌, ℤ, pos, ◌+ℤ◌, ◌-ℤ◌, ◌*ℤ◌, true, false, List, [], ◌∷◌, get_or, set, if◌then◌else◌, ap, sym, ◌∙◌, arith}
 use Rattle.std.proofs.lemmas.Int.{ints}
 use Rattle.std.proofs.Math.IntN.{*ℤ-zero, zero-*ℤ}
+use Rattle.list_lemmas.proofs.Integers.{add-mul, mul-add, mul_assoc_ℤ}
 use Rattle.nest_tree.specs.Form.{Form, dot}
 use Rattle.nest_walk.specs.Paths.{dot_among, form_among, origin, rounds_to, value_among}
 use Rattle.nest_walk.specs.Places.{place_among}
-use Rattle.nest_walk.proofs.Products.{add-mul, mul-add, mul-less, mul_assoc_ℤ}
+use Rattle.nest_walk.proofs.Products.{mul-less}
 
 abbrev six : ℤ → ℤ → ℤ → ℤ → ℤ → ℤ → List ℤ
 six a b c d e f = a ∷ b ∷ c ∷ d ∷ e ∷ f ∷ []

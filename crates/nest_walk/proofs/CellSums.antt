@@ -12,7 +12,7 @@ use Rattle.nest_walk.specs.Paths.{Round, form_among, origin}
 use Rattle.nest_walk.specs.Places.{place_among}
 use Rattle.nest_walk.proofs.Affine.{IsAffine, step_of}
 
-int_wrap-again : (z : ℤ) → wrapped (wrapped z) ≡ wrapped z
+pub int_wrap-again : (z : ℤ) → wrapped (wrapped z) ≡ wrapped z
 int_wrap-again z = int_wrap_fits w64 (wrapped z) (SFits-int_wrap w64 z)
 
 -- equal parts modulo 2^64 make equal sums

@@ -1,17 +1,7 @@
 -- Products of whole numbers.
 use Rattle.std.proofs.Common.{◌≡◌, ◌+◌, ◌*◌, ℤ, ◌+ℤ◌, ◌-ℤ◌, ◌*ℤ◌, ap, sym, ◌∙◌, arith}
-use Rattle.std.proofs.Math.IntN.{*ℤ_comm}
 use Rattle.std.proofs.lemmas.Int.{ints}
-use borrow.Author.Differences.{up, down, product_is, sum_is_lem}
-
-pub add-mul : (a b c : ℤ) → (a +ℤ b) *ℤ c ≡ a *ℤ c +ℤ b *ℤ c
-add-mul a b c =
-    let e : up (a +ℤ b) * up c + down a * up c + down b * up c ≡ down (a +ℤ b) * up c + up a * up c + up b * up c = omega (arith, ap (λ n. n * up c) (sum_is_lem a b)) in
-    let f : up (a +ℤ b) * down c + down a * down c + down b * down c ≡ down (a +ℤ b) * down c + up a * down c + up b * down c = omega (arith, ap (λ n. n * down c) (sum_is_lem a b)) in
-    omega (arith, ints)
-
-pub mul-add : (a b c : ℤ) → a *ℤ (b +ℤ c) ≡ a *ℤ b +ℤ a *ℤ c
-mul-add a b c = *ℤ_comm a (b +ℤ c) ∙ add-mul b c a ∙ omega (arith, ints, *ℤ_comm a b, *ℤ_comm a c)
+use Rattle.list_lemmas.proofs.Integers.{mul-add}
 
 less : (x y z : ℤ) → x ≡ y +ℤ z → y ≡ x -ℤ z
 less x y z e = omega (arith, ints, e)
@@ -21,7 +11,3 @@ mul-less a b c =
     let back : b -ℤ c +ℤ c ≡ b = omega (arith, ints) in
     let whole : a *ℤ b ≡ a *ℤ (b -ℤ c) +ℤ a *ℤ c = sym (ap (λ z. a *ℤ z) back) ∙ mul-add a (b -ℤ c) c in
     less (a *ℤ b) (a *ℤ (b -ℤ c)) (a *ℤ c) whole
-
-pub mul_assoc_ℤ : (a b c : ℤ) → a *ℤ b *ℤ c ≡ a *ℤ (b *ℤ c)
-mul_assoc_ℤ a b c =
-    omega (arith, ints, ap (λ n. n * up c) (product_is a b).0, ap (λ n. n * up c) (product_is a b).1, ap (λ n. n * down c) (product_is a b).0, ap (λ n. n * down c) (product_is a b).1, ap (λ n. up a * n) (product_is b c).0, ap (λ n. up a * n) (product_is b c).1, ap (λ n. down a * n) (product_is b c).0, ap (λ n. down a * n) (product_is b c).1)

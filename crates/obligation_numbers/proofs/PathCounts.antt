@@ -1,28 +1,27 @@
 -- The loops on the paths of a phase's private scalars are as many as are counted.
-use Rattle.std.proofs.Common.{◌≡◌, ℕ, suc, ◌+◌, ◌-◌, ◌==◌, ◌&&◌, not, Bool, true, false, true≢false, cond, Some, None, List, [], ◌∷◌, ◌++◌, length, length-append, if◌then◌else◌, refl, ap, sym, ◌∙◌, subst, arith}
-use Rattle.std.specs.Prelude.{find, is_none, sum_by}
-use Rattle.std.specs.List.{AllByRecursion, flat_map, list_all}
+use Rattle.std.proofs.Common.{◌≡◌, ℕ, suc, ◌+◌, ◌-◌, Bool, true, false, None, List, [], ◌∷◌, ◌++◌, length, length-append, if◌then◌else◌, refl, ap, ◌∙◌, arith}
+use Rattle.std.specs.Prelude.{sum_by}
+use Rattle.std.specs.List.{AllByRecursion, list_all}
 use Rattle.std.proofs.lemmas.Bool.{and_parts}
 use Rattle.std.proofs.lemmas.List.{length-map}
 use Rattle.std.proofs.lemmas.List.Concat.{length-flat_map}
 use Rattle.std.proofs.lemmas.List.FromFn.{length-map-range_with_len}
 use Rattle.std.proofs.lemmas.List.Sums.{sum_by-cons}
-use Rattle.nest_tree.specs.Tree.{Head, Work, assign, print, Statement, Statements, do_loop, work, continue, done, next, Tree}
+use Rattle.nest_tree.specs.Tree.{Head, Statement, Statements, do_loop, work, continue, done, next, Tree}
 use Rattle.nest_tree.specs.WellFormed.{IsWellFormed, Scope, scope_of}
-use Rattle.nest_walk.specs.Tables.{element}
-use Rattle.nest_rows.specs.Nested.{Nested, nested_among, nested_in}
+use Rattle.nest_rows.specs.Nested.{nested_among, nested_in}
 use Rattle.nest_rows.proofs.GoodNesting.{IsGoodNested, works_good}
-use Rattle.own_scalars.specs.OwnScalars.{has_access, is_of, is_plain_store, is_private, loads, path_length, path_length_in, some_in}
+use Rattle.own_scalars.specs.OwnScalars.{has_access, is_private, path_length, path_length_in, some_in}
 use Rattle.owner_partition.specs.Cuts.{privates_of}
 use Rattle.owner_partition.specs.Marks.{enters_outer, mark_of}
 use Rattle.sync_plan.specs.declared.plan.Plan.{Plan}
 use Rattle.sync_plan.specs.Shape.{are_good_privates, has_good_privates, have_good_privates, wrong_field}
 use Rattle.comm_system.specs.Obligations.{zero_trip_task}
-use Rattle.comm_system.specs.Paths.{PathLoop, first_access, path_of, path_to, paths_of}
-use Rattle.comm_system.specs.References.{Reference, StaticPhase, phases_of, reference_of, references_in, variable_of}
-use Rattle.comm_system.proofs.FirstStores.{first_store, path_among, path_in, store_first, stored_rank}
-use Rattle.comm_system.proofs.GoodReferences.{AllIn, among_phases, stored_good}
-use Rattle.comm_system.proofs.Lists.{all_split}
+use Rattle.comm_system.specs.Paths.{PathLoop, path_of, path_to, paths_of}
+use Rattle.comm_system.specs.References.{StaticPhase, phases_of}
+use Rattle.comm_system.proofs.FirstStores.{first_store, path_among, path_in}
+use Rattle.comm_system.proofs.GoodReferences.{AllIn, among_phases}
+use Rattle.comm_system.proofs.FirstAccesses.{stored_there}
 use Rattle.obligation_numbers.proofs.Counted.{ArePathsCounted}
 use Rattle.obligation_numbers.proofs.StoredFirst.{good_among, good_parts, shape_privates}
 
@@ -42,44 +41,14 @@ mutual
       by true here later = here
       by false here later = later
 
--- the first that passes
-first_found : {X : Type 0} (p : X → Bool) (before : List X) (x : X) (after : List X) → AllByRecursion (λ y. p y ≡ false) before → p x ≡ true → find p (before ++ x ∷ after) ≡ Some x
-first_found p [] x after none is = ap (λ b. cond b (Some x) (find p after)) is
-first_found p (y ∷ before) x after none is = ap (λ b. cond b (Some y) (find p (before ++ x ∷ after))) none.0 ∙ first_found p before x after none.1 is
-
 module _ (scope : Scope) (outer : List Head) (head : Head) (body : Statements) (goods : AllByRecursion (IsGoodNested scope) (nested_among (outer ++ head ∷ []) body)) where
   abbrev phase : StaticPhase
   phase = record { what = do_loop head body; outer = outer }
 
-  abbrev round : ℕ → List Head
-  round v = (outer ++ head ∷ []) ++ path_among v body
-
-  -- its first access is a store inside its path
-  record IsStored (v : ℕ) : Type 0 where
-    pub store : Reference
-    pub around : store.around ≡ (outer ++ head ∷ []) ++ path_among v body
-    pub is : first_access (record { what = do_loop head body; outer = outer }) v ≡ Some store
-
-  stored_there : (v : ℕ) (w : Work) → is_plain_store v w ≡ true → (before after : List Nested) → AllByRecursion (λ (n : Nested). has_access v n.what ≡ false) before → nested_among (outer ++ head ∷ []) body ≡ before ++ record { what = w; around = round v } ∷ after → IsStored v
-  stored_there v (print p) plain before after away split = absurd (true≢false (sym plain))
-  stored_there v (assign s) plain before after away split =
-      let n : Nested = record { what = assign s; around = round v } in
-      let good = all_split (IsGoodNested scope) before (n ∷ after) (subst (AllByRecursion (IsGoodNested scope)) split goods) in
-      let scalar = and_parts (is_of v s.target) (not (loads v s.value)) (and_parts (is_of v s.target && not (loads v s.value)) (is_none s.guard) plain).0 in
-      let rank = (stored_rank scope good.1.0.loops v s.target (stored_good scope good.1.0.loops (assign s) good.1.0.good).0 scalar.0).0 in
-      let f = store_first scope v rank before after s (round v) good.0 good.1.0 away plain in
-      let store : Reference = reference_of n true (element s.target) in
-      let test : Reference → Bool = λ r. variable_of r.what == v in
-      record {
-        store = store;
-        around = refl;
-        is = ap (λ ns. find test (flat_map references_in ns)) split ∙ ap (find test) f.split ∙ first_found test f.before store f.after f.away f.variable;
-      }
-
   path_counted : (v : ℕ) → is_private v body ≡ true → length (path_of phase v) ≡ path_length v body
   path_counted v private =
       let first = first_store v (outer ++ head ∷ []) body private in
-      let f = stored_there v first.store first.plain first.before first.after first.away first.split in
+      let f = stored_there scope outer head body goods v first.store first.plain first.before first.after first.away first.split in
       let many = length outer + 1 in
       let around = ap length f.around in
       let long : length f.store.around ≡ many + length (path_among v body) = omega (arith, around, length-append (outer ++ head ∷ []) (path_among v body), length-append outer (head ∷ [])) in

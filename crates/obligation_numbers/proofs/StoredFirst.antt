@@ -3,6 +3,7 @@ use Rattle.std.proofs.Common.{◌≡◌, ℕ, ◌&&◌, ◌||◌, ◌==◌, not,
 use Rattle.std.specs.Prelude.{is_none}
 use Rattle.std.specs.List.{AllByRecursion, flat_map, list_all}
 use Rattle.std.proofs.lemmas.Bool.{and_parts, cases_Bool, eqb-true}
+use Rattle.list_lemmas.proofs.Each.{all_split}
 use Rattle.nest_tree.specs.Tree.{Head, Work, assign, print, Statement, Statements, do_loop, work, continue, done, next, Tree}
 use Rattle.nest_tree.specs.WellFormed.{IsWellFormed, Scope, loops_of, scope_of}
 use Rattle.nest_walk.specs.Tables.{element}
@@ -20,7 +21,6 @@ use Rattle.sync_plan.proofs.Fits.{field_right}
 use Rattle.comm_system.specs.References.{Reference, StaticPhase, phases_among, phases_in, phases_of, reference_of, references_in, variable_of}
 use Rattle.comm_system.proofs.FirstStores.{first_store, path_among, store_first, stored_rank}
 use Rattle.comm_system.proofs.GoodReferences.{AllIn, among_phases, stored_good}
-use Rattle.comm_system.proofs.Lists.{all_split}
 use Rattle.obligation_numbers.proofs.Counted.{AreStoredFirst}
 use Rattle.obligation_numbers.proofs.SeenSums.{first_stores}
 

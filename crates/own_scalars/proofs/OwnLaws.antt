@@ -1,18 +1,14 @@
 -- The lists have all sum scalars and all private ones, and no scalar is both.
-use Rattle.std.proofs.Common.{◌≡◌, ℕ, suc, ◌≤◌, ◌⊎◌, Bool, true, false, true≢false, ◌&&◌, ◌||◌, ◌==◌, not, ◌++◌, length, refl, ap, sym, ◌∙◌, inl, inr, arith}
+use Rattle.std.proofs.Common.{◌≡◌, ℕ, suc, ◌≤◌, Bool, true, false, true≢false, ◌&&◌, ◌||◌, ◌==◌, not, ◌++◌, length, refl, ap, sym, ◌∙◌, inl, inr, arith}
 use Rattle.std.specs.Prelude.{Contains, if◌then◌else◌, is_none}
 use Rattle.std.specs.List.{filter, list_any, range_with_len}
-use Rattle.std.proofs.lemmas.Bool.{and_from, and_parts, cases_Bool, eqb-true}
+use Rattle.std.proofs.lemmas.Bool.{and_from, and_parts, cases_Bool, eqb-true, or_cases}
 use Rattle.std.proofs.lemmas.List.Folds.{list_any-append}
 use Rattle.nest_tree.specs.Loads.{loads_in}
 use Rattle.nest_tree.specs.Tree.{Expression, number, loop_value, param, load, neg, add, sub, mul, div, least_of, greatest_of, Work, assign, print, Statement, Statements, do_loop, work, continue, done, next}
 use Rattle.own_scalars.specs.OwnScalars.{adds_once, adds_to, has_access, is_addition, is_of, is_other, is_plain_store, is_private, is_stored_first, is_sum, is_sum_or_difference, last_stored, last_stored_in, loads, private_scalars, some_in, some_of, stores, sum_scalars}
 use Rattle.own_scalars.proofs.Ranges.{there}
 use Rattle.own_scalars.proofs.Stored.{neither, unstored_private}
-
-either : (a b : Bool) → (a || b) ≡ true → (a ≡ true) ⊎ (b ≡ true)
-either true b e = inl refl
-either false b e = inr e
 
 -- ---- what is stored has no greater number than the last
 
@@ -28,7 +24,7 @@ mutual
 
   stored_below : (v : ℕ) (ss : Statements) → some_of (stores v) ss ≡ true → v ≤ last_stored ss
   stored_below v done e = absurd (cc)
-  stored_below v (next s rest) e = elim (either (some_in (stores v) s) (some_of (stores v) rest) e) [
+  stored_below v (next s rest) e = elim (or_cases (some_in (stores v) s) (some_of (stores v) rest) e) [
     | inl here ↦ let low = stored_in v s here in omega (arith, low)
     | inr later ↦ let low = stored_below v rest later in omega (arith, low)
   ]
@@ -66,7 +62,7 @@ added_loads v (loop_value l) h = absurd (cc)
 added_loads v (param p) h = absurd (cc)
 added_loads v (load a) h = ap (λ b. b || false) h
 added_loads v (neg a) h = absurd (cc)
-added_loads v (add a b) h = elim (either (adds_once v a && not (loads v b)) (adds_once v b && not (loads v a)) h) [
+added_loads v (add a b) h = elim (or_cases (adds_once v a && not (loads v b)) (adds_once v b && not (loads v a)) h) [
   | inl left ↦ left_loads v a b (added_loads v a (and_parts (adds_once v a) (not (loads v b)) left).0)
   | inr right ↦ right_loads v a b (added_loads v b (and_parts (adds_once v b) (not (loads v a)) right).0)
 ]

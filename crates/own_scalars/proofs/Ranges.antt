@@ -3,21 +3,12 @@ use Rattle.std.proofs.Common.{◌≡◌, ℕ, zero, suc, ◌+◌, ◌<◌, ◌�
 use Rattle.std.proofs.lemmas.Bool.{cases_eq, eqb-true}
 use Rattle.std.specs.List.{Contains, filter, range_with_len}
 use Rattle.std.proofs.lemmas.List.Elements.{Contains-append_right, filter-append}
-
-split : (a n k : ℕ) → range_with_len a (n + k) ≡ range_with_len a n ++ range_with_len (a + n) k
-split a zero k =
-    let none : zero + k ≡ k = omega arith in
-    let same : a ≡ a + zero = omega arith in
-    ap (range_with_len a) none ∙ ap (λ b. range_with_len b k) same
-split a (suc n) k =
-    let more : suc n + k ≡ suc (n + k) = omega arith in
-    let same : a + 1 + n ≡ a + suc n = omega arith in
-    ap (range_with_len a) more ∙ ap (λ l. a ∷ l) (split (a + 1) n k ∙ ap (λ b. range_with_len (a + 1) n ++ range_with_len b k) same)
+use Rattle.list_lemmas.proofs.Ranges.{range_split}
 
 pub kept_front : (p : ℕ → Bool) (n k : ℕ) → filter p (range_with_len 0 (n + k)) ≡ filter p (range_with_len 0 n) ++ filter p (range_with_len n k)
 kept_front p n k =
     let same : 0 + n ≡ n = omega arith in
-    ap (filter p) (split 0 n k ∙ ap (λ b. range_with_len 0 n ++ range_with_len b k) same) ∙ filter-append p (range_with_len 0 n) (range_with_len n k)
+    ap (filter p) (range_split 0 n k ∙ ap (λ b. range_with_len 0 n ++ range_with_len b k) same) ∙ filter-append p (range_with_len 0 n) (range_with_len n k)
 
 pub kept_passed : (p : ℕ → Bool) (n : ℕ) → p n ≡ true → filter p (range_with_len 0 (n + 1)) ≡ filter p (range_with_len 0 n) ++ n ∷ []
 kept_passed p n is = kept_front p n 1 ∙ ap (λ b. filter p (range_with_len 0 n) ++ cond b (n ∷ []) []) is

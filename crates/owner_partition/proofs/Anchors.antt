@@ -14,19 +14,19 @@ use Rattle.owner_partition.specs.Owners.{is_same_anchor, is_same_dist, is_same_p
 both : {P Q : Type 0} → (r s : Bool) → Decides r P → Decides s Q → Decides (r && s) (P × Q)
 both r s p q = (λ h. let parts = and_parts r s h in (p.0 parts.0, q.0 parts.1), λ so. and_from r s (p.1 so.0) (q.1 so.1))
 
-same_pair : (p q : ℕ × ℤ) → Decides (is_same_pair p q) (p ≡ q)
+pub same_pair : (p q : ℕ × ℤ) → Decides (is_same_pair p q) (p ≡ q)
 same_pair p q =
     let d = both (p.0 == q.0) (int_eq p.1 q.1) (Decides-eqb p.0 q.0) (Decides-int_eq p.1 q.1) in
     (λ h. let so = d.0 h in λ i. (so.0 i, so.1 i), λ e. d.1 (ap (λ (r : ℕ × ℤ). r.0) e, ap (λ (r : ℕ × ℤ). r.1) e))
 
-same_pairs : (xs ys : List (ℕ × ℤ)) → Decides (pointwise is_same_pair xs ys) (xs ≡ ys)
+pub same_pairs : (xs ys : List (ℕ × ℤ)) → Decides (pointwise is_same_pair xs ys) (xs ≡ ys)
 same_pairs xs ys = slice_eq-Decides same_pair xs ys (pointwise is_same_pair xs ys) refl
 
 itself : (d : Dist) → is_same_dist d d ≡ true
 itself (Block b) = (Decides-eqb b b).1 refl
 itself Cyclic = refl
 
-same_dist : (a b : Dist) → is_same_dist a b ≡ true → a ≡ b
+pub same_dist : (a b : Dist) → is_same_dist a b ≡ true → a ≡ b
 same_dist (Block b) (Block c) h = ap (λ n. Block n) ((Decides-eqb b c).0 h)
 same_dist (Block b) Cyclic h = absurd (cc)
 same_dist Cyclic (Block c) h = absurd (cc)

@@ -4,7 +4,7 @@ use Rattle.std.specs.Int.{int_rem_euclid, w128, ◌∣◌}
 use Rattle.std.proofs.lemmas.Nat.Gcd.{mod-eq-zero_of_dvd}
 use Rattle.std.proofs.Math.Nat.{add-mul-mod_self_right, mod-eq_of_lt, mul-div_cancel_left, pos_of_dvd_of_pos}
 use Rattle.std.proofs.lemmas.Int.{ints, int_rem_euclid_is, to_z-of_z}
-use Rattle.nest_walk.proofs.Products.{mul-add}
+use Rattle.list_lemmas.proofs.Integers.{mul-add}
 use Rattle.nest_tree.specs.Layout.{count_of}
 use Rattle.owner_partition.specs.declared.anchor.Dist.TheVariants.{Cyclic}
 use Rattle.owner_partition.specs.OwnTrips.{IsInTurn, IsSame, IsSolved, trip_owner}

@@ -1,6 +1,6 @@
 pub mod Instances
-mod Places
-mod Anchors
+pub mod Places
+pub mod Anchors
 pub mod Congruences
 pub mod Limits
 pub mod Strides

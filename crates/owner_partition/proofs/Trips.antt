@@ -10,12 +10,12 @@ use Rattle.std.proofs.lemmas.List.Elements.{All-filter}
 use Rattle.std.proofs.lemmas.List.Sums.{AllPass-from_list_all}
 use Rattle.std.proofs.lemmas.List.FromFn.{get_or-range_with_len, length-range_with_len}
 use Rattle.std.proofs.Math.IntN.{*ℤ_comm, zero-*ℤ}
+use Rattle.list_lemmas.proofs.Integers.{add-mul, mul-add, mul_assoc_ℤ}
 use Rattle.nest_tree.specs.Form.{Form, form_value, is_form, is_small}
 use Rattle.nest_tree.specs.Layout.{count_of}
 use Rattle.nest_tree.specs.Tree.{Head}
 use Rattle.nest_model.specs.Instances.{trip_count, trips, with_loop}
 use Rattle.nest_walk.specs.Progressions.{progression}
-use Rattle.nest_walk.proofs.Products.{add-mul, mul-add, mul_assoc_ℤ}
 use Rattle.owner_partition.specs.OwnInstances.{coefficient_of, is_owned, own_values}
 use Rattle.owner_partition.specs.Owners.{dealt}
 use Rattle.owner_partition.specs.OwnTrips.{own_numbers, strided, trip_owner}
@@ -41,7 +41,7 @@ map_map f g [] = refl
 map_map f g (x ∷ xs) = ap (λ ys. f (g x) ∷ ys) (map_map f g xs)
 
 -- the value of a strided trip
-stride_value : (m1 m3 step : ℤ) (first stride k : ℕ) → step ≡ pos stride *ℤ m3 → m1 +ℤ (pos (first + k * stride) *ℤ m3) ≡ (m1 +ℤ (pos first *ℤ m3)) +ℤ (pos k *ℤ step)
+pub stride_value : (m1 m3 step : ℤ) (first stride k : ℕ) → step ≡ pos stride *ℤ m3 → m1 +ℤ (pos (first + k * stride) *ℤ m3) ≡ (m1 +ℤ (pos first *ℤ m3)) +ℤ (pos k *ℤ step)
 stride_value m1 m3 step first stride k e =
     let sum : pos (first + k * stride) ≡ pos first +ℤ (pos k *ℤ pos stride) = refl in
     let parts = ap (λ z. z *ℤ m3) sum ∙ add-mul (pos first) (pos k *ℤ pos stride) m3 in
@@ -64,14 +64,14 @@ strided_values m1 m3 step first stride count e =
     ∙ map_in_range f g 0 count (λ k lt. ap f (omega arith) ∙ strided_value m1 m3 step first stride count k e lt ∙ ap g (omega arith))
 
 -- the form's value at a trip
-trip_place : (base coefficient m1 m3 : ℤ) (n : ℕ) → base +ℤ coefficient *ℤ (m1 +ℤ (pos n *ℤ m3)) ≡ (base +ℤ coefficient *ℤ m1) +ℤ (pos n *ℤ (coefficient *ℤ m3))
+pub trip_place : (base coefficient m1 m3 : ℤ) (n : ℕ) → base +ℤ coefficient *ℤ (m1 +ℤ (pos n *ℤ m3)) ≡ (base +ℤ coefficient *ℤ m1) +ℤ (pos n *ℤ (coefficient *ℤ m3))
 trip_place base coefficient m1 m3 n =
     let spread = mul-add coefficient m1 (pos n *ℤ m3) in
     let turned = sym (mul_assoc_ℤ coefficient (pos n) m3) ∙ ap (λ z. z *ℤ m3) (*ℤ_comm coefficient (pos n)) ∙ mul_assoc_ℤ (pos n) coefficient m3 in
     omega (arith, ints, spread, turned)
 
 -- the form's value along a loop, from where it is at 0
-form_from : (f : Form) (n : ℕ) (loops params : List ℤ) (v : ℤ) → is_form f ≡ true → 0 < n → n - 1 < length loops →
+pub form_from : (f : Form) (n : ℕ) (loops params : List ℤ) (v : ℤ) → is_form f ≡ true → 0 < n → n - 1 < length loops →
     form_value f (with_loop loops n v) params ≡ form_value f (with_loop loops n (pos 0)) params +ℤ coefficient_of f.loops n *ℤ v
 form_from f n loops params v form some within =
     let long : n - 1 < length (with_loop loops n (pos 0)) = omega (arith, within, length-set loops (n - 1) (pos 0)) in

@@ -26,9 +26,10 @@ use Rattle.comm_system.specs.PairRows.{Sum, behind_pair, conditions_have, first_
 use Rattle.comm_system.specs.Pairs.{Pair, conflict, pairs_of, pairs_within}
 use Rattle.comm_system.specs.Paths.{PathLoop, line_of, loops_from, loops_outside, paths_of, zero_trip_has}
 use Rattle.comm_system.specs.References.{Reference, StaticPhase, phases_among, reference_of, references_in, references_of, variable_of}
-use Rattle.comm_system.specs.Shown.{is_among, is_own_in, privates_in, shared_of, shown_among, shown_of}
+use Rattle.comm_system.specs.Shown.{is_own_in, privates_in, shared_of, shown_of}
 use Rattle.comm_system.specs.Signatures.{Signature, blocked, waits}
 use Rattle.comm_system.proofs.GoodReferences.{AllIn, among_phases}
+use Rattle.comm_system.proofs.PairLists.{shown_good}
 
 -- ---- lists
 
@@ -47,18 +48,6 @@ all_mapped F G same (x ∷ xs) = ap (λ y. y ∷ map F xs) (same x) ∙ ap (λ y
 all_kept : {X : Type 0} (P : X → Type 0) (p : X → Bool) (xs : List X) → AllByRecursion P xs → AllByRecursion P (filter p xs)
 all_kept P p [] h = tt
 all_kept P p (x ∷ xs) h = elim (p x) as (λ b. AllByRecursion P (cond b (x ∷ filter p xs) (filter p xs))) [ true ↦ (h.0, all_kept P p xs h.1) | false ↦ all_kept P p xs h.1 ]
-
--- of the accesses that others see
-all_shown : (P : Reference → Type 0) (privates taken : List ℕ) (rs : List Reference) → AllByRecursion P rs → AllByRecursion P (shown_among privates taken rs)
-all_shown P privates taken [] h = tt
-all_shown P privates taken (r ∷ rs) h =
-    by (is_among privates (variable_of r.what)) (is_among taken (variable_of r.what)) (all_shown P privates taken rs h.1) (all_shown P privates (taken ++ variable_of r.what ∷ []) rs h.1)
-  where
-    by : (private before : Bool) → AllByRecursion P (shown_among privates taken rs) → AllByRecursion P (shown_among privates (taken ++ variable_of r.what ∷ []) rs) →
-        AllByRecursion P (if private then (if before then shown_among privates taken rs else r ∷ shown_among privates (taken ++ variable_of r.what ∷ []) rs) else r ∷ shown_among privates taken rs)
-    by true true rest more = rest
-    by true false rest more = (h.0, more)
-    by false before rest more = (h.0, rest)
 
 -- ---- arrays that are printed whole have the same bounds in both
 
@@ -137,7 +126,7 @@ module _ (f g : Tree) where
 
   pairs_same : (cut : Cutting) (s t : StaticPhase) → PhaseSame s → PhaseSame t → AllByRecursion PairSame (pairs_of cut s t)
   pairs_same cut s t h k =
-      firsts_same (shown_of cut s) (shown_of cut t) (all_shown HasSame (privates_in cut s.what) [] (references_of s) h) (all_shown HasSame (privates_in cut t.what) [] (references_of t) k)
+      firsts_same (shown_of cut s) (shown_of cut t) (shown_good HasSame (privates_in cut s.what) [] (references_of s) h) (shown_good HasSame (privates_in cut t.what) [] (references_of t) k)
 
   within_same : (cut : Cutting) (s : StaticPhase) → PhaseSame s → AllByRecursion PairSame (pairs_within cut s)
   within_same cut s h = firsts_same (shared_of cut s) (references_of s) (all_kept HasSame (λ r. not (is_own_in cut s r)) (references_of s) h) h

@@ -7,6 +7,7 @@ use Rattle.std.proofs.lemmas.Bool.Decides.{nat_tests}
 use Rattle.std.proofs.lemmas.List.{append-nil, get_or-replicate, length-replicate}
 use Rattle.std.proofs.lemmas.List.Folds.{list_any-append}
 use Rattle.std.proofs.lemmas.Option.{slice_get-get_or, slice_get_within}
+use Rattle.list_lemmas.proofs.Tests.{or_left_true, or_right_true}
 use Rattle.farkas_cert.specs.declared.certificate.Certificate.{Certificate}
 use Rattle.nest_tree.specs.Tree.{Head, Tree}
 use Rattle.nest_rows.proofs.Nesting.{all-append, all-weaker}
@@ -29,7 +30,6 @@ use Rattle.plan_checker.specs.Accepted.{AreCertified, IsAccepted}
 use Rattle.plan_checker.specs.Barriers.{doall_obligations}
 use Rattle.plan_checker.proofs.Certified.{fit_shape}
 use Rattle.comm_system.proofs.ShapeParts.{shaped}
-use Rattle.sync_plan.proofs.KindBits.{or_left_true, or_right_true}
 
 -- ---- lists of which nothing is made
 

@@ -4,6 +4,7 @@ use Rattle.std.specs.Prelude.{slice_get}
 use Rattle.std.specs.List.{AllByRecursion}
 use Rattle.std.proofs.lemmas.Bool.{and_parts, cases_lt, le-ltb, lt-ltb}
 use Rattle.std.proofs.lemmas.List.{append-nil, get_or-set_other}
+use Rattle.list_lemmas.proofs.Gets.{get-front, get-behind}
 use Rattle.nest_tree.specs.Intervals.{ends_of, head_interval, with_ends}
 use Rattle.nest_tree.specs.Limits.{is_empty}
 use Rattle.nest_tree.specs.Tree.{Head, Statement, Statements, do_loop, work, continue, done, next}
@@ -17,7 +18,6 @@ use Rattle.owner_partition.specs.Placement.{ends_among, ends_in, misplaced_at, m
 use Rattle.owner_partition.specs.Owners.{reaches}
 use Rattle.nest_tree.specs.Intervals.{form_interval}
 use Rattle.owner_partition.specs.declared.placement.Placement.{Placement}
-use Rattle.sync_plan.proofs.Gets.{get-behind, get-front}
 use Rattle.sync_plan.proofs.PhasePlaces.{own_ends}
 use Rattle.comm_system.specs.References.{StaticPhase}
 use Rattle.comm_system.proofs.Holders.{placed_keeps}

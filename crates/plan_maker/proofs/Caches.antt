@@ -2,6 +2,7 @@
 use Rattle.std.proofs.Common.{◌≡◌, ℕ, List, [], ◌∷◌, ◌++◌, length, Some, None, refl, ap, sym, ◌∙◌, subst, inl, inr}
 use Rattle.std.specs.Global.{Vec}
 use Rattle.std.specs.Prelude.{slice_get}
+use Rattle.list_lemmas.proofs.Gets.{get-front}
 use Rattle.farkas_cert.specs.declared.certificate.Certificate.{Certificate}
 use Rattle.nest_tree.specs.Tree.{Tree}
 use Rattle.sync_plan.specs.declared.plan.Plan.{Plan}
@@ -13,7 +14,6 @@ use Rattle.plan_maker.specs.Asked.{slot_asked}
 use Rattle.plan_maker.specs.Caches.{IsEntry, IsHeld, IsRecalled, key_seen}
 use Rattle.plan_maker.specs.Judged.{IsVerdict, Judged, cause_in}
 use Rattle.std.proofs.lemmas.Option.{slice_get_within}
-use Rattle.sync_plan.proofs.Gets.{get-front}
 use Rattle.plan_maker.proofs.Lists.{get_pushed}
 
 pub got_last : {X : Type 0} (xs : List X) (x : X) → slice_get (xs ++ x ∷ []) (length xs) ≡ Some x

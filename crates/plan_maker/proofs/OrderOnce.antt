@@ -3,11 +3,11 @@ use Rattle.std.proofs.Common.{◌≡◌, ℕ, suc, ◌+◌, ◌-◌, ◌≤◌, 
 use Rattle.std.specs.List.{range_with_len}
 use Rattle.std.specs.List.Sorted.{IsPermutation}
 use Rattle.std.proofs.lemmas.List.Sorted.{IsPermutation-append_right, IsPermutation-cons, IsPermutation-middle, IsPermutation-refl, IsPermutation-sym, IsPermutation-trans}
+use Rattle.list_lemmas.proofs.Ranges.{range_split}
 use Rattle.fm_elim.specs.Answers.{NamesEachOnce}
 use Rattle.owner_partition.specs.declared.anchor.Dist.{Dist}
 use Rattle.owner_partition.specs.declared.anchor.Dist.TheVariants.{Block, Cyclic}
 use Rattle.plan_maker.specs.Orders.{elimination_order, owners_from, rounds_from, unknowns_of}
-use Rattle.sync_plan.proofs.ProcessorSets.{range_split}
 
 pub range-more : (n : ℕ) → range_with_len 1 (n + 1) ≡ range_with_len 1 n ++ (n + 1) ∷ []
 range-more n = let e : 1 + n ≡ n + 1 = omega arith in range_split 1 n 1 ∙ ap (λ k. range_with_len 1 n ++ k ∷ []) e

@@ -2,6 +2,7 @@
 use Rattle.std.proofs.Common.{◌≡◌, ℕ, zero, suc, ◌+◌, ◌<◌, List, [], ◌∷◌, ◌++◌, take, drop, get_or, length, map, refl, ap, sym, ◌∙◌, subst, arith}
 use Rattle.std.specs.Prelude.{slice_get, Some}
 use Rattle.std.specs.List.{flat_map}
+use Rattle.list_lemmas.proofs.Gets.{get-front, get-behind}
 use Rattle.farkas_cert.specs.declared.certificate.Certificate.{Certificate}
 use Rattle.farkas_cert.specs.Good.{IsGood}
 use Rattle.std.proofs.lemmas.Grind.{flat_map-append}
@@ -12,7 +13,6 @@ use Rattle.std.proofs.lemmas.Option.{slice_get_within}
 use Rattle.nest_walk.proofs.Grown.{AllZip-append}
 use Rattle.plan_maker.specs.Asked.{AreRefuted, Asked, IsCause, IsSaid}
 use Rattle.plan_maker.specs.declared.cause.Cause.{Cause}
-use Rattle.sync_plan.proofs.Gets.{get-behind, get-front}
 
 pub refuted-append : (qs rs : List Asked) (cs ds : List Certificate) → AreRefuted qs cs → AreRefuted rs ds → AreRefuted (qs ++ rs) (cs ++ ds)
 refuted-append qs rs cs ds h k = AllZip-append (λ (q : Asked) (c : Certificate). IsGood q.task.system c) qs rs cs ds h k

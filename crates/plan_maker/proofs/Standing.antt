@@ -2,11 +2,11 @@
 use Rattle.std.proofs.Common.{◌≡◌, ℕ, suc, ◌+◌, ◌-◌, false, not, List, ◌∷◌, ◌++◌, length, length-append, map, Some, None, refl, ap, ap₂, ◌∙◌, arith}
 use Rattle.std.specs.Prelude.{Option, option_map, slice_get}
 use Rattle.std.proofs.lemmas.Option.{get_or_from_slice_get, slice_get-map, slice_get_within}
+use Rattle.list_lemmas.proofs.Gets.{get-front, get-behind}
 use Rattle.nest_tree.specs.Tree.{Statement, Statements, do_loop, work, continue, done, next}
 use Rattle.nest_tree.specs.WellFormed.{loops_in, loops_of}
 use Rattle.owner_partition.specs.declared.cut.Mark.{Mark}
 use Rattle.owner_partition.specs.Marks.{enters_outer, is_closed, mark_of, marked}
-use Rattle.sync_plan.proofs.Gets.{get-behind, get-front}
 use Rattle.maker_marks.specs.declared.tries.Tried.{Tried}
 use Rattle.maker_marks.specs.Privates.{none_in, none_of, privates_by, privates_in, privates_of}
 

@@ -20,18 +20,12 @@ use Rattle.plan_text.specs.Words.{count_line, loop_line, phase_line, version_lin
 use Rattle.plan_text.proofs.Items.{line_refused, one_line}
 use Rattle.plan_text.proofs.Plans.{cut-free, end_lines, from_certificates, from_conditions, from_loops, from_phases, from_workers, kinds-free, plan_of-shown, proofs-free, version-free, where-free, workers-free, zip-unzip}
 use Rattle.plan_text.proofs.Stopping.{IsFree, stops_first, stops_second}
+use Rattle.plan_text.proofs.Counts.{values-shown}
 
 refusal_map : {X Y : Type 0} (F : X → List (List ℕ)) (V : X → Type 0) (rest : List ℕ) (taken : ℕ) (G : Y → List (List ℕ)) (W : Y → Type 0) (later : List ℕ) (now : ℕ) → ((n : ℕ) → Stops F V rest taken n → Stops G W later now n) →
     (e : PlanSyntax) → RefusesPart F V rest taken e → RefusesPart G W later now e
 refusal_map F V rest taken G W later now f NoMemory h = tt
 refusal_map F V rest taken G W later now f (Line n) h = f n h
-
-values-shown : (v : Version) → are_conditions_shown v Values ≡ true
-values-shown One = refl
-values-shown Two = refl
-values-shown Three = refl
-values-shown Four = refl
-values-shown Five = refl
 
 pub conditions-free : (v : Version) → IsFree (condition_lines v) (λ c. are_conditions_shown v c ≡ true)
 conditions-free One Values Values r s h h' e = refl

@@ -51,7 +51,7 @@ phases_few : (tree : Tree) (marks : List Mark) → IsWellFormed tree → length 
 phases_few tree marks formed = omega (arith, placed_counts (enters_outer marks) [] tree.items, stops_of-few (enters_outer marks) tree.items, few_statements tree formed)
 
 -- values of the named constants are shown in each version
-values-shown : (version : Version) → are_conditions_shown version Values ≡ true
+pub values-shown : (version : Version) → are_conditions_shown version Values ≡ true
 values-shown One = refl
 values-shown Two = refl
 values-shown Three = refl

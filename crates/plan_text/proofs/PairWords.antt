@@ -7,7 +7,7 @@ use Rattle.std.proofs.lemmas.Bool.{and_from, and_parts}
 use Rattle.std.proofs.lemmas.Bool.Decides.{nat_tests}
 use Rattle.std.proofs.lemmas.List.Folds.{list_all-append}
 use Rattle.nest_tree.specs.Form.{is_small}
-use Rattle.nest_tree.specs.WellFormed.{is_value}
+use Rattle.nest_tree.proofs.Good.{small-value}
 use Rattle.plan_text.specs.Loose.{after_star, before_star, narrow, narrow_of, number_32, number_64, pair_behind, pair_of, pairs_of, signed_of, term_of}
 use Rattle.plan_text.specs.PlanText.{is_128, is_32, is_64}
 use Rattle.plan_text.specs.Words.{pair_word, term_word}
@@ -18,10 +18,6 @@ use Rattle.plan_text.proofs.Splitting.{after-behind, after-nowhere, before-behin
 pub small-wide : (z : ℤ) → is_small z ≡ true → is_128 z ≡ true
 small-wide (pos n) h = grind (arith, nat_tests)
 small-wide (negsuc n) h = grind (arith, nat_tests)
-
-small-value : (z : ℤ) → is_small z ≡ true → is_value z ≡ true
-small-value (pos n) h = grind (arith, nat_tests)
-small-value (negsuc n) h = grind (arith, nat_tests)
 
 pub narrow-read : (z : ℤ) → is_small z ≡ true → narrow_of (signed_decimal z) ≡ z
 narrow-read z h = ap narrow (signed-read z (small-wide z h)) ∙ ap (λ b. if b then z else pos 0) (small-value z h)

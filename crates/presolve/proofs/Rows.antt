@@ -5,7 +5,7 @@ use Rattle.std.specs.Option.{option_map, option_or}
 use Rattle.std.specs.Ordering.{int_eq}
 use Rattle.std.specs.List.{list_all, range_with_len}
 use Rattle.std.proofs.lemmas.Bool.Decides.{nat_tests}
-use Rattle.std.proofs.lemmas.List.{length-map, get_or_append_left, get_or-append_right}
+use Rattle.std.proofs.lemmas.List.{length-map, get_or_append_left, get_or-append_right, get_or_default}
 use Rattle.std.proofs.lemmas.Option.{slice_get-get_or}
 use Rattle.farkas_cert.specs.declared.system.Row.{Row}
 use Rattle.farkas_cert.specs.declared.certificate.Step.{Step}
@@ -34,11 +34,6 @@ past : (numbers : List ℕ) (i d : ℕ) → length numbers ≤ i → get_or numb
 past [] i d le = refl
 past (n ∷ numbers) zero d le = absurd (omega arith)
 past (n ∷ numbers) (suc i) d le = past numbers i d (omega arith)
-
-same_default : (numbers : List ℕ) (i d e : ℕ) → i < length numbers → get_or numbers i d ≡ get_or numbers i e
-same_default [] i d e lt = absurd (omega arith)
-same_default (n ∷ numbers) zero d e lt = refl
-same_default (n ∷ numbers) (suc i) d e lt = same_default numbers i d e (omega arith)
 
 mapped_at : (rows : List Row) (numbers : List ℕ) (i d : ℕ) → i < length numbers → get_or (map (row_at rows) numbers) i no_row ≡ row_at rows (get_or numbers i d)
 mapped_at rows [] i d lt = absurd (omega arith)
@@ -168,7 +163,7 @@ last_same rows numbers made keeps =
                 let le : suc i ≤ length numbers = grind (arith, nat_tests) in
                 let none : length made ≡ 0 = omega (arith, e) in
                 let place : length numbers - 1 ≡ i = omega (arith, e) in
-                let same : get_or numbers i (i - length numbers + length rows + 1) ≡ get_or numbers i 0 = same_default numbers i (i - length numbers + length rows + 1) 0 (omega arith) in
+                let same : get_or numbers i (i - length numbers + length rows + 1) ≡ get_or numbers i 0 = get_or_default numbers i (i - length numbers + length rows + 1) 0 (omega arith) in
                 let last : get_or numbers i 0 ≡ length rows = ap (λ k. get_or numbers k 0) (sym place) ∙ keeps.last in
                 same ∙ last ∙ omega (arith, none)
             | false ↦ λ t.

@@ -7,7 +7,7 @@ use Rattle.presolve.specs.Answers.{IsLeftOut}
 use Rattle.presolve.specs.Columns.{AreRising, is_kept}
 use Rattle.presolve.specs.Rows.{kept_number, place_in}
 
-at_least : (from vars : ℕ) (keep : List ℕ) (i : ℕ) → AreRising from vars keep → i < length keep → from ≤ get_or keep i 0
+pub at_least : (from vars : ℕ) (keep : List ℕ) (i : ℕ) → AreRising from vars keep → i < length keep → from ≤ get_or keep i 0
 at_least from vars [] i rising lt = absurd (omega (arith, lt))
 at_least from vars (k ∷ keep) zero rising lt = rising.0
 at_least from vars (k ∷ keep) (suc i) rising lt = omega (arith, at_least (k + 1) vars keep i rising.2 (omega (arith, lt)), rising.0)

@@ -4,19 +4,10 @@ use Rattle.std.specs.List.{range_with_len}
 use Rattle.std.specs.List.Sorted.{IsPermutation}
 use Rattle.std.proofs.lemmas.List.FromFn.{map-range_with_len_more}
 use Rattle.std.proofs.lemmas.List.Sorted.{IsPermutation-append_left, IsPermutation-append_right, IsPermutation-refl, IsPermutation-to_front, IsPermutation-trans}
+use Rattle.list_lemmas.proofs.Ranges.{range_split}
 use Rattle.fm_elim.specs.Answers.{NamesEachOnce}
 use Rattle.range_check.specs.RangeSystems.{elimination_order, in_steps, order_over}
 use Rattle.presolve.specs.Columns.{AreRising}
-
-range-append : (a m n : ℕ) → range_with_len a (m + n) ≡ range_with_len a m ++ range_with_len (a + m) n
-range-append a zero n =
-    let e : 0 + n ≡ n = omega arith in
-    let f : a ≡ a + 0 = omega arith in
-    ap (range_with_len a) e ∙ ap (λ b. range_with_len b n) f
-range-append a (suc m) n =
-    let e : suc m + n ≡ suc (m + n) = omega arith in
-    let f : a + 1 + m ≡ a + suc m = omega arith in
-    ap (range_with_len a) e ∙ ap (λ xs. a ∷ xs) (range-append (a + 1) m n ∙ ap (λ b. range_with_len (a + 1) m ++ range_with_len b n) f)
 
 -- one loop more: its value behind the other values, and its trip behind the other trips
 one-more : (vs ts : List ℕ) (x y : ℕ) → IsPermutation ((vs ++ ts) ++ (x ∷ y ∷ [])) ((vs ++ x ∷ []) ++ (ts ++ y ∷ []))
@@ -39,7 +30,7 @@ loops-once c (suc d) =
     let at : 1 + c + 2 * d ≡ x = omega arith in
     let after : x + 1 ≡ y = omega arith in
     let split : range_with_len (1 + c) (2 * suc d) ≡ range_with_len (1 + c) (2 * d) ++ (x ∷ y ∷ []) =
-    ap (range_with_len (1 + c)) size ∙ range-append (1 + c) (2 * d) 2 ∙ ap (λ n. range_with_len (1 + c) (2 * d) ++ (n ∷ (n + 1) ∷ [])) at ∙ ap (λ n. range_with_len (1 + c) (2 * d) ++ (x ∷ n ∷ [])) after in
+    ap (range_with_len (1 + c)) size ∙ range_split (1 + c) (2 * d) 2 ∙ ap (λ n. range_with_len (1 + c) (2 * d) ++ (n ∷ (n + 1) ∷ [])) at ∙ ap (λ n. range_with_len (1 + c) (2 * d) ++ (x ∷ n ∷ [])) after in
     let values : map (λ k. c + 1 + 2 * k) (range_with_len 0 (suc d)) ≡ vs ++ x ∷ [] = ap (λ n. map (λ k. c + 1 + 2 * k) (range_with_len 0 n)) next ∙ map-range_with_len_more (λ k. c + 1 + 2 * k) 0 d d (omega arith) in
     let trips : map (λ k. c + 2 + 2 * k) (range_with_len 0 (suc d)) ≡ ts ++ y ∷ [] = ap (λ n. map (λ k. c + 2 + 2 * k) (range_with_len 0 n)) next ∙ map-range_with_len_more (λ k. c + 2 + 2 * k) 0 d d (omega arith) in
     let before = IsPermutation-append_left (x ∷ y ∷ []) (range_with_len (1 + c) (2 * d)) (vs ++ ts) (loops-once c d) in
@@ -60,7 +51,7 @@ pub order-once : (c d : ℕ) → NamesEachOnce (c + 2 * d) (elimination_order c 
 order-once c d =
     let front : range_with_len 1 c ≡ in_steps 1 1 c = sym (ones 1 c 0) in
     let whole = IsPermutation-append_right (range_with_len 1 c) (range_with_len (1 + c) (2 * d)) (in_steps (c + 1) 2 d ++ in_steps (c + 2) 2 d) (loops-once c d) in
-    subst (λ zs. IsPermutation zs (elimination_order c d)) (sym (range-append 1 c (2 * d)))
+    subst (λ zs. IsPermutation zs (elimination_order c d)) (sym (range_split 1 c (2 * d)))
     (subst (λ zs. IsPermutation (range_with_len 1 c ++ range_with_len (1 + c) (2 * d)) (zs ++ (in_steps (c + 1) 2 d ++ in_steps (c + 2) 2 d))) front whole)
 
 pub order_over-once : (vars loops : ℕ) → NamesEachOnce vars (order_over vars loops)

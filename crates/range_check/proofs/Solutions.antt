@@ -1,6 +1,7 @@
 -- The values of an instance whose subscript leaves a bound solve the system of that bound.
 use Rattle.std.proofs.Common.{◌≡◌, ℕ, suc, ◌+◌, ◌*◌, ◌-◌, ◌<◌, ◌&&◌, ℤ, pos, ◌-ℤ◌, neg_ℤ, ◌≤ℤ◌, int_le, Bool, true, false, Option, Some, None, List, [], ◌∷◌, ◌++◌, append_assoc, length, length-append, get_or, map, refl, ap, sym, ◌∙◌, subst, arith, ◌≤◌}
 use Rattle.std.specs.List.{AllByRecursion, Contains, list_all, slice_get}
+use Rattle.list_lemmas.proofs.Each.{all-contained}
 use Rattle.farkas_cert.specs.declared.certificate.Certificate.{Certificate}
 use Rattle.farkas_cert.specs.Good.{IsGood}
 use Rattle.std.proofs.lemmas.Bool.{and_from, and_parts}
@@ -30,7 +31,7 @@ use Rattle.nest_rows.specs.Signs.{signed}
 use Rattle.nest_rows.proofs.Dots.{at-seam, constants-in-front, numbers}
 use Rattle.nest_walk.proofs.GoodAccesses.{good_access-there}
 use Rattle.nest_rows.proofs.GoodNesting.{IsGoodNested, form-among, works_good}
-use Rattle.nest_rows.proofs.Nesting.{all-at, all-contained, instance_nested}
+use Rattle.nest_rows.proofs.Nesting.{all-at, instance_nested}
 use Rattle.nest_rows.proofs.GroupsMet.{at_most_met, both_met, constants_met, guard_met, is_head_among, loops_met}
 use Rattle.nest_rows.proofs.Over.{at_most-over, constants_have-over, guard-over, loops_have-over}
 use Rattle.nest_rows.proofs.Sums.{is_over, solves}

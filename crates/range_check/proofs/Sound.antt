@@ -11,6 +11,7 @@ use Rattle.nest_tree.specs.Loads.{guard_forms, loads_among, loads_in, loads_in_i
 use Rattle.nest_tree.specs.Tree.{Expression, Expressions, number, loop_value, param, load, neg, add, sub, mul, div, least_of, greatest_of, no_more, one_more, Printed, value, whole, text, Work, assign, print, Statement, do_loop, work, continue, Tree, param_values}
 use Rattle.nest_tree.specs.WellFormed.{IsWellFormed, Scope, are_good_expressions, is_good_access, is_good_expression, is_good_guard, is_good_item, is_good_work, is_value, scope_of}
 use Rattle.nest_tree.specs.declared.tree.Access.{Access}
+use Rattle.nest_tree.proofs.Rows.{same_work}
 use Rattle.nest_model.specs.Computed.{computed_at}
 use Rattle.nest_model.specs.Instances.{Instance, instances, is_executed, no_values}
 use Rattle.nest_model.specs.Ranges.{accesses_of}
@@ -112,9 +113,6 @@ work_sound tree around loops (assign a) good small =
     ∙ and_from (are_sound_accesses tree around loops (loads_in a.value)) (is_sound_access tree around loops a.target && true) (accesses_sound tree around loops (loads_in a.value) (loads_good scope around a.value h.1) s.1)
     (and_from (is_sound_access tree around loops a.target) true (and_from (is_good_access scope around a.target) (list_all P a.target.subscripts) h.0 t.1) refl)
 work_sound tree around loops (print p) good small = accesses_sound tree around loops (flat_map loads_in_item p.items) (items_loads_good (scope_of tree) around p.items good) small
-
-pub same_work : (w w' : Work) → work w ≡ work w' → w ≡ w'
-same_work w w' h = cc
 
 -- the accesses of the instance at a stop
 pub instance_sound : (tree : Tree) (rounds : List Round) (first : ℕ) (s : Statement) (i : Instance) → IsWellFormed tree → executed_at (param_values tree) first s (loops_in tree rounds) ≡ i ∷ [] → StandFrom (works tree) first (placed_in every (numbers_of rounds) s) →

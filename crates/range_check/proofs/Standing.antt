@@ -1,8 +1,9 @@
 -- Systems row group by row group, and the pieces of work of the text by their places.
-use Rattle.std.proofs.Common.{◌≡◌, ℕ, zero, suc, ◌+◌, ◌-◌, ◌<◌, ◌≤◌, ℤ, true, Option, Some, None, List, [], ◌∷◌, ◌++◌, length, get_or, drop, map, refl, ap, sym, ◌∙◌, subst, arith}
+use Rattle.std.proofs.Common.{◌≡◌, ℕ, zero, suc, ◌+◌, ◌-◌, ◌<◌, ◌≤◌, ℤ, true, Some, None, List, [], ◌∷◌, ◌++◌, length, get_or, drop, map, refl, ap, sym, ◌∙◌, subst, arith}
 use Rattle.std.specs.List.{AllByRecursion, AllZip, flat_map, list_all, slice_get}
 use Rattle.std.proofs.lemmas.Bool.{and_from, and_parts}
 use Rattle.std.proofs.lemmas.List.{drop_all, length-map, map-append}
+use Rattle.list_lemmas.proofs.Gets.{get-front}
 use Rattle.nest_tree.specs.declared.tree.Access.{Access}
 use Rattle.nest_tree.specs.Form.{is_small}
 use Rattle.nest_tree.specs.Tree.{Head, Tree, Work, param_values, work}
@@ -84,12 +85,6 @@ access_there tree n good accesses k a same lt is =
     at (x ∷ xs) zero lt is h = ap (is_good_access (scope_of tree) good.loops) is ∙ (and_parts (is_good_access (scope_of tree) good.loops x) (list_all (is_good_access (scope_of tree) good.loops) xs) h).0
     at (x ∷ xs) (suc k) lt is h = at xs k (omega (arith, lt)) is (and_parts (is_good_access (scope_of tree) good.loops x) (list_all (is_good_access (scope_of tree) good.loops) xs) h).1
 
--- sites one piece of work after another
-get-left : {X : Type 0} (xs ys : List X) (j : ℕ) → j < length xs → slice_get (xs ++ ys) j ≡ slice_get xs j
-get-left [] ys j lt = absurd (omega arith)
-get-left (x ∷ xs) ys zero lt = refl
-get-left (x ∷ xs) ys (suc j) lt = get-left xs ys j (omega (arith, lt))
-
 get-right : {X : Type 0} (xs ys : List X) (j : ℕ) → length xs ≤ j → slice_get (xs ++ ys) j ≡ slice_get ys (j - length xs)
 get-right [] ys j le = let same : j ≡ j - 0 = omega arith in ap (slice_get ys) same
 get-right (x ∷ xs) ys zero le = absurd (omega arith)
@@ -104,7 +99,7 @@ pub site_here : (all : List Nested) (n : Nested) (k j : ℕ) (accesses : List Ac
 site_here all n k j accesses a rest same lt is =
     let short : j < length (map (site_of n) accesses) = omega (arith, lt, length-map accesses (site_of n)) in
     ap (λ ns. slice_get (flat_map sites_of ns) j) rest ∙ ap (λ xs. slice_get (map (site_of n) xs ++ flat_map sites_of (drop (k + 1) all)) j) (sym same)
-    ∙ get-left (map (site_of n) accesses) (flat_map sites_of (drop (k + 1) all)) j short ∙ get-site n accesses j a lt is
+    ∙ get-front (map (site_of n) accesses) (flat_map sites_of (drop (k + 1) all)) j short ∙ get-site n accesses j a lt is
 
 pub site_later : (all : List Nested) (n : Nested) (k j : ℕ) (accesses : List Access) → drop k all ≡ n ∷ drop (k + 1) all → accesses ≡ accesses_of n.what → length accesses ≤ j → slice_get (flat_map sites_of (drop k all)) j ≡ slice_get (flat_map sites_of (drop (k + 1) all)) (j - length accesses)
 site_later all n k j accesses rest same le =
@@ -169,6 +164,3 @@ pub no_site : (tree : Tree) (works held_works : List Held) (k j number : ℕ) �
 no_site tree works held_works k j number views same le low high left =
     let long : length (nested_works tree) ≤ k = omega (arith, le, as_long (nested_works tree) works views, ap (λ (ws : List Held). length ws) same) in
     no-some (sites tree) (number - 1) (omega (arith, low, high)) (sym (ap (λ ns. slice_get (flat_map sites_of ns) j) (drop_all k (nested_works tree) long)) ∙ left)
-
-pub same_some : {X : Type 0} (o : Option X) (x y : X) → o ≡ Some x → o ≡ Some y → x ≡ y
-same_some o x y h k = cc

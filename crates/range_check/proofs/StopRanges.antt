@@ -35,10 +35,6 @@ outside-parts tree [] ys = refl
 outside-parts tree (i ∷ xs) ys =
     ap (option_or (instance_outside tree i)) (outside-parts tree xs ys) ∙ sym (option_or-assoc (instance_outside tree i) (instances_outside tree xs) (instances_outside tree ys))
 
-pub all-parts : {X : Type 0} (P : X → Type 0) (xs ys : List X) → AllByRecursion P (xs ++ ys) → AllByRecursion P xs × AllByRecursion P ys
-all-parts P [] ys h = (tt, h)
-all-parts P (x ∷ xs) ys h = let rest = all-parts P xs ys h.1 in ((h.0, rest.0), rest.1)
-
 -- the numbers of a statement's instances
 abbrev pub IsWithin : ℕ → ℕ → Instance → Type 0
 IsWithin first behind i = (first ≤ i.statement) × (i.statement < behind)

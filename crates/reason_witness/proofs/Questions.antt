@@ -4,6 +4,7 @@ use Rattle.std.specs.Prelude.{Option, slice_get, unwrap_or}
 use Rattle.std.specs.List.{AllZip, filter, list_all}
 use Rattle.std.proofs.lemmas.Bool.{and_from, and_parts}
 use Rattle.std.proofs.lemmas.List.{append-nil}
+use Rattle.list_lemmas.proofs.Each.{passes_at}
 use Rattle.nest_tree.specs.Prints.{have_print}
 use Rattle.nest_tree.specs.Tree.{Statements, Tree, done}
 use Rattle.nest_tree.specs.WellFormed.{IsWellFormed, loops_of, scope_of}
@@ -15,7 +16,6 @@ use Rattle.sync_plan.specs.declared.plan.Plan.{Plan}
 use Rattle.sync_plan.proofs.Fits.{nothing_misfits}
 use Rattle.nest_tree.proofs.FirstLimits.{neither}
 use Rattle.comm_system.specs.Signatures.{has_places_in}
-use Rattle.comm_system.proofs.Lists.{passes_at}
 use Rattle.maker_candidates.specs.Candidates.{candidates_in}
 use Rattle.maker_marks.specs.Tries.{all_tries, body_among, body_of, tries_at}
 use Rattle.maker_marks.proofs.LoopsThere.{loop_there}

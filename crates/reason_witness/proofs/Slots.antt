@@ -2,6 +2,7 @@
 use Rattle.std.proofs.Common.{◌≡◌, ℕ, suc, List, [], ◌∷◌, ◌++◌, refl, sym, subst, inl, inr}
 use Rattle.std.specs.List.{AllZip, Contains, flat_map}
 use Rattle.std.proofs.lemmas.List.Elements.{Contains-append_cases, Contains-append_left, Contains-append_right, Contains-push_cases}
+use Rattle.list_lemmas.proofs.Elements.{Contains-flat_map as in_flat_map}
 use Rattle.farkas_cert.specs.Good.{IsGood}
 use Rattle.farkas_cert.specs.declared.certificate.Certificate.{Certificate}
 use Rattle.nest_tree.specs.Tree.{Tree}
@@ -11,7 +12,7 @@ use Rattle.comm_system.specs.Obligations.{Slot, Task, numbered_from, paths_tasks
 use Rattle.comm_system.specs.References.{StaticPhase, phases_of}
 use Rattle.comm_system.specs.Signatures.{Signature, blocked, waits}
 use Rattle.comm_system.specs.declared.obligation.Obligation.{Obligation}
-use Rattle.comm_system.proofs.Lists.{contains_cases, contains_nothing, in_flat_map}
+use Rattle.comm_system.proofs.Lists.{contains_cases, contains_nothing}
 use Rattle.plan_checker.specs.Accepted.{IsAccepted}
 use Rattle.plan_maker.specs.Judged.{task_of}
 use Rattle.reason_witness.specs.Findings.{AreCertifiedUnder, IsCertified}

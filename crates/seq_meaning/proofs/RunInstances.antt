@@ -7,6 +7,7 @@ use Rattle.nest_model.specs.Instances.{Instance}
 use Rattle.nest_model.specs.Memory.{line_of, loaded_in, memory_after, output_from}
 use Rattle.nest_model.specs.Ranges.{is_instance_inside}
 use Rattle.nest_model.specs.Visits.{every, executed_at}
+use Rattle.nest_model.proofs.Outputs.{output_from-append}
 use Rattle.nest_walk.specs.Cursors.{is_reached, loops_in}
 use Rattle.nest_walk.specs.Paths.{Round}
 use Rattle.nest_walk.specs.Places.{numbers_of}
@@ -58,13 +59,6 @@ pub ran_append : (tree : Tree) (memory : List ℤ) (xs ys : List Instance) → f
 ran_append tree memory [] ys = refl
 ran_append tree memory (x ∷ xs) ys = ran_append tree (memory_after tree memory x) xs ys
 
-pub said_append : (tree : Tree) (memory : List ℤ) (xs ys : List Instance) → output_from tree memory (xs ++ ys) ≡ output_from tree memory xs ++ output_from tree (fold (memory_after tree) memory xs) ys
-said_append tree memory [] ys = refl
-said_append tree memory (x ∷ xs) ys =
-    let line = line_of tree x (loaded_in tree memory x) in
-    let next = memory_after tree memory x in
-    ap (λ o. line ++ o) (said_append tree next xs ys) ∙ sym (append_assoc line (output_from tree next xs) (output_from tree (fold (memory_after tree) next xs) ys))
-
 -- the rest of the run behind some instances
 pub memory_behind_some : (tree : Tree) (old new end : List ℤ) (left here rest : List Instance) → left ≡ here ++ rest → new ≡ fold (memory_after tree) old here → fold (memory_after tree) old left ≡ end → fold (memory_after tree) new rest ≡ end
 memory_behind_some tree old new end left here rest is ran h = ap (λ m. fold (memory_after tree) m rest) ran ∙ sym (ran_append tree old here rest) ∙ sym (ap (fold (memory_after tree) old) is) ∙ h
@@ -73,7 +67,7 @@ pub output_behind_some : (tree : Tree) (old new : List ℤ) (said saying end : L
     said ++ output_from tree old left ≡ end → saying ++ output_from tree new rest ≡ end
 output_behind_some tree old new said saying end left here rest is ran lines h =
     ap (λ m. saying ++ output_from tree m rest) ran ∙ ap (λ xs. xs ++ output_from tree (fold (memory_after tree) old here) rest) lines
-    ∙ append_assoc said (output_from tree old here) (output_from tree (fold (memory_after tree) old here) rest) ∙ ap (λ o. said ++ o) (sym (said_append tree old here rest)) ∙ sym (ap (λ xs. said ++ output_from tree old xs) is) ∙ h
+    ∙ append_assoc said (output_from tree old here) (output_from tree (fold (memory_after tree) old here) rest) ∙ ap (λ o. said ++ o) (sym (output_from-append tree old here rest)) ∙ sym (ap (λ xs. said ++ output_from tree old xs) is) ∙ h
 
 -- an assignment prints nothing
 pub assigned_quiet : (tree : Tree) (rounds : List Round) (s : Statement) (a : Assignment) (old new : List ℕ) (memory : List ℤ) → s ≡ work (assign a) → new ≡ old → (w : Work) → s ≡ work w → new ≡ old ++ printed_behind tree (loops_in tree rounds) w memory

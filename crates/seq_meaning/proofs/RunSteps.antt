@@ -14,7 +14,7 @@ use Rattle.std.proofs.lemmas.List.Sums.{sum_by-cons}
 use Rattle.nest_tree.specs.Form.{numbered}
 use Rattle.nest_tree.specs.Layout.{bounds_of, cell_count, element_count, first_cell}
 use Rattle.nest_tree.specs.Loads.{loads_in}
-use Rattle.nest_tree.specs.Tree.{Assignment, Constant, Printed, value, whole, text, Printing, Work, assign, print, Statement, work, Tree, param_values}
+use Rattle.nest_tree.specs.Tree.{Assignment, Constant, Printed, value, whole, text, Printing, assign, print, Statement, Tree, param_values}
 use Rattle.nest_tree.specs.WellFormed.{IsWellFormed, is_good_access, is_good_expression, is_good_guard, is_good_item, is_good_work, is_number_of, loops_of, rank, rank_of, scope_of}
 use Rattle.nest_model.specs.Accesses.{access_cell, item_loads, work_store}
 use Rattle.nest_model.specs.Meaning.{has_value, value_of}
@@ -147,16 +147,13 @@ values_of_cells : (f : LoadCells → ℕ) (g : ℕ → ℤ) (xs : List LoadCells
 values_of_cells f g [] = refl
 values_of_cells f g (x ∷ xs) = ap (λ vs. g (f x) ∷ vs) (values_of_cells f g xs)
 
-only_one : (o : Option ℕ) (n : ℕ) → n ∷ [] ≡ option_to_list o → o ≡ Some n
+pub only_one : (o : Option ℕ) (n : ℕ) → n ∷ [] ≡ option_to_list o → o ≡ Some n
 only_one None n h = cc
 only_one (Some m) n h = cc
 
 nothing_at : (o : Option ℕ) → [] ≡ option_to_list o → o ≡ None
 nothing_at None h = refl
 nothing_at (Some m) h = cc
-
-pub same_work : (w w' : Work) → work w ≡ work w' → w ≡ w'
-same_work w w' h = cc
 
 -- numbers among so many are among more
 pub numbered_more : (count more : ℕ) (rounds : List Round) → count ≤ more → list_all (λ (r : Round). is_number_of count r.number) rounds ≡ true → list_all (λ (r : Round). is_number_of more r.number) rounds ≡ true

@@ -1,5 +1,5 @@
 -- The laws of value arithmetic.
-use Rattle.std.proofs.Common.{◌≡◌, ℕ, zero, suc, ◌+◌, ◌-◌, ◌*◌, ◌/◌, ◌%◌, ◌^◌, ◌<◌, ◌≤◌, ℤ, pos, negsuc, ◌+ℤ◌, ◌-ℤ◌, ◌*ℤ◌, neg_ℤ, unsigned_abs, FitsSigned, w64, List, [], ◌∷◌, All, Contains, ap, inl, inr, refl, sym, ◌∙◌, arith, to_z, of_z, le_trans, le_refl, mul-le-mul, ⊎_elim}
+use Rattle.std.proofs.Common.{◌≡◌, ℕ, zero, suc, ◌+◌, ◌-◌, ◌*◌, ◌/◌, ◌%◌, ◌^◌, ◌<◌, ◌≤◌, ℤ, pos, negsuc, ◌+ℤ◌, ◌-ℤ◌, ◌*ℤ◌, neg_ℤ, unsigned_abs, FitsSigned, w64, List, [], ◌∷◌, All, Contains, ap, inl, inr, refl, sym, ◌∙◌, arith, to_z, le_trans, le_refl, mul-le-mul, ⊎_elim}
 use Rattle.std.proofs.lemmas.Bool.{cases_lt}
 use Rattle.std.proofs.Math.Facts.{to_z-neg}
 use Rattle.std.specs.Prelude.{int_div, int_rem, ◌≤ℤ◌}
@@ -9,6 +9,7 @@ use Rattle.std.proofs.lemmas.List.Elements.{All-cons, Contains-append_right}
 use Rattle.std.proofs.Math.IntN.{*ℤ-zero, pred_ℤ, pred_ℤ-*ℤ}
 use Rattle.std.proofs.Math.Nat.{div-le_self, div-mul-le_self}
 use Rattle.nest_tree.specs.Values.{wrapped, quotient}
+use Rattle.nest_tree.proofs.Quotients.{int_div-abs}
 use Rattle.nest_model.specs.Meaning.{least, greatest}
 use Rattle.seq_meaning.specs.ValueLaws.{IsSameModulo, least_value, IsTruncated}
 
@@ -73,35 +74,8 @@ wrapped-differs (negsuc a) =
     let e : pos (2 ^ 64 - 1 - a % 2 ^ 64) ≡ negsuc a +ℤ pos ((q + 1) * 2 ^ 64) = omega (arith, ints) in
     differs_signed (negsuc a) (pos (q + 1)) (2 ^ 64 - 1 - a % 2 ^ 64) (omega arith) e
 
-abs_neg : (n : ℕ) → unsigned_abs (neg_ℤ (pos n)) ≡ n
-abs_neg zero = refl
-abs_neg (suc n) = refl
-
--- a quotient's size is the quotient of the sizes
-int_div-abs : (a d : ℤ) → unsigned_abs (int_div a d) ≡ unsigned_abs a / unsigned_abs d
-int_div-abs (pos a) (pos d) = refl
-int_div-abs (pos a) (negsuc d) = abs_neg (a / suc d)
-int_div-abs (negsuc a) (pos d) = abs_neg (suc a / d)
-int_div-abs (negsuc a) (negsuc d) = refl
-
 int_div-below : (a d : ℤ) → unsigned_abs a / unsigned_abs d < 2 ^ 63 → FitsSigned w64 (int_div a d)
 int_div-below a d h = fits_signed_from_abs w64 (int_div a d) (rw (int_div-abs a d) h)
-
--- a whole number below 2 ^ 64 in size, cast to 64 bits and back, is its value
-wrapped_small : (z : ℤ) → unsigned_abs z < 2 ^ 64 → to_z w64 (of_z w64 z) ≡ wrapped z
-unfolding int_wrap
-wrapped_small (pos n) lt = ap (to_z w64) {y = n % 2 ^ 64} (omega arith)
-wrapped_small (negsuc n) lt = ap (to_z w64) {y = 2 ^ 64 - 1 - n % 2 ^ 64} (omega arith)
-
-pub quotient_cast : (a d : ℤ) → FitsSigned w64 a → to_z w64 (of_z w64 (int_div a d)) ≡ quotient a d
-quotient_cast a d f =
-    let small : unsigned_abs a < 2 ^ 64 = abs_small a f in
-    let h : unsigned_abs (int_div a d) < 2 ^ 64 = omega (arith, int_div-abs a d, div-le_self (unsigned_abs a) (unsigned_abs d)) in
-    wrapped_small (int_div a d) h
-  where
-    abs_small : (a : ℤ) → FitsSigned w64 a → unsigned_abs a < 2 ^ 64
-    abs_small (pos n) f = omega (arith, f.sfits)
-    abs_small (negsuc n) f = omega (arith, f.sfits)
 
 halved : (n d : ℕ) → n ≤ 2 ^ 63 → n / suc (suc d) < 2 ^ 63
 halved n d le =

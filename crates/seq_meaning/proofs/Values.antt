@@ -1,5 +1,5 @@
 -- What the proofs on the values of expressions share.
-use Rattle.std.proofs.Common.{◌≡◌, ℕ, ◌+◌, ◌≤◌, ◌<◌, ◌-◌, take, get_or, drop-drop, drop-cons, add-one, ℤ, List, [], ◌∷◌, length, drop, length-append, length-drop, length-take, get_or-take, get_or-drop, zero, suc, IsTrue, ap, sym, ◌∙◌, w64, to_z, of_z, FitsSigned, arith}
+use Rattle.std.proofs.Common.{◌≡◌, ℕ, ◌+◌, ◌≤◌, ◌<◌, ◌-◌, take, get_or, drop-drop, drop-cons, add-one, ℤ, List, [], ◌∷◌, length, drop, length-append, length-drop, length-take, get_or-take, get_or-drop, IsTrue, ap, sym, ◌∙◌, w64, to_z, of_z, FitsSigned, arith}
 use Rattle.std.specs.Prelude.{fold}
 use Rattle.std.proofs.lemmas.Bool.{and_parts}
 use Rattle.std.proofs.lemmas.Int.{to_z-of_z}
@@ -10,6 +10,7 @@ use Rattle.nest_tree.specs.declared.tree.Expr.{Expr}
 use Rattle.nest_model.specs.Meaning.{has_value, have_values, value_of, values_of}
 use Rattle.nest_tree.specs.Loads.{loads_in, loads_among}
 use denote.Param.Weighed.{most}
+use Rattle.flat_code.proofs.Arguments.{most_at}
 
 -- what is left to do of a MIN or a MAX: the arguments `left`, whose loads gave what `rest` begins with
 pub record Remains (pick : ℤ → ℤ → ℤ) (best : ℤ) (left : List Expr) (loops params rest : List ℤ) (value : ℤ) (behind : List ℤ) : Type 0 where
@@ -64,12 +65,6 @@ pub arguments_valued-Max : (loops params : ℕ) (arguments : List Expr) → IsTr
     (0 < length arguments) × IsTrue (have_values loops params (expressions_from arguments))
 arguments_valued-Max loops params [] v = cc
 arguments_valued-Max loops params (e ∷ rest) v = (omega arith, v)
-
--- no element weighs more than the heaviest
-most_at : (weight : Expr → ℕ) (items : List Expr) (i : ℕ) (e : Expr) → i < length items → weight (get_or items i e) ≤ most weight items
-most_at weight [] i e lt = absurd (omega arith)
-most_at weight (a ∷ items) zero e lt = omega arith
-most_at weight (a ∷ items) (suc i) e lt = let h : weight (get_or items i e) ≤ most weight items = most_at weight items i e (omega arith) in omega arith
 
 -- so does no argument behind the first
 pub most_behind_first : (weight : Expr → ℕ) (items : List Expr) (i : ℕ) (e : Expr) → i < length (take (length items - 1) (drop 1 items)) →

@@ -21,10 +21,6 @@ pub innermost_at : (rounds : List Round) (v : ℤ) → innermost (at_value round
 innermost_at [] v = refl
 innermost_at (r ∷ rounds) v = refl
 
-pub at_again : (rounds : List Round) (v w : ℤ) → at_value (at_value rounds v) w ≡ at_value rounds w
-at_again [] v w = refl
-at_again (r ∷ rounds) v w = refl
-
 pub innermost_numbered : (count : ℕ) (rounds : List Round) → 0 < length rounds → list_all (λ (r : Round). is_number_of count r.number) rounds ≡ true → is_number_of count (innermost rounds) ≡ true
 innermost_numbered count [] some h = absurd (omega arith)
 innermost_numbered count (r ∷ rounds) some h = (and_parts (is_number_of count r.number) (list_all (λ (q : Round). is_number_of count q.number) rounds) h).0

@@ -9,7 +9,7 @@ use Rattle.std.proofs.lemmas.List.Sums.{fold-append}
 use Rattle.std.proofs.lemmas.Option.{slice_get-get_or}
 use Rattle.spmd_model.specs.Cells.{changed}
 use Rattle.spmd_model.specs.Timelines.{Act, post, await, load, store, add, print, Job, Machine, Moment, Word, counter, signal, boundary, job, act_at, acts_of}
-use Rattle.spmd_model.specs.States.{State, first_state, run_of, stepped}
+use Rattle.spmd_model.specs.States.{first_state, run_of, stepped}
 use Rattle.spmd_model.specs.Sequential.{registers_at, stored_at, value_at}
 use Rattle.spmd_model.specs.Ordered.{IsOrdered, IsSound}
 use Rattle.spmd_model.specs.Lawful.{IsLawful, acts_in_front, counter_at, is_done, last_value_from, last_value_where, printed_at, stores_to}
@@ -17,8 +17,9 @@ use Rattle.spmd_model.specs.Reached.{IsPossibleAt, memory_by, state_at}
 use Rattle.spmd_model.proofs.ActLaws as law
 use Rattle.spmd_model.proofs.ActLists.{act_of_moment, found}
 use Rattle.spmd_model.proofs.MomentActs.{IsAwaitIn, post_first, tells}
-use Rattle.spmd_model.proofs.StateAt.{first_at, stays_lawful, steps_to}
+use Rattle.spmd_model.proofs.StateAt.{first_at, stays_lawful, steps_to, same_state}
 use Rattle.spmd_model.proofs.Unstuck.{passed_post}
+use Rattle.spmd_model.proofs.LastValues.{stands_later}
 use Rattle.shared_words.specs.Places.{total}
 use Rattle.shared_words.proofs.Places.{put, put_moves}
 use Rattle.shared_words.proofs.Totals.{total_put}
@@ -29,17 +30,10 @@ mapped_same : {X : Type 0} (f g : ℕ → X) (a n : ℕ) → ((q : ℕ) → a �
 mapped_same f g a zero same = refl
 mapped_same f g a (suc n) same = ap (λ y. y ∷ map f (range_with_len (a + 1) n)) (same a (omega arith) (omega arith)) ∙ ap (λ l. g a ∷ l) (mapped_same f g (a + 1) n (λ q low high. same q (omega arith) (omega arith)))
 
-same_state : {a a' : List ℕ} {b b' : List (List ℤ)} {c c' d d' : List ℕ} {m m' : List ℤ} {o o' : List ℕ} → a ≡ a' → b ≡ b' → c ≡ c' → d ≡ d' → m ≡ m' → o ≡ o' →
-    (let left : State = record { positions = a; registers = b; counters = c; signals = d; memory = m; output = o } in let right : State = record { positions = a'; registers = b'; counters = c'; signals = d'; memory = m'; output = o' } in left ≡ right)
-same_state a b c d m o = cc
-
 -- what a cell holds, where the same jobs are done
 
 abbrev StandsFrom : Machine → ℕ → List Moment → Type 0
 StandsFrom m place xs = (k : ℕ) (x : Moment) → slice_get xs k ≡ Some x → slice_get m.timeline (place + k) ≡ Some x
-
-stands_later : (m : Machine) (place : ℕ) (y : Moment) (ys : List Moment) → StandsFrom m place (y ∷ ys) → StandsFrom m (suc place) ys
-stands_later m place y ys h k x e = let next : place + suc k ≡ suc place + k = omega arith in ap (slice_get m.timeline) (sym next) ∙ h (suc k) x e
 
 same_value : (m : Machine) (cell : ℕ) (d e : ℕ → Job → Bool) (place : ℕ) (xs : List Moment) (v : ℤ) → ((u : ℕ) (k : Job) → slice_get m.timeline u ≡ Some (job k) → d u k ≡ e u k) → StandsFrom m place xs → last_value_from m d cell place xs v ≡ last_value_from m e cell place xs v
 same_value m cell d e place [] v h stands = refl

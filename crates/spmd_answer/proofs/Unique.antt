@@ -3,6 +3,7 @@ use Rattle.std.proofs.Common.{◌≡◌, ◌≢◌, ◌∙◌, ◌==◌, ℕ, �
 use Rattle.std.proofs.lemmas.Bool.Decides.{nat_tests}
 use Rattle.std.proofs.Common.{arith}
 use Rattle.asked_plan.specs.Plans.{HasWorkers, IsTaken, first_reason}
+use Rattle.list_lemmas.proofs.Gets.{one_element}
 use Rattle.nest_tree.specs.Tree.{Tree}
 use Rattle.nest_model.specs.Memory.{output_of}
 use Rattle.f77_lines.specs.Listing.{entries_of}
@@ -31,9 +32,6 @@ use Rattle.spmd_answer.specs.Given.{IsProvedPlan, IsRefusedPlan, IsRefusedWith, 
 one_plan : (x y : Plan) (bytes : List ℕ) → IsTextOf x bytes → IsTextOf y bytes → x ≡ y
 one_plan x y bytes p q = text_front x y [] p.shown q.shown (sym p.bytes_are ∙ q.bytes_are ∙ sym (append-nil (plan_text y)))
 
-one_some : {A : Type 0} (o : Option A) (a b : A) → o ≡ Some a → o ≡ Some b → a ≡ b
-one_some o a b p q = cc
-
 eqb-refl : (n m : ℕ) → m ≡ n → (m == n) ≡ true
 eqb-refl n m h = grind (arith, nat_tests)
 
@@ -48,7 +46,7 @@ one_stop reason_of bytes s t (no_text m u p) (unfit y text r first q) = absurd (
 one_stop reason_of bytes s t (unfit x text r first p) (no_text n v q) = absurd (v.no_text (x, text.shown, text.bytes_are))
 one_stop reason_of bytes s t (unfit x text r first p) (unfit y text' r' first' q) =
     let same = one_plan x y bytes text text' in
-    let reasons : r ≡ r' = one_some (reason_of y) r r' (ap reason_of (sym same) ∙ first) first' in
+    let reasons : r ≡ r' = one_element (reason_of y) r r' (ap reason_of (sym same) ∙ first) first' in
     p ∙ ap Misfit reasons ∙ sym q
 
 one_reason : (reason_of : Plan → Option PlanRefusal) (bytes s t : List ℕ) → IsRefusedWith reason_of bytes s → IsRefusedWith reason_of bytes t → s ≡ t

@@ -4,11 +4,11 @@ use Rattle.std.specs.Prelude.{slice_index}
 use Rattle.std.specs.List.{flat_map}
 use Rattle.std.proofs.lemmas.List.{get_or-map}
 use Rattle.nest_walk.specs.Tables.{entries}
-use Rattle.spmd_model.specs.Deeds.{Deed, awaiting, deed_of}
-use Rattle.spmd_model.specs.Timelines as Timelines
-use Rattle.spmd_model.specs.Timelines.{Act, Word, post, await, load, store, add, print, counter, signal, act_at}
+use Rattle.spmd_model.specs.Deeds.{Deed, awaiting}
+use Rattle.spmd_model.specs.Timelines.{Word, await, counter, signal, act_at}
 use Rattle.spmd_model.proofs.Counters.{awaited_post}
 use Rattle.spmd_model.proofs.MachineOrder.{sound_by}
+use Rattle.spmd_model.proofs.Deeds.{await_is}
 use Rattle.styled_turns.specs.StyledTurns.{StyledTurn, waits, styled_deeds}
 use Rattle.styled_turns.specs.StyledLeft.{styled_left, styled_plan, styled_processor, styled_tree}
 use Rattle.spmd_machine.specs.Machines.{IsReady, model_of, plan_in, style_in, tree_in}
@@ -18,15 +18,6 @@ use Rattle.spmd_machine.specs.declared.processor.Processor.{Processor}
 use Rattle.spmd_machine.proofs.Kept.{left_idle, wait_idle}
 use Rattle.spmd_machine.proofs.Ready.{kept_here, worker_here}
 use Rattle.spmd_machine.proofs.Steps.{next_from}
-
--- an act that awaits
-await_is : (m : Timelines.Machine) (a : Act) (word : Word) (on wanted : ℕ) → deed_of m a ≡ awaiting word on wanted → a ≡ await word on wanted
-await_is m (post w k) word on wanted h = cc
-await_is m (await w q k) word on wanted h = let sort : w ≡ word = cc in let same : q ≡ on = cc in let wants : k ≡ wanted = cc in cc
-await_is m (load t c) word on wanted h = cc
-await_is m (store t c) word on wanted h = cc
-await_is m (add t c) word on wanted h = cc
-await_is m (print t) word on wanted h = cc
 
 module _ (m : Machine) (ready : IsReady m) (p : ℕ) (x : Processor) (lt : p < length m.processors.items) (read : x ≡ get_or m.processors.items p x) (word : Word) (on wanted : ℕ) (rest : List StyledTurn) (next : styled_left x.turns ≡ waits word on wanted ∷ rest) where
   kept : IsKept (style_in m) (tree_in m) (plan_in m) (entries m.table) p x

@@ -1,9 +1,8 @@
 -- Processors at their first turns.
-use Rattle.std.proofs.Common.{◌≡◌, ℕ, suc, ◌+◌, ◌*◌, ◌<◌, ◌≤◌, ℤ, pos, true, List, [], ◌∷◌, ◌++◌, map, get_or, length, replicate, Some, refl, sym, ◌∙◌, ap, subst, inl, inr, arith, sum_by, length-append, append-nil, drop, take}
+use Rattle.std.proofs.Common.{◌≡◌, ℕ, suc, ◌+◌, ◌*◌, ◌<◌, ◌≤◌, ℤ, pos, true, List, [], ◌∷◌, ◌++◌, map, get_or, length, replicate, Some, refl, sym, ◌∙◌, ap, subst, arith, sum_by}
 use Rattle.std.specs.Prelude.{slice_get}
 use Rattle.std.specs.List.{flat_map, list_all, range_with_len}
-use Rattle.std.proofs.lemmas.Bool.{cases_lt}
-use Rattle.std.proofs.lemmas.List.{drop_all, get_or_append_left, get_or_at, length-replicate, replicate-append-replicate, take_all}
+use Rattle.std.proofs.lemmas.List.{length-replicate, replicate-append-replicate}
 use Rattle.std.proofs.lemmas.List.Elements.{All-nil}
 use Rattle.std.proofs.lemmas.List.Sums.{sum_by-cons}
 use Rattle.nest_tree.specs.Layout.{cell_count}
@@ -20,6 +19,7 @@ use Rattle.spmd_model.specs.States.{State, first_state}
 use Rattle.spmd_model.specs.Machines.{machine_by}
 use Rattle.spmd_model.specs.declared.style.Style.{Style}
 use Rattle.spmd_model.proofs.MachineDeeds.{styled_deeds as acts_do}
+use Rattle.spmd_model.proofs.StateAt.{same_state}
 use Rattle.spmd_turns.specs.Loads.{AreWide, widths}
 use Rattle.spmd_turns.specs.Rooms.{longest_output, turn_room}
 use Rattle.spmd_turns.specs.Turns.{is_turn_inside, turns_from}
@@ -32,22 +32,6 @@ use Rattle.spmd_machine.specs.Machines.{IsReached}
 use Rattle.spmd_machine.specs.Processors.{IsFoundNext, IsFresh, IsKept, all_of, is_styled_inside, left_of, position_of, room_of, state_of}
 use Rattle.spmd_machine.specs.declared.processor.Processor.{Processor}
 use Rattle.spmd_machine.proofs.Kept.{idle_begun, left_idle}
-use Rattle.spmd_machine.proofs.Steps.{same_state}
-
-pub pushed_all : {X : Type 0} (P : ℕ → X → Type 0) (xs ys : List X) (x : X) (n : ℕ) → length xs ≡ n → ys ≡ xs ++ x ∷ [] → ((p : ℕ) (d : X) → p < length xs → P p (get_or xs p d)) → P n x →
-    (p : ℕ) (d : X) → p < length ys → P p (get_or ys p d)
-pushed_all P xs ys x n len is all here p d lt =
-    let longer : p < length xs + 1 = omega (arith, ap length is, length-append xs (x ∷ [])) in
-    elim (cases_lt p (length xs)) [
-      | inl inside ↦ subst (P p) (sym (ap (λ l. get_or l p d) is ∙ get_or_append_left xs (x ∷ []) d p inside)) (all p d inside)
-      | inr past ↦ let last : length xs ≡ p = omega arith in let number : n ≡ p = omega arith in
-          subst (P p) (sym (ap (λ l. get_or l p d) is ∙ get_or_at xs x [] d p last)) (subst (λ (k : ℕ). P k x) number here)
-    ]
-
--- what is written through a slice of a whole list is that list then
-pub written_whole : {X : Type 0} (count : ℕ) (new items : List X) → count ≡ length items → length new ≡ length items → take count (new ++ drop (length new) items) ≡ new
-written_whole count new items all same =
-    ap (λ xs. take count (new ++ xs)) (drop_all (length new) items (omega (arith, same))) ∙ ap (take count) (append-nil new) ∙ take_all count new (omega (arith, all, same))
 
 map_same : {Y : Type 0} (f : Processor → Y) (ps : List Processor) (y : Y) → ((p : ℕ) (d : Processor) → p < length ps → f (get_or ps p d) ≡ y) → map f ps ≡ replicate (length ps) y
 map_same f [] y h = refl

@@ -4,6 +4,7 @@ use Rattle.std.specs.Prelude.{slice_get}
 use Rattle.std.specs.List.{list_all}
 use Rattle.std.specs.Option.{option_map, option_to_list}
 use Rattle.nest_tree.specs.Layout.{cell_count}
+use Rattle.nest_tree.proofs.Rows.{same_work}
 use Rattle.sync_plan.specs.Own.{own_cell, own_of}
 use Rattle.std.specs.Vec.{with_item}
 use Rattle.std.proofs.lemmas.List.{length-map}
@@ -40,7 +41,7 @@ use Rattle.seq_meaning.specs.Executions.{IsPlacedWork}
 use Rattle.seq_meaning.specs.Lines.{has_text, items_load_count}
 use Rattle.seq_meaning.specs.Room.{Written, longest_items, longest_line}
 use Rattle.seq_meaning.proofs.Found.{Found}
-use Rattle.seq_meaning.proofs.RunSteps.{assign_same, assign_valued, code_room, items_loads-length, numbered_more, placed-good, same_work, store_within, texts_same, texts_there}
+use Rattle.seq_meaning.proofs.RunSteps.{assign_same, assign_valued, code_room, items_loads-length, numbered_more, placed-good, store_within, texts_same, texts_there, only_one}
 use Rattle.seq_meaning.proofs.TextAssigns.{text-code, text-high, text-low}
 use Rattle.spmd_model.specs.Deeds.{last_deed, printing, storing}
 use Rattle.spmd_machine.specs.Machines.{ComesNext, IsReady, LoadsNext, StepsTo, plan_in, style_in, tree_in}
@@ -58,10 +59,6 @@ use Rattle.spmd_machine.proofs.OwnAccess.{Stores, access_set, to_own, to_shared}
 use Rattle.spmd_machine.proofs.OwnMemory.{same_memory}
 use Rattle.spmd_machine.proofs.Steps.{registers_read, same_counters, same_signals}
 use Rattle.spmd_machine.proofs.Works as here
-
-one_in : (o : Option ℕ) (n : ℕ) → n ∷ [] ≡ option_to_list o → o ≡ Some n
-one_in None n h = cc
-one_in (Some k) n h = cc
 
 module _ (m : Machine) (ready : IsReady m) (p : ℕ) (x : Processor) (lt : p < length m.processors.items) (read : x ≡ get_or m.processors.items p x) (stop : Stop) (next : ComesNext m p (Working stop)) where
   abbrev tree : Tree
@@ -129,7 +126,7 @@ module _ (m : Machine) (ready : IsReady m) (p : ℕ) (x : Processor) (lt : p < l
 
     -- the cell that it stores to is that of the table
     pub table_stores : (f : CellForm) → cells.store ≡ Some f → (k : ℕ) (values : List ℤ) → k ≡ cell_at f values → values ≡ by_depth rounds → store_of tree i ≡ Some k
-    table_stores f stored k values k_is depth = one_in (store_of tree i) k (ap (λ n. n ∷ []) (k_is ∙ ap (cell_at f) depth) ∙ table_store (Some f) stored)
+    table_stores f stored k values k_is depth = only_one (store_of tree i) k (ap (λ n. n ∷ []) (k_is ∙ ap (cell_at f) depth) ∙ table_store (Some f) stored)
 
     pub table_below : (f : CellForm) → cells.store ≡ Some f → (k : ℕ) (values : List ℤ) → k ≡ cell_at f values → values ≡ by_depth rounds → k < cell_count tree
     table_below f stored k values k_is depth = omega (arith, store_within tree (styled_path x.turns) stop.first (statement_of stop.item.now) placed cells found f values m.memory.items k stored k_is depth ready.cells, ready.cells)

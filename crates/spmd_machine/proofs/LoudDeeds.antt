@@ -4,6 +4,7 @@ use Rattle.std.specs.Prelude.{slice_get}
 use Rattle.std.specs.List.{All, flat_map, range_with_len}
 use Rattle.std.specs.Option.{option_map, option_to_list}
 use Rattle.std.proofs.lemmas.List.Elements.{All-append, All-cons, All-filter, All-head, All-nil, All-tail}
+use Rattle.list_lemmas.proofs.Each.{All-left, All-right}
 use Rattle.nest_tree.specs.Layout.{cell_count, first_cell}
 use Rattle.nest_tree.specs.Tree.{Tree, param_values}
 use Rattle.nest_tree.specs.WellFormed.{IsWellFormed}
@@ -29,7 +30,7 @@ use Rattle.spmd_model.specs.declared.style.Style.{Style}
 use Rattle.spmd_model.proofs.NoOwnDeeds.{no_slot}
 use Rattle.spmd_model.proofs.CellsThere.{AreThere, cells_there}
 use Rattle.spmd_model.proofs.PhaseJobs.{all_fine}
-use Rattle.spmd_model.proofs.TripJobs.{IsFineIn, back_all, front_all}
+use Rattle.spmd_model.proofs.TripJobs.{IsFineIn}
 use Rattle.spmd_machine.specs.Processors.{all_of}
 use Rattle.spmd_machine.proofs.OwnPlaces.{own_quiet}
 use Rattle.spmd_machine.proofs.Settles.{is_quiet_deed}
@@ -56,8 +57,8 @@ module _ (tree : Tree) (plan : Plan) (p : ℕ) (none : (place : ℕ) → HasNoOw
   instance_loud : (place : ℕ) (i : Instance) → AreThere tree (cells_of tree i) → All IsLoud (own_deeds tree (own_of tree plan place) p i)
   instance_loud place i all =
       let last = last_deed (option_map (at_own place) (store_of tree i)) false (assigned_value tree i) (line_of tree i) in
-      All-append IsLoud (map loading (map (at_own place) (loads_of tree i))) (last ∷ []) (loads_loud place (loads_of tree i) (front_all (λ c. c < cell_count tree) (loads_of tree i) (option_to_list (store_of tree i)) all))
-      (All-cons IsLoud last [] (last_loud place (store_of tree i) (assigned_value tree i) (line_of tree i) (back_all (λ c. c < cell_count tree) (loads_of tree i) (option_to_list (store_of tree i)) all)) (All-nil IsLoud))
+      All-append IsLoud (map loading (map (at_own place) (loads_of tree i))) (last ∷ []) (loads_loud place (loads_of tree i) (All-left (λ c. c < cell_count tree) (loads_of tree i) (option_to_list (store_of tree i)) all))
+      (All-cons IsLoud last [] (last_loud place (store_of tree i) (assigned_value tree i) (line_of tree i) (All-right (λ c. c < cell_count tree) (loads_of tree i) (option_to_list (store_of tree i)) all)) (All-nil IsLoud))
 
   abbrev AreAllThere : List Instance → Type 0
   AreAllThere is = All (λ i. AreThere tree (cells_of tree i)) is

@@ -2,9 +2,9 @@
 use Rattle.std.proofs.Common.{◌≡◌, ℕ, ◌<◌, nat_lt, false, List, [], ◌∷◌, length, get_or, refl, subst, sym, ◌∙◌, arith}
 use Rattle.std.specs.List.{All}
 use Rattle.std.proofs.lemmas.List.Elements.{All-head}
+use Rattle.list_lemmas.proofs.Each.{All-right}
 use Rattle.spmd_model.specs.Deeds.{Deed}
 use Rattle.spmd_model.specs.Quiet.{past_quiet, quiet_next}
-use Rattle.spmd_model.proofs.TripJobs.{back_all}
 use Rattle.styled_turns.specs.StyledTurns.{has_own}
 use Rattle.styled_turns.proofs.KnownOwn.{none_at}
 use Rattle.spmd_machine.specs.Machines.{IsReady, model_of, plan_in, shared_in, shown, style_in, tree_in}
@@ -24,7 +24,7 @@ module _ (m : Machine) (ready : IsReady m) (none : has_own (plan_in m) ≡ false
       let s = (kept_here m ready p x x lt read).behind in
       let P = IsLoud (tree_in m) (plan_in m) p (λ place. none_at (tree_in m) (plan_in m) place none) in
       let all = all_loud (tree_in m) (plan_in m) p (λ place. none_at (tree_in m) (plan_in m) place none) ready.formed ready.fits ready.ranges (style_in m) in
-      by x lt read (left_of x) refl (back_all P s.front (left_of x) (subst (All P) s.is all))
+      by x lt read (left_of x) refl (All-right P s.front (left_of x) (subst (All P) s.is all))
     where
       by : (x : Processor) (lt : p < length m.processors.items) → x ≡ get_or m.processors.items p x → (ds : List Deed) → left_of x ≡ ds → All (IsLoud (tree_in m) (plan_in m) p (λ place. none_at (tree_in m) (plan_in m) place none)) (left_of x) →
           nat_lt 0 (quiet_next (model_of m) (shared_in m) (shown m) p) ≡ false

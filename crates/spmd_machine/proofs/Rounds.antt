@@ -5,7 +5,7 @@ use Rattle.std.specs.List.{range_with_len, flat_map}
 use Rattle.std.proofs.lemmas.Bool.{cases_Bool}
 use Rattle.std.proofs.lemmas.List.Sums.{fold_push, fold-append}
 use Rattle.std.proofs.lemmas.List.Concat.{flat_map-append}
-use Rattle.sync_plan.proofs.ProcessorSets.{range_split}
+use Rattle.list_lemmas.proofs.Ranges.{range_split}
 use Rattle.spmd_model.specs.Quiet.{past_quiet, quiet_next, turned}
 use Rattle.spmd_model.specs.Reached.{HasCome}
 use Rattle.spmd_model.specs.States.{State, next_act, stepped, words_of}

@@ -7,16 +7,9 @@ use Rattle.spmd_model.specs.Deeds.{Deed, posting, awaiting, loading, storing, ad
 use Rattle.spmd_model.specs.Quiet.{is_quiet, past_quiet, quiet_first, quiet_next}
 use Rattle.spmd_model.specs.States.{State, acted, is_possible, moved, next_act, stepped, stepped_by}
 use Rattle.spmd_model.specs.Timelines.{Act, post, await, load, store, add, print, Machine, acts_of}
+use Rattle.spmd_model.proofs.Quiet.{can_do}
 use Rattle.spmd_turns.proofs.TurnLists.{drop_at}
 use Rattle.spmd_model.specs.Fair.{can_go, can_step}
-
-quiet_possible : (shared : ℕ) (s : State) (a : Act) → is_quiet shared a ≡ true → is_possible s a ≡ true
-quiet_possible shared s (post w k) h = absurd (true≢false (sym h))
-quiet_possible shared s (await w q k) h = absurd (true≢false (sym h))
-quiet_possible shared s (load t c) h = refl
-quiet_possible shared s (store t c) h = refl
-quiet_possible shared s (add t c) h = absurd (true≢false (sym h))
-quiet_possible shared s (print t) h = absurd (true≢false (sym h))
 
 quiet_stays : (m : Machine) (shared : ℕ) (s : State) (p : ℕ) (a : Act) → is_quiet shared a ≡ true → (acted m s p a).positions ≡ s.positions
 quiet_stays m shared s p (post w k) h = absurd (true≢false (sym h))
@@ -41,7 +34,7 @@ module _ (m : Machine) (shared : ℕ) (s : State) (p : ℕ) (lt : p < length s.p
             let next = drop_at (acts_of m p) place a rest some in
             let count : suc (quiet_first shared rest) ≡ suc n = sym (ap (quiet_first shared) some ∙ ap (λ b. if b then suc (quiet_first shared rest) else 0) quiet) ∙ is in
             let same : quiet_first shared rest ≡ n = cc in
-            let step : stepped m s p ≡ moved (acted m s p a) p = ap (stepped_by m s p) next.0 ∙ ap (λ b. if b then moved (acted m s p a) p else s) (quiet_possible shared s a quiet) in
+            let step : stepped m s p ≡ moved (acted m s p a) p = ap (stepped_by m s p) next.0 ∙ ap (λ b. if b then moved (acted m s p a) p else s) (can_do shared s a quiet) in
             let stays = quiet_stays m shared s p a quiet in
             let moved_to : slice_index (moved (acted m s p a) p).positions p ≡ suc place =
             ap (λ ps. get_or (set ps p (get_or ps p 0 + 1)) p 0) stays ∙ get_or-set_same s.positions p (place + 1) 0 lt ∙ omega arith in

@@ -14,6 +14,7 @@ use Rattle.spmd_model.specs.States.{State, acted, is_possible, moved, next_act, 
 use Rattle.spmd_model.specs.Timelines.{Act, Word, post, await, load, store, add, print, counter, signal, acts_of}
 use Rattle.spmd_model.proofs.Deeds.{acted_is, possible_is}
 use Rattle.spmd_model.proofs.MachineDeeds.{styled_deeds}
+use Rattle.spmd_model.proofs.StateAt.{same_state}
 use Rattle.spmd_machine.specs.Machines.{answer_at, step_answer}
 use Rattle.spmd_machine.specs.Processors.{IsKept, all_of, left_of, memory_of, position_of, state_of}
 use Rattle.spmd_machine.proofs.OwnMemory.{same_memory}
@@ -21,11 +22,6 @@ use Rattle.styled_turns.specs.StyledLeft.{styled_processor}
 use Rattle.spmd_machine.specs.declared.answer.StepAnswer.TheVariants.{Stepped, Blocked, Ended}
 use Rattle.spmd_machine.specs.declared.processor.Processor.{Processor}
 use Rattle.spmd_machine.proofs.Suffixes.{MappedFrom, head, head-cons, head-nil, mapped_from, mapped_none, place_more, slice_get-left}
-
--- states are the same part by part
-pub same_state : {a a' : List ℕ} {b b' : List (List ℤ)} {c c' d d' : List ℕ} {m m' : List ℤ} {o o' : List ℕ} → a ≡ a' → b ≡ b' → c ≡ c' → d ≡ d' → m ≡ m' → o ≡ o' →
-    (let left : State = record { positions = a; registers = b; counters = c; signals = d; memory = m; output = o } in let right : State = record { positions = a'; registers = b'; counters = c'; signals = d'; memory = m'; output = o' } in left ≡ right)
-same_state a b c d m o = cc
 
 -- ---- the act that comes next
 

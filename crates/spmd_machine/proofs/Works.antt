@@ -6,9 +6,11 @@ use Rattle.std.specs.Option.{option_map}
 use Rattle.std.proofs.lemmas.Bool.{and_parts}
 use Rattle.std.proofs.lemmas.List.{length-map}
 use Rattle.std.proofs.lemmas.Option.{slice_get-map, slice_get_within}
+use Rattle.list_lemmas.proofs.Gets.{get-front}
 use Rattle.nest_tree.specs.Layout.{cell_count}
 use Rattle.nest_tree.specs.Tree.{Tree, param_values}
 use Rattle.nest_tree.specs.View.{statement_of}
+use Rattle.nest_tree.proofs.Rows.{same_work}
 use Rattle.nest_model.specs.Accesses.{loads_of, store_of}
 use Rattle.nest_model.specs.Instances.{Instance}
 use Rattle.nest_model.specs.Memory.{assigned_value, line_of}
@@ -30,10 +32,9 @@ use Rattle.seq_meaning.specs.Executions.{IsPlacedWork}
 use Rattle.seq_meaning.specs.Loads.{cells_of_load}
 use Rattle.seq_meaning.proofs.Found.{Found}
 use Rattle.seq_meaning.proofs.RunInstances.{placed_work}
-use Rattle.seq_meaning.proofs.RunSteps.{placed-found, placed-high, placed-low, same_work}
+use Rattle.seq_meaning.proofs.RunSteps.{placed-found, placed-high, placed-low}
 use Rattle.sync_plan.specs.Own.{Own, own_cell, own_of}
 use Rattle.sync_plan.specs.declared.plan.Plan.{Plan}
-use Rattle.sync_plan.proofs.Gets.{get-front}
 use Rattle.spmd_model.specs.Deeds.{Deed, last_deed, loading}
 use Rattle.spmd_turns.specs.Loads.{IsLoading, cell_of_load, widths}
 use Rattle.spmd_turns.specs.TurnsLeft.{IsInstance, turns_tree}

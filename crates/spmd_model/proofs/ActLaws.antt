@@ -4,6 +4,7 @@ use Rattle.std.specs.Prelude.{slice_get, slice_set}
 use Rattle.std.proofs.lemmas.Bool.{cases_Bool, cases_eq, cases_lt, eq-eqb, eqb-true, le-leb, lt-leb, lt-ltb, le-ltb}
 use Rattle.std.proofs.lemmas.List.{get_or-replicate, get_or_past, length-replicate, length-set, take_all}
 use Rattle.std.proofs.lemmas.Option.{slice_get_within}
+use Rattle.list_lemmas.proofs.Gets.{one_element}
 use Rattle.nest_model.specs.Memory.{cell_value}
 use Rattle.spmd_model.specs.Cells.{plus, with_change}
 use Rattle.spmd_model.specs.Timelines.{Act, post, await, load, store, add, print, Job, Machine, Moment, Word, boundary, job, act_at, acts_from, acts_of}
@@ -11,7 +12,6 @@ use Rattle.spmd_model.specs.States.{assigned_by}
 use Rattle.spmd_model.specs.Sequential.{last_memory, loads_by, memory_at, memory_behind, stored_at, value_at}
 use Rattle.spmd_model.specs.Ordered.{IsOrdered, IsSound, Needs}
 use Rattle.spmd_model.specs.Lawful.{IsLawful, IsPosted, Moves, acts_in_front, is_done, last_value, stores_to}
-use Rattle.spmd_model.proofs.Lists.{one_element}
 use Rattle.spmd_model.proofs.ActLists.{Found, found, in_front-rises}
 use Rattle.spmd_model.proofs.MomentActs.{IsAwaitIn, IsChangeIn, IsLastIn, IsLoadIn, IsPostIn, tells}
 use Rattle.spmd_model.proofs.Chains.{IsAt}

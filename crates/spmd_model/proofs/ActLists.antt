@@ -4,9 +4,9 @@ use Rattle.std.specs.Prelude.{slice_get}
 use Rattle.std.proofs.lemmas.Bool.{cases_lt}
 use Rattle.std.proofs.lemmas.List.{append-nil, append_assoc}
 use Rattle.std.proofs.lemmas.Option.{slice_get_within}
+use Rattle.list_lemmas.proofs.Gets.{get-front, get-behind}
 use Rattle.spmd_model.specs.Timelines.{Act, Machine, Moment, moment_acts, acts_from, act_at}
 use Rattle.spmd_model.specs.Lawful.{acts_in_front}
-use Rattle.sync_plan.proofs.Gets.{get-behind, get-front}
 
 -- the acts of a moment stand between those of the moments in front of it and those behind
 pub acts_split : (p place : ℕ) (xs : List Moment) (t : ℕ) (x : Moment) (u : ℕ) → slice_get xs t ≡ Some x → place + t ≡ u →

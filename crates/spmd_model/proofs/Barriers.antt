@@ -2,7 +2,6 @@
 use Rattle.std.proofs.Common.{◌≡◌, ◌≢◌, ℕ, zero, suc, ◌+◌, ◌-◌, ◌<◌, ◌≤◌, Bool, true, List, [], ◌∷◌, take, Some, refl, ap, subst, ◌∙◌, arith, if◌then◌else◌}
 use Rattle.std.specs.Prelude.{slice_get}
 use Rattle.std.specs.List.{All, Contains}
-use Rattle.std.proofs.lemmas.List.Elements.{All-cons, All-nil}
 use Rattle.std.proofs.lemmas.List.Sums.{fold-append}
 use Rattle.spmd_model.specs.Timelines.{post, await, Machine, Moment, Word, counter, boundary, job, act_at, acts_of}
 use Rattle.spmd_model.specs.Ordered.{IsSound}
@@ -13,6 +12,7 @@ use Rattle.spmd_model.proofs.MomentActs.{IsAwaitIn, IsPostIn, await_there, tells
 use Rattle.spmd_model.proofs.Chains.{one_boundary}
 use Rattle.spmd_model.specs.Protocols.{arrived, is_arrival}
 use Rattle.spmd_model.proofs.Arrivals.{Joins, arrivals, await_reached, front, post_reached, weights}
+use Rattle.spmd_model.proofs.PhaseJobs.{all_from}
 
 -- at a boundary, p posts, awaits somebody, and awaits all others
 pub record AwaitsAll (workers p : ℕ) (posts : ℕ → Bool) (awaits : ℕ → List ℕ) : Type 0 where
@@ -25,10 +25,6 @@ abbrev pub AreAll : Machine → (ℕ → Bool) → Type 0
 AreAll m gathers =
     (t : ℕ) (w : Word) (n p : ℕ) (posts : ℕ → Bool) (awaits : ℕ → List ℕ) → slice_get m.timeline t ≡ Some (boundary w n posts awaits) → is_arrival gathers w n ≡ true → p < m.workers →
     AwaitsAll m.workers p posts awaits
-
-all_from : {X : Type 0} (P : X → Type 0) (xs : List X) → ((t : ℕ) (x : X) → slice_get xs t ≡ Some x → P x) → All P xs
-all_from P [] h = All-nil P
-all_from P (x ∷ xs) h = All-cons P x xs (h 0 x refl) (all_from P xs (λ t y e. h (suc t) y e))
 
 -- so it joins at each moment
 pub all_join : (m : Machine) (gathers : ℕ → Bool) → AreAll m gathers → (p : ℕ) → p < m.workers → All (Joins gathers p) m.timeline

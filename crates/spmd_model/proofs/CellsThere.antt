@@ -1,5 +1,5 @@
 -- In a well-formed program what an instance in range loads and stores are cells that are there.
-use Rattle.std.proofs.Common.{◌≡◌, ℕ, zero, suc, ◌+◌, ◌-◌, ◌<◌, ◌≤◌, ◌&&◌, nat_lt, ℤ, unsigned_abs, Bool, true, false, List, [], ◌∷◌, ◌++◌, length, map, Some, None, refl, ap, sym, ◌∙◌, if◌then◌else◌, arith}
+use Rattle.std.proofs.Common.{◌≡◌, ℕ, zero, suc, ◌+◌, ◌-◌, ◌<◌, ◌≤◌, ◌&&◌, nat_lt, ℤ, unsigned_abs, true, false, List, [], ◌∷◌, ◌++◌, length, map, Some, refl, ap, sym, ◌∙◌, if◌then◌else◌, arith}
 use Rattle.std.specs.Prelude.{slice_get}
 use Rattle.std.specs.List.{All, flat_map, list_all, range_with_len}
 use Rattle.std.specs.Option.{option_map, option_to_list}
@@ -8,6 +8,7 @@ use Rattle.std.proofs.lemmas.List.{length-map}
 use Rattle.std.proofs.lemmas.List.Elements.{All-append, All-cons, All-nil}
 use Rattle.std.proofs.lemmas.List.Folds.{list_all-append}
 use Rattle.std.proofs.lemmas.Option.{slice_get-map}
+use Rattle.list_lemmas.proofs.Each.{passes_at}
 use Rattle.nest_tree.specs.declared.tree.Access.{Access}
 use Rattle.nest_tree.specs.Form.{form_value}
 use Rattle.nest_tree.specs.Layout.{bounds_of, cell_count, element_count, first_cell}
@@ -151,17 +152,9 @@ mutual
 
 -- ---- each execution of a program in range is in range
 
-holds_at : {X : Type 0} (test : X → Bool) (xs : List X) (k : ℕ) (x : X) → list_all test xs ≡ true → slice_get xs k ≡ Some x → test x ≡ true
-holds_at test [] k x all at = let clash : None ≡ Some x = at in absurd (cc)
-holds_at test (y ∷ xs) zero x all at =
-    let same : Some y ≡ Some x = at in
-    let is : y ≡ x = cc in
-    ap test (sym is) ∙ (and_parts (test y) (list_all test xs) all).0
-holds_at test (y ∷ xs) (suc k) x all at = holds_at test xs k x (and_parts (test y) (list_all test xs) all).1 at
-
 pub execution_inside : (tree : Tree) (marks : List Mark) (n : ℕ) (x : Execution) → IsInRange tree → slice_get (executions tree marks) n ≡ Some x → is_instance_inside tree x.instance ≡ true
 execution_inside tree marks n x ranges at =
-    holds_at (is_instance_inside tree) (instances tree) n x.instance ranges
+    passes_at (is_instance_inside tree) (instances tree) n x.instance ranges
     (ap (λ is. slice_get is n) (sym (all_executed tree marks)) ∙ slice_get-map (λ (y : Execution). y.instance) (executions tree marks) n ∙ ap (option_map (λ (y : Execution). y.instance)) at)
 
 pub cells_there : (tree : Tree) (i : Instance) → IsWellFormed tree → IsGoodWork tree i → is_instance_inside tree i ≡ true → AreThere tree (cells_of tree i)

@@ -92,3 +92,12 @@ anchored tree plan formed fits k v at =
       | inl h ↦ (h.0, h.2)
       | inr h ↦ absurd (omega (arith, h.0, f.place_is, within, parts.anchors))
     ]
+
+-- an act that awaits
+pub await_is : (m : Machine) (a : Act) (word : Word) (on wanted : ℕ) → deed_of m a ≡ awaiting word on wanted → a ≡ await word on wanted
+await_is m (post w k) word on wanted h = absurd (cc)
+await_is m (await w q k) word on wanted h = let of : w ≡ word = cc in let same : q ≡ on = cc in let wants : k ≡ wanted = cc in cc
+await_is m (load t c) word on wanted h = absurd (cc)
+await_is m (store t c) word on wanted h = absurd (cc)
+await_is m (add t c) word on wanted h = absurd (cc)
+await_is m (print t) word on wanted h = absurd (cc)

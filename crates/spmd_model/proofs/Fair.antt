@@ -6,7 +6,7 @@ use Rattle.std.proofs.lemmas.Bool.{cases_Bool, cases_eq}
 use Rattle.std.proofs.lemmas.List.{get_or-set_other, get_or-set_same, map-append}
 use Rattle.std.proofs.lemmas.List.Elements.{All-cons, All-contains, All-head, All-nil, All-tail}
 use Rattle.std.proofs.lemmas.List.Sums.{fold-append, sum_by-cons}
-use Rattle.sync_plan.proofs.ProcessorSets.{range_split}
+use Rattle.list_lemmas.proofs.Ranges.{range_split}
 use Rattle.spmd_model.specs.Fair.{IsBlock, IsFair, acts_to_go, blocks_in, can_go, can_step, first_of}
 use Rattle.spmd_model.specs.Ordered.{IsSound}
 use Rattle.spmd_model.specs.Reached.{HasCome}

@@ -4,11 +4,12 @@ use Rattle.std.specs.Prelude.{slice_get}
 use Rattle.std.specs.List.{Contains}
 use Rattle.std.proofs.lemmas.Bool.{cases_eq, cases_lt}
 use Rattle.std.proofs.lemmas.Option.{slice_get-get_or, slice_get_within}
+use Rattle.list_lemmas.proofs.Elements.{contains_at}
 use Rattle.spmd_model.specs.Timelines.{Act, post, await, load, store, add, print, Machine, Word, counter, boundary, act_at, acts_of}
 use Rattle.spmd_model.specs.Ordered.{IsSound}
 use Rattle.spmd_model.specs.Lawful.{IsPosted, acts_in_front}
 use Rattle.spmd_model.specs.Free.{AreAllPosted, IsFree}
-use Rattle.spmd_model.proofs.Lists.{contains_at, place_of}
+use Rattle.spmd_model.proofs.Lists.{place_of}
 use Rattle.spmd_model.proofs.ActLists.{act_of_moment, found}
 use Rattle.spmd_model.proofs.MomentActs.{IsAwaitIn, post_first, tells}
 use Rattle.spmd_model.proofs.Chains.{one_boundary}

@@ -1,10 +1,11 @@
 -- Barriers of a plan: what is gathered there, and how often.
-use Rattle.std.proofs.Common.{◌≡◌, ◌≢◌, ◌&&◌, not, ℕ, zero, suc, ◌+◌, ◌-◌, ◌^◌, ◌<◌, ◌≤◌, ◌⊎◌, nat_lt, Bool, true, false, true≢false, cond, List, [], ◌∷◌, length, map, take, drop, fold, Option, Some, None, refl, ap, sym, subst, ◌∙◌, inl, inr, ⊎_elim, arith, if◌then◌else◌, take_all, drop-cons, zero-add}
+use Rattle.std.proofs.Common.{◌≡◌, ◌≢◌, ◌&&◌, not, ℕ, zero, suc, ◌+◌, ◌-◌, ◌^◌, ◌<◌, ◌≤◌, ◌⊎◌, nat_lt, Bool, true, false, true≢false, List, [], ◌∷◌, length, map, take, drop, fold, Option, Some, None, refl, ap, sym, subst, ◌∙◌, inl, inr, ⊎_elim, arith, if◌then◌else◌, take_all, drop-cons, zero-add}
 use Rattle.std.specs.Prelude.{slice_get}
 use Rattle.std.specs.List.{Contains, filter, range_with_len}
-use Rattle.std.proofs.lemmas.Bool.{and_parts, cases_Bool, cases_eq, cases_lt, ltb-true, ne_eqb}
+use Rattle.std.proofs.lemmas.Bool.{and_parts, cases_Bool, cases_lt, ltb-true, ne_eqb}
 use Rattle.std.proofs.lemmas.List.Sums.{fold-append}
 use Rattle.std.proofs.lemmas.Option.{get_or_from_slice_get, slice_get_cases, slice_get_within}
+use Rattle.list_lemmas.proofs.Gets.{one_element}
 use Rattle.nest_tree.specs.Limits.{IsWithinLimits}
 use Rattle.nest_tree.specs.Tree.{Tree, param_values}
 use Rattle.nest_tree.specs.WellFormed.{IsWellFormed}
@@ -18,12 +19,13 @@ use Rattle.sync_plan.specs.declared.plan.Kind.TheVariants.{Nothing, Producer, Le
 use Rattle.sync_plan.specs.declared.plan.Plan.{Plan}
 use Rattle.sync_plan.specs.Waits.{awaited_behind, does_wait_at, is_awaited_behind, posts_at, waits_for}
 use Rattle.sync_plan.proofs.ProcessorSets.{any_from}
+use Rattle.sync_plan.proofs.BarrierOrder.{in_filter}
 use Rattle.spmd_model.specs.Timelines.{Act, post, await, load, store, add, print, Job, Machine, Word, counter, signal, boundary, job, act_at, acts_of}
 use Rattle.spmd_model.specs.Ordered.{IsSound}
 use Rattle.spmd_model.specs.Lawful.{counted, counter_at}
 use Rattle.spmd_model.specs.Planned.{boundary_of}
 use Rattle.spmd_model.proofs.Counters.{counter_posted, counter_reaches, lower_in_front}
-use Rattle.spmd_model.proofs.Lists.{one_element, take-more}
+use Rattle.spmd_model.proofs.Lists.{take-more}
 use Rattle.spmd_model.specs.Protocols.{is_arrival, passed_first, settled, shown, shown_behind}
 use Rattle.sync_plan.specs.Boundaries.{gathers, is_barrier, kind_before}
 use Rattle.spmd_model.proofs.Arrivals.{arrivals, boundaries, few_arrivals, front, weights}
@@ -35,22 +37,6 @@ use Rattle.spmd_model.proofs.Barriers.{AwaitsAll}
 other_than : (p workers : ℕ) → 1 < workers → p < workers → (o : ℕ) × (o < workers) × (o ≢ p)
 other_than zero workers some lt = (1, some, λ e. omega (arith, e))
 other_than (suc p) workers some lt = (0, omega (arith, some), λ e. omega (arith, e))
-
-kept_among : (test : ℕ → Bool) (a n o : ℕ) → a ≤ o → o < a + n → test o ≡ true → Contains (filter test (range_with_len a n)) o
-kept_among test a zero o low high h = absurd (omega (arith, low, high))
-kept_among test a (suc n) o low high h = by (λ more. kept_among test (a + 1) n o more (omega (arith, high)) h) (test a) refl
-  where
-    later : List ℕ
-    later = filter test (range_with_len (a + 1) n)
-
-    by : (a + 1 ≤ o → Contains later o) → (b : Bool) → test a ≡ b → Contains (filter test (range_with_len a (suc n))) o
-    by rest true here = subst (λ xs. Contains xs o) (sym (ap (λ b. cond b (a ∷ later) later) here)) (elim (cases_eq a o) [
-      | inl e ↦ (0, omega arith, e)
-      | inr other ↦ let more = rest (omega (arith, low, other)) in (suc more.0, omega (arith, more.1), more.2)
-    ])
-    by rest false not_here =
-        let other : o ≢ a = λ e. true≢false (sym h ∙ ap test e ∙ not_here) in
-        subst (λ xs. Contains xs o) (sym (ap (λ b. cond b (a ∷ later) later) not_here)) (rest (omega (arith, low, other)))
 
 first_among : (xs : List ℕ) (o : ℕ) → Contains xs o → (c : ℕ) × (rest : List ℕ) × (xs ≡ c ∷ rest)
 first_among [] o among = absurd (omega (arith, among.1))
@@ -84,7 +70,7 @@ all_at_boundary tree plan p k n v posts awaits inside at is g =
     barrier_is (slice_get plan.kinds (v.place - 1)) (sym (ap (λ o. is_barrier (kind_before plan o)) (ap (slice_get (phases tree plan.cut.marks)) number ∙ at)) ∙ both.0) in
     let o = other_than p plan.workers (ltb-true 1 plan.workers both.1) inside in
     let awaited : awaits p ≡ filter (does_wait_at Barrier 0 p) (range_with_len 0 plan.workers) = ap (λ f. f p) parts.2 ∙ ap (λ k. awaited_behind k plan.workers v.loops (param_values tree) p) kind in
-    let each : (q : ℕ) → q < plan.workers → q ≢ p → Contains (awaits p) q = λ q below apart. subst (λ xs. Contains xs q) (sym awaited) (kept_among (does_wait_at Barrier 0 p) 0 plan.workers q (omega arith) (omega (arith, below)) (apart_waits p q (λ e. apart (sym e)))) in
+    let each : (q : ℕ) → q < plan.workers → q ≢ p → Contains (awaits p) q = λ q below apart. subst (λ xs. Contains xs q) (sym awaited) (in_filter (does_wait_at Barrier 0 p) 0 plan.workers q (omega arith) (omega (arith, below)) (apart_waits p q (λ e. apart (sym e)))) in
     let posts_here = any_from (λ q. does_wait_at Barrier 0 q p) 0 plan.workers o.0 (omega arith) (omega (arith, o.1)) (apart_waits o.0 p o.2) in record {
       does_post = ap (λ f. f p) parts.1 ∙ ap (λ k. is_awaited_behind k plan.workers v.loops (param_values tree) p) kind ∙ posts_here;
       some = first_among (awaits p) o.0 (each o.0 o.1 o.2);

@@ -4,10 +4,10 @@ use Rattle.std.specs.Prelude.{slice_get}
 use Rattle.std.proofs.lemmas.Bool.{cases_Bool, cases_eq, cases_lt, eqb-true, le-leb, lt-leb, lt-ltb, le-ltb}
 use Rattle.std.proofs.lemmas.List.{length-append, length-map}
 use Rattle.std.proofs.lemmas.Option.{slice_get_within}
+use Rattle.list_lemmas.proofs.Elements.{contains_at}
 use Rattle.spmd_model.specs.Timelines.{Act, load, Job, Machine, job, act_at, acts_of, last_act, moment_acts}
 use Rattle.spmd_model.specs.Ordered.{Conflict, IsOrdered, IsSound, Needs}
 use Rattle.spmd_model.specs.Lawful.{IsLawful, Moves, acts_in_front, is_done, stores_to}
-use Rattle.spmd_model.proofs.Lists.{contains_at}
 use Rattle.spmd_model.proofs.ActLists.{Found, in_front-more, in_front-rises}
 use Rattle.spmd_model.proofs.MomentActs.{own_acts}
 use Rattle.spmd_model.proofs.Chains.{IsAt, earlier_done, later_not}

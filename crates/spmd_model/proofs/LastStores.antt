@@ -9,12 +9,13 @@ use Rattle.std.proofs.lemmas.Grind.{flat_map-append}
 use Rattle.std.proofs.lemmas.List.{append_assoc, get_or-set_other, get_or-set_same, take-append-le}
 use Rattle.std.proofs.lemmas.List.Elements.{All-append, All-cons, All-nil, All-weaker, Contains-append_right}
 use Rattle.std.proofs.lemmas.List.Sums.{sum_by-append}
+use Rattle.list_lemmas.proofs.Gets.{get-behind}
 use Rattle.nest_tree.specs.declared.tree.Guard.{Guard}
 use Rattle.nest_tree.specs.Form.{Form, dot, form_value, is_form, is_small, numbered, rises_above}
 use Rattle.nest_tree.specs.Tree.{Work, assign, print, Head, Statement, Statements, do_loop, work, continue, done, next, Tree, param_values}
 use Rattle.nest_tree.specs.WellFormed.{IsWellFormed, Scope, is_good_head, is_good_statement, is_number_of, names_only, scope_of, loops_in}
 use Rattle.nest_tree.proofs.Good.{good_loop}
-use Rattle.nest_model.specs.Instances.{Instance, head_trips, holds, instances_in, instances_of, is_executed, trips, with_loop, works_in, works_of, no_values}
+use Rattle.nest_model.specs.Instances.{Instance, head_trips, holds, instances_in, instances_of, is_executed, trips, with_loop, works_in, no_values}
 use Rattle.nest_model.specs.Visits.{Visit, stops_in, visits_in, visits_of}
 use Rattle.nest_walk.specs.Texts.{Placed, placed, placed_in, placed_of}
 use Rattle.own_scalars.specs.OwnScalars.{has_access, is_of, is_plain_store, is_private, is_stored_first, loads, some_in, some_of}
@@ -28,8 +29,7 @@ use Rattle.sync_plan.specs.Own.{own_loop, own_loop_of, OwnLoop}
 use Rattle.sync_plan.specs.Shape.{static_phases}
 use Rattle.sync_plan.specs.Stored.{path_runs, path_runs_in}
 use Rattle.sync_plan.proofs.FitOwners.{AgreeBelow, agree_among, form_agrees, named_low}
-use Rattle.sync_plan.proofs.Gets.{get-behind}
-use Rattle.sync_plan.proofs.PhasePlaces.{placed_count, visit_there}
+use Rattle.sync_plan.proofs.PhasePlaces.{placed_count, visit_there, placed_works}
 use Rattle.spmd_model.proofs.CellsThere.{every}
 use Rattle.spmd_model.proofs.Lists.{take-behind}
 
@@ -94,21 +94,6 @@ trips_agree scope around head params xs ys good below some agree =
 
 abbrev works_of_all : List Placed → ℕ
 works_of_all ps = sum_by (λ (p : Placed). works_in p.what) ps
-
-mutual
-  placed_works : (enters : ℕ → Bool) (around : List ℕ) (s : Statement) → sum_by (λ (p : Placed). works_in p.what) (placed_in enters around s) ≡ works_in s
-  placed_works enters around (do_loop head body) =
-      elim (enters head.number) as (λ b. sum_by (λ (p : Placed). works_in p.what) (if b then placed_of enters (head.number ∷ around) body else record { what = do_loop head body; around = around } ∷ []) ≡ works_in (do_loop head body))
-      [ true ↦ placed_works-all enters (head.number ∷ around) body | false ↦ omega arith ]
-  placed_works enters around (work w) = refl
-  placed_works enters around (continue line) = refl
-
-  placed_works-all : (enters : ℕ → Bool) (around : List ℕ) (ss : Statements) → sum_by (λ (p : Placed). works_in p.what) (placed_of enters around ss) ≡ works_of ss
-  placed_works-all enters around done = refl
-  placed_works-all enters around (next s rest) =
-      sum_by-append (λ (p : Placed). works_in p.what) (placed_in enters around s) (placed_of enters around rest)
-      ∙ ap (λ n. n + sum_by (λ (p : Placed). works_in p.what) (placed_of enters around rest)) (placed_works enters around s)
-      ∙ ap (λ n. works_in s + n) (placed_works-all enters around rest)
 
 -- a visit is of the k-th stop of a text, and has as many pieces of work in front as the stops before that
 pub record IsBehind (text : List Placed) (place first : ℕ) (v : Visit) : Type 0 where

@@ -3,7 +3,7 @@ pub mod ActLists
 pub mod MomentActs
 pub mod Registers
 pub mod Chains
-mod LastValues
+pub mod LastValues
 pub mod Keeps
 pub mod ActLaws
 pub mod Counters
@@ -47,7 +47,7 @@ pub mod MachineOutput
 pub mod MachineLoads
 pub mod MachineOrder
 mod Examples
-mod ProtocolLists
+pub mod ProtocolLists
 mod Passed
 mod Arrivals
 mod Barriers

@@ -5,12 +5,12 @@ use Rattle.std.specs.List.{Contains}
 use Rattle.std.proofs.lemmas.Bool.{cases_Bool}
 use Rattle.std.proofs.lemmas.List.FromFn.{length-map-range_with_len}
 use Rattle.std.proofs.lemmas.Option.{slice_get_within}
+use Rattle.list_lemmas.proofs.Gets.{get-front}
 use Rattle.nest_tree.specs.Tree.{Tree}
 use Rattle.nest_model.specs.Visits.{Visit}
 use Rattle.owner_partition.specs.Phases.{phases}
 use Rattle.sync_plan.specs.declared.plan.Plan.{Plan}
 use Rattle.sync_plan.specs.Ordered.{IsChain as IsPlanChain, Hop as PlanHop, awaited_in as awaited_in_plan}
-use Rattle.sync_plan.proofs.Gets.{get-front}
 use Rattle.spmd_model.specs.Timelines.{Machine, Moment, job}
 use Rattle.spmd_model.specs.Ordered.{Hop, IsChain, awaited_in, number_in}
 use Rattle.spmd_model.specs.Planned.{boundary_of}

@@ -1,13 +1,16 @@
 -- What the loads of an instance give along a plan's timeline in either style: what the program's memory has in front of it, but for a sum scalar of its phase.
 use Rattle.std.proofs.Common.{◌≡◌, ℕ, zero, suc, ◌+◌, ◌-◌, ◌*◌, ◌≤◌, ℤ, pos, Bool, true, false, true≢false, List, [], ◌∷◌, ◌++◌, fold, length, map, replicate, take, Option, Some, None, if◌then◌else◌, refl, ap, sym, subst, ◌∙◌, inl, inr, arith, length-append}
 use Rattle.std.specs.Prelude.{Contains, slice_get, sum_by}
-use Rattle.std.specs.List.{All, AllByRecursion, flat_map, range_with_len}
+use Rattle.std.specs.List.{All, flat_map, range_with_len}
 use Rattle.std.specs.Option.{option_map}
 use Rattle.std.proofs.lemmas.Bool.{cases_lt}
 use Rattle.std.proofs.lemmas.List.{append_assoc, length-map, length-take-le, map-append, take-append-le, take-map}
 use Rattle.std.proofs.lemmas.List.Elements.{Contains-append_cases, Contains-append_left, Contains-append_right}
 use Rattle.std.proofs.lemmas.List.Sums.{fold-append, sum_by-append, sum_by-cons}
 use Rattle.std.proofs.lemmas.Option.{slice_get-map, slice_get_within}
+use Rattle.list_lemmas.proofs.Gets.{get-front, get-behind}
+use Rattle.list_lemmas.proofs.Elements.{contains_at}
+use Rattle.list_lemmas.proofs.Each.{all-contained, All-left}
 use Rattle.nest_tree.specs.Layout.{first_cell}
 use Rattle.nest_tree.specs.Tree.{Tree, param_values}
 use Rattle.nest_tree.specs.WellFormed.{IsWellFormed}
@@ -22,7 +25,6 @@ use Rattle.sync_plan.specs.declared.plan.Plan.{Plan}
 use Rattle.sync_plan.specs.Fit.{IsFit}
 use Rattle.sync_plan.specs.Own.{Own, own_cell, own_loop, own_of}
 use Rattle.sync_plan.specs.Stored.{AreStoredFirst}
-use Rattle.sync_plan.proofs.Gets.{get-behind, get-front}
 use Rattle.spmd_model.specs.Closings.{closings_of, has_stored, keeping, keeping_of, last_owner, phase_owner, total_of, totalling, totalling_of}
 use Rattle.spmd_model.specs.OwnPhases.{IsGoodLoad, behind_job, own_job}
 use Rattle.spmd_model.specs.Planned.{boundary_of}
@@ -32,7 +34,7 @@ use Rattle.spmd_model.specs.Machines.{Part, boundaries_by, cells_under, instance
 use Rattle.spmd_model.specs.Timelines.{Job, Moment, job}
 use Rattle.spmd_model.specs.Trips.{last_behind}
 use Rattle.spmd_model.specs.declared.style.Style.{Style}
-use Rattle.spmd_model.proofs.Lists.{contains_at, take-behind}
+use Rattle.spmd_model.proofs.Lists.{take-behind}
 use Rattle.spmd_model.proofs.OwnClosings.{own_apart}
 use Rattle.spmd_model.proofs.OwnPhases.{load_gives}
 use Rattle.spmd_model.proofs.OwnRuns.{AreGoodJobs, IsGoodJob, no_store, to_shared, to_private, to_sum, along, assigned_behind}
@@ -44,7 +46,7 @@ use Rattle.spmd_model.proofs.PlannedMemory.{job_behind}
 use Rattle.spmd_model.proofs.Stands.{execution_place, execution_there, in_flat_map, in_phase}
 use Rattle.spmd_model.proofs.MachineMemory.{AreWithin, at_start, fold_front, fold_jobs, fold_own, fold_plain, has_along, jobs_within, map_map, phases_follow, plain_within, stripped, within_front}
 use Rattle.spmd_model.proofs.MachinePlaces.{IsJobIn, front_length, job_in}
-use Rattle.spmd_model.proofs.TripJobs.{IsFineIn, front_all, job_in_phase}
+use Rattle.spmd_model.proofs.TripJobs.{IsFineIn, job_in_phase}
 
 -- ---- fronts of lists
 
@@ -60,7 +62,7 @@ take_part (q ∷ ps) (suc k) s p at le =
     ap (λ n. take n (moments_of q ++ flat_map moments_of ps)) count ∙ take-behind (moments_of q) (flat_map moments_of ps) (part_place ps k + s)
     ∙ ap (λ l. moments_of q ++ l) (take_part ps k s p at le) ∙ sym (append_assoc (moments_of q) (flat_map moments_of (take k ps)) (take s (moments_of p)))
 
-parts_take : (style : Style) (tree : Tree) (plan : Plan) (e passed : ℕ) (vs : List Visit) (k : ℕ) → take k (parts_from style tree plan e passed vs) ≡ parts_from style tree plan e passed (take k vs)
+pub parts_take : (style : Style) (tree : Tree) (plan : Plan) (e passed : ℕ) (vs : List Visit) (k : ℕ) → take k (parts_from style tree plan e passed vs) ≡ parts_from style tree plan e passed (take k vs)
 parts_take style tree plan e passed vs zero = refl
 parts_take style tree plan e passed [] (suc k) = refl
 parts_take style tree plan e passed (v ∷ vs) (suc k) = ap (λ l. part_of style tree plan e passed v ∷ l) (parts_take style tree plan (suc e) (passed + signal_barriers style plan v) vs k)
@@ -107,24 +109,19 @@ good_split o last (x ∷ xs) y ys good = let rest = good_split o (last_behind o 
 
 -- ---- what a load gives
 
-all_in : {X : Type 0} (P : X → Type 0) (xs : List X) (x : X) → AllByRecursion P xs → Contains xs x → P x
-all_in P [] x all (k, lt, e) = absurd (omega (arith, lt))
-all_in P (y ∷ xs) x all (zero, lt, e) = subst P e all.0
-all_in P (y ∷ xs) x all (suc k, lt, e) = all_in P xs x all.1 (k, omega (arith, lt), e)
-
 -- a load of no sum scalar is a good one
 load_of_good : (o : Own) (last : ℕ → Option ℕ) (j : Job) (c : ℕ) → IsGoodJob o last j → Contains j.loads c → o.is_sum c ≡ false → IsGoodLoad o last j.owner c
-load_of_good o last j c (no_store good store) among plain = all_in (IsGoodLoad o last j.owner) j.loads c good among
-load_of_good o last j c (to_shared good d store inside free) among plain = all_in (IsGoodLoad o last j.owner) j.loads c good among
-load_of_good o last j c (to_private good d k store inside slot private) among plain = all_in (IsGoodLoad o last j.owner) j.loads c good among
+load_of_good o last j c (no_store good store) among plain = all-contained (IsGoodLoad o last j.owner) j.loads c good among
+load_of_good o last j c (to_shared good d store inside free) among plain = all-contained (IsGoodLoad o last j.owner) j.loads c good among
+load_of_good o last j c (to_private good d k store inside slot private) among plain = all-contained (IsGoodLoad o last j.owner) j.loads c good among
 load_of_good o last j c (to_sum d k s good) among plain = elim (Contains-append_cases s.front (d ∷ s.rest) c (subst (λ l. Contains l c) s.loads among)) [
-  | inl here ↦ all_in (IsGoodLoad o last j.owner) (s.front ++ s.rest) c good (Contains-append_left s.front s.rest c here)
+  | inl here ↦ all-contained (IsGoodLoad o last j.owner) (s.front ++ s.rest) c good (Contains-append_left s.front s.rest c here)
   | inr later ↦ by later
 ]
   where
     by : Contains (d ∷ s.rest) c → IsGoodLoad o last j.owner c
     by (zero, lt, e) = absurd (true≢false (sym s.sum ∙ ap o.is_sum e ∙ plain))
-    by (suc n, lt, e) = all_in (IsGoodLoad o last j.owner) (s.front ++ s.rest) c good (Contains-append_right s.front s.rest c (n, omega (arith, lt), e))
+    by (suc n, lt, e) = all-contained (IsGoodLoad o last j.owner) (s.front ++ s.rest) c good (Contains-append_right s.front s.rest c (n, omega (arith, lt), e))
 
 -- ---- an instance on the timeline
 
@@ -282,7 +279,7 @@ module _ (style : Style) (tree : Tree) (plan : Plan) (formed : IsWellFormed tree
         let come = along own (own_apart tree plan v o) m g (λ d. None) (λ d p. false) jobs (at_first tree plan v o m g f.shared f.idle) good.0 in
         let load = load_of_good own (fold (last_behind own) (λ d. None) jobs) (plain i) c good.1 among plain_load in
         let given = load_gives own (own_apart tree plan v o) (fold behind_job m jobs) (fold (λ h j. behind_job h (own_job own j)) g jobs) (fold (last_behind own) (λ d. None) jobs) (fold (assigned_behind own) (λ d p. false) jobs) come (phase_owner tree plan v i.loops) c load in
-        let fine = front_all (IsFineIn tree plan v) before (i ∷ split.0) (subst (All (IsFineIn tree plan v)) split.1 (all_fine tree plan k v formed fits ranges at)) in
+        let fine = All-left (IsFineIn tree plan v) before (i ∷ split.0) (subst (All (IsFineIn tree plan v)) split.1 (all_fine tree plan k v formed fits ranges at)) in
         let has_plain = has_along M m jobs (λ d. refl) (subst (λ s. AreWithin s jobs) (sym f.size) (plain_within tree plan k v formed fits ranges at before fine)) in
         let own_jobs = map (λ x. own_job own (plain x)) before in
         let all_jobs : instance_jobs tree plan (1 + k) v ≡ own_jobs ++ map (λ x. own_job own (plain x)) (i ∷ split.0) = ap (map (λ x. own_job own (plain x))) split.1 ∙ map-append (λ x. own_job own (plain x)) before (i ∷ split.0) in

@@ -3,6 +3,7 @@ use Rattle.std.proofs.Common.{◌≡◌, ◌≢◌, ℕ, suc, ◌+◌, ◌-◌, 
 use Rattle.std.specs.Prelude.{slice_get}
 use Rattle.std.proofs.lemmas.Bool.{cases_eq, cases_lt}
 use Rattle.std.proofs.lemmas.Option.{slice_get_within}
+use Rattle.list_lemmas.proofs.Gets.{one_element}
 use Rattle.nest_tree.specs.Layout.{cell_count}
 use Rattle.nest_tree.specs.Tree.{Tree, param_values}
 use Rattle.nest_tree.specs.WellFormed.{IsWellFormed}
@@ -24,7 +25,6 @@ use Rattle.spmd_model.specs.Rounds.{rounds_of}
 use Rattle.spmd_model.specs.Machines.{machine_by, part_place, parts_by, timeline_by, is_by_signals}
 use Rattle.spmd_model.specs.Timelines.{Job, job}
 use Rattle.spmd_model.specs.declared.style.Style.{Style}
-use Rattle.spmd_model.proofs.Lists.{one_element}
 use Rattle.spmd_model.proofs.OwnTexts.{not_both, own_in_phase}
 use Rattle.spmd_model.proofs.Parts.{part_rises, passed_before}
 use Rattle.spmd_model.proofs.RoundChains.{rounds_enough, posted_by_all}

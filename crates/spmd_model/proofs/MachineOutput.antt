@@ -12,6 +12,7 @@ use Rattle.nest_model.specs.Instances.{Instance}
 use Rattle.nest_model.specs.Memory.{cell_value, first_memory, line_of, loaded_in, memory_after, output_from, output_of, printed_text}
 use Rattle.nest_model.specs.Ranges.{IsInRange}
 use Rattle.nest_model.specs.Visits.{Visit}
+use Rattle.nest_model.proofs.Outputs.{output_from-append}
 use Rattle.owner_partition.specs.Phases.{Execution, executions_from, phase_instances, phases}
 use Rattle.owner_partition.proofs.Instances.{all_executed}
 use Rattle.sync_plan.specs.declared.plan.Plan.{Plan}
@@ -46,12 +47,6 @@ output-append memory [] ys = refl
 output-append memory (x ∷ xs) ys =
     ap (λ l. moment_line memory x ++ l) (output-append (memory_behind memory x) xs ys)
     ∙ sym (append_assoc (moment_line memory x) (output_along (memory_behind memory x) xs) (output_along (fold memory_behind (memory_behind memory x) xs) ys))
-
-from-append : (tree : Tree) (memory : List ℤ) (is js : List Instance) → output_from tree memory (is ++ js) ≡ output_from tree memory is ++ output_from tree (fold (memory_after tree) memory is) js
-from-append tree memory [] js = refl
-from-append tree memory (i ∷ is) js =
-    ap (λ l. line_of tree i (loaded_in tree memory i) ++ l) (from-append tree (memory_after tree memory i) is js)
-    ∙ sym (append_assoc (line_of tree i (loaded_in tree memory i)) (output_from tree (memory_after tree memory i) is) (output_from tree (fold (memory_after tree) (memory_after tree memory i) is) js))
 
 rounds_silent : (memory : List ℤ) (workers first : ℕ) (rs : List ℕ) → output_along memory (map (round_boundary workers first) rs) ≡ []
 rounds_silent memory workers first [] = refl
@@ -174,7 +169,7 @@ module _ (style : Style) (tree : Tree) (plan : Plan) (formed : IsWellFormed tree
       output-append with_own part rest
       ∙ ap (λ l. l ++ output_along (fold memory_behind with_own part) rest) (phase_output tree plan k v formed fits ranges at stored style passed memory with_own f)
       ∙ ap (λ l. output_from tree memory is ++ l) moved
-      ∙ sym (ap (output_from tree memory) names ∙ from-append tree memory is (map (λ (x : Execution). x.instance) later))
+      ∙ sym (ap (output_from tree memory) names ∙ output_from-append tree memory is (map (λ (x : Execution). x.instance) later))
 
   pub output_by : whole_output (machine_by style tree plan) ≡ output_of tree
   output_by =

@@ -6,9 +6,10 @@ use Rattle.std.specs.Option.{option_map}
 use Rattle.std.proofs.lemmas.Bool.{cases_Bool, cases_lt, eqb-true, eq-eqb}
 use Rattle.std.proofs.lemmas.Option.{slice_get-map}
 use Rattle.std.proofs.lemmas.List.{length-map}
+use Rattle.list_lemmas.proofs.Gets.{get-front, get-behind}
+use Rattle.list_lemmas.proofs.Elements.{contains_at}
 use Rattle.spmd_model.specs.Timelines.{Act, post, await, load, store, add, print, Job, Moment, Word, boundary, job, boundary_acts, job_acts, last_act, moment_acts}
-use Rattle.sync_plan.proofs.Gets.{get-behind, get-front}
-use Rattle.spmd_model.proofs.Lists.{contains_at, place_of}
+use Rattle.spmd_model.proofs.Lists.{place_of}
 
 -- ---- one kind each
 

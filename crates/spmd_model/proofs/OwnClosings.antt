@@ -5,6 +5,7 @@ use Rattle.std.specs.List.{flat_map, list_any, range_with_len}
 use Rattle.std.proofs.lemmas.Bool.{cases_Bool, cases_eq, eq-eqb, eqb-true}
 use Rattle.std.proofs.lemmas.List.Quantifiers.{position-Some}
 use Rattle.std.proofs.lemmas.List.Sums.{fold-append}
+use Rattle.std.proofs.Math.Bool.{or_assoc}
 use Rattle.nest_tree.specs.Layout.{cell_count, first_cell}
 use Rattle.nest_tree.specs.Tree.{Tree}
 use Rattle.nest_model.specs.Instances.{Instance}
@@ -57,10 +58,6 @@ or_false false = refl
 and_false : (b : Bool) → (b && false) ≡ false
 and_false true = refl
 and_false false = refl
-
-or_assoc : (a b c : Bool) → ((a || b) || c) ≡ (a || (b || c))
-or_assoc true b c = refl
-or_assoc false b c = refl
 
 module _ (o : Own) (c k : ℕ) (slot : o.slot c ≡ Some k) (sum : o.is_sum c ≡ true) where
   pub assigned_more : (a : ℕ → ℕ → Bool) (s : Option ℕ) (q p : ℕ) → assigned_from o a s q c p ≡ (a c p || (q == p && stores_to s c))

@@ -6,6 +6,7 @@ use Rattle.std.specs.Option.{option_map}
 use Rattle.std.proofs.lemmas.Bool.{cases_Bool, cases_eq, eq-eqb, eqb-true}
 use Rattle.std.proofs.lemmas.Int.{ints, int_wrap-add_left, int_wrap-add_right}
 use Rattle.std.proofs.lemmas.List.{length-map, map-append}
+use Rattle.list_lemmas.proofs.Each.{all_split}
 use Rattle.spmd_model.specs.Cells.{changed, plus}
 use Rattle.spmd_model.specs.Timelines.{Job}
 use Rattle.spmd_model.specs.OwnPhases.{AreApart, Come, IsGoodLoad, IsSumJob, Own, adds_total, at_slot, behind_job, behind_store, clears, keeps_private, own_cell, own_job, put, sum_up, without}
@@ -77,10 +78,6 @@ sum_more o f g k b c x a p (suc n) lt now here none others = elim (cases_eq p n)
         had : (d : Bool) → b p ≡ d → plus (sum_up o f k b x p) (plus (f (o.cell p k)) a) ≡ plus (if b p then plus (sum_up o f k b x p) (f (o.cell p k)) else sum_up o f k b x p) a
         had true is = plus_nested (sum_up o f k b x p) (f (o.cell p k)) a ∙ ap (λ y. plus (if y then plus (sum_up o f k b x p) (f (o.cell p k)) else sum_up o f k b x p) a) (sym is)
         had false is = ap (λ y. plus (sum_up o f k b x p) (plus y a)) (none is) ∙ plus_behind (sum_up o f k b x p) a ∙ ap (λ y. plus (if y then plus (sum_up o f k b x p) (f (o.cell p k)) else sum_up o f k b x p) a) (sym is)
-
-good_parts : {X : Type 0} (P : X → Type 0) (xs ys : List X) → AllByRecursion P (xs ++ ys) → AllByRecursion P xs × AllByRecursion P ys
-good_parts P [] ys all = (tt, all)
-good_parts P (x ∷ xs) ys all = let rest = good_parts P xs ys all.1 in ((all.0, rest.0), rest.1)
 
 -- ---- what loads give
 
@@ -191,7 +188,7 @@ module _ (o : Own) (apart : AreApart o) (m f : ℕ → ℤ) (last : ℕ → Opti
       memory_is = ap (λ x. behind_store m x j.adds (j.assigned (map m j.loads))) s.store ∙ ap (λ b. put m c (changed b (m c) (j.assigned (map m j.loads)))) plain ∙ ap (λ ls. put m c (j.assigned (map m ls))) s.loads ∙ ap (λ vs. put m c (j.assigned vs)) (map-append m s.front (c ∷ s.rest)) ∙ ap (put m c) (s.adds (map m s.front) (m c) (map m s.rest) (length-map s.front m))
 
       split_good : AllByRecursion (IsGoodLoad o last j.owner) s.front × AllByRecursion (IsGoodLoad o last j.owner) s.rest
-      split_good = good_parts (IsGoodLoad o last j.owner) s.front s.rest good
+      split_good = all_split (IsGoodLoad o last j.owner) s.front s.rest good
 
       loaded : map f (map (own_cell o j.owner) j.loads) ≡ map m s.front ++ f (own_cell o j.owner c) ∷ map m s.rest
       loaded =

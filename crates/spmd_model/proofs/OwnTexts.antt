@@ -1,15 +1,18 @@
 -- The own scalars of a phase under a plan that fits: few enough, scalars of the program, and none both private and summed up.
-use Rattle.std.proofs.Common.{◌≡◌, ℕ, zero, suc, ◌+◌, ◌-◌, ◌<◌, ◌≤◌, ◌⊎◌, Bool, true, false, true≢false, ◌&&◌, ◌||◌, ◌==◌, not, nat_le, nat_lt, cond, List, [], ◌∷◌, length, get_or, take, Option, Some, None, refl, ap, sym, subst, ◌∙◌, inl, inr, arith}
+use Rattle.std.proofs.Common.{◌≡◌, ℕ, zero, suc, ◌+◌, ◌-◌, ◌<◌, ◌≤◌, ◌⊎◌, Bool, true, false, true≢false, ◌&&◌, ◌||◌, ◌==◌, not, nat_le, nat_lt, cond, List, [], ◌∷◌, length, get_or, Option, Some, None, refl, ap, sym, subst, ◌∙◌, inl, inr, arith}
 use Rattle.std.specs.Prelude.{Contains, if◌then◌else◌, position, slice_get}
 use Rattle.std.specs.List.{filter, list_all, list_any, position_or_len, range_with_len}
 use Rattle.std.specs.Option.{option_map, option_or}
-use Rattle.std.proofs.lemmas.Bool.{and_parts, cases_Bool, eq-eqb, eqb-true, leb-true, lt-ltb, ltb-true}
+use Rattle.std.proofs.lemmas.Bool.{and_parts, cases_Bool, eq-eqb, eqb-true, leb-true, lt-ltb, ltb-true, or_cases}
 use Rattle.std.proofs.lemmas.List.Quantifiers.{position-Some}
+use Rattle.std.proofs.lemmas.List.{nil_from_length}
+use Rattle.list_lemmas.proofs.Each.{passes_at}
 use Rattle.nest_tree.specs.declared.tree.Access.{Access}
-use Rattle.nest_tree.specs.Layout.{bounds_at, bounds_of, cells_in, element_count, first_cell}
-use Rattle.nest_tree.specs.Tree.{Declaration, assign, print, Statement, Statements, do_loop, work, continue, done, next, Tree}
+use Rattle.nest_tree.specs.Layout.{bounds_of, element_count, first_cell}
+use Rattle.nest_tree.specs.Tree.{assign, print, Statement, Statements, do_loop, work, continue, done, next, Tree}
 use Rattle.nest_tree.specs.WellFormed.{IsWellFormed, are_good_statements, is_good_access, is_good_expression, is_good_guard, is_good_statement, loops_in, scope_of}
 use Rattle.nest_tree.proofs.Good.{good_loop}
+use Rattle.nest_tree.proofs.Places.{same_variable}
 use Rattle.nest_model.specs.Visits.{Visit}
 use Rattle.nest_walk.specs.Texts.{Placed, placed}
 use Rattle.nest_walk.proofs.GoodAccesses.{good_access-there}
@@ -26,7 +29,7 @@ use Rattle.sync_plan.specs.Fit.{IsFit}
 use Rattle.sync_plan.specs.Own.{OwnLoop, is_cell_of, own_loop, own_loop_at, own_loop_of, own_of, place_in}
 use Rattle.sync_plan.specs.Shape.{are_good_privates, do_rise, has_good_privates, has_good_sums, has_privates, has_sums, have_good_privates, have_good_sums, is_good_sum}
 use Rattle.sync_plan.proofs.Fits.{fit_parts}
-use Rattle.sync_plan.proofs.OwnLoops.{no_scalars, nothing_in, own_among, passes_at}
+use Rattle.sync_plan.proofs.OwnLoops.{no_scalars, nothing_in, own_among}
 use Rattle.sync_plan.proofs.PhasePlaces.{visit_there}
 use Rattle.spmd_model.proofs.PlannedOrder.{filtered}
 
@@ -111,10 +114,6 @@ pub record IsScalar (tree : Tree) (u : ℕ) : Type 0 where
   pub high : u ≤ length tree.variables
   pub bare : bounds_of tree u ≡ []
 
-empty_list : {X : Type 0} (xs : List X) → length xs ≡ 0 → xs ≡ []
-empty_list [] e = refl
-empty_list (x ∷ xs) e = absurd (omega (arith, e))
-
 scalar_of : (tree : Tree) (around : List ℕ) (u : ℕ) (a : Access) → is_good_access (scope_of tree) around a ≡ true → is_of u a ≡ true → IsScalar tree u
 scalar_of tree around u a good is =
     let both = and_parts (a.variable == u) (length a.subscripts == 0) is in
@@ -124,12 +123,8 @@ scalar_of tree around u a good is =
     record {
       low = omega (arith, there.low, same);
       high = omega (arith, there.high, same);
-      bare = empty_list (bounds_of tree u) (omega (arith, there.as_many, none, ap (λ n. length (bounds_of tree n)) same));
+      bare = nil_from_length (bounds_of tree u) (omega (arith, there.as_many, none, ap (λ n. length (bounds_of tree n)) same));
     }
-
-either : (a b : Bool) → (a || b) ≡ true → (a ≡ true) ⊎ (b ≡ true)
-either true b e = inl refl
-either false b e = inr e
 
 mutual
   stored_in : (tree : Tree) (around : List ℕ) (first u : ℕ) (s : Statement) → is_good_statement (scope_of tree) around first s ≡ true → some_in (stores u) s ≡ true → IsScalar tree u
@@ -144,7 +139,7 @@ mutual
   stored_among tree around first u done good some = absurd (true≢false (sym some))
   stored_among tree around first u (next s rest) good some =
       let both = and_parts (is_good_statement (scope_of tree) around first s) (are_good_statements (scope_of tree) around (first + loops_in s) rest) good in
-      elim (either (some_in (stores u) s) (some_of (stores u) rest) some) [
+      elim (or_cases (some_in (stores u) s) (some_of (stores u) rest) some) [
         | inl here ↦ stored_in tree around first u s both.0 here
         | inr later ↦ stored_among tree around (first + loops_in s) u rest both.1 later
       ]
@@ -158,19 +153,11 @@ private_stored u body is = elim (cases_Bool (some_of (stores u) body)) [
 sum_stored : (u : ℕ) (body : Statements) → is_sum u body ≡ true → some_of (stores u) body ≡ true
 sum_stored u body is = (and_parts (some_of (stores u) body) (not (some_of (is_other u) body)) is).0
 
--- scalars have cells of their own
-first_apart : (vs : List Declaration) (i j p r : ℕ) → i < length vs → j < length vs → p < element_count (bounds_at vs i) → r < element_count (bounds_at vs j) → cells_in (take i vs) + p ≡ cells_in (take j vs) + r → i ≡ j
-first_apart [] i j p r lt lt' small small' e = absurd (omega (arith, lt))
-first_apart (v ∷ vs) zero zero p r lt lt' small small' e = refl
-first_apart (v ∷ vs) zero (suc j) p r lt lt' small small' e = absurd (omega (arith, small, e))
-first_apart (v ∷ vs) (suc i) zero p r lt lt' small small' e = absurd (omega (arith, small', e))
-first_apart (v ∷ vs) (suc i) (suc j) p r lt lt' small small' e = ap suc (first_apart vs i j p r (omega (arith, lt)) (omega (arith, lt')) small small' (omega (arith, e)))
-
 -- the cell of an element of a variable is a scalar's only where it is that scalar
 pub same_scalar : (tree : Tree) (v u p : ℕ) → 1 ≤ v → v ≤ length tree.variables → p < element_count (bounds_of tree v) → IsScalar tree u → first_cell tree v + p ≡ first_cell tree u → v ≡ u
 same_scalar tree v u p low high small scalar same =
     let one : 0 < element_count (bounds_of tree u) = subst (λ b. 0 < element_count b) (sym scalar.bare) (omega arith) in
-    let place = first_apart tree.variables (v - 1) (u - 1) p 0 (omega (arith, low, high)) (omega (arith, scalar.low, scalar.high)) small one (omega (arith, same)) in
+    let place = same_variable tree.variables (v - 1) (u - 1) p 0 (omega (arith, low, high)) (omega (arith, scalar.low, scalar.high)) small one (omega (arith, same)) in
     omega (arith, place, low, scalar.low)
 
 pub one_scalar : (tree : Tree) (v u : ℕ) → IsScalar tree v → IsScalar tree u → first_cell tree v ≡ first_cell tree u → v ≡ u
@@ -182,7 +169,7 @@ one_scalar tree v u a b same =
 
 pub some_scalar : (tree : Tree) (us : List ℕ) (c : ℕ) → is_cell_of tree us c ≡ true → (u : ℕ) × Contains us u × (first_cell tree u ≡ c)
 some_scalar tree [] c e = absurd (true≢false (sym e))
-some_scalar tree (u ∷ us) c e = elim (either (first_cell tree u == c) (is_cell_of tree us c) e) [
+some_scalar tree (u ∷ us) c e = elim (or_cases (first_cell tree u == c) (is_cell_of tree us c) e) [
   | inl here ↦ (u, (0, omega arith, refl), eqb-true (first_cell tree u) c here)
   | inr later ↦ let r = some_scalar tree us c later in (r.0, (suc r.1.0, omega (arith, r.1.1), r.1.2), r.2)
 ]

@@ -1,11 +1,11 @@
 -- What a cell holds that one processor alone stores to follows from that processor's acts.
-use Rattle.std.proofs.Common.{◌≡◌, ◌==◌, ℕ, zero, suc, ◌+◌, ◌*◌, ◌<◌, ◌≤◌, ℤ, pos, Bool, true, false, true≢false, List, [], ◌∷◌, ◌++◌, fold, length, map, replicate, take, Option, Some, None, refl, ap, sym, subst, ◌∙◌, inl, inr, arith, if◌then◌else◌, length-append}
-use Rattle.std.specs.Prelude.{Contains, slice_get, slice_set}
+use Rattle.std.proofs.Common.{◌≡◌, ◌==◌, ℕ, zero, suc, ◌+◌, ◌*◌, ◌<◌, ◌≤◌, ℤ, pos, Bool, true, false, true≢false, List, [], ◌∷◌, ◌++◌, length, map, Option, Some, None, refl, ap, sym, subst, ◌∙◌, inl, inr, arith, if◌then◌else◌, length-append}
+use Rattle.std.specs.Prelude.{Contains, slice_get}
 use Rattle.std.proofs.lemmas.Bool.{cases_Bool, eq-eqb, eqb-true}
-use Rattle.std.proofs.lemmas.Grind.{get_or-set_at}
-use Rattle.std.proofs.lemmas.List.{get_or-replicate, get_or-set_other, length-map, length-replicate, length-set}
-use Rattle.std.proofs.lemmas.List.Sums.{fold-append}
+use Rattle.std.proofs.lemmas.List.{get_or-replicate, length-map}
 use Rattle.std.proofs.lemmas.Option.{slice_get_cases}
+use Rattle.list_lemmas.proofs.Gets.{get-behind}
+use Rattle.list_lemmas.proofs.Elements.{contains_at}
 use Rattle.nest_tree.specs.Layout.{cell_count}
 use Rattle.nest_tree.specs.Tree.{Tree}
 use Rattle.nest_tree.specs.WellFormed.{IsWellFormed}
@@ -13,48 +13,22 @@ use Rattle.nest_model.specs.Memory.{cell_value}
 use Rattle.nest_model.specs.Ranges.{IsInRange}
 use Rattle.sync_plan.specs.declared.plan.Plan.{Plan}
 use Rattle.sync_plan.specs.Fit.{IsFit}
-use Rattle.sync_plan.proofs.Gets.{get-behind}
 use Rattle.spmd_model.specs.Cells.{changed, with_change}
 use Rattle.spmd_model.specs.Lawful.{acts_in_front}
-use Rattle.spmd_model.specs.Sequential.{loaded_at, loaded_by, loads_by, memory_at, memory_behind, stored_at, value_at}
+use Rattle.spmd_model.specs.Sequential.{loaded_at, loaded_by, loads_by, memory_at, stored_at, value_at}
 use Rattle.spmd_model.specs.States.{assigned_by}
 use Rattle.spmd_model.specs.Machines.{machine_by, timeline_by}
 use Rattle.spmd_model.specs.Timelines.{Act, post, await, load, store, add, print, Job, Machine, Moment, boundary, job, act_at, job_acts, last_act, moment_acts}
 use Rattle.spmd_model.specs.declared.style.Style.{Style}
 use Rattle.spmd_model.proofs.ActLists.{act_of_moment, found, in_front-more}
-use Rattle.spmd_model.proofs.Lists.{contains_at, take-more}
 use Rattle.spmd_model.proofs.MomentActs.{IsChangeIn, IsLoadIn, tells}
 use Rattle.spmd_model.proofs.Registers.{stored_is}
 use Rattle.spmd_model.proofs.MachineOrder.{owned_on, sound_by}
 use Rattle.spmd_model.specs.Protocols.{held_along, held_by}
 use Rattle.spmd_model.proofs.PlanCells.{adds_there}
+use Rattle.spmd_model.proofs.LastValues.{cell_set, memory_more, memory_size}
 
 -- ---- memory in front of the next moment
-
-cell_set : (memory : List ℤ) (c cell : ℕ) (v : ℤ) → cell < length memory → cell_value (slice_set memory c v) cell ≡ (if c == cell then v else cell_value memory cell)
-cell_set memory c cell v lt = elim (cases_Bool (c == cell)) [
-  | inl equal ↦
-      let same : c ≡ cell = eqb-true c cell equal in
-      get_or-set_at memory c cell v (pos 0) (sym same) (omega (arith, same, lt)) ∙ sym (ap (λ b. if b then v else cell_value memory cell) equal)
-  | inr other ↦ get_or-set_other memory c cell v (pos 0) (λ e. absurd (true≢false (sym (eq-eqb c cell (sym e)) ∙ other))) ∙ sym (ap (λ b. if b then v else cell_value memory cell) other)
-]
-
-memory_more : (m : Machine) (t : ℕ) (x : Moment) → slice_get m.timeline t ≡ Some x → memory_at m (suc t) ≡ memory_behind (memory_at m t) x
-memory_more m t x e = ap (fold memory_behind (replicate m.cells (pos 0))) (take-more m.timeline t x e) ∙ fold-append memory_behind (replicate m.cells (pos 0)) (take t m.timeline) (x ∷ [])
-
-size_by : (memory : List ℤ) (o : Option ℕ) (b : Bool) (v : ℤ) → length (with_change memory o b v) ≡ length memory
-size_by memory None b v = refl
-size_by memory (Some c) b v = length-set memory c (changed b (cell_value memory c) v)
-
-size_along : (memory : List ℤ) (xs : List Moment) → length (fold memory_behind memory xs) ≡ length memory
-size_along memory [] = refl
-size_along memory (boundary w n posts awaits ∷ xs) = size_along memory xs
-size_along memory (job j ∷ xs) =
-    let v = j.assigned (map (cell_value memory) j.loads) in
-    size_along (with_change memory j.store j.adds v) xs ∙ size_by memory j.store j.adds v
-
-memory_size : (m : Machine) (t : ℕ) → length (memory_at m t) ≡ m.cells
-memory_size m t = size_along (replicate m.cells (pos 0)) (take t m.timeline) ∙ length-replicate m.cells (pos 0)
 
 same_job : (i j : Job) → job i ≡ job j → i ≡ j
 same_job i j e = cc

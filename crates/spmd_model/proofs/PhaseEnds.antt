@@ -3,8 +3,10 @@ use Rattle.std.proofs.Common.{◌≡◌, ◌==◌, ℕ, zero, suc, ◌+◌, ◌*
 use Rattle.std.specs.Prelude.{Contains, slice_get}
 use Rattle.std.specs.List.{AllByRecursion, flat_map, list_any, range_with_len}
 use Rattle.std.proofs.lemmas.Bool.{and_parts, cases_Bool, cases_eq, eqb-true}
-use Rattle.std.proofs.lemmas.List.Elements.{Contains-append_cases, Contains-append_left, Contains-append_right}
+use Rattle.std.proofs.lemmas.List.Elements.{Contains-append_cases, Contains-append_right}
 use Rattle.std.proofs.lemmas.List.Sums.{fold-append}
+use Rattle.list_lemmas.proofs.Elements.{Contains-flat_map}
+use Rattle.list_lemmas.proofs.Ranges.{range_there}
 use Rattle.nest_tree.specs.Layout.{cell_count, first_cell}
 use Rattle.nest_tree.specs.Tree.{Statement, do_loop, work, continue, Tree, param_values}
 use Rattle.nest_tree.specs.WellFormed.{IsWellFormed}
@@ -85,18 +87,6 @@ some_or_none (v ∷ us) Q R decide = elim (decide v) [
 none_of_all : {X Y : Type 0} (g : X → List Y) (xs : List X) → ((x : X) → g x ≡ []) → flat_map g xs ≡ []
 none_of_all g [] h = refl
 none_of_all g (x ∷ xs) h = ap (λ l. l ++ flat_map g xs) (h x) ∙ none_of_all g xs h
-
-in_flat_map_of : {X Y : Type 0} (g : X → List Y) (xs : List X) (x : X) (y : Y) → Contains xs x → Contains (g x) y → Contains (flat_map g xs) y
-in_flat_map_of g [] x y (k, lt, e) there = absurd (omega (arith, lt))
-in_flat_map_of g (z ∷ xs) x y (zero, lt, e) there = Contains-append_left (g z) (flat_map g xs) y (subst (λ w. Contains (g w) y) (sym e) there)
-in_flat_map_of g (z ∷ xs) x y (suc k, lt, e) there = Contains-append_right (g z) (flat_map g xs) y (in_flat_map_of g xs x y (k, omega (arith, lt), e) there)
-
-in_range_of : (a n p : ℕ) → a ≤ p → p < a + n → Contains (range_with_len a n) p
-in_range_of a zero p le lt = absurd (omega (arith, le, lt))
-in_range_of a (suc n) p le lt = elim (cases_eq a p) [
-  | inl same ↦ (0, omega arith, same)
-  | inr ne ↦ let r = in_range_of (a + 1) n p (omega (arith, le, ne)) (omega (arith, lt)) in (suc r.0, omega (arith, r.1), r.2)
-]
 
 module _ (tree : Tree) (plan : Plan) (k : ℕ) (v : Visit) (formed : IsWellFormed tree) (fits : IsFit tree plan) (ranges : IsInRange tree) (at : slice_get (phases tree plan.cut.marks) k ≡ Some v)
     (stored : AreStoredFirst tree plan) (m f : ℕ → ℤ) (shared : (c : ℕ) → c < cell_count tree → f c ≡ m c) (idle : IsIdle tree f) where
@@ -310,6 +300,6 @@ module _ (tree : Tree) (plan : Plan) (k : ℕ) (v : Visit) (formed : IsWellForme
           let worker : p < plan.workers = omega (arith, fine.worker, owner) in
           let cell : own_cell own p c ≡ cell_count tree + (32 * p + n) = ap (at_slot own p c) slot in
           let in_total : Contains (total_of tree plan v u p) (sets_to_zero p (cell_count tree + (32 * p + n))) = subst (λ b. Contains (totalling own c p b) (sets_to_zero p (cell_count tree + (32 * p + n)))) (sym has) (1, omega arith, ap (sets_to_zero p) cell) in
-          let in_totals = in_flat_map_of (total_of tree plan v u) (range_with_len 0 plan.workers) p (sets_to_zero p (cell_count tree + (32 * p + n))) (in_range_of 0 plan.workers p (omega arith) (omega (arith, worker))) in_total in
-          let in_sums = in_flat_map_of (totalling_of tree plan v) (own_loop tree plan v.place).sums u (sets_to_zero p (cell_count tree + (32 * p + n))) among in_totals in
+          let in_totals = Contains-flat_map (total_of tree plan v u) (range_with_len 0 plan.workers) p (sets_to_zero p (cell_count tree + (32 * p + n))) (range_there 0 plan.workers p (omega arith) (omega (arith, worker))) in_total in
+          let in_sums = Contains-flat_map (totalling_of tree plan v) (own_loop tree plan v.place).sums u (sets_to_zero p (cell_count tree + (32 * p + n))) among in_totals in
           zero_set (cell_count tree) behind_own (closings_of tree plan v) (cell_count tree + (32 * p + n)) p all_closings (omega arith) (Contains-append_right (flat_map (keeping_of tree plan v) (own_loop tree plan v.place).privates) (flat_map (totalling_of tree plan v) (own_loop tree plan v.place).sums) (sets_to_zero p (cell_count tree + (32 * p + n))) in_sums)

@@ -7,6 +7,7 @@ use Rattle.std.proofs.lemmas.Grind.{flat_map-append}
 use Rattle.std.proofs.lemmas.List.{append-nil, map-append}
 use Rattle.std.proofs.lemmas.List.Elements.{All-cons, All-nil}
 use Rattle.std.proofs.lemmas.List.Sums.{fold-append}
+use Rattle.list_lemmas.proofs.Each.{All-left, All-right}
 use Rattle.nest_tree.specs.Layout.{first_cell}
 use Rattle.nest_tree.specs.Tree.{Work, Head, Statement, Statements, do_loop, work, continue, Tree, param_values}
 use Rattle.nest_tree.specs.WellFormed.{IsWellFormed}
@@ -30,11 +31,11 @@ use Rattle.spmd_model.proofs.LastStores.{StoresFirst, last_among, last_split, no
 use Rattle.spmd_model.proofs.OwnRuns.{AreGoodJobs, good_behind}
 use Rattle.spmd_model.proofs.OwnTexts.{AreOwnIn, cell_there, own_in_phase, private_is, sum_is}
 use Rattle.spmd_model.proofs.Stands.{execution_place, execution_there, in_phase, slot_there}
-use Rattle.spmd_model.proofs.TripJobs.{IsFineIn, back_all, front_all, job_in_phase, not_sum, trip, trip_good}
+use Rattle.spmd_model.proofs.TripJobs.{IsFineIn, job_in_phase, not_sum, trip, trip_good}
 use Rattle.spmd_model.proofs.TripOwners.{one_owner}
 use Rattle.spmd_model.proofs.Trips.{behind_trip}
 
-all_from : {X : Type 0} (P : X → Type 0) (xs : List X) → ((k : ℕ) (x : X) → slice_get xs k ≡ Some x → P x) → All P xs
+pub all_from : {X : Type 0} (P : X → Type 0) (xs : List X) → ((k : ℕ) (x : X) → slice_get xs k ≡ Some x → P x) → All P xs
 all_from P [] h = All-nil P
 all_from P (x ∷ xs) h = All-cons P x xs (h 0 x refl) (all_from P xs (λ k y at. h (suc k) y at))
 
@@ -81,8 +82,8 @@ module _ (tree : Tree) (plan : Plan) (k : ℕ) (v : Visit) (formed : IsWellForme
         let o = own_in_phase tree plan k v formed fits at in
         let job = job_in_phase tree plan (1 + k) v formed o in
         let f : ℤ → List Instance = λ y. instances_in (param_values tree) body v.first (with_loop v.loops head.number y) in
-        let here = trip_good tree plan (1 + k) v formed o (f x) (phase_owner tree plan v (with_loop v.loops head.number x)) (one_owner tree plan k v head body x formed fits at what) (front_all (IsFineIn tree plan v) (f x) (flat_map f xs) fine) (first_stores x (there x (0, omega arith, refl))) last in
-        let later = trips_good xs (fold (last_behind (own_of tree plan v.place)) last (map job (f x))) (λ y (n, lt, is). there y (suc n, omega (arith, lt), is)) (back_all (IsFineIn tree plan v) (f x) (flat_map f xs) fine) in
+        let here = trip_good tree plan (1 + k) v formed o (f x) (phase_owner tree plan v (with_loop v.loops head.number x)) (one_owner tree plan k v head body x formed fits at what) (All-left (IsFineIn tree plan v) (f x) (flat_map f xs) fine) (first_stores x (there x (0, omega arith, refl))) last in
+        let later = trips_good xs (fold (last_behind (own_of tree plan v.place)) last (map job (f x))) (λ y (n, lt, is). there y (suc n, omega (arith, lt), is)) (All-right (IsFineIn tree plan v) (f x) (flat_map f xs) fine) in
         subst (AreGoodJobs (own_of tree plan v.place) last) (sym (map-append job (f x) (flat_map f xs))) (good_behind (own_of tree plan v.place) last (map job (f x)) (map job (flat_map f xs)) here later)
 
     -- behind the last of them
@@ -97,7 +98,7 @@ module _ (tree : Tree) (plan : Plan) (k : ℕ) (v : Visit) (formed : IsWellForme
         let split = last_split (head_trips (param_values tree) head v.loops) value is in
         let all : phase_instances (param_values tree) v ≡ flat_map f split.0 ++ f value =
         ap (λ (s : Statement). instances_of (param_values tree) s v.first v.loops) what ∙ ap (flat_map f) split.1 ∙ flat_map-append f split.0 (value ∷ []) ∙ ap (λ l. flat_map f split.0 ++ l) (append-nil (f value)) in
-        let fine = back_all (IsFineIn tree plan v) (flat_map f split.0) (f value) (subst (All (IsFineIn tree plan v)) all all_fine) in
+        let fine = All-right (IsFineIn tree plan v) (flat_map f split.0) (f value) (subst (All (IsFineIn tree plan v)) all all_fine) in
         let s = slot_there tree plan v o (first_cell tree u) (inl (cell_there tree (own_loop tree plan v.place).privates u among)) in
         let here = first_stores value (last_among (head_trips (param_values tree) head v.loops) value is) in
         let t = trip tree plan (1 + k) v formed o (f value) p (one_owner tree plan k v head body value formed fits at what) fine here u among in

@@ -3,6 +3,7 @@ use Rattle.std.proofs.Common.{◌≡◌, ◌≢◌, ◌==◌, ℕ, zero, suc, �
 use Rattle.std.specs.Prelude.{Contains}
 use Rattle.std.specs.List.{AllByRecursion}
 use Rattle.std.proofs.lemmas.Bool.{cases_eq, eq-eqb}
+use Rattle.list_lemmas.proofs.Tests.{or_left_false}
 use Rattle.nest_tree.specs.Layout.{cell_count}
 use Rattle.nest_tree.specs.Tree.{Tree}
 use Rattle.nest_model.specs.Visits.{Visit}
@@ -22,10 +23,6 @@ use Rattle.spmd_model.proofs.OwnTexts.{AreOwnIn, Slots, private_slot, sum_slot, 
 -- no processor has anything in its own cells of sum scalars
 abbrev pub IsIdle : Tree → (ℕ → ℤ) → Type 0
 IsIdle tree f = (p k : ℕ) → 16 ≤ k → k < 32 → f (cell_count tree + (32 * p + k)) ≡ pos 0
-
-either_false : (a b : Bool) → (a || b) ≡ false → a ≡ false
-either_false true b e = absurd (true≢false e)
-either_false false b e = refl
 
 module _ (tree : Tree) (plan : Plan) (v : Visit) (o : AreOwnIn tree plan v) where
   -- places of sum scalars are those from 16 on
@@ -70,7 +67,7 @@ module _ (tree : Tree) (plan : Plan) (v : Visit) (o : AreOwnIn tree plan v) wher
   IsIdleBut f assigned = (p k : ℕ) → 16 ≤ k → k < 32 → ((c : ℕ) → (own_of tree plan v.place).slot c ≡ Some k → assigned c p ≡ false) → f (cell_count tree + (32 * p + k)) ≡ pos 0
 
   less_assigned : (assigned : ℕ → ℕ → Bool) (j : Job) (p k : ℕ) → 16 ≤ k → ((c : ℕ) → (own_of tree plan v.place).slot c ≡ Some k → assigned_behind (own_of tree plan v.place) assigned j c p ≡ false) → (c : ℕ) → (own_of tree plan v.place).slot c ≡ Some k → assigned c p ≡ false
-  less_assigned assigned j p k le none c slot = either_false (assigned c p) _ (sym (assigned_more (own_of tree plan v.place) c k slot (sum_place c k slot le) assigned j.store j.owner p) ∙ none c slot)
+  less_assigned assigned j p k le none c slot = or_left_false (assigned c p) _ (sym (assigned_more (own_of tree plan v.place) c k slot (sum_place c k slot le) assigned j.store j.owner p) ∙ none c slot)
 
   -- another cell is stored
   stored_elsewhere : (f : ℕ → ℤ) (assigned : ℕ → ℕ → Bool) (j : Job) (c d : ℕ) → j.store ≡ Some c → own_cell (own_of tree plan v.place) j.owner c ≡ d → IsIdleBut f assigned → (p k : ℕ) → 16 ≤ k → k < 32 → d ≢ cell_count tree + (32 * p + k) →

@@ -25,6 +25,7 @@ use Rattle.spmd_model.specs.Viewed.{barriers_in_front}
 use Rattle.spmd_model.proofs.Arrivals.{Joins, arrivals, await_reached, boundaries, post_reached, weights, weights-append}
 use Rattle.spmd_model.proofs.Barriers.{AreAll, all_join}
 use Rattle.spmd_model.proofs.Gathered.{all_at_boundary, no_weight, parts_of}
+use Rattle.spmd_model.proofs.MachineLoads.{parts_take}
 
 -- a round stands on signals
 no_round : (workers first r n : ℕ) (posts : ℕ → Bool) (awaits : ℕ → List ℕ) → boundary counter n posts awaits ≡ round_boundary workers first r → ⊥
@@ -104,11 +105,6 @@ front_parts [] (suc k) = refl
 front_parts (q ∷ ps) (suc k) =
     let count : part_place (q ∷ ps) (suc k) ≡ length (moments_of q) + part_place ps k = length-append (moments_of q) (flat_map moments_of (take k ps)) in
     ap (λ n. take n (moments_of q ++ flat_map moments_of ps)) count ∙ take-behind (moments_of q) (flat_map moments_of ps) (part_place ps k) ∙ ap (λ l. moments_of q ++ l) (front_parts ps k)
-
-parts_take : (style : Style) (tree : Tree) (plan : Plan) (e passed : ℕ) (vs : List Visit) (k : ℕ) → take k (parts_from style tree plan e passed vs) ≡ parts_from style tree plan e passed (take k vs)
-parts_take style tree plan e passed vs zero = refl
-parts_take style tree plan e passed [] (suc k) = refl
-parts_take style tree plan e passed (v ∷ vs) (suc k) = ap (λ l. part_of style tree plan e passed v ∷ l) (parts_take style tree plan (suc e) (passed + signal_barriers style plan v) vs k)
 
 -- by counters, so many phases have the barriers of their numbers
 weights_of : (tree : Tree) (plan : Plan) (e passed : ℕ) (vs : List Visit) → 1 ≤ e → weights (gathers tree plan) (flat_map moments_of (parts_from Arrive tree plan e passed vs)) ≡ length (filter (gathers tree plan) (range_with_len (e - 1) (length vs)))

@@ -6,6 +6,8 @@ use Rattle.std.specs.Option.{option_map, option_or}
 use Rattle.std.proofs.lemmas.Bool.{cases_Bool, cases_lt}
 use Rattle.std.proofs.lemmas.List.Elements.{Contains-append_cases}
 use Rattle.std.proofs.lemmas.Option.{slice_get-map}
+use Rattle.list_lemmas.proofs.Gets.{get-front, get-behind}
+use Rattle.list_lemmas.proofs.Elements.{contains_at}
 use Rattle.nest_tree.specs.Layout.{cell_count, first_cell}
 use Rattle.nest_tree.specs.Tree.{Tree, param_values}
 use Rattle.nest_tree.specs.WellFormed.{IsWellFormed}
@@ -19,14 +21,12 @@ use Rattle.sync_plan.specs.declared.plan.Plan.{Plan}
 use Rattle.sync_plan.specs.Fit.{IsFit}
 use Rattle.sync_plan.specs.Own.{OwnLoop, at_slot, is_cell_of, own_cell, own_loop, own_of, place_in}
 use Rattle.sync_plan.specs.Stored.{AreStoredFirst}
-use Rattle.sync_plan.proofs.Gets.{get-behind, get-front}
 use Rattle.spmd_model.specs.Timelines.{Job, load, add, job, act_at}
 use Rattle.spmd_model.specs.Closings.{closings_of, has_stored, keeping, keeping_of, last_owner, moves_to, sets_to_zero, total_of, totalling, totalling_of}
 use Rattle.spmd_model.specs.Sequential.{loaded_at, loaded_by}
 use Rattle.spmd_model.specs.Machines.{instance_jobs, instances_in_front, job_under, machine_by, timeline_by}
 use Rattle.spmd_model.specs.declared.style.Style.{Style}
 use Rattle.spmd_model.proofs.ActLists.{found}
-use Rattle.spmd_model.proofs.Lists.{contains_at}
 use Rattle.spmd_model.proofs.MomentActs.{IsChangeIn, IsLoadIn, tells}
 use Rattle.spmd_model.proofs.OwnTexts.{AreOwnIn, cell_there, own_in_phase, place_there, sum_is}
 use Rattle.spmd_model.proofs.Stands.{Under, in_flat_map, in_map, in_phase, own_one, own_one_is, scalar_below, shared_one, under}

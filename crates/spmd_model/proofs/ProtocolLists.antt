@@ -1,10 +1,8 @@
 -- Lists from a place on, and places by processor.
 use Rattle.std.proofs.Common.{◌≡◌, ◌==◌, ℕ, zero, suc, ◌+◌, List, [], ◌∷◌, drop, refl, ap, sym, ◌∙◌, arith, if◌then◌else◌, zero-add}
 use Rattle.std.specs.Prelude.{slice_get}
-use Rattle.std.specs.List.{All}
 use Rattle.std.proofs.Math.Seq.{drop-nil}
 use Rattle.std.proofs.lemmas.Bool.{eq-eqb, ne_eqb}
-use Rattle.std.proofs.lemmas.List.Elements.{All-cons, All-nil}
 use Rattle.spmd_model.specs.Lawful.{Moves}
 
 pub get_drop : {X : Type 0} (xs : List X) (n k : ℕ) → slice_get (drop n xs) k ≡ slice_get xs (n + k)
@@ -21,8 +19,3 @@ goes at p n = record {
   here = ap (λ b. if b then n else at p) (eq-eqb p p refl);
   others = λ q other. ap (λ b. if b then n else at q) (ne_eqb q p other);
 }
-
--- what holds of each element
-pub every : {X : Type 0} (P : X → Type 0) → ((x : X) → P x) → (xs : List X) → All P xs
-every P holds [] = All-nil P
-every P holds (x ∷ xs) = All-cons P x xs (holds x) (every P holds xs)

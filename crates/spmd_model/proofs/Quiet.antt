@@ -60,7 +60,7 @@ turns_are_runs m shared schedule all = then_leads m (first_state m) (first_turn 
 
 -- ---- in front of each turn no quiet act stands next
 
-can_do : (shared : ℕ) (s : State) (a : Act) → is_quiet shared a ≡ true → is_possible s a ≡ true
+pub can_do : (shared : ℕ) (s : State) (a : Act) → is_quiet shared a ≡ true → is_possible s a ≡ true
 can_do shared s (post w n) h = refl
 can_do shared s (await w q n) h = absurd (true≢false (sym h))
 can_do shared s (load t c) h = refl

@@ -1,12 +1,14 @@
 -- Each job of a phase stands for an instance of its owner there, whose cells it shows to others.
 use Rattle.std.proofs.Common.{◌≡◌, ℕ, zero, suc, ◌+◌, ◌-◌, ◌*◌, ◌<◌, ◌≤◌, ◌⊎◌, ℤ, Bool, true, false, true≢false, ◌&&◌, ◌||◌, ◌==◌, not, cond, List, [], ◌∷◌, ◌++◌, length, map, Option, Some, None, if◌then◌else◌, refl, ap, sym, subst, ◌∙◌, inl, inr, arith, is_none}
 use Rattle.std.specs.Prelude.{Contains, find, slice_get}
-use Rattle.std.specs.List.{All, filter, flat_map, list_any, range_with_len}
+use Rattle.std.specs.List.{All, flat_map, list_any, range_with_len}
 use Rattle.std.specs.Option.{option_map, option_to_list}
 use Rattle.std.proofs.lemmas.Bool.{and_parts, cases_Bool, cases_lt, eqb-true}
 use Rattle.std.proofs.lemmas.List.{length-map}
 use Rattle.std.proofs.lemmas.List.Elements.{All-contains, Contains-append_cases, Contains-append_left, Contains-append_right}
 use Rattle.std.proofs.lemmas.Option.{slice_get-map, slice_get_within}
+use Rattle.list_lemmas.proofs.Gets.{get-front, get-behind}
+use Rattle.list_lemmas.proofs.Elements.{contains_at, Contains-filter}
 use Rattle.nest_tree.specs.Layout.{bounds_of, cell_count, element_count, first_cell, element_place}
 use Rattle.nest_tree.specs.Tree.{Printing, Work, assign, print, Statement, do_loop, work, continue, Tree, param_values}
 use Rattle.nest_tree.specs.WellFormed.{IsWellFormed}
@@ -25,7 +27,6 @@ use Rattle.sync_plan.specs.Fit.{IsFit}
 use Rattle.sync_plan.specs.Own.{Own, OwnLoop, at_slot, is_cell_of, own_cell, own_loop, own_loop_of, own_of}
 use Rattle.sync_plan.specs.Stored.{AreStoredFirst}
 use Rattle.sync_plan.proofs.FitOwners.{owners_below, printers, trip_owner}
-use Rattle.sync_plan.proofs.Gets.{get-behind, get-front}
 use Rattle.spmd_model.specs.Closings.{closings_of, has_stored, keeping, keeping_of, last_owner, moves_to, phase_owner, sets_to_zero, total_of, totalling, totalling_of}
 use Rattle.spmd_model.specs.Lawful.{stores_to}
 use Rattle.spmd_model.specs.Ordered.{Needs}
@@ -34,9 +35,9 @@ use Rattle.spmd_model.specs.Timelines.{Job}
 use Rattle.spmd_model.proofs.CellsThere.{IsGoodWork, cells_there, execution_inside, good_of}
 use Rattle.spmd_model.proofs.LastOwners.{last_of, no_loop}
 use Rattle.spmd_model.proofs.LastStores.{last_among, last_store}
-use Rattle.spmd_model.proofs.Lists.{contains_at}
 use Rattle.spmd_model.proofs.OwnTexts.{AreOwnIn, IsScalar, Slots, private_slot, sum_slot, cell_there, no_slot, not_both, one_scalar, own_in_phase, private_is, slots, sum_is}
 use Rattle.spmd_model.proofs.TripOwners.{one_owner}
+use Rattle.spmd_model.proofs.Keeps.{store_is}
 
 -- ---- lists
 
@@ -51,13 +52,6 @@ in_flat_map f (x ∷ xs) y among = elim (Contains-append_cases (f x) (flat_map f
   | inl here ↦ (x, (0, omega arith, refl), here)
   | inr later ↦ let r = in_flat_map f xs y later in (r.0, (suc r.1.0, omega (arith, r.1.1), r.1.2), r.2)
 ]
-
-in_filter : {X : Type 0} (test : X → Bool) (xs : List X) (x : X) → Contains xs x → test x ≡ true → Contains (filter test xs) x
-in_filter test [] x (k, lt, e) is = absurd (omega (arith, lt))
-in_filter test (y ∷ xs) x (zero, lt, e) is = subst (λ l. Contains l x) (sym (ap (λ b. cond b (y ∷ filter test xs) (filter test xs)) (ap test e ∙ is))) (0, omega arith, e)
-in_filter test (y ∷ xs) x (suc k, lt, e) is =
-    let later = in_filter test xs x (k, omega (arith, lt), e) is in
-    elim (test y) as (λ b. Contains (cond b (y ∷ filter test xs) (filter test xs)) x) [ true ↦ (suc later.0, omega (arith, later.1), later.2) | false ↦ later ]
 
 one_of : {X : Type 0} (x y : X) → Contains (x ∷ []) y → y ≡ x
 one_of x y (zero, lt, e) = sym e
@@ -206,7 +200,7 @@ store_seen : (tree : Tree) (plan : Plan) (x : Execution) (c : ℕ) → store_of 
 store_seen tree plan x c stores none = ap (seen_stored tree plan x) stores ∙ ap (seen_by tree plan x c) (find_none tree (own_loop tree plan x.place).privates c none)
 
 load_seen : (tree : Tree) (plan : Plan) (x : Execution) (c : ℕ) → Contains (loads_of tree x.instance) c → is_cell_of tree (own_loop tree plan x.place).privates c ≡ false → Contains (seen_loads tree plan x) c
-load_seen tree plan x c among none = in_filter (λ d. not (is_cell_of tree (own_loop tree plan x.place).privates d)) (loads_of tree x.instance) c among (ap not none)
+load_seen tree plan x c among none = Contains-filter (λ d. not (is_cell_of tree (own_loop tree plan x.place).privates d)) (loads_of tree x.instance) c among (ap not none)
 
 seen_as_store : (tree : Tree) (plan : Plan) (x : Execution) (c : ℕ) → seen_store tree plan x ≡ Some c → Contains (seen_cells tree plan x) c
 seen_as_store tree plan x c is = Contains-append_right (seen_loads tree plan x) (option_to_list (seen_store tree plan x)) c (subst (λ o. Contains (option_to_list o) c) (sym is) (0, omega arith, refl))
@@ -313,10 +307,6 @@ plain_store tree u loops (assign a) scalar plain =
     ap Some cell
 plain_store tree u loops (print p) scalar plain = absurd (true≢false (sym plain))
 
-stores_is : (o : Option ℕ) (c : ℕ) → stores_to o c ≡ true → o ≡ Some c
-stores_is None c e = absurd (true≢false (sym e))
-stores_is (Some d) c e = ap Some (eqb-true d c e)
-
 stores_some : (c : ℕ) → Some c ≡ None → ⊥
 stores_some c e = cc
 
@@ -404,7 +394,7 @@ module _ (tree : Tree) (plan : Plan) (e k : ℕ) (v : Visit) (formed : IsWellFor
     ]
 
     shown : (i : Instance) → stores_to (store_of tree i) (first_cell tree u) ≡ true → seen_store tree plan (record { phase = e; place = v.place; instance = i }) ≡ Some (first_cell tree u)
-    shown i is = store_seen tree plan (record { phase = e; place = v.place; instance = i }) (first_cell tree u) (stores_is (store_of tree i) (first_cell tree u) is) no_private_cell
+    shown i is = store_seen tree plan (record { phase = e; place = v.place; instance = i }) (first_cell tree u) (store_is (store_of tree i) (first_cell tree u) is) no_private_cell
 
     total_stands : Stands tree plan e v (moves_to true q (own_cell (own_of tree plan v.place) q (first_cell tree u)) (first_cell tree u))
     total_stands =

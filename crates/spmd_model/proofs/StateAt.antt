@@ -51,7 +51,7 @@ repeated : {X : Type 0} (f : ℕ → X) (x : X) (a n : ℕ) → ((q : ℕ) → f
 repeated f x a zero same = refl
 repeated f x a (suc n) same = ap (λ y. y ∷ replicate n x) (sym (same a)) ∙ ap (λ l. f a ∷ l) (repeated f x (a + 1) n same)
 
-same_state : {a a' : List ℕ} {b b' : List (List ℤ)} {c c' d d' : List ℕ} {m m' : List ℤ} {o o' : List ℕ} → a ≡ a' → b ≡ b' → c ≡ c' → d ≡ d' → m ≡ m' → o ≡ o' →
+pub same_state : {a a' : List ℕ} {b b' : List (List ℤ)} {c c' d d' : List ℕ} {m m' : List ℤ} {o o' : List ℕ} → a ≡ a' → b ≡ b' → c ≡ c' → d ≡ d' → m ≡ m' → o ≡ o' →
     (let left : State = record { positions = a; registers = b; counters = c; signals = d; memory = m; output = o } in let right : State = record { positions = a'; registers = b'; counters = c'; signals = d'; memory = m'; output = o' } in left ≡ right)
 same_state a b c d m o = cc
 

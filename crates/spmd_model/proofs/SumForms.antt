@@ -1,15 +1,16 @@
 -- What an addition to a scalar adds doesn't depend on the scalar, wherever in the expression that is loaded.
-use Rattle.std.proofs.Common.{◌≡◌, ℕ, zero, suc, ◌<◌, ◌≤◌, ℤ, pos, ◌+ℤ◌, ◌-ℤ◌, neg_ℤ, Bool, true, false, true≢false, ◌&&◌, ◌||◌, not, List, [], ◌∷◌, ◌++◌, drop, take, length, ◌⊎◌, refl, ap, ap₂, sym, ◌∙◌, inl, inr, arith, append_assoc, length-append, length-drop, slice_index_or}
+use Rattle.std.proofs.Common.{◌≡◌, ℕ, zero, suc, ◌<◌, ◌≤◌, ℤ, pos, ◌+ℤ◌, ◌-ℤ◌, neg_ℤ, Bool, true, false, true≢false, ◌&&◌, ◌||◌, not, List, [], ◌∷◌, ◌++◌, drop, take, length, refl, ap, ap₂, sym, ◌∙◌, inl, inr, arith, append_assoc, length-append, length-drop, slice_index_or}
 use Rattle.std.specs.Int.{int_wrap, w64}
 use Rattle.std.specs.List.{list_any}
-use Rattle.std.proofs.lemmas.Bool.{and_parts}
-use Rattle.std.proofs.lemmas.Int.{ints, int_wrap-add_left, int_wrap-add_right, int_wrap-add_same}
+use Rattle.std.proofs.lemmas.Bool.{and_parts, or_cases}
+use Rattle.std.proofs.lemmas.Int.{ints, int_wrap-add_right, int_wrap-add_same}
 use Rattle.std.proofs.lemmas.List.Folds.{list_any-append}
 use Rattle.nest_tree.specs.declared.tree.Access.{Access}
 use Rattle.nest_tree.specs.Loads.{loads_in}
 use Rattle.nest_tree.specs.Tree.{Expression, number, loop_value, param, load, neg, add, sub, mul, div, least_of, greatest_of}
 use Rattle.nest_tree.specs.Values.{wrapped}
 use Rattle.nest_model.specs.Meaning.{value_of}
+use Rattle.nest_walk.proofs.CellSums.{int_wrap-again}
 use Rattle.flat_code.proofs.Loaded.{value_taken}
 use Rattle.own_scalars.specs.OwnScalars.{adds_once, is_of, is_sum_or_difference, loads}
 use Rattle.spmd_model.specs.Cells.{plus}
@@ -27,10 +28,6 @@ pub record AddsOnce (v : ℕ) (e : Expression) : Type 0 where
 unloaded : (b : Bool) → not b ≡ true → b ≡ false
 unloaded true h = absurd (true≢false (sym h))
 unloaded false h = refl
-
-either : (a b : Bool) → (a || b) ≡ true → (a ≡ true) ⊎ (b ≡ true)
-either true b e = inl refl
-either false b e = inr e
 
 -- ---- the values of loads
 
@@ -57,14 +54,8 @@ same_front e loops params us ws ws' le = sym (of_front ws) ∙ of_front ws'
 
 -- ---- sums and differences of which one side has x more
 
-wrapped_twice : (y : ℤ) → wrapped (wrapped y) ≡ wrapped y
-wrapped_twice y = ap (int_wrap w64) (nothing_more (int_wrap w64 y)) ∙ int_wrap-add_left w64 y (pos 0) ∙ ap (int_wrap w64) (sym (nothing_more y))
-  where
-    nothing_more : (z : ℤ) → z ≡ z +ℤ pos 0
-    nothing_more z = omega (arith, ints)
-
 left_more : (x a a0 t : ℤ) → wrapped a ≡ plus x a0 → wrapped (wrapped (a +ℤ t)) ≡ plus x (wrapped (a0 +ℤ t))
-left_more x a a0 t more = wrapped_twice (a +ℤ t) ∙ int_wrap-add_same w64 a (x +ℤ a0) t more ∙ ap (int_wrap w64) moved ∙ sym (int_wrap-add_right w64 x (a0 +ℤ t))
+left_more x a a0 t more = int_wrap-again (a +ℤ t) ∙ int_wrap-add_same w64 a (x +ℤ a0) t more ∙ ap (int_wrap w64) moved ∙ sym (int_wrap-add_right w64 x (a0 +ℤ t))
   where
     moved : (x +ℤ a0) +ℤ t ≡ x +ℤ (a0 +ℤ t)
     moved = omega (arith, ints)
@@ -134,7 +125,7 @@ once v (loop_value l) h = absurd (true≢false (sym h))
 once v (param p) h = absurd (true≢false (sym h))
 once v (load a) h = record { front = []; own = a; rest = []; is = refl; of = h; others = refl; adds = λ loops params us x vs none. alone_more us x vs none }
 once v (neg a) h = absurd (true≢false (sym h))
-once v (add a b) h = elim (either (adds_once v a && not (loads v b)) (adds_once v b && not (loads v a)) h) [
+once v (add a b) h = elim (or_cases (adds_once v a && not (loads v b)) (adds_once v b && not (loads v a)) h) [
   | inl left ↦
       let both = and_parts (adds_once v a) (not (loads v b)) left in
       from_left v a b (add a b) refl (λ x y. x +ℤ y) (λ loops params vs. refl) (once v a both.0) both.1 left_more
@@ -157,8 +148,8 @@ reduced (loop_value l) loops params vs h = absurd (true≢false (sym h))
 reduced (param p) loops params vs h = absurd (true≢false (sym h))
 reduced (load a) loops params vs h = absurd (true≢false (sym h))
 reduced (neg a) loops params vs h = absurd (true≢false (sym h))
-reduced (add a b) loops params vs h = wrapped_twice (value_of a loops params vs +ℤ value_of b loops params (drop (length (loads_in a)) vs))
-reduced (sub a b) loops params vs h = wrapped_twice (value_of a loops params vs -ℤ value_of b loops params (drop (length (loads_in a)) vs))
+reduced (add a b) loops params vs h = int_wrap-again (value_of a loops params vs +ℤ value_of b loops params (drop (length (loads_in a)) vs))
+reduced (sub a b) loops params vs h = int_wrap-again (value_of a loops params vs -ℤ value_of b loops params (drop (length (loads_in a)) vs))
 reduced (mul a b) loops params vs h = absurd (true≢false (sym h))
 reduced (div a d) loops params vs h = absurd (true≢false (sym h))
 reduced (least_of es) loops params vs h = absurd (true≢false (sym h))

@@ -6,6 +6,7 @@ use Rattle.std.proofs.lemmas.Bool.{and_parts, cases_Bool}
 use Rattle.std.proofs.lemmas.List.{map-append}
 use Rattle.std.proofs.lemmas.List.Elements.{All-cons, All-head, All-nil, All-tail}
 use Rattle.std.proofs.lemmas.List.Sums.{fold-append}
+use Rattle.list_lemmas.proofs.Each.{All-left, All-right}
 use Rattle.nest_tree.specs.Layout.{first_cell}
 use Rattle.nest_tree.specs.Loads.{loads_in_work}
 use Rattle.nest_tree.specs.Tree.{Work, assign, print, Tree}
@@ -34,14 +35,6 @@ use Rattle.spmd_model.proofs.Trips.{before_load}
 by_recursion : {X Y : Type 0} (P : X → Type 0) (Q : Y → Type 0) (f : X → Y) (xs : List X) → ((x : X) → P x → Q (f x)) → All P xs → AllByRecursion Q (map f xs)
 by_recursion P Q f [] h all = tt
 by_recursion P Q f (x ∷ xs) h all = (h x (All-head P x xs all), by_recursion P Q f xs h (All-tail P x xs all))
-
-pub front_all : {X : Type 0} (P : X → Type 0) (xs ys : List X) → All P (xs ++ ys) → All P xs
-front_all P [] ys all = All-nil P
-front_all P (x ∷ xs) ys all = All-cons P x xs (All-head P x (xs ++ ys) all) (front_all P xs ys (All-tail P x (xs ++ ys) all))
-
-pub back_all : {X : Type 0} (P : X → Type 0) (xs ys : List X) → All P (xs ++ ys) → All P ys
-back_all P [] ys all = all
-back_all P (x ∷ xs) ys all = back_all P xs ys (All-tail P x (xs ++ ys) all)
 
 -- what is asked of an instance of a phase by its text and its cells
 pub record IsFineIn (tree : Tree) (plan : Plan) (v : Visit) (i : Instance) : Type 0 where
@@ -85,8 +78,8 @@ module _ (tree : Tree) (plan : Plan) (e : ℕ) (v : Visit) (formed : IsWellForme
         let s = (first u among).1 in
         let scalar = (private_is tree plan v o u among).1 in
         let split_fine = subst (All (IsFineIn tree plan v)) s.split fine in
-        let store_fine = All-head (IsFineIn tree plan v) s.store s.after (back_all (IsFineIn tree plan v) s.before (s.store ∷ s.after) split_fine) in
-        let both : All (λ (i : Instance). IsFineIn tree plan v i × (has_access u i.what ≡ false)) s.before = paired s.before (front_all (IsFineIn tree plan v) s.before (s.store ∷ s.after) split_fine) s.away in
+        let store_fine = All-head (IsFineIn tree plan v) s.store s.after (All-right (IsFineIn tree plan v) s.before (s.store ∷ s.after) split_fine) in
+        let both : All (λ (i : Instance). IsFineIn tree plan v i × (has_access u i.what ≡ false)) s.before = paired s.before (All-left (IsFineIn tree plan v) s.before (s.store ∷ s.after) split_fine) s.away in
         record {
           owners = by_recursion (λ (i : Instance). phase_owner tree plan v i.loops ≡ p) (λ (j : Job). j.owner ≡ p) job_in_phase is (λ i h. h) owners;
           before = map job_in_phase s.before;
@@ -114,8 +107,8 @@ module _ (tree : Tree) (plan : Plan) (e : ℕ) (v : Visit) (formed : IsWellForme
     good_from last xs [] same = tt
     good_from last xs (y ∷ ys) same =
         let all = subst (All (IsFineIn tree plan v)) same fine in
-        let f = All-head (IsFineIn tree plan v) y ys (back_all (IsFineIn tree plan v) xs (y ∷ ys) all) in
-        let owner = All-head (λ (i : Instance). phase_owner tree plan v i.loops ≡ p) y ys (back_all (λ (i : Instance). phase_owner tree plan v i.loops ≡ p) xs (y ∷ ys) (subst (All (λ (i : Instance). phase_owner tree plan v i.loops ≡ p)) same owners)) in
+        let f = All-head (IsFineIn tree plan v) y ys (All-right (IsFineIn tree plan v) xs (y ∷ ys) all) in
+        let owner = All-head (λ (i : Instance). phase_owner tree plan v i.loops ≡ p) y ys (All-right (λ (i : Instance). phase_owner tree plan v i.loops ≡ p) xs (y ∷ ys) (subst (All (λ (i : Instance). phase_owner tree plan v i.loops ≡ p)) same owners)) in
         let behind = fold (last_behind (own_of tree plan v.place)) last (map job_in_phase xs) in
         let jobs_split = ap (map job_in_phase) same ∙ map-append job_in_phase xs (y ∷ ys) in
         let kept = λ (u : ℕ) (among : Contains (own_loop tree plan v.place).privates u) (loaded : Contains (loads_of tree y) (first_cell tree u)).

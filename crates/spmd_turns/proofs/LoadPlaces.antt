@@ -6,12 +6,12 @@ use Rattle.std.proofs.lemmas.Bool.{leb-true, ltb-true}
 use Rattle.std.proofs.lemmas.List.FromFn.{get_or-range_with_len, length-range_with_len}
 use Rattle.std.proofs.lemmas.List.Sums.{sum_by-cons}
 use Rattle.std.proofs.lemmas.Option.{slice_get-get_or, slice_get_within}
+use Rattle.list_lemmas.proofs.Gets.{get-front, get-behind}
 use Rattle.nest_walk.specs.CellForms.{cell_at}
 use Rattle.nest_walk.specs.declared.table.LoadCells.{LoadCells}
 use Rattle.nest_walk.specs.declared.table.LoadCells.TheVariants.{Element, Array}
 use Rattle.owner_partition.proofs.Sites.{all_at, all_of}
 use Rattle.seq_meaning.specs.Loads.{cells_of_load, is_load_within}
-use Rattle.sync_plan.proofs.Gets.{get-behind, get-front}
 use Rattle.spmd_turns.specs.Loads.{IsLoading, cell_of_load, width, widths}
 
 pub drop_there : {X : Type 0} (xs : List X) (n : ℕ) (x : X) → slice_get xs n ≡ Some x → drop n xs ≡ x ∷ drop (suc n) xs

@@ -26,7 +26,7 @@ worked : (tree : Tree) (is : List Instance) → flat_map (turn_deeds tree) (map 
 worked tree [] = refl
 worked tree (i ∷ is) = ap (λ l. instance_deeds tree i ++ l) (worked tree is)
 
-bounded : (tree : Tree) (number : ℕ) (does : Bool) (qs : List ℕ) → flat_map (turn_deeds tree) (boundary_turns number does qs) ≡ boundary_deeds counter number does qs
+pub bounded : (tree : Tree) (number : ℕ) (does : Bool) (qs : List ℕ) → flat_map (turn_deeds tree) (boundary_turns number does qs) ≡ boundary_deeds counter number does qs
 bounded tree number does qs =
     flat_map-append (turn_deeds tree) (if does then posts number ∷ [] else []) (map (λ q. awaits q number) qs)
     ∙ ap (λ l. l ++ flat_map (turn_deeds tree) (map (λ q. awaits q number) qs)) (posted tree number does)

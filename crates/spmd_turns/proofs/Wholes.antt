@@ -13,6 +13,7 @@ use Rattle.nest_tree.specs.Tree.{Assignment, Printing, Work, assign, print, work
 use Rattle.nest_tree.specs.View.{printed_of, statement_of}
 use Rattle.nest_tree.specs.WellFormed.{IsWellFormed, is_good_item, is_good_work, loops_of, scope_of}
 use Rattle.nest_tree.specs.declared.tree.PrintItem.{PrintItem}
+use Rattle.nest_tree.proofs.Rows.{same_work}
 use Rattle.nest_model.specs.Accesses.{access_cell, loads_of, store_of, work_loads, work_store}
 use Rattle.nest_model.specs.Instances.{Instance}
 use Rattle.nest_model.specs.Meaning.{has_value, value_of}
@@ -42,7 +43,7 @@ use Rattle.seq_meaning.specs.Loads.{cells_of_load, is_first_within, is_load_with
 use Rattle.seq_meaning.proofs.Found.{Found, FoundFirsts}
 use Rattle.seq_meaning.proofs.Registers.{line_cells, lines_within}
 use Rattle.seq_meaning.proofs.RunInstances.{placed_work}
-use Rattle.seq_meaning.proofs.RunSteps.{assign_same, assign_valued, items_loads-length, placed-firsts, placed-found, placed-good, same_work, texts_same, texts_there}
+use Rattle.seq_meaning.proofs.RunSteps.{assign_same, assign_valued, items_loads-length, placed-firsts, placed-found, placed-good, texts_same, texts_there, only_one}
 use Rattle.spmd_model.specs.Deeds.{Deed, last_deed, loading, printing, storing}
 use Rattle.spmd_turns.specs.Executors.{Begins}
 use Rattle.spmd_turns.specs.Loads.{widths}
@@ -63,10 +64,6 @@ all_firsts n m values [] more h = refl
 all_firsts n m values (l ∷ loads) more h =
     let parts = and_parts (is_first_within n values l) (list_all (is_first_within n values) loads) h in
     and_from (is_first_within m values l) (list_all (is_first_within m values) loads) (grind (arith, nat_tests, ltb-true (first_of_load values l) n parts.0, more)) (all_firsts n m values loads more parts.1)
-
-one_in : (o : Option ℕ) (n : ℕ) → n ∷ [] ≡ option_to_list o → o ≡ Some n
-one_in None n h = cc
-one_in (Some k) n h = cc
 
 module _ (tree : Tree) (path : Path) (stop : Stop) (left : List Deed) (b : Begins tree (rounds_of path) stop left) where
   abbrev pub rounds : List Round
@@ -174,7 +171,7 @@ module _ (tree : Tree) (path : Path) (stop : Stop) (left : List Deed) (b : Begin
 
         module _ (f : CellForm) (stored : cells.store ≡ Some f) (k : ℕ) (values : List ℤ) (k_is : k ≡ cell_at f values) (depth : values ≡ by_depth (rounds_of path)) where
           store_is : store_of tree i ≡ Some k
-          store_is = one_in (store_of tree i) k (ap (λ n. n ∷ []) (k_is ∙ ap (cell_at f) depth) ∙ stored_by (Some f) stored)
+          store_is = only_one (store_of tree i) k (ap (λ n. n ∷ []) (k_is ∙ ap (cell_at f) depth) ∙ stored_by (Some f) stored)
 
           pub store_small : IsWithinLimits tree → k < 1048576
           store_small limits =

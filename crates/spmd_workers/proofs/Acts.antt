@@ -1,14 +1,15 @@
 -- A processor's acts by its deeds, and where its seat stands in front of each.
-use Rattle.std.proofs.Common.{◌≡◌, ℕ, suc, ◌+◌, ◌<◌, ◌≤◌, ℤ, true, false, List, ◌∷◌, drop, Some, refl, ◌∙◌, ap, arith, if◌then◌else◌, drop-cons}
+use Rattle.std.proofs.Common.{◌≡◌, ℕ, suc, ◌+◌, ◌<◌, ◌≤◌, ℤ, true, false, List, drop, Some, refl, ◌∙◌, ap, arith, if◌then◌else◌}
 use Rattle.std.specs.Prelude.{slice_get}
 use Rattle.std.proofs.lemmas.Bool.{le-leb, lt-leb}
-use Rattle.std.proofs.lemmas.Option.{get_or_from_slice_get, slice_get_within}
 use Rattle.nest_tree.specs.Layout.{cell_count}
 use Rattle.spmd_model.specs.Deeds.{deed_of, posting, awaiting, loading, storing, adding, printing}
 use Rattle.spmd_model.specs.Machines.{machine_by}
 use Rattle.spmd_model.specs.Timelines as Timelines
 use Rattle.spmd_model.specs.Timelines.{Act, Word, post, await, load, store, add, print}
 use Rattle.spmd_model.specs.Protocols.{act_at, is_passed, passed_first, settled}
+use Rattle.spmd_model.proofs.Deeds.{await_is}
+use Rattle.spmd_turns.proofs.LoadPlaces.{drop_there}
 use Rattle.shared_words.specs.Places.{settled_at}
 use Rattle.shared_words.specs.Homes.{Home, protocol_at}
 use Rattle.spmd_workers.specs.Held.{AreHeld}
@@ -56,29 +57,18 @@ post_is m (store t c) word number h = absurd (cc)
 post_is m (add t c) word number h = absurd (cc)
 post_is m (print t) word number h = absurd (cc)
 
-await_is : (m : Timelines.Machine) (a : Act) (word : Word) (on wanted : ℕ) → deed_of m a ≡ awaiting word on wanted → a ≡ await word on wanted
-await_is m (post w k) word on wanted h = absurd (cc)
-await_is m (await w q k) word on wanted h = let of : w ≡ word = cc in let same : q ≡ on = cc in let wants : k ≡ wanted = cc in cc
-await_is m (load t c) word on wanted h = absurd (cc)
-await_is m (store t c) word on wanted h = absurd (cc)
-await_is m (add t c) word on wanted h = absurd (cc)
-await_is m (print t) word on wanted h = absurd (cc)
-
 -- ---- places behind acts that nobody else sees
-
-pub drop_act : {X : Type 0} (acts : List X) (n : ℕ) (a : X) → slice_get acts n ≡ Some a → drop n acts ≡ a ∷ drop (suc n) acts
-drop_act acts n a e = drop-cons acts n a (slice_get_within acts n a e) ∙ ap (λ x. x ∷ drop (suc n) acts) (get_or_from_slice_get acts n a a e)
 
 pub seen_settled : (cells : ℕ) (acts : List Act) (n : ℕ) (a : Act) → slice_get acts n ≡ Some a → is_passed cells a ≡ false → settled cells acts n ≡ n
 seen_settled cells acts n a e seen =
-    let none : passed_first cells (drop n acts) ≡ 0 = ap (passed_first cells) (drop_act acts n a e) ∙ ap (λ b. if b then passed_first cells (drop (suc n) acts) + 1 else 0) seen in
+    let none : passed_first cells (drop n acts) ≡ 0 = ap (passed_first cells) (drop_there acts n a e) ∙ ap (λ b. if b then passed_first cells (drop (suc n) acts) + 1 else 0) seen in
     omega (arith, none)
 
 pub passed_settled : (cells : ℕ) (acts : List Act) (n : ℕ) (a : Act) → slice_get acts n ≡ Some a → is_passed cells a ≡ true → settled cells acts n ≡ settled cells acts (n + 1)
 passed_settled cells acts n a e passed =
     let one : suc n ≡ n + 1 = omega arith in
     let more : passed_first cells (drop n acts) ≡ passed_first cells (drop (n + 1) acts) + 1 =
-    ap (passed_first cells) (drop_act acts n a e) ∙ ap (λ b. if b then passed_first cells (drop (suc n) acts) + 1 else 0) passed ∙ ap (λ k. passed_first cells (drop k acts) + 1) one in
+    ap (passed_first cells) (drop_there acts n a e) ∙ ap (λ b. if b then passed_first cells (drop (suc n) acts) + 1 else 0) passed ∙ ap (λ k. passed_first cells (drop k acts) + 1) one in
     omega (arith, more)
 
 -- ---- in a program that can be run

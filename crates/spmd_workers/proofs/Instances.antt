@@ -1,18 +1,18 @@
 -- Instances that come next of a walk.
-use Rattle.std.proofs.Common.{◌≡◌, ℕ, ◌+◌, ◌≤◌, true, false, IsTrue, List, [], ◌∷◌, ◌++◌, length, map, refl, sym, ◌∙◌, ap, subst, arith, sum_by, if◌then◌else◌}
+use Rattle.std.proofs.Common.{◌≡◌, ℕ, ◌+◌, ◌≤◌, true, false, IsTrue, List, [], ◌∷◌, ◌++◌, length, map, refl, sym, ◌∙◌, ap, subst, arith, sum_by}
 use Rattle.std.specs.List.{flat_map, list_all}
 use Rattle.std.specs.Option.{option_map}
 use Rattle.std.proofs.lemmas.Bool.{and_from, and_parts}
 use Rattle.std.proofs.lemmas.Grind.{flat_map-append}
 use Rattle.std.proofs.lemmas.List.{length-map, map-append}
 use Rattle.std.proofs.lemmas.List.Sums.{sum_by-cons}
-use Rattle.nest_tree.specs.Tree.{Tree, do_loop, work, continue, param_values, Statement}
+use Rattle.nest_tree.specs.Tree.{Tree, param_values}
 use Rattle.nest_tree.specs.View.{statement_of}
 use Rattle.nest_model.specs.Accesses.{loads_of, store_of}
-use Rattle.nest_model.specs.Instances.{Instance, is_executed}
+use Rattle.nest_model.specs.Instances.{Instance}
 use Rattle.nest_model.specs.Memory.{assigned_value, line_of}
 use Rattle.nest_model.specs.Ranges.{is_instance_inside}
-use Rattle.nest_model.specs.Visits.{Visit, every, instances_at}
+use Rattle.nest_model.specs.Visits.{every, instances_at}
 use Rattle.nest_walk.specs.Cursors.{is_reached, visit_at}
 use Rattle.nest_walk.specs.Paths.{Round}
 use Rattle.nest_walk.specs.Places.{numbers_of}
@@ -25,11 +25,12 @@ use Rattle.own_cells.specs.OwnCells.{AreFew, AreOwnCells}
 use Rattle.spmd_model.specs.Deeds.{Deed, instance_deeds, last_deed, loading}
 use Rattle.spmd_model.specs.MachineDeeds.{own_deeds}
 use Rattle.spmd_turns.specs.Executors.{Begins, executor_output, executor_room, executor_tree}
-use Rattle.spmd_turns.specs.Rooms.{statement_room, turn_room, visit_room}
+use Rattle.spmd_turns.specs.Rooms.{turn_room, visit_room}
 use Rattle.spmd_turns.specs.Turns.{works}
 use Rattle.spmd_turns.specs.TurnsLeft.{IsInstance, turns_tree}
 use Rattle.styled_turns.specs.StyledTurns.{StyledTurn, runs, styled_deeds, styled_room}
 use Rattle.styled_turns.specs.StyledLeft.{styled_left, styled_own, styled_place, styled_plan, styled_rounds, styled_tree}
+use Rattle.fork_join.proofs.Walking.{same_room}
 use Rattle.shared_words.specs.Homes.{Home}
 use Rattle.spmd_workers.specs.OwnPlaces.{AreKnown}
 use Rattle.spmd_workers.specs.Places.{deeds_in, left_behind, plan_at, tree_at}
@@ -67,21 +68,6 @@ instances_no_posts tree o p (i ∷ is) =
     (instances_no_posts tree o p is)
 
 -- ---- the room of an instance
-
-pub same_room : (tree : Tree) (rounds : List Round) (stop : Stop) (at : IsInstance tree rounds stop) → visit_room tree (visit_at tree rounds stop) ≡ turn_room tree (works at.instance)
-same_room tree rounds stop at = by (visit_at tree rounds stop) at.instance at.is
-  where
-    executed : (b : _) (i j : Instance) → (if b then i ∷ [] else []) ≡ j ∷ [] → j ≡ i
-    executed true i j is = cc
-    executed false i j is = absurd (cc)
-
-    by : (v : Visit) (i : Instance) → instances_at (param_values tree) v ≡ i ∷ [] → visit_room tree v ≡ turn_room tree (works i)
-    by v i is = on v.what is
-      where
-        on : (s : Statement) → instances_at (param_values tree) (record { place = v.place; first = v.first; what = s; loops = v.loops }) ≡ i ∷ [] → statement_room tree s ≡ turn_room tree (works i)
-        on (do_loop head body) is = absurd (cc)
-        on (work w) is = ap (λ (j : Instance). turn_room tree (works j)) (sym (executed (is_executed w v.loops (param_values tree)) (record { statement = v.first; what = w; loops = v.loops }) i is))
-        on (continue line) is = absurd (cc)
 
 -- an instance of one tree with some loops is one of the same with the same
 pub moved_instance : (t u : Tree) (rounds others : List Round) (stop : Stop) → t ≡ u → rounds ≡ others → (at : IsInstance t rounds stop) → (here : IsInstance u others stop) × (here.instance ≡ at.instance)

@@ -1,5 +1,5 @@
 -- What a processor's own cells hold behind one act more.
-use Rattle.std.proofs.Common.{◌≡◌, ◌≢◌, ◌==◌, ℕ, suc, ◌+◌, ◌<◌, ℤ, pos, true, false, List, [], ◌∷◌, get_or, length, map, set, Some, if◌then◌else◌, refl, sym, ◌∙◌, ap, inl, inr, arith, length-set}
+use Rattle.std.proofs.Common.{◌≡◌, ◌≢◌, ◌==◌, ℕ, suc, ◌+◌, ◌<◌, ℤ, pos, true, false, get_or, length, set, Some, if◌then◌else◌, refl, sym, ◌∙◌, ap, inl, inr, arith, length-set}
 use Rattle.std.specs.List.{range_with_len}
 use Rattle.std.proofs.lemmas.Bool.{cases_Bool, cases_eq, eq-eqb, eqb-true}
 use Rattle.std.proofs.lemmas.List.{ext_get_or, get_or-set_other, get_or-set_same}
@@ -7,12 +7,9 @@ use Rattle.std.proofs.lemmas.List.FromFn.{get_or-map-range_with_len, length-map-
 use Rattle.nest_tree.specs.Layout.{cell_count}
 use Rattle.spmd_model.specs.Timelines.{Act, Word, post, await, load, store, add, print}
 use Rattle.spmd_model.specs.Protocols.{act_at, held_at, held_by}
+use Rattle.spmd_model.proofs.OwnRuns.{same_values}
 use Rattle.shared_words.specs.Homes.{Home, protocol_at}
 use Rattle.spmd_workers.specs.Places.{held_cells, own_place, tree_at}
-
-same_map : (f g : ℕ → ℤ) → ((k : ℕ) → f k ≡ g k) → (ks : List ℕ) → map f ks ≡ map g ks
-same_map f g same [] = refl
-same_map f g same (k ∷ ks) = (λ i. same k i ∷ same_map f g same ks i)
 
 apart : (a b : ℕ) → a ≢ b → (a == b) ≡ false
 apart a b other = elim (cases_Bool (a == b)) [
@@ -30,7 +27,7 @@ module _ (h : Home) (p n : ℕ) where
   -- an act that stores to none of them leaves them
   leaves : (a : Act) → act_at (protocol_at h) p n ≡ Some a → ((k : ℕ) (w v : ℤ) → held_by (own_place h p k) w v (Some a) ≡ v) → held_cells h p (n + 1) ≡ held_cells h p n
   leaves a e same =
-      same_map (λ k. held_at (protocol_at h) p (own_place h p k) (n + 1)) (λ k. held_at (protocol_at h) p (own_place h p k) n)
+      same_values (λ k. held_at (protocol_at h) p (own_place h p k) (n + 1)) (λ k. held_at (protocol_at h) p (own_place h p k) n)
       (λ k. held_next (own_place h p k) ∙ ap (held_by (own_place h p k) ((protocol_at h).stored_at p n) (held_at (protocol_at h) p (own_place h p k) n)) e ∙ same k ((protocol_at h).stored_at p n) (held_at (protocol_at h) p (own_place h p k) n))
       (range_with_len 0 32)
 

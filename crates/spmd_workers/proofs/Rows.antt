@@ -19,11 +19,12 @@ use Rattle.spmd_model.specs.Protocols.{act_at, arrivals_at, arrived, is_gathered
 use Rattle.spmd_model.specs.Viewed.{barriers_in_front}
 use Rattle.spmd_turns.specs.Turns.{Turn, awaits, begins, boundary_turns, phase_turns, turns_from, works}
 use Rattle.spmd_turns.proofs.TurnLists.{drop_at}
+use Rattle.spmd_turns.proofs.LoadPlaces.{drop_there}
 use Rattle.shared_words.specs.Places.{row_first}
 use Rattle.shared_words.specs.Homes.{Home, protocol_at}
 use Rattle.spmd_workers.specs.Held.{AreHeld}
 use Rattle.spmd_workers.specs.Places.{deeds_at, held_cells, plan_at, style_at, tree_at}
-use Rattle.spmd_workers.proofs.Acts.{await_there, drop_act}
+use Rattle.spmd_workers.proofs.Acts.{await_there}
 use Rattle.spmd_workers.proofs.OwnHeld.{await_keeps}
 
 -- ---- turns behind the beginning of a phase
@@ -186,7 +187,7 @@ module _ (h : Home) (held : AreHeld h) (p : ℕ) (below : p < (protocol_at h).wo
       let next : n + length (q ∷ qs) ≡ suc n + length qs = omega arith in
       let one : n + 1 ≡ suc n = omega arith in
       let first : row_first (protocol_at h) (drop n ((protocol_at h).acts p)) ≡ row_first (protocol_at h) (drop (suc n) ((protocol_at h).acts p)) + 1 =
-      ap (row_first (protocol_at h)) (drop_act ((protocol_at h).acts p) n (await counter q number) act) ∙ ap (λ b. if b then row_first (protocol_at h) (drop (suc n) ((protocol_at h).acts p)) + 1 else 0) g in
+      ap (row_first (protocol_at h)) (drop_there ((protocol_at h).acts p) n (await counter q number) act) ∙ ap (λ b. if b then row_first (protocol_at h) (drop (suc n) ((protocol_at h).acts p)) + 1 else 0) g in
       let behind = ap (λ k. row_first (protocol_at h) (drop k ((protocol_at h).acts p))) next in
       record {
         row = omega (arith, first, rest.row, behind);
@@ -240,4 +241,4 @@ row_ends h held p n k number on inside act g arrivals first = by (drop k ((proto
             let both : Some a.0 ≡ Some (await counter q w) = sym a.1 ∙ there in
             let same : a.0 ≡ await counter q w = cc in
             let deed : d ≡ awaiting counter q w = sym a.2 ∙ ap (deed_of (machine_by (style_at h) (tree_at h) (plan_at h))) same in
-            drop_act ds k d e ∙ ap (λ z. z ∷ drop (suc k) ds) deed
+            drop_there ds k d e ∙ ap (λ z. z ∷ drop (suc k) ds) deed

@@ -1,10 +1,10 @@
 -- Loads, stores, additions and PRINTs through a processor's seat and its own cells.
-use Rattle.std.proofs.Common.{◌≡◌, ◌==◌, ◌&&◌, ◌||◌, ◌⊎◌, ⊎_elim, ℕ, suc, ◌+◌, ◌<◌, ◌≤◌, nat_le, nat_lt, ℤ, pos, Bool, true, false, List, [], ◌∷◌, ◌++◌, drop, get_or, length, set, Some, refl, sym, ◌∙◌, ap, inl, inr, arith, if◌then◌else◌}
+use Rattle.std.proofs.Common.{◌≡◌, ◌==◌, ◌&&◌, ◌⊎◌, ⊎_elim, ℕ, suc, ◌+◌, ◌<◌, ◌≤◌, nat_le, nat_lt, ℤ, pos, true, List, [], ◌∷◌, ◌++◌, drop, get_or, length, set, Some, refl, sym, ◌∙◌, ap, inl, inr, arith, if◌then◌else◌}
 use Rattle.std.specs.Prelude.{slice_get}
 use Rattle.std.specs.Cmp.Lexicographic.{pointwise}
 use Rattle.std.specs.Cmp.Rules.{signed_items}
 use Rattle.std.specs.Ordering.{int_eq}
-use Rattle.std.proofs.lemmas.Bool.{and_from, and_parts, cases_Bool, eqb-true, eq-eqb, le-leb, leb-true, lt-ltb, ltb-true, or_left, or_right}
+use Rattle.std.proofs.lemmas.Bool.{and_from, and_parts, cases_Bool, eqb-true, eq-eqb, le-leb, leb-true, lt-ltb, ltb-true, or_left, or_right, or_cases}
 use Rattle.std.proofs.lemmas.Option.{slice_get_within}
 use Rattle.nest_tree.specs.Layout.{cell_count}
 use Rattle.spmd_model.specs.Deeds.{Deed, adding, loading, posting, storing, printing}
@@ -28,10 +28,6 @@ on_same v =
     or_left (v.position == v.position && (v.misses == v.misses && v.seen == v.seen)) (nat_lt v.position v.position && v.misses == 0)
     (and_from (v.position == v.position) (v.misses == v.misses && v.seen == v.seen) (eq-eqb v.position v.position refl) (and_from (v.misses == v.misses) (v.seen == v.seen) (eq-eqb v.misses v.misses refl) (eq-eqb v.seen v.seen refl)))
 
-on_cases : (a b : Bool) → (a || b) ≡ true → (a ≡ true) ⊎ (b ≡ true)
-on_cases true b is = inl refl
-on_cases false b is = inr is
-
 pub on_is : (from v : CellView) → is_on from v ≡ true → ((v.position ≡ from.position) × (v.misses ≡ from.misses) × (v.seen ≡ from.seen)) ⊎ ((from.position < v.position) × (v.misses ≡ 0))
 on_is from v on = ⊎_elim
     (λ stays.
@@ -39,7 +35,7 @@ on_is from v on = ⊎_elim
     let polls = and_parts (v.misses == from.misses) (v.seen == from.seen) both.1 in
     inl (eqb-true v.position from.position both.0, eqb-true v.misses from.misses polls.0, eqb-true v.seen from.seen polls.1))
     (λ goes. let both = and_parts (nat_lt from.position v.position) (v.misses == 0) goes in inr (ltb-true from.position v.position both.0, eqb-true v.misses 0 both.1))
-    (on_cases (v.position == from.position && (v.misses == from.misses && v.seen == from.seen)) (nat_lt from.position v.position && v.misses == 0) on)
+    (or_cases (v.position == from.position && (v.misses == from.misses && v.seen == from.seen)) (nat_lt from.position v.position && v.misses == 0) on)
 
 pub on_gone : (from v : CellView) → is_on from v ≡ true → is_on from (gone v) ≡ true
 on_gone from v on =

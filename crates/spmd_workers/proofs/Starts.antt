@@ -28,6 +28,7 @@ use Rattle.spmd_model.proofs.CellsThere.{cells_there}
 use Rattle.spmd_model.proofs.PhaseJobs.{all_fine}
 use Rattle.spmd_model.proofs.TripJobs.{IsFineIn}
 use Rattle.spmd_model.specs.Protocols.{held_at}
+use Rattle.spmd_model.proofs.ProtocolLists.{get_drop}
 use Rattle.spmd_turns.specs.Executors.{CanExecute, executor_output, executor_room, executor_tree}
 use Rattle.spmd_turns.specs.Rooms.{longest_output, statement_room, turn_room}
 use Rattle.spmd_turns.specs.Turns.{Turn, awaits, begins, boundary_turns, phase_turns, posts, turns_from, works}
@@ -44,7 +45,7 @@ use Rattle.spmd_workers.specs.Places.{deeds_at, deeds_in, held_cells, own_place,
 use Rattle.spmd_workers.specs.Walks.{IsReady, is_instance_there, is_styled_there, walk_place}
 use Rattle.spmd_workers.specs.declared.walk.Walk.{Walk}
 use Rattle.spmd_workers.proofs.Acts.{print_there}
-use Rattle.spmd_workers.proofs.Steps.{get_drop, no_post_between}
+use Rattle.spmd_workers.proofs.Steps.{no_post_between}
 use Rattle.spmd_workers.proofs.Walks.{drop_place, place_is}
 
 -- ---- instances of the plain turns are the program's, each access and each cell

@@ -11,6 +11,7 @@ use Rattle.sync_plan.specs.Boundaries.{is_barrier, is_join, joins, kind_before}
 use Rattle.spmd_model.specs.Deeds.{awaiting, posting}
 use Rattle.spmd_model.specs.Timelines.{Act, Word, await, counter, post, signal}
 use Rattle.spmd_model.specs.Protocols.{act_at, is_passed, passed_first, settled}
+use Rattle.spmd_model.proofs.ProtocolLists.{get_drop}
 use Rattle.spmd_turns.specs.Executors.{CanExecute, executor_output, executor_room, executor_tree}
 use Rattle.spmd_turns.specs.Turns.{boundary_at, boundary_of}
 use Rattle.spmd_turns.specs.declared.turns.Boundary.{Boundary}
@@ -90,11 +91,6 @@ first_passed cells (x ∷ xs) (suc j) a lt e = elim (cases_Bool (is_passed cells
   | inl passed ↦ (let more : passed_first cells (x ∷ xs) ≡ passed_first cells xs + 1 = ap (λ b. if b then passed_first cells xs + 1 else 0) passed in first_passed cells xs j a (omega (arith, more, lt)) e)
   | inr seen ↦ (let none : passed_first cells (x ∷ xs) ≡ 0 = ap (λ b. if b then passed_first cells xs + 1 else 0) seen in absurd (omega (arith, none, lt)))
 ]
-
-pub get_drop : {X : Type 0} (xs : List X) (n k : ℕ) → slice_get (drop n xs) k ≡ slice_get xs (n + k)
-get_drop xs zero k = ap (slice_get xs) (omega arith)
-get_drop [] (suc n) k = refl
-get_drop (x ∷ xs) (suc n) k = get_drop xs n k ∙ ap (slice_get (x ∷ xs)) (let e : suc (n + k) ≡ suc n + k = omega arith in e)
 
 -- no post stands among acts that are passed
 pub no_post_between : (cells : ℕ) (acts : List Act) (n k number : ℕ) → n ≤ k → k < settled cells acts n → slice_get acts k ≡ Some (post counter number) → ⊥

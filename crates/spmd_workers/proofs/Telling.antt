@@ -1,8 +1,8 @@
 -- The main seat and all workers' seats tell each other what they know.
-use Rattle.std.proofs.Common.{◌≡◌, ◌≢◌, ℕ, zero, suc, ◌+◌, ◌<◌, ◌≤◌, List, [], ◌∷◌, get_or, length, set, refl, sym, ◌∙◌, ap, subst, inl, inr, length-set, get_or-set_same, get_or-set_other, arith}
+use Rattle.std.proofs.Common.{◌≡◌, ◌≢◌, ℕ, ◌+◌, ◌<◌, ◌≤◌, List, length, set, refl, sym, ◌∙◌, ap, subst, inl, inr, length-set, get_or-set_same, get_or-set_other, arith}
 use Rattle.std.specs.Prelude.{slice_index}
 use Rattle.std.proofs.lemmas.Bool.{cases_eq}
-use Rattle.std.proofs.lemmas.List.{set-get_or}
+use Rattle.std.proofs.lemmas.List.{set-get_or, get_or_default}
 use Rattle.crossbeam_utils.specs.declared.cache_padded.CachePadded.{CachePadded}
 use Rattle.crossbeam_utils.specs.Padded.{padded_value}
 use Rattle.shared_words.specs.Homes.{Home, IsSameTable, MainView, at_place, main_in}
@@ -11,11 +11,6 @@ use Rattle.spmd_workers.specs.Workers.{IsPlaced, WorkerView, worker_in}
 
 pub same_tables : (a b c : Home) → IsSameTable a b → IsSameTable b c → IsSameTable a c
 same_tables a b c x y = (x.0 ∙ y.0, x.1 ∙ y.1)
-
-any : {X : Type 0} (l : List X) (i : ℕ) (a b : X) → i < length l → get_or l i a ≡ get_or l i b
-any [] i a b lt = absurd (omega (arith, lt))
-any (x ∷ xs) zero a b lt = refl
-any (x ∷ xs) (suc i) a b lt = any xs i a b (omega (arith, lt))
 
 pub told_none : (main : MainView) (workers : List (CachePadded WorkerView)) → AreSeatedIn main.home workers → HasTold main main workers workers 0
 told_none main workers seated = record {
@@ -45,7 +40,7 @@ module _ (old main new : MainView) (before now after : List (CachePadded WorkerV
 
   at_here : (d : CachePadded WorkerView) → worker_at after p d ≡ worker_in new.home (worker_at before p d)
   at_here d =
-      ap (λ l. worker_at l p d) written ∙ ap padded_value (get_or-set_same now p w d (let same = done.count in omega (arith, same, inside))) ∙ at_seat ∙ ap (worker_in new.home) (done.kept p from inside) ∙ ap (λ x. worker_in new.home (padded_value x)) (any before p from d inside)
+      ap (λ l. worker_at l p d) written ∙ ap padded_value (get_or-set_same now p w d (let same = done.count in omega (arith, same, inside))) ∙ at_seat ∙ ap (worker_in new.home) (done.kept p from inside) ∙ ap (λ x. worker_in new.home (padded_value x)) (get_or_default before p from d inside)
 
   at_else : (q : ℕ) (d : CachePadded WorkerView) → q ≢ p → worker_at after q d ≡ worker_at now q d
   at_else q d ne = ap (λ l. worker_at l q d) written ∙ ap padded_value (get_or-set_other now p q w d ne)
@@ -60,7 +55,7 @@ module _ (old main new : MainView) (before now after : List (CachePadded WorkerV
 
   learnt_on : (q : ℕ) (d : CachePadded WorkerView) → q < p + 1 → q < length before → slice_index new.home.known q ≡ (worker_at before q d).seat.position
   learnt_on q d low lt = ap (λ (h : Home). slice_index h.known q) here ∙ (elim (cases_eq q p) [
-    | inl e ↦ ap (slice_index (set main.home.known p posn)) e ∙ get_or-set_same main.home.known p posn 0 (let size = done.long in omega (arith, size, inside, long)) ∙ ap (λ (x : CachePadded WorkerView). (padded_value x).seat.position) (any before p from d inside) ∙ ap (λ k. (worker_at before k d).seat.position) (sym e)
+    | inl e ↦ ap (slice_index (set main.home.known p posn)) e ∙ get_or-set_same main.home.known p posn 0 (let size = done.long in omega (arith, size, inside, long)) ∙ ap (λ (x : CachePadded WorkerView). (padded_value x).seat.position) (get_or_default before p from d inside) ∙ ap (λ k. (worker_at before k d).seat.position) (sym e)
     | inr ne ↦ get_or-set_other main.home.known p q posn 0 ne ∙ done.learnt q d (omega (arith, low, ne)) lt
   ])
 

@@ -9,6 +9,7 @@ use Rattle.spmd_model.specs.Deeds.{Deed, deed_of, awaiting, last_deed, adding, l
 use Rattle.spmd_model.specs.Machines.{machine_by}
 use Rattle.spmd_model.specs.Timelines.{counter, post}
 use Rattle.spmd_model.specs.Protocols.{act_at}
+use Rattle.spmd_model.proofs.ProtocolLists.{get_drop}
 use Rattle.spmd_turns.specs.Executors.{CanExecute, executor_output, executor_room, executor_tree}
 use Rattle.styled_turns.specs.StyledTurns.{StyledTurn, styled_deeds, styled_room}
 use Rattle.styled_turns.specs.StyledLeft.{beginnings_left, styled_left}
@@ -20,7 +21,7 @@ use Rattle.spmd_workers.specs.Places.{deeds_at, deeds_in, held_cells, left_behin
 use Rattle.spmd_workers.specs.Walks.{GoesTo, IsReady, LeadsOn, walk_place}
 use Rattle.spmd_workers.specs.declared.walk.Walk.{Walk}
 use Rattle.spmd_workers.proofs.SharedSteps.{Shows, left_shows, on_further}
-use Rattle.spmd_workers.proofs.Steps.{answered_more, no_post_between, get_drop}
+use Rattle.spmd_workers.proofs.Steps.{answered_more, no_post_between}
 use Rattle.spmd_workers.proofs.Walks.{HasCome, Passes, drop_here, its_worker, passed_ready, place_more, whole_deeds}
 
 -- a deed that is no post

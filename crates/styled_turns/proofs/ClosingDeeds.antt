@@ -5,18 +5,18 @@ use Rattle.std.specs.List.{filter, flat_map, range_with_len}
 use Rattle.std.proofs.lemmas.Bool.{cases_Bool, eqb-true, eqb-false, lt-ltb, ltb-true}
 use Rattle.std.proofs.lemmas.Grind.{flat_map-append}
 use Rattle.std.proofs.lemmas.Option.{get_or_from_slice_get, slice_get_within}
+use Rattle.list_lemmas.proofs.Elements.{contains_at}
+use Rattle.list_lemmas.proofs.Ranges.{range_split}
 use Rattle.nest_tree.specs.Layout.{first_cell}
 use Rattle.nest_tree.specs.Tree.{Tree}
 use Rattle.nest_model.specs.Visits.{Visit}
 use Rattle.sync_plan.specs.Own.{Own, OwnLoop, at_slot, own_cell, own_loop, own_of}
 use Rattle.sync_plan.specs.declared.plan.Plan.{Plan}
-use Rattle.sync_plan.proofs.ProcessorSets.{range_split}
 use Rattle.spmd_model.specs.Closings.{has_stored, last_owner}
 use Rattle.spmd_model.specs.Deeds.{Deed}
 use Rattle.spmd_model.specs.MachineDeeds.{closing_deeds, kept_by, keeping_deeds, totalled_by, totalling_deeds}
 use Rattle.styled_turns.specs.StyledTurns.{closes, close_deeds, scalar_at}
 use Rattle.styled_turns.proofs.FrontDeeds.{doing}
-use Rattle.spmd_model.proofs.Lists.{contains_at}
 
 -- ---- lists
 

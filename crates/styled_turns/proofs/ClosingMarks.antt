@@ -4,6 +4,7 @@ use Rattle.std.specs.Prelude.{slice_get}
 use Rattle.std.specs.List.{filter, list_any, range_with_len}
 use Rattle.std.proofs.lemmas.Bool.{cases_Bool, eqb-true, eqb-false, ltb-true, ltb-false}
 use Rattle.std.proofs.lemmas.List.{get_or-set_other, get_or-set_same}
+use Rattle.std.proofs.Math.Bool.{or_assoc}
 use Rattle.nest_tree.proofs.FirstLimits.{at_replicate}
 use Rattle.nest_tree.specs.Tree.{Tree, param_values}
 use Rattle.nest_model.specs.Instances.{Instance}
@@ -22,10 +23,6 @@ or_none false = refl
 or_all : (b : Bool) → (b || true) ≡ true
 or_all true = refl
 or_all false = refl
-
-or_assoc : (a b c : Bool) → ((a || b) || c) ≡ (a || (b || c))
-or_assoc true b c = refl
-or_assoc false b c = refl
 
 -- ---- one mark more
 

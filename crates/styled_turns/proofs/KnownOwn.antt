@@ -8,6 +8,8 @@ use Rattle.std.proofs.lemmas.List.Elements.{All-nil}
 use Rattle.std.proofs.lemmas.List.Quantifiers.{position-Some}
 use Rattle.std.proofs.lemmas.Option.{slice_get-get_or, slice_get_past}
 use Rattle.std.proofs.lemmas.List.{get_or_past}
+use Rattle.list_lemmas.proofs.Elements.{contains_at}
+use Rattle.list_lemmas.proofs.Each.{passes_at}
 use Rattle.nest_tree.specs.Tree.{Statement, Statements, do_loop, work, continue, done, next, Work, assign, print, Tree, param_values}
 use Rattle.nest_tree.specs.WellFormed.{IsWellFormed, Scope, are_good_statements, is_good_statement, is_number_of, loops_in, loops_of, scope_of, statement_count, statements_in}
 use Rattle.nest_tree.proofs.Cells.{well_formed_parts}
@@ -21,7 +23,6 @@ use Rattle.owner_partition.specs.Marks.{enters_outer, is_sum_mark, marked}
 use Rattle.owner_partition.specs.declared.cut.Mark.{Mark}
 use Rattle.owner_partition.specs.Phases.{phases}
 use Rattle.nest_walk.proofs.Walks.{few_statements}
-use Rattle.sync_plan.proofs.OwnLoops.{passes_at}
 use Rattle.sync_plan.specs.Fit.{IsFit}
 use Rattle.sync_plan.specs.Own.{OwnLoop, own_loop, own_loop_at, own_loop_of}
 use Rattle.sync_plan.specs.Shape.{static_phases}
@@ -39,7 +40,6 @@ use Rattle.styled_turns.specs.StyledTurns.{Standing, behind, ends_loop, ends_pha
 use Rattle.styled_turns.specs.StyledLeft.{IsOwnPlace, IsPlaced}
 use Rattle.styled_turns.proofs.ClosingMarks.{behind_length, behind_one, is_at, marks}
 use Rattle.styled_turns.proofs.OwnSlots.{few_privates, few_sums}
-use Rattle.spmd_model.proofs.Lists.{contains_at}
 
 -- ---- they are few, and the program's
 

@@ -6,6 +6,7 @@ use Rattle.std.proofs.lemmas.Bool.{and_parts, eqb-true, eq-eqb, ltb-true}
 use Rattle.std.proofs.lemmas.List.{get_or-set_other, get_or-set_same}
 use Rattle.std.proofs.lemmas.List.Elements.{All-append, All-cons, All-nil, All-weaker}
 use Rattle.std.proofs.lemmas.List.Folds.{list_any-append}
+use Rattle.list_lemmas.proofs.Ranges.{range_split}
 use Rattle.nest_tree.specs.Form.{Form, dot, form_value, is_form, is_small, numbered, rises_above}
 use Rattle.nest_tree.specs.Limits.{IsWithinLimits}
 use Rattle.nest_tree.specs.Tree.{Head, Statement, Statements, do_loop, work, continue, done, next, Tree, param_values}
@@ -28,7 +29,6 @@ use Rattle.sync_plan.specs.Shape.{static_phases}
 use Rattle.sync_plan.specs.declared.plan.Plan.{Plan}
 use Rattle.sync_plan.proofs.FitOwners.{agree_among, named_low}
 use Rattle.sync_plan.proofs.PhasePlaces.{visit_there}
-use Rattle.sync_plan.proofs.ProcessorSets.{range_split}
 use Rattle.own_cells.specs.FinalTrips.{is_past}
 use Rattle.spmd_model.specs.Closings.{last_owner, phase_owner}
 use Rattle.spmd_model.specs.Deeds.{owned_by}

@@ -4,7 +4,8 @@ use Rattle.std.specs.Prelude.{slice_index_or, slice_set}
 use Rattle.std.specs.List.{filter, range_with_len}
 use Rattle.std.proofs.lemmas.List.{get_or-set_other, get_or-set_same}
 use Rattle.std.proofs.lemmas.List.Elements.{filter-append}
-use Rattle.sync_plan.proofs.ProcessorSets.{filter_none, filter_range, range_split}
+use Rattle.list_lemmas.proofs.Ranges.{range_split}
+use Rattle.sync_plan.proofs.ProcessorSets.{filter_none, filter_range}
 use Rattle.styled_turns.specs.StyledTurns.{places_pending}
 
 -- the places before this one are not marked

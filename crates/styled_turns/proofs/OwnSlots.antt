@@ -5,13 +5,13 @@ use Rattle.std.specs.List.{position_or_len}
 use Rattle.std.proofs.lemmas.Bool.{cases_Bool, eqb-true, eq-eqb, lt-ltb}
 use Rattle.std.proofs.lemmas.List.Sums.{position_or_len_is}
 use Rattle.std.proofs.lemmas.Option.{get_or_from_slice_get, slice_get-get_or, slice_get_within}
+use Rattle.list_lemmas.proofs.Elements.{contains_at}
 use Rattle.nest_tree.specs.Layout.{first_cell}
 use Rattle.nest_tree.specs.Tree.{Tree}
 use Rattle.nest_model.specs.Visits.{Visit}
 use Rattle.sync_plan.specs.Own.{OwnLoop, own_loop, own_of, place_in}
 use Rattle.sync_plan.specs.declared.plan.Plan.{Plan}
 use Rattle.spmd_model.proofs.OwnTexts.{AreOwnIn, Ascends, IsScalar, Slots, cell_there, not_both, one_scalar, private_is, private_slot, slots, sum_is, sum_slot}
-use Rattle.spmd_model.proofs.Lists.{contains_at}
 use Rattle.spmd_model.proofs.Stands.{slot_there}
 
 -- the first that passes

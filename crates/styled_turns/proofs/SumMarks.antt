@@ -7,6 +7,7 @@ use Rattle.std.proofs.lemmas.Bool.{and_parts, cases_Bool, eqb-true, eqb-false, e
 use Rattle.std.proofs.lemmas.List.Elements.{All-head, All-tail}
 use Rattle.std.proofs.lemmas.List.Quantifiers.{position-Some}
 use Rattle.std.proofs.lemmas.Option.{get_or_from_slice_get}
+use Rattle.list_lemmas.proofs.Elements.{contains_at}
 use Rattle.nest_tree.specs.Layout.{first_cell}
 use Rattle.nest_tree.specs.Tree.{Tree, Work, assign, print, param_values}
 use Rattle.nest_tree.specs.declared.tree.Access.{Access}
@@ -32,7 +33,6 @@ use Rattle.spmd_model.proofs.PhaseJobs.{all_fine}
 use Rattle.spmd_model.proofs.TripJobs.{IsFineIn}
 use Rattle.styled_turns.proofs.ClosingMarks.{is_at, marks, or_none}
 use Rattle.styled_turns.proofs.OwnSlots.{few_privates, first_place, one_place, sums_rise}
-use Rattle.spmd_model.proofs.Lists.{contains_at}
 
 -- ---- lists
 

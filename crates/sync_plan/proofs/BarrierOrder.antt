@@ -1,10 +1,14 @@
 -- A plan of barriers that fits and has no Doall loop is ordered.
-use Rattle.std.proofs.Common.{◌≡◌, ◌≢◌, ◌==◌, ◌||◌, ◌&&◌, not, ℕ, zero, suc, ◌+◌, ◌-◌, ◌<◌, ◌≤◌, ℤ, pos, ◌+ℤ◌, ◌*ℤ◌, nat_le, nat_lt, Bool, true, false, true≢false, cond, List, [], ◌∷◌, ◌++◌, length, map, get_or, Option, Some, None, if◌then◌else◌, refl, ap, sym, subst, ◌∙◌, inl, inr, arith}
+use Rattle.std.proofs.Common.{◌≡◌, ◌≢◌, ◌==◌, ◌||◌, ◌&&◌, not, ℕ, zero, suc, ◌+◌, ◌-◌, ◌<◌, ◌≤◌, ℤ, pos, ◌+ℤ◌, ◌*ℤ◌, nat_le, nat_lt, Bool, true, false, true≢false, List, [], ◌∷◌, ◌++◌, length, map, get_or, Option, Some, None, if◌then◌else◌, refl, ap, sym, subst, ◌∙◌, inl, inr, arith}
 use Rattle.std.specs.Prelude.{slice_get}
 use Rattle.std.specs.List.{All, Contains, filter, list_all, list_any, range_with_len}
 use Rattle.std.proofs.lemmas.Bool.{and_parts, cases_Bool, cases_eq, cases_lt, eqb-true, ltb-true}
 use Rattle.std.proofs.lemmas.List.Elements.{All-cons, All-get_or, All-head, All-nil, All-tail, All-weaker}
 use Rattle.std.proofs.lemmas.Option.{slice_get-get_or, slice_get_within}
+use Rattle.list_lemmas.proofs.Gets.{get-front, get-behind}
+use Rattle.list_lemmas.proofs.Each.{passes_at}
+use Rattle.list_lemmas.proofs.Elements.{Contains-filter}
+use Rattle.list_lemmas.proofs.Ranges.{range_there}
 use Rattle.nest_tree.specs.Form.{Form, dot, form_value, is_form, is_small, numbered, rises_above}
 use Rattle.nest_tree.specs.Layout.{count_of}
 use Rattle.nest_tree.specs.Limits.{no_ends}
@@ -32,8 +36,7 @@ use Rattle.sync_plan.specs.Shape.{are_good_privates, do_rise, has_good_privates,
 use Rattle.sync_plan.specs.Waits.{awaited_behind, does_wait_at}
 use Rattle.sync_plan.proofs.Fits.{FitParts, fit_parts}
 use Rattle.sync_plan.proofs.FitOwners.{agree_in, good_each, owners_below}
-use Rattle.sync_plan.proofs.Gets.{get-behind, get-front}
-use Rattle.sync_plan.proofs.OwnLoops.{no_scalars, nothing_in, own_among, passes_at}
+use Rattle.sync_plan.proofs.OwnLoops.{no_scalars, nothing_in, own_among}
 use Rattle.sync_plan.proofs.PhasePlaces.{IsThereFrom, all_there, visit_there}
 
 -- ---- where an execution stands
@@ -167,19 +170,8 @@ one_owner tree plan v parts none f (Some a) at =
 
 -- ---- a barrier is a hop between any two processors
 
-in_filter : (test : ℕ → Bool) (a n q : ℕ) → a ≤ q → q < a + n → test q ≡ true → Contains (filter test (range_with_len a n)) q
-in_filter test a zero q low high h = absurd (omega (arith, low, high))
-in_filter test a (suc n) q low high h = by (λ other. in_filter test (a + 1) n q (omega (arith, low, other)) (omega (arith, high)) h) (test a) refl
-  where
-    later : List ℕ
-    later = filter test (range_with_len (a + 1) n)
-
-    by : (a ≢ q → Contains later q) → (b : Bool) → test a ≡ b → Contains (filter test (range_with_len a (suc n))) q
-    by rest true t = subst (λ xs. Contains xs q) (sym (ap (λ b. cond b (a ∷ later) later) t)) (elim (cases_eq a q) [
-      | inl same ↦ (0, omega arith, same)
-      | inr other ↦ let (k, lt, e) = rest other in (suc k, omega (arith, lt), e)
-    ])
-    by rest false t = subst (λ xs. Contains xs q) (sym (ap (λ b. cond b (a ∷ later) later) t)) (rest (λ same. absurd (true≢false (sym h ∙ ap test (sym same) ∙ t))))
+pub in_filter : (test : ℕ → Bool) (a n q : ℕ) → a ≤ q → q < a + n → test q ≡ true → Contains (filter test (range_with_len a n)) q
+in_filter test a n q low high h = Contains-filter test (range_with_len a n) q (range_there a n q low high) h
 
 not_equal : (a b : ℕ) → a ≢ b → (a == b) ≡ false
 not_equal a b ne = elim (cases_Bool (a == b)) [

@@ -71,7 +71,7 @@ none_empty ends loops (p ∷ pairs) h =
     ap (λ b. b || list_any (λ (q : ℕ × ℤ). is_empty (ends_of ends q.0)) pairs) (not_empty (ends_of ends p.0) (numbered loops p.0) (h.inside (p.0 - 1))) ∙ none_empty ends loops pairs h
 
 -- a placed anchor names one of the workers, where the loops lie within their intervals
-placed_owner : (params : List ℤ) (workers phase : ℕ) (a : Anchor) (ends : List (ℤ × ℤ)) (loops : List ℤ) → 1 ≤ workers → IsInEnds ends loops → misplaced_within params workers phase a ends ≡ None → anchor_owner a workers loops params < workers
+pub placed_owner : (params : List ℤ) (workers phase : ℕ) (a : Anchor) (ends : List (ℤ × ℤ)) (loops : List ℤ) → 1 ≤ workers → IsInEnds ends loops → misplaced_within params workers phase a ends ≡ None → anchor_owner a workers loops params < workers
 placed_owner params workers phase a ends loops some h none =
     let interval = form_interval a.form ends params in
     let reached = passes (names_empty ends a.form.loops) (reaches a.dist workers interval) (record { phase = phase; low = interval.0; high = interval.1 }) none (none_empty ends loops a.form.loops h) in
@@ -144,7 +144,7 @@ form_agrees constants n around f params xs ys some low named agree =
 -- ---- the anchors of a plan
 
 -- each of a list of anchors is placed
-placed_each : (tree : Tree) (marks : List Mark) (workers n : ℕ) (anchors : List Anchor) (rest : List (ℕ × Anchor)) (k : ℕ) (a : Anchor) → unplaced tree marks workers (numbered_anchors n anchors ++ rest) ≡ None → slice_get anchors k ≡ Some a →
+pub placed_each : (tree : Tree) (marks : List Mark) (workers n : ℕ) (anchors : List Anchor) (rest : List (ℕ × Anchor)) (k : ℕ) (a : Anchor) → unplaced tree marks workers (numbered_anchors n anchors ++ rest) ≡ None → slice_get anchors k ≡ Some a →
     misplaced tree marks workers (n + k) a ≡ None
 placed_each tree marks workers n [] rest k a none at = let clash : None ≡ Some a = at in absurd (cc)
 placed_each tree marks workers n (b ∷ anchors) rest zero a none at =

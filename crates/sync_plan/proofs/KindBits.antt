@@ -4,6 +4,7 @@ use Rattle.std.specs.List.{list_any, range_with_len}
 use Rattle.std.specs.Int.{bit_at}
 use Rattle.std.proofs.lemmas.Bool.{eq-eqb, ne_eqb, cases_lt, lt-ltb, le-ltb, and_right}
 use Rattle.std.proofs.lemmas.Nat.Bits.{bit_at_or, bit_at-zero, bit_at_ones}
+use Rattle.list_lemmas.proofs.Tests.{or_left_true, or_right_true}
 use Rattle.owner_partition.specs.declared.anchor.Anchor.{Anchor}
 use Rattle.sync_plan.specs.declared.plan.Kind.{Kind}
 use Rattle.sync_plan.specs.declared.plan.Kind.TheVariants.{Nothing, Producer, Left, Right, Both, Barrier, Join}
@@ -37,14 +38,6 @@ one_other f workers zero lt above below = elim (cases_lt 1 workers) [
 ]
 one_other f workers (suc q) lt above below =
     any_from _ 0 workers q (omega arith) (omega arith) (passes q (suc q) (f q (suc q)) (λ (e : q ≡ suc q). omega arith) (below q (omega arith))) ∙ sym (lt-ltb 1 workers (omega arith))
-
-pub or_right_true : (a b : Bool) → b ≡ true → (a || b) ≡ true
-or_right_true true b h = refl
-or_right_true false b h = h
-
-pub or_left_true : (a b : Bool) → a ≡ true → (a || b) ≡ true
-or_left_true true b h = refl
-or_left_true false b h = absurd (cc)
 
 pub awaited-both : (owner workers q : ℕ) → q < workers → is_awaited_at Both owner workers q ≡ nat_lt 1 workers
 awaited-both owner workers q lt =

@@ -2,7 +2,6 @@ pub mod ProcessorSets
 pub mod KindBits
 pub mod NamedLoops
 pub mod Fits
-pub mod Gets
 pub mod PhasePlaces
 pub mod FitOwners
 pub mod OwnLoops

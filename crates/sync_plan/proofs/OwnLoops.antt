@@ -1,6 +1,6 @@
 -- The loops of static phases have good own scalars.
-use Rattle.std.proofs.Common.{◌≡◌, ℕ, zero, suc, ◌==◌, ◌&&◌, Bool, true, false, List, [], ◌∷◌, length, Some, None, refl, ap, sym, ◌∙◌, arith}
-use Rattle.std.specs.Prelude.{Contains, if◌then◌else◌, slice_get}
+use Rattle.std.proofs.Common.{◌≡◌, ℕ, ◌==◌, ◌&&◌, Bool, true, false, List, [], ◌∷◌, length, refl, ◌∙◌, arith}
+use Rattle.std.specs.Prelude.{Contains, if◌then◌else◌}
 use Rattle.std.specs.List.{list_all}
 use Rattle.std.proofs.lemmas.Bool.{and_from, and_parts, eqb-true}
 use Rattle.std.proofs.lemmas.List.Folds.{list_all-append}
@@ -32,14 +32,6 @@ module _ (version : Version) (cut : Cutting) (enters : ℕ → Bool) where
         let those = and_parts (has_good_privates version cut s) (have_good_privates version cut rest) privates in
         list_all-append test (placed_in enters around s) (placed_of enters around rest)
         ∙ and_from (list_all test (placed_in enters around s)) (list_all test (placed_of enters around rest)) (own_in around s these.0 those.0) (own_among around rest these.1 those.1)
-
-pub passes_at : {X : Type 0} (test : X → Bool) (xs : List X) (k : ℕ) (x : X) → list_all test xs ≡ true → slice_get xs k ≡ Some x → test x ≡ true
-passes_at test [] k x all at = let clash : None ≡ Some x = at in absurd (cc)
-passes_at test (y ∷ xs) zero x all at =
-    let same : Some y ≡ Some x = at in
-    let is : y ≡ x = cc in
-    ap test (sym is) ∙ (and_parts (test y) (list_all test xs) all).0
-passes_at test (y ∷ xs) (suc k) x all at = passes_at test xs k x (and_parts (test y) (list_all test xs) all).1 at
 
 pub no_scalars : (vs : List ℕ) → (length vs == 0) ≡ true → vs ≡ []
 no_scalars [] e = refl

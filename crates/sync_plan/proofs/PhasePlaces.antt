@@ -1,10 +1,11 @@
 -- A phase in the text: the static phase at its place, the intervals of the loops there, and what its statement may name.
 use Rattle.std.proofs.Common.{◌≡◌, ℕ, zero, suc, ◌+◌, ◌-◌, ◌<◌, ◌≤◌, ℤ, pos, ◌+ℤ◌, ◌*ℤ◌, Bool, true, false, List, [], ◌∷◌, ◌++◌, length, map, Option, Some, None, if◌then◌else◌, refl, ap, sym, subst, ◌∙◌, arith, length-append}
-use Rattle.std.specs.Prelude.{slice_get}
+use Rattle.std.specs.Prelude.{slice_get, sum_by}
 use Rattle.std.specs.List.{All, flat_map, range_with_len}
 use Rattle.std.proofs.lemmas.Bool.{and_parts, le-ltb, lt-ltb}
 use Rattle.std.proofs.lemmas.List.{length-replicate, length-set}
 use Rattle.std.proofs.lemmas.List.Elements.{All-append, All-get_or, All-cons, All-nil, All-weaker}
+use Rattle.list_lemmas.proofs.Gets.{get-front, get-behind}
 use Rattle.nest_tree.specs.Form.{form_value}
 use Rattle.nest_tree.specs.Intervals.{head_interval, with_ends}
 use Rattle.nest_tree.specs.Limits.{is_empty, no_ends}
@@ -12,7 +13,7 @@ use Rattle.nest_tree.specs.Tree.{Head, Statement, Statements, do_loop, work, con
 use Rattle.nest_tree.specs.WellFormed.{IsWellFormed, Scope, are_good_statements, is_good_statement, loops_in, loops_of, scope_of}
 use Rattle.nest_tree.proofs.Cells.{well_formed_parts}
 use Rattle.nest_tree.proofs.Good.{good_loop}
-use Rattle.nest_model.specs.Instances.{head_trips, no_values, trip_count, with_loop, works_in}
+use Rattle.nest_model.specs.Instances.{head_trips, no_values, trip_count, with_loop, works_in, works_of}
 use Rattle.nest_model.specs.Visits.{Visit, stops_in, stops_of, visits, visits_in, visits_of}
 use Rattle.nest_model.proofs.Small.{not_empty}
 use Rattle.nest_model.proofs.Stops.{at_start, good_trips}
@@ -24,7 +25,7 @@ use Rattle.owner_partition.specs.Phases.{phases}
 use Rattle.owner_partition.specs.Placement.{ends_among, ends_in}
 use Rattle.owner_partition.proofs.Sites.{All-flat_map}
 use Rattle.std.proofs.lemmas.Option.{get_or_from_slice_get, slice_get_within}
-use Rattle.sync_plan.proofs.Gets.{get-behind, get-front}
+use Rattle.std.proofs.lemmas.List.Sums.{sum_by-append}
 
 -- the intervals of the loops at a phase, its own loop among them
 abbrev pub own_ends : List ℤ → List (ℤ × ℤ) → Statement → List (ℤ × ℤ)
@@ -169,6 +170,22 @@ mutual
   placed_counts : (enters : ℕ → Bool) (around : List ℕ) (ss : Statements) → length (placed_of enters around ss) ≡ stops_of enters ss
   placed_counts enters around done = refl
   placed_counts enters around (next s rest) = omega (arith, placed_count enters around s, placed_counts enters around rest, length-append (placed_in enters around s) (placed_of enters around rest))
+
+-- the phases of a text have all its pieces of work
+mutual
+  pub placed_works : (enters : ℕ → Bool) (around : List ℕ) (s : Statement) → sum_by (λ (p : Placed). works_in p.what) (placed_in enters around s) ≡ works_in s
+  placed_works enters around (do_loop head body) =
+      elim (enters head.number) as (λ b. sum_by (λ (p : Placed). works_in p.what) (if b then placed_of enters (head.number ∷ around) body else record { what = do_loop head body; around = around } ∷ []) ≡ works_in (do_loop head body))
+      [ true ↦ placed_works-all enters (head.number ∷ around) body | false ↦ omega arith ]
+  placed_works enters around (work w) = refl
+  placed_works enters around (continue line) = refl
+
+  pub placed_works-all : (enters : ℕ → Bool) (around : List ℕ) (ss : Statements) → sum_by (λ (p : Placed). works_in p.what) (placed_of enters around ss) ≡ works_of ss
+  placed_works-all enters around done = refl
+  placed_works-all enters around (next s rest) =
+      sum_by-append (λ (p : Placed). works_in p.what) (placed_in enters around s) (placed_of enters around rest)
+      ∙ ap (λ n. n + sum_by (λ (p : Placed). works_in p.what) (placed_of enters around rest)) (placed_works enters around s)
+      ∙ ap (λ n. works_in s + n) (placed_works-all enters around rest)
 
 -- every visit of a walk of a well-formed program
 pub all_there : (tree : Tree) (enters : ℕ → Bool) → IsWellFormed tree →

@@ -5,15 +5,8 @@ use Rattle.std.specs.Int.{bit_at, trailing_zeros}
 use Rattle.std.proofs.lemmas.Bool.{eq-eqb, ne_eqb, cases_eq, cases_lt}
 use Rattle.std.proofs.lemmas.List.Elements.{filter-append}
 use Rattle.std.proofs.lemmas.Nat.Bits.{bit_at-suc, bit_at-zero, bit_at_and, bit_at-pow_same, bit_at-pow_other, bit_at_ones, bit_at_not, bit_at_ones_above, bit_at_cat_low, bit_at_cat_high, bit_at_above, ones_shr, bit_at-trailing_zeros, bit_at_clear_same, bit_at_clear_other}
+use Rattle.list_lemmas.proofs.Ranges.{range_split}
 use Rattle.sync_plan.specs.ProcessorSets.{is_member, members}
-
--- a range in two parts
-pub range_split : (a n m : ℕ) → range_with_len a (n + m) ≡ range_with_len a n ++ range_with_len (a + n) m
-range_split a zero m = ap (λ k. range_with_len a k) (omega arith) ∙ ap (λ k. range_with_len k m) (omega arith)
-range_split a (suc n) m =
-    let here : suc n + m ≡ suc (n + m) = omega arith in
-    let next : a + 1 + n ≡ a + suc n = omega arith in
-    ap (range_with_len a) here ∙ ap (λ rest. a ∷ rest) (range_split (a + 1) n m ∙ ap (λ k. range_with_len (a + 1) n ++ range_with_len k m) next)
 
 -- two tests that agree on a range
 pub filter_range : (f g : ℕ → Bool) (a n : ℕ) → ((q : ℕ) → a ≤ q → q < a + n → f q ≡ g q) → filter f (range_with_len a n) ≡ filter g (range_with_len a n)

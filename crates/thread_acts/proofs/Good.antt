@@ -1,5 +1,5 @@
 -- Under a plan that fits a well-formed program, each phase's anchor is one by which a processor finds its own trips.
-use Rattle.std.proofs.Common.{◌≡◌, ◌≢◌, ℕ, zero, suc, ◌+◌, ◌-◌, ◌*◌, ◌<◌, ◌≤◌, ◌==◌, ◌&&◌, ℤ, pos, ◌+ℤ◌, ◌*ℤ◌, ◌≤ℤ◌, int_le, int_lt, nat_le, nat_lt, unsigned_abs, Bool, true, false, true≢false, List, [], ◌∷◌, ◌++◌, length, Some, None, if◌then◌else◌, refl, ap, sym, subst, ◌∙◌, arith}
+use Rattle.std.proofs.Common.{◌≡◌, ◌≢◌, ℕ, suc, ◌+◌, ◌-◌, ◌*◌, ◌<◌, ◌≤◌, ◌==◌, ◌&&◌, ℤ, pos, ◌+ℤ◌, ◌*ℤ◌, ◌≤ℤ◌, int_le, int_lt, nat_le, nat_lt, unsigned_abs, Bool, true, false, true≢false, List, [], ◌∷◌, length, Some, None, if◌then◌else◌, refl, ap, sym, subst, ◌∙◌, arith}
 use Rattle.std.specs.Prelude.{slice_get}
 use Rattle.std.specs.List.{All, list_all, list_any}
 use Rattle.std.proofs.lemmas.Bool.{and_from, and_parts, le-leb, leb-true, lt-ltb, ltb-true}
@@ -9,7 +9,6 @@ use Rattle.nest_tree.specs.Form.{form_value, is_form, is_small, reach_within}
 use Rattle.nest_tree.specs.Intervals.{form_interval, head_interval, with_ends}
 use Rattle.nest_tree.specs.Tree.{Statement, Statements, Tree, do_loop, work, continue, done, next, param_values}
 use Rattle.nest_tree.specs.WellFormed.{Scope, are_good_statements, is_good_statement, is_number_of, loops_in, names_only, scope_of}
-use Rattle.nest_tree.proofs.FirstLimits.{neither}
 use Rattle.nest_tree.proofs.Good.{good_loop}
 use Rattle.nest_model.specs.Instances.{with_loop}
 use Rattle.nest_model.specs.Visits.{Visit, stops_of}
@@ -25,15 +24,15 @@ use Rattle.owner_partition.specs.declared.cut.Mark.{Mark}
 use Rattle.owner_partition.specs.declared.placement.Placement.{Placement}
 use Rattle.owner_partition.specs.Marks.{enters_outer, is_doall, mark_of}
 use Rattle.owner_partition.specs.Owners.{has_places, reaches}
-use Rattle.owner_partition.specs.Placement.{ends_among, misplaced, misplaced_at, misplaced_within, names_empty, phase_ends, unplaced}
+use Rattle.owner_partition.specs.Placement.{ends_among, misplaced_at, misplaced_within, names_empty, phase_ends}
+use Rattle.owner_partition.proofs.Trips.{form_from}
 use Rattle.sync_plan.specs.declared.plan.Plan.{Plan}
-use Rattle.sync_plan.specs.Fit.{IsFit, kind_anchors, numbered_anchors}
+use Rattle.sync_plan.specs.Fit.{IsFit, kind_anchors}
 use Rattle.sync_plan.specs.Shape.{is_good_anchor, own_loops, static_phases}
-use Rattle.sync_plan.proofs.FitOwners.{good_each, named_low, none_empty}
+use Rattle.sync_plan.proofs.FitOwners.{good_each, named_low, none_empty, placed_each}
 use Rattle.sync_plan.proofs.Fits.{fit_parts}
 use Rattle.sync_plan.proofs.PhasePlaces.{AreBelow, IsThereFrom, own_ends}
 use Rattle.thread_code.proofs.Found.{CanFind}
-use Rattle.thread_code.proofs.Along.{form_from}
 
 -- ---- what is inside a good loop
 
@@ -65,18 +64,6 @@ named_within n around (p ∷ pairs) low h =
     and_from (nat_le p.0 n) (reach_within n pairs) (le-leb p.0 n (named_low n around p.0 low parts.0)) (named_within n around pairs low parts.1)
 
 -- ---- the phases' anchors are placed
-
-placed_each : (tree : Tree) (marks : List Mark) (workers n : ℕ) (anchors : List Anchor) (rest : List (ℕ × Anchor)) (k : ℕ) (a : Anchor) → unplaced tree marks workers (numbered_anchors n anchors ++ rest) ≡ None → slice_get anchors k ≡ Some a →
-    misplaced tree marks workers (n + k) a ≡ None
-placed_each tree marks workers n [] rest k a none at = let clash : None ≡ Some a = at in absurd (cc)
-placed_each tree marks workers n (b ∷ anchors) rest zero a none at =
-    let same : Some b ≡ Some a = at in
-    let equal : b ≡ a = cc in
-    let here : n ≡ n + 0 = omega arith in
-    subst (λ j. misplaced tree marks workers j a ≡ None) here (subst (λ x. misplaced tree marks workers n x ≡ None) equal (neither (misplaced tree marks workers n b) (unplaced tree marks workers (numbered_anchors (suc n) anchors ++ rest)) none).0)
-placed_each tree marks workers n (b ∷ anchors) rest (suc k) a none at =
-    let next_is : suc n + k ≡ n + suc k = omega arith in
-    subst (λ j. misplaced tree marks workers j a ≡ None) next_is (placed_each tree marks workers (suc n) anchors rest k a (neither (misplaced tree marks workers n b) (unplaced tree marks workers (numbered_anchors (suc n) anchors ++ rest)) none).1 at)
 
 pub passes : (b c : Bool) (x : Placement) → (if b then None else if c then None else Some x) ≡ None → b ≡ false → c ≡ true
 passes false true x e h = refl

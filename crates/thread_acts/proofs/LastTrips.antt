@@ -1,24 +1,20 @@
 -- The last trip of a loop.
-use Rattle.std.proofs.Common.{◌≡◌, ◌≢◌, ◌↔◌, ℕ, zero, suc, ◌+◌, ◌/◌, ◌<◌, ℤ, pos, negsuc, ◌+ℤ◌, ◌-ℤ◌, ◌*ℤ◌, ◌≤ℤ◌, int_div, Bool, true, false, List, [], ◌∷◌, ◌++◌, map, Some, None, if◌then◌else◌, refl, ap, sym, ◌∙◌, arith}
+use Rattle.std.proofs.Common.{◌≡◌, ◌≢◌, ◌↔◌, ℕ, zero, suc, ◌+◌, ◌/◌, ◌<◌, ℤ, pos, negsuc, ◌+ℤ◌, ◌-ℤ◌, ◌*ℤ◌, ◌≤ℤ◌, int_div, Bool, true, false, map, Some, None, if◌then◌else◌, refl, ap, sym, ◌∙◌, arith}
 use Rattle.std.specs.List.{range_with_len}
 use Rattle.std.proofs.Math.Nat.{le-div_iff_mul-le}
 use Rattle.std.proofs.lemmas.Int.{ints}
 use Rattle.std.proofs.lemmas.List.FromFn.{map-range_with_len_more}
 use Rattle.nest_model.specs.Instances.{trip_count, trips}
 use Rattle.sync_plan.specs.Conflicts.{last_value}
+use Rattle.spmd_model.proofs.LastStores.{last_there}
 use Rattle.thread_code.proofs.TripCounts.{counts_down, counts_up, same_count}
 use Rattle.thread_acts.specs.ThreadDeeds.{has_trips, last_trip}
-
-last_end : (xs : List ℤ) (x : ℤ) → last_value (xs ++ x ∷ []) ≡ Some x
-last_end [] x = refl
-last_end (v ∷ []) x = refl
-last_end (v ∷ w ∷ ws) x = last_end (w ∷ ws) x
 
 -- of so many
 last_of : (f : ℕ → ℤ) (n : ℕ) → last_value (map f (range_with_len 0 (suc n))) ≡ Some (f n)
 last_of f n =
     let more : suc n ≡ n + 1 = omega arith in
-    ap (λ k. last_value (map f (range_with_len 0 k))) more ∙ ap last_value (map-range_with_len_more f 0 n n (omega arith)) ∙ last_end (map f (range_with_len 0 n)) (f n)
+    ap (λ k. last_value (map f (range_with_len 0 k))) more ∙ ap last_value (map-range_with_len_more f 0 n n (omega arith)) ∙ last_there (map f (range_with_len 0 n)) (f n)
 
 -- a loop that has trips makes one more than its last one has in front of it
 many : (m1 m2 s : ℤ) → s ≢ pos 0 → has_trips m1 m2 s ≡ true → (q : ℕ) × (trip_count m1 m2 s ≡ suc q) × (int_div (m2 -ℤ m1) s ≡ pos q)

@@ -1,62 +1,35 @@
 -- Under a plan that fits, the processor that a producer's anchor names is one of the processors.
-use Rattle.std.proofs.Common.{◌≡◌, ℕ, zero, suc, ◌+◌, ◌-◌, ◌*◌, ◌<◌, ◌≤◌, ◌==◌, ◌||◌, ◌&&◌, ℤ, pos, negsuc, ◌+ℤ◌, ◌≤ℤ◌, int_le, int_lt, nat_lt, Bool, true, List, [], ◌∷◌, ◌++◌, length, Option, Some, None, if◌then◌else◌, refl, ap, ap₂, sym, subst, ◌∙◌, arith}
+use Rattle.std.proofs.Common.{◌≡◌, ℕ, zero, suc, ◌+◌, ◌-◌, ◌<◌, ◌≤◌, ◌==◌, ◌||◌, ◌&&◌, ℤ, pos, ◌+ℤ◌, nat_lt, Bool, true, List, [], ◌∷◌, ◌++◌, length, Option, Some, None, if◌then◌else◌, refl, ap, ap₂, sym, subst, ◌∙◌, arith}
 use Rattle.std.specs.Prelude.{slice_get}
 use Rattle.std.specs.List.{All, list_all, list_any}
-use Rattle.std.proofs.Math.Nat.{div-lt_iff_lt-mul}
 use Rattle.std.proofs.lemmas.Bool.{and_parts, ltb-true}
-use Rattle.std.proofs.lemmas.Int.{ints}
 use Rattle.std.proofs.lemmas.List.{get_or-set_other}
 use Rattle.std.proofs.lemmas.List.Elements.{All-cons, All-head, All-nil, All-tail, All-weaker}
-use Rattle.nest_tree.specs.Form.{dot, form_value, is_form, is_small, rises_above}
-use Rattle.nest_tree.specs.Intervals.{dot_ends, ends_of, form_interval, head_interval, multiple, plus, with_ends}
-use Rattle.nest_tree.specs.Layout.{count_of}
+use Rattle.nest_tree.specs.Form.{dot, is_form, is_small, rises_above}
+use Rattle.nest_tree.specs.Intervals.{dot_ends, ends_of, head_interval, multiple, plus, with_ends}
 use Rattle.nest_tree.specs.Limits.{is_empty, no_ends}
 use Rattle.nest_tree.specs.Tree.{Statement, Tree, do_loop, work, continue, param_values}
 use Rattle.nest_tree.specs.WellFormed.{Scope, is_good_statement, is_number_of, names_only, scope_of}
 use Rattle.nest_tree.proofs.FirstLimits.{neither}
 use Rattle.nest_tree.proofs.Good.{good_loop}
 use Rattle.nest_model.specs.Visits.{Visit, stops_of}
-use Rattle.nest_model.proofs.Within.{Between, IsInEnds, form_between}
-use Rattle.nest_walk.specs.Texts.{Placed, placed}
+use Rattle.nest_model.proofs.Within.{IsInEnds}
+use Rattle.nest_walk.specs.Texts.{placed}
 use Rattle.owner_partition.specs.declared.anchor.Anchor.{Anchor}
-use Rattle.owner_partition.specs.declared.anchor.Dist.{Dist}
-use Rattle.owner_partition.specs.declared.anchor.Dist.TheVariants.{Block, Cyclic}
 use Rattle.owner_partition.specs.declared.cut.Mark.{Mark}
 use Rattle.owner_partition.specs.declared.placement.Placement.{Placement}
 use Rattle.owner_partition.specs.Marks.{enters_outer}
-use Rattle.owner_partition.specs.Owners.{anchor_owner, dealt, has_places, reaches}
+use Rattle.owner_partition.specs.Owners.{anchor_owner, has_places, reaches}
 use Rattle.owner_partition.specs.Placement.{ends_among, misplaced, misplaced_at, misplaced_within, names_empty, phase_ends, unplaced}
 use Rattle.sync_plan.specs.declared.plan.Kind.{Kind}
 use Rattle.sync_plan.specs.declared.plan.Kind.TheVariants.{Nothing, Producer, Left, Right, Both, Barrier, Join}
 use Rattle.sync_plan.specs.declared.plan.Plan.{Plan}
 use Rattle.sync_plan.specs.Fit.{IsFit, kind_anchors, numbered_anchors}
-use Rattle.sync_plan.specs.Shape.{are_good_kinds, is_good_anchor, is_good_kind, static_phases}
-use Rattle.sync_plan.proofs.FitOwners.{named_low, none_empty}
+use Rattle.sync_plan.specs.Shape.{is_good_anchor, static_phases}
+use Rattle.sync_plan.proofs.FitOwners.{named_low, placed_owner}
 use Rattle.sync_plan.proofs.Fits.{fit_parts}
 use Rattle.sync_plan.proofs.PhasePlaces.{AreBelow, IsThereFrom, own_ends}
-use Rattle.thread_acts.proofs.Good.{passes}
-
--- what stands at a value within the blocks of so many workers is one of theirs
-dealt_to : (dist : Dist) (workers : ℕ) (interval : ℤ × ℤ) (w : ℤ) → 1 ≤ workers → reaches dist workers interval ≡ true → Between interval w → count_of (dealt dist workers w) < workers
-dealt_to (Block b) workers interval (pos w) some h between =
-    let parts = and_parts (int_le (pos 0) interval.0) (int_lt interval.1 (pos (b * workers))) h in
-    let less : w < workers * b = below parts.1 between.high in
-    (div-lt_iff_lt-mul (long b less)).1 less
-  where
-    below : int_lt interval.1 (pos (b * workers)) ≡ true → pos w ≤ℤ interval.1 → w < workers * b
-    below lt le = grind (arith, ints, lt, le)
-
-    long : (c : ℕ) → w < workers * c → 0 < c
-    long zero lt = absurd (omega (arith, lt))
-    long (suc c) lt = omega arith
-dealt_to (Block b) workers interval (negsuc w) some h between =
-    let parts = and_parts (int_le (pos 0) interval.0) (int_lt interval.1 (pos (b * workers))) h in
-    absurd (never parts.0 between.low)
-  where
-    never : int_le (pos 0) interval.0 ≡ true → interval.0 ≤ℤ negsuc w → ⊥
-    never a b = grind (arith, ints, a, b)
-dealt_to Cyclic workers interval (pos w) some h between = omega (arith, some)
-dealt_to Cyclic workers interval (negsuc w) some h between = omega (arith, some)
+use Rattle.comm_system.proofs.Zips.{good_kind_each}
 
 -- ---- the interval of a loop that a form doesn't name
 
@@ -99,13 +72,6 @@ all_lower n least around (p ∷ pairs) some below rises named =
     let high = named_low (n - 1) around p.0 (All-weaker (λ k. k < n) (λ k. k ≤ n - 1) (λ k lt. omega (arith, lt)) around below) parts.0 in
     All-cons (λ (q : ℕ × ℤ). (1 ≤ q.0) × (q.0 < n)) p pairs (omega (arith, low), omega (arith, high, some)) (all_lower n p.0 around pairs some below a.1 parts.1)
 
--- a placed anchor names one of the workers
-placed_owner : (params : List ℤ) (workers phase : ℕ) (a : Anchor) (ends : List (ℤ × ℤ)) (loops : List ℤ) → 1 ≤ workers → IsInEnds ends loops → misplaced_within params workers phase a ends ≡ None → anchor_owner a workers loops params < workers
-placed_owner params workers phase a ends loops some h none =
-    let interval = form_interval a.form ends params in
-    let reached = passes (names_empty ends a.form.loops) (reaches a.dist workers interval) (record { phase = phase; low = interval.0; high = interval.1 }) none (none_empty ends loops a.form.loops h) in
-    dealt_to a.dist workers interval (form_value a.form loops params) some reached (form_between a.form ends loops params h)
-
 -- ---- the kinds of a plan
 
 unplaced_behind : (tree : Tree) (marks : List Mark) (workers : ℕ) (xs ys : List (ℕ × Anchor)) → unplaced tree marks workers (xs ++ ys) ≡ None → unplaced tree marks workers ys ≡ None
@@ -132,20 +98,6 @@ placed_kind tree marks workers n (kind ∷ kinds) (suc k) a none at =
     behind Both none = none
     behind Barrier none = none
     behind Join none = none
-
--- each of a text's static phases has a good kind
-good_kind_at : (constants : ℕ) (text : List Placed) (kinds : List Kind) (k : ℕ) (s : Placed) (kind : Kind) → are_good_kinds constants text kinds ≡ true → slice_get text k ≡ Some s → slice_get kinds k ≡ Some kind → is_good_kind constants s.around kind ≡ true
-good_kind_at constants [] kinds k s kind good at at' = let clash : None ≡ Some s = at in absurd (cc)
-good_kind_at constants (t ∷ text) [] k s kind good at at' = let clash : None ≡ Some kind = at' in absurd (cc)
-good_kind_at constants (t ∷ text) (first ∷ kinds) zero s kind good at at' =
-    let same : Some t ≡ Some s = at in
-    let same' : Some first ≡ Some kind = at' in
-    let equal : t ≡ s = cc in
-    let equal' : first ≡ kind = cc in
-    let here = (and_parts (is_good_kind constants t.around first) (are_good_kinds constants text kinds) good).0 in
-    subst (λ x. is_good_kind constants s.around x ≡ true) equal' (subst (λ (x : Placed). is_good_kind constants x.around first ≡ true) equal here)
-good_kind_at constants (t ∷ text) (first ∷ kinds) (suc k) s kind good at at' =
-    good_kind_at constants text kinds k s kind (and_parts (is_good_kind constants t.around first) (are_good_kinds constants text kinds) good).1 at at'
 
 module _ (params : List ℤ) (scope : Scope) (workers constants : ℕ) (a : Anchor) where
   owner_in : (s : Statement) (loops : List ℤ) (around : List ℕ) (number phase : ℕ) (ends : List (ℤ × ℤ)) → 1 ≤ workers → IsInEnds ends loops → is_good_statement scope around number s ≡ true → AreBelow number around → 1 ≤ number →
@@ -174,5 +126,5 @@ producer_below tree plan v a fits f at =
     let placed_is = placed_kind tree plan.cut.marks plan.workers 1 plan.kinds f.k a kinds_placed kind_at in
     let back : 1 + f.k - 1 ≡ f.k = omega arith in
     let within = ap (misplaced_at (param_values tree) plan.workers (1 + f.k) a) (sym (ap (phase_ends tree plan.cut.marks) back ∙ t.ends_are)) ∙ placed_is in
-    let good = good_kind_at (length tree.params) (static_phases tree plan.cut.marks) plan.kinds f.k (record { what = v.what; around = t.around }) (Producer a) parts.good_kinds t.at kind_at in
+    let good = good_kind_each (length tree.params) (static_phases tree plan.cut.marks) plan.kinds f.k (record { what = v.what; around = t.around }) (Producer a) parts.good_kinds t.at kind_at in
     owner_in (param_values tree) (scope_of tree) plan.workers (length tree.params) a v.what v.loops t.around t.number (1 + f.k) t.ends parts.some t.inside t.good t.below t.low within good

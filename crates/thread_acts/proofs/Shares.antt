@@ -17,9 +17,9 @@ use Rattle.owner_partition.specs.declared.anchor.Dist.{Dist}
 use Rattle.owner_partition.specs.declared.anchor.Dist.TheVariants.{Block, Cyclic}
 use Rattle.owner_partition.specs.OwnInstances.{coefficient_of, is_owned, own_values}
 use Rattle.owner_partition.specs.Owners.{dealt}
+use Rattle.owner_partition.proofs.Trips.{form_from}
 use Rattle.thread_code.specs.Closed.{AreTurnings, block_values}
 use Rattle.thread_code.specs.Code.{Table, all_of, finding_by, named_finding, plus_times, reduced, without}
-use Rattle.thread_code.proofs.Along.{form_from}
 use Rattle.thread_code.proofs.Blocks.{block_closed}
 use Rattle.thread_code.proofs.Forms.{plus_times_is, reduced_is, rest_below, without_is}
 use Rattle.thread_code.proofs.Found.{CanFind, rest_of}

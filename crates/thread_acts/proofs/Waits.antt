@@ -6,18 +6,12 @@ use Rattle.owner_partition.specs.declared.anchor.Anchor.{Anchor}
 use Rattle.sync_plan.specs.declared.plan.Kind.{Kind}
 use Rattle.sync_plan.specs.declared.plan.Kind.TheVariants.{Nothing, Producer, Left, Right, Both}
 use Rattle.sync_plan.specs.Waits.{awaited_at, does_wait_at, is_awaited_at, waits_at}
+use Rattle.sync_plan.proofs.ProcessorSets.{filter_none}
 use Rattle.spmd_model.specs.Deeds.{Deed, awaiting, boundary_deeds, posting}
 use Rattle.spmd_model.specs.Timelines.{counter}
 use Rattle.thread_acts.specs.ThreadDeeds.{await_if, barrier_deeds, both_deeds, left_deeds, post_if, producer_deeds, right_deeds}
 
 -- ---- tests on the numbers from one on
-
--- where none passes
-none_in : (f : ℕ → Bool) (a n : ℕ) → ((q : ℕ) → a ≤ q → q < a + n → f q ≡ false) → filter f (range_with_len a n) ≡ []
-none_in f a zero each = refl
-none_in f a (suc n) each =
-    ap (λ (b : Bool). if b then a ∷ filter f (range_with_len (a + 1) n) else filter f (range_with_len (a + 1) n)) (each a (omega arith) (omega arith))
-    ∙ none_in f (a + 1) n (λ q le lt. each q (omega (arith, le)) (omega (arith, lt)))
 
 strictly : (a c : ℕ) → a ≤ c → (a ≡ c → ⊥) → a < c
 strictly a c low apart = ⊎_elim (λ (h : nat_lt a c ≡ true). ltb-true a c h) (λ (h : nat_lt a c ≡ false). absurd (let le = ltb-false a c h in apart (omega (arith, le, low)))) (cases_Bool (nat_lt a c))
@@ -46,9 +40,9 @@ only : (f : ℕ → Bool) (c n : ℕ) → ((q : ℕ) → (f q ≡ true) ↔ (q �
 only f c n each =
     ⊎_elim (λ (h : nat_lt c n ≡ true).
     let lt = ltb-true c n h in
-    next_in f c [] 0 n (omega arith) (omega (arith, lt)) ((each c).1 refl) (λ q le less. other q (λ e. omega (arith, e, less))) (none_in f (c + 1) (0 + n - (c + 1)) (λ q le less. other q (λ e. omega (arith, e, le))))
+    next_in f c [] 0 n (omega arith) (omega (arith, lt)) ((each c).1 refl) (λ q le less. other q (λ e. omega (arith, e, less))) (filter_none f (c + 1) (0 + n - (c + 1)) (λ q le less. other q (λ e. omega (arith, e, le))))
     ∙ ap (λ (b : Bool). if b then c ∷ [] else []) (sym h))
-    (λ (h : nat_lt c n ≡ false). let past = ltb-false c n h in none_in f 0 n (λ q le less. other q (λ e. omega (arith, e, less, past))) ∙ ap (λ (b : Bool). if b then c ∷ [] else []) (sym h)) (cases_Bool (nat_lt c n))
+    (λ (h : nat_lt c n ≡ false). let past = ltb-false c n h in filter_none f 0 n (λ q le less. other q (λ e. omega (arith, e, less, past))) ∙ ap (λ (b : Bool). if b then c ∷ [] else []) (sym h)) (cases_Bool (nat_lt c n))
   where
     other : (q : ℕ) → (q ≡ c → ⊥) → f q ≡ false
     other q apart = ⊎_elim (λ (h : f q ≡ true). absurd (apart ((each q).0 h))) (λ (h : f q ≡ false). h) (cases_Bool (f q))
@@ -66,7 +60,7 @@ any_only : (f : ℕ → Bool) (c n : ℕ) → ((q : ℕ) → (f q ≡ true) ↔ 
 any_only f c n each = any_is f (range_with_len 0 n) ∙ ap (λ qs. nat_lt 0 (length qs)) (only f c n each) ∙ (elim (nat_lt c n) as (λ b. nat_lt 0 (length (if b then c ∷ [] else [])) ≡ b) [ true ↦ refl | false ↦ refl ])
 
 any_none : (f : ℕ → Bool) (n : ℕ) → ((q : ℕ) → f q ≡ false) → list_any f (range_with_len 0 n) ≡ false
-any_none f n each = any_is f (range_with_len 0 n) ∙ ap (λ qs. nat_lt 0 (length qs)) (none_in f 0 n (λ q le less. each q))
+any_none f n each = any_is f (range_with_len 0 n) ∙ ap (λ qs. nat_lt 0 (length qs)) (filter_none f 0 n (λ q le less. each q))
 
 -- one that passes is among the first so many
 any_some : (f : ℕ → Bool) (c n : ℕ) → c < n → f c ≡ true → list_any f (range_with_len 0 n) ≡ true
@@ -113,7 +107,7 @@ pub left_written : (owner workers p n : ℕ) → p < workers → boundary_deeds 
 left_written owner workers p n below = ap₂ (λ (a b : List Deed). a ++ b) (front_if (is_awaited_at Left owner workers p) n (nat_lt (p + 1) workers) (any_only (λ r. does_wait_at Left owner r p) (p + 1) workers (λ r. left_is owner r p))) (back p below)
   where
     back : (p : ℕ) → p < workers → map (λ q. awaiting counter q n) (awaited_at Left owner workers p) ≡ await_if (nat_lt 0 p) (p - 1) n
-    back zero below = ap (map (λ q. awaiting counter q n)) (none_in (does_wait_at Left owner 0) 0 workers (λ q le less. false_of (does_wait_at Left owner 0 q) (λ h. absurd (let e = (left_is owner 0 q).0 h in omega (arith, e)))))
+    back zero below = ap (map (λ q. awaiting counter q n)) (filter_none (does_wait_at Left owner 0) 0 workers (λ q le less. false_of (does_wait_at Left owner 0 q) (λ h. absurd (let e = (left_is owner 0 q).0 h in omega (arith, e)))))
     back (suc p) below =
         let one : (q : ℕ) → (does_wait_at Left owner (suc p) q ≡ true) ↔ (q ≡ p) = λ q. ((λ h. let e = (left_is owner (suc p) q).0 h in omega (arith, e)), λ e. (left_is owner (suc p) q).1 (omega (arith, e))) in
         let before : p ≡ suc p - 1 = omega arith in
@@ -198,11 +192,11 @@ both_written owner workers p n below = ap₂ (λ (a b : List Deed). a ++ b) (fro
         ⊎_elim (λ (h : nat_lt (p + 1) workers ≡ true).
         let lt = ltb-true (p + 1) workers h in
         next_in (does_wait_at Both owner p) (p + 1) [] c (workers - c) high (omega (arith, high, lt)) (both_waits owner p (p + 1) (inr refl)) (λ q le less. both_apart owner p q (λ e. omega (arith, e, le, low)) (λ e. omega (arith, e, less)))
-        (none_in (does_wait_at Both owner p) (p + 1 + 1) (c + (workers - c) - (p + 1 + 1)) (λ q le less. both_apart owner p q (λ e. omega (arith, e, le)) (λ e. omega (arith, e, le))))
+        (filter_none (does_wait_at Both owner p) (p + 1 + 1) (c + (workers - c) - (p + 1 + 1)) (λ q le less. both_apart owner p q (λ e. omega (arith, e, le)) (λ e. omega (arith, e, le))))
         ∙ ap (λ (b : Bool). if b then (p + 1) ∷ [] else []) (sym h))
         (λ (h : nat_lt (p + 1) workers ≡ false).
         let past = ltb-false (p + 1) workers h in
-        none_in (does_wait_at Both owner p) c (workers - c) (λ q le less. both_apart owner p q (λ e. omega (arith, e, le, low)) (λ e. omega (arith, e, less, past, high))) ∙ ap (λ (b : Bool). if b then (p + 1) ∷ [] else []) (sym h))
+        filter_none (does_wait_at Both owner p) c (workers - c) (λ q le less. both_apart owner p q (λ e. omega (arith, e, le, low)) (λ e. omega (arith, e, less, past, high))) ∙ ap (λ (b : Bool). if b then (p + 1) ∷ [] else []) (sym h))
         (cases_Bool (nat_lt (p + 1) workers))
 
     back : (p : ℕ) → p < workers → map (λ q. awaiting counter q n) (awaited_at Both owner workers p) ≡ await_if (nat_lt 0 p) (p - 1) n ++ await_if (nat_lt (p + 1) workers) (p + 1) n
@@ -255,7 +249,7 @@ producer_written a owner workers p n below named = by (owner == p) refl
     own e = ap₂ (λ (x y : List Deed). x ++ y) (front_if (is_awaited_at (Producer a) owner workers p) n (nat_lt 1 workers) front) (ap (map (λ q. awaiting counter q n)) nobody) ∙ append-nil (post_if (nat_lt 1 workers) n)
       where
         nobody : awaited_at (Producer a) owner workers p ≡ []
-        nobody = none_in (does_wait_at (Producer a) owner p) 0 workers (λ q le less. false_of (does_wait_at (Producer a) owner p q) (λ h. other q (and_parts (not (p == q)) (owner == q) h)))
+        nobody = filter_none (does_wait_at (Producer a) owner p) 0 workers (λ q le less. false_of (does_wait_at (Producer a) owner p q) (λ h. other q (and_parts (not (p == q)) (owner == q) h)))
           where
             other : (q : ℕ) → (not (p == q) ≡ true) × ((owner == q) ≡ true) → ⊥
             other q parts = true≢false (sym parts.0 ∙ ap not (eq-eqb p q (sym e ∙ eqb-true owner q parts.1)))
@@ -282,7 +276,7 @@ producer_written a owner workers p n below named = by (owner == p) refl
 pub nothing_written : (owner workers p n : ℕ) → boundary_deeds counter n (is_awaited_at Nothing owner workers p) (awaited_at Nothing owner workers p) ≡ []
 nothing_written owner workers p n =
     ap₂ (λ (x y : List Deed). x ++ y) (front_if (is_awaited_at Nothing owner workers p) n false (any_none (λ r. does_wait_at Nothing owner r p) workers (λ r. never (not (r == p)))))
-    (ap (map (λ q. awaiting counter q n)) (none_in (does_wait_at Nothing owner p) 0 workers (λ q le less. never (not (p == q)))))
+    (ap (map (λ q. awaiting counter q n)) (filter_none (does_wait_at Nothing owner p) 0 workers (λ q le less. never (not (p == q)))))
   where
     never : (b : Bool) → (b && false) ≡ false
     never true = refl

@@ -4,20 +4,21 @@ use Rattle.std.specs.Int.{int_div_euclid, int_max, int_min}
 use Rattle.std.proofs.Math.IntN.{*ℤ_comm}
 use Rattle.std.proofs.lemmas.Bool.{eqb-true, eq-eqb}
 use Rattle.std.proofs.lemmas.Int.{ints}
+use Rattle.list_lemmas.proofs.Integers.{add-mul}
 use Rattle.nest_tree.specs.Form.{form_value, is_form}
 use Rattle.nest_tree.specs.Layout.{count_of}
 use Rattle.nest_tree.specs.Tree.{Head}
 use Rattle.nest_model.specs.Instances.{trip_count, trips}
-use Rattle.nest_walk.proofs.Products.{add-mul}
 use Rattle.owner_partition.specs.declared.anchor.Anchor.{Anchor}
 use Rattle.owner_partition.specs.declared.anchor.Dist.TheVariants.{Block}
 use Rattle.owner_partition.specs.OwnInstances.{coefficient_of, own_values}
 use Rattle.owner_partition.specs.OwnTrips.{IsOwnRange}
 use Rattle.owner_partition.proofs.Limits.{block_is}
 use Rattle.owner_partition.proofs.Strides.{stretch}
+use Rattle.owner_partition.proofs.Trips.{trip_place}
 use Rattle.thread_code.specs.Closed.{block_values, high_value, low_value, raised, window}
 use Rattle.thread_code.proofs.Found.{rest_of}
-use Rattle.thread_code.proofs.OwnValues.{ceil_one, closed_values, trip_place}
+use Rattle.thread_code.proofs.OwnValues.{ceil_one, closed_values}
 use Rattle.thread_code.proofs.Rounded.{floored_is, raised_is}
 use Rattle.thread_code.proofs.TripCounts.{counts_down, counts_up, same_count}
 

@@ -1,16 +1,16 @@
 -- Codes in a list and in a row.
-use Rattle.std.proofs.Common.{◌≡◌, ℕ, ◌+◌, ◌<◌, ◌≤◌, Bool, List, [], ◌∷◌, ◌++◌, Vec, Global, length, drop, get_or, true, false, if◌then◌else◌, refl, ap, sym, ◌∙◌, arith}
+use Rattle.std.proofs.Common.{◌≡◌, ℕ, ◌+◌, ◌<◌, Bool, List, [], ◌∷◌, ◌++◌, Vec, Global, length, drop, get_or, true, if◌then◌else◌, refl, ap, sym, ◌∙◌, arith}
 use Rattle.std.specs.Borrow.{Bor}
 use Rattle.std.proofs.lemmas.List.{drop_more}
-use Rattle.nest_tree.specs.Tree.{Statement, Statements, Tree, continue, do_loop, done, next, work}
-use Rattle.nest_tree.specs.WellFormed.{IsWellFormed, statement_count, statements_in}
-use Rattle.nest_tree.proofs.Cells.{well_formed_parts}
+use Rattle.nest_tree.specs.Tree.{Tree}
+use Rattle.nest_tree.specs.WellFormed.{IsWellFormed}
 use Rattle.nest_tree.proofs.Rows.{statement_of-Loop}
 use Rattle.nest_tree.specs.View.{head_of, loop_of, statement_of, statements_from}
 use Rattle.nest_tree.specs.declared.tree.Item.{Item, Loop}
 use Rattle.nest_tree.specs.declared.tree.Nest.{Nest}
 use Rattle.nest_model.specs.Visits.{stops_in, stops_of}
 use Rattle.owner_partition.specs.Marks.{enters_outer}
+use Rattle.owner_partition.proofs.Places.{few_phases as below_400}
 use Rattle.sync_plan.specs.declared.plan.Plan.{Plan}
 use Rattle.thread_code.specs.Code.{Node, Nodes, Table, code_in, codes_in, each, end, one_then, phase_at}
 use Rattle.thread_code.specs.View.{code_view, codes_view, row_view}
@@ -92,17 +92,5 @@ module _ (table : Table) (plan : Plan) where
       ap (stops_in enters) (ap statement_of is ∙ statement_of-Loop nest) ∙ ap (λ (b : Bool). if b then stops_of enters (statements_from nest.items.items) else 1) entered
 
 -- a well-formed program has few phases
-mutual
-  stops_in-most : (enters : ℕ → Bool) (s : Statement) → stops_in enters s ≤ statements_in s
-  stops_in-most enters (do_loop head body) =
-      let all = stops_of-most enters body in
-      elim (enters head.number) as (λ b. (if b then stops_of enters body else 1) ≤ 1 + statement_count body) [ true ↦ omega (arith, all) | false ↦ omega arith ]
-  stops_in-most enters (work w) = omega arith
-  stops_in-most enters (continue line) = omega arith
-
-  stops_of-most : (enters : ℕ → Bool) (ss : Statements) → stops_of enters ss ≤ statement_count ss
-  stops_of-most enters done = omega arith
-  stops_of-most enters (next s rest) = omega (arith, stops_in-most enters s, stops_of-most enters rest)
-
 pub few_phases : (tree : Tree) (enters : ℕ → Bool) → IsWellFormed tree → 1 + stops_of enters tree.items < 4294967296
-few_phases tree enters formed = let few = (well_formed_parts tree formed).few in omega (arith, stops_of-most enters tree.items, few)
+few_phases tree enters formed = let few = below_400 tree enters formed in omega (arith, few)

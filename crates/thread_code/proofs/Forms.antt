@@ -1,15 +1,16 @@
 -- Values of forms that the emitter writes: without a loop, with so many times another form, and with coefficients that are reduced by the workers.
-use Rattle.std.proofs.Common.{◌≡◌, ℕ, ◌-◌, ◌*◌, ◌<◌, ◌==◌, not, nat_lt, ℤ, pos, ◌+ℤ◌, ◌-ℤ◌, ◌*ℤ◌, Bool, true, false, List, [], ◌∷◌, ◌++◌, length, if◌then◌else◌, ⊎_elim, refl, ap, sym, subst, ◌∙◌, arith}
+use Rattle.std.proofs.Common.{◌≡◌, ℕ, ◌-◌, ◌*◌, ◌<◌, ◌==◌, not, nat_lt, ℤ, pos, ◌+ℤ◌, ◌-ℤ◌, ◌*ℤ◌, Bool, true, false, List, [], ◌∷◌, length, if◌then◌else◌, ⊎_elim, refl, ap, sym, subst, ◌∙◌, arith}
 use Rattle.std.specs.Int.{int_rem_euclid}
 use Rattle.std.specs.List.{filter}
 use Rattle.std.proofs.Math.IntN.{*ℤ-zero, *ℤ_comm}
 use Rattle.std.proofs.lemmas.Bool.{and_parts, cases_Bool, eqb-true, eqb-false, ltb-true}
 use Rattle.std.proofs.lemmas.Int.{ints}
 use Rattle.std.proofs.lemmas.List.{get_or-set_other, get_or-set_same}
+use Rattle.list_lemmas.proofs.Integers.{add-mul, mul-add, mul_assoc_ℤ}
 use Rattle.nest_tree.specs.Layout.{count_of}
 use Rattle.nest_tree.specs.Form.{Form, dot, form_value, is_form, is_small, numbered, rises_above}
 use Rattle.nest_model.specs.Instances.{with_loop}
-use Rattle.nest_walk.proofs.Products.{add-mul, mul-add, mul_assoc_ℤ}
+use Rattle.nest_rows.proofs.Dots.{dot-append}
 use Rattle.owner_partition.proofs.Congruences.{residue_of}
 use Rattle.thread_code.specs.Closed.{IsSamePlace}
 use Rattle.thread_code.specs.Code.{plus_times, reduced, reduced_pairs, times_pairs, without}
@@ -43,10 +44,6 @@ without_is n f loops params form some within =
     ap (λ z. f.constant +ℤ z +ℤ dot f.params params) (dot_without n 0 f.loops loops some within rises)
 
 -- ---- so many times another one
-
-dot-append : (ps qs : List (ℕ × ℤ)) (values : List ℤ) → dot (ps ++ qs) values ≡ dot ps values +ℤ dot qs values
-dot-append [] qs values = omega (arith, ints)
-dot-append (p ∷ ps) qs values = let later = dot-append ps qs values in omega (arith, ints, later)
 
 dot_times : (c : ℤ) (ps : List (ℕ × ℤ)) (values : List ℤ) → dot (times_pairs c ps) values ≡ c *ℤ dot ps values
 dot_times c [] values = sym (*ℤ-zero c)

@@ -5,8 +5,8 @@ use Rattle.std.specs.Int.{int_rem_euclid}
 use Rattle.std.specs.List.{filter}
 use Rattle.std.proofs.lemmas.Int.{ints}
 use Rattle.std.proofs.lemmas.List.{drop_more, map-append}
+use Rattle.list_lemmas.proofs.Gets.{get-front, get-behind}
 use Rattle.owner_partition.specs.OwnInstances.{coefficient_of}
-use Rattle.sync_plan.proofs.Gets.{get-behind, get-front}
 use Rattle.thread_code.specs.Closed.{IsTurningOf}
 use Rattle.thread_code.specs.Code.{reduced_pairs, times_pairs}
 use Rattle.thread_code.specs.Tables.{lone, table_of}

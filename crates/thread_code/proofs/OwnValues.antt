@@ -1,27 +1,17 @@
 -- A processor's own values of a loop, from its own trips.
 use Rattle.std.proofs.Common.{◌≡◌, ◌↔◌, ℕ, suc, ◌+◌, ◌-◌, ◌*◌, ◌<◌, ◌≤◌, ℤ, pos, ◌+ℤ◌, ◌*ℤ◌, true, List, length, refl, ap, sym, ◌∙◌, mul-le-mul_right, lt_of_mul-lt-mul_right, arith}
 use Rattle.std.specs.Int.{div_ceil}
-use Rattle.std.proofs.Math.IntN.{*ℤ_comm}
 use Rattle.std.proofs.lemmas.Grind.{div_ceil_times}
-use Rattle.std.proofs.lemmas.Int.{ints}
 use Rattle.nest_tree.specs.Form.{form_value, is_form}
 use Rattle.nest_tree.specs.Tree.{Head}
 use Rattle.nest_model.specs.Instances.{trip_count, trips}
 use Rattle.nest_walk.specs.Progressions.{progression}
-use Rattle.nest_walk.proofs.Products.{mul-add, mul_assoc_ℤ}
 use Rattle.owner_partition.specs.declared.anchor.Anchor.{Anchor}
 use Rattle.owner_partition.specs.OwnInstances.{coefficient_of, own_values}
 use Rattle.thread_code.proofs.Found.{rest_of}
 use Rattle.owner_partition.specs.OwnTrips.{IsOwnRange}
 use Rattle.owner_partition.proofs.Strides.{own_strides}
 use Rattle.owner_partition.proofs.Trips.{own_values_are, strided_values}
-
--- the form's value at a trip
-pub trip_place : (base coefficient m1 m3 : ℤ) (n : ℕ) → base +ℤ coefficient *ℤ (m1 +ℤ (pos n *ℤ m3)) ≡ (base +ℤ coefficient *ℤ m1) +ℤ (pos n *ℤ (coefficient *ℤ m3))
-trip_place base coefficient m1 m3 n =
-    let spread = mul-add coefficient m1 (pos n *ℤ m3) in
-    let turned = sym (mul_assoc_ℤ coefficient (pos n) m3) ∙ ap (λ z. z *ℤ m3) (*ℤ_comm coefficient (pos n)) ∙ mul_assoc_ℤ (pos n) coefficient m3 in
-    omega (arith, ints, spread, turned)
 
 -- a quotient that is rounded up counts the strides below an end
 pub ceil_counts : (first stride end k : ℕ) → 0 < stride → (k < div_ceil (end - first) stride) ↔ (first + k * stride < end)

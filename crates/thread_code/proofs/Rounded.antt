@@ -2,7 +2,7 @@
 use Rattle.std.proofs.Common.{◌≡◌, ◌↔◌, ℕ, suc, ◌+◌, ◌*◌, ◌<◌, ℤ, pos, negsuc, ◌+ℤ◌, ◌-ℤ◌, ◌*ℤ◌, ◌≤ℤ◌, ◌<ℤ◌, int_div, int_rem, int_lt, Bool, true, false, if◌then◌else◌, refl, ap, sym, ◌∙◌, arith}
 use Rattle.std.specs.Int.{int_rem_euclid}
 use Rattle.std.proofs.lemmas.Int.{ints, quot-rem, rem_below}
-use Rattle.nest_walk.proofs.Products.{add-mul}
+use Rattle.list_lemmas.proofs.Integers.{add-mul}
 use Rattle.owner_partition.proofs.Congruences.{Residue, residue_of}
 use Rattle.thread_code.specs.Closed.{floored, modulo, one_if, raised}
 

@@ -8,14 +8,13 @@ use Rattle.nest_tree.specs.Form.{form_value, is_form}
 use Rattle.nest_tree.specs.Layout.{count_of}
 use Rattle.nest_tree.specs.Tree.{Head}
 use Rattle.nest_model.specs.Instances.{trip_count, trips}
-use Rattle.nest_walk.proofs.Products.{add-mul, mul_assoc_ℤ}
 use Rattle.owner_partition.specs.declared.anchor.Anchor.{Anchor}
 use Rattle.owner_partition.specs.declared.anchor.Dist.TheVariants.{Cyclic}
 use Rattle.owner_partition.specs.OwnInstances.{coefficient_of, own_values}
 use Rattle.owner_partition.specs.OwnTrips.{IsSame, IsSolved}
 use Rattle.owner_partition.proofs.Congruences.{Residue, in_turn_by, no_solution, residue_of, solutions}
 use Rattle.owner_partition.proofs.Strides.{no_range, own_strides, turn_range}
-use Rattle.owner_partition.proofs.Trips.{own_values_are}
+use Rattle.owner_partition.proofs.Trips.{own_values_are, stride_value}
 use Rattle.thread_code.specs.Closed.{IsSamePlace, IsTurning, modulo, turn_from, turn_values}
 use Rattle.thread_code.specs.declared.turnings.Turning.{Turning}
 use Rattle.thread_code.proofs.Found.{rest_of}
@@ -24,14 +23,6 @@ use Rattle.thread_code.proofs.Rounded.{modulo_is}
 use Rattle.thread_code.proofs.TripCounts.{counts_down, counts_up, same_count}
 
 -- ---- every so-many-th trip of a loop
-
--- the value of a strided trip
-stride_value : (m1 m3 step : ℤ) (first stride k : ℕ) → step ≡ pos stride *ℤ m3 → m1 +ℤ (pos (first + k * stride) *ℤ m3) ≡ (m1 +ℤ (pos first *ℤ m3)) +ℤ (pos k *ℤ step)
-stride_value m1 m3 step first stride k e =
-    let sum : pos (first + k * stride) ≡ pos first +ℤ (pos k *ℤ pos stride) = refl in
-    let parts = ap (λ z. z *ℤ m3) sum ∙ add-mul (pos first) (pos k *ℤ pos stride) m3 in
-    let inner = mul_assoc_ℤ (pos k) (pos stride) m3 ∙ ap (λ z. pos k *ℤ z) (sym e) in
-    omega (arith, ints, parts, inner)
 
 pub stride_counts : (first stride k : ℕ) (m1 m2 s : ℤ) → 0 < stride → s ≢ pos 0 → (k < trip_count (m1 +ℤ (pos first *ℤ s)) m2 (pos stride *ℤ s)) ↔ (first + k * stride < trip_count m1 m2 s)
 stride_counts first stride k m1 m2 (pos zero) some moves = absurd (moves refl)

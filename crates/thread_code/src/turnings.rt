@@ -1,12 +1,11 @@
 // Congruences modulo the number of processors.
 
-ghost use Rattle.std.specs.Prelude.{◌≡◌, ◌*◌, ◌<◌, ◌≤◌, IfOk};
-ghost use Rattle.std.specs.Int.{IsGcd};
-ghost use Rattle.owner_partition.specs.OwnTrips.{IsSame};
+ghost use Rattle.std.specs.Prelude.{◌≡◌, ◌<◌, ◌≤◌, IfOk};
 ghost use Rattle.nest_tree.specs.Layout.{count_of};
 ghost use Rattle.thread_code.specs.Closed.{AreTurnings, IsTurningOf};
 ghost use Rattle.thread_code.specs.Tables.{table_of};
 
+use owner_partition::divisor_and_factor;
 use std::alloc::{AllocError, Global};
 use std::marker::Model;
 
@@ -72,35 +71,11 @@ fn turning_of(rise: u32, workers: u32) -> Turning
     requires few { workers ≤ 64 }
     ensures { IsTurningOf workers rise result }
 {
-    let (divisor, factor) = divisor_and_factor(rise, workers);
+    let (divisor, factor) = divisor_and_factor(u64::from(rise), u64::from(workers));
+    let divisor = divisor as u32;
     Turning {
         divisor,
-        factor,
+        factor: factor as u32,
         stride: workers / divisor,
     }
-}
-
-// The greatest common divisor of a number and a modulus above it, and a factor that takes the number
-// to it, by Euclid's algorithm.
-fn divisor_and_factor(a: u32, modulus: u32) -> (u32, u32)
-    requires residue { a < modulus }
-    requires size { modulus ≤ 64 }
-    ensures divisor { IsGcd modulus a result.0 }
-    ensures factor { IsSame modulus (a * result.1) result.0 }
-    ensures residue { result.1 < modulus }
-{
-    let mut divisor = modulus;
-    let mut factor = 0;
-    let mut rest = a;
-    let mut next = 1 % modulus;
-    while rest != 0 {
-        let quotient = divisor / rest;
-        let remainder = divisor % rest;
-        let behind = (factor + (modulus - next) * quotient) % modulus;
-        divisor = rest;
-        factor = next;
-        rest = remainder;
-        next = behind;
-    }
-    (divisor, factor)
 }

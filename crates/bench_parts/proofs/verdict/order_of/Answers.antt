@@ -1,6 +1,6 @@
 use Rattle.std.proofs.Common.{rules}
-use Rattle.bench_parts.proofs.Orders.{range_with_len-more}
+use Rattle.list_lemmas.proofs.Ranges.{range-more}
 use Rattle.bench_parts.proofs.verdict.order_of.Goals as goal
 
 pub loop-before-preserved : goal.loop-before-preserved
-loop-before-preserved c = search (rules, range_with_len-more 1 c.loop-before.before)
+loop-before-preserved c = search (rules, range-more 1 c.loop-before.before)

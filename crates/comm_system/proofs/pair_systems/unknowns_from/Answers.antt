@@ -1,6 +1,6 @@
 use Rattle.std.proofs.Common.{◌≡◌, ◌+◌, ◌-◌, ◌∷◌, [], ◌++◌, ap, sym, ◌∙◌, arith}
 use Rattle.std.specs.List.{range_with_len}
-use Rattle.nest_systems.proofs.KeptRowLists.{range-more}
+use Rattle.list_lemmas.proofs.Ranges.{range-more}
 use Rattle.comm_system.proofs.pair_systems.unknowns_from.Goals as goal
 
 pub loop-number-preserved : goal.loop-number-preserved

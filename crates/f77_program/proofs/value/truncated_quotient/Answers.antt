@@ -1,6 +1,6 @@
 use Rattle.std.proofs.Common.{◌∙◌, w64, FitsSigned, rules}
 use Rattle.std.proofs.lemmas.Int.{to_z-of_z}
-use Rattle.f77_program.proofs.Quotients.{quotient_cast}
+use Rattle.nest_tree.proofs.Quotients.{quotient_cast}
 use Rattle.f77_program.proofs.value.truncated_quotient.Goals as goal
 
 pub returns-else-divisor-eq0 : goal.returns-else-divisor-eq0

@@ -1,6 +1,6 @@
 use Rattle.std.proofs.Common.{◌∙◌, w64, FitsSigned, rules}
 use Rattle.std.proofs.lemmas.Int.{to_z-of_z}
-use Rattle.flat_code.proofs.Quotients.{quotient_cast}
+use Rattle.nest_tree.proofs.Quotients.{quotient_cast}
 use Rattle.flat_code.proofs.arithmetic.truncated_quotient.Goals as goal
 
 pub returns : goal.returns

@@ -1,11 +1,12 @@
 use Rattle.std.proofs.Common.{◌≡◌, List, length, sym, ◌∙◌, ap, subst}
 use Rattle.nest_tree.specs.View.{tree_of}
+use Rattle.seq_meaning.proofs.RunSteps.{written_back}
 use Rattle.owner_partition.specs.Phases.{phases}
 use Rattle.spmd_model.specs.declared.style.Style.TheVariants.{Arrive}
 use Rattle.crossbeam_utils.specs.declared.cache_padded.CachePadded.{CachePadded}
 use Rattle.fork_join.specs.Workers.{AreAt}
 use Rattle.fork_join.specs.declared.worker.Worker.{Worker}
-use Rattle.fork_join.proofs.Running.{safe_of, written_whole}
+use Rattle.fork_join.proofs.Running.{safe_of}
 use Rattle.fork_join.proofs.run.run_join.Goals as goal
 
 pub workers_of-requires-clause-safe : goal.workers_of-requires-clause-safe
@@ -43,7 +44,7 @@ of-requires-clause-count g c =
     let made = c.in_ok-workers.workers in
     let ws = c.execute.new.workers in
     let long : length ws ≡ length made.items = c.execute.ensures.count ∙ ap (λ (l : List (CachePadded Worker)). length l) c.deref_mut.ensures.value in
-    ap (λ (l : List (CachePadded Worker)). length l) (written_whole made.len ws made.items made.ok.0 long) ∙ long ∙ c.in_ok-workers.ensures.count
+    ap (λ (l : List (CachePadded Worker)). length l) (written_back made.len ws made.items made.ok.0 long) ∙ long ∙ c.in_ok-workers.ensures.count
 
 pub of-requires-clause-at : goal.of-requires-clause-at
 of-requires-clause-at g c =
@@ -52,4 +53,4 @@ of-requires-clause-at g c =
     let made = c.in_ok-workers.workers in
     let ws = c.execute.new.workers in
     let long : length ws ≡ length made.items = c.execute.ensures.count ∙ ap (λ (l : List (CachePadded Worker)). length l) c.deref_mut.ensures.value in
-    subst (AreAt tree plan (length (phases tree plan.cut.marks))) (sym (written_whole made.len ws made.items made.ok.0 long)) c.execute.ensures.at
+    subst (AreAt tree plan (length (phases tree plan.cut.marks))) (sym (written_back made.len ws made.items made.ok.0 long)) c.execute.ensures.at

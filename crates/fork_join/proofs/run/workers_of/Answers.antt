@@ -1,10 +1,10 @@
 use Rattle.std.proofs.Common.{◌∷◌, [], length, length-append, sym, ap, subst, arith}
+use Rattle.list_lemmas.proofs.Appending.{pushed_all}
 use Rattle.nest_tree.specs.View.{tree_of}
 use Rattle.crossbeam_utils.specs.declared.cache_padded.CachePadded.{CachePadded}
 use Rattle.crossbeam_utils.specs.Padded.{padded_value}
 use Rattle.fork_join.specs.Workers.{IsAt}
 use Rattle.fork_join.specs.declared.worker.Worker.{Worker}
-use Rattle.fork_join.proofs.Running.{pushed_all}
 use Rattle.fork_join.proofs.run.workers_of.Goals as goal
 
 pub loop-p-preserved : goal.loop-p-preserved

@@ -1,6 +1,6 @@
 use Rattle.std.proofs.Common.{List, sym, ◌∙◌, subst}
 use Rattle.crossbeam_utils.specs.declared.cache_padded.CachePadded.{CachePadded}
-use Rattle.fork_join.proofs.Running.{written_whole}
+use Rattle.seq_meaning.proofs.RunSteps.{written_back as written_whole}
 use Rattle.spmd_workers.specs.Teams.{AreOver, AreWorkersOf}
 use Rattle.spmd_workers.specs.Workers.{WorkerView}
 use Rattle.house_tests.proofs.runs.left_by_own.Goals as goal

@@ -1,11 +1,11 @@
 use Rattle.std.proofs.Common.{◌≡◌, ◌+◌, ◌-◌, ◌∷◌, [], ◌++◌, append_assoc, map, ap, sym, ◌∙◌, arith}
 use Rattle.std.specs.List.{range_with_len}
-use Rattle.nest_systems.proofs.KeptPlaces.{above}
-use Rattle.nest_systems.proofs.KeptRowLists.{range-more}
+use Rattle.list_lemmas.proofs.Ranges.{range-more}
+use Rattle.presolve.proofs.Searching.{at_least}
 use Rattle.nest_systems.proofs.kept.columns_of.Goals as goal
 
 pub overflow_sub-number : goal.overflow_sub-number
-overflow_sub-number c = above 1 (c.args.constants + 1) c.args.kept.now c.loop-number.number-index c.requires.rising c.loop-number-test.true
+overflow_sub-number c = at_least 1 (c.args.constants + 1) c.args.kept.now c.loop-number.number-index c.requires.rising c.loop-number-test.true
 
 pub loop-place-preserved : goal.loop-place-preserved
 loop-place-preserved c =

@@ -5,6 +5,7 @@ use Rattle.std.specs.Option.{option_or}
 use Rattle.std.specs.Result.{result_err}
 use Rattle.std.proofs.lemmas.Bool.{and_parts}
 use Rattle.std.proofs.lemmas.List.Folds.{list_all-append}
+use Rattle.list_lemmas.proofs.Each.{all_split}
 use Rattle.nest_tree.specs.Tree.{param_values}
 use Rattle.nest_tree.specs.View.{statement_of, tree_of}
 use Rattle.nest_tree.proofs.Wide.{first_refused}
@@ -24,7 +25,7 @@ use Rattle.range_check.specs.Stops.{instances_there, stop_instances}
 use Rattle.range_check.proofs.Lists.{none-instances}
 use Rattle.range_check.proofs.Sound.{instances_small}
 use Rattle.range_check.proofs.StopInstances.{stops_same}
-use Rattle.range_check.proofs.StopRanges.{IsWithin, all-parts, certified_within, numbers_within, ok_in_range, outside-parts, stop_first}
+use Rattle.range_check.proofs.StopRanges.{IsWithin, certified_within, numbers_within, ok_in_range, outside-parts, stop_first}
 use Rattle.range_check.proofs.check.check_others.Goals as goal
 
 pub loop-stop-init : goal.loop-stop-init
@@ -91,7 +92,7 @@ check_instances-requires-clause-nested c =
     let rest = flat_map (stop_instances params) (left_of c.next.new.self) in
     let nested = IsNestedInstance params (nested_works tree) in
     let first = stop_first tree (tree_in c.next.new.self) rounds c.in-Some.stop (left_of c.loop-stop.stops) (left_of c.next.new.self) walked next.stop in
-    let parts = all-parts nested here rest (subst (AllByRecursion nested) first c.loop-stop.invariant.nested) in
+    let parts = all_split nested here rest (subst (AllByRecursion nested) first c.loop-stop.invariant.nested) in
     let same = c.restart.ensures.instances ∙ ap (λ t. instances_there t (rounds_of c.path.result.now) c.in-Some.stop) c.loop-stop.invariant.own ∙ ap (λ rs. instances_there tree rs c.in-Some.stop) c.path.ensures in
     subst (AllByRecursion nested) (sym same) parts.0
 
@@ -110,7 +111,7 @@ loop-stop-preserved c =
     let nested = IsNestedInstance params (nested_works tree) in
     let first = stop_first tree (tree_in c.next.new.self) rounds stop (left_of c.loop-stop.stops) (left_of c.next.new.self) walked next.stop in
     let parts = and_parts (small here) (small rest) (sym (ap small first ∙ list_all-append (is_small_instance params) here rest) ∙ c.loop-stop.invariant.small) in
-    let nests = all-parts nested here rest (subst (AllByRecursion nested) first c.loop-stop.invariant.nested) in
+    let nests = all_split nested here rest (subst (AllByRecursion nested) first c.loop-stop.invariant.nested) in
     let set = c.are_certified.ensures c.if-not-are_certified.false in
     let behind : stop.first + works_in (statement_of stop.item.now) ≡ stop.first + c.works.result = ap (λ n. stop.first + n) (sym c.works.ensures) in
     let numbers = subst (λ n. AllByRecursion (IsWithin stop.first n) here) behind (numbers_within params (statement_of stop.item.now) stop.first (loops_in tree rounds)) in
@@ -137,7 +138,7 @@ loop-stop-preserved-in-Continue-1 c =
     let nested = IsNestedInstance params (nested_works tree) in
     let first = stop_first tree (tree_in c.next.new.self) rounds stop (left_of c.loop-stop.stops) (left_of c.next.new.self) walked next.stop in
     let parts = and_parts (small here) (small rest) (sym (ap small first ∙ list_all-append (is_small_instance params) here rest) ∙ c.loop-stop.invariant.small) in
-    let nests = all-parts nested here rest (subst (AllByRecursion nested) first c.loop-stop.invariant.nested) in
+    let nests = all_split nested here rest (subst (AllByRecursion nested) first c.loop-stop.invariant.nested) in
     let same = c.restart.ensures.instances ∙ ap (λ t. instances_there t (rounds_of c.path.result.now) stop) c.loop-stop.invariant.own ∙ ap (λ rs. instances_there tree rs stop) c.path.ensures in
     let none = sym (ap (instances_outside tree) same) ∙ sym c.in_ok-check_instances.ensures in
     record {

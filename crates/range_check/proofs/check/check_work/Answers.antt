@@ -8,13 +8,13 @@ use Rattle.nest_tree.specs.Loads.{loads_in, loads_in_item}
 use Rattle.nest_tree.specs.Tree.{Assignment, Printing, assign, print}
 use Rattle.nest_tree.specs.View.{expression_of, printed_of, statement_of, tree_of}
 use Rattle.nest_tree.proofs.Wide.{first_refused}
+use Rattle.nest_tree.proofs.Rows.{same_work}
 use Rattle.nest_model.specs.Ranges.{accesses_of}
 use Rattle.nest_walk.specs.Cursors.{loops_in}
 use Rattle.nest_walk.specs.Places.{numbers_of}
 use Rattle.nest_walk.specs.RoundsOf.{rounds_of}
 use Rattle.range_check.specs.Outside.{access_outside, accesses_outside, are_sound_accesses, is_sound_access}
 use Rattle.range_check.proofs.Lists.{outside-append, outside-one, sound-append}
-use Rattle.range_check.proofs.Sound.{same_work}
 use Rattle.range_check.proofs.check.check_work.Goals as goal
 
 pub check_loads-requires-clause-sound : goal.check_loads-requires-clause-sound

@@ -1,8 +1,9 @@
 use Rattle.std.proofs.Common.{◌≡◌, ◌⊎◌, ◌<◌, ◌≤◌, length, IfNone, IfOk, IfSome, subst, arith}
+use Rattle.list_lemmas.proofs.Gets.{one_element}
 use Rattle.nest_tree.specs.View.{tree_of}
 use Rattle.range_check.specs.RangeSystems.{AreProof, IsKeptAs, above, below}
 use Rattle.range_check.specs.Sites.{Site, site_of}
-use Rattle.range_check.proofs.Standing.{found_site, later_site, no_site, same_some}
+use Rattle.range_check.proofs.Standing.{found_site, later_site, no_site}
 use Rattle.range_check.proofs.proof.range_proof.Goals as goal
 
 pub dimension_proof-requires-clause-seen : goal.dimension_proof-requires-clause-seen
@@ -44,7 +45,7 @@ returns-then-before-len-clause-good c = λ s is.
     let lt : c.loop-nested.before < length c.in_ok-found.found.items = omega (arith, c.if-before-len.true, c.len.ensures, c.in_ok-found.found.ok.0) in
     let f = found_site tree c.requires.formed c.in_ok-works.works.items c.deref-nested-items.result.now c.loop-nested.nested-index c.loop-nested.before c.args.access c.nested-item.result c.in_ok-found.found.items c.index.result.now
     c.in_ok-works.ensures c.deref-nested-items.ensures.value c.loop-nested-test.true c.nested-item.is c.in_ok-found.ensures lt c.index.ensures c.loop-nested.invariant in
-    let same = same_some _ (site_of f.nested c.index.result.now.access.now) s f.site is in
+    let same = one_element _ (site_of f.nested c.index.result.now.access.now) s f.site is in
     subst (λ (t : Site). IfOk c.dimension_proof.result (λ o. IfSome o (AreProof tree t c.args.dimension))) same (c.dimension_proof.ensures.good f.nested f.view)
 
 pub returns-then-before-len-clause-kept : goal.returns-then-before-len-clause-kept
@@ -53,7 +54,7 @@ returns-then-before-len-clause-kept c = λ s is.
     let lt : c.loop-nested.before < length c.in_ok-found.found.items = omega (arith, c.if-before-len.true, c.len.ensures, c.in_ok-found.found.ok.0) in
     let f = found_site tree c.requires.formed c.in_ok-works.works.items c.deref-nested-items.result.now c.loop-nested.nested-index c.loop-nested.before c.args.access c.nested-item.result c.in_ok-found.found.items c.index.result.now
     c.in_ok-works.ensures c.deref-nested-items.ensures.value c.loop-nested-test.true c.nested-item.is c.in_ok-found.ensures lt c.index.ensures c.loop-nested.invariant in
-    let same = same_some _ (site_of f.nested c.index.result.now.access.now) s f.site is in
+    let same = one_element _ (site_of f.nested c.index.result.now.access.now) s f.site is in
     subst (λ (t : Site). IfOk c.dimension_proof.result (λ o. IfNone o (IsKeptAs (below tree t c.args.dimension) (length t.around) ⊎ IsKeptAs (above tree t c.args.dimension) (length t.around)))) same (c.dimension_proof.ensures.kept c.whole-effort.ensures f.nested f.view)
 
 pub loop-nested-preserved : goal.loop-nested-preserved

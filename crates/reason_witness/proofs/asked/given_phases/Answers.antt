@@ -1,11 +1,11 @@
 use Rattle.std.proofs.Common.{◌≡◌, ◌+◌, ◌<◌, ◌++◌, length, map, min, nat_lt, take, ap, sym, ◌∙◌, arith}
 use Rattle.std.specs.List.{list_all}
 use Rattle.std.proofs.lemmas.List.{length-map}
+use Rattle.list_lemmas.proofs.Each.{passes_at}
 use Rattle.nest_tree.specs.View.{tree_of}
 use Rattle.comm_system.specs.PhaseViews.{phase_seen}
 use Rattle.comm_system.specs.References.{phases_of}
 use Rattle.comm_system.specs.Signatures.{has_places_in}
-use Rattle.comm_system.proofs.Lists.{passes_at}
 use Rattle.maker_candidates.specs.Candidates.{candidates_in}
 use Rattle.maker_candidates.proofs.Lists.{candidates_long}
 use Rattle.plan_maker.proofs.Fresh.{all_have}

@@ -2,8 +2,8 @@ use Rattle.std.proofs.Common.{length, refl, ◌∙◌}
 use Rattle.std.proofs.lemmas.Iterator.Adapters.{YieldsList-from_vec}
 use Rattle.std.proofs.lemmas.Iterator.Consumers.{YieldsList-turn}
 use Rattle.std.proofs.lemmas.Option.{slice_get_read}
+use Rattle.list_lemmas.proofs.Each.{passes_at}
 use Rattle.comm_system.specs.Signatures.{has_places_in}
-use Rattle.comm_system.proofs.Lists.{passes_at}
 use Rattle.reason_witness.proofs.asked.push_weaker.Goals as goal
 
 pub invariant_of-push : goal.invariant_of-push

@@ -1,8 +1,8 @@
 use Rattle.std.proofs.Common.{◌∷◌, [], length, length-append, None, pos, replicate, refl, ap, arith}
+use Rattle.list_lemmas.proofs.Appending.{pushed_all}
 use Rattle.nest_tree.specs.View.{tree_of}
 use Rattle.spmd_machine.specs.Processors.{IsFresh}
 use Rattle.spmd_machine.specs.declared.processor.Processor.{Processor}
-use Rattle.spmd_machine.proofs.Fresh.{pushed_all}
 use Rattle.spmd_machine.proofs.machine.processors_of.Goals as goal
 
 pub loop-p-preserved : goal.loop-p-preserved

@@ -1,6 +1,6 @@
 use Rattle.std.proofs.Common.{◌<◌, List, sym, ◌∙◌, ap, subst}
 use Rattle.crossbeam_utils.specs.declared.cache_padded.CachePadded.{CachePadded}
-use Rattle.fork_join.proofs.Running.{written_whole}
+use Rattle.seq_meaning.proofs.RunSteps.{written_back}
 use Rattle.shared_words.specs.Rounds.{LeaveLess}
 use Rattle.shared_words.specs.Homes.{Home}
 use Rattle.spmd_workers.specs.Places.{plan_at, style_at, tree_at}
@@ -29,7 +29,7 @@ loop-cells-smaller g c =
     let leave : LeaveLess (style_at cells) (tree_at cells) (plan_at cells) = c.rounds_leave_less.ensures (style_at cells) (tree_at cells) (plan_at cells) c.laws_of.ensures.run in
     let going : IsGoing before = subst IsGoing c.deref.ensures.value (c.have_ended.ensures.going c.loop-cells-test.true) in
     let less : to_run next new < to_run cells before = round_less cells next c.loop-cells.main c.tell.new.main c.tell-in-loop-cells.new.main before c.tell.new.workers.items old.items new c.loop-cells.invariant.0 c.tell.ensures c.tell-in-loop-cells.ensures c.renew.ensures c.round.ensures.workers c.round.ensures.inside went leave going in
-    subst (λ (l : List (CachePadded WorkerView)). to_run next l < to_run cells before) (sym (written_whole old.len new old.items old.ok.0 (c.round.ensures.workers.count ∙ sym its.count))) less
+    subst (λ (l : List (CachePadded WorkerView)). to_run next l < to_run cells before) (sym (written_back old.len new old.items old.ok.0 (c.round.ensures.workers.count ∙ sym its.count))) less
 
 pub loop-cells-preserved : goal.loop-cells-preserved
 loop-cells-preserved g c =
@@ -38,6 +38,6 @@ loop-cells-preserved g c =
     let its = next_workers cells next c.loop-cells.main c.tell.new.main c.tell-in-loop-cells.new.main before c.tell.new.workers.items old.items new c.loop-cells.invariant.0 c.tell.ensures c.tell-in-loop-cells.ensures c.renew.ensures in
     let went : WentAll old.items new = subst (λ (l : List (CachePadded WorkerView)). WentAll l new) c.deref_mut.ensures.value c.round.ensures.went in
     let between : IsBetween next c.tell-in-loop-cells.new.main new = round_between cells next c.loop-cells.main c.tell.new.main c.tell-in-loop-cells.new.main before c.tell.new.workers.items old.items new c.loop-cells.invariant.0 c.tell.ensures c.tell-in-loop-cells.ensures c.renew.ensures c.round.ensures.workers c.round.ensures.inside went in (
-      subst (λ (l : List (CachePadded WorkerView)). IsBetween next c.tell-in-loop-cells.new.main l) (sym (written_whole old.len new old.items old.ok.0 (c.round.ensures.workers.count ∙ sym its.count))) between,
+      subst (λ (l : List (CachePadded WorkerView)). IsBetween next c.tell-in-loop-cells.new.main l) (sym (written_back old.len new old.items old.ok.0 (c.round.ensures.workers.count ∙ sym its.count))) between,
       ap (λ (h : Home). h.given) c.renew.ensures ∙ its_given cells c.loop-cells.main c.tell.new.main c.tell-in-loop-cells.new.main before c.tell.new.workers.items old.items c.loop-cells.invariant.0 c.tell.ensures c.tell-in-loop-cells.ensures ∙ c.loop-cells.invariant.1,
     )

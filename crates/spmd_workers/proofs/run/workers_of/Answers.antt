@@ -3,7 +3,7 @@ use Rattle.std.specs.Prelude.{slice_get}
 use Rattle.std.proofs.lemmas.Bool.{cases_eq}
 use Rattle.crossbeam_utils.specs.declared.cache_padded.CachePadded.{CachePadded}
 use Rattle.crossbeam_utils.specs.Padded.{padded_value}
-use Rattle.fork_join.proofs.Running.{pushed_all}
+use Rattle.list_lemmas.proofs.Appending.{pushed_all}
 use Rattle.shared_words.specs.Homes.{CellView, MainView, plan_given, protocol_at}
 use Rattle.shared_words.specs.declared.roles.Stage.TheVariants.{NotOut, Out}
 use Rattle.spmd_workers.specs.Workers.{IsWorkerOf, WorkerView}

@@ -2,13 +2,14 @@ use Rattle.std.proofs.Common.{rules, ◌≡◌, ◌+◌, ◌-◌, ◌++◌, [], 
 use Rattle.std.proofs.lemmas.Int.{to_z-of_z}
 use Rattle.std.proofs.lemmas.List.{nil_from_length}
 use Rattle.std.proofs.lemmas.Result.{on_ok_weaker}
+use Rattle.list_lemmas.proofs.Appending.{take-cons_all}
 use Rattle.nest_tree.specs.Tree.{neg, add, sub, mul, div, least_of, greatest_of}
 use Rattle.nest_tree.specs.View.{expression_of, expressions_from, tree_of}
 use Rattle.nest_tree.proofs.Rows.{expression_of-Max, expression_of-Min}
 use Rattle.c_expressions.specs.Grammar.{Appends, is_name, postfix, unary}
 use Rattle.c_expressions.specs.Numbers.{literal_of, word_of}
 use Rattle.c_expressions.specs.Told.{AppendsValue}
-use Rattle.c_expressions.proofs.Telling.{ChosenSoFar, add_told, chosen_all, chosen_first, chosen_next, chosen_none, div_told, greatest_told, least_told, load_told, loop_told, mul_told, neg_told, number_told, param_told, sub_told, taken_all, taken_first, taken_more}
+use Rattle.c_expressions.proofs.Telling.{ChosenSoFar, add_told, chosen_all, chosen_first, chosen_next, chosen_none, div_told, greatest_told, least_told, load_told, loop_told, mul_told, neg_told, number_told, param_told, sub_told, taken_first, taken_more}
 use Rattle.c_expressions.proofs.scope.Scope.+value.Goals as goal
 
 pub put_chosen-returns-in_default : goal.put_chosen-returns-in_default
@@ -51,7 +52,7 @@ put_chosen-returns t c =
     let rest = c.in-Some.rest.now in
     let i = c.loop-e.e-index in
     let none : length rest - i ≡ 0 = let le = c.loop-e-test.false in omega (arith, le) in
-    chosen_all tree privates c.args.word.now (take (i + 1) c.args.arguments.now) c.args.arguments.now (length rest - i) _ _ (taken_all c.args.arguments.now rest c.in-Some.first.now i c.in-Some.ensures.cases.0 c.loop-e-test.false) none c.loop-e.invariant
+    chosen_all tree privates c.args.word.now (take (i + 1) c.args.arguments.now) c.args.arguments.now (length rest - i) _ _ (take-cons_all c.args.arguments.now rest c.in-Some.first.now i c.in-Some.ensures.cases.0 c.loop-e-test.false) none c.loop-e.invariant
 
 pub put_value-returns-in-Number : goal.put_value-returns-in-Number
 put_value-returns-in-Number t c =

@@ -5,8 +5,8 @@ use Rattle.std.proofs.lemmas.List.{drop_all}
 use Rattle.nest_tree.specs.Form.{dot, numbered}
 use Rattle.nest_tree.specs.Tree.{param_values}
 use Rattle.nest_tree.specs.View.{tree_of}
+use Rattle.nest_tree.proofs.Sums.{dot-drop}
 use Rattle.c_owners.proofs.Likeness.{left_first, left_over, left_step, residues_alike}
-use Rattle.c_owners.proofs.Owning.{dot_step}
 use Rattle.c_owners.proofs.layout.Layout.add_residues.Goals as goal
 
 pub loop-number-init : goal.loop-number-init
@@ -28,7 +28,7 @@ loop-number-preserved c = λ all x.
     let coefficient : to_z w64 (of_z w64 c.residue.result) ≡ int_rem_euclid item.1 (pos workers) = to_z-of_z w64 c.residue.result fr ∙ c.residue.ensures ∙ ap (λ z. int_rem_euclid z (pos workers)) (to_z-of_z w64 item.1 fi) in
     left_step workers c.loop-number.sum c.add.new.self (λ v. dot (drop i c.args.params.now) values) (λ v. to_z w64 (of_z w64 c.residue.result) *ℤ to_z w64 (of_z w64 c.residue-value.result)) (λ v. item.1 *ℤ numbered values item.0)
     (λ v. dot (drop (i + 1) c.args.params.now) values) (λ v. all v +ℤ dot c.args.params.now values) (c.loop-number.invariant all x) c.add.ensures
-    (λ v. dot_step c.args.params.now values i (0, pos 0) c.loop-number-test.true)
+    (λ v. dot-drop c.args.params.now values i (0, pos 0) c.loop-number-test.true)
     (λ v. residues_alike workers (to_z w64 (of_z w64 c.residue.result)) (to_z w64 (of_z w64 c.residue-value.result)) item.1 (numbered values item.0) some coefficient value)
 
 pub returns : goal.returns

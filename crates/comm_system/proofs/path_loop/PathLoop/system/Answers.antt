@@ -1,6 +1,7 @@
 use Rattle.std.proofs.Common.{◌≡◌, suc, ◌+◌, ◌*◌, ◌-◌, ◌≤◌, negsuc, true, w64, List, [], ◌∷◌, drop, length, take, ap, sym, ◌∙◌, subst, arith}
 use Rattle.std.proofs.lemmas.Int.{to_z-of_z}
 use Rattle.std.proofs.lemmas.List.{length-map, length-take-le, take-map}
+use Rattle.list_lemmas.proofs.Each.{passes_at}
 use Rattle.nest_tree.specs.Form.{is_small}
 use Rattle.nest_tree.specs.Tree.{Head}
 use Rattle.nest_tree.specs.View.{head_of, tree_of}
@@ -15,7 +16,6 @@ use Rattle.comm_system.specs.PairRows.{first_of}
 use Rattle.comm_system.specs.Paths.{loops_outside}
 use Rattle.comm_system.specs.SubjectViews.{path_loop_seen}
 use Rattle.comm_system.specs.declared.path_loop.PathLoop.{PathLoop}
-use Rattle.comm_system.proofs.Lists.{passes_at}
 use Rattle.comm_system.proofs.PathRows.{loops_behind, path_system, small_in_front}
 use Rattle.comm_system.proofs.path_loop.PathLoop.system.Goals as goal
 

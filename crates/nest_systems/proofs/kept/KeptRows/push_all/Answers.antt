@@ -1,10 +1,11 @@
 use Rattle.std.proofs.Common.{◌≡◌, ◌+◌, ◌∷◌, [], ◌++◌, length, take, ap, sym, ◌∙◌, subst, arith}
 use Rattle.std.specs.List.{range_with_len}
 use Rattle.std.proofs.lemmas.List.{take_all, take_more}
+use Rattle.list_lemmas.proofs.Ranges.{range-more}
 use Rattle.presolve.specs.Columns.{AreRising}
 use Rattle.nest_rows.specs.declared.constraint.Constraint.{Constraint}
 use Rattle.nest_systems.specs.Kept.{HasKept}
-use Rattle.nest_systems.proofs.KeptRowLists.{keeps-both, keeps-none, kept-vars, range-more}
+use Rattle.nest_systems.proofs.KeptRowLists.{keeps-both, keeps-none, kept-vars}
 use Rattle.nest_systems.proofs.kept.KeptRows.push_all.Goals as goal
 
 pub loop-index-init : goal.loop-index-init

@@ -4,8 +4,9 @@ use Rattle.std.proofs.lemmas.List.{take_all}
 use Rattle.nest_tree.specs.declared.tree.Parameter.{Parameter}
 use Rattle.nest_walk.proofs.TableParts.{pieces_taken}
 use Rattle.presolve.specs.Columns.{AreRising}
+use Rattle.presolve.proofs.Searching.{at_least}
 use Rattle.nest_systems.specs.Kept.{HasKept, numbers_of, value_of}
-use Rattle.nest_systems.proofs.KeptPlaces.{above, here}
+use Rattle.nest_systems.proofs.KeptPlaces.{here}
 use Rattle.nest_systems.proofs.KeptRowLists.{keeps-both, keeps-none, kept-vars}
 use Rattle.nest_systems.proofs.kept.KeptRows.push_values.Goals as goal
 
@@ -33,7 +34,7 @@ returns c =
     subst (λ xs. HasKept (flat_map (value_of vs) xs) (flat_map (numbers_of (length c.args.values.now)) xs) c.args.self.now c.loop-number.self) (take_all c.loop-number.number-index ks c.loop-number-test.false) c.loop-number.invariant
 
 pub push_value-requires-clause-number : goal.push_value-requires-clause-number
-push_value-requires-clause-number c = let (upto, rising) = c.requires.kept in above 1 upto c.args.kept.now c.loop-number.number-index rising c.loop-number-test.true
+push_value-requires-clause-number c = let (upto, rising) = c.requires.kept in at_least 1 upto c.args.kept.now c.loop-number.number-index rising c.loop-number-test.true
 
 pub push_value-requires-clause-rising : goal.push_value-requires-clause-rising
 push_value-requires-clause-rising c = let (vars, rising) = c.requires.rising in (vars, subst (λ (cols : _). AreRising 0 vars cols.now) (sym c.loop-number.invariant.columns) rising)

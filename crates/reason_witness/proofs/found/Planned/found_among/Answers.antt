@@ -3,10 +3,11 @@ use Rattle.std.specs.List.{Contains, flat_map}
 use Rattle.std.specs.Option.{is_some}
 use Rattle.std.proofs.lemmas.Grind.{flat_map-append}
 use Rattle.std.proofs.lemmas.List.{append-nil, map_more, take_all}
+use Rattle.list_lemmas.proofs.Elements.{Contains-map as in_map, Contains-flat_map as in_flat_map}
 use Rattle.nest_tree.specs.View.{tree_of}
 use Rattle.comm_system.specs.GroupViews.{group_seen}
 use Rattle.comm_system.specs.Subjects.{obligations_in}
-use Rattle.comm_system.proofs.Lists.{contains_nothing, in_flat_map, in_map}
+use Rattle.comm_system.proofs.Lists.{contains_nothing}
 use Rattle.reason_witness.specs.Findings.{AreCertified}
 use Rattle.reason_witness.proofs.Searched.{certified_append, found_more, searched_none}
 use Rattle.reason_witness.proofs.found.Planned.found_among.Goals as goal

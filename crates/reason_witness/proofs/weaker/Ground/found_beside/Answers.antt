@@ -1,13 +1,13 @@
 use Rattle.std.proofs.Common.{◌≡◌, List, ap, sym, ◌∙◌, subst}
 use Rattle.std.specs.Result.{IfOk}
 use Rattle.std.specs.List.{Contains}
+use Rattle.list_lemmas.proofs.Elements.{Contains-map as in_map}
 use Rattle.nest_tree.specs.View.{tree_of}
 use Rattle.comm_system.specs.Obligations.{numbered_from, slot_signature, slot_tasks, slots_of}
 use Rattle.comm_system.specs.References.{StaticPhase, phases_of}
 use Rattle.comm_system.specs.Signatures.{Signature}
 use Rattle.comm_system.specs.SignatureViews.{signature_seen}
 use Rattle.comm_system.specs.SlotViews.{slot_seen}
-use Rattle.comm_system.proofs.Lists.{in_map}
 use Rattle.plan_maker.specs.Caches.{waits_seen}
 use Rattle.reason_witness.specs.Findings.{IsSearched}
 use Rattle.reason_witness.specs.Plans.{tasks_at}

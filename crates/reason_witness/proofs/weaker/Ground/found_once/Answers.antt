@@ -2,10 +2,10 @@ use Rattle.std.proofs.Common.{◌≡◌, [], ◌∷◌, ◌++◌, false, true, m
 use Rattle.std.specs.List.{Contains}
 use Rattle.std.specs.Option.{is_some}
 use Rattle.std.proofs.lemmas.List.{map_more, take_all}
+use Rattle.list_lemmas.proofs.Elements.{Contains-map as in_map}
 use Rattle.nest_tree.specs.View.{tree_of}
 use Rattle.comm_system.specs.Obligations.{slots_of, tasks_of}
 use Rattle.comm_system.specs.SlotViews.{slot_seen}
-use Rattle.comm_system.proofs.Lists.{in_map}
 use Rattle.reason_witness.specs.Plans.{tasks_at, with_kinds}
 use Rattle.reason_witness.proofs.Searched.{under_more, under_none}
 use Rattle.reason_witness.proofs.Slots.{AreSlotsCertified, all_under, slot_there, slots_push}

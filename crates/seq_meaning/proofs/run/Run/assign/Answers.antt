@@ -5,6 +5,7 @@ use Rattle.std.proofs.lemmas.List.{length-set}
 use Rattle.nest_tree.specs.Loads.{loads_in}
 use Rattle.nest_tree.specs.Tree.{assign, work}
 use Rattle.nest_tree.specs.View.{statement_of, tree_of}
+use Rattle.nest_tree.proofs.Rows.{same_work}
 use Rattle.nest_walk.specs.Cursors.{loops_in}
 use Rattle.nest_walk.specs.Places.{numbers_of}
 use Rattle.nest_walk.specs.RoundsOf.{rounds_of}
@@ -12,7 +13,7 @@ use Rattle.nest_walk.specs.Texts.{StandFrom, works}
 use Rattle.nest_walk.specs.declared.table.LoadCells.{LoadCells}
 use Rattle.flat_code.specs.CodeTables.{HasCode, codes_of, most_registers}
 use Rattle.seq_meaning.specs.Executions.{loaded_at, memory_behind}
-use Rattle.seq_meaning.proofs.RunSteps.{assign_here, code_room, firsts_are, firsts_within, no_store, placed-firsts, placed-found, placed-high, placed-low, placed-valued, same_work, store_is, store_within, written_back}
+use Rattle.seq_meaning.proofs.RunSteps.{assign_here, code_room, firsts_are, firsts_within, no_store, placed-firsts, placed-found, placed-high, placed-low, placed-valued, store_is, store_within, written_back}
 use Rattle.seq_meaning.proofs.TextAssigns.{text-code, text-high, text-loads}
 use Rattle.seq_meaning.proofs.run.Run.assign.Goals as goal
 

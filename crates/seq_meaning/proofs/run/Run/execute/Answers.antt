@@ -4,6 +4,7 @@ use Rattle.std.proofs.lemmas.Result.{on_ok_weaker}
 use Rattle.nest_tree.specs.Tree.{Printing, print}
 use Rattle.nest_tree.specs.View.{printed_of, statement_of, tree_of}
 use Rattle.nest_tree.specs.WellFormed.{is_good_work, is_number_of, loops_of, scope_of}
+use Rattle.nest_tree.proofs.Rows.{same_work}
 use Rattle.nest_model.specs.Memory.{items_text, printed_text}
 use Rattle.nest_walk.specs.ByNumber.{with_rounds}
 use Rattle.nest_walk.specs.Cursors.{loops_in}
@@ -12,7 +13,7 @@ use Rattle.nest_walk.specs.Places.{numbers_of}
 use Rattle.nest_walk.specs.RoundsOf.{rounds_of}
 use Rattle.seq_meaning.specs.Executions.{loaded_at, printed_behind}
 use Rattle.seq_meaning.specs.Lines.{has_text, items_load_count}
-use Rattle.seq_meaning.proofs.RunSteps.{loaded_is, loads_within, numbered_more, placed-found, placed-good, placed-high, placed-low, print_count, same_work, texts_same, texts_there, written_back}
+use Rattle.seq_meaning.proofs.RunSteps.{loaded_is, loads_within, numbered_more, placed-found, placed-good, placed-high, placed-low, print_count, texts_same, texts_there, written_back}
 use Rattle.seq_meaning.proofs.run.Run.execute.Goals as goal
 
 pub write_to-requires : goal.write_to-requires

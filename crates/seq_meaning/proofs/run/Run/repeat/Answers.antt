@@ -10,6 +10,7 @@ use Rattle.nest_tree.specs.Loads.{loads_in}
 use Rattle.nest_tree.specs.Tree.{assign, work, Work}
 use Rattle.nest_tree.specs.View.{statement_of, tree_of}
 use Rattle.nest_tree.specs.WellFormed.{is_number_of, loops_of}
+use Rattle.nest_tree.proofs.Rows.{same_work}
 use Rattle.nest_model.specs.Memory.{cell_value, memory_after, output_from}
 use Rattle.nest_model.specs.Ranges.{is_instance_inside}
 use Rattle.nest_walk.specs.ByNumber.{with_rounds}
@@ -23,15 +24,16 @@ use Rattle.nest_walk.specs.declared.cursor.Stop.{Stop}
 use Rattle.nest_walk.specs.declared.table.LoadCells.{LoadCells}
 use Rattle.nest_walk.proofs.ByNumberLists.{with_rounds-length}
 use Rattle.nest_walk.proofs.PlacedWorks.{reached_numbered}
+use Rattle.nest_walk.proofs.Strips.{again_at}
 use Rattle.flat_code.specs.CodeTables.{HasCode, codes_of, most_registers}
 use Rattle.flat_code.specs.Lines.{IsLineOf, IsLoadLine, cell_on}
 use Rattle.flat_code.specs.declared.lines.Line.{Line}
 use Rattle.seq_meaning.specs.Executions.{loaded_at, memory_behind}
 use Rattle.seq_meaning.proofs.RunInstances.{assigned_quiet, memory_rest, memory_step, output_rest, output_step}
-use Rattle.seq_meaning.proofs.RunSteps.{assign_here, code_room, numbered_more, placed-valued, same_work, written_back}
+use Rattle.seq_meaning.proofs.RunSteps.{assign_here, code_room, numbered_more, placed-valued, written_back}
 use Rattle.seq_meaning.proofs.TextAssigns.{plain_assign, text-code, text-high, text-loads, text-low, text-store}
 use Rattle.seq_meaning.proofs.Trips.{strip_text, trip_loaded, trip_placed, trip_store, trip_store_within, trip_within}
-use Rattle.seq_meaning.proofs.Written.{at_again, innermost, innermost_at, innermost_is, innermost_numbered, written_again}
+use Rattle.seq_meaning.proofs.Written.{innermost, innermost_at, innermost_is, innermost_numbered, written_again}
 use Rattle.seq_meaning.proofs.run.Run.repeat.Goals as goal
 
 pub work-cells-requires-clause-high : goal.work-cells-requires-clause-high
@@ -410,7 +412,7 @@ loop-value-preserved c =
       walked = walked;
       stop = next.stop ∙ inv.stop;
       loop_at = ap innermost next.round ∙ innermost_at old c.in-Some-next.value ∙ inv.loop_at;
-      line = λ w. ap (λ rs. at_value rs w) next.round ∙ at_again old c.in-Some-next.value w ∙ inv.line w;
+      line = λ w. ap (λ rs. at_value rs w) next.round ∙ again_at old c.in-Some-next.value w ∙ inv.line w;
       written = loops;
       inside = insides.1;
       memory = memory_rest tree memory.items after _ (strip_left c.loop-value.left) (strip_left new) i next.instance.2 step inv.memory;

@@ -12,6 +12,7 @@ use Rattle.nest_walk.specs.Walks.{enters_but}
 use Rattle.nest_walk.specs.declared.table.WorkCells.{WorkCells}
 use Rattle.nest_walk.proofs.CellPlaces.{few_cells}
 use Rattle.nest_walk.proofs.CursorMoves.{values_are}
+use Rattle.seq_meaning.proofs.RunSteps.{written_back}
 use Rattle.sync_plan.specs.declared.plan.Plan.{Plan}
 use Rattle.spmd_model.specs.Quiet.{quiet_next}
 use Rattle.spmd_model.proofs.Quiet.{none_quiet_next}
@@ -22,7 +23,7 @@ use Rattle.spmd_turns.proofs.TableLoads.{table_wide}
 use Rattle.spmd_machine.specs.Machines.{model_of, shared_in, shown}
 use Rattle.spmd_machine.specs.declared.machine.Machine.{Machine}
 use Rattle.spmd_machine.proofs.Settling.{settled_first}
-use Rattle.spmd_machine.proofs.Fresh.{first_is, fresh_rooms, kept_fresh, reached_first, written_whole}
+use Rattle.spmd_machine.proofs.Fresh.{first_is, fresh_rooms, kept_fresh, reached_first}
 use Rattle.spmd_machine.proofs.machine.Machine.new.Goals as goal
 
 pub overflow_cast-cell_count : goal.overflow_cast-cell_count
@@ -47,7 +48,7 @@ settle_all-requires c =
     let most = subst (λ (o : Option ℕ). IfSome o (λ n. (k : ℕ) (w : WorkCells) → slice_get (entries table) k ≡ Some w → widths w.loads.items ≤ n)) c.in_ok-loaded.ensures.ok_part c.most_loads.ensures.most in
     let some : 1 ≤ c.max.result = omega (arith, c.max.ensures) in
     let larger : c.in_ok-loaded.loaded ≤ c.max.result = omega (arith, c.max.ensures) in
-    let back = written_whole c.in_ok-closed.closed.len c.open_printing.new.closed c.in_ok-closed.closed.items c.in_ok-closed.closed.ok.0 (c.open_printing.auto.closed ∙ ap (λ (l : List Bool). length l) c.deref_mut.ensures.value) in
+    let back = written_back c.in_ok-closed.closed.len c.open_printing.new.closed c.in_ok-closed.closed.items c.in_ok-closed.closed.ok.0 (c.open_printing.auto.closed ∙ ap (λ (l : List Bool). length l) c.deref_mut.ensures.value) in
     let silent = subst (λ xs. AreSilent c.open_printing.new.closed (statements_from xs)) c.deref.ensures.value c.open_printing.ensures.silent in
     let walked = subst (λ (o : Option ℕ). IfSome o (λ n. n ≡ sum_by (visit_room tree) (visits tree (enters_but c.deref-2.result.now)))) c.in_ok-room.ensures.ok_part c.longest_output.ensures in
     let room : c.in_ok-room.room ≡ longest_output tree = walked ∙ ap (λ marks. sum_by (visit_room tree) (visits tree (enters_but marks))) (c.deref-2.ensures.value ∙ back) ∙ room_of_walk tree c.open_printing.new.closed silent in

@@ -2,13 +2,14 @@ use Rattle.std.proofs.Common.{◌≡◌, ◌+◌, ◌-◌, ◌≤◌, ℤ, List,
 use Rattle.std.proofs.lemmas.Int.{to_z-of_z}
 use Rattle.nest_tree.specs.Tree.{assign, work}
 use Rattle.nest_tree.specs.View.{statement_of}
+use Rattle.nest_tree.proofs.Rows.{same_work}
 use Rattle.nest_model.specs.Memory.{assigned_value}
 use Rattle.nest_walk.specs.Places.{numbers_of}
 use Rattle.nest_walk.specs.RoundsOf.{rounds_of}
 use Rattle.nest_walk.specs.Texts.{StandFrom, works}
 use Rattle.nest_walk.specs.declared.table.LoadCells.{LoadCells}
 use Rattle.flat_code.specs.CodeTables.{HasCode, codes_of, most_registers}
-use Rattle.seq_meaning.proofs.RunSteps.{code_room, placed-high, same_work, written_back}
+use Rattle.seq_meaning.proofs.RunSteps.{code_room, placed-high, written_back}
 use Rattle.seq_meaning.proofs.TextAssigns.{text-code, text-high, text-low}
 use Rattle.spmd_turns.specs.Executors.{executor_tree}
 use Rattle.spmd_turns.specs.Loads.{widths}

@@ -9,6 +9,7 @@ use Rattle.std.proofs.lemmas.Slice.Zip.{AllZip-long}
 use Rattle.nest_tree.specs.Tree.{Tree, assign}
 use Rattle.nest_tree.specs.View.{statement_of}
 use Rattle.nest_tree.specs.WellFormed.{is_number_of, loops_of}
+use Rattle.nest_tree.proofs.Rows.{same_work}
 use Rattle.nest_model.specs.Memory.{assigned_value}
 use Rattle.nest_model.specs.Ranges.{is_instance_inside}
 use Rattle.nest_walk.specs.ByNumber.{with_rounds}
@@ -21,13 +22,14 @@ use Rattle.nest_walk.specs.declared.cursor.Stop.{Stop}
 use Rattle.nest_walk.specs.declared.table.LoadCells.{LoadCells}
 use Rattle.nest_walk.proofs.ByNumberLists.{with_rounds-length}
 use Rattle.nest_walk.proofs.PlacedWorks.{reached_numbered}
+use Rattle.nest_walk.proofs.Strips.{again_at}
 use Rattle.flat_code.specs.CodeTables.{HasCode, codes_of, most_registers}
 use Rattle.flat_code.specs.Lines.{IsLineOf, IsLoadLine, cell_on}
 use Rattle.flat_code.specs.declared.lines.Line.{Line}
-use Rattle.seq_meaning.proofs.RunSteps.{code_room, numbered_more, same_work, written_back}
+use Rattle.seq_meaning.proofs.RunSteps.{code_room, numbered_more, written_back}
 use Rattle.seq_meaning.proofs.TextAssigns.{plain_assign, text-code, text-high, text-loads, text-low, text-store}
 use Rattle.seq_meaning.proofs.Trips.{strip_text}
-use Rattle.seq_meaning.proofs.Written.{at_again, innermost, innermost_at, innermost_is, innermost_numbered, written_again}
+use Rattle.seq_meaning.proofs.Written.{innermost, innermost_at, innermost_is, innermost_numbered, written_again}
 use Rattle.spmd_model.specs.Deeds.{instance_deeds, storing}
 use Rattle.spmd_turns.specs.Executors.{executor_tree}
 use Rattle.spmd_turns.proofs.StripDeeds.{trip_begins}
@@ -512,7 +514,7 @@ loop-value-preserved g c =
       walked = walked;
       stop = next.stop ∙ inv.stop;
       loop_at = ap innermost next.round ∙ innermost_at old c.in-Some-next.value ∙ inv.loop_at;
-      line = λ w. ap (λ rs. at_value rs w) next.round ∙ at_again old c.in-Some-next.value w ∙ inv.line w;
+      line = λ w. ap (λ rs. at_value rs w) next.round ∙ again_at old c.in-Some-next.value w ∙ inv.line w;
       written = loops;
       inside = insides.1;
       left = (inv.left.0, same_rest (sym behind ∙ c.store.ensures.left.1) ∙ rest_is, inv.left.2);

@@ -5,16 +5,16 @@ use Rattle.nest_tree.specs.declared.tree.Parameter.{Parameter}
 use Rattle.nest_model.specs.Visits.{visits}
 use Rattle.nest_walk.specs.Walks.{enters_but}
 use Rattle.nest_walk.proofs.CursorMoves.{values_are}
+use Rattle.seq_meaning.proofs.RunSteps.{written_back}
 use Rattle.spmd_turns.specs.Rooms.{AreSilent, visit_room}
 use Rattle.spmd_turns.proofs.Silent.{room_of_walk}
-use Rattle.fork_join.proofs.Running.{written_whole}
 use Rattle.spmd_workers.proofs.tables.Tables.new.Goals as goal
 
 pub invariant_of-result : goal.invariant_of-result
 invariant_of-result c =
     let tree = tree_of c.args.program.now in
     let all = take_all c.loop-parameter.parameter-index c.deref-parameter-items.result.now c.loop-parameter-test.false in
-    let back = written_whole c.in_ok-closed.closed.len c.open_printing.new.closed c.in_ok-closed.closed.items c.in_ok-closed.closed.ok.0 (c.open_printing.auto.closed ∙ ap (λ (l : List Bool). length l) c.deref_mut.ensures.value) in
+    let back = written_back c.in_ok-closed.closed.len c.open_printing.new.closed c.in_ok-closed.closed.items c.in_ok-closed.closed.ok.0 (c.open_printing.auto.closed ∙ ap (λ (l : List Bool). length l) c.deref_mut.ensures.value) in
     let silent = subst (λ xs. AreSilent c.open_printing.new.closed (statements_from xs)) c.deref.ensures.value c.open_printing.ensures.silent in
     let walked = subst (λ (o : Option ℕ). IfSome o (λ n. n ≡ sum_by (visit_room tree) (visits tree (enters_but c.deref-2.result.now)))) c.in_ok-room.ensures.ok_part c.longest_output.ensures in
     record {

@@ -1,0 +1,7 @@
+pub mod Tests
+pub mod Integers
+pub mod Appending
+pub mod Gets
+pub mod Elements
+pub mod Each
+pub mod Ranges
